@@ -1,3 +1,4 @@
 pub mod Value
 pub mod Number
 pub mod Term
+pub mod Verilog

@@ -1,0 +1,5 @@
+-- The meaning of Verilog sources, IEEE 1364-2005, in the order in which to read it.
+pub mod Syntax
+pub mod Expression
+pub mod Statement
+pub mod Register
