@@ -3,3 +3,6 @@ pub mod Syntax
 pub mod Expression
 pub mod Statement
 pub mod Register
+pub mod Hierarchy
+pub mod Settled
+pub mod Next
