@@ -1,4 +1,6 @@
 pub mod Value
 pub mod Number
 pub mod Term
+pub mod Model
+pub mod Instruction
 pub mod Verilog
