@@ -4,3 +4,6 @@ pub mod Term
 pub mod Model
 pub mod Instruction
 pub mod Verilog
+pub mod Map
+pub mod Run
+pub mod Refinement
