@@ -7,3 +7,5 @@ pub mod Verilog
 pub mod Map
 pub mod Run
 pub mod Refinement
+pub mod Obligation
+pub mod Report

@@ -41,10 +41,10 @@ pub record Model : Type 0 where
   pub top : Machine
 
 abbrev pub states_of : Machine → List StateDeclaration
-states_of (machine states valid instructions) = states
+states_of (machine states _ _) = states
 
 abbrev pub valid_of : Machine → Term
-valid_of (machine states valid instructions) = valid
+valid_of (machine _ valid _) = valid
 
 abbrev pub instruction_list : Instructions → List Instruction
 instruction_list no_instructions = []
@@ -52,7 +52,7 @@ instruction_list (and_then i is) = i ∷ instruction_list is
 
 -- the instructions of a machine, in their order
 abbrev pub instructions_in : Machine → List Instruction
-instructions_in (machine states valid instructions) = instruction_list instructions
+instructions_in (machine _ _ is) = instruction_list is
 
 abbrev pub instruction_name : Instruction → Name
 instruction_name (instruction called decode update program) = called
