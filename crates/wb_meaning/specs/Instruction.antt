@@ -1,8 +1,7 @@
 -- What one instruction does, its child program run to its end, and runs of a model over inputs.
-use Rattle.std.specs.Prelude.{◌≡◌, ℕ, zero, suc, ◌+◌, ◌<◌, ◌≤◌, Bool, true, false, List, [], ◌∷◌, ◌⊎◌, ◌≢◌, IsTrue, IsFalse, slice_get, Some, is_some, length, ⊤}
-use Rattle.wb_meaning.specs.Value.{Name, Value, Valuation, Entries}
-use Rattle.wb_meaning.specs.Term.{Term, val}
-use Rattle.wb_meaning.specs.Model.{Machine, machine, Instruction, instruction, Instructions, no_instructions, and_then, Child, no_child, child, Model, valid_of, holds, decode_of, updated, entered, left_behind, instruction_list, instructions_in, point_of, states_of, state_named}
+use Rattle.std.specs.Prelude.{◌≡◌, ℕ, zero, suc, ◌<◌, ◌≤◌, cond, List, [], ◌∷◌, ◌⊎◌, ◌≢◌, IsTrue, IsFalse, slice_get, Some, is_some, ⊤}
+use Rattle.wb_meaning.specs.Value.{Name, number, Valuation}
+use Rattle.wb_meaning.specs.Model.{Machine, machine, Instruction, instruction, Instructions, no_instructions, and_then, Child, no_child, child, Model, valid_of, holds, decode_of, updated, entered, left_behind, instructions_in, point_of, states_of, state_named}
 
 -- n steps of a relation lead from one point to another
 abbrev pub Reaches : (Valuation → Valuation → Type 0) → ℕ → Valuation → Valuation → Type 0
@@ -47,13 +46,17 @@ abbrev mutual
 abbrev pub SameStates : Model → Valuation → Valuation → Type 0
 SameStates m p q = (n : Name) → IsTrue (is_some (state_named (states_of m.top) n)) → p n ≡ q n
 
+-- The state in a point: each state of the model has its value, and every other name is 0.
+abbrev pub state_in : Model → Valuation → Valuation
+state_in m p n = cond (is_some (state_named (states_of m.top) n)) (p n) (number 0)
+
 -- Instruction i of the model leads from state q under inputs w to state r.
 abbrev pub Does : Model → Instruction → (q w r : Valuation) → Type 0
-Does m i q w r = (after : Valuation) × DoesInstruction i (point_of m q w) after × SameStates m r after
+Does m i q w r = (after : Valuation) × DoesInstruction i (point_of m q w) after × (r ≡ state_in m after)
 
 -- The model's valid condition and exactly one decode condition hold at q under w, and this instruction leads to r.
 abbrev pub Steps : Model → (q w r : Valuation) → Type 0
-Steps m q w r = (after : Valuation) × DoesStep m.top (point_of m q w) after × SameStates m r after
+Steps m q w r = (after : Valuation) × DoesStep m.top (point_of m q w) after × (r ≡ state_in m after)
 
 -- The valid condition holds at q under w.
 abbrev pub IsValidAt : Model → (q w : Valuation) → Type 0
@@ -132,6 +135,6 @@ HasTrouble m i q w t = InstructionTrouble i (point_of m q w) 1 t
 abbrev pub IsModelRun : Model → Valuation → List Valuation → List Valuation → Type 0
 IsModelRun m q [] [] = ⊤
 IsModelRun m q (w ∷ ws) (r ∷ rs) =
-    (Steps m q w r ⊎ (((s : Valuation) → ¬ Steps m q w s) × SameStates m r q)) × IsModelRun m r ws rs
+    (Steps m q w r ⊎ (((s : Valuation) → ¬ Steps m q w s) × (r ≡ q))) × IsModelRun m r ws rs
 IsModelRun m q [] (r ∷ rs) = ⊥
 IsModelRun m q (w ∷ ws) [] = ⊥

@@ -1,6 +1,6 @@
 -- Refinement maps: which expressions of a design stand for a model's states, inputs, starts and commits (ILAng's refinement maps).
-use Rattle.std.specs.Prelude.{ℕ, Bool, true, false, cond, ◌==◌, List, [], ◌∷◌, Option, Some, None}
-use Rattle.wb_meaning.specs.Value.{Name, same_name, Sort, truth, word, memory, Value, truth_value, number, words, as_number, as_words, Valuation, Entries, entry_of}
+use Rattle.std.specs.Prelude.{ℕ, Bool, cond, ◌==◌, List, [], ◌∷◌, Option, Some, None}
+use Rattle.wb_meaning.specs.Value.{Name, same_name, Sort, truth, word, memory, Value, truth_value, number, words, as_words, Valuation, Entries, entry_of}
 use Rattle.wb_meaning.specs.Model.{Model, StateDeclaration, InputDeclaration, states_of, state_named}
 use Rattle.wb_meaning.specs.Verilog.Syntax.{Expression, name, Source}
 use Rattle.wb_meaning.specs.Verilog.Expression.{Object, Scope, undeclared, self_value, is_true}

@@ -1,6 +1,6 @@
 -- The number formulas of the words' operators: what each operator does to the numbers of its operands.
 -- A word of width w is a number below 2^w. Where two operands have one width it is written first.
-use Rattle.std.specs.Prelude.{ℕ, ◌+◌, ◌-◌, ◌*◌, ◌/◌, ◌%◌, ◌^◌, min, Bool, true, false, cond, not, ◌==◌, nat_lt, nat_le, bit_and, bit_or, bit_xor, ℤ, pos, ◌-ℤ◌, int_lt, int_le}
+use Rattle.std.specs.Prelude.{ℕ, ◌+◌, ◌-◌, ◌*◌, ◌/◌, ◌%◌, ◌^◌, min, Bool, cond, ◌==◌, nat_lt, nat_le, bit_and, bit_or, bit_xor, ℤ, pos, ◌-ℤ◌, int_lt, int_le}
 
 -- the top bit of a word
 abbrev pub top_bit : ℕ → ℕ → Bool

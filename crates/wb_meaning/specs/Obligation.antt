@@ -1,9 +1,8 @@
 -- The obligations of a model and a map: their names, hypotheses and claims in order, and when one holds.
-use Rattle.std.specs.Prelude.{◌≡◌, ℕ, zero, suc, ◌+◌, ◌-◌, ◌<◌, Bool, true, false, cond, List, [], ◌∷◌, ◌++◌, length, Option, Some, None, is_some, IsTrue, codes, decimal, ⊤}
+use Rattle.std.specs.Prelude.{◌≡◌, ℕ, zero, suc, ◌-◌, ◌<◌, cond, List, [], ◌∷◌, ◌++◌, length, Option, Some, None, is_some, codes, decimal, ⊤}
 use Rattle.wb_meaning.specs.Value.{Name, Value, Valuation}
 use Rattle.wb_meaning.specs.Model.{Model, StateDeclaration, Instruction, instruction_name, Child, no_child, child, child_of, states_of, instructions_in, state_named}
 use Rattle.wb_meaning.specs.Instruction.{Does, DecodesAt, IsInstruction, IsStarted}
-use Rattle.wb_meaning.specs.Verilog.Syntax.{Expression}
 use Rattle.wb_meaning.specs.Map.{Setting, Map, InstructionMap, instruction_map}
 use Rattle.wb_meaning.specs.Run.{Run, IsRun, IsResetAt, HoldsOf}
 use Rattle.wb_meaning.specs.Refinement.{state_at, inputs_at, StartsAt, CommitsAt}
@@ -12,7 +11,7 @@ use Rattle.wb_meaning.specs.Refinement.{state_at, inputs_at, StartsAt, CommitsAt
 -- assumptions and invariants by their number in the map.
 pub data Fact : Type 0 where
   reset_active reset_inactive : (t : ℕ) → Fact
-  assumption invariant : (k t : ℕ) → Fact
+  assumed invariant : (k t : ℕ) → Fact
   start no_start : (t : ℕ) → Fact
   decoded : (j : ℕ) → Fact
   commit no_commit : (j t : ℕ) → Fact
@@ -32,7 +31,7 @@ pub data Fact : Type 0 where
 abbrev pub Means : Setting → Run → Fact → Type 0
 Means s run (reset_active t) = IsResetAt s run t
 Means s run (reset_inactive t) = ¬ IsResetAt s run t
-Means s run (assumption k t) = HoldsOf s run s.map.assume k t
+Means s run (assumed k t) = HoldsOf s run s.map.assume k t
 Means s run (invariant k t) = HoldsOf s run s.map.invariants k t
 Means s run (start t) = StartsAt s run t
 Means s run (no_start t) = ¬ StartsAt s run t
@@ -80,9 +79,9 @@ for_each f k (suc n) = f k ++ for_each f (suc k) n
 abbrev pub invariants_at : Map → ℕ → List Fact
 invariants_at m t = for_each (λ k. invariant k t ∷ []) 0 (length m.invariants)
 
--- the premises at cycle t: reset inactive, then each assumption
+-- the premises at cycle t: reset inactive, then each assumed
 abbrev pub premises_at : Map → ℕ → List Fact
-premises_at m t = reset_inactive t ∷ for_each (λ k. assumption k t ∷ []) 0 (length m.assume)
+premises_at m t = reset_inactive t ∷ for_each (λ k. assumed k t ∷ []) 0 (length m.assume)
 
 -- a text with a number behind it
 abbrev pub numbered : Name → ℕ → Name

@@ -1,5 +1,5 @@
 -- Commands, idle cycles, and what it is for a run to refine the model.
-use Rattle.std.specs.Prelude.{◌≡◌, ℕ, zero, suc, ◌+◌, ◌<◌, ◌≤◌, Option, Some, IsTrue, is_some}
+use Rattle.std.specs.Prelude.{◌≡◌, ℕ, suc, ◌+◌, ◌<◌, ◌≤◌, Some}
 use Rattle.wb_meaning.specs.Value.{Name, Value, Valuation}
 use Rattle.wb_meaning.specs.Model.{Model, Instruction, instruction_name, StateDeclaration, state_named, states_of}
 use Rattle.wb_meaning.specs.Instruction.{SameStates, Steps, IsStarted, IsInstruction}

@@ -1,13 +1,13 @@
 -- Traces as text, and the report of a check: what each of its lines claims.
-use Rattle.std.specs.Prelude.{◌≡◌, ◌↔◌, ℕ, zero, suc, ◌+◌, ◌<◌, Bool, true, false, ◌&&◌, ◌||◌, ◌==◌, nat_lt, List, [], ◌∷◌, ◌++◌, length, take, Option, Some, None, is_some, slice_get, IsTrue, codes, decimal, ⊤}
+use Rattle.std.specs.Prelude.{◌≡◌, ◌↔◌, ℕ, suc, ◌<◌, Bool, true, false, ◌&&◌, ◌||◌, ◌==◌, nat_lt, List, [], ◌∷◌, ◌++◌, length, take, Some, is_some, slice_get, IsTrue, codes, decimal, ⊤}
 use Rattle.std.specs.Fmt.{digits}
-use Rattle.wb_meaning.specs.Value.{Name, Value, truth_value, number, words, numeral_of, Valuation, Entries, entry_of}
-use Rattle.wb_meaning.specs.Model.{Model, Instruction, instruction_name, instructions_in}
+use Rattle.wb_meaning.specs.Value.{Name, Value, number, words, numeral_of, Valuation, Entries, entry_of}
+use Rattle.wb_meaning.specs.Model.{Instruction, instruction_name, instructions_in}
 use Rattle.wb_meaning.specs.Verilog.Syntax.{input}
 use Rattle.wb_meaning.specs.Verilog.Register.{word_count}
-use Rattle.wb_meaning.specs.Verilog.Hierarchy.{Placed, placed_scope, dotted}
+use Rattle.wb_meaning.specs.Verilog.Hierarchy.{Placed, dotted}
 use Rattle.wb_meaning.specs.Verilog.Settled.{Design, at_path, IsDeclared, is_counted, IsPort, names_of}
-use Rattle.wb_meaning.specs.Map.{Setting, Map, design_of, map_scope}
+use Rattle.wb_meaning.specs.Map.{Setting, design_of, map_scope}
 use Rattle.wb_meaning.specs.Run.{Run}
 use Rattle.wb_meaning.specs.Obligation.{Obligation, Holds, Falsifies, obligations, IsWholeCommand}
 

@@ -1,5 +1,5 @@
 -- Runs of a design, and runs from reset.
-use Rattle.std.specs.Prelude.{◌≡◌, ℕ, ◌+◌, ◌<◌, ◌≤◌, List, slice_get, Some, IsTrue}
+use Rattle.std.specs.Prelude.{◌≡◌, ℕ, suc, ◌<◌, ◌≤◌, List, slice_get, Some, IsTrue}
 use Rattle.wb_meaning.specs.Value.{Valuation, as_number}
 use Rattle.wb_meaning.specs.Verilog.Syntax.{Expression}
 use Rattle.wb_meaning.specs.Verilog.Settled.{IsSettled}
@@ -19,7 +19,7 @@ pub record IsRun (s : Setting) (run : Run) (cycles : ℕ) : Type 0 where
   pub first : AreRegisters (design_of s) (run.registers 0)
   pub inputs : (t : ℕ) → t ≤ cycles → AreInputs (design_of s) (run.inputs t)
   pub settled : (t : ℕ) → t ≤ cycles → IsSettled (design_of s) (run.registers t) (run.inputs t) (run.valuations t)
-  pub next : (t : ℕ) → t < cycles → IsNext (design_of s) (run.valuations t) (run.registers (t + 1))
+  pub next : (t : ℕ) → t < cycles → IsNext (design_of s) (run.valuations t) (run.registers (suc t))
 
 -- a condition of the map holds at cycle t
 abbrev pub HoldsAt : Setting → Run → ℕ → Expression → Type 0

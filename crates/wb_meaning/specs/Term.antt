@@ -1,5 +1,5 @@
 -- Terms of models: their forms, their sorts and their values, one line for each form.
-use Rattle.std.specs.Prelude.{ℕ, ◌+◌, ◌-◌, ◌^◌, Bool, true, false, cond, ◌&&◌, ◌||◌, ◌==◌, nat_le, nat_lt, List, [], ◌∷◌, slice_index, slice_set, Option, Some, None}
+use Rattle.std.specs.Prelude.{ℕ, ◌+◌, ◌-◌, ◌^◌, Bool, true, false, cond, ◌&&◌, ◌||◌, ◌==◌, nat_le, nat_lt, slice_index, slice_set, Option, Some, None}
 use Rattle.std.specs.Prelude.{not as truth_not}
 use Rattle.wb_meaning.specs.Value.{Name, Sort, truth, word, memory, Value, truth_value, number, words, as_truth, as_number, as_words, Valuation}
 use Rattle.wb_meaning.specs.Number.{word_not, word_and, word_or, word_xor, word_neg, word_add, word_sub, word_mul, word_shl, word_lshr, word_ashr, word_eq, word_ult, word_ule, word_slt, word_sle, word_concat, word_extract, word_zext, word_sext}

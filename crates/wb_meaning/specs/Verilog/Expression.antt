@@ -1,8 +1,8 @@
 -- Widths, signs and values of expressions, 1364-2005, 5.1, 5.4 and 5.5: one line for each form.
-use Rattle.std.specs.Prelude.{ℕ, zero, suc, unwrap_or, is_some, option_and_then, ◌+◌, ◌-◌, ◌*◌, ◌/◌, ◌%◌, ◌^◌, min, max, Bool, true, false, cond, not, ◌&&◌, ◌||◌, ◌==◌, nat_le, nat_lt, List, [], ◌∷◌, slice_index, Option, Some, None, ℤ, pos, negsuc, ◌+ℤ◌, ◌-ℤ◌, int_lt, int_le, int_div, int_rem, unsigned_abs, count_ones}
+use Rattle.std.specs.Prelude.{ℕ, zero, suc, unwrap_or, is_some, option_and_then, ◌+◌, ◌-◌, ◌*◌, ◌/◌, ◌%◌, ◌^◌, min, max, Bool, true, false, cond, not, ◌&&◌, ◌||◌, ◌==◌, nat_le, nat_lt, slice_index, Option, Some, None, ℤ, pos, negsuc, ◌+ℤ◌, ◌-ℤ◌, int_lt, int_le, int_div, int_rem, count_ones}
 use Rattle.wb_meaning.specs.Value.{Name, Value, as_number, as_words, Valuation, Entries, entry_of, number as a_number}
-use Rattle.wb_meaning.specs.Number.{top_bit, signed_value, word_not, word_neg, word_add, word_sub, word_mul, word_and, word_or, word_xor, word_shl, word_lshr, word_ashr, word_sext}
-use Rattle.wb_meaning.specs.Verilog.Syntax.{Number, UnaryOperator, plus, minus, complement, ReductionOperator, is_zero, all_ones, not_all_ones, any_one, no_one, odd_ones, even_ones, BinaryOperator, add, subtract, multiply, divide, modulo, bitwise_and, bitwise_or, bitwise_xor, bitwise_xnor, ShiftOperator, left, right, arithmetic_right, ComparisonOperator, less, less_or_equal, greater, greater_or_equal, equal, not_equal, LogicalOperator, both, either, Expression, number, name, concatenation, replication, as_signed, as_unsigned, unary, reduction, binary, shift, power, comparison, logical, conditional, Expressions, no_expressions, expression, Select, index, part, part_up, part_down, Selects, whole, one, two}
+use Rattle.wb_meaning.specs.Number.{signed_value, word_not, word_neg, word_add, word_sub, word_mul, word_and, word_or, word_xor, word_shl, word_lshr, word_ashr, word_sext}
+use Rattle.wb_meaning.specs.Verilog.Syntax.{UnaryOperator, plus, minus, complement, ReductionOperator, is_zero, all_ones, not_all_ones, any_one, no_one, odd_ones, even_ones, BinaryOperator, add, subtract, multiply, divide, modulo, bitwise_and, bitwise_or, bitwise_xor, bitwise_xnor, ShiftOperator, left, right, arithmetic_right, ComparisonOperator, less, less_or_equal, greater, greater_or_equal, equal, not_equal, LogicalOperator, both, either, Expression, number, name, concatenation, replication, as_signed, as_unsigned, unary, reduction, binary, shift, power, comparison, logical, conditional, Expressions, no_expressions, expression, Select, index, part, part_up, part_down, Selects, whole, one, two}
 
 -- What a name of a module stands for: its sign, its bits [left:right], for a memory its addresses [first:last],
 -- and for a parameter its number. A name without a range has [0:0], a parameter of width w without one [w-1:0].

@@ -1,7 +1,7 @@
 -- Modules below the top: parameters' values, declared names, and the module at a path of instances, 1364-2005, 12.2 and 12.3.
-use Rattle.std.specs.Prelude.{ℕ, ◌+◌, ◌-◌, ◌^◌, ◌%◌, max, Bool, true, false, cond, not, ◌||◌, List, [], ◌∷◌, ◌++◌, map, Option, Some, None, is_some, unwrap_or, option_map, option_and_then}
+use Rattle.std.specs.Prelude.{ℕ, ◌-◌, ◌^◌, ◌%◌, max, Bool, false, cond, ◌||◌, List, [], ◌∷◌, ◌++◌, Option, Some, None, unwrap_or, option_map, option_and_then}
 use Rattle.wb_meaning.specs.Value.{Name, same_name, Entries, entry_of}
-use Rattle.wb_meaning.specs.Verilog.Syntax.{Expression, Range, NetKind, Direction, PortDeclaration, ParameterDeclaration, Connections, by_name, by_order, Item, port, parameter, wires, variables, assign, always, instances, Ports, no_ports, listed, declared, Module, Source}
+use Rattle.wb_meaning.specs.Verilog.Syntax.{Expression, Range, PortDeclaration, ParameterDeclaration, Connections, by_name, by_order, Item, port, parameter, wires, variables, instances, Ports, no_ports, listed, declared, Module, Source}
 use Rattle.wb_meaning.specs.Verilog.Expression.{Object, Scope, undeclared, scope_of, object_width, no_values, natural_of, integer_of, widened, width_of, sign_of, self_value, assigned_value}
 
 -- a bound of a range: a constant, read where no net or variable has a value

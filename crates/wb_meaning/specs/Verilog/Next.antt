@@ -1,5 +1,5 @@
 -- Registers, and what the clock's edge makes of them, 1364-2005, 9.2.2 and 11.4.
-use Rattle.std.specs.Prelude.{◌≡◌, ℕ, Bool, false, List, Option, Some, IsTrue}
+use Rattle.std.specs.Prelude.{◌≡◌, ℕ, false, List, Some, IsTrue}
 use Rattle.wb_meaning.specs.Value.{Name, Valuation}
 use Rattle.wb_meaning.specs.Verilog.Syntax.{input}
 use Rattle.wb_meaning.specs.Verilog.Register.{clocked_blocks, value_bit, after_edge}

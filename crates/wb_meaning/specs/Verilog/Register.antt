@@ -1,9 +1,9 @@
 -- Clocked blocks: which bits they may assign, and what they leave at the clock's edge.
-use Rattle.std.specs.Prelude.{ℕ, ◌+◌, ◌^◌, ◌/◌, ◌%◌, min, max, Bool, true, false, cond, ◌&&◌, ◌||◌, ◌==◌, nat_le, nat_lt, List, [], ◌∷◌, ◌++◌, slice_index, Option, Some, None, is_some, option_and_then, ℤ, pos, negsuc, ◌+ℤ◌, int_le, int_lt, ◌≡◌, IsTrue}
+use Rattle.std.specs.Prelude.{ℕ, ◌+◌, ◌^◌, ◌/◌, ◌%◌, Bool, true, false, cond, ◌&&◌, ◌||◌, ◌==◌, nat_lt, List, [], ◌∷◌, ◌++◌, slice_index, Option, Some, None, is_some, option_and_then, pos, ◌+ℤ◌, int_le, int_lt}
 use Rattle.wb_meaning.specs.Value.{Name, same_name, Value, truth_value, number as a_number, words, Valuation}
-use Rattle.wb_meaning.specs.Verilog.Syntax.{Expression, number, name, concatenation, replication, as_signed, as_unsigned, unary, reduction, binary, shift, power, comparison, logical, conditional, Expressions, no_expressions, expression, Select, index, part, part_up, part_down, Selects, whole, one, two, Target, place, joined, Targets, no_targets, target, Statement, empty, blocking, nonblocking, if_then, if_else, case, block, Statements, no_statements, statement, CaseItems, no_items, arm, default_arm, EdgeKind, posedge, negedge, any_edge, Event, Events, any_change, on_events, Item, always, port, parameter, wires, variables, assign, instances}
+use Rattle.wb_meaning.specs.Verilog.Syntax.{Expression, number, name, concatenation, replication, as_signed, as_unsigned, unary, reduction, binary, shift, power, comparison, logical, conditional, Expressions, no_expressions, expression, Select, index, part, part_up, part_down, Selects, whole, one, two, Target, place, joined, Targets, no_targets, target, Statement, empty, blocking, nonblocking, if_then, if_else, case, block, Statements, no_statements, statement, CaseItems, no_items, arm, default_arm, EdgeKind, posedge, negedge, any_edge, Event, Events, any_change, on_events, Item, always}
 use Rattle.wb_meaning.specs.Verilog.Expression.{Object, Scope, object_width, is_memory, Bits, word_number, no_values, select_index, select_bits, distance}
-use Rattle.wb_meaning.specs.Verilog.Statement.{run, Effect, Update, with_updates}
+use Rattle.wb_meaning.specs.Verilog.Statement.{run, Update, with_updates}
 
 abbrev mutual
   -- The expression reads parameters and numbers alone.

@@ -1,12 +1,12 @@
 -- When the nets of a design have settled, 1364-2005, 6.1, 9.9 and 12.3.9: equations on one valuation of all dotted names.
 -- No order is used, and nothing is flattened.
-use Rattle.std.specs.Prelude.{◌≡◌, ◌≢◌, option_map, option_and_then, ℕ, ◌+◌, ◌^◌, ◌<◌, ◌≤◌, Bool, true, false, cond, not, ◌&&◌, ◌||◌, List, [], ◌∷◌, ◌++◌, length, slice_index, All, Option, Some, None, is_some, unwrap_or, IsTrue, ⊤}
+use Rattle.std.specs.Prelude.{◌≡◌, ◌≢◌, option_map, option_and_then, ℕ, ◌^◌, ◌<◌, ◌≤◌, Bool, false, not, ◌||◌, List, [], ◌∷◌, ◌++◌, length, slice_index, Option, Some, None, IsTrue, ⊤}
 use Rattle.wb_meaning.specs.Value.{Name, same_name, Value, number as a_number, words, truth_value, Valuation, Entries, entry_of}
-use Rattle.wb_meaning.specs.Verilog.Syntax.{Expression, name, concatenation, Expressions, no_expressions, expression, whole, Target, place, joined, Targets, no_targets, target, Statement, Direction, input, output, PortDeclaration, Connections, Item, port, parameter, wires, variables, assign, always, instances, Ports, no_ports, listed, declared, Module, Source}
+use Rattle.wb_meaning.specs.Verilog.Syntax.{Expression, name, concatenation, Expressions, no_expressions, expression, whole, Target, place, joined, Targets, no_targets, target, Statement, Direction, input, output, PortDeclaration, Item, port, wires, assign, Ports, no_ports, listed, declared, Module, Source}
 use Rattle.wb_meaning.specs.Verilog.Expression.{Object, Scope, object_width, is_memory, assigned_value}
-use Rattle.wb_meaning.specs.Verilog.Statement.{Place, places, target_width, written, run, Effect}
+use Rattle.wb_meaning.specs.Verilog.Statement.{places, target_width, written, run}
 use Rattle.wb_meaning.specs.Verilog.Register.{may_reach, one_may_assign, counts, is_bit_of, word_count, value_bit, clocked_blocks, combinational_blocks}
-use Rattle.wb_meaning.specs.Verilog.Hierarchy.{Declaration, declarations, header_ports, module_named, Placed, placed_scope, placed_at, Instance, instance_named, connected, dotted}
+use Rattle.wb_meaning.specs.Verilog.Hierarchy.{Declaration, declarations, header_ports, Placed, placed_scope, placed_at, Instance, instance_named, connected, dotted}
 
 -- A design: the source, the name of its top module, and the name of the top's input that is its clock.
 pub record Design : Type 0 where

@@ -1,8 +1,8 @@
 -- What statements do, 1364-2005, 9.2 to 9.5: a run of a statement on a valuation gives a valuation and a list of updates.
-use Rattle.std.specs.Prelude.{ℕ, ◌+◌, ◌-◌, ◌*◌, ◌/◌, ◌%◌, ◌^◌, max, Bool, true, false, cond, ◌&&◌, ◌||◌, ◌==◌, nat_le, List, [], ◌∷◌, ◌++◌, slice_index, slice_set, bit_or, Option, Some, None, option_and_then, ℤ, pos, negsuc}
+use Rattle.std.specs.Prelude.{ℕ, ◌+◌, ◌-◌, ◌*◌, ◌/◌, ◌%◌, ◌^◌, max, Bool, true, false, cond, ◌&&◌, ◌||◌, ◌==◌, List, [], ◌∷◌, ◌++◌, slice_index, slice_set, bit_or, Option, Some, None, option_and_then, ℤ, pos, negsuc}
 use Rattle.wb_meaning.specs.Value.{Name, Value, number as a_number, words, as_number, as_words, Valuation, with_value}
-use Rattle.wb_meaning.specs.Verilog.Syntax.{Expression, number, Expressions, no_expressions, expression, Select, Selects, whole, one, two, Target, place, joined, Targets, no_targets, target, CaseKind, exact_case, wild_case, Statement, empty, blocking, nonblocking, if_then, if_else, case, block, Statements, no_statements, statement, CaseItems, no_items, arm, default_arm}
-use Rattle.wb_meaning.specs.Verilog.Expression.{Object, Scope, object_width, is_memory, Bits, word_number, widened, width_of, sign_of, value_of, selects_width, select_index, select_bits, is_true, assigned_value}
+use Rattle.wb_meaning.specs.Verilog.Syntax.{Expression, number, Expressions, no_expressions, expression, Selects, whole, one, two, Target, place, joined, Targets, no_targets, target, CaseKind, exact_case, wild_case, Statement, empty, blocking, nonblocking, if_then, if_else, case, block, Statements, no_statements, statement, CaseItems, no_items, arm, default_arm}
+use Rattle.wb_meaning.specs.Verilog.Expression.{Object, Scope, object_width, is_memory, Bits, word_number, width_of, sign_of, value_of, selects_width, select_index, select_bits, is_true, assigned_value}
 
 -- where a value goes: a net or variable, a word of a memory, or an address out of range
 pub data Cell : Type 0 where
