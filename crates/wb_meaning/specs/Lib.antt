@@ -9,3 +9,4 @@ pub mod Run
 pub mod Refinement
 pub mod Obligation
 pub mod Report
+pub mod Soundness

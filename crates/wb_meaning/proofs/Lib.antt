@@ -1,0 +1,5 @@
+pub mod FactLists
+pub mod Shifted
+pub mod OneInstruction
+pub mod Extracted
+pub mod Refined
