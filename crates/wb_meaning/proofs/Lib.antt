@@ -3,3 +3,4 @@ pub mod Shifted
 pub mod OneInstruction
 pub mod Extracted
 pub mod Refined
+pub mod WorkedChild

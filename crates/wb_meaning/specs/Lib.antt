@@ -10,3 +10,4 @@ pub mod Refinement
 pub mod Obligation
 pub mod Report
 pub mod Soundness
+pub mod Worked
