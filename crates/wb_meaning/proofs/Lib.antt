@@ -4,3 +4,4 @@ pub mod OneInstruction
 pub mod Extracted
 pub mod Refined
 pub mod WorkedChild
+pub mod OneResult

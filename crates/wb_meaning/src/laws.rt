@@ -2,7 +2,7 @@
 ghost use Rattle.wb_meaning.specs.Soundness.{ObligationsGiveRefinement};
 ghost use Rattle.std.specs.Prelude.{◌≡◌, ◌∷◌, [], length, ℕ};
 ghost use Rattle.wb_meaning.specs.Value.{Value, number, words, Valuation};
-ghost use Rattle.wb_meaning.specs.Term as term;
+ghost use Rattle.wb_meaning.specs.Model.{Model};
 ghost use Rattle.wb_meaning.specs.Instruction.{Steps, HasTrouble, stuck, too_long};
 ghost use Rattle.wb_meaning.specs.Verilog.Register.{after_edge};
 ghost use Rattle.wb_meaning.specs.Obligation.{obligations};
@@ -77,5 +77,11 @@ pub fn a_child_runs_to_its_end()
 pub fn a_child_has_its_trouble()
     ensures long { HasTrouble (multiplier always 3) (multiply always 3) (product 0) (factors 3 5) (too_long 1) }
     ensures stopped { HasTrouble (multiplier low 4) (multiply low 4) (product 0) (factors 3 5) (stuck 1 2) }
+{
+}
+
+/// A model has at most one next state: the child programs of the instruction that decodes end at one point, if they do.
+pub fn a_model_has_one_next_state()
+    ensures { (m : Model) (q w r s : Valuation) → Steps m q w r → Steps m q w s → r ≡ s }
 {
 }
