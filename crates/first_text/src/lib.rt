@@ -1,0 +1,2 @@
+//! Verilog text of the first profile: one small module, read exactly.
+#![tactic(auto)]
