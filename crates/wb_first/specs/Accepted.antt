@@ -1,0 +1,257 @@
+-- Which model, map and module are accepted in the first profile: one test for each rule.
+use Rattle.std.specs.Prelude.{ℕ, ◌+◌, Bool, true, false, cond, not, ◌&&◌, ◌||◌, ◌==◌, nat_le, List, [], ◌∷◌, ◌++◌, length, Option, Some, None, is_some}
+use Rattle.wb_meaning.specs.Value.{Name, same_name, Sort, truth, word, memory, Entries, entry_of}
+use Rattle.wb_meaning.specs.Model.{Model, StateDeclaration, InputDeclaration, states_of, state_named, instructions_in, Instruction, instruction_name}
+use Rattle.wb_meaning.specs.Verilog.Syntax.{Expression, name, number, Selects, whole, Number}
+use Rattle.wb_meaning.specs.Verilog.Expression.{Object, Scope, object_width, width_of}
+use Rattle.wb_meaning.specs.Map.{Map, InstructionMap, instruction_map, sort_of_input}
+use Rattle.first_text.specs.Tree.{Primary, identifier, decimal, Term, single, sum, equality, Action, set, sequence, when, when_else, Actions, no_actions, action, Bounds, Port, Part, register, assignment, clocked, FirstModule, module_tree}
+use Rattle.wb_first.specs.Names.{First, scope_of_first, bits_of_name, port_named, is_input, is_output, is_variable, is_declared, is_register, assigned, blocks_among}
+
+-- every name of the list passes
+abbrev pub all_names : (Name → Bool) → List Name → Bool
+all_names p [] = true
+all_names p (n ∷ ns) = p n && all_names p ns
+
+abbrev pub is_among : List Name → Name → Bool
+is_among [] n = false
+is_among (m ∷ ms) n = same_name m n || is_among ms n
+
+-- no name stands twice
+abbrev pub are_distinct : List Name → Bool
+are_distinct [] = true
+are_distinct (n ∷ ns) = not (is_among ns n) && are_distinct ns
+
+abbrev pub keys : {A : Type 0} → Entries A → List Name
+keys [] = []
+keys (e ∷ es) = e.0 ∷ keys es
+
+abbrev pub primary_names : Primary → List Name
+primary_names (identifier n) = n ∷ []
+primary_names (decimal x) = []
+
+-- the names that a term reads
+abbrev pub term_names : Term → List Name
+term_names (single p) = primary_names p
+term_names (sum p q) = primary_names p ++ primary_names q
+term_names (equality p q) = primary_names p ++ primary_names q
+
+abbrev mutual
+  -- the names that an action reads
+  pub read_names : Action → List Name
+  read_names (set n e) = term_names e
+  read_names (sequence list) = all_read_names list
+  read_names (when c a) = term_names c ++ read_names a
+  read_names (when_else c a b) = term_names c ++ read_names a ++ read_names b
+
+  pub all_read_names : Actions → List Name
+  all_read_names no_actions = []
+  all_read_names (action a list) = read_names a ++ all_read_names list
+
+abbrev mutual
+  -- the names that it assigns
+  pub set_names : Action → List Name
+  set_names (set n e) = n ∷ []
+  set_names (sequence list) = all_set_names list
+  set_names (when c a) = set_names a
+  set_names (when_else c a b) = set_names a ++ set_names b
+
+  pub all_set_names : Actions → List Name
+  all_set_names no_actions = []
+  all_set_names (action a list) = set_names a ++ all_set_names list
+
+abbrev pub port_names : List Port → List Name
+port_names [] = []
+port_names (p ∷ ps) = p.own_name ∷ port_names ps
+
+abbrev pub variable_names : List Part → List Name
+variable_names [] = []
+variable_names (register b n ∷ ps) = n ∷ variable_names ps
+variable_names (_ ∷ ps) = variable_names ps
+
+-- a bound is at most 65535
+abbrev pub has_small_bounds : Bounds → Bool
+has_small_bounds None = true
+has_small_bounds (Some b) = nat_le b.0 65535 && nat_le b.1 65535
+
+abbrev pub ports_are_small : List Port → Bool
+ports_are_small [] = true
+ports_are_small (p ∷ ps) = has_small_bounds p.bounds && ports_are_small ps
+
+abbrev pub variables_are_small : List Part → Bool
+variables_are_small [] = true
+variables_are_small (register b n ∷ ps) = has_small_bounds b && variables_are_small ps
+variables_are_small (_ ∷ ps) = variables_are_small ps
+
+abbrev pub same_bounds : Bounds → Bounds → Bool
+same_bounds (Some a) (Some b) = (a.0 == b.0) && (a.1 == b.1)
+same_bounds _ _ = true
+
+abbrev pub port_agrees : Bounds → Option Port → Bool
+port_agrees b None = true
+port_agrees b (Some p) = same_bounds p.bounds b
+
+-- a name that is declared both as a port and `reg` is an output, and where both have a range it is one
+abbrev pub variables_agree : FirstModule → List Part → Bool
+variables_agree m [] = true
+variables_agree m (register b n ∷ ps) = not (is_input m n) && port_agrees b (port_named m.ports n) && variables_agree m ps
+variables_agree m (_ ∷ ps) = variables_agree m ps
+
+-- every declared name, each once
+abbrev pub new_names : List Name → List Name → List Name
+new_names ports [] = []
+new_names ports (n ∷ ns) = cond (is_among ports n) (new_names ports ns) (n ∷ new_names ports ns)
+
+abbrev pub declared_names : FirstModule → List Name
+declared_names m = port_names m.ports ++ new_names (port_names m.ports) (variable_names m.parts)
+
+abbrev pub is_narrow : FirstModule → Name → Bool
+is_narrow m n = nat_le (bits_of_name m n) 128
+
+-- a net or variable other than the clock
+abbrev pub is_data : First → Name → Bool
+is_data f n = is_declared f.design n && not (same_name n f.map.clock)
+
+abbrev pub is_assigned : FirstModule → Name → Bool
+is_assigned m n = is_some (entry_of (assigned m) n)
+
+-- something drives the name
+abbrev pub is_driven : FirstModule → Name → Bool
+is_driven m n = is_input m n || is_register m n || is_assigned m n
+
+-- a value that an assignment of the profile may read: a register or an input
+abbrev pub is_source : First → Name → Bool
+is_source f n = is_data f n && (is_input f.design n || is_register f.design n)
+
+abbrev pub terms_read : (Name → Bool) → Entries Term → Bool
+terms_read p [] = true
+terms_read p (e ∷ es) = all_names p (term_names e.1) && terms_read p es
+
+-- an output that is no variable
+abbrev pub is_net : First → Name → Bool
+is_net f n = is_data f n && is_output f.design n && not (is_variable f.design n)
+
+abbrev pub is_target : First → Name → Bool
+is_target f n = is_data f n && is_variable f.design n
+
+abbrev pub is_read : First → Name → Bool
+is_read f n = is_data f n && is_driven f.design n
+
+-- exactly one clocked block, at the clock's rising edge, which assigns variables and reads what something drives
+abbrev pub has_one_block : First → List (Name × Action) → Bool
+has_one_block f (b ∷ []) = same_name b.0 f.map.clock && all_names (is_target f) (set_names b.1) && all_names (is_read f) (read_names b.1)
+has_one_block f _ = false
+
+abbrev pub is_kept : FirstModule → Name → Bool
+is_kept m n = not (is_output m n) || is_driven m n
+
+abbrev pub counted_bits : First → Name → ℕ
+counted_bits f n = cond (is_data f n && (is_register f.design n || is_input f.design n)) (bits_of_name f.design n) 0
+
+abbrev pub sum_of_bits : First → List Name → ℕ
+sum_of_bits f [] = 0
+sum_of_bits f (n ∷ ns) = counted_bits f n + sum_of_bits f ns
+
+-- The module: its names, its ranges, its drivers. Its registers and its inputs but the clock have at most 16 bits together.
+abbrev pub is_accepted_module : First → Bool
+is_accepted_module f =
+    same_name f.design.own_name f.map.top
+    && is_input f.design f.map.clock
+    && (bits_of_name f.design f.map.clock == 1)
+    && are_distinct (port_names f.design.ports)
+    && are_distinct (variable_names f.design.parts)
+    && ports_are_small f.design.ports
+    && variables_are_small f.design.parts
+    && variables_agree f.design f.design.parts
+    && all_names (is_narrow f.design) (declared_names f.design)
+    && all_names (is_net f) (keys (assigned f.design))
+    && are_distinct (keys (assigned f.design))
+    && terms_read (is_source f) (assigned f.design)
+    && has_one_block f (blocks_among f.design.parts)
+    && all_names (is_kept f.design) (port_names f.design.ports)
+    && nat_le (sum_of_bits f (declared_names f.design)) 16
+
+abbrev pub has_dot : Name → Bool
+has_dot [] = false
+has_dot (c ∷ cs) = (c == 46) || has_dot cs
+
+-- an expression of the map: a name of the module that is not the clock, or a plain decimal
+abbrev pub is_map_expression : First → Expression → Bool
+is_map_expression f (name n whole) = is_data f n && not (has_dot n)
+is_map_expression f (number k) = true
+is_map_expression f _ = false
+
+abbrev pub map_width : First → Expression → ℕ
+map_width f e = width_of (scope_of_first f.design) e
+
+abbrev pub fits_sort : First → Option Sort → Expression → Bool
+fits_sort f (Some truth) e = map_width f e == 1
+fits_sort f (Some (word w)) e = map_width f e == w
+fits_sort f _ e = false
+
+-- reads no input: neither itself nor by its assignment
+abbrev pub term_reads_no_input : First → Option Term → Bool
+term_reads_no_input f None = true
+term_reads_no_input f (Some e) = all_names (λ n. not (is_input f.design n)) (term_names e)
+
+abbrev pub is_input_free : First → Expression → Bool
+is_input_free f (name n x) = not (is_input f.design n) && term_reads_no_input f (entry_of (assigned f.design) n)
+is_input_free f _ = true
+
+-- each entry is of a state, an expression of its width that reads no input; and each state has one
+abbrev pub state_sort : List StateDeclaration → Name → Option Sort
+state_sort [] n = None
+state_sort (d ∷ ds) n = cond (same_name d.state_name n) (Some d.sort) (state_sort ds n)
+
+abbrev pub states_are_mapped : First → Entries Expression → Bool
+states_are_mapped f [] = true
+states_are_mapped f (e ∷ es) =
+    is_map_expression f e.1 && fits_sort f (state_sort (states_of f.model.top) e.0) e.1 && is_input_free f e.1 && states_are_mapped f es
+
+abbrev pub all_states_mapped : Entries Expression → List StateDeclaration → Bool
+all_states_mapped es [] = true
+all_states_mapped es (d ∷ ds) = is_some (entry_of es d.state_name) && all_states_mapped es ds
+
+abbrev pub inputs_are_mapped : First → Entries Expression → Bool
+inputs_are_mapped f [] = true
+inputs_are_mapped f (e ∷ es) =
+    is_map_expression f e.1 && fits_sort f (sort_of_input f.model.inputs e.0) e.1 && inputs_are_mapped f es
+
+abbrev pub all_inputs_mapped : Entries Expression → List InputDeclaration → Bool
+all_inputs_mapped es [] = true
+all_inputs_mapped es (i ∷ is) = is_some (entry_of es i.input_name) && all_inputs_mapped es is
+
+abbrev pub instruction_names : List Instruction → List Name
+instruction_names [] = []
+instruction_names (i ∷ is) = instruction_name i ∷ instruction_names is
+
+abbrev pub entry_names : List InstructionMap → List Name
+entry_names [] = []
+entry_names (e ∷ es) = e.called ∷ entry_names es
+
+-- each entry's commit is an expression, and its bound is 1
+abbrev pub entries_are_accepted : First → List InstructionMap → Bool
+entries_are_accepted f [] = true
+entries_are_accepted f (e ∷ es) = is_map_expression f e.commit && (e.bound == 1) && entries_are_accepted f es
+
+-- The map: its names are those of the model and of the module, its widths fit, and each instruction has one entry.
+abbrev pub is_accepted_map : First → Bool
+is_accepted_map f =
+    (f.map.reset_cycles == 1)
+    && is_input f.design f.map.reset_signal
+    && (bits_of_name f.design f.map.reset_signal == 1)
+    && not (same_name f.map.reset_signal f.map.clock)
+    && is_map_expression f f.map.start
+    && states_are_mapped f f.map.states
+    && all_states_mapped f.map.states (states_of f.model.top)
+    && inputs_are_mapped f f.map.inputs
+    && all_inputs_mapped f.map.inputs f.model.inputs
+    && entries_are_accepted f f.map.instructions
+    && are_distinct (entry_names f.map.instructions)
+    && all_names (is_among (instruction_names (instructions_in f.model.top))) (entry_names f.map.instructions)
+    && all_names (is_among (entry_names f.map.instructions)) (instruction_names (instructions_in f.model.top))
+    && (length f.map.assume == 0)
+    && (length f.map.invariants == 0)
+
+abbrev pub is_accepted : First → Bool
+is_accepted f = is_accepted_module f && is_accepted_map f

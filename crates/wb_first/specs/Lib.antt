@@ -1,0 +1,5 @@
+pub mod Names
+pub mod Accepted
+
+pub mod Cycle
+

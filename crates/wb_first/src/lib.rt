@@ -1,0 +1,2 @@
+//! `check` in the first profile: small models, maps and modules, decided by going through all values.
+#![tactic(auto)]
