@@ -1,11 +1,11 @@
 -- Which model, map and module are accepted in the first profile: one test for each rule.
 use Rattle.std.specs.Prelude.{ℕ, ◌+◌, Bool, true, false, cond, not, ◌&&◌, ◌||◌, ◌==◌, nat_le, List, [], ◌∷◌, ◌++◌, length, Option, Some, None, is_some}
-use Rattle.wb_meaning.specs.Value.{Name, same_name, Sort, truth, word, memory, Entries, entry_of}
-use Rattle.wb_meaning.specs.Model.{Model, StateDeclaration, InputDeclaration, states_of, state_named, instructions_in, Instruction, instruction_name}
-use Rattle.wb_meaning.specs.Verilog.Syntax.{Expression, name, number, Selects, whole, Number}
-use Rattle.wb_meaning.specs.Verilog.Expression.{Object, Scope, object_width, width_of}
-use Rattle.wb_meaning.specs.Map.{Map, InstructionMap, instruction_map, sort_of_input}
-use Rattle.first_text.specs.Tree.{Primary, identifier, decimal, Term, single, sum, equality, Action, set, sequence, when, when_else, Actions, no_actions, action, Bounds, Port, Part, register, assignment, clocked, FirstModule, module_tree}
+use Rattle.wb_meaning.specs.Value.{Name, same_name, Sort, truth, word, Entries, entry_of}
+use Rattle.wb_meaning.specs.Model.{StateDeclaration, InputDeclaration, states_of, instructions_in, Instruction, instruction_name}
+use Rattle.wb_meaning.specs.Verilog.Syntax.{Expression, name, number, whole}
+use Rattle.wb_meaning.specs.Verilog.Expression.{width_of}
+use Rattle.wb_meaning.specs.Map.{InstructionMap, sort_of_input}
+use Rattle.first_text.specs.Tree.{Primary, identifier, decimal, Term, single, sum, equality, Action, set, sequence, when, when_else, Actions, no_actions, action, Bounds, Port, Part, register, FirstModule}
 use Rattle.wb_first.specs.Names.{First, scope_of_first, bits_of_name, port_named, is_input, is_output, is_variable, is_declared, is_register, assigned, blocks_among}
 
 -- every name of the list passes

@@ -1,5 +1,4 @@
 pub mod Names
 pub mod Accepted
-
 pub mod Cycle
-
+pub mod Decided
