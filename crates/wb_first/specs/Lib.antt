@@ -2,3 +2,4 @@ pub mod Names
 pub mod Accepted
 pub mod Cycle
 pub mod Decided
+pub mod Claims

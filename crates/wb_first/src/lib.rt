@@ -1,2 +1,4 @@
 //! `check` in the first profile: small models, maps and modules, decided by going through all values.
 #![tactic(auto)]
+
+pub mod laws;

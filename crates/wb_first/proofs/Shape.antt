@@ -1,0 +1,207 @@
+-- What the tree of a module of the profile has: no parameters, no instances, no memories, one kind of block.
+use Rattle.std.proofs.Common.{◌≡◌, ◌≢◌, ℕ, zero, suc, ◌+◌, ◌<◌, Bool, true, false, cond, not, ◌&&◌, ◌||◌, List, [], ◌∷◌, ◌++◌, arith, subst, sym, refl, ap, ◌∙◌, Option, Some, None, inl, inr, ◌⊎◌}
+use Rattle.std.specs.Prelude.{IsTrue, is_some, option_map, option_and_then}
+use Rattle.std.proofs.lemmas.Slice.Eq.{bytes_eq-Decides}
+use Rattle.wb_meaning.specs.Value.{Name, same_name, Entries, entry_of}
+use Rattle.wb_meaning.specs.Verilog.Syntax.{Expression, Statement, Target, place, whole, Range, Direction, input, output, PortDeclaration, Item, Module, Source, number, name}
+use Rattle.wb_meaning.specs.Verilog.Expression.{Object, Scope, object_width, undeclared, scope_of}
+use Rattle.wb_meaning.specs.Verilog.Register.{clocked_blocks, combinational_blocks}
+use Rattle.wb_meaning.specs.Verilog.Hierarchy.{Declaration, declarations, port_declarations, port_names, item_declarations, declaration_of, both_declarations, ranged_object, body_parameters, constants_of, no_overrides, module_named, instance_named, Placed, placed_at, placed_scope, placed_below}
+use Rattle.wb_meaning.specs.Verilog.Settled.{assignments, at_path, Design, is_declared_among, declared_ports, item_ports, port_directions, IsPort}
+use Rattle.wb_meaning.specs.Map.{design_of}
+use Rattle.first_text.specs.Tree.{Term, term_tree, Action, action_tree, Bounds, bounds_tree, Port, port_tree, port_trees, Part, register, assignment, clocked, part_tree, part_trees, FirstModule, module_tree}
+use Rattle.wb_first.specs.Names.{First, setting_of, scope_of_first, port_named, is_declared, is_variable, is_input, has_direction, same_direction, is_variable_among, assigned_among, blocks_among}
+
+-- the actions of the clocked blocks, as statements
+abbrev pub block_trees : List (Name × Action) → List Statement
+block_trees [] = []
+block_trees (b ∷ bs) = action_tree b.1 ∷ block_trees bs
+
+-- the assignments, as targets and expressions
+abbrev pub assigned_trees : Entries Term → List (Target × Expression)
+assigned_trees [] = []
+assigned_trees (e ∷ es) = (place e.0 whole, term_tree e.1) ∷ assigned_trees es
+
+pub no_parameters : (ps : List Part) → body_parameters (part_trees ps) ≡ []
+no_parameters [] = refl
+no_parameters (register b n ∷ ps) = no_parameters ps
+no_parameters (assignment n e ∷ ps) = no_parameters ps
+no_parameters (clocked s a ∷ ps) = no_parameters ps
+
+pub no_instances : (ps : List Part) (u : Name) → instance_named (part_trees ps) u ≡ None
+no_instances [] u = refl
+no_instances (register b n ∷ ps) u = no_instances ps u
+no_instances (assignment n e ∷ ps) u = no_instances ps u
+no_instances (clocked s a ∷ ps) u = no_instances ps u
+
+pub clocked_of : (ps : List Part) → clocked_blocks (part_trees ps) ≡ block_trees (blocks_among ps)
+clocked_of [] = refl
+clocked_of (register b n ∷ ps) = clocked_of ps
+clocked_of (assignment n e ∷ ps) = clocked_of ps
+clocked_of (clocked s a ∷ ps) = ap (λ xs. action_tree a ∷ xs) (clocked_of ps)
+
+pub no_combinational : (ps : List Part) → combinational_blocks (part_trees ps) ≡ []
+no_combinational [] = refl
+no_combinational (register b n ∷ ps) = no_combinational ps
+no_combinational (assignment n e ∷ ps) = no_combinational ps
+no_combinational (clocked s a ∷ ps) = no_combinational ps
+
+pub assignments_of : (ps : List Part) → assignments (part_trees ps) ≡ assigned_trees (assigned_among ps)
+assignments_of [] = refl
+assignments_of (register b n ∷ ps) = assignments_of ps
+assignments_of (assignment n e ∷ ps) = ap (λ xs. (place n whole, term_tree e) ∷ xs) (assignments_of ps)
+assignments_of (clocked s a ∷ ps) = assignments_of ps
+
+pub constants_none : (m : FirstModule) → constants_of (module_tree m) no_overrides ≡ []
+constants_none m = rw (no_parameters m.parts) refl
+
+-- nothing in a declaration of the profile is a memory or signed
+pub record IsPlain (d : Declaration) : Type 0 where
+  pub no_memory : d.addresses ≡ None
+  pub unsigned : d.signed ≡ false
+
+both_plain : (d e : Declaration) → IsPlain d → IsPlain e → IsPlain (both_declarations d e)
+both_plain d e p q = record { no_memory = rw (p.no_memory) q.no_memory; unsigned = rw (p.unsigned) q.unsigned }
+
+abbrev AllPlain : List Declaration → Type 0
+AllPlain [] = Unit {0}
+AllPlain (d ∷ ds) = IsPlain d × AllPlain ds
+
+plain_append : (ds es : List Declaration) → AllPlain ds → AllPlain es → AllPlain (ds ++ es)
+plain_append [] es p q = q
+plain_append (d ∷ ds) es p q = (p.0, plain_append ds es p.1 q)
+
+ports_plain : (ps : List Port) → AllPlain (port_declarations (port_trees ps))
+ports_plain [] = tt
+ports_plain (p ∷ ps) = (record { no_memory = refl; unsigned = refl }, ports_plain ps)
+
+items_plain : (ps : List Part) → AllPlain (item_declarations (part_trees ps))
+items_plain [] = tt
+items_plain (register b n ∷ ps) = (record { no_memory = refl; unsigned = refl }, items_plain ps)
+items_plain (assignment n e ∷ ps) = items_plain ps
+items_plain (clocked s a ∷ ps) = items_plain ps
+
+found_plain : (ds : List Declaration) (n : Name) → AllPlain ds → IsPlain (declaration_of ds n)
+found_plain [] n p = record { no_memory = refl; unsigned = refl }
+found_plain (d ∷ ds) n p =
+    elim (same_name d.of_name n) as (λ b. IsPlain (cond b (both_declarations d (declaration_of ds n)) (declaration_of ds n))) [
+      | true ↦ both_plain d (declaration_of ds n) p.0 (found_plain ds n p.1)
+      | false ↦ found_plain ds n p.1
+    ]
+
+pub plain : (m : FirstModule) (n : Name) → IsPlain (declaration_of (declarations (module_tree m)) n)
+plain m n =
+    found_plain (declarations (module_tree m)) n
+    (plain_append (port_declarations (port_trees m.ports)) (item_declarations (part_trees m.parts)) (ports_plain m.ports) (items_plain m.parts))
+
+pub not_memory : (m : FirstModule) (n : Name) → (scope_of_first m n).addresses ≡ None
+not_memory m n = rw (plain m n).no_memory refl
+
+-- a name's sign and value depend on no parameter
+range_sign : (s : Scope) (signed : Bool) (r : Option Range) → (ranged_object s signed r).signed ≡ signed
+range_sign s signed None = refl
+range_sign s signed (Some r) = refl
+
+range_constant : (s : Scope) (signed : Bool) (r : Option Range) → (ranged_object s signed r).constant ≡ None
+range_constant s signed None = refl
+range_constant s signed (Some r) = refl
+
+pub not_signed : (m : FirstModule) (n : Name) → (scope_of_first m n).signed ≡ false
+not_signed m n =
+    range_sign (scope_of []) (declaration_of (declarations (module_tree m)) n).signed (declaration_of (declarations (module_tree m)) n).range
+    ∙ (plain m n).unsigned
+
+pub not_constant : (m : FirstModule) (n : Name) → (scope_of_first m n).constant ≡ None
+not_constant m n =
+    range_constant (scope_of []) (declaration_of (declarations (module_tree m)) n).signed (declaration_of (declarations (module_tree m)) n).range
+
+-- ---- the one module
+
+abbrev pub first_placed : First → Placed
+first_placed f = record { of_module = module_tree f.design; constants = [] }
+
+abbrev pub design_of_first : First → Design
+design_of_first f = design_of (setting_of f)
+
+pub top_placed : (f : First) → same_name f.design.own_name f.map.top ≡ true → at_path (design_of_first f) [] ≡ Some (first_placed f)
+top_placed f h = rw (h, constants_none f.design) refl
+
+nothing_below : (f : First) (u : Name) → placed_below (module_tree f.design ∷ []) u (first_placed f) ≡ None
+nothing_below f u = rw (no_instances f.design.parts u) refl
+
+pub no_paths : (f : First) → same_name f.design.own_name f.map.top ≡ true → (u : Name) (path : List Name)
+    → at_path (design_of_first f) (u ∷ path) ≡ None
+no_paths f h u [] = rw (top_placed f h) (nothing_below f u)
+no_paths f h u (v ∷ path) = rw (no_paths f h v path) refl
+
+-- the only path is that of the top
+pub only_top : (f : First) → same_name f.design.own_name f.map.top ≡ true → (path : List Name) (p : Placed)
+    → at_path (design_of_first f) path ≡ Some p → (path ≡ []) × (p ≡ first_placed f)
+only_top f h [] p e = let both : Some (first_placed f) ≡ Some p = sym (top_placed f h) ∙ e in (refl, cc)
+only_top f h (u ∷ path) p e = let both : None ≡ Some p = sym (no_paths f h u path) ∙ e in absurd cc
+
+-- ---- names
+
+declared_port : (ps : List Port) (rest : List Declaration) (n : Name)
+    → is_declared_among (port_declarations (port_trees ps) ++ rest) n ≡ (is_some (port_named ps n) || is_declared_among rest n)
+declared_port [] rest n = refl
+declared_port (p ∷ ps) rest n =
+    elim (same_name p.own_name n) as
+      (λ b. (b || is_declared_among (port_declarations (port_trees ps) ++ rest) n)
+        ≡ (is_some (cond b (Some p) (port_named ps n)) || is_declared_among rest n)) [
+      | true ↦ refl
+      | false ↦ declared_port ps rest n
+    ]
+
+declared_variable : (ps : List Part) (n : Name) → is_declared_among (item_declarations (part_trees ps)) n ≡ is_variable_among ps n
+declared_variable [] n = refl
+declared_variable (register b m ∷ ps) n = ap (λ r. same_name m n || r) (declared_variable ps n)
+declared_variable (assignment m e ∷ ps) n = declared_variable ps n
+declared_variable (clocked s a ∷ ps) n = declared_variable ps n
+
+pub declared_same : (m : FirstModule) (n : Name) → is_declared_among (declarations (module_tree m)) n ≡ is_declared m n
+declared_same m n =
+    declared_port m.ports (item_declarations (part_trees m.parts)) n
+    ∙ ap (λ r. is_some (port_named m.ports n) || r) (declared_variable m.parts n)
+
+directions_of : (ps : List Port) (n : Name) → entry_of (declared_ports (port_trees ps)) n ≡ option_map (λ p. p.direction) (port_named ps n)
+directions_of [] n = refl
+directions_of (p ∷ ps) n =
+    elim (same_name p.own_name n) as
+      (λ b. cond b (Some p.direction) (entry_of (declared_ports (port_trees ps)) n)
+        ≡ option_map (λ q. q.direction) (cond b (Some p) (port_named ps n))) [
+      | true ↦ refl
+      | false ↦ directions_of ps n
+    ]
+
+no_item_ports : (ps : List Part) → item_ports (part_trees ps) ≡ []
+no_item_ports [] = refl
+no_item_ports (register b m ∷ ps) = no_item_ports ps
+no_item_ports (assignment m e ∷ ps) = no_item_ports ps
+no_item_ports (clocked s a ∷ ps) = no_item_ports ps
+
+append_nil : {A : Type 0} (xs : List A) → xs ++ [] ≡ xs
+append_nil [] = refl
+append_nil (x ∷ xs) = ap (λ ys. x ∷ ys) (append_nil xs)
+
+pub port_is : (m : FirstModule) (n : Name) → entry_of (port_directions (module_tree m)) n ≡ option_map (λ p. p.direction) (port_named m.ports n)
+port_is m n =
+    ap (λ xs. entry_of (declared_ports (port_trees m.ports) ++ xs) n) (no_item_ports m.parts)
+    ∙ (ap (λ xs. entry_of xs n) (append_nil (declared_ports (port_trees m.ports))) ∙ directions_of m.ports n)
+
+input_by : (o : Option Port) → has_direction input o ≡ true → option_map (λ p. p.direction) o ≡ Some input
+input_by None h = cc
+input_by (Some p) h =
+    (elim p.direction as (λ d. same_direction d input ≡ true → Some d ≡ Some input) [ input ↦ λ e. refl | output ↦ λ e. cc ]) h
+
+by_input : (o : Option Port) → option_map (λ p. p.direction) o ≡ Some input → has_direction input o ≡ true
+by_input None h = cc
+by_input (Some p) h =
+    (elim p.direction as (λ d. Some d ≡ Some input → same_direction d input ≡ true) [ input ↦ λ e. refl | output ↦ λ e. cc ]) h
+
+-- a name is an input port exactly where the profile says so
+pub input_port : (m : FirstModule) (n : Name) → is_input m n ≡ true → IsPort (module_tree m) n input
+input_port m n h = port_is m n ∙ input_by (port_named m.ports n) h
+
+pub port_input : (m : FirstModule) (n : Name) → IsPort (module_tree m) n input → is_input m n ≡ true
+port_input m n h = by_input (port_named m.ports n) (sym (port_is m n) ∙ h)
