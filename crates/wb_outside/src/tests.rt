@@ -1,0 +1,134 @@
+//! What no clause says: rows for the fakes, and the adapters over a real runtime.
+use super::*;
+use std::alloc::{AllocError, Global};
+use std::fmt::Display;
+use std::io;
+use std::test::Fail;
+
+fn named(alloc: Global, name: &str, bytes: &[u8]) -> Result<(String, Vec<u8>), AllocError> {
+    Ok((
+        String::from_str(alloc, name)?,
+        Vec::from_slice(alloc, bytes)?,
+    ))
+}
+
+#[test]
+fn a_shelf_in_memory_serves_and_fails_as_listed(rt: HostRuntime) -> Result<(), Fail> {
+    let alloc = rt.alloc();
+    let mut files = Vec::new(alloc);
+    files.push(named(alloc, "a", b"abcd")?)?;
+    files.push(named(alloc, "empty", b"")?)?;
+    files.push(named(alloc, "a", b"hidden")?)?;
+    let mut shelf = MemShelf::new(alloc, files, vec![in alloc; 3, 7]?)?;
+    let rows: [(&str, u64, Result<&[u8], ReadStop>, u64); 8] = [
+        ("a", 9, Ok(b"abcd"), 0),
+        ("a", 2, Ok(b"abc"), 0),
+        ("a", 9, Err(ReadStop::Failed), 1),
+        ("absent", 9, Err(ReadStop::Failed), 2),
+        ("empty", 0, Ok(b""), 2),
+        ("a", 3, Ok(b"abcd"), 2),
+        ("a", 0, Err(ReadStop::Failed), 3),
+        ("a", 0, Ok(b"a"), 3),
+    ];
+    for (index, (name, limit, wanted, faults)) in rows.into_iter().enumerate() {
+        let answer = shelf.read(alloc, name, limit);
+        match (&answer, wanted) {
+            (Ok(bytes), Ok(wanted)) => assert_eq!(rt; bytes.as_slice(), wanted, "row {index}"),
+            (Err(stop), Err(wanted)) => assert_eq!(rt; *stop, wanted, "row {index}"),
+            _ => panic!(rt; "row {index}"),
+        }
+        assert_eq!(rt; shelf.fault_count(), faults, "row {index}");
+        assert_eq!(rt; shelf.names().len(), index + 1);
+        let last = shelf.names().last();
+        assert!(rt;
+            last.is_some_and(|last| last.as_str() == name),
+            "row {index}"
+        );
+    }
+    Ok(())
+}
+
+#[test]
+fn a_sink_in_memory_keeps_what_fits(rt: HostRuntime) -> Result<(), Fail> {
+    let alloc = rt.alloc();
+    let listed = vec![in alloc; (2, 1), (2, 9), (4, 9), (6, 5)]?;
+    let mut sink = MemSink::new(alloc, 10, listed)?;
+    let rows: [(&[u8], bool, &[u8], u64); 7] = [
+        (b"ab", true, b"ab", 0),
+        (b"cd", false, b"abc", 1),
+        (b"", true, b"abc", 1),
+        (b"ef", false, b"abcef", 2),
+        (b"ghi", true, b"abcefghi", 2),
+        (b"jkl", false, b"abcefghijk", 3),
+        (b"m", false, b"abcefghijk", 4),
+    ];
+    for (index, (piece, taken, bytes, faults)) in rows.into_iter().enumerate() {
+        assert_eq!(rt; sink.write(piece).is_ok(), taken, "row {index}");
+        assert_eq!(rt; sink.bytes(), bytes, "row {index}");
+        assert_eq!(rt; sink.fault_count(), faults, "row {index}");
+    }
+    Ok(())
+}
+
+#[test]
+fn real_files_are_read_past_the_limit_by_one(rt: HostRuntime) -> Result<(), Fail> {
+    let alloc = rt.alloc();
+    let mut shelf = FileShelf::new(&rt);
+    let mut names = Vec::new(alloc);
+    names.push(String::from_str(alloc, "/dev/null")?)?;
+    names.push(String::from_str(alloc, "/dev/zero")?)?;
+    let contents = read_all(&mut shelf, alloc, &names, 3)?;
+    assert_eq!(rt; contents.len(), 2);
+    assert_eq!(rt; contents[0].as_slice(), b"".as_slice());
+    assert_eq!(rt; contents[1].as_slice(), [0, 0, 0, 0].as_slice());
+    assert_eq!(rt; shelf.fault_count(), 0);
+    let answer = shelf.read(alloc, "/dev/null/absent", 3);
+    assert!(rt; matches!(answer, Err(ReadStop::Failed)));
+    assert_eq!(rt; shelf.fault_count(), 1);
+    Ok(())
+}
+
+// An output that takes at most two bytes of each piece, and nothing of one that begins with `x`.
+#[derive(Drop)]
+struct Narrow;
+
+impl Print for Narrow {
+    fn print<D: Display + Drop>(&self, _value: D) -> io::Result<()> {
+        Ok(())
+    }
+
+    fn println<D: Display + Drop>(&self, _value: D) -> io::Result<()> {
+        Ok(())
+    }
+
+    fn write_all(&self, _bytes: &[u8]) -> io::Result<()> {
+        Ok(())
+    }
+
+    fn write_some(&self, bytes: &[u8]) -> io::Result<usize> {
+        match bytes {
+            [b'x', ..] => Ok(0),
+            [b'y', ..] => Err(io::Error::from(io::ErrorKind::BrokenPipe)),
+            _ => Ok(bytes.len().min(2)),
+        }
+    }
+}
+
+#[test]
+fn an_output_that_takes_nothing_is_a_fault(rt: HostRuntime) {
+    let narrow = Narrow;
+    let mut sink = StdSink::new(&narrow);
+    let rows: [(&[u8], bool, u64); 5] = [
+        (b"abcde", true, 0),
+        (b"", true, 0),
+        (b"abx", false, 1),
+        (b"y", false, 2),
+        (b"x", false, 3),
+    ];
+    for (piece, taken, faults) in rows {
+        assert_eq!(rt; sink.write(piece).is_ok(), taken);
+        assert_eq!(rt; sink.fault_count(), faults);
+    }
+    let mut output = StdSink::new(&rt);
+    assert!(rt; output.write(b"").is_ok());
+}
