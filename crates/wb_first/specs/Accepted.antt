@@ -1,7 +1,7 @@
 -- Which model, map and module are accepted in the first profile: one test for each rule.
 use Rattle.std.specs.Prelude.{ℕ, ◌+◌, Bool, true, false, cond, not, ◌&&◌, ◌||◌, ◌==◌, nat_le, List, [], ◌∷◌, ◌++◌, length, Option, Some, None, is_some}
 use Rattle.wb_meaning.specs.Value.{Name, same_name, Sort, truth, word, Entries, entry_of}
-use Rattle.wb_meaning.specs.Model.{StateDeclaration, InputDeclaration, states_of, instructions_in, Instruction, instruction_name}
+use Rattle.wb_meaning.specs.Model.{StateDeclaration, InputDeclaration, states_of, instructions_in, Instruction, instruction_name, child_of, Child, no_child, child}
 use Rattle.wb_meaning.specs.Verilog.Syntax.{Expression, name, number, whole}
 use Rattle.wb_meaning.specs.Verilog.Expression.{width_of}
 use Rattle.wb_meaning.specs.Map.{InstructionMap, sort_of_input}
@@ -253,5 +253,13 @@ is_accepted_map f =
     && (length f.map.assume == 0)
     && (length f.map.invariants == 0)
 
+abbrev pub has_no_child : Child → Bool
+has_no_child no_child = true
+has_no_child (child steps program) = false
+
+abbrev pub no_children : List Instruction → Bool
+no_children [] = true
+no_children (i ∷ is) = has_no_child (child_of i) && no_children is
+
 abbrev pub is_accepted : First → Bool
-is_accepted f = is_accepted_module f && is_accepted_map f
+is_accepted f = is_accepted_module f && is_accepted_map f && no_children (instructions_in f.model.top)
