@@ -1,17 +1,13 @@
 -- Valuations that agree on the names that are read give the same values, updates and registers.
-use Rattle.std.proofs.Common.{◌≡◌, ℕ, zero, suc, ◌+◌, ◌*◌, ◌/◌, ◌%◌, ◌^◌, ◌<◌, ◌≤◌, Bool, true, false, cond, ◌&&◌, ◌||◌, List, [], ◌∷◌, ◌++◌, arith, subst, sym, refl, ap, ◌∙◌, Option, Some, None}
-use Rattle.std.specs.Prelude.{max, pos, IsTrue}
+use Rattle.std.proofs.Common.{◌≡◌, ℕ, ◌%◌, ◌^◌, Bool, true, false, cond, ◌&&◌, List, [], ◌∷◌, ◌++◌, sym, refl, ap, ◌∙◌}
+use Rattle.std.specs.Prelude.{max}
 use mathlib.Core.Path.{ap₂}
-use Rattle.std.proofs.lemmas.Slice.Eq.{bytes_eq-Decides}
-use Rattle.std.proofs.Math.Nat.{mod-lt}
-use Rattle.wb_meaning.specs.Value.{Name, same_name, Value, number, truth_value, words, Valuation, Entries, with_value}
-use Rattle.wb_meaning.specs.Verilog.Syntax.{Expression, name, whole, binary, comparison, add, equal, Statement, Statements, place}
-use Rattle.wb_meaning.specs.Verilog.Expression.{Object, Scope, object_width, width_of, sign_of, value_of, self_value, is_true, assigned_value, is_nonzero, widened, selects_width, whole_value, binary_value, comparison_value, integer_from, bit}
-use Rattle.wb_meaning.specs.Verilog.Statement.{Place, Cell, variable, all_bits, run, run_all, Effect, Update, unchanged, followed_by, behind, written, written_place, written_cell, places_width, with_update, with_updates, with_bits}
-use Rattle.wb_meaning.specs.Verilog.Register.{updates_of, after_edge}
+use Rattle.wb_meaning.specs.Value.{Name, Valuation}
+use Rattle.wb_meaning.specs.Verilog.Syntax.{whole, add, equal}
+use Rattle.wb_meaning.specs.Verilog.Expression.{Scope, width_of, sign_of, value_of, is_true, assigned_value, is_nonzero, widened, selects_width, whole_value, binary_value, comparison_value, integer_from, bit}
+use Rattle.wb_meaning.specs.Verilog.Statement.{variable, all_bits, run, run_all, Effect, unchanged}
 use Rattle.first_text.specs.Tree.{Primary, identifier, decimal, primary_tree, Term, single, sum, equality, term_tree, Action, set, sequence, when, when_else, Actions, no_actions, action, action_tree, actions_tree}
-use Rattle.wb_first.specs.Accepted.{all_names, primary_names, term_names, read_names, all_read_names, set_names, all_set_names}
-use Rattle.wb_first.proofs.Shape.{block_trees}
+use Rattle.wb_first.specs.Accepted.{all_names, primary_names, term_names, read_names, all_read_names}
 
 pub and_left : (a b : Bool) → (a && b) ≡ true → a ≡ true
 and_left true b h = refl

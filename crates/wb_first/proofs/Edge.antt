@@ -1,19 +1,17 @@
 -- Updates of whole names: they keep agreement between valuations, and keep numbers within their widths.
-use Rattle.std.proofs.Common.{◌≡◌, ℕ, zero, suc, ◌+◌, ◌*◌, ◌/◌, ◌%◌, ◌^◌, ◌<◌, ◌≤◌, Bool, true, false, cond, ◌&&◌, ◌||◌, List, [], ◌∷◌, ◌++◌, arith, subst, sym, refl, ap, ◌∙◌}
-use Rattle.std.specs.Prelude.{pos}
+use Rattle.std.proofs.Common.{◌≡◌, ℕ, ◌+◌, ◌*◌, ◌/◌, ◌%◌, ◌^◌, ◌<◌, Bool, true, false, cond, List, [], ◌∷◌, ◌++◌, subst, sym, refl, ap, ◌∙◌}
 use mathlib.Core.Path.{ap₂}
 use Rattle.std.proofs.lemmas.Slice.Eq.{bytes_eq-Decides}
 use Rattle.std.proofs.Math.Nat.{mod-lt}
 use Rattle.std.proofs.lemmas.Nat.{pow_pos}
-use Rattle.wb_meaning.specs.Value.{Name, same_name, Value, number, as_number, Valuation, with_value}
-use Rattle.wb_meaning.specs.Verilog.Syntax.{Statement, place, whole}
-use Rattle.wb_meaning.specs.Verilog.Expression.{Object, Scope, object_width}
-use Rattle.wb_meaning.specs.Verilog.Statement.{Place, Cell, variable, all_bits, run, run_all, Effect, Update, written, written_place, written_cell, places_width, with_update, with_updates, with_bits}
+use Rattle.wb_meaning.specs.Value.{Name, same_name, Value, number, as_number, Valuation}
+use Rattle.wb_meaning.specs.Verilog.Expression.{Scope, object_width}
+use Rattle.wb_meaning.specs.Verilog.Statement.{variable, all_bits, run, run_all, Effect, Update, written, written_cell, with_update, with_updates, with_bits}
 use Rattle.wb_meaning.specs.Verilog.Register.{updates_of, after_edge}
 use Rattle.wb_meaning.specs.Verilog.Expression.{is_true}
-use Rattle.first_text.specs.Tree.{Term, term_tree, Action, set, sequence, when, when_else, Actions, no_actions, action, action_tree, actions_tree}
+use Rattle.first_text.specs.Tree.{term_tree, Action, set, sequence, when, when_else, Actions, no_actions, action, action_tree, actions_tree}
 use Rattle.wb_first.specs.Accepted.{all_names, set_names, all_set_names, read_names}
-use Rattle.wb_first.proofs.Alike.{all_left, all_right, and_left, kept, updates_same}
+use Rattle.wb_first.proofs.Alike.{all_left, all_right, and_left, updates_same}
 use Rattle.wb_first.proofs.Shape.{block_trees}
 
 pub same_name_true : (m n : Name) → same_name m n ≡ true → m ≡ n

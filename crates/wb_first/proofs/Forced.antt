@@ -1,25 +1,24 @@
 -- A settled valuation is the one that registers and inputs give, and the next registers are those of the edge.
-use Rattle.std.proofs.Common.{◌≡◌, ◌≢◌, ℕ, zero, suc, ◌+◌, ◌*◌, ◌/◌, ◌%◌, ◌^◌, ◌<◌, ◌≤◌, Bool, true, false, cond, not, ◌&&◌, ◌||◌, List, [], ◌∷◌, ◌++◌, arith, subst, sym, refl, ap, ◌∙◌, Option, Some, None, ◌⊎◌, inl, inr}
-use Rattle.std.specs.Prelude.{IsTrue, is_some, nat_lt, pos, ◌==◌, max}
+use Rattle.std.proofs.Common.{◌≡◌, ℕ, ◌/◌, ◌^◌, ◌<◌, Bool, true, false, cond, not, ◌&&◌, ◌||◌, List, [], ◌∷◌, arith, subst, sym, refl, ap, ◌∙◌, Some, None}
+use Rattle.std.specs.Prelude.{is_some, max}
 use Rattle.std.proofs.lemmas.Bool.Decides.{nat_tests}
 use Rattle.std.proofs.lemmas.Slice.Eq.{bytes_eq-Decides}
-use Rattle.std.proofs.Math.Nat.{mod-lt, mod-eq_of_lt, div-one}
+use Rattle.std.proofs.Math.Nat.{mod-lt, div-one}
 use Rattle.std.proofs.lemmas.Nat.{pow_pos}
-use Rattle.wb_meaning.specs.Value.{Name, same_name, Value, number, truth_value, words, as_number, Valuation, Entries, entry_of, with_value}
-use Rattle.wb_meaning.specs.Verilog.Syntax.{Expression, Statement, Target, place, whole, Direction, input, output, Item}
-use Rattle.wb_meaning.specs.Verilog.Expression.{Object, Scope, object_width, is_memory, width_of, sign_of, value_of, assigned_value}
-use Rattle.wb_meaning.specs.Verilog.Statement.{variable, all_bits, written, written_cell, places, target_width, with_bits_from}
-use Rattle.wb_meaning.specs.Verilog.Register.{may_assign, may_assign_in_all, one_may_assign, may_reach, counts, is_bit_of, word_count, value_bit, is_set, clocked_blocks, combinational_blocks, after_edge}
-use Rattle.wb_meaning.specs.Verilog.Hierarchy.{Placed, placed_scope, declarations, instance_named}
-use Rattle.wb_meaning.specs.Verilog.Settled.{Design, at_path, inside, IsDeclared, is_declared_among, IsValueOf, assignments, HasAssigned, is_counted, one_may_reach, IsDriven, IsSettledIn, IsSettled, IsPort}
-use Rattle.wb_meaning.specs.Verilog.Next.{AreRegisters, AreInputs, IsNext}
-use Rattle.first_text.specs.Tree.{Term, term_tree, Action, set, sequence, when, when_else, Actions, no_actions, action, action_tree, actions_tree, Part, register, assignment, clocked, part_trees, FirstModule, module_tree}
-use Rattle.wb_first.specs.Names.{First, scope_of_first, bits_of_name, is_input, is_variable, is_declared, is_register, is_set_among, sets, one_sets, assigned, assigned_among, blocks_among}
-use Rattle.wb_first.specs.Accepted.{all_names, keys, term_names, terms_read, is_source, is_data, is_target, is_read, has_one_block, read_names, set_names, is_driven}
+use Rattle.wb_meaning.specs.Value.{Name, same_name, Value, number, truth_value, words, as_number, Valuation, Entries, entry_of}
+use Rattle.wb_meaning.specs.Verilog.Syntax.{Statement}
+use Rattle.wb_meaning.specs.Verilog.Expression.{Scope, object_width, is_memory, width_of, sign_of, value_of, assigned_value}
+use Rattle.wb_meaning.specs.Verilog.Statement.{variable, all_bits, written_cell, with_bits_from}
+use Rattle.wb_meaning.specs.Verilog.Register.{may_assign, may_assign_in_all, one_may_assign, is_bit_of, word_count, value_bit, is_set, clocked_blocks, after_edge}
+use Rattle.wb_meaning.specs.Verilog.Settled.{IsDeclared, IsValueOf, HasAssigned, is_counted, one_may_reach, IsDriven, IsSettledIn, IsSettled}
+use Rattle.wb_meaning.specs.Verilog.Next.{AreRegisters, IsNext}
+use Rattle.first_text.specs.Tree.{Term, term_tree, Action, set, sequence, when, when_else, Actions, no_actions, action, action_tree, actions_tree, Part, register, assignment, clocked, part_trees, FirstModule}
+use Rattle.wb_first.specs.Names.{First, scope_of_first, bits_of_name, is_input, is_variable, is_declared, is_register, is_set_among, sets, one_sets, assigned, blocks_among}
+use Rattle.wb_first.specs.Accepted.{all_names, term_names, terms_read, is_source, is_data, is_target, is_read, has_one_block, read_names, set_names, is_driven}
 use Rattle.wb_first.specs.Cycle.{held, assigned_number, settled, next_registers}
-use Rattle.wb_first.proofs.Shape.{block_trees, assigned_trees, no_instances, clocked_of, no_combinational, assignments_of, not_memory, first_placed, design_of_first, top_placed, declared_same, input_port, port_input}
+use Rattle.wb_first.proofs.Shape.{assigned_trees, no_instances, clocked_of, no_combinational, assignments_of, not_memory, first_placed, design_of_first, top_placed, declared_same, input_port, port_input}
 use Rattle.wb_first.proofs.Bits.{same_bits, no_bits, whole_written}
-use Rattle.wb_first.proofs.Alike.{and_left, and_right, all_left, all_right, assigned_same}
+use Rattle.wb_first.proofs.Alike.{and_left, and_right, assigned_same}
 use Rattle.wb_first.proofs.Edge.{same_name_true, IsNumberOf, BlocksPass, edge_alike, edge_number}
 use Rattle.wb_first.proofs.Rules.{Keeps}
 
@@ -81,7 +80,7 @@ assigned_entry s v (x ∷ es) h n e is_e =
       | false ↦ λ t some rest. rest some
     ]) refl is_e (λ g. assigned_entry s v es h.1 n e g)
 
-terms_entry : (p : Name → Bool) (es : Entries Term) → terms_read p es ≡ true → (n : Name) (e : Term) → entry_of es n ≡ Some e
+pub terms_entry : (p : Name → Bool) (es : Entries Term) → terms_read p es ≡ true → (n : Name) (e : Term) → entry_of es n ≡ Some e
     → all_names p (term_names e) ≡ true
 terms_entry p [] h n e is_e = cc
 terms_entry p (x ∷ es) h n e is_e =
@@ -93,7 +92,7 @@ terms_entry p (x ∷ es) h n e is_e =
     ]) is_e
 
 -- a value of a name of the profile is a number of its width
-number_of_value : (m : FirstModule) (n : Name) (y : Value) → IsValueOf (scope_of_first m n) y → IsNumberOf (scope_of_first m) n y
+pub number_of_value : (m : FirstModule) (n : Name) (y : Value) → IsValueOf (scope_of_first m n) y → IsNumberOf (scope_of_first m) n y
 number_of_value m n (number x) h = (x, refl, h.1)
 number_of_value m n (truth_value b) h = absurd h
 number_of_value m n (words xs) h =
@@ -126,7 +125,7 @@ module _ (f : First) (k : Keeps f) where
   abbrev scope : Scope
   scope = scope_of_first f.design
 
-  declared_in : (n : Name) → is_declared f.design n ≡ true → IsDeclared (first_placed f) n
+  pub declared_in : (n : Name) → is_declared f.design n ≡ true → IsDeclared (first_placed f) n
   declared_in n h = declared_same f.design n ∙ h
 
   counted_is : (n : Name) (b : ℕ) → b < bits_of_name f.design n → is_counted (first_placed f) n 0 b ≡ is_register f.design n
@@ -270,7 +269,7 @@ module _ (f : First) (k : Keeps f) where
         plain_held : entry_of (assigned f.design) n ≡ None → v n ≡ held f r i n
         plain_held none = by_register (is_register f.design n) refl none
 
-all_weaker : (p q : Name → Bool) → ((n : Name) → p n ≡ true → q n ≡ true) → (ns : List Name) → all_names p ns ≡ true → all_names q ns ≡ true
+pub all_weaker : (p q : Name → Bool) → ((n : Name) → p n ≡ true → q n ≡ true) → (ns : List Name) → all_names p ns ≡ true → all_names q ns ≡ true
 all_weaker p q imply [] h = refl
 all_weaker p q imply (n ∷ ns) h =
     let first : q n ≡ true = imply n (and_left (p n) (all_names p ns) h) in

@@ -4,3 +4,9 @@ pub mod Alike
 pub mod Edge
 pub mod Rules
 pub mod Forced
+pub mod Mapped
+pub mod Facts
+pub mod Decides
+pub mod Forms
+pub mod Enumerated
+pub mod Concluded

@@ -1,13 +1,10 @@
 -- The rules that an accepted model, map and module keep, one by one.
-use Rattle.std.proofs.Common.{◌≡◌, ◌≢◌, ℕ, ◌≤◌, Bool, true, false, cond, not, ◌&&◌, ◌||◌, List, [], ◌∷◌, ◌++◌, sym, refl, ap, ◌∙◌, subst, Option, Some, None, arith}
-use Rattle.std.specs.Prelude.{◌==◌, nat_le, length, is_some}
-use Rattle.std.proofs.lemmas.Bool.Decides.{nat_tests}
-use Rattle.wb_meaning.specs.Value.{Name, same_name, Entries, entry_of}
+use Rattle.std.proofs.Common.{◌≡◌, Bool, true, false, not, refl}
+use Rattle.std.specs.Prelude.{◌==◌, length}
+use Rattle.wb_meaning.specs.Value.{same_name}
 use Rattle.wb_meaning.specs.Model.{states_of, instructions_in}
-use Rattle.wb_meaning.specs.Verilog.Syntax.{Direction, input, output, Expression}
-use Rattle.first_text.specs.Tree.{Term, Action, Port, FirstModule}
-use Rattle.wb_first.specs.Names.{First, bits_of_name, is_input, is_output, is_variable, is_declared, is_register, assigned, blocks_among, port_named, has_direction, same_direction}
-use Rattle.wb_first.specs.Accepted.{is_accepted, is_accepted_module, is_accepted_map, all_names, is_among, are_distinct, keys, term_names, terms_read, is_source, is_data, is_net, is_target, is_read, is_kept, has_one_block, is_driven, is_map_expression, states_are_mapped, all_states_mapped, inputs_are_mapped, all_inputs_mapped, entries_are_accepted, entry_names, instruction_names, port_names, declared_names, sum_of_bits, read_names, set_names, no_children}
+use Rattle.wb_first.specs.Names.{First, bits_of_name, is_input, assigned, blocks_among}
+use Rattle.wb_first.specs.Accepted.{is_accepted, is_accepted_module, is_accepted_map, all_names, is_among, keys, terms_read, is_source, is_net, is_kept, has_one_block, is_map_expression, states_are_mapped, all_states_mapped, inputs_are_mapped, all_inputs_mapped, entries_are_accepted, entry_names, instruction_names, port_names, no_children}
 use Rattle.wb_first.proofs.Alike.{and_left, and_right}
 
 pub record Keeps (f : First) : Type 0 where

@@ -1,16 +1,15 @@
 -- What the tree of a module of the profile has: no parameters, no instances, no memories, one kind of block.
-use Rattle.std.proofs.Common.{◌≡◌, ◌≢◌, ℕ, zero, suc, ◌+◌, ◌<◌, Bool, true, false, cond, not, ◌&&◌, ◌||◌, List, [], ◌∷◌, ◌++◌, arith, subst, sym, refl, ap, ◌∙◌, Option, Some, None, inl, inr, ◌⊎◌}
-use Rattle.std.specs.Prelude.{IsTrue, is_some, option_map, option_and_then}
-use Rattle.std.proofs.lemmas.Slice.Eq.{bytes_eq-Decides}
+use Rattle.std.proofs.Common.{◌≡◌, Bool, true, false, cond, ◌||◌, List, [], ◌∷◌, ◌++◌, sym, refl, ap, ◌∙◌, Option, Some, None}
+use Rattle.std.specs.Prelude.{is_some, option_map}
 use Rattle.wb_meaning.specs.Value.{Name, same_name, Entries, entry_of}
-use Rattle.wb_meaning.specs.Verilog.Syntax.{Expression, Statement, Target, place, whole, Range, Direction, input, output, PortDeclaration, Item, Module, Source, number, name}
-use Rattle.wb_meaning.specs.Verilog.Expression.{Object, Scope, object_width, undeclared, scope_of}
+use Rattle.wb_meaning.specs.Verilog.Syntax.{Expression, Statement, Target, place, whole, Range, input, output}
+use Rattle.wb_meaning.specs.Verilog.Expression.{Scope, scope_of}
 use Rattle.wb_meaning.specs.Verilog.Register.{clocked_blocks, combinational_blocks}
-use Rattle.wb_meaning.specs.Verilog.Hierarchy.{Declaration, declarations, port_declarations, port_names, item_declarations, declaration_of, both_declarations, ranged_object, body_parameters, constants_of, no_overrides, module_named, instance_named, Placed, placed_at, placed_scope, placed_below}
+use Rattle.wb_meaning.specs.Verilog.Hierarchy.{Declaration, declarations, port_declarations, item_declarations, declaration_of, both_declarations, ranged_object, body_parameters, constants_of, no_overrides, instance_named, Placed, placed_below}
 use Rattle.wb_meaning.specs.Verilog.Settled.{assignments, at_path, Design, is_declared_among, declared_ports, item_ports, port_directions, IsPort}
 use Rattle.wb_meaning.specs.Map.{design_of}
-use Rattle.first_text.specs.Tree.{Term, term_tree, Action, action_tree, Bounds, bounds_tree, Port, port_tree, port_trees, Part, register, assignment, clocked, part_tree, part_trees, FirstModule, module_tree}
-use Rattle.wb_first.specs.Names.{First, setting_of, scope_of_first, port_named, is_declared, is_variable, is_input, has_direction, same_direction, is_variable_among, assigned_among, blocks_among}
+use Rattle.first_text.specs.Tree.{Term, term_tree, Action, action_tree, Port, port_trees, Part, register, assignment, clocked, part_trees, FirstModule, module_tree}
+use Rattle.wb_first.specs.Names.{First, setting_of, scope_of_first, port_named, is_declared, is_input, has_direction, same_direction, is_variable_among, assigned_among, blocks_among}
 
 -- the actions of the clocked blocks, as statements
 abbrev pub block_trees : List (Name × Action) → List Statement

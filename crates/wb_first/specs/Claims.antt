@@ -1,5 +1,5 @@
 -- What going through all values decides.
-use Rattle.std.specs.Prelude.{◌≡◌, ℕ, ◌<◌, true, false, List, Contains, slice_get, Some}
+use Rattle.std.specs.Prelude.{◌≡◌, ℕ, ◌<◌, true, false, slice_get, Some}
 use Rattle.wb_meaning.specs.Obligation.{Obligation, Holds, obligations}
 use Rattle.wb_first.specs.Names.{First, setting_of}
 use Rattle.wb_first.specs.Accepted.{is_accepted}
