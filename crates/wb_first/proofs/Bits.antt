@@ -19,7 +19,7 @@ pub same_bits : (w x y : ℕ) → x < 2 ^ w → y < 2 ^ w → ((b : ℕ) → b <
 same_bits w x y p q same =
     same_from_bits_below w x y p q (λ b h. small_same (bit_at x b) (bit_at y b) (bit_below x b) (bit_below y b) (same b h))
 
-zero_unset : (b : ℕ) → is_set 0 b ≡ false
+pub zero_unset : (b : ℕ) → is_set 0 b ≡ false
 zero_unset b = grind (arith, nat_tests)
 
 -- a number without bits is 0

@@ -48,7 +48,7 @@ may_be_set s (assignment m e ∷ ps) n k b = may_be_set s ps n k b
 may_be_set s (clocked c a ∷ ps) n k b =
     ap (λ t. t || one_may_assign s (clocked_blocks (part_trees ps)) n k b) (may_sets s a n k b) ∙ ap (λ t. sets a n || t) (may_be_set s ps n k b)
 
-reach_is : (s : Scope) (es : Entries Term) (n : Name) (k b : ℕ) → one_may_reach s (assigned_trees es) n k b ≡ is_some (entry_of es n)
+pub reach_is : (s : Scope) (es : Entries Term) (n : Name) (k b : ℕ) → one_may_reach s (assigned_trees es) n k b ≡ is_some (entry_of es n)
 reach_is s [] n k b = refl
 reach_is s (e ∷ es) n k b =
     elim (same_name e.0 n) as
@@ -118,7 +118,7 @@ zero_value m n x p none =
 one_word : (m : FirstModule) (n : Name) → word_count (scope_of_first m n) ≡ 1
 one_word m n = rw (not_memory m n) refl
 
-bit_counts : (m : FirstModule) (n : Name) (b : ℕ) → b < bits_of_name m n → is_bit_of (scope_of_first m n) 0 b ≡ true
+pub bit_counts : (m : FirstModule) (n : Name) (b : ℕ) → b < bits_of_name m n → is_bit_of (scope_of_first m n) 0 b ≡ true
 bit_counts m n b h = rw (one_word m n) (grind (arith, nat_tests))
 
 module _ (f : First) (k : Keeps f) where
@@ -128,11 +128,11 @@ module _ (f : First) (k : Keeps f) where
   pub declared_in : (n : Name) → is_declared f.design n ≡ true → IsDeclared (first_placed f) n
   declared_in n h = declared_same f.design n ∙ h
 
-  counted_is : (n : Name) (b : ℕ) → b < bits_of_name f.design n → is_counted (first_placed f) n 0 b ≡ is_register f.design n
+  pub counted_is : (n : Name) (b : ℕ) → b < bits_of_name f.design n → is_counted (first_placed f) n 0 b ≡ is_register f.design n
   counted_is n b h =
       rw (bit_counts f.design n b h) (may_be_set scope f.design.parts n 0 b)
 
-  uncounted : (n : Name) (b : ℕ) → is_register f.design n ≡ false → is_counted (first_placed f) n 0 b ≡ false
+  pub uncounted : (n : Name) (b : ℕ) → is_register f.design n ≡ false → is_counted (first_placed f) n 0 b ≡ false
   uncounted n b h =
       rw (may_be_set scope f.design.parts n 0 b, h) (and_false (is_bit_of (scope n) 0 b))
     where

@@ -10,3 +10,4 @@ pub mod Decides
 pub mod Forms
 pub mod Enumerated
 pub mod Concluded
+pub mod Built

@@ -1,5 +1,5 @@
 -- Clocked blocks: which bits they may assign, and what they leave at the clock's edge.
-use Rattle.std.specs.Prelude.{ℕ, ◌+◌, ◌^◌, ◌/◌, ◌%◌, Bool, true, false, cond, ◌&&◌, ◌||◌, ◌==◌, nat_lt, List, [], ◌∷◌, ◌++◌, slice_index, Option, Some, None, is_some, option_and_then, pos, ◌+ℤ◌, int_le, int_lt}
+use Rattle.std.specs.Prelude.{ℕ, zero, suc, ◌+◌, ◌^◌, ◌/◌, ◌%◌, Bool, true, false, cond, ◌&&◌, ◌||◌, ◌==◌, nat_lt, List, [], ◌∷◌, ◌++◌, slice_index, Option, Some, None, is_some, option_and_then, pos, ◌+ℤ◌, int_le, int_lt}
 use Rattle.wb_meaning.specs.Value.{Name, same_name, Value, truth_value, number as a_number, words, Valuation}
 use Rattle.wb_meaning.specs.Verilog.Syntax.{Expression, number, name, concatenation, replication, as_signed, as_unsigned, unary, reduction, binary, shift, power, comparison, logical, conditional, Expressions, no_expressions, expression, Select, index, part, part_up, part_down, Selects, whole, one, two, Target, place, joined, Targets, no_targets, target, Statement, empty, blocking, nonblocking, if_then, if_else, case, block, Statements, no_statements, statement, CaseItems, no_items, arm, default_arm, EdgeKind, posedge, negedge, any_edge, Event, Events, any_change, on_events, Item, always}
 use Rattle.wb_meaning.specs.Verilog.Expression.{Object, Scope, object_width, is_memory, Bits, word_number, no_values, select_index, select_bits, distance}
@@ -138,14 +138,15 @@ one_may_assign s (x ∷ xs) n k b = may_assign s x n k b || one_may_assign s xs 
 abbrev pub counts : Scope → List Statement → Name → ℕ → ℕ → Bool
 counts s clocked n k b = is_bit_of (s n) k b && one_may_assign s clocked n k b
 
--- bit b of word k of a value
+-- Bit b of word k of a value. A number has the word 0 alone.
 abbrev pub is_set : ℕ → ℕ → Bool
 is_set x b = x / 2 ^ b % 2 == 1
 
 abbrev pub value_bit : Value → ℕ → ℕ → Bool
-value_bit (a_number x) k b = is_set x b
+value_bit (a_number x) zero b = is_set x b
+value_bit (a_number x) (suc k) b = false
 value_bit (words xs) k b = is_set (slice_index xs k) b
-value_bit (truth_value t) k b = t
+value_bit (truth_value t) k b = false
 
 -- the updates of all blocks, each run on the same valuation
 abbrev pub updates_of : Scope → Valuation → List Statement → List Update
