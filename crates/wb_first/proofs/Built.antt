@@ -119,11 +119,11 @@ keeps_more f h =
     let m8 = and_left _ _ m9 in
     record { variables = and_right _ _ m8; distinct = and_right _ _ m11 }
 
-value_of_number : (m : FirstModule) (n : Name) (y : Value) → IsNumberOf (scope_of_first m) n y → IsValueOf (scope_of_first m n) y
+pub value_of_number : (m : FirstModule) (n : Name) (y : Value) → IsNumberOf (scope_of_first m) n y → IsValueOf (scope_of_first m n) y
 value_of_number m n y h =
     subst (λ z. IsValueOf (scope_of_first m n) z) (sym h.1) (rw (not_memory m n) refl, h.2)
 
-zero_number : (m : FirstModule) (n : Name) → IsNumberOf (scope_of_first m) n (number 0)
+pub zero_number : (m : FirstModule) (n : Name) → IsNumberOf (scope_of_first m) n (number 0)
 zero_number m n = (0, refl, pow_pos (bits_of_name m n))
 
 -- the values that a number stands for fit
@@ -403,7 +403,7 @@ module _ (f : First) (k : Keeps f) (more : KeepsMore f) (r i : Valuation)
 
   -- ---- the edge
 
-  next_fits : (n : Name) → is_declared f.design n ≡ true → IsNumberOf S n (next_registers f r i n)
+  pub next_fits : (n : Name) → is_declared f.design n ≡ true → IsNumberOf S n (next_registers f r i n)
   next_fits n known =
       elim (is_register f.design n) as
         (λ t. IsNumberOf S n (cond t (after_edge S (clocked_blocks (module_tree f.design).items) V n) (number 0))) [
@@ -411,7 +411,7 @@ module _ (f : First) (k : Keeps f) (more : KeepsMore f) (r i : Valuation)
         | false ↦ zero_number f.design n
       ]
 
-  next_are_registers : AreRegisters (design_of_first f) (next_registers f r i)
+  pub next_are_registers : AreRegisters (design_of_first f) (next_registers f r i)
   next_are_registers = registers_of (next_registers f r i) next_fits (λ n g. rw g refl)
     where
       registers_of : (q : Valuation) → ((n : Name) → is_declared f.design n ≡ true → IsNumberOf S n (q n))

@@ -17,12 +17,12 @@ use Rattle.wb_first.proofs.Decides.{holds_unbroken}
 use Rattle.wb_first.proofs.Forms.{first_at, all_first}
 use Rattle.wb_first.proofs.Enumerated.{NumberOf, number_of_values, same_held, first_by_held, second_by_held}
 
-registers_fit : (f : First) → Keeps f → (run : Run) → IsRun (setting_of f) run 1 → (n : Name) → is_declared f.design n ≡ true
+pub registers_fit : (f : First) → Keeps f → (run : Run) → IsRun (setting_of f) run 1 → (n : Name) → is_declared f.design n ≡ true
     → IsNumberOf (scope_of_first f.design) n (run.registers 0 n)
 registers_fit f k run is_run n h =
     number_of_value f.design n (run.registers 0 n) (is_run.first.fits [] (first_placed f) n (top_placed f k.is_top) (declared_in f k n h))
 
-inputs_fit : (f : First) → Keeps f → (run : Run) → IsRun (setting_of f) run 1 → (n : Name) → is_data f n ≡ true → is_input f.design n ≡ true
+pub inputs_fit : (f : First) → Keeps f → (run : Run) → IsRun (setting_of f) run 1 → (n : Name) → is_data f n ≡ true → is_input f.design n ≡ true
     → IsNumberOf (scope_of_first f.design) n (run.inputs 0 n)
 inputs_fit f k run is_run n d h =
     number_of_value f.design n (run.inputs 0 n)

@@ -38,7 +38,8 @@ abbrev pub IsClaim : First → Fact → Type 0
 IsClaim f (initial n (suc zero)) = Unit {0}
 IsClaim f (same n) = Unit {0}
 IsClaim f one_decodes = Unit {0}
-IsClaim f (result_of j n (suc zero)) = IsTrue (is_some (state_named (states_of f.model.top) n))
+IsClaim f (result_of j n (suc zero)) =
+    IsTrue (is_some (state_named (states_of f.model.top) n)) × IsTrue (is_some (slice_get (instructions_in f.model.top) j))
 IsClaim f never = Unit {0}
 IsClaim f _ = ⊥
 
@@ -75,13 +76,13 @@ module _ (f : First) (k : Keeps f) (run : Run) (is_run : IsRun (setting_of f) ru
       states_same_on f k (run.valuations 1) (settled f (run.registers 1) (run.inputs 1)) second_forced
       ∙ states_free f k (run.registers 1) (next_registers f (run.registers 0) (run.inputs 0)) (run.inputs 1) no_inputs behind_forced
 
-  point_first : point_of f.model (state_at s run 0) (inputs_at s run 0) ≡ start_point f V
+  pub point_first : point_of f.model (state_at s run 0) (inputs_at s run 0) ≡ start_point f V
   point_first = ap₂ (λ q w. point_of f.model q w) state_first inputs_first
 
   reset_same : as_number (run.valuations 0 f.map.reset_signal) ≡ as_number (V f.map.reset_signal)
   reset_same = ap as_number (first_forced f.map.reset_signal (input_declared f.design f.map.reset_signal k.reset_input))
 
-  start_same : condition_holds s (run.valuations 0) f.map.start ≡ starts f V
+  pub start_same : condition_holds s (run.valuations 0) f.map.start ≡ starts f V
   start_same = condition_same_on f k (run.valuations 0) V first_forced f.map.start k.start
 
   commit_same : (n : Name) (e : InstructionMap) → instruction_map f.map.instructions n ≡ Some e
@@ -89,19 +90,19 @@ module _ (f : First) (k : Keeps f) (run : Run) (is_run : IsRun (setting_of f) ru
   commit_same n e is_e =
       condition_same_on f k (run.valuations 0) V first_forced e.commit (entry_accepted f f.map.instructions k.entries n e is_e).0
 
-  reset_means : IsResetAt s run 0 → is_reset f V ≡ true
+  pub reset_means : IsResetAt s run 0 → is_reset f V ≡ true
   reset_means h = eq-eqb (as_number (V f.map.reset_signal)) f.map.reset_active (sym reset_same ∙ h)
 
-  means_reset : is_reset f V ≡ true → IsResetAt s run 0
+  pub means_reset : is_reset f V ≡ true → IsResetAt s run 0
   means_reset h = let e : as_number (V f.map.reset_signal) ≡ f.map.reset_active = grind (arith, nat_tests) in reset_same ∙ e
 
-  commit_means : (j : ℕ) → CommitsAt s run j 0 → commits_number f V j ≡ true
+  pub commit_means : (j : ℕ) → CommitsAt s run j 0 → commits_number f V j ≡ true
   commit_means j h =
       let i : Instruction = h.1.0 in
       let e : InstructionMap = h.0 in
       ap (commits_option f V) h.1.1 ∙ (ap (commits_by f V) h.1.2 ∙ (sym (commit_same (instruction_name i) e h.1.2) ∙ h.2))
 
-  means_commit : (j : ℕ) → commits_number f V j ≡ true → CommitsAt s run j 0
+  pub means_commit : (j : ℕ) → commits_number f V j ≡ true → CommitsAt s run j 0
   means_commit j h = by_instruction (slice_get (instructions_in f.model.top) j) refl h
     where
       by_entry : (i : Instruction) → IsInstruction f.model j i → (o : Option InstructionMap)
@@ -212,7 +213,7 @@ module _ (f : First) (k : Keeps f) (run : Run) (is_run : IsRun (setting_of f) ru
   claimed one_decodes h m = claimed_decode m
   claimed (ends j) h m = absurd h
   claimed (result_of j n zero) h m = absurd h
-  claimed (result_of j n (suc zero)) h m = claimed_result j n h m
+  claimed (result_of j n (suc zero)) h m = claimed_result j n h.0 m
   claimed (result_of j n (suc (suc t))) h m = absurd h
   claimed never h m = absurd (let e : false ≡ true = m in cc)
 

@@ -27,6 +27,19 @@ first_at f [] h k o e = cc
 first_at f (x ∷ os) h zero o e = let here : x ≡ o = cc in subst (λ y. IsFirstObligation f y) here h.0
 first_at f (x ∷ os) h (suc k) o e = first_at f os h.1 k o e
 
+-- j + m, computing on m
+abbrev plus : ℕ → ℕ → ℕ
+plus j zero = j
+plus j (suc m) = suc (plus j m)
+
+plus_suc : (j m : ℕ) → plus (suc j) m ≡ suc (plus j m)
+plus_suc j zero = refl
+plus_suc j (suc m) = ap suc (plus_suc j m)
+
+plus_zero : (m : ℕ) → plus 0 m ≡ m
+plus_zero zero = refl
+plus_zero (suc m) = ap suc (plus_zero m)
+
 -- each state of the list has a name that passes
 abbrev Named : (Name → Type 0) → List StateDeclaration → Type 0
 Named Q [] = Unit {0}
@@ -72,7 +85,7 @@ entry_found (x ∷ es) n h =
       | false ↦ λ g. entry_found es n g
     ]) h
 
-instruction_among : (p : Name → Bool) (is : List Instruction) → all_names p (instruction_names is) ≡ true → (j : ℕ) (i : Instruction)
+pub instruction_among : (p : Name → Bool) (is : List Instruction) → all_names p (instruction_names is) ≡ true → (j : ℕ) (i : Instruction)
     → slice_get is j ≡ Some i → p (instruction_name i) ≡ true
 instruction_among p [] h j i e = cc
 instruction_among p (x ∷ is) h zero i e = let here : x ≡ i = cc in subst (λ y. p (instruction_name y) ≡ true) here (and_left _ _ h)
@@ -118,8 +131,8 @@ module _ (f : First) (k : Keeps f) where
   decode_first = record { one_cycle = refl; hypotheses = rw (no_invariants, no_assumptions) (tt, (tt, tt)); claim = tt }
 
   instruction_first : (j : ℕ) (i : Instruction) → has_no_child (child_of i) ≡ true → bound_named f.map (instruction_name i) ≡ 1
-      → AllFirst f (instruction_obligations f.model f.map j i)
-  instruction_first j i childless one =
+      → IsTrue (is_some (slice_get (instructions_in f.model.top) j)) → AllFirst f (instruction_obligations f.model f.map j i)
+  instruction_first j i childless one there =
       first_append f (child_obligations f.map j (instruction_name i) (child_of i))
       (bound_obligation f.map j (instruction_name i) (bound_named f.map (instruction_name i))
        ∷ for_each (commit_obligations f.model f.map j (instruction_name i)) 0 (bound_named f.map (instruction_name i)))
@@ -143,6 +156,11 @@ module _ (f : First) (k : Keeps f) where
       text : Name
       text = codes "commit." ++ instruction_name i ++ codes "." ++ decimal 0
 
+      with_fact : (ds : List StateDeclaration) → Named (λ n. IsTrue (is_some (state_named (states_of f.model.top) n))) ds
+          → Named (λ n. IsClaim f (result_of j n 1)) ds
+      with_fact [] h = tt
+      with_fact (d ∷ ds) h = ((h.0, there), with_fact ds h.1)
+
       commits : AllFirst f (commit_obligations f.model f.map j (instruction_name i) 0)
       commits =
           first_append f
@@ -151,20 +169,28 @@ module _ (f : First) (k : Keeps f) where
            (λ q. result_of j q 1) (states_of f.model.top))
           (no_invariant_lines (codes "commit." ++ instruction_name i ++ codes "." ++ decimal 0 ++ codes ".inv.") 1 (ended_at f.map j 0) 1)
           (states_first f (codes "commit." ++ instruction_name i ++ codes "." ++ decimal 0 ++ codes ".state.") 1 (ended_at f.map j 0)
-           (λ q. result_of j q 1) (states_of f.model.top) refl commit_hypotheses (each_found (states_of f.model.top)))
+           (λ q. result_of j q 1) (states_of f.model.top) refl commit_hypotheses
+           (with_fact (states_of f.model.top) (each_found (states_of f.model.top))))
 
   instructions_first : (j : ℕ) (is : List Instruction) → no_children is ≡ true
       → all_names (is_among (entry_names f.map.instructions)) (instruction_names is) ≡ true
+      → ((m : ℕ) (i : Instruction) → slice_get is m ≡ Some i → IsTrue (is_some (slice_get (instructions_in f.model.top) (plus j m))))
       → AllFirst f (all_instruction_obligations f.model f.map j is)
-  instructions_first j [] c h = tt
-  instructions_first j (i ∷ is) c h =
+  instructions_first j [] c h there = tt
+  instructions_first j (i ∷ is) c h there =
       first_append f (instruction_obligations f.model f.map j i) (all_instruction_obligations f.model f.map (suc j) is)
-      (instruction_first j i (and_left _ _ c) (bound_one (instruction_name i) (and_left _ _ h)))
-      (instructions_first (suc j) is (and_right _ _ c) (and_right _ _ h))
+      (instruction_first j i (and_left _ _ c) (bound_one (instruction_name i) (and_left _ _ h)) (there zero i refl))
+      (instructions_first (suc j) is (and_right _ _ c) (and_right _ _ h)
+       (λ m x e. subst (λ q. IsTrue (is_some (slice_get (instructions_in f.model.top) q))) (sym (plus_suc j m)) (there (suc m) x e)))
 
   pub all_first : AllFirst f (obligations f.model f.map)
   all_first =
       first_append f (reset_obligations f.model f.map ++ idle_obligations f.model f.map)
       (decode_obligation f.map ∷ all_instruction_obligations f.model f.map 0 (instructions_in f.model.top))
       (first_append f (reset_obligations f.model f.map) (idle_obligations f.model f.map) resets_first idles_first)
-      (decode_first, instructions_first 0 (instructions_in f.model.top) k.childless k.each_entry)
+      (decode_first,
+       instructions_first 0 (instructions_in f.model.top) k.childless k.each_entry
+       (λ m i e. subst (λ q. IsTrue (is_some (slice_get (instructions_in f.model.top) q))) (sym (plus_zero m)) (ap is_some e)))
+
+  pub command_hypotheses : (j : ℕ) → AreHypotheses (ended_at f.map j 0)
+  command_hypotheses j = rw (no_invariants, no_assumptions) (tt, (tt, (tt, (tt, tt))))

@@ -11,3 +11,5 @@ pub mod Forms
 pub mod Enumerated
 pub mod Concluded
 pub mod Built
+pub mod Breaks
+pub mod Numbered
