@@ -75,7 +75,7 @@ each_found : (ds : List StateDeclaration) → Named (λ n. IsTrue (is_some (stat
 each_found [] = tt
 each_found (d ∷ ds) = (own_name_found d ds, all_later d ds ds (each_found ds))
 
-entry_found : (es : List InstructionMap) (n : Name) → is_among (entry_names es) n ≡ true
+pub entry_found : (es : List InstructionMap) (n : Name) → is_among (entry_names es) n ≡ true
     → (e : InstructionMap) × (instruction_map es n ≡ Some e)
 entry_found [] n h = absurd (let c : false ≡ true = h in cc)
 entry_found (x ∷ es) n h =

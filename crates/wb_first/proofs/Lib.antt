@@ -13,3 +13,4 @@ pub mod Concluded
 pub mod Built
 pub mod Breaks
 pub mod Numbered
+pub mod Headline

@@ -1,6 +1,7 @@
 -- What going through all values decides.
 use Rattle.wb_meaning.specs.Value.{Valuation, number}
 use Rattle.wb_meaning.specs.Run.{Run, IsRun}
+use Rattle.wb_meaning.specs.Soundness.{EveryRunRefines}
 use Rattle.std.specs.Prelude.{cond, ◌≡◌, ℕ, ◌<◌, true, false, slice_get, Some}
 use Rattle.wb_meaning.specs.Obligation.{Obligation, Holds, Falsifies, IsWholeCommand, obligations}
 use Rattle.wb_first.specs.Names.{First, setting_of, is_register}
@@ -41,3 +42,9 @@ NumbersGiveCommands = (f : First) → is_accepted f ≡ true → (j a : ℕ) →
 abbrev pub CommandsHaveNumbers : Type 0
 CommandsHaveNumbers = (f : First) → is_accepted f ≡ true → (j : ℕ) → ((a : ℕ) → a < value_count f → is_command_by f j a ≡ false)
     → (run : Run) → ¬ IsWholeCommand (setting_of f) j run
+
+-- Where no values break any obligation, every run of the design refines the model.
+abbrev pub UnbrokenRefines : Type 0
+UnbrokenRefines = (f : First) → is_accepted f ≡ true
+    → ((k : ℕ) (o : Obligation) → IsObligation f k o → (a : ℕ) → a < value_count f → is_broken_by f o a ≡ false)
+    → EveryRunRefines (setting_of f)

@@ -1,0 +1,35 @@
+-- Where no values break any obligation, every run refines.
+use Rattle.std.proofs.Common.{◌≡◌, ℕ, zero, suc, ◌<◌, ◌≤◌, Bool, true, false, List, [], ◌∷◌, subst, sym, refl, ap, ◌∙◌, Option, Some, None, arith}
+use Rattle.std.specs.Prelude.{slice_get, ◌==◌}
+use Rattle.std.proofs.lemmas.Bool.Decides.{nat_tests}
+use Rattle.wb_meaning.specs.Model.{Instruction, instruction_name, instructions_in}
+use Rattle.wb_meaning.specs.Map.{Setting, InstructionMap, instruction_map}
+use Rattle.wb_meaning.specs.Obligation.{Obligation, Holds, obligations}
+use Rattle.wb_meaning.specs.Soundness.{AllHold, IsComplete, EveryRunRefines}
+use Rattle.wb_meaning.proofs.Refined.{refined}
+use Rattle.wb_first.specs.Names.{First, setting_of}
+use Rattle.wb_first.specs.Accepted.{is_accepted, is_among, entry_names}
+use Rattle.wb_first.specs.Claims.{UnbrokenRefines, IsObligation}
+use Rattle.wb_first.proofs.Rules.{Keeps, keeps}
+use Rattle.wb_first.proofs.Facts.{entry_accepted}
+use Rattle.wb_first.proofs.Forms.{entry_found, instruction_among}
+use Rattle.wb_first.proofs.Concluded.{values_decide}
+
+each_holds : (s : Setting) (os : List Obligation) → ((k : ℕ) (o : Obligation) → slice_get os k ≡ Some o → Holds s o) → AllHold s os
+each_holds s [] h = tt
+each_holds s (o ∷ os) h = (h zero o refl, each_holds s os (λ k x e. h (suc k) x e))
+
+complete : (f : First) → Keeps f → IsComplete (setting_of f)
+complete f k j i is_i =
+    let found = entry_found f.map.instructions (instruction_name i)
+        (instruction_among (is_among (entry_names f.map.instructions)) (instructions_in f.model.top) k.each_entry j i is_i) in
+    let bound : (found.0.bound == 1) ≡ true = (entry_accepted f f.map.instructions k.entries (instruction_name i) found.0 found.1).1 in
+    (found.0, found.1, at_least found.0.bound bound)
+  where
+    at_least : (b : ℕ) → (b == 1) ≡ true → 1 ≤ b
+    at_least b h = grind (arith, nat_tests)
+
+pub unbroken_refines : UnbrokenRefines
+unbroken_refines f accepted unbroken =
+    refined (setting_of f) (complete f (keeps f accepted))
+    (each_holds (setting_of f) (obligations f.model f.map) (λ k o is_o. values_decide f accepted k o is_o (unbroken k o is_o)))
