@@ -1,0 +1,4 @@
+pub mod Literal
+pub mod Formula
+pub mod Propagation
+pub mod Log

@@ -1,0 +1,6 @@
+use Rattle.std.proofs.Common.{take, map}
+use Rattle.sat_check.specs.Numbering.{AddsNumbered}
+use Rattle.sat_check.proofs.numbering.add_lemmas.Given as goal
+
+abbrev pub invariant-loop-lemma : goal.invariant-loop-lemma
+invariant-loop-lemma l = AddsNumbered l.variables l.initial.arena l.arena (map (λ s. s.lits) (take l.lemma-index l.lemmas))

@@ -1,0 +1,5 @@
+pub mod Marks
+pub mod Numbering
+pub mod Walk
+pub mod Checker
+pub mod Verdict
