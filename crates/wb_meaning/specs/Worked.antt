@@ -172,6 +172,10 @@ half_signed = verilog.shift verilog.arithmetic_right (reading (codes "sa")) (pla
 abbrev pub half_joined : Expression
 half_joined = verilog.shift verilog.arithmetic_right (verilog.concatenation (expression (reading (codes "sa")) no_expressions)) (plain_number 1)
 
+-- sa + a, a signed and an unsigned operand
+abbrev pub mixed_sum : Expression
+mixed_sum = verilog.binary add (reading (codes "sa")) (reading (codes "a"))
+
 abbrev pub negative : Expression → Expression
 negative e = verilog.unary minus e
 

@@ -6,7 +6,7 @@ ghost use Rattle.wb_meaning.specs.Model.{Model};
 ghost use Rattle.wb_meaning.specs.Instruction.{Steps, HasTrouble, stuck, too_long};
 ghost use Rattle.wb_meaning.specs.Verilog.Register.{after_edge};
 ghost use Rattle.wb_meaning.specs.Obligation.{obligations};
-ghost use Rattle.wb_meaning.specs.Worked.{CounterHasItsObligations, multiplier, multiplier_map, multiply, always, product, factors, given, half_sum, half_signed, half_joined, negative, below_one, plain_number, sized_number, indexed, reading, small_scope, small_values, two_updates, store_nine, low};
+ghost use Rattle.wb_meaning.specs.Worked.{CounterHasItsObligations, multiplier, multiplier_map, multiply, always, product, factors, given, half_sum, half_signed, half_joined, mixed_sum, negative, below_one, plain_number, sized_number, indexed, reading, small_scope, small_values, two_updates, store_nine, low};
 ghost use Rattle.std.specs.Prelude.{codes};
 
 /// Where each instruction has an entry in the map with a bound above 0 and all obligations hold, every run of the design, of
@@ -37,6 +37,7 @@ pub fn operands_are_widened()
     ensures wide_high { given 9 128 0 0 half_sum ≡ 64 }
     ensures signed_all { given 9 255 0 0 half_signed ≡ 511 }
     ensures signed_high { given 9 128 0 0 half_signed ≡ 448 }
+    ensures mixed { given 9 128 0 0 mixed_sum ≡ 256 }
     ensures joined_all { given 8 255 0 0 half_joined ≡ 127 }
     ensures joined_high { given 8 128 0 0 half_joined ≡ 64 }
 {
