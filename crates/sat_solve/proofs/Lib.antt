@@ -1,0 +1,11 @@
+pub mod Signs
+pub mod NewLemma
+pub mod Hints
+pub mod KeptLemmas
+pub mod FoundLemmas
+pub mod StateLemmas
+pub mod Decided
+pub mod LogLemmas
+pub mod WalkBack
+pub mod LearnLemmas
+pub mod ModelLemmas

@@ -1,0 +1,12 @@
+//! A solver for formulas in conjunctive normal form: it finds a model, or a log that refutes the
+//! formula, or a log of as many new lemmas as its budget allows.
+#![tactic(auto)]
+
+pub use solver::{Answer, solve};
+
+mod learning;
+mod propagation;
+mod solver;
+#[cfg(test)]
+mod tests;
+mod trail;
