@@ -1,0 +1,5 @@
+pub mod StoreLemmas
+pub mod InRange
+pub mod EnvironmentLemmas
+pub mod HeldLemmas
+pub mod ValueSorts

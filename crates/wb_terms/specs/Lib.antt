@@ -1,0 +1,6 @@
+pub mod Sort
+pub mod Graph
+pub mod Environment
+pub mod Entries
+pub mod Held
+pub mod Walk
