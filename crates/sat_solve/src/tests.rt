@@ -27,7 +27,7 @@ static WRITTEN: [&[u64]; 12] = [
 // the clauses over all of n variables, as they are counted in binary. P: n pigeons in m holes. X: each
 // two neighbours of n variables in a ring differ. R: 17 clauses of three literals for each 4 of n
 // variables, drawn from the seed m, with minisat's answers.
-static ROWS: [(u8, u64, u64, u64, u8); 53] = [
+static ROWS: [(u8, u64, u64, u64, u8); 55] = [
     (b'W', 18446744073709551615, 1, 1000000, b'n'),
     (b'W', 0, 0, 1000000, b'm'),
     (b'W', 3, 1, 1000000, b'm'),
@@ -59,6 +59,8 @@ static ROWS: [(u8, u64, u64, u64, u8); 53] = [
     (b'P', 4, 4, 1000000, b'm'),
     (b'P', 5, 4, 1000000, b'r'),
     (b'P', 6, 5, 1000000, b'r'),
+    (b'P', 6, 6, 1000000, b'm'),
+    (b'P', 7, 6, 1000000, b'r'),
     (b'X', 2, 0, 1000000, b'm'),
     (b'X', 3, 0, 1000000, b'r'),
     (b'X', 8, 0, 1000000, b'm'),

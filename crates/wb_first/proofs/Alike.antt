@@ -109,5 +109,5 @@ mutual
       ap₂ (λ x y. x ++ y)
       (updates_same s p v u alike a (all_left p (read_names a) (all_read_names list) h))
       (ap (λ t. (run_all s (actions_tree list) t).updates) (kept s a v)
-       ∙ (all_updates_same s p v u alike list (all_right p (read_names a) (all_read_names list) h)
-          ∙ ap (λ t. (run_all s (actions_tree list) t).updates) (sym (kept s a u))))
+      ∙ (all_updates_same s p v u alike list (all_right p (read_names a) (all_read_names list) h)
+      ∙ ap (λ t. (run_all s (actions_tree list) t).updates) (sym (kept s a u))))

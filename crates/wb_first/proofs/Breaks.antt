@@ -1,35 +1,33 @@
 -- Values that break an obligation falsify it, and whole commands are those of numbers.
-use Rattle.std.proofs.Common.{◌≡◌, ◌≢◌, ℕ, zero, suc, ◌+◌, ◌<◌, ◌≤◌, Bool, true, false, cond, not, ◌&&◌, ◌||◌, List, [], ◌∷◌, ◌++◌, subst, sym, refl, ap, ◌∙◌, Option, Some, None, arith, ◌⊎◌, inl, inr, eq-eqb}
-use Rattle.std.specs.Prelude.{is_some, ◌==◌, IsTrue, slice_get, length}
-use Rattle.std.proofs.lemmas.Bool.Decides.{nat_tests}
-use mathlib.Core.Path.{fun_ext, ap₂}
-use Rattle.wb_meaning.specs.Value.{Name, same_name, Sort, truth, word, memory, Value, number, truth_value, words, Valuation, Entries, entry_of}
-use Rattle.wb_meaning.specs.Model.{Model, Instruction, instruction, instruction_name, instructions_in, valid_of, decode_of, holds, updated, point_of, StateDeclaration, state_named, states_of, child_of, Child, no_child, child}
-use Rattle.wb_meaning.specs.Instruction.{DoesInstruction, DoesChild, Does, IsInstruction, IsStarted, IsOnlyDecoded, DecodesAt, state_in}
+use Rattle.std.proofs.Common.{◌≡◌, ◌≢◌, ℕ, zero, suc, ◌<◌, ◌≤◌, Bool, true, false, cond, not, ◌&&◌, List, [], ◌∷◌, subst, sym, refl, ap, ◌∙◌, Option, Some, None, arith, eq-eqb}
+use Rattle.std.specs.Prelude.{is_some, IsTrue, slice_get}
+use mathlib.Core.Path.{fun_ext}
+use Rattle.wb_meaning.specs.Value.{Name, same_name, Sort, truth, word, memory, Value, number, truth_value, Valuation, Entries, entry_of}
+use Rattle.wb_meaning.specs.Model.{Instruction, instruction, instructions_in, valid_of, decode_of, holds, updated, point_of, StateDeclaration, state_named, states_of, child_of, no_child, child}
+use Rattle.wb_meaning.specs.Instruction.{DoesInstruction, Does, state_in}
 use Rattle.wb_meaning.specs.Verilog.Syntax.{Expression, input}
 use Rattle.wb_meaning.specs.Verilog.Expression.{is_true, self_value}
 use Rattle.wb_meaning.specs.Verilog.Settled.{IsValueOf, IsPort, IsSettled}
-use Rattle.wb_meaning.specs.Verilog.Next.{AreRegisters, AreInputs, IsNext}
-use Rattle.wb_meaning.specs.Verilog.Hierarchy.{Placed, placed_scope}
-use Rattle.wb_meaning.specs.Map.{Setting, Map, InstructionMap, instruction_map, mapped_state, mapped_inputs, mapped_value, mapped_or_zero, sort_of_state, map_scope}
+use Rattle.wb_meaning.specs.Verilog.Next.{AreInputs, IsNext}
+use Rattle.wb_meaning.specs.Verilog.Hierarchy.{placed_scope}
+use Rattle.wb_meaning.specs.Map.{Setting, mapped_value, mapped_or_zero, sort_of_state, map_scope}
 use Rattle.wb_meaning.specs.Run.{Run, IsRun}
 use Rattle.wb_meaning.specs.Refinement.{state_at, inputs_at}
-use Rattle.wb_meaning.specs.Obligation.{Fact, reset_active, reset_inactive, assumed, invariant, start, no_start, decoded, commit, no_commit, initial, same, one_decodes, ends, result_of, never, Means, MeansAll, Obligation, Holds, Falsifies, obligations, IsWholeCommand, ended_at, bound_named}
-use Rattle.first_text.specs.Tree.{FirstModule, module_tree}
+use Rattle.wb_meaning.specs.Obligation.{Fact, reset_active, reset_inactive, assumed, invariant, start, no_start, decoded, commit, no_commit, initial, same, one_decodes, ends, result_of, never, Means, MeansAll}
+use Rattle.first_text.specs.Tree.{module_tree}
 use Rattle.wb_first.specs.Names.{First, setting_of, scope_of_first, is_input, is_declared, is_register}
-use Rattle.wb_first.specs.Accepted.{is_accepted, is_data, fits_sort, state_sort, states_are_mapped, all_states_mapped, declared_names, has_no_child}
+use Rattle.wb_first.specs.Accepted.{fits_sort, state_sort, states_are_mapped, declared_names, has_no_child}
 use Rattle.wb_first.specs.Cycle.{held, settled, next_registers}
-use Rattle.wb_first.specs.Decided.{same_value, no_inputs, first_valuation, second_valuation, state_of, start_point, is_reset, starts, decodes_option, decodes_number, commits_number, initial_met, decode_count, update_of, result_at, is_met, all_met, is_broken, is_broken_by, is_command_by, is_whole_command, values_of, value_count, first_of_number, second_of_number}
-use Rattle.wb_first.specs.Claims.{registers_of_number, inputs_of_number, BeginsWith, BrokenIsFalsified, NumbersGiveCommands, CommandsHaveNumbers, IsObligation}
+use Rattle.wb_first.specs.Decided.{same_value, no_inputs, first_valuation, second_valuation, state_of, start_point, is_reset, starts, decodes_option, decodes_number, commits_number, initial_met, decode_count, update_of, result_at, is_met, all_met, values_of, first_of_number, second_of_number}
+use Rattle.wb_first.specs.Claims.{registers_of_number, inputs_of_number, BeginsWith}
 use Rattle.wb_first.proofs.Alike.{and_left, and_right}
-use Rattle.wb_first.proofs.Rules.{Keeps, keeps}
-use Rattle.wb_first.proofs.Shape.{design_of_first, first_placed, top_placed, only_top, port_input}
+use Rattle.wb_first.proofs.Rules.{Keeps}
+use Rattle.wb_first.proofs.Shape.{design_of_first, only_top, port_input}
 use Rattle.wb_first.proofs.Edge.{IsNumberOf, same_name_true}
-use Rattle.wb_first.proofs.Facts.{same_value_true, not_of_false, false_of_not, OnlyOne, childless_at}
-use Rattle.wb_first.proofs.Decides.{IsHypothesis, AreHypotheses, IsClaim, IsFirstObligation, state_first, state_second, point_first, means_reset, start_same, means_commit, reset_means, commit_means, met_all}
-use Rattle.wb_first.proofs.Forms.{first_at, all_first}
+use Rattle.wb_first.proofs.Facts.{false_of_not, childless_at}
+use Rattle.wb_first.proofs.Decides.{IsHypothesis, AreHypotheses, IsClaim, state_first, state_second, point_first, means_reset, start_same, means_commit, reset_means, commit_means}
 use Rattle.wb_first.proofs.Enumerated.{first_by_held, second_by_held}
-use Rattle.wb_first.proofs.Built.{KeepsMore, keeps_more, sliced_fit, are_registers, value_of_number, is_settled, is_next, next_fits, next_are_registers, zero_number}
+use Rattle.wb_first.proofs.Built.{KeepsMore, sliced_fit, are_registers, value_of_number, is_settled, is_next, next_fits, zero_number}
 
 -- at cycle 0 one thing, and from then on another
 abbrev at_cycle : {A : Type 0} → A → A → ℕ → A
@@ -56,18 +54,18 @@ module _ (f : First) (k : Keeps f) (more : KeepsMore f) (a : ℕ) where
   -- what is held is what the number's values give
   same_as_number : held f R I ≡ held f (values_of f a) (values_of f a)
   same_as_number = fun_ext (λ n.
-    elim (is_register f.design n) as
+      elim (is_register f.design n) as
       (λ t. cond t (cond t (values_of f a n) (number 0)) (cond (is_input f.design n && not (same_name n f.map.clock)) (values_of f a n) (number 0))
-        ≡ cond t (values_of f a n) (cond (is_input f.design n && not (same_name n f.map.clock)) (values_of f a n) (number 0))) [
-      | true ↦ refl
-      | false ↦ refl
-    ])
+      ≡ cond t (values_of f a n) (cond (is_input f.design n && not (same_name n f.map.clock)) (values_of f a n) (number 0))) [
+        | true ↦ refl
+        | false ↦ refl
+      ])
 
   abbrev pub run_of : Run
   run_of = record {
     registers = at_cycle R (next_registers f R I);
     inputs = at_cycle I no_inputs;
-    valuations = at_cycle (settled f R I) (settled f (next_registers f R I) no_inputs)
+    valuations = at_cycle (settled f R I) (settled f (next_registers f R I) no_inputs);
   }
 
   inputs_are : (q : Valuation) → ((n : Name) → is_input f.design n ≡ true → IsNumberOf (scope_of_first f.design) n (q n)) → AreInputs (design_of_first f) q
@@ -85,7 +83,7 @@ module _ (f : First) (k : Keeps f) (more : KeepsMore f) (a : ℕ) where
     first = are_registers f k R registers_fit (λ n g. rw g refl);
     inputs = λ t h. each_input t;
     settled = λ t h. each_settled t h;
-    next = λ t h. each_next t h
+    next = λ t h. each_next t h;
   }
     where
       each_input : (t : ℕ) → AreInputs (design_of_first f) (at_cycle I no_inputs t)
@@ -126,7 +124,7 @@ sort_found : (ds : List StateDeclaration) (n : Name) → state_sort ds n ≡ sor
 sort_found [] n = refl
 sort_found (d ∷ ds) n =
     elim (same_name d.state_name n) as
-      (λ t. cond t (Some d.sort) (state_sort ds n) ≡ sort_of_state (cond t (Some d) (state_named ds n))) [
+    (λ t. cond t (Some d.sort) (state_sort ds n) ≡ sort_of_state (cond t (Some d) (state_named ds n))) [
       | true ↦ refl
       | false ↦ sort_found ds n
     ]
@@ -136,11 +134,11 @@ sort_entry : (f : First) (es : Entries Expression) → states_are_mapped f es �
 sort_entry f [] h n e is_e = cc
 sort_entry f (x ∷ es) h n e is_e =
     (elim (same_name x.0 n) as
-      (λ t. same_name x.0 n ≡ t → cond t (Some x.1) (entry_of es n) ≡ Some e → fits_sort f (state_sort (states_of f.model.top) n) e ≡ true) [
+    (λ t. same_name x.0 n ≡ t → cond t (Some x.1) (entry_of es n) ≡ Some e → fits_sort f (state_sort (states_of f.model.top) n) e ≡ true) [
       | true ↦ λ t some.
-        let same : x.1 ≡ e = cc in
-        subst (λ m. fits_sort f (state_sort (states_of f.model.top) m) e ≡ true) (same_name_true x.0 n t)
-        (subst (λ g. fits_sort f (state_sort (states_of f.model.top) x.0) g ≡ true) same (and_right _ _ (and_left _ _ (and_left _ _ h))))
+          let same : x.1 ≡ e = cc in
+          subst (λ m. fits_sort f (state_sort (states_of f.model.top) m) e ≡ true) (same_name_true x.0 n t)
+          (subst (λ g. fits_sort f (state_sort (states_of f.model.top) x.0) g ≡ true) same (and_right _ _ (and_left _ _ (and_left _ _ h))))
       | false ↦ λ t some. sort_entry f es (and_right _ _ h) n e some
     ]) refl is_e
 
@@ -171,10 +169,11 @@ none_is_counted : (is : List Instruction) (p : Valuation)
 none_is_counted [] p none = refl
 none_is_counted (x ∷ is) p none =
     (elim (holds (decode_of x) p) as
-      (λ t. holds (decode_of x) p ≡ t → cond t (suc (decode_count is p)) (decode_count is p) ≡ 0) [
+    (λ t. holds (decode_of x) p ≡ t → cond t (suc (decode_count is p)) (decode_count is p) ≡ 0) [
       | true ↦ λ t. absurd (none zero x refl t)
       | false ↦ λ t. none_is_counted is p (λ m o e. none (suc m) o e)
     ]) refl
+
 one_is_counted : (is : List Instruction) (p : Valuation) (j : ℕ) (i : Instruction) → slice_get is j ≡ Some i → holds (decode_of i) p ≡ true
     → ((m : ℕ) (o : Instruction) → slice_get is m ≡ Some o → m ≢ j → holds (decode_of o) p ≡ true → ⊥) → decode_count is p ≡ 1
 one_is_counted [] p j i e d alone = cc
@@ -185,7 +184,7 @@ one_is_counted (x ∷ is) p zero i e d alone =
     rw (d', rest) refl
 one_is_counted (x ∷ is) p (suc j) i e d alone =
     (elim (holds (decode_of x) p) as
-      (λ t. holds (decode_of x) p ≡ t → decode_count is p ≡ 1 → cond t (suc (decode_count is p)) (decode_count is p) ≡ 1) [
+    (λ t. holds (decode_of x) p ≡ t → decode_count is p ≡ 1 → cond t (suc (decode_count is p)) (decode_count is p) ≡ 1) [
       | true ↦ λ t c. absurd (alone zero x refl (omega arith) t)
       | false ↦ λ t c. c
     ]) refl (one_is_counted is p j i e d (λ m o g n. alone (suc m) o g (λ q. n (omega arith))))
@@ -263,9 +262,9 @@ module _ (f : First) (k : Keeps f) (run : Run) (is_run : IsRun (setting_of f) ru
       let valid : holds (valid_of f.model.top) (start_point f V) ≡ true = ap (holds (valid_of f.model.top)) (sym (point_first f k run is_run)) ∙ m.1.0 in
       let one = m.1.1 in
       let count : decode_count (instructions_in f.model.top) (start_point f V) ≡ 1 =
-          one_is_counted (instructions_in f.model.top) (start_point f V) m.0 one.i one.is_j
-          (ap (holds (decode_of one.i)) (sym (point_first f k run is_run)) ∙ one.decoded)
-          (λ j o e n d. one.no_other j o e n (ap (holds (decode_of o)) (point_first f k run is_run) ∙ d)) in
+      one_is_counted (instructions_in f.model.top) (start_point f V) m.0 one.i one.is_j
+      (ap (holds (decode_of one.i)) (sym (point_first f k run is_run)) ∙ one.decoded)
+      (λ j o e n d. one.no_other j o e n (ap (holds (decode_of o)) (point_first f k run is_run) ∙ d)) in
       rw (valid, count) refl
 
   done_childless : (i : Instruction) → has_no_child (child_of i) ≡ true → (p : Valuation) → DoesInstruction i p (updated (update_of i) p)
@@ -283,7 +282,7 @@ module _ (f : First) (k : Keeps f) (run : Run) (is_run : IsRun (setting_of f) ru
           let point : Valuation = point_of f.model (state_at s run 0) (inputs_at s run 0) in
           let after : Valuation = updated (update_of i) point in
           let does : Does f.model i (state_at s run 0) (inputs_at s run 0) (state_in f.model after) =
-              (after, done_childless i (childless_at (instructions_in f.model.top) k.childless j i is_o) point, refl) in
+          (after, done_childless i (childless_at (instructions_in f.model.top) k.childless j i is_o) point, refl) in
           let result : state_at s run 1 n ≡ state_in f.model after n = m i (state_in f.model after) is_o does in
           let own : state_in f.model after n ≡ after n = rw is_state refl in
           not_words (state_of f W n) (updated (update_of i) (start_point f V) n) (state_compares f k W n)

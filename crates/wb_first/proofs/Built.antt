@@ -1,31 +1,30 @@
 -- The run that registers and inputs give: its valuations are settled, and its registers are those behind the edge.
-use Rattle.std.proofs.Common.{◌≡◌, ◌≢◌, ℕ, zero, suc, ◌+◌, ◌*◌, ◌/◌, ◌%◌, ◌^◌, ◌<◌, ◌≤◌, Bool, true, false, cond, not, ◌&&◌, ◌||◌, List, [], ◌∷◌, ◌++◌, arith, subst, sym, refl, ap, ◌∙◌, Option, Some, None, ◌⊎◌, inl, inr}
-use Rattle.std.specs.Prelude.{IsTrue, is_some, nat_lt, pos, ◌==◌, max}
+use Rattle.std.proofs.Common.{◌≡◌, ℕ, zero, suc, ◌/◌, ◌%◌, ◌^◌, ◌<◌, ◌≤◌, Bool, true, false, cond, not, ◌&&◌, ◌||◌, List, [], ◌∷◌, arith, subst, sym, refl, ap, ◌∙◌, Option, Some, None, ◌⊎◌, inl, inr}
+use Rattle.std.specs.Prelude.{is_some, nat_lt, ◌==◌, max}
 use Rattle.std.proofs.lemmas.Bool.Decides.{nat_tests}
 use Rattle.std.proofs.Math.Nat.{mod-lt, div-one, div-eq_of_lt}
 use Rattle.std.proofs.lemmas.Nat.{pow_pos}
 use Rattle.std.proofs.Math.Pow.{pow_mono}
-use Rattle.wb_meaning.specs.Value.{Name, same_name, Value, number, truth_value, words, as_number, Valuation, Entries, entry_of, valuation_of, value_or_zero}
-use Rattle.wb_meaning.specs.Verilog.Syntax.{Expression, Statement, Target, place, whole, Direction, input, output, Item}
-use Rattle.wb_meaning.specs.Verilog.Expression.{Object, Scope, object_width, is_memory, width_of, sign_of, value_of, assigned_value}
+use Rattle.wb_meaning.specs.Value.{Name, same_name, Value, number, as_number, Valuation, Entries, entry_of, valuation_of, value_or_zero}
+use Rattle.wb_meaning.specs.Verilog.Syntax.{place, whole, Direction, input, output}
+use Rattle.wb_meaning.specs.Verilog.Expression.{Scope, width_of, sign_of, value_of, assigned_value}
 use Rattle.wb_meaning.specs.Verilog.Statement.{variable, all_bits, written, written_cell, places, target_width, with_bits_from}
-use Rattle.wb_meaning.specs.Verilog.Register.{one_may_assign, counts, is_bit_of, value_bit, is_set, clocked_blocks, combinational_blocks, after_edge}
-use Rattle.wb_meaning.specs.Verilog.Hierarchy.{Placed, placed_scope, declarations, Instance, instance_named}
-use Rattle.wb_meaning.specs.Verilog.Settled.{Design, at_path, inside, IsDeclared, IsValueOf, assignments, HasAssigned, HasRunAll, is_counted, one_may_reach, IsDriven, IsSettledIn, IsSettled, IsPort, HasConnections}
-use Rattle.wb_meaning.specs.Verilog.Next.{AreRegisters, AreInputs, IsNext}
-use Rattle.first_text.specs.Tree.{Term, term_tree, Action, Part, register, assignment, clocked, part_trees, FirstModule, module_tree, Port}
-use Rattle.wb_first.specs.Names.{First, scope_of_first, bits_of_name, is_input, is_output, is_variable, is_variable_among, is_declared, is_register, assigned, assigned_among, blocks_among, port_named, has_direction, same_direction}
-use Rattle.wb_first.specs.Accepted.{all_names, keys, term_names, terms_read, is_source, is_data, is_net, is_target, is_among, are_distinct, variables_agree, port_agrees, is_accepted, is_accepted_module, counted_bits}
+use Rattle.wb_meaning.specs.Verilog.Register.{is_bit_of, value_bit, is_set, clocked_blocks, after_edge}
+use Rattle.wb_meaning.specs.Verilog.Hierarchy.{placed_scope}
+use Rattle.wb_meaning.specs.Verilog.Settled.{inside, IsDeclared, IsValueOf, HasAssigned, HasRunAll, is_counted, one_may_reach, IsDriven, IsSettledIn, IsSettled, IsPort}
+use Rattle.wb_meaning.specs.Verilog.Next.{AreRegisters, IsNext}
+use Rattle.first_text.specs.Tree.{Term, term_tree, Part, register, assignment, clocked, FirstModule, module_tree, Port}
+use Rattle.wb_first.specs.Names.{First, scope_of_first, bits_of_name, is_input, is_output, is_variable, is_variable_among, is_declared, is_register, assigned, port_named, has_direction, same_direction}
+use Rattle.wb_first.specs.Accepted.{all_names, keys, term_names, is_source, is_net, is_among, are_distinct, variables_agree, is_accepted, counted_bits}
 use Rattle.wb_first.specs.Cycle.{held, assigned_number, settled, next_registers}
-use Rattle.wb_first.specs.Decided.{sliced, values_of}
-use Rattle.wb_first.proofs.Shape.{block_trees, assigned_trees, no_instances, clocked_of, no_combinational, assignments_of, not_memory, first_placed, design_of_first, top_placed, no_paths, only_top, declared_same, input_port, port_input}
-use Rattle.wb_first.proofs.Bits.{same_bits, no_bits, whole_written, zero_unset}
-use Rattle.wb_first.proofs.Alike.{and_left, and_right, all_left, all_right, assigned_same}
+use Rattle.wb_first.specs.Decided.{sliced}
+use Rattle.wb_first.proofs.Shape.{assigned_trees, no_combinational, assignments_of, not_memory, first_placed, design_of_first, no_paths, only_top, declared_same, input_port, port_input}
+use Rattle.wb_first.proofs.Bits.{whole_written, zero_unset}
+use Rattle.wb_first.proofs.Alike.{and_left, and_right, assigned_same}
 use Rattle.wb_first.proofs.Edge.{same_name_true, IsNumberOf}
 use Rattle.wb_first.proofs.Rules.{Keeps}
-use Rattle.wb_first.proofs.Forced.{same_name_refl, may_be_set, terms_entry, reach_is, counted_is, uncounted, declared_in, edge_fits, bit_counts}
+use Rattle.wb_first.proofs.Forced.{same_name_refl, may_be_set, terms_entry, reach_is, counted_is, edge_fits}
 use Rattle.wb_first.proofs.Enumerated.{register_target}
-use Rattle.wb_first.proofs.Facts.{input_declared}
 
 -- the names that are assigned keep the rule of the list
 key_passes : (p : Name → Bool) (es : Entries Term) → all_names p (keys es) ≡ true → (n : Name) (e : Term) → entry_of es n ≡ Some e → p n ≡ true
@@ -61,8 +60,8 @@ not_among (x ∷ es) n m e out some =
     turned h =
         (elim (same_name n x.0) as (λ t. same_name n x.0 ≡ t → t ≡ false) [
           | true ↦ λ e'. absurd (let same : n ≡ x.0 = same_name_true n x.0 e' in
-            let back : same_name x.0 n ≡ true = subst (λ y. same_name x.0 y ≡ true) (sym same) (same_name_refl x.0) in
-            let clash : true ≡ false = sym back ∙ h in cc)
+              let back : same_name x.0 n ≡ true = subst (λ y. same_name x.0 y ≡ true) (sym same) (same_name_refl x.0) in
+              let clash : true ≡ false = sym back ∙ h in cc)
           | false ↦ λ e'. refl
         ]) refl
 
@@ -133,14 +132,14 @@ sliced_fit f (m ∷ ns) a n = by_count (counted_bits f m == 0) (λ q. sliced_fit
   where
     by_count : (t : Bool) → ((q : ℕ) → IsNumberOf (scope_of_first f.design) n (valuation_of (sliced f ns q) n))
         → IsNumberOf (scope_of_first f.design) n
-          (valuation_of (cond t (sliced f ns a) ((m, number (a % 2 ^ bits_of_name f.design m)) ∷ sliced f ns (a / 2 ^ bits_of_name f.design m))) n)
+        (valuation_of (cond t (sliced f ns a) ((m, number (a % 2 ^ bits_of_name f.design m)) ∷ sliced f ns (a / 2 ^ bits_of_name f.design m))) n)
     by_count true rest = rest a
     by_count false rest =
         (elim (same_name m n) as
-          (λ t. same_name m n ≡ t → IsNumberOf (scope_of_first f.design) n
-            (value_or_zero (cond t (Some (number (a % 2 ^ bits_of_name f.design m))) (entry_of (sliced f ns (a / 2 ^ bits_of_name f.design m)) n)))) [
+        (λ t. same_name m n ≡ t → IsNumberOf (scope_of_first f.design) n
+        (value_or_zero (cond t (Some (number (a % 2 ^ bits_of_name f.design m))) (entry_of (sliced f ns (a / 2 ^ bits_of_name f.design m)) n)))) [
           | true ↦ λ e. subst (λ x. IsNumberOf (scope_of_first f.design) x (number (a % 2 ^ bits_of_name f.design m))) (same_name_true m n e)
-            (a % 2 ^ bits_of_name f.design m, refl, mod-lt a (pow_pos (bits_of_name f.design m)))
+              (a % 2 ^ bits_of_name f.design m, refl, mod-lt a (pow_pos (bits_of_name f.design m)))
           | false ↦ λ e. rest (a / 2 ^ bits_of_name f.design m)
         ]) refl
 
@@ -153,17 +152,17 @@ pub are_registers : (f : First) → Keeps f → (q : Valuation) → ((n : Name) 
     → ((n : Name) → is_register f.design n ≡ false → q n ≡ number 0) → AreRegisters (design_of_first f) q
 are_registers f k q fits rest = record {
   fits = λ path p n e h.
-    (let only = only_top f k.is_top path p e in
-     subst (λ x. IsValueOf (placed_scope p n) (inside q x n)) (sym only.0)
-     (subst (λ x. IsValueOf (placed_scope x n) (q n)) (sym only.1)
+      (let only = only_top f k.is_top path p e in
+      subst (λ x. IsValueOf (placed_scope p n) (inside q x n)) (sym only.0)
+      (subst (λ x. IsValueOf (placed_scope x n) (q n)) (sym only.1)
       (let h' : IsDeclared (first_placed f) n = subst (λ x. IsDeclared x n) only.1 h in
-       value_of_number f.design n (q n) (fits n (sym (declared_same f.design n) ∙ h')))));
+      value_of_number f.design n (q n) (fits n (sym (declared_same f.design n) ∙ h')))));
   rest_zero = λ path p n j b e h c.
-    (let only = only_top f k.is_top path p e in
-     subst (λ x. value_bit (inside q x n) j b ≡ false) (sym only.0)
-     (let c' : is_counted (first_placed f) n j b ≡ false = subst (λ x. is_counted x n j b ≡ false) only.1 c in
+      (let only = only_top f k.is_top path p e in
+      subst (λ x. value_bit (inside q x n) j b ≡ false) (sym only.0)
+      (let c' : is_counted (first_placed f) n j b ≡ false = subst (λ x. is_counted x n j b ≡ false) only.1 c in
       let h' : IsDeclared (first_placed f) n = subst (λ x. IsDeclared x n) only.1 h in
-      rest_low n j b c' (fits n (sym (declared_same f.design n) ∙ h'))))
+      rest_low n j b c' (fits n (sym (declared_same f.design n) ∙ h'))));
 }
   where
     past : (x w b : ℕ) → x < 2 ^ w → w ≤ b → is_set x b ≡ false
@@ -190,9 +189,8 @@ are_registers f k q fits rest = record {
         by_register true g = subst (λ x. value_bit x j b ≡ false) (sym h.1) (by_word j c g)
 
 module _ (f : First) (k : Keeps f) (more : KeepsMore f) (r i : Valuation)
-  (registers_fit : (n : Name) → is_declared f.design n ≡ true → IsNumberOf (scope_of_first f.design) n (r n))
-  (inputs_fit : (n : Name) → is_input f.design n ≡ true → IsNumberOf (scope_of_first f.design) n (i n)) where
-
+    (registers_fit : (n : Name) → is_declared f.design n ≡ true → IsNumberOf (scope_of_first f.design) n (r n))
+    (inputs_fit : (n : Name) → is_input f.design n ≡ true → IsNumberOf (scope_of_first f.design) n (i n)) where
   abbrev S : Scope
   S = scope_of_first f.design
 
@@ -215,15 +213,15 @@ module _ (f : First) (k : Keeps f) (more : KeepsMore f) (r i : Valuation)
   register_entry : (n : Name) → is_register f.design n ≡ true → entry_of (assigned f.design) n ≡ None
   register_entry n h =
       no_entry n (λ net.
-        let out : not (is_variable f.design n) ≡ true = and_right _ _ net in
-        let clash : not true ≡ true = subst (λ t. not t ≡ true) (register_variable n h) out in
-        let clash' : false ≡ true = clash in cc)
+      let out : not (is_variable f.design n) ≡ true = and_right _ _ net in
+      let clash : not true ≡ true = subst (λ t. not t ≡ true) (register_variable n h) out in
+      let clash' : false ≡ true = clash in cc)
 
   input_entry : (n : Name) → is_input f.design n ≡ true → entry_of (assigned f.design) n ≡ None
   input_entry n h =
       no_entry n (λ net.
-        let out : is_output f.design n ≡ true = and_right _ _ (and_left _ _ net) in
-        let clash : true ≡ false = sym out ∙ input_no_output f.design n h in cc)
+      let out : is_output f.design n ≡ true = and_right _ _ (and_left _ _ net) in
+      let clash : true ≡ false = sym out ∙ input_no_output f.design n h in cc)
 
   input_register : (n : Name) → is_input f.design n ≡ true → is_register f.design n ≡ false
   input_register n h = by_register (is_register f.design n) refl
@@ -274,17 +272,19 @@ module _ (f : First) (k : Keeps f) (more : KeepsMore f) (r i : Valuation)
 
       by_entry : (o : Option Term) → IsNumberOf S n (assigned_number f r i n o)
       by_entry None = by_register (is_register f.design n)
-      by_entry (Some e) =
-          (assigned_value S (held f r i) (bits_of_name f.design n) (term_tree e), refl,
-           mod-lt (value_of S (held f r i) (term_tree e) (max (bits_of_name f.design n) (width_of S (term_tree e))) (sign_of S (term_tree e))) (pow_pos (bits_of_name f.design n)))
+      by_entry (Some e) = (
+        assigned_value S (held f r i) (bits_of_name f.design n) (term_tree e),
+        refl,
+        mod-lt (value_of S (held f r i) (term_tree e) (max (bits_of_name f.design n) (width_of S (term_tree e))) (sign_of S (term_tree e))) (pow_pos (bits_of_name f.design n)),
+      )
 
   -- each assignment holds as an equation
   equation : (n : Name) (e : Term) → entry_of (assigned f.design) n ≡ Some e
       → (m : Name) → written S V (places S V (place n whole)) (assigned_value S V (target_width S (place n whole)) (term_tree e)) m ≡ V m
   equation n e is_e m =
       (elim (same_name n m) as
-        (λ t. same_name n m ≡ t
-          → cond t (written_cell (S n) (V n) variable (all_bits (S n)) (assigned_value S V (bits_of_name f.design n) (term_tree e) / 2 ^ 0)) (V m) ≡ V m) [
+      (λ t. same_name n m ≡ t
+      → cond t (written_cell (S n) (V n) variable (all_bits (S n)) (assigned_value S V (bits_of_name f.design n) (term_tree e) / 2 ^ 0)) (V m) ≡ V m) [
         | true ↦ λ t. here ∙ ap V (same_name_true n m t)
         | false ↦ λ t. refl
       ]) refl
@@ -306,11 +306,11 @@ module _ (f : First) (k : Keeps f) (more : KeepsMore f) (r i : Valuation)
           let x : ℕ = assigned_value S V (bits_of_name f.design n) (term_tree e) in
           let fits : IsNumberOf S n (V n) = value_fits n known in
           let small : x < 2 ^ bits_of_name f.design n =
-              mod-lt (value_of S V (term_tree e) (max (bits_of_name f.design n) (width_of S (term_tree e))) (sign_of S (term_tree e))) (pow_pos (bits_of_name f.design n)) in
+          mod-lt (value_of S V (term_tree e) (max (bits_of_name f.design n) (width_of S (term_tree e))) (sign_of S (term_tree e))) (pow_pos (bits_of_name f.design n)) in
           let whole_number : with_bits_from (bits_of_name f.design n) (as_number (V n)) 0 (bits_of_name f.design n) (x / 2 ^ 0) ≡ x =
-              subst (λ y. with_bits_from (bits_of_name f.design n) (as_number (V n)) 0 (bits_of_name f.design n) y ≡ x) (sym (div-one x))
-              (subst (λ y. with_bits_from (bits_of_name f.design n) (as_number y) 0 (bits_of_name f.design n) x ≡ x) (sym fits.1)
-               (whole_written (bits_of_name f.design n) fits.0 x fits.2 small)) in
+          subst (λ y. with_bits_from (bits_of_name f.design n) (as_number (V n)) 0 (bits_of_name f.design n) y ≡ x) (sym (div-one x))
+          (subst (λ y. with_bits_from (bits_of_name f.design n) (as_number y) 0 (bits_of_name f.design n) x ≡ x) (sym fits.1)
+          (whole_written (bits_of_name f.design n) fits.0 x fits.2 small)) in
           let own : V n ≡ number (assigned_value S (held f r i) (bits_of_name f.design n) (term_tree e)) = ap (assigned_number f r i n) is_e in
           ap number whole_number
           ∙ (ap number (assigned_same S (is_source f) V (held f r i) source_value e sources (bits_of_name f.design n)) ∙ sym own)
@@ -331,7 +331,7 @@ module _ (f : First) (k : Keeps f) (more : KeepsMore f) (r i : Valuation)
       by_clock true c h = low_bit (ap V (same_name_true n f.map.clock c) ∙ at_clock)
       by_clock false c h =
           absurd (free (IsDriven.by_top_input refl (input_port f.design n h)
-            (λ e. let clash : true ≡ false = sym (same_name_refl f.map.clock) ∙ (ap (λ m. same_name m f.map.clock) (sym e) ∙ c) in cc)))
+          (λ e. let clash : true ≡ false = sym (same_name_refl f.map.clock) ∙ (ap (λ m. same_name m f.map.clock) (sym e) ∙ c) in cc)))
 
       by_input : (t : Bool) → is_input f.design n ≡ t → is_register f.design n ≡ false → entry_of (assigned f.design) n ≡ None → value_bit (V n) 0 b ≡ false
       by_input true h g none = by_clock (same_name n f.map.clock) refl h
@@ -344,8 +344,8 @@ module _ (f : First) (k : Keeps f) (more : KeepsMore f) (r i : Valuation)
       by_entry : (o : Option Term) → entry_of (assigned f.design) n ≡ o → value_bit (V n) 0 b ≡ false
       by_entry (Some e) is_e =
           absurd (free (IsDriven.by_assignment
-            (subst (λ xs. one_may_reach S xs n 0 b ≡ true) (sym (assignments_of f.design.parts))
-             (reach_is S (assigned f.design) n 0 b ∙ ap is_some is_e))))
+          (subst (λ xs. one_may_reach S xs n 0 b ≡ true) (sym (assignments_of f.design.parts))
+          (reach_is S (assigned f.design) n 0 b ∙ ap is_some is_e))))
       by_entry None none = by_register (is_register f.design n) refl none
 
   -- only word 0 is a word of a name of the profile
@@ -369,29 +369,29 @@ module _ (f : First) (k : Keeps f) (more : KeepsMore f) (r i : Valuation)
     fits = λ n h. value_of_number f.design n (V n) (value_fits n (sym (declared_same f.design n) ∙ h));
     held = λ n j b h c. ap (λ x. value_bit x j b) (at_register n (counted_register n j b c));
     assigned =
-      subst (λ xs. HasAssigned S V xs) (sym (assignments_of f.design.parts)) (all_equations (assigned f.design) (all_found (assigned f.design) more.distinct));
+        subst (λ xs. HasAssigned S V xs) (sym (assignments_of f.design.parts)) (all_equations (assigned f.design) (all_found (assigned f.design) more.distinct));
     combinational = subst (λ xs. HasRunAll S V xs) (sym (no_combinational f.design.parts)) tt;
     undriven = λ n j b h is_bit free.
-      (let own = one_word_bit n j b is_bit in
-       let free' : ¬ IsDriven (design_of_first f) [] (first_placed f) n 0 b =
-           subst (λ x. ¬ IsDriven (design_of_first f) [] (first_placed f) n x b) own.0 free in
-       subst (λ x. value_bit (V n) x b ≡ false) (sym own.0)
-       (undriven_low n b (sym (declared_same f.design n) ∙ h) own.1 free'))
+        (let own = one_word_bit n j b is_bit in
+        let free' : ¬ IsDriven (design_of_first f) [] (first_placed f) n 0 b =
+        subst (λ x. ¬ IsDriven (design_of_first f) [] (first_placed f) n x b) own.0 free in
+        subst (λ x. value_bit (V n) x b ≡ false) (sym own.0)
+        (undriven_low n b (sym (declared_same f.design n) ∙ h) own.1 free'));
   }
 
   pub is_settled : IsSettled (design_of_first f) r i V
   is_settled = record {
     modules = λ path p e.
-      (let only = only_top f k.is_top path p e in
-       subst (λ q. IsSettledIn (design_of_first f) r V path q) (sym only.1)
-       (subst (λ q. IsSettledIn (design_of_first f) r V q (first_placed f)) (sym only.0) inner));
+        (let only = only_top f k.is_top path p e in
+        subst (λ q. IsSettledIn (design_of_first f) r V path q) (sym only.1)
+        (subst (λ q. IsSettledIn (design_of_first f) r V q (first_placed f)) (sym only.0) inner));
     connections = λ around u p j below e is_j e'.
-      absurd (let clash : None ≡ Some below = sym (no_paths f k.is_top u around) ∙ e' in cc);
+        absurd (let clash : None ≡ Some below = sym (no_paths f k.is_top u around) ∙ e' in cc);
     inputs_held = λ p n e is_port other.
-      (let only = only_top f k.is_top [] p e in
-       let is_port' : IsPort (module_tree f.design) n input = subst (λ q. IsPort q.of_module n input) only.1 is_port in
-       at_input n (port_input f.design n is_port') (not_clock n other));
-    clock_low = at_clock
+        (let only = only_top f k.is_top [] p e in
+        let is_port' : IsPort (module_tree f.design) n input = subst (λ q. IsPort q.of_module n input) only.1 is_port in
+        at_input n (port_input f.design n is_port') (not_clock n other));
+    clock_low = at_clock;
   }
     where
       not_clock : (n : Name) → (n ≡ f.map.clock → ⊥) → same_name n f.map.clock ≡ false
@@ -406,7 +406,7 @@ module _ (f : First) (k : Keeps f) (more : KeepsMore f) (r i : Valuation)
   pub next_fits : (n : Name) → is_declared f.design n ≡ true → IsNumberOf S n (next_registers f r i n)
   next_fits n known =
       elim (is_register f.design n) as
-        (λ t. IsNumberOf S n (cond t (after_edge S (clocked_blocks (module_tree f.design).items) V n) (number 0))) [
+      (λ t. IsNumberOf S n (cond t (after_edge S (clocked_blocks (module_tree f.design).items) V n) (number 0))) [
         | true ↦ edge_fits f k V value_fits n known
         | false ↦ zero_number f.design n
       ]
@@ -422,10 +422,10 @@ module _ (f : First) (k : Keeps f) (more : KeepsMore f) (r i : Valuation)
   is_next = record {
     registers = next_are_registers;
     assigned = λ path p n j b e h c.
-      (let only = only_top f k.is_top path p e in
-       subst (λ q. value_bit (inside (next_registers f r i) q n) j b ≡ value_bit (after_edge (placed_scope p) (clocked_blocks p.of_module.items) (inside V q) n) j b) (sym only.0)
-       (subst (λ q. value_bit (next_registers f r i n) j b ≡ value_bit (after_edge (placed_scope q) (clocked_blocks q.of_module.items) V n) j b) (sym only.1)
+        (let only = only_top f k.is_top path p e in
+        subst (λ q. value_bit (inside (next_registers f r i) q n) j b ≡ value_bit (after_edge (placed_scope p) (clocked_blocks p.of_module.items) (inside V q) n) j b) (sym only.0)
+        (subst (λ q. value_bit (next_registers f r i n) j b ≡ value_bit (after_edge (placed_scope q) (clocked_blocks q.of_module.items) V n) j b) (sym only.1)
         (let c' : is_counted (first_placed f) n j b ≡ true = subst (λ q. is_counted q n j b ≡ true) only.1 c in
-         let g : is_register f.design n ≡ true = counted_register n j b c' in
-         rw g refl)))
+        let g : is_register f.design n ≡ true = counted_register n j b c' in
+        rw g refl)));
   }

@@ -27,21 +27,21 @@ pub inputs_fit : (f : First) → Keeps f → (run : Run) → IsRun (setting_of f
 inputs_fit f k run is_run n d h =
     number_of_value f.design n (run.inputs 0 n)
     (is_run.inputs 0 (omega arith) (first_placed f) n (top_placed f k.is_top) (input_port f.design n h)
-     (λ e. let other : not (same_name n f.map.clock) ≡ true = and_right _ _ d in
-       let clash : not (same_name f.map.clock f.map.clock) ≡ true = subst (λ m. not (same_name m f.map.clock) ≡ true) e other in
-       let clash' : not true ≡ true = subst (λ t. not t ≡ true) (same_name_refl f.map.clock) clash in cc))
+    (λ e. let other : not (same_name n f.map.clock) ≡ true = and_right _ _ d in
+    let clash : not (same_name f.map.clock f.map.clock) ≡ true = subst (λ m. not (same_name m f.map.clock) ≡ true) e other in
+    let clash' : not true ≡ true = subst (λ t. not t ≡ true) (same_name_refl f.map.clock) clash in cc))
 
 pub values_decide : ValuesDecide
 values_decide f accepted j o is_o unbroken =
     let k : Keeps f = keeps f accepted in
     holds_unbroken f k o (first_at f (obligations f.model f.map) (all_first f k) j o is_o)
     (λ r i run is_run is_r is_i.
-      let own : NumberOf f _ _ = number_of_values f k (run.registers 0) (run.inputs 0) (registers_fit f k run is_run) (inputs_fit f k run is_run) in
-      let alike = same_held f k (run.registers 0) (run.inputs 0) (registers_fit f k run is_run) (inputs_fit f k run is_run) in
-      let here : is_broken f (first_valuation f (run.registers 0) (run.inputs 0)) (second_valuation f (run.registers 0) (run.inputs 0)) o ≡ false =
-          ap₂ (λ v w. is_broken f v w o)
-            (sym (first_by_held f (values_of f own.a) (values_of f own.a) (run.registers 0) (run.inputs 0) alike))
-            (sym (second_by_held f (values_of f own.a) (values_of f own.a) (run.registers 0) (run.inputs 0) alike))
-          ∙ unbroken own.a own.below in
-      subst (λ q. is_broken f (first_valuation f q i) (second_valuation f q i) o ≡ false) is_r
-      (subst (λ q. is_broken f (first_valuation f (run.registers 0) q) (second_valuation f (run.registers 0) q) o ≡ false) is_i here))
+    let own : NumberOf f _ _ = number_of_values f k (run.registers 0) (run.inputs 0) (registers_fit f k run is_run) (inputs_fit f k run is_run) in
+    let alike = same_held f k (run.registers 0) (run.inputs 0) (registers_fit f k run is_run) (inputs_fit f k run is_run) in
+    let here : is_broken f (first_valuation f (run.registers 0) (run.inputs 0)) (second_valuation f (run.registers 0) (run.inputs 0)) o ≡ false =
+    ap₂ (λ v w. is_broken f v w o)
+    (sym (first_by_held f (values_of f own.a) (values_of f own.a) (run.registers 0) (run.inputs 0) alike))
+    (sym (second_by_held f (values_of f own.a) (values_of f own.a) (run.registers 0) (run.inputs 0) alike))
+    ∙ unbroken own.a own.below in
+    subst (λ q. is_broken f (first_valuation f q i) (second_valuation f q i) o ≡ false) is_r
+    (subst (λ q. is_broken f (first_valuation f (run.registers 0) q) (second_valuation f (run.registers 0) q) o ≡ false) is_i here))

@@ -168,16 +168,19 @@ module _ (f : First) (k : Keeps f) (run : Run) (is_run : IsRun (setting_of f) ru
   claimed_decode h =
       let valid : holds (valid_of f.model.top) (start_point f V) ≡ true = and_left _ _ h in
       let count : decode_count (instructions_in f.model.top) (start_point f V) ≡ 1 =
-          (let c = and_right _ _ h in counted _ c) in
-      let one : OnlyOne (instructions_in f.model.top) (start_point f V) = one_counted (instructions_in f.model.top) (start_point f V) count in
-      (one.j,
-       (ap (holds (valid_of f.model.top)) point_first ∙ valid,
-        record {
-          i = one.i;
-          is_j = one.is_j;
-          decoded = ap (holds (decode_of one.i)) point_first ∙ one.decoded_j;
-          no_other = λ j o is_o n d. one.no_other j o is_o n (ap (holds (decode_of o)) (sym point_first) ∙ d)
-        }))
+      (let c = and_right _ _ h in counted _ c) in
+      let one : OnlyOne (instructions_in f.model.top) (start_point f V) = one_counted (instructions_in f.model.top) (start_point f V) count in (
+        one.j,
+        (
+          ap (holds (valid_of f.model.top)) point_first ∙ valid,
+          record {
+            i = one.i;
+            is_j = one.is_j;
+            decoded = ap (holds (decode_of one.i)) point_first ∙ one.decoded_j;
+            no_other = λ j o is_o n d. one.no_other j o is_o n (ap (holds (decode_of o)) (sym point_first) ∙ d);
+          },
+        ),
+      )
     where
       counted : (c : ℕ) → (c == 1) ≡ true → c ≡ 1
       counted c e = grind (arith, nat_tests)
@@ -187,11 +190,11 @@ module _ (f : First) (k : Keeps f) (run : Run) (is_run : IsRun (setting_of f) ru
   claimed_result j n is_state h i r is_i does =
       let after : Valuation = does.0 in
       let updates : after ≡ updated (update_of i) (point_of f.model (state_at s run 0) (inputs_at s run 0)) =
-          done_is_updated i (childless_at (instructions_in f.model.top) k.childless j i is_i)
-          (point_of f.model (state_at s run 0) (inputs_at s run 0)) after does.1 in
+      done_is_updated i (childless_at (instructions_in f.model.top) k.childless j i is_i)
+      (point_of f.model (state_at s run 0) (inputs_at s run 0)) after does.1 in
       let here : state_of f W n ≡ updated (update_of i) (start_point f V) n =
-          same_value_true (state_of f W n) (updated (update_of i) (start_point f V) n)
-          (subst (λ o. same_value (state_of f W n) (result_at o (start_point f V) n) ≡ true) is_i h) in
+      same_value_true (state_of f W n) (updated (update_of i) (start_point f V) n)
+      (subst (λ o. same_value (state_of f W n) (result_at o (start_point f V) n) ≡ true) is_i h) in
       let result : r n ≡ after n = ap (λ q. q n) does.2 ∙ rw is_state refl in
       ap (λ q. q n) state_second
       ∙ (here ∙ (ap (λ p. updated (update_of i) p n) (sym point_first) ∙ (sym (ap (λ q. q n) updates) ∙ sym result)))
@@ -231,7 +234,7 @@ met_claim false b h e = absurd (let c : false ≡ true = e in cc)
 -- Where no registers and inputs break it, it holds.
 pub holds_unbroken : (f : First) → Keeps f → (o : Obligation) → IsFirstObligation f o
     → ((r i : Valuation) → (run : Run) → IsRun (setting_of f) run 1 → run.registers 0 ≡ r → run.inputs 0 ≡ i
-       → is_broken f (first_valuation f r i) (second_valuation f r i) o ≡ false)
+    → is_broken f (first_valuation f r i) (second_valuation f r i) o ≡ false)
     → Holds (setting_of f) o
 holds_unbroken f k o form unbroken run is_run hypotheses =
     let is_run' : IsRun (setting_of f) run 1 = subst (λ c. IsRun (setting_of f) run c) form.one_cycle is_run in

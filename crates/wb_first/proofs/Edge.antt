@@ -64,11 +64,11 @@ module _ (s : Scope) (p : Name → Bool) where
   updated_alike (x ∷ us) all v u alike n h =
       updated_alike us all.1 (with_update s v x) (with_update s u x)
       (λ m g. subst (λ ps. written s v ps x.value m ≡ written s u ps x.value m) (sym all.0.2)
-        (elim (same_name all.0.0 m) as
-          (λ b. cond b (cell_after s v all.0.0 (x.value / 2 ^ 0)) (v m) ≡ cond b (cell_after s u all.0.0 (x.value / 2 ^ 0)) (u m)) [
-          | true ↦ ap (λ y. written_cell (s all.0.0) y variable (all_bits (s all.0.0)) (x.value / 2 ^ 0)) (alike all.0.0 all.0.1)
-          | false ↦ alike m g
-        ]))
+      (elim (same_name all.0.0 m) as
+      (λ b. cond b (cell_after s v all.0.0 (x.value / 2 ^ 0)) (v m) ≡ cond b (cell_after s u all.0.0 (x.value / 2 ^ 0)) (u m)) [
+        | true ↦ ap (λ y. written_cell (s all.0.0) y variable (all_bits (s all.0.0)) (x.value / 2 ^ 0)) (alike all.0.0 all.0.1)
+        | false ↦ alike m g
+      ]))
       n h
 
 -- a value is a number of the name's width
@@ -77,11 +77,13 @@ IsNumberOf s n y = (x : ℕ) × (y ≡ number x) × (x < 2 ^ object_width (s n))
 
 written_number : (s : Scope) (m n : Name) (old : Value) (x : ℕ) → same_name m n ≡ true → IsNumberOf s n (written_cell (s m) old variable (all_bits (s m)) x)
 written_number s m n old x h =
-    subst (λ k. IsNumberOf s k (written_cell (s m) old variable (all_bits (s m)) x)) (same_name_true m n h)
-    (with_bits (object_width (s m)) (as_number old) (all_bits (s m)) x, refl,
-     mod-lt
-     (as_number old % 2 ^ 0 + 2 ^ 0 * (x % 2 ^ object_width (s m)) + 2 ^ (0 + object_width (s m)) * (as_number old / 2 ^ (0 + object_width (s m))))
-     (pow_pos (object_width (s m))))
+    subst (λ k. IsNumberOf s k (written_cell (s m) old variable (all_bits (s m)) x)) (same_name_true m n h) (
+      with_bits (object_width (s m)) (as_number old) (all_bits (s m)) x,
+      refl,
+      mod-lt
+          (as_number old % 2 ^ 0 + 2 ^ 0 * (x % 2 ^ object_width (s m)) + 2 ^ (0 + object_width (s m)) * (as_number old / 2 ^ (0 + object_width (s m))))
+          (pow_pos (object_width (s m))),
+    )
 
 module _ (s : Scope) (p : Name → Bool) where
   -- numbers stay within their widths
@@ -91,17 +93,16 @@ module _ (s : Scope) (p : Name → Bool) where
   updated_numbers (x ∷ us) all v fits n h =
       updated_numbers us all.1 (with_update s v x)
       (λ m g. subst (λ ps. IsNumberOf s m (written s v ps x.value m)) (sym all.0.2)
-        ((elim (same_name all.0.0 m) as
-          (λ b. same_name all.0.0 m ≡ b → IsNumberOf s m (cond b (cell_after s v all.0.0 (x.value / 2 ^ 0)) (v m))) [
-          | true ↦ λ e. written_number s all.0.0 m (v all.0.0) (x.value / 2 ^ 0) e
-          | false ↦ λ e. fits m g
-        ]) refl))
+      ((elim (same_name all.0.0 m) as
+      (λ b. same_name all.0.0 m ≡ b → IsNumberOf s m (cond b (cell_after s v all.0.0 (x.value / 2 ^ 0)) (v m))) [
+        | true ↦ λ e. written_number s all.0.0 m (v all.0.0) (x.value / 2 ^ 0) e
+        | false ↦ λ e. fits m g
+      ]) refl))
       n h
 
 -- what the blocks of the profile leave at the edge
 module _ (s : Scope) (p q : Name → Bool) (v u : Valuation) (alike : (n : Name) → p n ≡ true → v n ≡ u n)
-  (sub : (n : Name) → q n ≡ true → p n ≡ true) where
-
+    (sub : (n : Name) → q n ≡ true → p n ≡ true) where
   abbrev pub BlocksPass : List (Name × Action) → Type 0
   BlocksPass [] = Unit {0}
   BlocksPass (b ∷ bs) = (all_names p (read_names b.1) ≡ true) × (all_names q (set_names b.1) ≡ true) × BlocksPass bs

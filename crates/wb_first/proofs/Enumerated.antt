@@ -48,15 +48,15 @@ numbered f y fits (n ∷ ns) = by_count (counted_bits f n == 0) refl (numbered f
     skipped zero' rest = record {
       a = rest.a;
       below = subst (λ w. rest.a < 2 ^ w) (let z : counted_bits f n ≡ 0 = nothing_counted f n zero' in let e : sum_of_bits f ns ≡ counted_bits f n + sum_of_bits f ns = omega arith in e) rest.below;
-      gives = λ m h c. rw zero' (rest.gives m (later m h c) c)
+      gives = λ m h c. rw zero' (rest.gives m (later m h c) c);
     }
       where
         later : (m : Name) → is_among (n ∷ ns) m ≡ true → (counted_bits f m == 0) ≡ false → is_among ns m ≡ true
         later m h c =
             (elim (same_name n m) as (λ b. same_name n m ≡ b → (b || is_among ns m) ≡ true → is_among ns m ≡ true) [
               | true ↦ λ e g.
-                let here : (counted_bits f m == 0) ≡ true = subst (λ x. (counted_bits f x == 0) ≡ true) (same_name_true n m e) zero' in
-                absurd (let clash : true ≡ false = sym here ∙ c in cc)
+                  let here : (counted_bits f m == 0) ≡ true = subst (λ x. (counted_bits f x == 0) ≡ true) (same_name_true n m e) zero' in
+                  absurd (let clash : true ≡ false = sym here ∙ c in cc)
               | false ↦ λ e g. g
             ]) refl h
 
@@ -67,27 +67,27 @@ numbered f y fits (n ∷ ns) = by_count (counted_bits f n == 0) refl (numbered f
         record {
           a = rest.a * 2 ^ w + own.0;
           below = subst (λ v. rest.a * 2 ^ w + own.0 < 2 ^ (v + sum_of_bits f ns)) (sym (all_or_nothing f n some)) (sums w own.0 rest.a (sum_of_bits f ns) own.2 rest.below);
-          gives = λ m h c. rw some (found m h c)
+          gives = λ m h c. rw some (found m h c);
         }
       where
         found : (m : Name) → is_among (n ∷ ns) m ≡ true → (counted_bits f m == 0) ≡ false
             → value_or_zero (cond (same_name n m)
-                (Some (number ((rest.a * 2 ^ bits_of_name f.design n + (fits n some).0) % 2 ^ bits_of_name f.design n)))
-                (entry_of (sliced f ns ((rest.a * 2 ^ bits_of_name f.design n + (fits n some).0) / 2 ^ bits_of_name f.design n)) m))
-              ≡ y m
+            (Some (number ((rest.a * 2 ^ bits_of_name f.design n + (fits n some).0) % 2 ^ bits_of_name f.design n)))
+            (entry_of (sliced f ns ((rest.a * 2 ^ bits_of_name f.design n + (fits n some).0) / 2 ^ bits_of_name f.design n)) m))
+            ≡ y m
         found m h c =
             (elim (same_name n m) as
-              (λ b. same_name n m ≡ b → (b || is_among ns m) ≡ true
-                → value_or_zero (cond b
-                    (Some (number ((rest.a * 2 ^ bits_of_name f.design n + (fits n some).0) % 2 ^ bits_of_name f.design n)))
-                    (entry_of (sliced f ns ((rest.a * 2 ^ bits_of_name f.design n + (fits n some).0) / 2 ^ bits_of_name f.design n)) m))
-                  ≡ y m) [
+            (λ b. same_name n m ≡ b → (b || is_among ns m) ≡ true
+            → value_or_zero (cond b
+            (Some (number ((rest.a * 2 ^ bits_of_name f.design n + (fits n some).0) % 2 ^ bits_of_name f.design n)))
+            (entry_of (sliced f ns ((rest.a * 2 ^ bits_of_name f.design n + (fits n some).0) / 2 ^ bits_of_name f.design n)) m))
+            ≡ y m) [
               | true ↦ λ e g.
-                ap number (mod-mul-add rest.a (2 ^ bits_of_name f.design n) (fits n some).0 (fits n some).2)
-                ∙ (sym (fits n some).1 ∙ ap y (same_name_true n m e))
+                  ap number (mod-mul-add rest.a (2 ^ bits_of_name f.design n) (fits n some).0 (fits n some).2)
+                  ∙ (sym (fits n some).1 ∙ ap y (same_name_true n m e))
               | false ↦ λ e g.
-                ap (λ q. value_or_zero (entry_of (sliced f ns q) m)) (div-mul-add rest.a (2 ^ bits_of_name f.design n) (fits n some).0 (fits n some).2)
-                ∙ rest.gives m g c
+                  ap (λ q. value_or_zero (entry_of (sliced f ns q) m)) (div-mul-add rest.a (2 ^ bits_of_name f.design n) (fits n some).0 (fits n some).2)
+                  ∙ rest.gives m g c
             ]) refl h
 
     by_count : (b : Bool) → (counted_bits f n == 0) ≡ b → NumberOf f ns y → NumberOf f (n ∷ ns) y
@@ -170,7 +170,7 @@ port_among : (ps : List Port) (n : Name) → is_some (port_named ps n) ≡ true 
 port_among [] n h = absurd (let e : false ≡ true = h in cc)
 port_among (p ∷ ps) n h =
     (elim (same_name p.own_name n) as
-      (λ b. is_some (cond b (Some p) (port_named ps n)) ≡ true → (b || is_among (port_names ps) n) ≡ true) [
+    (λ b. is_some (cond b (Some p) (port_named ps n)) ≡ true → (b || is_among (port_names ps) n) ≡ true) [
       | true ↦ λ e. refl
       | false ↦ λ e. port_among ps n e
     ]) h
@@ -189,8 +189,8 @@ new_among : (ports ns : List Name) (n : Name) → is_among ports n ≡ false →
 new_among ports [] n out h = absurd (let e : false ≡ true = h in cc)
 new_among ports (m ∷ ns) n out h =
     (elim (is_among ports m) as
-      (λ t. is_among ports m ≡ t → (same_name m n || is_among ns n) ≡ true
-        → is_among (cond t (new_names ports ns) (m ∷ new_names ports ns)) n ≡ true) [
+    (λ t. is_among ports m ≡ t → (same_name m n || is_among ns n) ≡ true
+    → is_among (cond t (new_names ports ns) (m ∷ new_names ports ns)) n ≡ true) [
       | true ↦ λ e g. elim (or_cases (same_name m n) (is_among ns n) g) [
         | inl x ↦ absurd (let inside : is_among ports n ≡ true = same_name_cong (is_among ports) m n x e in let clash : true ≡ false = sym inside ∙ out in cc)
         | inr y ↦ new_among ports ns n out y
@@ -215,7 +215,7 @@ declared_among m n h =
         elim (or_cases (is_some (port_named m.ports n)) (is_variable m n) h) [
           | inl x ↦ absurd (let clash : true ≡ false = sym (port_among m.ports n x) ∙ e in cc)
           | inr y ↦ among_right (port_names m.ports) (new_names (port_names m.ports) (variable_names m.parts)) n
-            (new_among (port_names m.ports) (variable_names m.parts) n e (variable_among m.parts n y))
+              (new_among (port_names m.ports) (variable_names m.parts) n e (variable_among m.parts n y))
         ]
 
 -- ---- registers and inputs as a number's
@@ -236,9 +236,8 @@ counted_data f n h = choose (is_data f n) (is_register f.design n || is_input f.
     choose false b g = absurd (let c : true ≡ false = g in cc)
 
 module _ (f : First) (k : Keeps f) (r i : Valuation)
-  (registers_fit : (n : Name) → is_declared f.design n ≡ true → IsNumberOf (scope_of_first f.design) n (r n))
-  (inputs_fit : (n : Name) → is_data f n ≡ true → is_input f.design n ≡ true → IsNumberOf (scope_of_first f.design) n (i n)) where
-
+    (registers_fit : (n : Name) → is_declared f.design n ≡ true → IsNumberOf (scope_of_first f.design) n (r n))
+    (inputs_fit : (n : Name) → is_data f n ≡ true → is_input f.design n ≡ true → IsNumberOf (scope_of_first f.design) n (i n)) where
   abbrev wanted : Valuation
   wanted n = cond (is_register f.design n) (r n) (i n)
 
@@ -281,14 +280,14 @@ module _ (f : First) (k : Keeps f) (r i : Valuation)
 
       by_input : (n : Name) (t : Bool) → is_input f.design n ≡ t → is_register f.design n ≡ false
           → cond (t && not (same_name n f.map.clock)) (values_of f number_of_values.a n) (number 0)
-            ≡ cond (t && not (same_name n f.map.clock)) (i n) (number 0)
+          ≡ cond (t && not (same_name n f.map.clock)) (i n) (number 0)
       by_input n true h g = by_clock n (same_name n f.map.clock) refl g h
       by_input n false h g = refl
 
       by_register : (n : Name) (t : Bool) → is_register f.design n ≡ t
           → cond t (values_of f number_of_values.a n)
-              (cond (is_input f.design n && not (same_name n f.map.clock)) (values_of f number_of_values.a n) (number 0))
-            ≡ cond t (r n) (cond (is_input f.design n && not (same_name n f.map.clock)) (i n) (number 0))
+          (cond (is_input f.design n && not (same_name n f.map.clock)) (values_of f number_of_values.a n) (number 0))
+          ≡ cond t (r n) (cond (is_input f.design n && not (same_name n f.map.clock)) (i n) (number 0))
       by_register n true g = register_value n g
       by_register n false g = by_input n (is_input f.design n) refl g
 

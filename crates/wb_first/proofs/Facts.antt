@@ -41,10 +41,10 @@ pub entry_accepted : (f : First) (es : List InstructionMap) → entries_are_acce
 entry_accepted f [] h n e is_e = cc
 entry_accepted f (x ∷ es) h n e is_e =
     (elim (same_name x.called n) as
-      (λ t. cond t (Some x) (instruction_map es n) ≡ Some e → (is_map_expression f e.commit ≡ true) × ((e.bound == 1) ≡ true)) [
+    (λ t. cond t (Some x) (instruction_map es n) ≡ Some e → (is_map_expression f e.commit ≡ true) × ((e.bound == 1) ≡ true)) [
       | true ↦ λ some. let same : x ≡ e = cc in
-        subst (λ g. (is_map_expression f g.commit ≡ true) × ((g.bound == 1) ≡ true)) same
-        (and_left _ _ (and_left _ _ h), and_right _ _ (and_left _ _ h))
+          subst (λ g. (is_map_expression f g.commit ≡ true) × ((g.bound == 1) ≡ true)) same
+          (and_left _ _ (and_left _ _ h), and_right _ _ (and_left _ _ h))
       | false ↦ λ some. entry_accepted f es (and_right _ _ h) n e some
     ]) is_e
 
@@ -64,7 +64,7 @@ none_counted (x ∷ is) p h zero i e d =
     let here : x ≡ i = cc in
     let d' : holds (decode_of x) p ≡ true = subst (λ y. holds (decode_of y) p ≡ true) (sym here) d in
     let counted : cond true (suc (decode_count is p)) (decode_count is p) ≡ 0 =
-        subst (λ t. cond t (suc (decode_count is p)) (decode_count is p) ≡ 0) d' h in
+    subst (λ t. cond t (suc (decode_count is p)) (decode_count is p) ≡ 0) d' h in
     omega arith
 none_counted (x ∷ is) p h (suc k) i e d = none_counted is p (not_first (holds (decode_of x) p) h) k i e d
   where
@@ -83,7 +83,7 @@ pub one_counted : (is : List Instruction) (p : Valuation) → decode_count is p 
 one_counted [] p h = absurd (omega arith)
 one_counted (x ∷ is) p h =
     (elim (holds (decode_of x) p) as
-      (λ t. holds (decode_of x) p ≡ t → cond t (suc (decode_count is p)) (decode_count is p) ≡ 1 → OnlyOne (x ∷ is) p) [
+    (λ t. holds (decode_of x) p ≡ t → cond t (suc (decode_count is p)) (decode_count is p) ≡ 1 → OnlyOne (x ∷ is) p) [
       | true ↦ λ t c. first_one t (omega arith)
       | false ↦ λ t c. later_one t (one_counted is p c)
     ]) refl h

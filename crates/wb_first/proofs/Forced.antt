@@ -52,7 +52,7 @@ pub reach_is : (s : Scope) (es : Entries Term) (n : Name) (k b : ℕ) → one_ma
 reach_is s [] n k b = refl
 reach_is s (e ∷ es) n k b =
     elim (same_name e.0 n) as
-      (λ t. ((t && true) || one_may_reach s (assigned_trees es) n k b) ≡ is_some (cond t (Some e.1) (entry_of es n))) [
+    (λ t. ((t && true) || one_may_reach s (assigned_trees es) n k b) ≡ is_some (cond t (Some e.1) (entry_of es n))) [
       | true ↦ refl
       | false ↦ reach_is s es n k b
     ]
@@ -64,19 +64,19 @@ assigned_entry : (s : Scope) (v : Valuation) (es : Entries Term) → HasAssigned
 assigned_entry s v [] h n e is_e = cc
 assigned_entry s v (x ∷ es) h n e is_e =
     (elim (same_name x.0 n) as
-      (λ t. same_name x.0 n ≡ t → cond t (Some x.1) (entry_of es n) ≡ Some e
-        → (entry_of es n ≡ Some e
-           → written_cell (s n) (v n) variable (all_bits (s n)) (assigned_value s v (object_width (s n)) (term_tree e) / 2 ^ 0) ≡ v n)
-        → written_cell (s n) (v n) variable (all_bits (s n)) (assigned_value s v (object_width (s n)) (term_tree e) / 2 ^ 0) ≡ v n) [
+    (λ t. same_name x.0 n ≡ t → cond t (Some x.1) (entry_of es n) ≡ Some e
+    → (entry_of es n ≡ Some e
+    → written_cell (s n) (v n) variable (all_bits (s n)) (assigned_value s v (object_width (s n)) (term_tree e) / 2 ^ 0) ≡ v n)
+    → written_cell (s n) (v n) variable (all_bits (s n)) (assigned_value s v (object_width (s n)) (term_tree e) / 2 ^ 0) ≡ v n) [
       | true ↦ λ t some rest.
-        let same_term : x.1 ≡ e = cc in
-        let same : x.0 ≡ n = same_name_true x.0 n t in
-        let own : cond (same_name x.0 x.0) (written_cell (s x.0) (v x.0) variable (all_bits (s x.0)) (assigned_value s v (object_width (s x.0)) (term_tree x.1) / 2 ^ 0)) (v x.0) ≡ v x.0 = h.0 x.0 in
-        let here : written_cell (s x.0) (v x.0) variable (all_bits (s x.0)) (assigned_value s v (object_width (s x.0)) (term_tree x.1) / 2 ^ 0) ≡ v x.0 =
-            subst (λ c. cond c (written_cell (s x.0) (v x.0) variable (all_bits (s x.0)) (assigned_value s v (object_width (s x.0)) (term_tree x.1) / 2 ^ 0)) (v x.0) ≡ v x.0)
-            (same_name_refl x.0) own in
-        subst (λ m. written_cell (s m) (v m) variable (all_bits (s m)) (assigned_value s v (object_width (s m)) (term_tree e) / 2 ^ 0) ≡ v m) same
-        (subst (λ g. written_cell (s x.0) (v x.0) variable (all_bits (s x.0)) (assigned_value s v (object_width (s x.0)) (term_tree g) / 2 ^ 0) ≡ v x.0) same_term here)
+          let same_term : x.1 ≡ e = cc in
+          let same : x.0 ≡ n = same_name_true x.0 n t in
+          let own : cond (same_name x.0 x.0) (written_cell (s x.0) (v x.0) variable (all_bits (s x.0)) (assigned_value s v (object_width (s x.0)) (term_tree x.1) / 2 ^ 0)) (v x.0) ≡ v x.0 = h.0 x.0 in
+          let here : written_cell (s x.0) (v x.0) variable (all_bits (s x.0)) (assigned_value s v (object_width (s x.0)) (term_tree x.1) / 2 ^ 0) ≡ v x.0 =
+          subst (λ c. cond c (written_cell (s x.0) (v x.0) variable (all_bits (s x.0)) (assigned_value s v (object_width (s x.0)) (term_tree x.1) / 2 ^ 0)) (v x.0) ≡ v x.0)
+          (same_name_refl x.0) own in
+          subst (λ m. written_cell (s m) (v m) variable (all_bits (s m)) (assigned_value s v (object_width (s m)) (term_tree e) / 2 ^ 0) ≡ v m) same
+          (subst (λ g. written_cell (s x.0) (v x.0) variable (all_bits (s x.0)) (assigned_value s v (object_width (s x.0)) (term_tree g) / 2 ^ 0) ≡ v x.0) same_term here)
       | false ↦ λ t some rest. rest some
     ]) refl is_e (λ g. assigned_entry s v es h.1 n e g)
 
@@ -85,9 +85,9 @@ pub terms_entry : (p : Name → Bool) (es : Entries Term) → terms_read p es �
 terms_entry p [] h n e is_e = cc
 terms_entry p (x ∷ es) h n e is_e =
     (elim (same_name x.0 n) as
-      (λ t. cond t (Some x.1) (entry_of es n) ≡ Some e → all_names p (term_names e) ≡ true) [
+    (λ t. cond t (Some x.1) (entry_of es n) ≡ Some e → all_names p (term_names e) ≡ true) [
       | true ↦ λ some. let same : x.1 ≡ e = cc in
-        subst (λ g. all_names p (term_names g) ≡ true) same (and_left (all_names p (term_names x.1)) (terms_read p es) h)
+          subst (λ g. all_names p (term_names g) ≡ true) same (and_left (all_names p (term_names x.1)) (terms_read p es) h)
       | false ↦ λ some. terms_entry p es (and_right (all_names p (term_names x.1)) (terms_read p es) h) n e some
     ]) is_e
 
@@ -105,8 +105,8 @@ same_values : (m : FirstModule) (n : Name) (x y : Value) → IsNumberOf (scope_o
     → ((b : ℕ) → b < bits_of_name m n → value_bit x 0 b ≡ value_bit y 0 b) → x ≡ y
 same_values m n x y p q same =
     let bits : p.0 ≡ q.0 =
-        same_bits (bits_of_name m n) p.0 q.0 p.2 q.2
-        (λ b h. subst (λ z. is_set p.0 b ≡ value_bit z 0 b) q.1 (subst (λ z. value_bit z 0 b ≡ value_bit y 0 b) p.1 (same b h))) in
+    same_bits (bits_of_name m n) p.0 q.0 p.2 q.2
+    (λ b h. subst (λ z. is_set p.0 b ≡ value_bit z 0 b) q.1 (subst (λ z. value_bit z 0 b ≡ value_bit y 0 b) p.1 (same b h))) in
     p.1 ∙ (ap number bits ∙ sym q.1)
 
 zero_value : (m : FirstModule) (n : Name) (x : Value) → IsNumberOf (scope_of_first m) n x
@@ -172,12 +172,12 @@ module _ (f : First) (k : Keeps f) where
         let other : not (same_name n f.map.clock) ≡ true = and_right (is_declared f.design n) (not (same_name n f.map.clock)) own in
         let either : (is_input f.design n || is_register f.design n) ≡ true = and_right (is_data f n) (is_input f.design n || is_register f.design n) h in
         (elim (is_register f.design n) as
-          (λ t. is_register f.design n ≡ t → (is_input f.design n || t) ≡ true
-            → v n ≡ cond t (r n) (cond (is_input f.design n && not (same_name n f.map.clock)) (i n) (number 0))) [
+        (λ t. is_register f.design n ≡ t → (is_input f.design n || t) ≡ true
+        → v n ≡ cond t (r n) (cond (is_input f.design n && not (same_name n f.map.clock)) (i n) (number 0))) [
           | true ↦ λ g e. register_held n known g
           | false ↦ λ g e.
-            let is_in : is_input f.design n ≡ true = or_false (is_input f.design n) e in
-            rw (is_in, other) (input_held n is_in (not_true_is (same_name n f.map.clock) other))
+              let is_in : is_input f.design n ≡ true = or_false (is_input f.design n) e in
+              rw (is_in, other) (input_held n is_in (not_true_is (same_name n f.map.clock) other))
         ]) refl either
       where
         or_false : (t : Bool) → (t || false) ≡ true → t ≡ true
@@ -200,8 +200,8 @@ module _ (f : First) (k : Keeps f) where
         let old : IsNumberOf scope n (v n) = value_number n known in
         let small : x < 2 ^ w = mod-lt (value_of scope v (term_tree e) (max w (width_of scope (term_tree e))) (sign_of scope (term_tree e))) (pow_pos w) in
         let whole_number : with_bits_from w (as_number (v n)) 0 w (x / 2 ^ 0) ≡ x =
-            subst (λ y. with_bits_from w (as_number (v n)) 0 w y ≡ x) (sym (div-one x))
-            (subst (λ y. with_bits_from w (as_number y) 0 w x ≡ x) (sym old.1) (whole_written w old.0 x old.2 small)) in
+        subst (λ y. with_bits_from w (as_number (v n)) 0 w y ≡ x) (sym (div-one x))
+        (subst (λ y. with_bits_from w (as_number y) 0 w x ≡ x) (sym old.1) (whole_written w old.0 x old.2 small)) in
         let equation : number (with_bits_from w (as_number (v n)) 0 w (x / 2 ^ 0)) ≡ v n = assigned_entry scope v (assigned f.design) assignments_hold n e is_e in
         let sources : all_names (is_source f) (term_names e) ≡ true = terms_entry (is_source f) (assigned f.design) k.sources n e is_e in
         sym equation ∙ (ap number whole_number ∙ ap number (assigned_same scope (is_source f) v (held f r i) source_held e sources w))
@@ -218,7 +218,7 @@ module _ (f : First) (k : Keeps f) where
             let e' : false ≡ true = e in cc
         contradiction (IsDriven.by_assignment c) =
             let e : one_may_reach scope (assigned_trees (assigned f.design)) n 0 b ≡ true =
-                subst (λ xs. one_may_reach scope xs n 0 b ≡ true) (assignments_of f.design.parts) c in
+            subst (λ xs. one_may_reach scope xs n 0 b ≡ true) (assignments_of f.design.parts) c in
             let e' : true ≡ false = sym e ∙ (reach_is scope (assigned f.design) n 0 b ∙ ap is_some none) in cc
         contradiction (IsDriven.by_top_input p q c) =
             let e : true ≡ false = sym (port_input f.design n q) ∙ h in cc
@@ -240,7 +240,7 @@ module _ (f : First) (k : Keeps f) where
     pub forced : (n : Name) → is_declared f.design n ≡ true → v n ≡ settled f r i n
     forced n known =
         (elim (entry_of (assigned f.design) n) as
-          (λ o. entry_of (assigned f.design) n ≡ o → v n ≡ assigned_number f r i n o) [
+        (λ o. entry_of (assigned f.design) n ≡ o → v n ≡ assigned_number f r i n o) [
           | Some e ↦ λ is_e. assigned_held n e known is_e
           | None ↦ λ none. plain_held none
         ]) refl
@@ -291,10 +291,11 @@ module _ (f : First) (k : Keeps f) where
   blocks_pass : (v u : Valuation) (alike : (n : Name) → declared n ≡ true → v n ≡ u n) (bs : List (Name × Action)) → has_one_block f bs ≡ true
       → BlocksPass (scope_of_first f.design) declared declared v u alike (λ n h. h) bs
   blocks_pass v u alike [] h = absurd (let e : false ≡ true = h in cc)
-  blocks_pass v u alike (b ∷ []) h =
-      (all_weaker (is_read f) declared read_is_declared (read_names b.1) (and_right _ _ h),
-       all_weaker (is_target f) declared target_is_declared (set_names b.1) (and_right _ _ (and_left _ _ h)),
-       tt)
+  blocks_pass v u alike (b ∷ []) h = (
+    all_weaker (is_read f) declared read_is_declared (read_names b.1) (and_right _ _ h),
+    all_weaker (is_target f) declared target_is_declared (set_names b.1) (and_right _ _ (and_left _ _ h)),
+    tt,
+  )
   blocks_pass v u alike (b ∷ c ∷ bs) h = absurd (let e : false ≡ true = h in cc)
 
   abbrev scope_here : Scope
@@ -309,22 +310,22 @@ module _ (f : First) (k : Keeps f) where
   edge_same v u alike n h =
       subst (λ xs. after_edge scope_here xs v n ≡ after_edge scope_here xs u n) (sym (clocked_of f.design.parts))
       (edge_alike scope_here declared declared v u alike (λ m g. g) (blocks_among f.design.parts)
-       (blocks_pass v u alike (blocks_among f.design.parts) k.block) n h)
+      (blocks_pass v u alike (blocks_among f.design.parts) k.block) n h)
 
   pub edge_fits : (v : Valuation) → ((n : Name) → declared n ≡ true → IsNumberOf scope_here n (v n)) → (n : Name) → declared n ≡ true
       → IsNumberOf scope_here n (after_edge scope_here the_blocks v n)
   edge_fits v fits n h =
       subst (λ xs. IsNumberOf scope_here n (after_edge scope_here xs v n)) (sym (clocked_of f.design.parts))
       (edge_number scope_here declared declared v v (λ m g. refl) (λ m g. g) (blocks_among f.design.parts)
-       (blocks_pass v v (λ m g. refl) (blocks_among f.design.parts) k.block) fits n h)
+      (blocks_pass v v (λ m g. refl) (blocks_among f.design.parts) k.block) fits n h)
 
   -- The registers behind the edge are those of the profile's cycle.
   pub next_forced : (r i v next : Valuation) → AreRegisters (design_of_first f) r → IsSettled (design_of_first f) r i v
       → IsNext (design_of_first f) v next → (n : Name) → declared n ≡ true → next n ≡ next_registers f r i n
   next_forced r i v next registers is_settled is_next n known =
       (elim (is_register f.design n) as
-        (λ t. is_register f.design n ≡ t
-          → next n ≡ cond t (after_edge scope_here the_blocks (settled f r i) n) (number 0)) [
+      (λ t. is_register f.design n ≡ t
+      → next n ≡ cond t (after_edge scope_here the_blocks (settled f r i) n) (number 0)) [
         | true ↦ λ g. by_edge g
         | false ↦ λ g. not_register g
       ]) refl

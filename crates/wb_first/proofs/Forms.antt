@@ -68,7 +68,7 @@ all_later d rest (x ∷ ds) h = (found_later d rest x.state_name h.0, all_later 
 own_name_found : (d : StateDeclaration) (ds : List StateDeclaration) → IsTrue (is_some (state_named (d ∷ ds) d.state_name))
 own_name_found d ds =
     elim (same_name d.state_name d.state_name) as
-      (λ b. b ≡ true → IsTrue (is_some (cond b (Some d) (state_named ds d.state_name)))) [ true ↦ λ e. refl | false ↦ λ e. cc ]
+    (λ b. b ≡ true → IsTrue (is_some (cond b (Some d) (state_named ds d.state_name)))) [ true ↦ λ e. refl | false ↦ λ e. cc ]
     (same_name_refl d.state_name)
 
 each_found : (ds : List StateDeclaration) → Named (λ n. IsTrue (is_some (state_named ds n))) ds
@@ -80,7 +80,7 @@ pub entry_found : (es : List InstructionMap) (n : Name) → is_among (entry_name
 entry_found [] n h = absurd (let c : false ≡ true = h in cc)
 entry_found (x ∷ es) n h =
     (elim (same_name x.called n) as
-      (λ b. (b || is_among (entry_names es) n) ≡ true → (e : InstructionMap) × (cond b (Some x) (instruction_map es n) ≡ Some e)) [
+    (λ b. (b || is_among (entry_names es) n) ≡ true → (e : InstructionMap) × (cond b (Some x) (instruction_map es n) ≡ Some e)) [
       | true ↦ λ g. (x, refl)
       | false ↦ λ g. entry_found es n g
     ]) h
@@ -116,16 +116,16 @@ module _ (f : First) (k : Keeps f) where
   resets_first =
       rw no_invariants
       (states_first f (codes "reset.init.") f.map.reset_cycles (for_each (λ t. reset_active t ∷ []) 0 f.map.reset_cycles)
-       (λ n. initial n f.map.reset_cycles) (with_initial_values (states_of f.model.top)) one_cycle
-       (subst (λ c. AreHypotheses (for_each (λ t. reset_active t ∷ []) 0 c)) (sym one_cycle) (tt, tt))
-       (all_named (λ n. IsClaim f (initial n f.map.reset_cycles)) (λ n. subst (λ c. IsClaim f (initial n c)) (sym one_cycle) tt)
-        (with_initial_values (states_of f.model.top))))
+      (λ n. initial n f.map.reset_cycles) (with_initial_values (states_of f.model.top)) one_cycle
+      (subst (λ c. AreHypotheses (for_each (λ t. reset_active t ∷ []) 0 c)) (sym one_cycle) (tt, tt))
+      (all_named (λ n. IsClaim f (initial n f.map.reset_cycles)) (λ n. subst (λ c. IsClaim f (initial n c)) (sym one_cycle) tt)
+      (with_initial_values (states_of f.model.top))))
 
   idles_first : AllFirst f (idle_obligations f.model f.map)
   idles_first =
       rw (no_invariants, no_assumptions)
       (states_first f (codes "idle.state.") 1 (reset_inactive 0 ∷ no_start 0 ∷ []) same (states_of f.model.top) refl (tt, (tt, tt))
-       (all_named (λ n. IsClaim f (same n)) (λ n. tt) (states_of f.model.top)))
+      (all_named (λ n. IsClaim f (same n)) (λ n. tt) (states_of f.model.top)))
 
   decode_first : IsFirstObligation f (decode_obligation f.map)
   decode_first = record { one_cycle = refl; hypotheses = rw (no_invariants, no_assumptions) (tt, (tt, tt)); claim = tt }
@@ -135,13 +135,14 @@ module _ (f : First) (k : Keeps f) where
   instruction_first j i childless one there =
       first_append f (child_obligations f.map j (instruction_name i) (child_of i))
       (bound_obligation f.map j (instruction_name i) (bound_named f.map (instruction_name i))
-       ∷ for_each (commit_obligations f.model f.map j (instruction_name i)) 0 (bound_named f.map (instruction_name i)))
+      ∷ for_each (commit_obligations f.model f.map j (instruction_name i)) 0 (bound_named f.map (instruction_name i)))
       (no_child_lines (child_of i) childless)
       (subst
-       (λ b. AllFirst f (bound_obligation f.map j (instruction_name i) b ∷ for_each (commit_obligations f.model f.map j (instruction_name i)) 0 b))
-       (sym one)
-       (record { one_cycle = refl; hypotheses = bound_hypotheses; claim = tt },
-        first_append f (commit_obligations f.model f.map j (instruction_name i) 0) [] commits tt))
+      (λ b. AllFirst f (bound_obligation f.map j (instruction_name i) b ∷ for_each (commit_obligations f.model f.map j (instruction_name i)) 0 b))
+      (sym one) (
+        record { one_cycle = refl; hypotheses = bound_hypotheses; claim = tt },
+        first_append f (commit_obligations f.model f.map j (instruction_name i) 0) [] commits tt,
+      ))
     where
       no_child_lines : (c : Child) → has_no_child c ≡ true → AllFirst f (child_obligations f.map j (instruction_name i) c)
       no_child_lines no_child h = tt
@@ -166,11 +167,11 @@ module _ (f : First) (k : Keeps f) where
           first_append f
           (invariant_obligations f.map (codes "commit." ++ instruction_name i ++ codes "." ++ decimal 0 ++ codes ".inv.") 1 (ended_at f.map j 0) 1)
           (state_obligations (codes "commit." ++ instruction_name i ++ codes "." ++ decimal 0 ++ codes ".state.") 1 (ended_at f.map j 0)
-           (λ q. result_of j q 1) (states_of f.model.top))
+          (λ q. result_of j q 1) (states_of f.model.top))
           (no_invariant_lines (codes "commit." ++ instruction_name i ++ codes "." ++ decimal 0 ++ codes ".inv.") 1 (ended_at f.map j 0) 1)
           (states_first f (codes "commit." ++ instruction_name i ++ codes "." ++ decimal 0 ++ codes ".state.") 1 (ended_at f.map j 0)
-           (λ q. result_of j q 1) (states_of f.model.top) refl commit_hypotheses
-           (with_fact (states_of f.model.top) (each_found (states_of f.model.top))))
+          (λ q. result_of j q 1) (states_of f.model.top) refl commit_hypotheses
+          (with_fact (states_of f.model.top) (each_found (states_of f.model.top))))
 
   instructions_first : (j : ℕ) (is : List Instruction) → no_children is ≡ true
       → all_names (is_among (entry_names f.map.instructions)) (instruction_names is) ≡ true
@@ -181,16 +182,17 @@ module _ (f : First) (k : Keeps f) where
       first_append f (instruction_obligations f.model f.map j i) (all_instruction_obligations f.model f.map (suc j) is)
       (instruction_first j i (and_left _ _ c) (bound_one (instruction_name i) (and_left _ _ h)) (there zero i refl))
       (instructions_first (suc j) is (and_right _ _ c) (and_right _ _ h)
-       (λ m x e. subst (λ q. IsTrue (is_some (slice_get (instructions_in f.model.top) q))) (sym (plus_suc j m)) (there (suc m) x e)))
+      (λ m x e. subst (λ q. IsTrue (is_some (slice_get (instructions_in f.model.top) q))) (sym (plus_suc j m)) (there (suc m) x e)))
 
   pub all_first : AllFirst f (obligations f.model f.map)
   all_first =
       first_append f (reset_obligations f.model f.map ++ idle_obligations f.model f.map)
       (decode_obligation f.map ∷ all_instruction_obligations f.model f.map 0 (instructions_in f.model.top))
-      (first_append f (reset_obligations f.model f.map) (idle_obligations f.model f.map) resets_first idles_first)
-      (decode_first,
-       instructions_first 0 (instructions_in f.model.top) k.childless k.each_entry
-       (λ m i e. subst (λ q. IsTrue (is_some (slice_get (instructions_in f.model.top) q))) (sym (plus_zero m)) (ap is_some e)))
+      (first_append f (reset_obligations f.model f.map) (idle_obligations f.model f.map) resets_first idles_first) (
+        decode_first,
+        instructions_first 0 (instructions_in f.model.top) k.childless k.each_entry
+            (λ m i e. subst (λ q. IsTrue (is_some (slice_get (instructions_in f.model.top) q))) (sym (plus_zero m)) (ap is_some e)),
+      )
 
   pub command_hypotheses : (j : ℕ) → AreHypotheses (ended_at f.map j 0)
   command_hypotheses j = rw (no_invariants, no_assumptions) (tt, (tt, (tt, (tt, tt))))

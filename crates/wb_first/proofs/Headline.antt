@@ -1,15 +1,15 @@
 -- Where no values break any obligation, every run refines.
-use Rattle.std.proofs.Common.{◌≡◌, ℕ, zero, suc, ◌<◌, ◌≤◌, Bool, true, false, List, [], ◌∷◌, subst, sym, refl, ap, ◌∙◌, Option, Some, None, arith}
+use Rattle.std.proofs.Common.{◌≡◌, ℕ, zero, suc, ◌≤◌, true, List, [], ◌∷◌, refl, Some, arith}
 use Rattle.std.specs.Prelude.{slice_get, ◌==◌}
 use Rattle.std.proofs.lemmas.Bool.Decides.{nat_tests}
-use Rattle.wb_meaning.specs.Model.{Instruction, instruction_name, instructions_in}
-use Rattle.wb_meaning.specs.Map.{Setting, InstructionMap, instruction_map}
+use Rattle.wb_meaning.specs.Model.{instruction_name, instructions_in}
+use Rattle.wb_meaning.specs.Map.{Setting}
 use Rattle.wb_meaning.specs.Obligation.{Obligation, Holds, obligations}
-use Rattle.wb_meaning.specs.Soundness.{AllHold, IsComplete, EveryRunRefines}
+use Rattle.wb_meaning.specs.Soundness.{AllHold, IsComplete}
 use Rattle.wb_meaning.proofs.Refined.{refined}
 use Rattle.wb_first.specs.Names.{First, setting_of}
-use Rattle.wb_first.specs.Accepted.{is_accepted, is_among, entry_names}
-use Rattle.wb_first.specs.Claims.{UnbrokenRefines, IsObligation}
+use Rattle.wb_first.specs.Accepted.{is_among, entry_names}
+use Rattle.wb_first.specs.Claims.{UnbrokenRefines}
 use Rattle.wb_first.proofs.Rules.{Keeps, keeps}
 use Rattle.wb_first.proofs.Facts.{entry_accepted}
 use Rattle.wb_first.proofs.Forms.{entry_found, instruction_among}
@@ -22,7 +22,7 @@ each_holds s (o ∷ os) h = (h zero o refl, each_holds s os (λ k x e. h (suc k)
 complete : (f : First) → Keeps f → IsComplete (setting_of f)
 complete f k j i is_i =
     let found = entry_found f.map.instructions (instruction_name i)
-        (instruction_among (is_among (entry_names f.map.instructions)) (instructions_in f.model.top) k.each_entry j i is_i) in
+    (instruction_among (is_among (entry_names f.map.instructions)) (instructions_in f.model.top) k.each_entry j i is_i) in
     let bound : (found.0.bound == 1) ≡ true = (entry_accepted f f.map.instructions k.entries (instruction_name i) found.0 found.1).1 in
     (found.0, found.1, at_least found.0.bound bound)
   where

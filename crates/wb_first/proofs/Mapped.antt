@@ -24,7 +24,7 @@ module _ (f : First) (v u : Valuation) where
       → self_value (map_scope (setting_of f)) v e ≡ self_value (map_scope (setting_of f)) u e
   self_alike (name n whole) h alike =
       ap (λ y. widened (sign_of (map_scope (setting_of f)) (name n whole)) (selects_width (map_scope (setting_of f)) (map_scope (setting_of f) n) whole)
-        (width_of (map_scope (setting_of f)) (name n whole)) (whole_value (map_scope (setting_of f) n) y))
+      (width_of (map_scope (setting_of f)) (name n whole)) (whole_value (map_scope (setting_of f) n) y))
       (alike n whole refl)
   self_alike (verilog.number k) h alike = refl
   self_alike (name n (one x)) h alike = absurd (let e : false ≡ true = h in cc)
@@ -82,10 +82,10 @@ state_entry : (f : First) (es : Entries Expression) → states_are_mapped f es �
 state_entry f [] h n e is_e = cc
 state_entry f (x ∷ es) h n e is_e =
     (elim (same_name x.0 n) as
-      (λ t. cond t (Some x.1) (entry_of es n) ≡ Some e → (is_map_expression f e ≡ true) × (is_input_free f e ≡ true)) [
+    (λ t. cond t (Some x.1) (entry_of es n) ≡ Some e → (is_map_expression f e ≡ true) × (is_input_free f e ≡ true)) [
       | true ↦ λ some. let same : x.1 ≡ e = cc in
-        subst (λ g. (is_map_expression f g ≡ true) × (is_input_free f g ≡ true)) same
-        (and_left _ _ (and_left _ _ (and_left _ _ h)), and_right _ _ (and_left _ _ h))
+          subst (λ g. (is_map_expression f g ≡ true) × (is_input_free f g ≡ true)) same
+          (and_left _ _ (and_left _ _ (and_left _ _ h)), and_right _ _ (and_left _ _ h))
       | false ↦ λ some. state_entry f es (and_right _ _ h) n e some
     ]) is_e
 
@@ -94,9 +94,9 @@ input_entry : (f : First) (es : Entries Expression) → inputs_are_mapped f es �
 input_entry f [] h n e is_e = cc
 input_entry f (x ∷ es) h n e is_e =
     (elim (same_name x.0 n) as
-      (λ t. cond t (Some x.1) (entry_of es n) ≡ Some e → is_map_expression f e ≡ true) [
+    (λ t. cond t (Some x.1) (entry_of es n) ≡ Some e → is_map_expression f e ≡ true) [
       | true ↦ λ some. let same : x.1 ≡ e = cc in
-        subst (λ g. is_map_expression f g ≡ true) same (and_left _ _ (and_left _ _ h))
+          subst (λ g. is_map_expression f g ≡ true) same (and_left _ _ (and_left _ _ h))
       | false ↦ λ some. input_entry f es (and_right _ _ h) n e some
     ]) is_e
 
@@ -118,13 +118,13 @@ module _ (f : First) (k : Keeps f) (v u : Valuation) (alike : (n : Name) → is_
 
   pub states_same_on : mapped_state (setting_of f) v ≡ mapped_state (setting_of f) u
   states_same_on = fun_ext (λ n. or_zero_alike f v u (sort_of_state (state_named (states_of f.model.top) n)) (entry_of f.map.states n)
-    (λ e is_e. (state_entry f f.map.states k.states n e is_e).0)
-    (λ e is_e. alike_at e (state_entry f f.map.states k.states n e is_e).0))
+      (λ e is_e. (state_entry f f.map.states k.states n e is_e).0)
+      (λ e is_e. alike_at e (state_entry f f.map.states k.states n e is_e).0))
 
   pub inputs_same_on : mapped_inputs (setting_of f) v ≡ mapped_inputs (setting_of f) u
   inputs_same_on = fun_ext (λ n. or_zero_alike f v u (sort_of_input f.model.inputs n) (entry_of f.map.inputs n)
-    (λ e is_e. input_entry f f.map.inputs k.inputs n e is_e)
-    (λ e is_e. alike_at e (input_entry f f.map.inputs k.inputs n e is_e)))
+      (λ e is_e. input_entry f f.map.inputs k.inputs n e is_e)
+      (λ e is_e. alike_at e (input_entry f f.map.inputs k.inputs n e is_e)))
 
 -- Where registers agree, an expression that reads no input is the same under any inputs.
 module _ (f : First) (k : Keeps f) (r q i j : Valuation) (alike : (n : Name) → is_declared f.design n ≡ true → r n ≡ q n) where
@@ -136,7 +136,7 @@ module _ (f : First) (k : Keeps f) (r q i j : Valuation) (alike : (n : Name) →
     where
       by_input : (a b : Bool) → not a ≡ true → (a || b) ≡ true → is_declared f.design n ≡ true
           → cond b (r n) (cond (a && not (same_name n f.map.clock)) (i n) (number 0))
-            ≡ cond b (q n) (cond (a && not (same_name n f.map.clock)) (j n) (number 0))
+          ≡ cond b (q n) (cond (a && not (same_name n f.map.clock)) (j n) (number 0))
       by_input true b o e known = absurd (let c : false ≡ true = o in cc)
       by_input false true o e known = alike n known
       by_input false false o e known = absurd (let c : false ≡ true = e in cc)
@@ -154,15 +154,15 @@ module _ (f : First) (k : Keeps f) (r q i j : Valuation) (alike : (n : Name) →
   free_of_term n (Some e) is_e free known out =
       ap number
       (assigned_same (scope_of_first f.design) (λ m. is_source f m && not (is_input f.design m)) (held f r i) (held f q j)
-       (λ m h. source_of_register m (and_left _ _ h) (and_right _ _ h)) e
-       (both_pass (is_source f) (λ m. not (is_input f.design m)) (term_names e)
-        (terms_entry (is_source f) (assigned f.design) k.sources n e is_e) free)
-       (bits_of_name f.design n))
+      (λ m h. source_of_register m (and_left _ _ h) (and_right _ _ h)) e
+      (both_pass (is_source f) (λ m. not (is_input f.design m)) (term_names e)
+      (terms_entry (is_source f) (assigned f.design) k.sources n e is_e) free)
+      (bits_of_name f.design n))
   free_of_term n None is_e free known out = by_input (is_input f.design n) (is_register f.design n) out
     where
       by_input : (a b : Bool) → not a ≡ true
           → cond b (r n) (cond (a && not (same_name n f.map.clock)) (i n) (number 0))
-            ≡ cond b (q n) (cond (a && not (same_name n f.map.clock)) (j n) (number 0))
+          ≡ cond b (q n) (cond (a && not (same_name n f.map.clock)) (j n) (number 0))
       by_input true b o = absurd (let c : false ≡ true = o in cc)
       by_input false true o = alike n known
       by_input false false o = refl
@@ -170,10 +170,10 @@ module _ (f : First) (k : Keeps f) (r q i j : Valuation) (alike : (n : Name) →
   free_alike : (e : Expression) → is_map_expression f e ≡ true → is_input_free f e ≡ true → AlikeAt f (settled f r i) (settled f q j) e
   free_alike e h free n x is_e =
       let free' : (not (is_input f.design n) && term_reads_no_input f (entry_of (assigned f.design) n)) ≡ true =
-          subst (λ g. is_input_free f g ≡ true) is_e free in
+      subst (λ g. is_input_free f g ≡ true) is_e free in
       free_of_term n (entry_of (assigned f.design) n) refl (and_right _ _ free') (expression_declared f e n x h is_e) (and_left _ _ free')
 
   pub states_free : mapped_state (setting_of f) (settled f r i) ≡ mapped_state (setting_of f) (settled f q j)
   states_free = fun_ext (λ n. or_zero_alike f (settled f r i) (settled f q j) (sort_of_state (state_named (states_of f.model.top) n)) (entry_of f.map.states n)
-    (λ e is_e. (state_entry f f.map.states k.states n e is_e).0)
-    (λ e is_e. free_alike e (state_entry f f.map.states k.states n e is_e).0 (state_entry f f.map.states k.states n e is_e).1))
+      (λ e is_e. (state_entry f f.map.states k.states n e is_e).0)
+      (λ e is_e. free_alike e (state_entry f f.map.states k.states n e is_e).0 (state_entry f f.map.states k.states n e is_e).1))

@@ -84,5 +84,5 @@ keeps f h =
       each_entry = and_right _ _ p13;
       no_assumptions = and_right _ _ p14;
       no_invariants = and_right _ _ p;
-      childless = and_right _ _ h
+      childless = and_right _ _ h;
     }

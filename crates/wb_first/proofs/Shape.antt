@@ -146,8 +146,8 @@ declared_port : (ps : List Port) (rest : List Declaration) (n : Name)
 declared_port [] rest n = refl
 declared_port (p ∷ ps) rest n =
     elim (same_name p.own_name n) as
-      (λ b. (b || is_declared_among (port_declarations (port_trees ps) ++ rest) n)
-        ≡ (is_some (cond b (Some p) (port_named ps n)) || is_declared_among rest n)) [
+    (λ b. (b || is_declared_among (port_declarations (port_trees ps) ++ rest) n)
+    ≡ (is_some (cond b (Some p) (port_named ps n)) || is_declared_among rest n)) [
       | true ↦ refl
       | false ↦ declared_port ps rest n
     ]
@@ -167,8 +167,8 @@ directions_of : (ps : List Port) (n : Name) → entry_of (declared_ports (port_t
 directions_of [] n = refl
 directions_of (p ∷ ps) n =
     elim (same_name p.own_name n) as
-      (λ b. cond b (Some p.direction) (entry_of (declared_ports (port_trees ps)) n)
-        ≡ option_map (λ q. q.direction) (cond b (Some p) (port_named ps n))) [
+    (λ b. cond b (Some p.direction) (entry_of (declared_ports (port_trees ps)) n)
+    ≡ option_map (λ q. q.direction) (cond b (Some p) (port_named ps n))) [
       | true ↦ refl
       | false ↦ directions_of ps n
     ]

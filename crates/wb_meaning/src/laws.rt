@@ -37,7 +37,7 @@ pub fn operands_are_widened()
     ensures wide_high { given 9 128 0 0 half_sum ≡ 64 }
     ensures signed_all { given 9 255 0 0 half_signed ≡ 511 }
     ensures signed_high { given 9 128 0 0 half_signed ≡ 448 }
-    ensures mixed { given 9 128 0 0 mixed_sum ≡ 256 }
+    ensures mixed { given 10 128 0 0 mixed_sum ≡ 256 }
     ensures joined_all { given 8 255 0 0 half_joined ≡ 127 }
     ensures joined_high { given 8 128 0 0 half_joined ≡ 64 }
 {
