@@ -1,0 +1,54 @@
+-- Lemmas on the values with which states begin.
+use Rattle.std.proofs.Common.{◌≡◌, ℕ, zero, suc, ◌^◌, true, List, [], ◌∷◌, length, get_or, replicate, slice_get, option_map, Option, Some, None, refl, ap, ◌∙◌}
+use Rattle.std.proofs.lemmas.Bool.{and_from, and_parts, eq-eqb, lt-ltb, false≢true}
+use Rattle.std.proofs.lemmas.List.{length-replicate}
+use Rattle.std.proofs.lemmas.Nat.{pow_pos}
+use Rattle.wb_meaning.specs.Value as meaning
+use Rattle.wb_meaning.specs.Value.{Sort, truth, word, memory, Entries, all_below, is_of_sort}
+use Rattle.wb_meaning.specs.Model.{StateDeclaration, value_or}
+use Rattle.wb_terms.specs.declared.values.Value.{Value}
+use Rattle.wb_terms.specs.Environment.{as_value, AreOfSorts}
+use Rattle.ila_model.specs.Sorted.{are_declarations, is_initial}
+use Rattle.ila_model.specs.Meaning.{declared_states}
+use Rattle.ila_child.specs.Values.{zero_of}
+use Rattle.ila_child.specs.State.{sorts_of_states, initial_values}
+
+-- the value with which a state begins that states one
+pub initial-stated : (ss : List StateDeclaration) (k : ℕ) (x d : meaning.Value) → option_map (λ (s : StateDeclaration). s.init) (slice_get ss k) ≡ Some (Some x) → get_or (initial_values ss) k d ≡ x
+initial-stated [] k x d e = absurd (cc)
+initial-stated (s ∷ ss) zero x d e =
+    let stated : s.init ≡ Some x = cc in
+    ap (λ o. value_or o (zero_of s.sort)) stated
+initial-stated (s ∷ ss) (suc k) x d e = initial-stated ss k x d e
+
+pub initial-zero : (ss : List StateDeclaration) (k : ℕ) (sort : Sort) (d : meaning.Value) → option_map (λ (s : StateDeclaration). s.init) (slice_get ss k) ≡ Some None → option_map (λ (s : StateDeclaration). s.sort) (slice_get ss k) ≡ Some sort → get_or (initial_values ss) k d ≡ zero_of sort
+initial-zero [] k sort d e f = absurd (cc)
+initial-zero (s ∷ ss) zero sort d e f =
+    let none : s.init ≡ None = cc in
+    let same : s.sort ≡ sort = cc in
+    ap (λ o. value_or o (zero_of s.sort)) none ∙ ap zero_of same
+initial-zero (s ∷ ss) (suc k) sort d e f = initial-zero ss k sort d e f
+
+zeros_below : (d n : ℕ) → all_below d (replicate n 0) ≡ true
+zeros_below d zero = refl
+zeros_below d (suc n) = and_from _ _ (lt-ltb 0 (2 ^ d) (pow_pos d)) (zeros_below d n)
+
+zero_has_sort : (s : Sort) → is_of_sort s (zero_of s) ≡ true
+zero_has_sort truth = refl
+zero_has_sort (word w) = lt-ltb 0 (2 ^ w) (pow_pos w)
+zero_has_sort (memory a d) =
+    and_from _ _ (eq-eqb (length (replicate (2 ^ a) 0)) (2 ^ a) (length-replicate (2 ^ a) 0)) (zeros_below d (2 ^ a))
+
+initial_has_sort : (s : Sort) (i : Option Value) → is_initial s i ≡ true → is_of_sort s (value_or (option_map as_value i) (zero_of s)) ≡ true
+initial_has_sort s None h = zero_has_sort s
+initial_has_sort truth (Some x) h = h
+initial_has_sort (word w) (Some x) h = h
+initial_has_sort (memory a d) (Some x) h = absurd (false≢true h)
+
+-- the values with which states begin are of their sorts
+pub initial_sorts : (ns : Entries Sort) (is : List (Option Value)) → are_declarations ns is ≡ true → AreOfSorts (sorts_of_states (declared_states ns is)) (initial_values (declared_states ns is))
+initial_sorts [] is h = tt
+initial_sorts (n ∷ ns) [] h = tt
+initial_sorts (n ∷ ns) (i ∷ is) h =
+    let p = and_parts (is_initial n.1 i) (are_declarations ns is) h in
+    (initial_has_sort n.1 i p.0, initial_sorts ns is p.1)

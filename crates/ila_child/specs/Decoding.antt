@@ -1,0 +1,25 @@
+-- Which instructions of a list decode at a point, by their places.
+use Rattle.std.specs.Prelude.{ℕ, zero, suc, ◌<◌, ◌≡◌, ◌≢◌, Bool, true, false, List, [], ◌∷◌, Option, Some, None}
+use Rattle.wb_meaning.specs.Value.{Valuation}
+use Rattle.wb_meaning.specs.Model.{holds}
+use Rattle.wb_terms.specs.Graph.{Graph, tree}
+use Rattle.ila_model.specs.declared.instructions.Instruction.{Instruction}
+use Rattle.ila_child.specs.declared.decoding.Decoded.{Decoded}
+use Rattle.ila_child.specs.declared.decoding.Decoded.TheVariants.{Nothing, One, Several}
+
+-- the instruction at a place decodes
+abbrev pub decodes : Graph → Valuation → List Instruction → ℕ → Bool
+decodes g p [] k = false
+decodes g p (i ∷ is) zero = holds (tree g i.decode.0) p
+decodes g p (i ∷ is) (suc k) = decodes g p is k
+
+-- Of the first n tests none holds, or this one alone.
+abbrev pub IsFound : (ℕ → Bool) → ℕ → Option ℕ → Type 0
+IsFound t n None = (k : ℕ) → k < n → t k ≡ false
+IsFound t n (Some j) = (j < n) × (t j ≡ true) × ((k : ℕ) → k < n → k ≢ j → t k ≡ false)
+
+-- Of n tests none holds, or one alone, or these are the first two that do.
+abbrev pub AreDecoded : (ℕ → Bool) → ℕ → Decoded → Type 0
+AreDecoded t n Nothing = IsFound t n None
+AreDecoded t n (One j) = IsFound t n (Some j)
+AreDecoded t n (Several j k) = IsFound t k (Some j) × (k < n) × (t k ≡ true)

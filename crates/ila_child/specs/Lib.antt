@@ -1,0 +1,5 @@
+pub mod Values
+pub mod State
+pub mod Step
+pub mod Decoding
+pub mod Updating

@@ -1,0 +1,14 @@
+//! One step of an instruction-level model: its states and inputs as values, and what the model does at them.
+#![tactic(auto)]
+
+mod decoding;
+mod evaluation;
+mod states;
+mod stepping;
+#[cfg(test)]
+mod tests;
+mod updating;
+mod values;
+
+pub use states::{Inputs, State, initial_state};
+pub use stepping::{Stepped, step};

@@ -1,0 +1,8 @@
+-- The model that the code's record of its parts stands for.
+use Rattle.std.specs.String.{string_bytes}
+use Rattle.wb_meaning.specs.Model.{Model}
+use Rattle.ila_model.specs.declared.model.IlaModel.{IlaModel}
+use Rattle.ila_model.specs.Meaning.{model_from}
+
+abbrev pub model_of : IlaModel → Model
+model_of m = model_from (string_bytes m.name) m.terms m.initial_values.items m.valid.0 m.instructions.items
