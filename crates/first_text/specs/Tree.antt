@@ -1,7 +1,7 @@
 -- Modules of the first profile, and the syntax trees that they stand for.
-use Rattle.std.specs.Prelude.{ℕ, ◌^◌, Bool, true, false, List, [], ◌∷◌, map, Option, Some, None, option_map}
+use Rattle.std.specs.Prelude.{ℕ, true, false, List, [], ◌∷◌, Option, None, option_map}
 use Rattle.wb_meaning.specs.Value.{Name}
-use Rattle.wb_meaning.specs.Verilog.Syntax.{Number, Expression, number, name, binary, comparison, add, equal, Selects, whole, Target, place, Statement, nonblocking, if_then, if_else, block, Statements, no_statements, statement, Event, posedge, Events, on_events, Range, Direction, PortDeclaration, Item, variables, assign, always, Ports, declared, Module}
+use Rattle.wb_meaning.specs.Verilog.Syntax.{Expression, number, name, binary, comparison, add, equal, whole, place, Statement, nonblocking, if_then, if_else, block, Statements, no_statements, statement, posedge, on_events, Range, Direction, PortDeclaration, Item, variables, assign, always, declared, Module}
 
 -- a name, or a plain decimal by its value, which is below 2^32
 pub data Primary : Type 0 where
