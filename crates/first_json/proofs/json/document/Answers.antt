@@ -1,0 +1,16 @@
+use Rattle.std.proofs.Common.{◌≡◌, List, ℕ, Bool, true, false, cond, None, refl, sym, ◌∙◌, true≢false, IsUtf8}
+use Rattle.std.specs.Str.{is_utf8}
+use Rattle.std.proofs.lemmas.Str.{is_utf8-from_IsUtf8, IsUtf8-from_is_utf8}
+use Rattle.serde_json.specs.Read.{read}
+use Rattle.first_json.proofs.json.document.Goals as goal
+
+refused : (bytes : List ℕ) (u : Bool) → is_utf8 bytes ≡ u → (IsUtf8 bytes → read bytes ≡ None) → cond u (read bytes) None ≡ None
+refused bytes true e h = h (IsUtf8-from_is_utf8 bytes e)
+refused bytes false e h = refl
+
+pub returns-in-Ok : goal.returns-in-Ok
+returns-in-Ok c = rw (is_utf8-from_IsUtf8 c.args.bytes.now c.in-Ok.ensures.ok.0) c.in-Ok.ensures.ok.1
+
+pub returns-in-Err-2 : goal.returns-in-Err-2
+returns-in-Err-2 c =
+    refused c.args.bytes.now _ refl (c.in-Err.ensures.err (λ m. true≢false (sym (c.is_memory.ensures.1 m) ∙ c.if-is_memory.false)))

@@ -1,0 +1,8 @@
+pub mod Words
+pub mod Names
+pub mod Json
+pub mod MapFile
+pub mod Reading
+pub mod View
+pub mod ModelFile
+pub mod ModelView

@@ -1,0 +1,21 @@
+//! Model files and map files of the first profile, read exactly.
+#![tactic(auto)]
+
+mod json;
+mod map;
+mod map_file;
+mod model;
+mod names;
+mod stop;
+mod words;
+
+pub use map::{FirstExpression, FirstMap, Mapped, MappedInstruction};
+pub use map_file::read_map;
+pub use model::{
+    FirstInput, FirstInstruction, FirstModel, FirstSort, FirstState, FirstTerm, FirstUpdate,
+    FirstValue,
+};
+pub use stop::NoMemory;
+
+#[cfg(test)]
+mod tests;
