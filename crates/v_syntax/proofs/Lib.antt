@@ -1,0 +1,17 @@
+pub mod Trees
+pub mod Signs
+pub mod Numbers
+pub mod Widths
+pub mod Narrows
+pub mod Values
+pub mod Arms
+pub mod Steps
+pub mod Bits
+pub mod Selected
+pub mod Cut
+pub mod Writing
+pub mod Written
+pub mod Targets
+pub mod Choices
+pub mod Runs
+pub mod Edges

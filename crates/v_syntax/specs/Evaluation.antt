@@ -1,0 +1,151 @@
+-- Values of chains, over the lists of their links.
+use Rattle.std.specs.Prelude.{◌≡◌, ℕ, ◌+◌, ◌*◌, ◌^◌, ◌≤◌, max, cond, Bool, true, false, ◌&&◌, List, [], ◌∷◌, Option, Some, None, ℤ}
+use Rattle.wb_meaning.specs.Value.{Name, Valuation}
+use Rattle.wb_meaning.specs.Verilog.Syntax as pure
+use Rattle.wb_meaning.specs.Verilog.Syntax.{number}
+use Rattle.wb_meaning.specs.Verilog.Expression as meaning
+use Rattle.wb_meaning.specs.Verilog.Expression.{Scope, bit, is_nonzero, integer_from}
+use Rattle.v_syntax.specs.declared.tree.PrefixOperator.{PrefixOperator}
+use Rattle.v_syntax.specs.declared.tree.BinaryOperator.{BinaryOperator}
+use Rattle.v_syntax.specs.declared.tree.BinaryOperator.TheVariants.{ShiftLeft, ShiftRight, ArithmeticShiftRight}
+use Rattle.v_syntax.specs.declared.tree.TestOperator.{TestOperator}
+use Rattle.v_syntax.specs.declared.tree.TestOperator.TheVariants.{Both, Either}
+use Rattle.v_syntax.specs.declared.tree.Expression.{Expression}
+use Rattle.v_syntax.specs.declared.tree.BinaryLink.{BinaryLink}
+use Rattle.v_syntax.specs.declared.tree.TestLink.{TestLink}
+use Rattle.v_syntax.specs.declared.tree.Choice.{Choice}
+use Rattle.v_syntax.specs.Tree.{tree_of}
+use Rattle.v_syntax.specs.Chain.{is_reduction}
+use Rattle.v_syntax.specs.Operators.{unary_prefix_value, reduction_prefix_value, shifted_value, plain_value, compared_value, joined_truth}
+
+-- The meaning's functions under names that do not unfold by themselves.
+unfoldable pub width_at : Scope → pure.Expression → ℕ
+width_at s e = meaning.width_of s e
+
+unfoldable pub sign_at : Scope → pure.Expression → Bool
+sign_at s e = meaning.sign_of s e
+
+unfoldable pub value_at : Scope → Valuation → pure.Expression → ℕ → Bool → ℕ
+value_at s v e w signed = meaning.value_of s v e w signed
+
+unfoldable pub self_at : Scope → Valuation → pure.Expression → ℕ
+self_at s v e = meaning.self_value s v e
+
+-- a name that stands whole
+abbrev pub named_width : Scope → Name → ℕ
+named_width s n = meaning.object_width (s n)
+
+abbrev pub named_value : Scope → Valuation → Name → ℕ
+named_value s v n = meaning.whole_value (s n) (v n)
+
+-- a name with selects
+unfoldable pub selects_width_at : Scope → Name → pure.Selects → ℕ
+selects_width_at s n x = meaning.selects_width s (s n) x
+
+unfoldable pub selects_at : Scope → Valuation → Name → pure.Selects → ℕ
+selects_at s v n x = meaning.selected s v (s n) (v n) x
+
+unfoldable pub index_at : Scope → Valuation → pure.Select → ℤ
+index_at s v x = meaning.select_index s v x
+
+-- a name with one index: a word of a memory, or a bit
+abbrev pub one_width : Scope → Name → ℕ
+one_width s n = cond (meaning.is_memory (s n)) (meaning.object_width (s n)) 1
+
+abbrev pub one_value : Scope → Valuation → Name → ℤ → ℕ
+one_value s v n i =
+    cond (meaning.is_memory (s n)) (meaning.word_of (s n) i (v n)) (meaning.bits_of (meaning.whole_value (s n) (v n)) (record { low = meaning.place_of_bit (s n) i; count = 1 }))
+
+-- a bit of a word of a memory
+abbrev pub two_value : Scope → Valuation → Name → ℤ → ℤ → ℕ
+two_value s v n a i = meaning.bits_of (meaning.word_of (s n) a (v n)) (record { low = meaning.place_of_bit (s n) i; count = 1 })
+
+-- Operators before an operand that has the width w and the value x by itself: the width and value of the whole by itself.
+abbrev pub run_width : List PrefixOperator → ℕ → ℕ
+run_width [] w = w
+run_width (o ∷ os) w = cond (is_reduction o) 1 (run_width os w)
+
+abbrev pub step_value : PrefixOperator → ℕ → ℕ → ℕ
+step_value o w x = cond (is_reduction o) (bit (reduction_prefix_value o w x)) (unary_prefix_value o w x)
+
+abbrev pub run_value : List PrefixOperator → ℕ → ℕ → ℕ
+run_value [] w x = x
+run_value (o ∷ os) w x = step_value o (run_width os w) (run_value os w x)
+
+-- The same in a context of width w, where the operand's value in that context is y, and its own width and value are u and x.
+abbrev pub prefixes_value : List PrefixOperator → ℕ → ℕ → ℕ → ℕ → ℕ
+prefixes_value [] w y u x = y
+prefixes_value (o ∷ os) w y u x =
+    cond (is_reduction o) (bit (reduction_prefix_value o (run_width os u) (run_value os u x))) (unary_prefix_value o w (prefixes_value os w y u x))
+
+abbrev pub is_shift : BinaryOperator → Bool
+is_shift ShiftLeft = true
+is_shift ShiftRight = true
+is_shift ArithmeticShiftRight = true
+is_shift _ = false
+
+-- an operator on a left operand of value a and a right operand
+abbrev pub applied : Scope → Valuation → BinaryOperator → ℕ → Bool → ℕ → pure.Expression → ℕ
+applied s v o w signed a y =
+    cond (is_shift o) (shifted_value o w signed a (self_at s v y)) (plain_value o w a (value_at s v y w signed))
+
+abbrev pub links_value : Scope → Valuation → ℕ → Bool → ℕ → List BinaryLink → ℕ
+links_value s v w signed a [] = a
+links_value s v w signed a (l ∷ ls) = links_value s v w signed (applied s v l.operator w signed a (tree_of l.operand)) ls
+
+-- The operands that are widened with the whole are no wider than w.
+abbrev pub IsLinkWithin : Scope → ℕ → BinaryLink → Type 0
+IsLinkWithin s w l = is_shift l.operator ≡ false → width_at s (tree_of l.operand) ≤ w
+
+abbrev pub AreLinksWithin : Scope → ℕ → List BinaryLink → Type 0
+AreLinksWithin s w [] = Unit {0}
+AreLinksWithin s w (l ∷ ls) = IsLinkWithin s w l × AreLinksWithin s w ls
+
+abbrev pub is_logical : TestOperator → Bool
+is_logical Both = true
+is_logical Either = true
+is_logical _ = false
+
+-- What a comparison says of a left operand of width w and sign t, whose value in the context of both is x, and a right operand.
+abbrev pub compared_said : Scope → Valuation → TestOperator → ℕ → Bool → ℕ → pure.Expression → Bool
+compared_said s v o w t x y =
+    let m : ℕ = max w (width_at s y) in
+    let u : Bool = t && sign_at s y in
+    compared_value o (integer_from u m x) (integer_from u m (value_at s v y m u))
+
+-- what a test says
+abbrev pub said : Scope → Valuation → TestOperator → ℕ → Bool → ℕ → pure.Expression → Bool
+said s v o w t x y = cond (is_logical o) (joined_truth o (is_nonzero x) (is_nonzero (self_at s v y))) (compared_said s v o w t x y)
+
+-- The value of a chain of tests: each further one has the bit that the last said on its left.
+abbrev pub tests_value : Scope → Valuation → ℕ → Bool → ℕ → List TestLink → ℕ
+tests_value s v w t x [] = x
+tests_value s v w t x (l ∷ ls) = tests_value s v 1 false (bit (said s v l.operator w t x (tree_of l.operand))) ls
+
+-- The context of the first operand, of width own, before tests: the whole's where no test follows.
+abbrev pub context_width : Scope → ℕ → List TestLink → ℕ → ℕ
+context_width s own [] w = w
+context_width s own (l ∷ ls) w = cond (is_logical l.operator) own (max own (width_at s (tree_of l.operand)))
+
+abbrev pub context_sign : Scope → Bool → List TestLink → Bool → Bool
+context_sign s own [] t = t
+context_sign s own (l ∷ ls) t = cond (is_logical l.operator) own (own && sign_at s (tree_of l.operand))
+
+-- the value behind the first true condition
+abbrev pub choices_value : Scope → Valuation → List Choice → ℕ → Bool → Option ℕ
+choices_value s v [] w signed = None
+choices_value s v (c ∷ cs) w signed =
+    cond (is_nonzero (self_at s v (tree_of c.condition))) (Some (value_at s v (tree_of c.value) w signed)) (choices_value s v cs w signed)
+
+abbrev pub AreChoicesWithin : Scope → ℕ → List Choice → Type 0
+AreChoicesWithin s w [] = Unit {0}
+AreChoicesWithin s w (c ∷ cs) = (width_at s (tree_of c.value) ≤ w) × AreChoicesWithin s w cs
+
+-- parts side by side
+abbrev pub parts_width : Scope → List Expression → ℕ
+parts_width s [] = 0
+parts_width s (e ∷ es) = width_at s (tree_of e) + parts_width s es
+
+abbrev pub parts_value : Scope → Valuation → List Expression → ℕ
+parts_value s v [] = 0
+parts_value s v (e ∷ es) = self_at s v (tree_of e) * 2 ^ parts_width s es + parts_value s v es

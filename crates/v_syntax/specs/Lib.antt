@@ -1,0 +1,14 @@
+pub mod Tree
+pub mod Source
+pub mod Scope
+pub mod Chain
+pub mod Operators
+pub mod Narrow
+pub mod Evaluation
+pub mod Worked
+pub mod Index
+pub mod Places
+pub mod Statements
+pub mod Effects
+pub mod Registers
+pub mod WorkedStatements
