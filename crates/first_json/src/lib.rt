@@ -1,12 +1,16 @@
 //! Model files and map files of the first profile, read exactly.
 #![tactic(auto)]
 
+mod declarations;
 mod json;
 mod map;
 mod map_file;
 mod model;
+mod model_file;
 mod names;
+mod scalars;
 mod stop;
+mod term_file;
 mod words;
 
 pub use map::{FirstExpression, FirstMap, Mapped, MappedInstruction};
@@ -15,6 +19,7 @@ pub use model::{
     FirstInput, FirstInstruction, FirstModel, FirstSort, FirstState, FirstTerm, FirstUpdate,
     FirstValue,
 };
+pub use model_file::read_model;
 pub use stop::NoMemory;
 
 #[cfg(test)]

@@ -2,7 +2,7 @@
 
 ghost use Rattle.std.specs.Prelude.{◌≡◌, ◌<◌, ◌^◌, ◌*◌, ◌%◌, ◌∷◌, [], length, IsTrue};
 ghost use Rattle.std.specs.List.{list_all};
-ghost use Rattle.first_json.specs.Names.{is_letter, is_digit, is_name_byte, is_identifier_byte, is_decimal_byte, begins_with, is_identifier, is_decimal, decimal_value, with_digits, begins_with_wb, is_model_name};
+ghost use Rattle.first_json.specs.Names.{is_letter, is_digit, is_name_byte, is_identifier_byte, is_decimal_byte, begins_with, is_identifier, is_decimal, decimal_value, with_digits, begins_with_wb, is_kept_word, is_model_name};
 
 use crate::words::is_reserved_word;
 
@@ -102,4 +102,33 @@ fn with_digit(value: u32, byte: u8) -> u32
             .wrapping_mul(10)
             .wrapping_add(u32::from(byte.saturating_sub(48)))
     }
+}
+
+fn begins_with_wb(text: &[u8]) -> bool
+    ensures { result ≡ begins_with_wb text.now }
+{
+    match text {
+        [first, second, third, ..] => *first == 119 && *second == 98 && *third == 95,
+        _ => false,
+    }
+}
+
+fn are_name_bytes(text: &[u8]) -> bool
+    ensures { result ≡ list_all is_name_byte text.now }
+{
+    text.iter().all(|byte| is_name_byte(*byte))
+}
+
+/// Whether the word is reserved, `fetch`, or begins with `wb_`.
+fn is_kept_word(text: &[u8]) -> bool
+    ensures { result ≡ is_kept_word text.now }
+{
+    is_reserved_word(text) || text == b"fetch".as_slice() || begins_with_wb(text)
+}
+
+/// Whether the text is a name of a model.
+pub(crate) fn is_model_name(text: &[u8]) -> bool
+    ensures { result ≡ is_model_name text.now }
+{
+    begins_with_letter(text) && are_name_bytes(text) && text.len() <= 64 && !is_kept_word(text)
 }
