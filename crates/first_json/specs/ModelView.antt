@@ -1,5 +1,5 @@
 -- The pure model that the code's stands for.
-use Rattle.std.specs.Prelude.{ℕ, List, [], ◌∷◌, map, Option, option_map, Vec}
+use Rattle.std.specs.Prelude.{List, map, Option, option_map, Vec}
 use Rattle.std.specs.Global.{Global}
 use Rattle.std.specs.String.{string_bytes}
 use Rattle.wb_meaning.specs.Value.{Name, Sort, truth, word, Value, truth_value, number, Entries}

@@ -92,7 +92,11 @@ const MODEL_ROWS: [(&str, &str, bool); 24] = [
     ("[\"add\",\"cnt\"", "[\"add\",\"op\"", false),
     ("[\"add\",\"cnt\"", "[\"add\",\"cnu\"", false),
     ("{\"cnt\":[\"const\",8,0]}", "{}", true),
-    ("{\"cnt\":[\"const\",8,0]}", "{\"op\":[\"const\",1,0]}", false),
+    (
+        "{\"cnt\":[\"const\",8,0]}",
+        "{\"op\":[\"const\",1,0]}",
+        false,
+    ),
 ];
 
 fn changed(alloc: Global, text: &str, old: &str, new: &str) -> Result<String, Fail> {

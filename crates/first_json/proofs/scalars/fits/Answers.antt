@@ -1,4 +1,4 @@
-use Rattle.std.proofs.Common.{◌<◌, ◌^◌, arith, sym, eq-eqb}
+use Rattle.std.proofs.Common.{◌<◌, ◌^◌, arith, sym}
 use Rattle.std.proofs.lemmas.Bool.Decides.{Decides-ltb}
 use Rattle.first_json.proofs.Bits.{shifted_out, wide_enough}
 use Rattle.first_json.proofs.scalars.fits.Goals as goal

@@ -1,7 +1,6 @@
-use Rattle.std.proofs.Common.{◌≡◌, ◌<◌, List, Option, None, option_map, length, get_or, sym, ap, ◌∙◌, arith, rules}
+use Rattle.std.proofs.Common.{◌<◌, List, Option, None, option_map, length, get_or, sym, ap, ◌∙◌, rules}
 use Rattle.std.proofs.Math.ListN.{get_or-map}
 use Rattle.std.proofs.lemmas.List.Edits.{get_or-remove_below}
-use Rattle.wb_meaning.specs.Term.{Term}
 use Rattle.first_json.specs.declared.model.FirstTerm.{FirstTerm}
 use Rattle.first_json.specs.ModelView.{operands_view, term_view}
 use Rattle.first_json.proofs.term_file.operand.Goals as goal
