@@ -21,8 +21,8 @@ pub invariants_given : (s : Setting) (text : Name) (cycles : ℕ) (hypotheses : 
     → (run : Run) → IsRun s run cycles → MeansAll s run hypotheses → (k : ℕ) → HoldsOf s run s.map.invariants k t
 invariants_given s text cycles hypotheses t all run r h k e is_k =
     (AllHold-for_each s
-     (λ i. record { called = numbered text i; cycles = cycles; hypotheses = hypotheses; claim = invariant i t } ∷ [])
-     0 (length s.map.invariants) all k (omega arith) (omega (arith, some_at s.map.invariants k e is_k))).0 run r h e is_k
+    (λ i. record { called = numbered text i; cycles = cycles; hypotheses = hypotheses; claim = invariant i t } ∷ [])
+    0 (length s.map.invariants) all k (omega arith) (omega (arith, some_at s.map.invariants k e is_k))).0 run r h e is_k
 
 same_name_true : (m n : Name) → same_name m n ≡ true → m ≡ n
 same_name_true m n h = (bytes_eq-Decides m n).0 h
@@ -35,8 +35,8 @@ pub states_given : (s : Setting) (text : Name) (cycles : ℕ) (hypotheses : List
 states_given s text cycles hypotheses claim [] all run r h n is_state = cc
 states_given s text cycles hypotheses claim (d ∷ ds) all run r h n is_state =
     (elim (same_name d.state_name n) as
-      (λ b. same_name d.state_name n ≡ b → IsTrue (is_some (cond b (Some d) (state_named ds n)))
-        → ((m : Name) → IsTrue (is_some (state_named ds m)) → Means s run (claim m)) → Means s run (claim n)) [
+    (λ b. same_name d.state_name n ≡ b → IsTrue (is_some (cond b (Some d) (state_named ds n)))
+    → ((m : Name) → IsTrue (is_some (state_named ds m)) → Means s run (claim m)) → Means s run (claim n)) [
       | true ↦ λ e some rest. subst (λ m. Means s run (claim m)) (same_name_true d.state_name n e) (all.0 run r h)
       | false ↦ λ e some rest. rest n some
     ]) refl is_state (states_given s text cycles hypotheses claim ds all.1 run r h)
@@ -46,19 +46,19 @@ named_among_initial : (ds : List StateDeclaration) (n : Name) (d : StateDeclarat
 named_among_initial [] n d x is_d is_x = cc
 named_among_initial (f ∷ ds) n d x is_d is_x =
     (elim (same_name f.state_name n) as
-      (λ b. same_name f.state_name n ≡ b → cond b (Some f) (state_named ds n) ≡ Some d
-        → (state_named ds n ≡ Some d → IsTrue (is_some (state_named (with_initial_values ds) n)))
-        → IsTrue (is_some (state_named (cond (is_some f.init) (f ∷ with_initial_values ds) (with_initial_values ds)) n))) [
+    (λ b. same_name f.state_name n ≡ b → cond b (Some f) (state_named ds n) ≡ Some d
+    → (state_named ds n ≡ Some d → IsTrue (is_some (state_named (with_initial_values ds) n)))
+    → IsTrue (is_some (state_named (cond (is_some f.init) (f ∷ with_initial_values ds) (with_initial_values ds)) n))) [
       | true ↦ λ e is_f rest.
-        let same : f ≡ d = cc in
-        let has : f.init ≡ Some x = ap (λ g. g.init) same ∙ is_x in
-        rw (has, e) refl
+          let same : f ≡ d = cc in
+          let has : f.init ≡ Some x = ap (λ g. g.init) same ∙ is_x in
+          rw (has, e) refl
       | false ↦ λ e is_f rest.
-        (elim (is_some f.init) as
+          (elim (is_some f.init) as
           (λ c. IsTrue (is_some (state_named (cond c (f ∷ with_initial_values ds) (with_initial_values ds)) n))) [
-          | true ↦ rw e (rest is_f)
-          | false ↦ rest is_f
-        ])
+            | true ↦ rw e (rest is_f)
+            | false ↦ rest is_f
+          ])
     ]) refl is_d (λ g. named_among_initial ds n d x g is_x)
 
 -- where the hypotheses hold, so does the claim for each state with a stated initial value
@@ -77,12 +77,12 @@ instructions_from s (x ∷ is) j all zero i e =
     let index : j ≡ j + 0 = omega arith in
     subst (λ y. AllHold s (instruction_obligations s.model s.map (j + 0) y)) same
     (subst (λ m. AllHold s (instruction_obligations s.model s.map m x)) index
-     (AllHold-left s (instruction_obligations s.model s.map j x) (all_instruction_obligations s.model s.map (suc j) is) all))
+    (AllHold-left s (instruction_obligations s.model s.map j x) (all_instruction_obligations s.model s.map (suc j) is) all))
 instructions_from s (x ∷ is) j all (suc k) i e =
     let index : suc j + k ≡ j + suc k = omega arith in
     subst (λ m. AllHold s (instruction_obligations s.model s.map m i)) index
     (instructions_from s is (suc j)
-     (AllHold-right s (instruction_obligations s.model s.map j x) (all_instruction_obligations s.model s.map (suc j) is) all) k i e)
+    (AllHold-right s (instruction_obligations s.model s.map j x) (all_instruction_obligations s.model s.map (suc j) is) all) k i e)
 
 -- the obligations of instruction number j
 pub instruction_given : (s : Setting) (is : List Instruction) → AllHold s (all_instruction_obligations s.model s.map 0 is)

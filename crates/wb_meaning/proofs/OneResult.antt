@@ -36,7 +36,7 @@ mutual
   same_child no_child p q r a b = a ∙ sym b
   same_child (child steps program) p q r a b =
       let last : a.2 ≡ b.2 =
-          same_end program (λ x y z. same_step program x y z) a.0 b.0 (entered (states_of program) p) a.2 b.2 a.3 a.4 b.3 b.4 in
+      same_end program (λ x y z. same_step program x y z) a.0 b.0 (entered (states_of program) p) a.2 b.2 a.3 a.4 b.3 b.4 in
       a.5 ∙ (ap (left_behind (states_of program) p) last ∙ sym b.5)
 
   pub same_step : (m : Machine) (p q r : Valuation) → DoesStep m p q → DoesStep m p r → q ≡ r

@@ -20,7 +20,7 @@ abbrev pub shifted : ℕ → Run → Run
 shifted a run = record {
   registers = λ t. run.registers (later a t);
   inputs = λ t. run.inputs (later a t);
-  valuations = λ t. run.valuations (later a t)
+  valuations = λ t. run.valuations (later a t);
 }
 
 registers_at : (s : Setting) (run : Run) (n : ℕ) → IsRun s run n → (a : ℕ) → a ≤ n → AreRegisters (design_of s) (run.registers a)
@@ -32,7 +32,7 @@ IsRun-shifted s run n r a c h = record {
   first = registers_at s run n r a (omega arith);
   inputs = λ t u. r.inputs (later a t) (omega (arith, later_sum a t));
   settled = λ t u. r.settled (later a t) (omega (arith, later_sum a t));
-  next = λ t u. r.next (later a t) (omega (arith, later_sum a t))
+  next = λ t u. r.next (later a t) (omega (arith, later_sum a t));
 }
 
 pub IsRun-shorter : (s : Setting) (run : Run) (n : ℕ) → IsRun s run n → (c : ℕ) → c ≤ n → IsRun s run c
@@ -40,5 +40,5 @@ IsRun-shorter s run n r c h = record {
   first = r.first;
   inputs = λ t u. r.inputs t (omega arith);
   settled = λ t u. r.settled t (omega arith);
-  next = λ t u. r.next t (omega arith)
+  next = λ t u. r.next t (omega arith);
 }

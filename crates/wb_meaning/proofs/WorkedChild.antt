@@ -36,31 +36,56 @@ abbrev after : Valuation
 after = left_behind (states_of (private_states always 4)) (begun always 4) (at_step always 4 4)
 
 pub product_of_three_and_five : (r : Valuation) × Steps (multiplier always 4) (product 0) (factors 3 5) r × (r (codes "p") ≡ number 15)
-product_of_three_and_five =
-    (state_in (multiplier always 4) after,
-     (after,
-      (refl,
-       inl (refl, tt,
-         (4, lit≤ tt, at_step always 4 4,
-          (at_step always 4 1, (refl, inl (refl, tt, refl)),
-           (at_step always 4 2, (refl, inl (refl, tt, refl)),
-            (at_step always 4 3, (refl, inl (refl, tt, refl)), (at_step always 4 4, (refl, inl (refl, tt, refl)), refl)))),
+product_of_three_and_five = (
+  state_in (multiplier always 4) after,
+  (
+    after,
+    (
+      refl,
+      inl (
+        refl,
+        tt,
+        (
+          4,
+          lit≤ tt,
+          at_step always 4 4,
+          (
+            at_step always 4 1,
+            (refl, inl (refl, tt, refl)),
+            (
+              at_step always 4 2,
+              (refl, inl (refl, tt, refl)),
+              (at_step always 4 3, (refl, inl (refl, tt, refl)), (at_step always 4 4, (refl, inl (refl, tt, refl)), refl)),
+            ),
+          ),
           refl,
-          refl))),
-      refl),
-     refl)
+          refl,
+        ),
+      ),
+    ),
+    refl,
+  ),
+  refl,
+)
 
 pub still_valid : HasTrouble (multiplier always 3) (multiply always 3) (product 0) (factors 3 5) (too_long 1)
-still_valid =
-    (3, at_step always 3 3,
-     (at_step always 3 1, (refl, inl (refl, tt, refl)),
-      (at_step always 3 2, (refl, inl (refl, tt, refl)), (at_step always 3 3, (refl, inl (refl, tt, refl)), refl))),
-     refl,
-     inl (refl, refl))
+still_valid = (
+  3,
+  at_step always 3 3,
+  (
+    at_step always 3 1,
+    (refl, inl (refl, tt, refl)),
+    (at_step always 3 2, (refl, inl (refl, tt, refl)), (at_step always 3 3, (refl, inl (refl, tt, refl)), refl)),
+  ),
+  refl,
+  inl (refl, refl),
+)
 
 pub stuck_at_third : HasTrouble (multiplier low 4) (multiply low 4) (product 0) (factors 3 5) (stuck 1 2)
-stuck_at_third =
-    (2, at_step low 4 2,
-     (at_step low 4 1, (refl, inl (refl, tt, refl)), (at_step low 4 2, (refl, inl (refl, tt, refl)), refl)),
-     refl,
-     inr (lit< tt, inr (inr (refl, refl))))
+stuck_at_third = (
+  2,
+  at_step low 4 2,
+  (at_step low 4 1, (refl, inl (refl, tt, refl)), (at_step low 4 2, (refl, inl (refl, tt, refl)), refl)),
+  refl,
+  inr (lit< tt, inr (inr (refl, refl))),
+)

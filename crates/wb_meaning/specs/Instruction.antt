@@ -125,7 +125,7 @@ abbrev mutual
   OneTrouble (and_then i is) p depth step t =
       (IsTrue (holds (decode_of i) p) × NoneDecodes is p × InstructionTrouble i p (suc depth) t)
       ⊎ ((IsTrue (holds (decode_of i) p) × SomeDecodes is p × (t ≡ stuck depth step))
-         ⊎ (IsFalse (holds (decode_of i) p) × OneTrouble is p depth step t))
+      ⊎ (IsFalse (holds (decode_of i) p) × OneTrouble is p depth step t))
 
 -- The child of instruction i, started at q under w, has this trouble.
 abbrev pub HasTrouble : Model → Instruction → (q w : Valuation) → Trouble → Type 0

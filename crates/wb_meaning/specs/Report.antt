@@ -66,9 +66,9 @@ abbrev pub trace_text : Trace → List ℕ
 trace_text t =
     in_braces
     (member_text (codes "inputs") (in_brackets (object_texts t.inputs))
-     ∷ member_text (codes "obligation") (quoted t.obligation)
-     ∷ member_text (codes "registers") (object_text t.registers)
-     ∷ [])
+    ∷ member_text (codes "obligation") (quoted t.obligation)
+    ∷ member_text (codes "registers") (object_text t.registers)
+    ∷ [])
 
 -- The name stands before the other in the order of bytes.
 abbrev pub is_before : Name → Name → Bool

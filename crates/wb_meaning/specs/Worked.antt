@@ -28,7 +28,7 @@ counter = record {
   model_name = codes "counter";
   inputs = record { input_name = codes "op"; sort = word 1 } ∷ [];
   top = machine (record { state_name = codes "cnt"; sort = word 8; init = Some (number 0) } ∷ []) (term.constant_truth true)
-    (and_then increment (and_then clear no_instructions))
+      (and_then increment (and_then clear no_instructions));
 }
 
 -- the whole of a name
@@ -56,7 +56,7 @@ counter_map = record {
   start = reading (codes "go");
   states = (codes "cnt", reading (codes "cnt")) ∷ [];
   inputs = (codes "op", reading (codes "op")) ∷ [];
-  instructions = instruction_entry (codes "INC") (plain_number 1) 1 ∷ instruction_entry (codes "CLR") (plain_number 1) 1 ∷ []
+  instructions = instruction_entry (codes "INC") (plain_number 1) 1 ∷ instruction_entry (codes "CLR") (plain_number 1) 1 ∷ [];
 }
 
 abbrev pub names : List Obligation → List Name
@@ -85,12 +85,14 @@ factor n = term.name n (word 4)
 abbrev pub step_instruction : Term → Instruction
 step_instruction decode =
     instruction (codes "STEP") decode
-    ((codes "p",
+    ((
+      codes "p",
       term.ite (term.eq (term.extract 0 0 (term.lshr (factor (codes "y")) (term.zext 4 counter_i))) (term.const 1 1))
-      (term.add state_p (term.shl (term.zext 8 (factor (codes "x"))) (term.zext 8 counter_i)))
-      state_p)
-     ∷ (codes "i", term.add counter_i (term.const 3 1))
-     ∷ [])
+          (term.add state_p (term.shl (term.zext 8 (factor (codes "x"))) (term.zext 8 counter_i)))
+          state_p,
+    )
+    ∷ (codes "i", term.add counter_i (term.const 3 1))
+    ∷ [])
     no_child
 
 -- what a step does where the next decodes, with so many steps at most
@@ -98,15 +100,15 @@ abbrev pub multiply : Term → ℕ → Instruction
 multiply decode steps =
     instruction (codes "MUL") (term.constant_truth true) ((codes "p", term.const 8 0) ∷ [])
     (child steps
-     (machine (record { state_name = codes "i"; sort = word 3; init = Some (number 0) } ∷ []) (term.ult counter_i (term.const 3 4))
-      (and_then (step_instruction decode) no_instructions)))
+    (machine (record { state_name = codes "i"; sort = word 3; init = Some (number 0) } ∷ []) (term.ult counter_i (term.const 3 4))
+    (and_then (step_instruction decode) no_instructions)))
 
 abbrev pub multiplier : Term → ℕ → Model
 multiplier decode steps = record {
   model_name = codes "mul";
   inputs = record { input_name = codes "x"; sort = word 4 } ∷ record { input_name = codes "y"; sort = word 4 } ∷ [];
   top = machine (record { state_name = codes "p"; sort = word 8; init = Some (number 0) } ∷ []) (term.constant_truth true)
-    (and_then (multiply decode steps) no_instructions)
+      (and_then (multiply decode steps) no_instructions);
 }
 
 abbrev pub multiplier_map : ℕ → Map
@@ -121,7 +123,7 @@ multiplier_map bound = record {
   start = reading (codes "begin");
   states = (codes "p", reading (codes "acc")) ∷ [];
   inputs = (codes "x", reading (codes "x")) ∷ (codes "y", reading (codes "y")) ∷ [];
-  instructions = instruction_entry (codes "MUL") (reading (codes "done")) bound ∷ []
+  instructions = instruction_entry (codes "MUL") (reading (codes "done")) bound ∷ [];
 }
 
 -- the condition i < 2 of a step that decodes twice alone
@@ -146,16 +148,16 @@ abbrev pub small_scope : Scope
 small_scope =
     scope_of
     ((codes "a", bits_of_width false 7) ∷ (codes "b", bits_of_width false 7) ∷ (codes "sa", bits_of_width true 7)
-     ∷ (codes "q", bits_of_width false 1) ∷ (codes "i", bits_of_width false 2)
-     ∷ (codes "m", record (bits_of_width false 7) { addresses = Some (0, 4) })
-     ∷ (codes "up", record undeclared { left = 0; right = 7 })
-     ∷ [])
+    ∷ (codes "q", bits_of_width false 1) ∷ (codes "i", bits_of_width false 2)
+    ∷ (codes "m", record (bits_of_width false 7) { addresses = Some (0, 4) })
+    ∷ (codes "up", record undeclared { left = 0; right = 7 })
+    ∷ [])
 
 abbrev pub small_values : ℕ → ℕ → ℕ → Valuation
 small_values a b i =
     valuation_of
     ((codes "a", number a) ∷ (codes "b", number b) ∷ (codes "sa", number a) ∷ (codes "q", number 0) ∷ (codes "i", number i)
-     ∷ (codes "m", words (10 ∷ 11 ∷ 12 ∷ 13 ∷ 14 ∷ 0 ∷ 0 ∷ 0 ∷ [])) ∷ (codes "up", number 1) ∷ [])
+    ∷ (codes "m", words (10 ∷ 11 ∷ 12 ∷ 13 ∷ 14 ∷ 0 ∷ 0 ∷ 0 ∷ [])) ∷ (codes "up", number 1) ∷ [])
 
 -- the value that an expression gives a target of w bits
 abbrev pub given : ℕ → ℕ → ℕ → ℕ → Expression → ℕ

@@ -30,7 +30,7 @@ overridden_object s signed None given = record given { signed = signed || given.
 overridden_object s signed (Some r) given =
     let o : Object = ranged_object s signed (Some r) in
     record o {
-      constant = Some (widened given.signed (object_width given) (max (object_width given) (object_width o)) (unwrap_or given.constant 0) % 2 ^ object_width o)
+      constant = Some (widened given.signed (object_width given) (max (object_width given) (object_width o)) (unwrap_or given.constant 0) % 2 ^ object_width o);
     }
 
 -- the overriding values by the parameters' names

@@ -27,4 +27,4 @@ pub record IsNext (d : Design) (v next : Valuation) : Type 0 where
   pub assigned : (path : List Name) (p : Placed) (n : Name) (k b : ℕ) → at_path d path ≡ Some p → IsDeclared p n
       → IsTrue (is_counted p n k b)
       → value_bit (inside next path n) k b
-        ≡ value_bit (after_edge (placed_scope p) (clocked_blocks p.of_module.items) (inside v path) n) k b
+      ≡ value_bit (after_edge (placed_scope p) (clocked_blocks p.of_module.items) (inside v path) n) k b

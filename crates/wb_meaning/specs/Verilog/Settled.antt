@@ -144,11 +144,11 @@ reading_of n = name n whole
 pub record HasConnections (v : Valuation) (around : List Name) (u : Name) (p : Placed) (i : Instance) (below : Placed) : Type 0 where
   pub inputs : (n : Name) (e : Expression) → IsPort below.of_module n input → connected_to i below n ≡ Some e
       → Has (placed_scope below) (inside v (u ∷ around)) (whole_of n)
-        (assigned_value (placed_scope p) (inside v around) (object_width (placed_scope below n)) e)
+      (assigned_value (placed_scope p) (inside v around) (object_width (placed_scope below n)) e)
   pub outputs : (n : Name) (e : Expression) (t : Target) → IsPort below.of_module n output → connected_to i below n ≡ Some e
       → as_target e ≡ Some t
       → Has (placed_scope p) (inside v around) t
-        (assigned_value (placed_scope below) (inside v (u ∷ around)) (target_width (placed_scope p) t) (reading_of n))
+      (assigned_value (placed_scope below) (inside v (u ∷ around)) (target_width (placed_scope p) t) (reading_of n))
 
 -- A bit counts as a register's.
 abbrev pub is_counted : Placed → Name → ℕ → ℕ → Bool
