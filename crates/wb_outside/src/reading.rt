@@ -1,5 +1,5 @@
 //! What a shelf is: files that are read by name, and what each read tells of them.
-ghost use Rattle.std.specs.Prelude.{◌≡◌, ◌≤◌, ℕ, List, [], ◌∷◌, map, IfOk, OnOk, OnErr, IsErrOf, string_bytes};
+ghost use Rattle.std.specs.Prelude.{◌≡◌, ◌≤◌, ℕ, List, [], ◌∷◌, map, length, IfOk, OnOk, OnErr, IsErrOf, string_bytes};
 ghost use Rattle.std.specs.declared.option.Option.{Option};
 ghost use Rattle.wb_outside.specs.Outside.{Rose, last_count, with_appended, GrewByPrefix, IsStartOf, AreStartsOf};
 
@@ -87,6 +87,7 @@ pub fn read_all<S: Shelf>(
     ensures keeps { S.holds shelf.new ≡ S.holds shelf.old }
     ensures first_bytes { IfOk result (λ contents. AreStartsOf (S.holds shelf.old)
         (map string_bytes names.now) limit (map (λ bytes. bytes.items) contents.items)) }
+    ensures count { IfOk result (λ contents. length contents.items ≡ length names.now) }
     ensures ok_asked { OnOk result
         (S.asked shelf.new ≡ with_appended (S.asked shelf.old) (map string_bytes names.now)) }
     ensures err_asked { OnErr result

@@ -32,6 +32,7 @@ loop-name-preserved g c =
     record {
       keeps = c.in_ok-bytes.ensures.keeps ∙ c.loop-name.invariant.keeps;
       asked = appended_more _ _ _ _ _ _ c.loop-name.invariant.asked next c.in_ok-bytes.ensures.ok_asked;
+      counted = grind (arith, common_steps);
       never_falls = omega arith;
       starts = starts_more _ _ _ _ _ _ _ _ _ c.loop-name.invariant.keeps next pushed c.loop-name.invariant.starts
           c.in_ok-bytes.ensures.first_bytes;

@@ -1,0 +1,4 @@
+mod Actions
+mod Widths
+pub mod Rules
+pub mod Tests

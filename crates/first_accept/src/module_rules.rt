@@ -1,0 +1,298 @@
+//! The rules of a module.
+
+ghost use Rattle.std.specs.Prelude.{◌≡◌, ◌&&◌, map, nat_le, None, Some, IfOk};
+ghost use Rattle.wb_meaning.specs.Value.{same_name};
+ghost use Rattle.wb_first.specs.Names.{assigned_among, blocks_among, port_named};
+ghost use Rattle.wb_first.specs.Accepted.{is_narrow, is_net, is_target, is_read, is_kept, is_source, all_names, sum_of_bits, terms_read, has_small_bounds, ports_are_small, variables_are_small, same_bounds, port_agrees, variables_agree, declared_names, port_names, is_among};
+ghost use Rattle.first_text.specs.View.{port_of, part_of, bounds_of, action_of};
+ghost use Rattle.first_accept.specs.Known.{texts, only_behind};
+ghost use Rattle.first_accept.specs.Groups.{has_clock, declares_once, has_ranges, has_assignments, has_few_bits, has_block, is_narrow_everywhere, module_groups};
+ghost use Rattle.first_accept.specs.View.{first_in};
+
+use crate::blocks::{add_read_names, add_set_names};
+use crate::candidate::Candidate;
+use crate::lookups::{bits, is_input, port_named};
+use crate::names::{are_distinct, assigned_names, is_same, port_names, variable_names};
+use crate::signals::{
+    counted_bits, is_kept, is_narrow, is_net, is_read, is_target, term_reads_sources,
+};
+use first_text::{Action, Bounds, Part, Port};
+use std::alloc::{AllocError, Global};
+
+fn has_small_bounds(bounds: Option<Bounds>) -> bool
+    ensures { result ≡ has_small_bounds (bounds_of bounds) }
+{
+    match bounds {
+        Some(range) => range.left <= 65_535 && range.right <= 65_535,
+        None => true,
+    }
+}
+
+fn ports_are_small(ports: &[Port]) -> bool
+    ensures { result ≡ ports_are_small (map port_of ports.now) }
+{
+    for port in ports {
+        if !has_small_bounds(port.bounds) {
+            return false;
+        }
+    }
+    true
+}
+
+fn variables_are_small(parts: &[Part]) -> bool
+    ensures { result ≡ variables_are_small (map part_of parts.now) }
+{
+    for part in parts {
+        if let Part::Register(bounds, _) = part {
+            if !has_small_bounds(*bounds) {
+                return false;
+            }
+        }
+    }
+    true
+}
+
+fn same_bounds(bounds: Option<Bounds>, other: Option<Bounds>) -> bool
+    ensures { result ≡ same_bounds (bounds_of bounds) (bounds_of other) }
+{
+    match (bounds, other) {
+        (Some(range), Some(second)) => range.left == second.left && range.right == second.right,
+        _ => true,
+    }
+}
+
+/// Whether a declaration `reg` agrees with the port of its name.
+fn port_agrees(case: &Candidate, bounds: Option<Bounds>, name: &[u8]) -> bool
+    ensures { result ≡ port_agrees (bounds_of bounds) (port_named (first_in case.now).design.ports name.now) }
+{
+    match port_named(case, name) {
+        Some(port) => same_bounds(port.bounds, bounds),
+        None => true,
+    }
+}
+
+fn variables_agree(case: &Candidate) -> bool
+    ensures { result ≡ variables_agree (first_in case.now).design (first_in case.now).design.parts }
+{
+    for part in &case.design.parts {
+        if let Part::Register(bounds, name) = part {
+            if is_input(case, name) || !port_agrees(case, *bounds, name) {
+                return false;
+            }
+        }
+    }
+    true
+}
+
+fn all_narrow(case: &Candidate, names: &[&[u8]]) -> bool
+    ensures { result ≡ all_names (is_narrow (first_in case.now).design) (texts names.now) }
+{
+    for name in names {
+        if !is_narrow(case, *name) {
+            return false;
+        }
+    }
+    true
+}
+
+fn all_nets(case: &Candidate, names: &[&[u8]]) -> bool
+    ensures { result ≡ all_names (is_net (first_in case.now)) (texts names.now) }
+{
+    for name in names {
+        if !is_net(case, *name) {
+            return false;
+        }
+    }
+    true
+}
+
+fn all_targets(case: &Candidate, names: &[&[u8]]) -> bool
+    ensures { result ≡ all_names (is_target (first_in case.now)) (texts names.now) }
+{
+    for name in names {
+        if !is_target(case, *name) {
+            return false;
+        }
+    }
+    true
+}
+
+fn all_read(case: &Candidate, names: &[&[u8]]) -> bool
+    ensures { result ≡ all_names (is_read (first_in case.now)) (texts names.now) }
+{
+    for name in names {
+        if !is_read(case, *name) {
+            return false;
+        }
+    }
+    true
+}
+
+fn all_kept(case: &Candidate, ports: &[Port]) -> bool
+    ensures { result ≡ all_names (is_kept (first_in case.now).design) (port_names (map port_of ports.now)) }
+{
+    for port in ports {
+        if !is_kept(case, &port.name) {
+            return false;
+        }
+    }
+    true
+}
+
+/// Whether the registers and the inputs but the clock have at most 16 bits together.
+fn has_16_bits(case: &Candidate, names: &[&[u8]]) -> bool
+    ensures { result ≡ nat_le (sum_of_bits (first_in case.now) (texts names.now)) 16 }
+{
+    let mut sum = 0u64;
+    for name in names {
+        sum += counted_bits(case, *name);
+        if sum > 16 {
+            return false;
+        }
+    }
+    true
+}
+
+fn terms_read_sources(case: &Candidate, parts: &[Part]) -> bool
+    ensures { result ≡ terms_read (is_source (first_in case.now)) (assigned_among (map part_of parts.now)) }
+{
+    for part in parts {
+        if let Part::Assignment(_, term) = part {
+            if !term_reads_sources(case, term) {
+                return false;
+            }
+        }
+    }
+    true
+}
+
+/// Whether the name is that of a port.
+#[tactic(auto, using(crate::proofs::Tests::is_among_ports))]
+fn is_port(case: &Candidate, name: &[u8]) -> bool
+    ensures { result ≡ is_among (port_names (first_in case.now).design.ports) name.now }
+{
+    port_named(case, name).is_some()
+}
+
+/// Every declared name once.
+fn declared_names<'a>(
+    alloc: Global,
+    case: &Candidate<'a>,
+) -> Result<Vec<&'a [u8]>, AllocError>
+    ensures { IfOk result (λ v. texts v.items ≡ declared_names (first_in case.now).design) }
+{
+    let mut names = port_names(alloc, &case.design.ports)?;
+    for part in &case.design.parts {
+        if let Part::Register(_, name) = part {
+            if !is_port(case, name) {
+                names.push(name.as_slice())?;
+            }
+        }
+    }
+    Ok(names)
+}
+
+#[tactic(auto, unfolding(crate::specs::Groups::has_clock))]
+pub(crate) fn has_clock(case: &Candidate) -> bool
+    ensures { result ≡ has_clock (first_in case.now) }
+{
+    is_same(&case.design.name, case.map.top.as_bytes())
+        && is_input(case, case.map.clock.as_bytes())
+        && bits(case, case.map.clock.as_bytes()) == 1
+}
+
+#[tactic(auto, unfolding(crate::specs::Groups::declares_once))]
+pub(crate) fn declares_once(alloc: Global, case: &Candidate) -> Result<bool, AllocError>
+    ensures { IfOk result (λ b. b ≡ declares_once (first_in case.now)) }
+{
+    let ports = port_names(alloc, &case.design.ports)?;
+    let variables = variable_names(alloc, &case.design.parts)?;
+    Ok(are_distinct(&ports) && are_distinct(&variables))
+}
+
+#[tactic(auto, unfolding(crate::specs::Groups::has_ranges))]
+pub(crate) fn has_ranges(case: &Candidate) -> bool
+    ensures { result ≡ has_ranges (first_in case.now) }
+{
+    ports_are_small(&case.design.ports)
+        && variables_are_small(&case.design.parts)
+        && variables_agree(case)
+}
+
+#[tactic(auto, unfolding(crate::specs::Groups::has_assignments))]
+pub(crate) fn has_assignments(alloc: Global, case: &Candidate) -> Result<bool, AllocError>
+    ensures { IfOk result (λ b. b ≡ has_assignments (first_in case.now)) }
+{
+    let names = assigned_names(alloc, &case.design.parts)?;
+    Ok(all_nets(case, &names)
+        && are_distinct(&names)
+        && terms_read_sources(case, &case.design.parts))
+}
+
+#[tactic(auto, unfolding(crate::specs::Groups::is_narrow_everywhere))]
+pub(crate) fn is_narrow_everywhere(alloc: Global, case: &Candidate) -> Result<bool, AllocError>
+    ensures { IfOk result (λ b. b ≡ is_narrow_everywhere (first_in case.now)) }
+{
+    let names = declared_names(alloc, case)?;
+    Ok(all_narrow(case, &names))
+}
+
+#[tactic(auto, unfolding(crate::specs::Groups::has_few_bits))]
+pub(crate) fn has_few_bits(alloc: Global, case: &Candidate) -> Result<bool, AllocError>
+    ensures { IfOk result (λ b. b ≡ has_few_bits (first_in case.now)) }
+{
+    let names = declared_names(alloc, case)?;
+    Ok(all_kept(case, &case.design.ports) && has_16_bits(case, &names))
+}
+
+/// Whether a clocked block of this signal may assign the targets and read the names.
+fn is_block(case: &Candidate, signal: &[u8], targets: &[&[u8]], read: &[&[u8]]) -> bool
+    ensures { result ≡ (same_name signal.now (first_in case.now).map.clock && all_names (is_target (first_in case.now)) (texts targets.now) && all_names (is_read (first_in case.now)) (texts read.now)) }
+{
+    is_same(signal, case.map.clock.as_bytes())
+        && all_targets(case, targets)
+        && all_read(case, read)
+}
+
+/// Whether the one clocked block is at the clock and assigns and reads what it may.
+fn has_block(
+    alloc: Global,
+    case: &Candidate,
+    signal: &[u8],
+    action: &Action,
+) -> Result<bool, AllocError>
+    requires { only_behind None (blocks_among (first_in case.now).design.parts) ≡ Some (signal.now, action_of action.now) }
+    ensures { IfOk result (λ b. b ≡ has_block (first_in case.now)) }
+{
+    let mut targets = Vec::new(alloc);
+    add_set_names(action, &mut targets)?;
+    let mut read = Vec::new(alloc);
+    add_read_names(action, &mut read)?;
+    Ok(is_block(case, signal, &targets, &read))
+}
+
+/// Whether the module has the clock, the names and the ranges that it must have.
+fn has_declarations(alloc: Global, case: &Candidate) -> Result<bool, AllocError>
+    ensures { IfOk result (λ b. b ≡ (has_clock (first_in case.now) && declares_once (first_in case.now) && has_ranges (first_in case.now) && is_narrow_everywhere (first_in case.now))) }
+{
+    let is_once = declares_once(alloc, case)?;
+    let is_narrow = is_narrow_everywhere(alloc, case)?;
+    Ok(has_clock(case) && is_once && has_ranges(case) && is_narrow)
+}
+
+/// Whether the module keeps all rules. Its one clocked block is given by its signal and what it does.
+pub(crate) fn is_accepted_module(
+    alloc: Global,
+    case: &Candidate,
+    signal: &[u8],
+    action: &Action,
+) -> Result<bool, AllocError>
+    requires { only_behind None (blocks_among (first_in case.now).design.parts) ≡ Some (signal.now, action_of action.now) }
+    ensures { IfOk result (λ b. b ≡ module_groups (first_in case.now)) }
+{
+    let is_declared = has_declarations(alloc, case)?;
+    let is_assigned = has_assignments(alloc, case)?;
+    let has_block = has_block(alloc, case, signal, action)?;
+    let is_small = has_few_bits(alloc, case)?;
+    Ok(is_declared && is_assigned && has_block && is_small)
+}

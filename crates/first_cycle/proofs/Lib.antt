@@ -1,0 +1,8 @@
+pub mod Evaluated
+pub mod Ranges
+pub mod Actions
+pub mod Registers
+pub mod Valued
+pub mod Mapping
+pub mod Slicing
+pub mod Samples

@@ -1,0 +1,6 @@
+pub mod Sample
+pub mod Slices
+pub mod Terms
+pub mod Updates
+pub mod Values
+pub mod Widths

@@ -1,0 +1,4 @@
+-- The lemmas that several proofs share.
+pub mod Instructions
+pub mod Rules
+pub mod Sums

@@ -1,0 +1,12 @@
+use Rattle.std.proofs.Common.{◌≡◌, ◌++◌, drop}
+use Rattle.wb_meaning.specs.Report.{member_texts}
+use Rattle.first_cycle.specs.Values.{held_of}
+use Rattle.first_report.specs.Bytes.{names_in}
+use Rattle.first_report.specs.Traced.{entries_at}
+use Rattle.first_report.specs.Texts.{after_comma}
+use Rattle.first_report.proofs.text.append_further.Given as goal
+
+abbrev pub invariant-loop-name : goal.invariant-loop-name
+invariant-loop-name l =
+    l.out.items ++ after_comma (member_texts (entries_at (held_of l.values) (names_in (drop l.name-index l.names))))
+    ≡ l.fn.out.items ++ after_comma (member_texts (entries_at (held_of l.values) (names_in l.names)))

@@ -1,0 +1,6 @@
+pub mod Listed
+pub mod Walked
+pub mod Traced
+pub mod Bytes
+pub mod Texts
+pub mod Lines

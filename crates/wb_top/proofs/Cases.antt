@@ -1,0 +1,63 @@
+-- What three files stand for, from what their readers give.
+use Rattle.std.proofs.Common.{◌≡◌, ℕ, Bool, true, false, List, [], ◌∷◌, Some, None, option_map, is_some, ap, sym, ◌∙◌, subst, IsTrue}
+use Rattle.std.specs.declared.option.Option.{Option}
+use Rattle.std.proofs.Common.{IfOk, OnOk}
+use Rattle.first_text.specs.Tree.{FirstModule as PureModule}
+use Rattle.first_text.specs.Spelling.{IsFirstText}
+use Rattle.first_text.specs.View.{first_module_of}
+use Rattle.first_text.specs.declared.tree.FirstModule.{FirstModule}
+use Rattle.first_json.specs.MapFile.{map_of_bytes}
+use Rattle.first_json.specs.ModelFile.{model_of_bytes}
+use Rattle.first_json.specs.ModelView.{first_model_of}
+use Rattle.first_json.specs.View.{map_of}
+use Rattle.first_json.specs.declared.model.FirstModel.{FirstModel}
+use Rattle.first_json.specs.declared.map.FirstMap.{FirstMap}
+use Rattle.wb_meaning.specs.Model.{Model}
+use Rattle.wb_meaning.specs.Map.{Map}
+use Rattle.wb_first.specs.Names.{First}
+use Rattle.wb_first.specs.Accepted.{is_accepted}
+use Rattle.wb_first.specs.View.{first_of}
+use Rattle.wb_top.specs.Files.{IsCaseOf}
+use Rattle.wb_top.specs.Outcome.{IsAnswer, IsReported}
+use Rattle.wb_top.specs.declared.status.Status.{Status}
+use Rattle.wb_top.specs.declared.status.Status.TheVariants.{Done, Failed, Usage, Refused, ReadFault, WriteFault, NoMemory}
+
+some_same : {A : Type 0} (x y : A) → ◌≡◌ {A = Option A} (Some x) (Some y) → x ≡ y
+some_same x y h = ap (λ o. value_or x o) h
+  where
+    value_or : {A : Type 0} → A → Option A → A
+    value_or z None = z
+    value_or z (Some w) = w
+
+-- Files whose model, map and module are not accepted together stand for no case.
+pub not_accepted : (m p d : List ℕ) (model : FirstModel) (map : FirstMap) (design : FirstModule)
+    → ◌≡◌ {A = Option Model} (Some (first_model_of model)) (model_of_bytes m)
+    → ◌≡◌ {A = Option Map} (Some (map_of map)) (map_of_bytes p)
+    → IsFirstText d (first_module_of design)
+    → ((text : List ℕ) (a b : PureModule) → IsFirstText text a → IsFirstText text b → a ≡ b)
+    → false ≡ is_accepted (first_of model map design)
+    → (f : First) → ¬ IsCaseOf m p d f
+not_accepted m p d model map design is_model is_map is_design one refused f case =
+    let same_model : first_model_of model ≡ f.model = some_same _ _ (is_model ∙ case.is_model) in
+    let same_map : map_of map ≡ f.map = some_same _ _ (is_map ∙ case.is_map) in
+    let same_design : first_module_of design ≡ f.design = one d _ _ is_design case.is_design in
+    let same : first_of model map design ≡ f = λ i. record { model = same_model i; map = same_map i; design = same_design i } in
+    clash (refused ∙ ap is_accepted same ∙ case.accepted)
+  where
+    clash : ◌≡◌ {A = Bool} false true → ⊥
+    clash h = subst pick h tt
+      where
+        pick : Bool → Type 0
+        pick true = ⊥
+        pick false = Unit {0}
+
+-- a report of a case answers the check of its files
+pub answered : (m p d : List ℕ) (f : First) (status : Status) (text : List ℕ) → IsCaseOf m p d f → IsReported f status text
+    → IsAnswer (m ∷ p ∷ d ∷ []) status text
+answered m p d f Done text case reported = (f, case, reported)
+answered m p d f Failed text case reported = (f, case, reported)
+answered m p d f Usage text case reported = absurd reported
+answered m p d f Refused text case reported = absurd reported
+answered m p d f ReadFault text case reported = absurd reported
+answered m p d f WriteFault text case reported = absurd reported
+answered m p d f NoMemory text case reported = absurd reported

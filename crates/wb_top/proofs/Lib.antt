@@ -1,0 +1,3 @@
+pub mod Cases
+pub mod Told
+pub mod Decides

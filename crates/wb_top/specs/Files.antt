@@ -1,0 +1,31 @@
+-- Which model, map and module the bytes of three files stand for in the first profile.
+use Rattle.std.specs.Prelude.{◌≡◌, ◌≤◌, ℕ, List, [], ◌∷◌, length, map, Option, Some, IfSome, IsTrue}
+use Rattle.wb_meaning.specs.Value.{Name}
+use Rattle.first_text.specs.Spelling.{IsFirstText}
+use Rattle.first_json.specs.MapFile.{map_of_bytes}
+use Rattle.first_json.specs.ModelFile.{model_of_bytes}
+use Rattle.wb_first.specs.Names.{First}
+use Rattle.wb_first.specs.Accepted.{is_accepted}
+
+-- a file has at most so many bytes
+abbrev pub most_bytes : ℕ
+most_bytes = 4194304
+
+-- The bytes stand for this model, this map and this module, which the profile accepts together.
+pub record IsCaseOf (model_bytes map_bytes design_bytes : List ℕ) (f : First) : Type 0 where
+  pub model_fits : length model_bytes ≤ most_bytes
+  pub map_fits : length map_bytes ≤ most_bytes
+  pub design_fits : length design_bytes ≤ most_bytes
+  pub is_model : model_of_bytes model_bytes ≡ Some f.model
+  pub is_map : map_of_bytes map_bytes ≡ Some f.map
+  pub is_design : IsFirstText design_bytes f.design
+  pub accepted : IsTrue (is_accepted f)
+
+-- of three files in their order
+abbrev pub IsCase : List (List ℕ) → First → Type 0
+IsCase (m ∷ p ∷ d ∷ []) f = IsCaseOf m p d f
+IsCase _ f = ⊥
+
+-- These are the bytes under these names, where it is told what is held.
+abbrev pub AreHeld : Option (Name → Option (List ℕ)) → List Name → List (List ℕ) → Type 0
+AreHeld held names contents = IfSome held (λ files. map files names ≡ map Some contents)

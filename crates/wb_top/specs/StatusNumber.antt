@@ -1,0 +1,13 @@
+-- The exit status of the program.
+use Rattle.std.specs.Prelude.{ℕ}
+use Rattle.wb_top.specs.declared.status.Status.{Status}
+use Rattle.wb_top.specs.declared.status.Status.TheVariants.{Done, Failed, Usage, Refused, ReadFault, WriteFault, NoMemory}
+
+abbrev pub number_of : Status → ℕ
+number_of Done = 0
+number_of Failed = 1
+number_of Usage = 3
+number_of Refused = 4
+number_of ReadFault = 5
+number_of WriteFault = 6
+number_of NoMemory = 7

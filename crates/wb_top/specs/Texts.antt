@@ -1,0 +1,16 @@
+-- The texts that a call writes beside reports.
+use Rattle.std.specs.Prelude.{◌≡◌, ◌≤◌, ℕ, Bool, false, not, ◌==◌, List, [], ◌∷◌, ◌++◌, length, codes, IsTrue}
+use Rattle.std.specs.List.{list_all}
+
+abbrev pub usage_text : List ℕ
+usage_text = codes "usage" ++ 10 ∷ []
+
+-- a note is one line of at most 80 bytes
+pub record IsNote (text : List ℕ) : Type 0 where
+  pub short : length text ≤ 80
+  pub one_line : IsTrue (list_all (λ b. not (b == 10)) text)
+
+-- What is written of files that are not accepted yet: the kind of the refusal, and a note that says where.
+abbrev pub IsRefusal : List ℕ → Type 0
+IsRefusal text =
+    (note : List ℕ) × IsNote note × (text ≡ codes "refused N1 NotYet" ++ 10 ∷ (codes "note " ++ (note ++ 10 ∷ [])))

@@ -1,0 +1,90 @@
+//! Whether three files are a case of the first profile.
+
+ghost use Rattle.std.specs.Prelude.{◌≡◌, ◌≤◌, IfOk, IsTrue, length, IfSome, IfNone, ◌↔◌};
+ghost use Rattle.first_text.specs.Tree.{FirstModule as PureModule};
+ghost use Rattle.first_text.specs.Spelling.{IsFirstText};
+ghost use Rattle.first_text.specs.View.{first_module_of};
+ghost use Rattle.wb_top.specs.Files.{most_bytes};
+ghost use Rattle.wb_top.specs.Judged.{IsJudged};
+
+use crate::stop::NoMemory;
+use first_accept::accept;
+use first_json::{read_map, read_model};
+use first_text::{FirstModule, one_tree, read_text};
+use std::alloc::{AllocError, Global};
+use wb_first::FirstCase;
+
+/// How many bytes a file has at most.
+pub(crate) const MOST_BYTES: u64 = 4_194_304;
+
+/// Where files leave the profile.
+#[derive(Clone, Copy, PartialEq, Eq, Debug)]
+pub(crate) enum Place {
+    /// In the model file.
+    Model,
+    /// In the map file.
+    Map,
+    /// In the Verilog file.
+    Design,
+    /// Each is in the profile, and together they are not.
+    Together,
+}
+
+/// The case that files are, or where they leave the profile.
+#[derive(Drop)]
+pub(crate) enum Judged {
+    Case(FirstCase),
+    Outside(Place),
+}
+
+/// Judges the bytes of a model file, a map file and a Verilog file.
+pub(crate) fn judge(
+    alloc: Global,
+    model: &[u8],
+    map: &[u8],
+    design: &[u8],
+) -> Result<Judged, NoMemory>
+    ensures { IfOk result (IsJudged model.now map.now design.now) }
+{
+    if !fits(model) {
+        return Ok(Judged::Outside(Place::Model));
+    }
+    if !fits(map) {
+        return Ok(Judged::Outside(Place::Map));
+    }
+    if !fits(design) {
+        return Ok(Judged::Outside(Place::Design));
+    }
+    let Some(model) = read_model(alloc, model)? else {
+        return Ok(Judged::Outside(Place::Model));
+    };
+    let Some(map) = read_map(alloc, map)? else {
+        return Ok(Judged::Outside(Place::Map));
+    };
+    let Some(design) = design_of(alloc, design)? else {
+        return Ok(Judged::Outside(Place::Design));
+    };
+    one_tree();
+    match accept(alloc, model, map, design)? {
+        Some(case) => Ok(Judged::Case(case)),
+        None => Ok(Judged::Outside(Place::Together)),
+    }
+}
+
+/// Whether a file is no longer than files may be.
+fn fits(bytes: &[u8]) -> bool
+    ensures { IsTrue result ↔ (length bytes.now ≤ most_bytes) }
+{
+    bytes.len() as u64 <= MOST_BYTES
+}
+
+/// The module of a text, where the text is in the profile.
+fn design_of(alloc: Global, text: &[u8]) -> Result<Option<FirstModule>, NoMemory>
+    ensures read { IfOk result (λ o. IfSome o (λ m. IsFirstText text.now (first_module_of m))) }
+    ensures refused { IfOk result (λ o. IfNone o ((m : PureModule) → ¬ IsFirstText text.now m)) }
+{
+    match read_text(alloc, text) {
+        Ok(module) => Ok(module),
+        Err(_) => Err(AllocError),
+    }
+}

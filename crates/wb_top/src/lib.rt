@@ -1,0 +1,18 @@
+//! The top call: a command's words, the files that it names, and what it writes.
+#![tactic(auto)]
+
+mod answer;
+mod judged;
+pub mod laws;
+mod outcome;
+mod status;
+mod stop;
+mod texts;
+mod top;
+mod words;
+
+pub use status::{Ended, Status};
+pub use top::workbench;
+
+#[cfg(test)]
+mod tests;

@@ -1,0 +1,137 @@
+//! Words that ask for nothing, faults of the shelf and the sink, and files that are too long.
+
+use super::counter::{DESIGN, MAP, MODEL, REPORT};
+use super::{CHECK, ROOM, owned, shelf_of};
+use crate::{Status, workbench};
+use std::test::Fail;
+use wb_outside::MemSink;
+
+#[test]
+fn other_words_are_usage(rt: HostRuntime) -> Result<(), Fail> {
+    let alloc = rt.alloc();
+    let rows: [&[&str]; 14] = [
+        &[],
+        &["wb"],
+        &["wb", "check"],
+        &["wb", "check", "--model", "m", "--map", "p"],
+        &["wb", "check", "--model", "m", "--map", "p", "v", "w"],
+        &["wb", "check", "--map", "p", "--model", "m", "v"],
+        &["wb", "check", "--model", "m", "p", "v"],
+        &["wb", "check", "--model=m", "--map=p", "v"],
+        &["wb", "Check", "--model", "m", "--map", "p", "v"],
+        &["wb", "simulate", "--model", "m", "--map", "p", "v"],
+        &["wb", "check", "--model", "-m", "--map", "p", "v"],
+        &["wb", "check", "--model", "m", "--map", "--", "v"],
+        &["wb", "check", "--model", "m", "--map", "p", "-"],
+        &["wb", "check", "--models", "m", "--map", "p", "v"],
+    ];
+    for (index, words) in rows.into_iter().enumerate() {
+        let mut shelf = shelf_of(
+            alloc,
+            MODEL.as_bytes(),
+            MAP.as_bytes(),
+            DESIGN.as_bytes(),
+            &[],
+        )?;
+        let mut sink = MemSink::new(alloc, ROOM, Vec::new(alloc))?;
+        let words = owned(alloc, words)?;
+        let ended = workbench(alloc, &words, &mut shelf, &mut sink);
+        assert_eq!(rt; ended.status, Status::Usage, "row {index}");
+        assert_eq!(rt; sink.bytes(), b"usage\n".as_slice(), "row {index}");
+        assert!(rt; shelf.names().is_empty(), "row {index}");
+    }
+    Ok(())
+}
+
+#[test]
+fn a_read_that_fails_writes_nothing(rt: HostRuntime) -> Result<(), Fail> {
+    let alloc = rt.alloc();
+    for number in [1, 2, 3] {
+        let mut shelf = shelf_of(
+            alloc,
+            MODEL.as_bytes(),
+            MAP.as_bytes(),
+            DESIGN.as_bytes(),
+            &[number],
+        )?;
+        let mut sink = MemSink::new(alloc, ROOM, Vec::new(alloc))?;
+        let words = owned(alloc, &CHECK)?;
+        let ended = workbench(alloc, &words, &mut shelf, &mut sink);
+        assert_eq!(rt; ended.status, Status::ReadFault, "read {number}");
+        assert!(rt; sink.bytes().is_empty(), "read {number}");
+        assert_eq!(rt; shelf.names().len() as u64, number);
+    }
+    let mut shelf = shelf_of(alloc, MODEL.as_bytes(), MAP.as_bytes(), b"", &[])?;
+    let mut sink = MemSink::new(alloc, ROOM, Vec::new(alloc))?;
+    let words = owned(
+        alloc,
+        &["wb", "check", "--model", "m", "--map", "p", "absent"],
+    )?;
+    let ended = workbench(alloc, &words, &mut shelf, &mut sink);
+    assert_eq!(rt; ended.status, Status::ReadFault);
+    assert!(rt; sink.bytes().is_empty());
+    Ok(())
+}
+
+#[test]
+fn a_write_that_fails_leaves_a_prefix(rt: HostRuntime) -> Result<(), Fail> {
+    let alloc = rt.alloc();
+    let rows: [(u64, &str); 4] = [
+        (0, ""),
+        (1, "r"),
+        (10, "reset.init"),
+        (40, "reset.init.cnt proved\nidle.state.cnt pro"),
+    ];
+    for (kept, text) in rows {
+        let mut shelf = shelf_of(
+            alloc,
+            MODEL.as_bytes(),
+            MAP.as_bytes(),
+            DESIGN.as_bytes(),
+            &[],
+        )?;
+        let failing = vec![in alloc; (1, kept)]?;
+        let mut sink = MemSink::new(alloc, ROOM, failing)?;
+        let words = owned(alloc, &CHECK)?;
+        let ended = workbench(alloc, &words, &mut shelf, &mut sink);
+        assert_eq!(rt; ended.status, Status::WriteFault, "{kept}");
+        assert_eq!(rt; sink.bytes(), text.as_bytes(), "{kept}");
+        assert!(rt; REPORT.as_bytes().starts_with(sink.bytes()), "{kept}");
+    }
+    Ok(())
+}
+
+#[test]
+fn a_file_that_is_too_long_is_not_accepted(rt: HostRuntime) -> Result<(), Fail> {
+    let alloc = rt.alloc();
+    let blanks = vec![in alloc; b' '; 4_194_305]?;
+    let rows: [(&[u8], &[u8], &[u8], &str); 3] = [
+        (
+            &blanks,
+            MAP.as_bytes(),
+            DESIGN.as_bytes(),
+            "refused N1 NotYet\nnote the model file\n",
+        ),
+        (
+            MODEL.as_bytes(),
+            &blanks,
+            DESIGN.as_bytes(),
+            "refused N1 NotYet\nnote the map file\n",
+        ),
+        (
+            MODEL.as_bytes(),
+            MAP.as_bytes(),
+            &blanks,
+            "refused N1 NotYet\nnote the Verilog file\n",
+        ),
+    ];
+    for (model, map, design, text) in rows {
+        let mut shelf = shelf_of(alloc, model, map, design, &[])?;
+        let mut sink = MemSink::new(alloc, ROOM, Vec::new(alloc))?;
+        let words = owned(alloc, &CHECK)?;
+        let ended = workbench(alloc, &words, &mut shelf, &mut sink);
+        assert_eq!(rt; ended.status, Status::Refused, "{text}");
+        assert_eq!(rt; sink.bytes(), text.as_bytes(), "{text}");
+    }
+    Ok(())
+}

@@ -1,0 +1,33 @@
+//! The texts that a call writes beside reports.
+
+ghost use Rattle.std.specs.Prelude.{◌≡◌, IfOk};
+ghost use Rattle.wb_top.specs.Texts.{usage_text, IsRefusal};
+
+use crate::judged::Place;
+use crate::stop::NoMemory;
+use std::alloc::Global;
+
+/// The text for words that ask for nothing that the program does.
+pub(crate) fn usage(alloc: Global) -> Result<Vec<u8>, NoMemory>
+    ensures { IfOk result (λ text. text.items ≡ usage_text) }
+{
+    Vec::from_slice(alloc, b"usage\n")
+}
+
+/// The text for files that are not accepted yet.
+pub(crate) fn refusal(alloc: Global, place: Place) -> Result<Vec<u8>, NoMemory>
+    ensures { IfOk result (λ text. IsRefusal text.items) }
+{
+    Vec::from_slice(alloc, refusal_text(place))
+}
+
+fn refusal_text(place: Place) -> &'static [u8]
+    ensures { IsRefusal result.now }
+{
+    match place {
+        Place::Model => b"refused N1 NotYet\nnote the model file\n",
+        Place::Map => b"refused N1 NotYet\nnote the map file\n",
+        Place::Design => b"refused N1 NotYet\nnote the Verilog file\n",
+        Place::Together => b"refused N1 NotYet\nnote the three files together\n",
+    }
+}
