@@ -1,4 +1,6 @@
 mod Actions
 mod Widths
+mod UnderNames
+mod Variables
 pub mod Rules
-pub mod Tests
+pub mod NameTests

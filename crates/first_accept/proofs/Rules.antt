@@ -1,18 +1,16 @@
--- The rules in groups, and what a module without one clocked block is.
-use Rattle.std.proofs.Common.{◌≡◌, Bool, true, false, ◌&&◌, List, [], ◌∷◌, ◌++◌, sym, refl, ap, ◌∙◌}
-use Rattle.std.proofs.Common.{Option, Some, None, ◌||◌, cond, map}
+-- The rules in groups, and the one clocked block.
+use Rattle.std.proofs.Common.{◌≡◌, Bool, true, false, ◌&&◌, ◌||◌, List, [], ◌∷◌, ◌++◌, map, Option, Some, None, option_map, sym, refl, ap, ◌∙◌}
 use Rattle.wb_meaning.specs.Value.{Name, same_name}
 use Rattle.wb_meaning.specs.Model.{instructions_in, instruction_list}
 use Rattle.first_json.specs.ModelFile.{instructions_from}
 use Rattle.first_json.specs.declared.model.FirstModel.{FirstModel}
 use Rattle.first_json.specs.declared.map.FirstMap.{FirstMap}
 use Rattle.first_text.specs.declared.tree.FirstModule.{FirstModule}
-use Rattle.first_text.specs.View.{first_module_of}
 use Rattle.wb_first.specs.View.{first_of}
 use Rattle.first_text.specs.Tree.{Action, set, sequence, when, when_else, Actions, no_actions, action, Part, register, assignment, clocked}
 use Rattle.first_json.specs.declared.model.FirstInstruction.{FirstInstruction}
 use Rattle.first_json.specs.ModelView.{instruction_view}
-use Rattle.first_accept.proofs.Tests.{instructions_are}
+use Rattle.first_accept.proofs.NameTests.{instructions_are}
 use Rattle.wb_first.specs.Names.{First, blocks_among, sets, one_sets, is_set_among}
 use Rattle.wb_first.specs.Accepted.{entries_are_accepted, entry_names, instruction_names, is_accepted, is_accepted_map, is_accepted_module, no_children, has_one_block, set_names, all_set_names, read_names, is_among, all_names, is_target, is_read}
 use Rattle.first_accept.specs.Known.{is_each_once, only_behind}
@@ -33,7 +31,7 @@ pub maps_by : (f : First) (names : List Name) (a b : Bool) → a ≡ entries_are
 unfolding maps_instructions
 maps_by f names a b p q r =
     let last : b ≡ is_each_once (entry_names f.map.instructions) (instruction_names (instructions_in f.model.top)) =
-        r ∙ ap (λ ns. is_each_once (entry_names f.map.instructions) ns) q in
+    r ∙ ap (λ ns. is_each_once (entry_names f.map.instructions) ns) q in
     ap (λ t. t && b) p ∙ (ap (λ t. entries_are_accepted f f.map.instructions && t) last ∙ sym (three_behind (entries_are_accepted f f.map.instructions) _ _ _))
 
 -- ---- the one block
@@ -47,15 +45,6 @@ pub block_by : (f : First) (s : Name) (a : Action) → only_behind None (blocks_
     → has_block f ≡ (same_name s f.map.clock && all_names (is_target f) (set_names a) && all_names (is_read f) (read_names a))
 unfolding has_block
 block_by f s a e = ap (λ bs. has_one_block f bs) (one_block (blocks_among f.design.parts) (s, a) e)
-
-not_one : (f : First) (bs : List (Name × Action)) → only_behind None bs ≡ None → has_one_block f bs ≡ false
-not_one f [] e = refl
-not_one f (b ∷ []) e = cc
-not_one f (b ∷ c ∷ bs) e = refl
-
-pub no_block : (f : First) → only_behind None (blocks_among f.design.parts) ≡ None → has_block f ≡ false
-unfolding has_block
-no_block f e = not_one f (blocks_among f.design.parts) e
 
 is_among_append : (ms ns : List Name) (n : Name) → is_among (ms ++ ns) n ≡ (is_among ms n || is_among ns n)
 is_among_append [] ns n = refl
@@ -139,23 +128,10 @@ pub accepted_is : (m : FirstModel) (p : FirstMap) (d : FirstModule)
     → is_accepted (first_of m p d) ≡ (module_groups (first_of m p d) && map_groups (first_of m p d))
 accepted_is m p d =
     let none : no_children (instruction_list (instructions_from (map instruction_view m.instructions.items))) ≡ true =
-        ap no_children (instructions_are (map instruction_view m.instructions.items)) ∙ childless m.instructions.items in
+    ap no_children (instructions_are (map instruction_view m.instructions.items)) ∙ childless m.instructions.items in
     ap (λ t. is_accepted_module (first_of m p d) && is_accepted_map (first_of m p d) && t) none
     ∙ (and_true _
     ∙ (ap (λ t. t && is_accepted_map (first_of m p d)) (module_is (first_of m p d)) ∙ ap (λ t. module_groups (first_of m p d) && t) (map_is m p d)))
-
--- a module without one clocked block is not accepted
-refused : (h b : Bool) → b ≡ false → (h && b) ≡ false
-refused true b e = e
-refused false b e = refl
-
-pub not_accepted : (m : FirstModel) (p : FirstMap) (d : FirstModule) → only_behind None (blocks_among (first_module_of d).parts) ≡ None
-    → false ≡ is_accepted (first_of m p d)
-not_accepted m p d e =
-    let f : First = first_of m p d in
-    let at_block : (has_clock f && declares_once f && has_ranges f && is_narrow_everywhere f && has_assignments f && has_block f) ≡ false =
-        refused _ _ (no_block f e) in
-    sym (accepted_is m p d ∙ ap (λ t. t && has_few_bits f && map_groups f) at_block)
 
 pub by_groups : (m : FirstModel) (p : FirstMap) (d : FirstModule) (a b : Bool) → a ≡ module_groups (first_of m p d) → b ≡ map_groups (first_of m p d)
     → (a && b) ≡ is_accepted (first_of m p d)
@@ -165,3 +141,12 @@ by_groups m p d a b h k =
 pub block_with : (f : First) (s : Name) (a : Action) (targets read : List Name) → only_behind None (blocks_among f.design.parts) ≡ Some (s, a)
     → targets ≡ set_names a → read ≡ read_names a → (same_name s f.map.clock && all_names (is_target f) targets && all_names (is_read f) read) ≡ has_block f
 block_with f s a targets read e p q = rw (p, q) (sym (block_by f s a e))
+
+pub registers_of : (ps : List Part) (a : Action) → option_map (λ b. b.1) (only_behind None (blocks_among ps)) ≡ Some a → (n : Name)
+    → is_set_among ps n ≡ is_among (set_names a) n
+registers_of ps a e n = found (only_behind None (blocks_among ps)) refl e where
+  found : (o : Option (Name × Action)) → only_behind None (blocks_among ps) ≡ o → option_map (λ b. b.1) o ≡ Some a → is_set_among ps n ≡ is_among (set_names a) n
+  found None k h = cc
+  found (Some b) k h =
+      let same : b.1 ≡ a = cc in
+      registers_are ps b.0 b.1 k n ∙ ap (λ x. is_among (set_names x) n) same

@@ -1,15 +1,15 @@
 -- How many bits a name has, by its first bounds.
 use Rattle.std.proofs.Common.{◌≡◌, ℕ, ◌+◌, ◌-◌, ◌<◌, ◌≤◌, ◌^◌, Bool, true, false, cond, List, [], ◌∷◌, ◌++◌, sym, refl, ap, ◌∙◌, Option, Some, None, arith}
-use Rattle.std.specs.Prelude.{pos, negsuc, ◌-ℤ◌, nat_le}
+use Rattle.std.specs.Prelude.{pos, negsuc, ◌-ℤ◌}
 use Rattle.std.proofs.lemmas.Bool.Decides.{nat_tests}
 use Rattle.std.proofs.lemmas.Int.{ints}
 use Rattle.wb_meaning.specs.Value.{Name, same_name}
 use Rattle.wb_meaning.specs.Number.{top_bit}
 use Rattle.wb_meaning.specs.Verilog.Syntax.{Range}
 use Rattle.wb_meaning.specs.Verilog.Expression.{Scope, scope_of, object_width, distance, natural_of, integer_from}
-use Rattle.wb_meaning.specs.Verilog.Hierarchy.{Declaration, declarations, port_declarations, item_declarations, declaration_of, both_declarations, declared_object, ranged_object, bound_of, first_of}
-use Rattle.first_text.specs.Tree.{Bounds, range_tree, bounds_tree, Port, port_trees, Part, register, assignment, clocked, part_trees, FirstModule, module_tree, decimal_number}
-use Rattle.wb_first.specs.Names.{scope_of_first, bits_of_name}
+use Rattle.wb_meaning.specs.Verilog.Hierarchy.{Declaration, declarations, port_declarations, item_declarations, declaration_of, both_declarations, ranged_object, first_of}
+use Rattle.first_text.specs.Tree.{Bounds, bounds_tree, Port, port_trees, Part, register, assignment, clocked, part_trees, FirstModule, module_tree}
+use Rattle.wb_first.specs.Names.{bits_of_name}
 use Rattle.first_accept.specs.Known.{port_bounds, variable_bounds, declared_bounds, bound_value, bounds_width}
 
 tree_of_first : (a b : Bounds) → bounds_tree (first_of a b) ≡ first_of (bounds_tree a) (bounds_tree b)
@@ -29,9 +29,9 @@ range_of_ports (p ∷ ps) rest n =
     (λ b. (cond b (both_declarations own (declaration_of (port_declarations (port_trees ps) ++ rest) n)) (declaration_of (port_declarations (port_trees ps) ++ rest) n)).range
     ≡ first_of (bounds_tree (cond b (first_of p.bounds (port_bounds ps n)) (port_bounds ps n))) (declaration_of rest n).range) [
       | true ↦
-        ap (λ r. first_of (bounds_tree p.bounds) r) (range_of_ports ps rest n)
-        ∙ (first_first (bounds_tree p.bounds) (bounds_tree (port_bounds ps n)) (declaration_of rest n).range
-        ∙ ap (λ r. first_of r (declaration_of rest n).range) (sym (tree_of_first p.bounds (port_bounds ps n))))
+          ap (λ r. first_of (bounds_tree p.bounds) r) (range_of_ports ps rest n)
+          ∙ (first_first (bounds_tree p.bounds) (bounds_tree (port_bounds ps n)) (declaration_of rest n).range
+          ∙ ap (λ r. first_of r (declaration_of rest n).range) (sym (tree_of_first p.bounds (port_bounds ps n))))
       | false ↦ range_of_ports ps rest n
     ]
 

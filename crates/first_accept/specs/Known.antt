@@ -35,7 +35,7 @@ bound_value x = bound_of (scope_of []) (decimal_number x)
 unfoldable pub bounds_width : Bounds → ℕ
 bounds_width b = object_width (ranged_object (scope_of []) false (bounds_tree b))
 
--- the element of a list of one behind nothing, or the one behind which nothing comes
+-- the only one of what was found before and the elements of a list; none where there are more
 abbrev pub only_behind : {A : Type 0} → Option A → List A → Option A
 only_behind o [] = o
 only_behind None (x ∷ xs) = only_behind (Some x) xs

@@ -1,3 +1,4 @@
 pub mod Known
 pub mod Groups
+pub mod Tables
 pub mod View

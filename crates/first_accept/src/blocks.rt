@@ -72,10 +72,7 @@ pub(crate) fn add_set_names<'a>(
 }
 
 #[cycle(set)]
-fn add_all_set_names<'a>(
-    list: &'a [Action],
-    names: &mut Vec<&'a [u8]>,
-) -> Result<(), AllocError>
+fn add_all_set_names<'a>(list: &'a [Action], names: &mut Vec<&'a [u8]>) -> Result<(), AllocError>
     ensures { IfOk result (λ _. map (λ x. x.now) names.new.items ≡ map (λ x. x.now) names.old.items ++ all_set_names (actions_of list.now)) }
 {
     for action in list {
@@ -115,10 +112,7 @@ pub(crate) fn add_read_names<'a>(
 }
 
 #[cycle(read)]
-fn add_all_read_names<'a>(
-    list: &'a [Action],
-    names: &mut Vec<&'a [u8]>,
-) -> Result<(), AllocError>
+fn add_all_read_names<'a>(list: &'a [Action], names: &mut Vec<&'a [u8]>) -> Result<(), AllocError>
     ensures { IfOk result (λ _. map (λ x. x.now) names.new.items ≡ map (λ x. x.now) names.old.items ++ all_read_names (actions_of list.now)) }
 {
     for action in list {

@@ -25,7 +25,7 @@ fn has_dot(name: &[u8]) -> bool
 }
 
 /// Whether the expression is a decimal or a name of the module other than the clock's.
-pub(crate) fn is_map_expression(case: &Candidate, expression: &FirstExpression) -> bool
+pub(crate) fn is_map_expression<'a>(case: &Candidate<'a>, expression: &'a FirstExpression) -> bool
     ensures { result ≡ is_map_expression (first_in case.now) (expression_of expression.now) }
 {
     match expression {
@@ -37,7 +37,7 @@ pub(crate) fn is_map_expression(case: &Candidate, expression: &FirstExpression) 
 }
 
 /// How many bits the expression has.
-fn map_width(case: &Candidate, expression: &FirstExpression) -> u64
+fn map_width<'a>(case: &Candidate<'a>, expression: &'a FirstExpression) -> u64
     ensures { result ≡ map_width (first_in case.now) (expression_of expression.now) }
 {
     match expression {
@@ -47,10 +47,10 @@ fn map_width(case: &Candidate, expression: &FirstExpression) -> u64
 }
 
 /// Whether the expression has the width of a sort.
-pub(crate) fn fits_sort(
-    case: &Candidate,
+pub(crate) fn fits_sort<'a>(
+    case: &Candidate<'a>,
     sort: Option<FirstSort>,
-    expression: &FirstExpression,
+    expression: &'a FirstExpression,
 ) -> bool
     ensures { result ≡ fits_sort (first_in case.now) (option_map sort_view sort) (expression_of expression.now) }
 {
@@ -61,7 +61,7 @@ pub(crate) fn fits_sort(
     }
 }
 
-fn primary_reads_no_input(case: &Candidate, primary: &Primary) -> bool
+fn primary_reads_no_input<'a>(case: &Candidate<'a>, primary: &'a Primary) -> bool
     ensures { result ≡ all_names (λ n. not (is_input (first_in case.now).design n)) (primary_names (primary_of primary.now)) }
 {
     match primary {
@@ -70,8 +70,8 @@ fn primary_reads_no_input(case: &Candidate, primary: &Primary) -> bool
     }
 }
 
-#[tactic(auto, using(crate::proofs::Tests::all_names_append))]
-fn term_reads_no_input(case: &Candidate, term: &Term) -> bool
+#[tactic(auto, using(crate::proofs::NameTests::all_names_append))]
+fn term_reads_no_input<'a>(case: &Candidate<'a>, term: &'a Term) -> bool
     ensures { result ≡ all_names (λ n. not (is_input (first_in case.now).design n)) (term_names (term_of term.now)) }
 {
     match term {
@@ -85,7 +85,7 @@ fn term_reads_no_input(case: &Candidate, term: &Term) -> bool
     }
 }
 
-fn assignment_reads_no_input(case: &Candidate, term: Option<&Term>) -> bool
+fn assignment_reads_no_input<'a>(case: &Candidate<'a>, term: Option<&'a Term>) -> bool
     ensures { result ≡ term_reads_no_input (first_in case.now) (option_map (λ e. term_of e.now) term.entry) }
 {
     match term {
@@ -95,7 +95,7 @@ fn assignment_reads_no_input(case: &Candidate, term: Option<&Term>) -> bool
 }
 
 /// Whether the expression reads no input, neither itself nor by its assignment.
-pub(crate) fn is_input_free(case: &Candidate, expression: &FirstExpression) -> bool
+pub(crate) fn is_input_free<'a>(case: &Candidate<'a>, expression: &'a FirstExpression) -> bool
     ensures { result ≡ is_input_free (first_in case.now) (expression_of expression.now) }
 {
     match expression {

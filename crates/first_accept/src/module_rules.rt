@@ -12,10 +12,11 @@ ghost use Rattle.first_accept.specs.View.{first_in};
 use crate::blocks::{add_read_names, add_set_names};
 use crate::candidate::Candidate;
 use crate::lookups::{bits, is_input, port_named};
-use crate::names::{are_distinct, assigned_names, is_same, port_names, variable_names};
+use crate::names::{assigned_names, is_same, port_names, variable_names};
 use crate::signals::{
     counted_bits, is_kept, is_narrow, is_net, is_read, is_target, term_reads_sources,
 };
+use crate::tables::are_distinct;
 use first_text::{Action, Bounds, Part, Port};
 use std::alloc::{AllocError, Global};
 
@@ -62,7 +63,7 @@ fn same_bounds(bounds: Option<Bounds>, other: Option<Bounds>) -> bool
 }
 
 /// Whether a declaration `reg` agrees with the port of its name.
-fn port_agrees(case: &Candidate, bounds: Option<Bounds>, name: &[u8]) -> bool
+fn port_agrees<'a>(case: &Candidate<'a>, bounds: Option<Bounds>, name: &'a [u8]) -> bool
     ensures { result ≡ port_agrees (bounds_of bounds) (port_named (first_in case.now).design.ports name.now) }
 {
     match port_named(case, name) {
@@ -71,7 +72,7 @@ fn port_agrees(case: &Candidate, bounds: Option<Bounds>, name: &[u8]) -> bool
     }
 }
 
-fn variables_agree(case: &Candidate) -> bool
+fn variables_agree<'a>(case: &Candidate<'a>) -> bool
     ensures { result ≡ variables_agree (first_in case.now).design (first_in case.now).design.parts }
 {
     for part in &case.design.parts {
@@ -84,7 +85,7 @@ fn variables_agree(case: &Candidate) -> bool
     true
 }
 
-fn all_narrow(case: &Candidate, names: &[&[u8]]) -> bool
+fn all_narrow<'a>(case: &Candidate<'a>, names: &[&'a [u8]]) -> bool
     ensures { result ≡ all_names (is_narrow (first_in case.now).design) (texts names.now) }
 {
     for name in names {
@@ -95,7 +96,7 @@ fn all_narrow(case: &Candidate, names: &[&[u8]]) -> bool
     true
 }
 
-fn all_nets(case: &Candidate, names: &[&[u8]]) -> bool
+fn all_nets<'a>(case: &Candidate<'a>, names: &[&'a [u8]]) -> bool
     ensures { result ≡ all_names (is_net (first_in case.now)) (texts names.now) }
 {
     for name in names {
@@ -106,7 +107,7 @@ fn all_nets(case: &Candidate, names: &[&[u8]]) -> bool
     true
 }
 
-fn all_targets(case: &Candidate, names: &[&[u8]]) -> bool
+fn all_targets<'a>(case: &Candidate<'a>, names: &[&'a [u8]]) -> bool
     ensures { result ≡ all_names (is_target (first_in case.now)) (texts names.now) }
 {
     for name in names {
@@ -117,7 +118,7 @@ fn all_targets(case: &Candidate, names: &[&[u8]]) -> bool
     true
 }
 
-fn all_read(case: &Candidate, names: &[&[u8]]) -> bool
+fn all_read<'a>(case: &Candidate<'a>, names: &[&'a [u8]]) -> bool
     ensures { result ≡ all_names (is_read (first_in case.now)) (texts names.now) }
 {
     for name in names {
@@ -128,7 +129,7 @@ fn all_read(case: &Candidate, names: &[&[u8]]) -> bool
     true
 }
 
-fn all_kept(case: &Candidate, ports: &[Port]) -> bool
+fn all_kept<'a>(case: &Candidate<'a>, ports: &'a [Port]) -> bool
     ensures { result ≡ all_names (is_kept (first_in case.now).design) (port_names (map port_of ports.now)) }
 {
     for port in ports {
@@ -140,7 +141,7 @@ fn all_kept(case: &Candidate, ports: &[Port]) -> bool
 }
 
 /// Whether the registers and the inputs but the clock have at most 16 bits together.
-fn has_16_bits(case: &Candidate, names: &[&[u8]]) -> bool
+fn has_16_bits<'a>(case: &Candidate<'a>, names: &[&'a [u8]]) -> bool
     ensures { result ≡ nat_le (sum_of_bits (first_in case.now) (texts names.now)) 16 }
 {
     let mut sum = 0u64;
@@ -153,7 +154,7 @@ fn has_16_bits(case: &Candidate, names: &[&[u8]]) -> bool
     true
 }
 
-fn terms_read_sources(case: &Candidate, parts: &[Part]) -> bool
+fn terms_read_sources<'a>(case: &Candidate<'a>, parts: &'a [Part]) -> bool
     ensures { result ≡ terms_read (is_source (first_in case.now)) (assigned_among (map part_of parts.now)) }
 {
     for part in parts {
@@ -167,18 +168,15 @@ fn terms_read_sources(case: &Candidate, parts: &[Part]) -> bool
 }
 
 /// Whether the name is that of a port.
-#[tactic(auto, using(crate::proofs::Tests::is_among_ports))]
-fn is_port(case: &Candidate, name: &[u8]) -> bool
+#[tactic(auto, using(crate::proofs::NameTests::is_among_ports))]
+fn is_port<'a>(case: &Candidate<'a>, name: &'a [u8]) -> bool
     ensures { result ≡ is_among (port_names (first_in case.now).design.ports) name.now }
 {
     port_named(case, name).is_some()
 }
 
 /// Every declared name once.
-fn declared_names<'a>(
-    alloc: Global,
-    case: &Candidate<'a>,
-) -> Result<Vec<&'a [u8]>, AllocError>
+fn declared_names<'a>(alloc: Global, case: &Candidate<'a>) -> Result<Vec<&'a [u8]>, AllocError>
     ensures { IfOk result (λ v. texts v.items ≡ declared_names (first_in case.now).design) }
 {
     let mut names = port_names(alloc, &case.design.ports)?;
@@ -193,7 +191,7 @@ fn declared_names<'a>(
 }
 
 #[tactic(auto, unfolding(crate::specs::Groups::has_clock))]
-pub(crate) fn has_clock(case: &Candidate) -> bool
+pub(crate) fn has_clock<'a>(case: &Candidate<'a>) -> bool
     ensures { result ≡ has_clock (first_in case.now) }
 {
     is_same(&case.design.name, case.map.top.as_bytes())
@@ -202,16 +200,18 @@ pub(crate) fn has_clock(case: &Candidate) -> bool
 }
 
 #[tactic(auto, unfolding(crate::specs::Groups::declares_once))]
-pub(crate) fn declares_once(alloc: Global, case: &Candidate) -> Result<bool, AllocError>
+pub(crate) fn declares_once<'a>(alloc: Global, case: &Candidate<'a>) -> Result<bool, AllocError>
     ensures { IfOk result (λ b. b ≡ declares_once (first_in case.now)) }
 {
     let ports = port_names(alloc, &case.design.ports)?;
     let variables = variable_names(alloc, &case.design.parts)?;
-    Ok(are_distinct(&ports) && are_distinct(&variables))
+    let has_distinct_ports = are_distinct(alloc, &ports)?;
+    let has_distinct_variables = are_distinct(alloc, &variables)?;
+    Ok(has_distinct_ports && has_distinct_variables)
 }
 
 #[tactic(auto, unfolding(crate::specs::Groups::has_ranges))]
-pub(crate) fn has_ranges(case: &Candidate) -> bool
+pub(crate) fn has_ranges<'a>(case: &Candidate<'a>) -> bool
     ensures { result ≡ has_ranges (first_in case.now) }
 {
     ports_are_small(&case.design.ports)
@@ -220,17 +220,19 @@ pub(crate) fn has_ranges(case: &Candidate) -> bool
 }
 
 #[tactic(auto, unfolding(crate::specs::Groups::has_assignments))]
-pub(crate) fn has_assignments(alloc: Global, case: &Candidate) -> Result<bool, AllocError>
+pub(crate) fn has_assignments<'a>(alloc: Global, case: &Candidate<'a>) -> Result<bool, AllocError>
     ensures { IfOk result (λ b. b ≡ has_assignments (first_in case.now)) }
 {
     let names = assigned_names(alloc, &case.design.parts)?;
-    Ok(all_nets(case, &names)
-        && are_distinct(&names)
-        && terms_read_sources(case, &case.design.parts))
+    let is_distinct = are_distinct(alloc, &names)?;
+    Ok(all_nets(case, &names) && is_distinct && terms_read_sources(case, &case.design.parts))
 }
 
 #[tactic(auto, unfolding(crate::specs::Groups::is_narrow_everywhere))]
-pub(crate) fn is_narrow_everywhere(alloc: Global, case: &Candidate) -> Result<bool, AllocError>
+pub(crate) fn is_narrow_everywhere<'a>(
+    alloc: Global,
+    case: &Candidate<'a>,
+) -> Result<bool, AllocError>
     ensures { IfOk result (λ b. b ≡ is_narrow_everywhere (first_in case.now)) }
 {
     let names = declared_names(alloc, case)?;
@@ -238,7 +240,7 @@ pub(crate) fn is_narrow_everywhere(alloc: Global, case: &Candidate) -> Result<bo
 }
 
 #[tactic(auto, unfolding(crate::specs::Groups::has_few_bits))]
-pub(crate) fn has_few_bits(alloc: Global, case: &Candidate) -> Result<bool, AllocError>
+pub(crate) fn has_few_bits<'a>(alloc: Global, case: &Candidate<'a>) -> Result<bool, AllocError>
     ensures { IfOk result (λ b. b ≡ has_few_bits (first_in case.now)) }
 {
     let names = declared_names(alloc, case)?;
@@ -246,20 +248,23 @@ pub(crate) fn has_few_bits(alloc: Global, case: &Candidate) -> Result<bool, Allo
 }
 
 /// Whether a clocked block of this signal may assign the targets and read the names.
-fn is_block(case: &Candidate, signal: &[u8], targets: &[&[u8]], read: &[&[u8]]) -> bool
+fn is_block<'a>(
+    case: &Candidate<'a>,
+    signal: &'a [u8],
+    targets: &[&'a [u8]],
+    read: &[&'a [u8]],
+) -> bool
     ensures { result ≡ (same_name signal.now (first_in case.now).map.clock && all_names (is_target (first_in case.now)) (texts targets.now) && all_names (is_read (first_in case.now)) (texts read.now)) }
 {
-    is_same(signal, case.map.clock.as_bytes())
-        && all_targets(case, targets)
-        && all_read(case, read)
+    is_same(signal, case.map.clock.as_bytes()) && all_targets(case, targets) && all_read(case, read)
 }
 
 /// Whether the one clocked block is at the clock and assigns and reads what it may.
-fn has_block(
+fn has_block<'a>(
     alloc: Global,
-    case: &Candidate,
-    signal: &[u8],
-    action: &Action,
+    case: &Candidate<'a>,
+    signal: &'a [u8],
+    action: &'a Action,
 ) -> Result<bool, AllocError>
     requires { only_behind None (blocks_among (first_in case.now).design.parts) ≡ Some (signal.now, action_of action.now) }
     ensures { IfOk result (λ b. b ≡ has_block (first_in case.now)) }
@@ -272,7 +277,7 @@ fn has_block(
 }
 
 /// Whether the module has the clock, the names and the ranges that it must have.
-fn has_declarations(alloc: Global, case: &Candidate) -> Result<bool, AllocError>
+fn has_declarations<'a>(alloc: Global, case: &Candidate<'a>) -> Result<bool, AllocError>
     ensures { IfOk result (λ b. b ≡ (has_clock (first_in case.now) && declares_once (first_in case.now) && has_ranges (first_in case.now) && is_narrow_everywhere (first_in case.now))) }
 {
     let is_once = declares_once(alloc, case)?;
@@ -281,11 +286,11 @@ fn has_declarations(alloc: Global, case: &Candidate) -> Result<bool, AllocError>
 }
 
 /// Whether the module keeps all rules. Its one clocked block is given by its signal and what it does.
-pub(crate) fn is_accepted_module(
+pub(crate) fn is_accepted_module<'a>(
     alloc: Global,
-    case: &Candidate,
-    signal: &[u8],
-    action: &Action,
+    case: &Candidate<'a>,
+    signal: &'a [u8],
+    action: &'a Action,
 ) -> Result<bool, AllocError>
     requires { only_behind None (blocks_among (first_in case.now).design.parts) ≡ Some (signal.now, action_of action.now) }
     ensures { IfOk result (λ b. b ≡ module_groups (first_in case.now)) }

@@ -3,7 +3,7 @@
 ghost use Rattle.std.specs.Prelude.{◌≡◌, ◌++◌, map, IfOk};
 ghost use Rattle.wb_meaning.specs.Value.{same_name};
 ghost use Rattle.wb_first.specs.Names.{assigned_among};
-ghost use Rattle.wb_first.specs.Accepted.{is_among, are_distinct, all_names, port_names, variable_names, keys};
+ghost use Rattle.wb_first.specs.Accepted.{port_names, variable_names, keys};
 ghost use Rattle.first_text.specs.View.{port_of, part_of};
 
 use first_text::{Part, Port};
@@ -14,30 +14,6 @@ pub(crate) fn is_same(name: &[u8], wanted: &[u8]) -> bool
     ensures { result ≡ same_name name.now wanted.now }
 {
     name == wanted
-}
-
-/// Whether the name is one of these.
-pub(crate) fn is_among(names: &[&[u8]], name: &[u8]) -> bool
-    ensures { result ≡ is_among (map (λ x. x.now) names.now) name.now }
-{
-    for other in names {
-        if is_same(*other, name) {
-            return true;
-        }
-    }
-    false
-}
-
-/// Whether no name stands twice.
-pub(crate) fn are_distinct(names: &[&[u8]]) -> bool
-    ensures { result ≡ are_distinct (map (λ x. x.now) names.now) }
-{
-    for (place, name) in names.iter().enumerate() {
-        if is_among(&names[place + 1..], *name) {
-            return false;
-        }
-    }
-    true
 }
 
 /// The names of ports, in their order.
@@ -81,16 +57,4 @@ pub(crate) fn assigned_names<'a>(
         }
     }
     Ok(names)
-}
-
-/// Whether each of the names is one of the others.
-pub(crate) fn are_among(names: &[&[u8]], others: &[&[u8]]) -> bool
-    ensures { result ≡ all_names (is_among (map (λ x. x.now) others.now)) (map (λ x. x.now) names.now) }
-{
-    for name in names {
-        if !is_among(others, *name) {
-            return false;
-        }
-    }
-    true
 }

@@ -11,56 +11,56 @@ use crate::lookups::{assigned, bits, is_data, is_input, is_output, is_register, 
 use first_text::{Primary, Term};
 
 /// Whether the name has at most 128 bits.
-pub(crate) fn is_narrow(case: &Candidate, name: &[u8]) -> bool
+pub(crate) fn is_narrow<'a>(case: &Candidate<'a>, name: &'a [u8]) -> bool
     ensures { result ≡ is_narrow (first_in case.now).design name.now }
 {
     bits(case, name) <= 128
 }
 
 /// Whether something drives the name.
-fn is_driven(case: &Candidate, name: &[u8]) -> bool
+fn is_driven<'a>(case: &Candidate<'a>, name: &'a [u8]) -> bool
     ensures { result ≡ is_driven (first_in case.now).design name.now }
 {
     is_input(case, name) || is_register(case, name) || assigned(case, name).is_some()
 }
 
 /// Whether an assignment may read the name.
-fn is_source(case: &Candidate, name: &[u8]) -> bool
+fn is_source<'a>(case: &Candidate<'a>, name: &'a [u8]) -> bool
     ensures { result ≡ is_source (first_in case.now) name.now }
 {
     is_data(case, name) && (is_input(case, name) || is_register(case, name))
 }
 
 /// Whether the name is an output that is no variable.
-pub(crate) fn is_net(case: &Candidate, name: &[u8]) -> bool
+pub(crate) fn is_net<'a>(case: &Candidate<'a>, name: &'a [u8]) -> bool
     ensures { result ≡ is_net (first_in case.now) name.now }
 {
     is_data(case, name) && is_output(case, name) && !is_variable(case, name)
 }
 
 /// Whether the clocked block may assign the name.
-pub(crate) fn is_target(case: &Candidate, name: &[u8]) -> bool
+pub(crate) fn is_target<'a>(case: &Candidate<'a>, name: &'a [u8]) -> bool
     ensures { result ≡ is_target (first_in case.now) name.now }
 {
     is_data(case, name) && is_variable(case, name)
 }
 
 /// Whether the clocked block may read the name.
-pub(crate) fn is_read(case: &Candidate, name: &[u8]) -> bool
+pub(crate) fn is_read<'a>(case: &Candidate<'a>, name: &'a [u8]) -> bool
     ensures { result ≡ is_read (first_in case.now) name.now }
 {
     is_data(case, name) && is_driven(case, name)
 }
 
 /// Whether the name is driven where it is an output.
-pub(crate) fn is_kept(case: &Candidate, name: &[u8]) -> bool
+pub(crate) fn is_kept<'a>(case: &Candidate<'a>, name: &'a [u8]) -> bool
     ensures { result ≡ is_kept (first_in case.now).design name.now }
 {
     !is_output(case, name) || is_driven(case, name)
 }
 
 /// The bits of a register or of an input other than the clock, 0 of another name.
-pub(crate) fn counted_bits(case: &Candidate, name: &[u8]) -> u64
+pub(crate) fn counted_bits<'a>(case: &Candidate<'a>, name: &'a [u8]) -> u64
     ensures exact { result ≡ counted_bits (first_in case.now) name.now }
     ensures small { result ≤ 2 ^ 32 }
 {
@@ -71,7 +71,7 @@ pub(crate) fn counted_bits(case: &Candidate, name: &[u8]) -> u64
     }
 }
 
-fn primary_reads_sources(case: &Candidate, primary: &Primary) -> bool
+fn primary_reads_sources<'a>(case: &Candidate<'a>, primary: &'a Primary) -> bool
     ensures { result ≡ all_names (is_source (first_in case.now)) (primary_names (primary_of primary.now)) }
 {
     match primary {
@@ -81,8 +81,8 @@ fn primary_reads_sources(case: &Candidate, primary: &Primary) -> bool
 }
 
 /// Whether an assignment may read the names of the term.
-#[tactic(auto, using(crate::proofs::Tests::all_names_append))]
-pub(crate) fn term_reads_sources(case: &Candidate, term: &Term) -> bool
+#[tactic(auto, using(crate::proofs::NameTests::all_names_append))]
+pub(crate) fn term_reads_sources<'a>(case: &Candidate<'a>, term: &'a Term) -> bool
     ensures { result ≡ all_names (is_source (first_in case.now)) (term_names (term_of term.now)) }
 {
     match term {

@@ -42,6 +42,7 @@ const OUTPUT_REGISTER: Texts = Texts {
 };
 
 const NONE: (&str, &str) = ("", "");
+
 const MODULE_ROWS: [Row; 34] = [
     // The counter.
     Row {
@@ -233,7 +234,10 @@ const MODULE_ROWS: [Row; 34] = [
     Row {
         model: NONE,
         map: NONE,
-        design: ("reg [7:0] cnt;\n  assign q = cnt;\n  always @(posedge clk)\n    if (rst)", "reg [7:0] cnt; reg a;\n  assign q = cnt;\n  always @(posedge clk)\n    if (a)"),
+        design: (
+            "reg [7:0] cnt;\n  assign q = cnt;\n  always @(posedge clk)\n    if (rst)",
+            "reg [7:0] cnt; reg a;\n  assign q = cnt;\n  always @(posedge clk)\n    if (a)",
+        ),
         is_accepted: false,
     },
     // Sixteen bits.
@@ -340,37 +344,55 @@ const MAP_ROWS: [Row; 29] = [
         is_accepted: false,
     },
     Row {
-        model: ("{\"name\":\"cnt\",\"sort\":8,\"init\":0}", "{\"name\":\"cnt\",\"sort\":8,\"init\":0},{\"name\":\"bit\",\"sort\":1}"),
+        model: (
+            "{\"name\":\"cnt\",\"sort\":8,\"init\":0}",
+            "{\"name\":\"cnt\",\"sort\":8,\"init\":0},{\"name\":\"bit\",\"sort\":1}",
+        ),
         map: NONE,
         design: ("reg [7:0] cnt;", "reg [7:0] cnt; reg a;"),
         is_accepted: false,
     },
     Row {
-        model: ("{\"name\":\"cnt\",\"sort\":8,\"init\":0}", "{\"name\":\"cnt\",\"sort\":8,\"init\":0},{\"name\":\"bit\",\"sort\":1}"),
+        model: (
+            "{\"name\":\"cnt\",\"sort\":8,\"init\":0}",
+            "{\"name\":\"cnt\",\"sort\":8,\"init\":0},{\"name\":\"bit\",\"sort\":1}",
+        ),
         map: ("\"cnt\":\"cnt\"", "\"bit\":\"a\",\"cnt\":\"cnt\""),
         design: ("reg [7:0] cnt;", "reg [7:0] cnt; reg a;"),
         is_accepted: true,
     },
     Row {
-        model: ("{\"name\":\"cnt\",\"sort\":8,\"init\":0}", "{\"name\":\"cnt\",\"sort\":8,\"init\":0},{\"name\":\"bit\",\"sort\":\"bool\"}"),
+        model: (
+            "{\"name\":\"cnt\",\"sort\":8,\"init\":0}",
+            "{\"name\":\"cnt\",\"sort\":8,\"init\":0},{\"name\":\"bit\",\"sort\":\"bool\"}",
+        ),
         map: ("\"cnt\":\"cnt\"", "\"bit\":\"a\",\"cnt\":\"cnt\""),
         design: ("reg [7:0] cnt;", "reg [7:0] cnt; reg a;"),
         is_accepted: true,
     },
     Row {
-        model: ("{\"name\":\"cnt\",\"sort\":8,\"init\":0}", "{\"name\":\"cnt\",\"sort\":8,\"init\":0},{\"name\":\"bit\",\"sort\":\"bool\"}"),
+        model: (
+            "{\"name\":\"cnt\",\"sort\":8,\"init\":0}",
+            "{\"name\":\"cnt\",\"sort\":8,\"init\":0},{\"name\":\"bit\",\"sort\":\"bool\"}",
+        ),
         map: ("\"cnt\":\"cnt\"", "\"bit\":\"a\",\"cnt\":\"cnt\""),
         design: ("reg [7:0] cnt;", "reg [7:0] cnt; reg [1:0] a;"),
         is_accepted: false,
     },
     Row {
-        model: ("{\"name\":\"cnt\",\"sort\":8,\"init\":0}", "{\"name\":\"cnt\",\"sort\":8,\"init\":0},{\"name\":\"bit\",\"sort\":1}"),
+        model: (
+            "{\"name\":\"cnt\",\"sort\":8,\"init\":0}",
+            "{\"name\":\"cnt\",\"sort\":8,\"init\":0},{\"name\":\"bit\",\"sort\":1}",
+        ),
         map: ("\"cnt\":\"cnt\"", "\"bit\":\"go\",\"cnt\":\"cnt\""),
         design: NONE,
         is_accepted: false,
     },
     Row {
-        model: ("{\"name\":\"cnt\",\"sort\":8,\"init\":0}", "{\"name\":\"cnt\",\"sort\":8,\"init\":0},{\"name\":\"big\",\"sort\":32}"),
+        model: (
+            "{\"name\":\"cnt\",\"sort\":8,\"init\":0}",
+            "{\"name\":\"cnt\",\"sort\":8,\"init\":0},{\"name\":\"big\",\"sort\":32}",
+        ),
         map: ("\"cnt\":\"cnt\"", "\"big\":\"7\",\"cnt\":\"cnt\""),
         design: NONE,
         is_accepted: true,
@@ -421,13 +443,19 @@ const MAP_ROWS: [Row; 29] = [
     },
     Row {
         model: NONE,
-        map: ("{\"name\":\"CLR\",\"commit\":\"1\",\"bound\":1}", "{\"name\":\"CLR\",\"commit\":\"1\",\"bound\":1},{\"name\":\"CLR\",\"commit\":\"1\",\"bound\":1}"),
+        map: (
+            "{\"name\":\"CLR\",\"commit\":\"1\",\"bound\":1}",
+            "{\"name\":\"CLR\",\"commit\":\"1\",\"bound\":1},{\"name\":\"CLR\",\"commit\":\"1\",\"bound\":1}",
+        ),
         design: NONE,
         is_accepted: false,
     },
     Row {
         model: NONE,
-        map: ("{\"name\":\"CLR\",\"commit\":\"1\",\"bound\":1}", "{\"name\":\"CLR\",\"commit\":\"1\",\"bound\":1},{\"name\":\"NOP\",\"commit\":\"1\",\"bound\":1}"),
+        map: (
+            "{\"name\":\"CLR\",\"commit\":\"1\",\"bound\":1}",
+            "{\"name\":\"CLR\",\"commit\":\"1\",\"bound\":1},{\"name\":\"NOP\",\"commit\":\"1\",\"bound\":1}",
+        ),
         design: NONE,
         is_accepted: false,
     },
@@ -517,7 +545,11 @@ fn check(rt: &impl Abort, alloc: Global, texts: &Texts, rows: &[Row]) -> Result<
     for row in rows {
         let design = row.design.1;
         let map = row.map.1;
-        assert_eq!(rt; is_accepted(alloc, texts, row)?, row.is_accepted, "{map} {design}");
+        assert_eq!(rt;
+            is_accepted(alloc, texts, row)?,
+            row.is_accepted,
+            "{map} {design}"
+        );
     }
     Ok(())
 }

@@ -29,6 +29,7 @@ fn append_digits(out: &mut Vec<u8>, number: u128) -> Result<(), NoMemory>
 {
     let start = out.len();
     let mut rest = number;
+    // A number of 128 bits has at most 32 digits; 64 is what the definition of digits counts down from.
     for _taken in 0..64u8 {
         out.insert(start, glyph((rest % 16) as u8))?;
         rest /= 16;

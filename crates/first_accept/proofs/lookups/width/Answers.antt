@@ -1,4 +1,4 @@
-use Rattle.std.proofs.Common.{◌≡◌, ◌+◌, ℕ, sym, ap, ◌∙◌, arith, Some, None, max, min, ◌-◌}
+use Rattle.std.proofs.Common.{◌≡◌, ◌+◌, sym, ap, ◌∙◌, arith}
 use Rattle.wb_meaning.specs.Verilog.Expression.{distance}
 use Rattle.first_text.specs.View.{bounds_of}
 use Rattle.first_accept.specs.Known.{bounds_width, bound_value}
@@ -8,7 +8,7 @@ use Rattle.first_accept.proofs.lookups.width.Goals as goal
 pub returns-in-Some-clause-exact : goal.returns-in-Some-clause-exact
 returns-in-Some-clause-exact c =
     let e : bounds_width (bounds_of c.args.bounds) ≡ distance (bound_value c.in-Some.range.left) (bound_value c.in-Some.range.right) + 1 =
-        ap (λ b. bounds_width (bounds_of b)) c.in-Some.is ∙ width_some c.in-Some.range.left c.in-Some.range.right in
+    ap (λ b. bounds_width (bounds_of b)) c.in-Some.is ∙ width_some c.in-Some.range.left c.in-Some.range.right in
     omega (arith, e)
 
 pub returns-in-None-clause-exact : goal.returns-in-None-clause-exact

@@ -1,4 +1,4 @@
-use Rattle.std.proofs.Common.{◌≡◌, map, drop}
+use Rattle.std.proofs.Common.{◌≡◌, drop}
 use Rattle.wb_first.specs.Accepted.{all_names, is_narrow}
 use Rattle.first_accept.specs.View.{first_in}
 use Rattle.first_accept.specs.Known.{texts}

@@ -2,7 +2,6 @@ use Rattle.std.proofs.Common.{◌≡◌, map, drop}
 use Rattle.wb_first.specs.Accepted.{variables_agree}
 use Rattle.first_text.specs.View.{part_of}
 use Rattle.first_accept.specs.View.{first_in}
-use Rattle.first_accept.specs.Known.{texts}
 use Rattle.first_accept.proofs.module_rules.variables_agree.Given as goal
 
 abbrev pub invariant-loop-part : goal.invariant-loop-part

@@ -1,7 +1,0 @@
-use Rattle.std.proofs.Common.{◌≡◌, map, drop}
-use Rattle.wb_first.specs.Names.{port_named}
-use Rattle.first_text.specs.View.{port_of}
-use Rattle.first_accept.proofs.lookups.port_among.Given as goal
-
-abbrev pub invariant-loop-port : goal.invariant-loop-port
-invariant-loop-port l = port_named (map port_of l.ports) l.name ≡ port_named (map port_of (drop l.port-index l.ports)) l.name

@@ -1,0 +1,7 @@
+pub mod UpdateAlone
+pub mod Prefixes
+pub mod Sequence
+pub mod Memories
+pub mod Numbers
+pub mod ValueSorts
+pub mod Widths

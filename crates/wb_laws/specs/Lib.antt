@@ -1,0 +1,4 @@
+pub mod Instructions
+pub mod Runs
+pub mod Terms
+pub mod Widths

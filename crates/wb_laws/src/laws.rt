@@ -1,0 +1,41 @@
+//! The laws, each the contract of a function without code.
+ghost use Rattle.wb_laws.specs.Instructions.{InstructionWithoutChildIsItsUpdate};
+ghost use Rattle.wb_laws.specs.Runs.{RunShorterThanTheResetRefines, PrefixRefines, IdleCycleHasOneCount, IdleCycleHasOneState};
+ghost use Rattle.wb_laws.specs.Terms.{TermFitsItsSort};
+ghost use Rattle.wb_laws.specs.Widths.{ValueFitsItsWidth, ValueFitsItsContext};
+
+/// An instruction without a child leads to the state that its updates alone give, and to no other.
+pub fn an_instruction_without_child_is_its_update()
+    ensures { InstructionWithoutChildIsItsUpdate }
+{}
+
+/// A run that is over before its reset refines every model.
+pub fn a_run_shorter_than_the_reset_refines()
+    ensures { RunShorterThanTheResetRefines }
+{}
+
+/// Where a run refines the model, so do its first cycles by themselves.
+pub fn a_prefix_refines()
+    ensures { PrefixRefines }
+{}
+
+/// Before an idle cycle one number of commands has ended.
+pub fn an_idle_cycle_has_one_count()
+    ensures { IdleCycleHasOneCount }
+{}
+
+/// At an idle cycle the model has one state.
+pub fn an_idle_cycle_has_one_state()
+    ensures { IdleCycleHasOneState }
+{}
+
+/// Where each name stands for a value of its sort, the value of a term that has a sort is of that sort.
+pub fn a_term_fits_its_sort()
+    ensures { TermFitsItsSort }
+{}
+
+/// The value of a Verilog expression is a number of its width; in a wider context it is one of the context's.
+pub fn a_value_fits_its_width()
+    ensures alone { ValueFitsItsWidth }
+    ensures in_context { ValueFitsItsContext }
+{}
