@@ -5,3 +5,4 @@ pub mod Memories
 pub mod Numbers
 pub mod ValueSorts
 pub mod Widths
+pub mod Settled

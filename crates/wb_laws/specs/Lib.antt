@@ -2,3 +2,4 @@ pub mod Instructions
 pub mod Runs
 pub mod Terms
 pub mod Widths
+pub mod Settled

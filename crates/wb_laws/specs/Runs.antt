@@ -10,7 +10,7 @@ abbrev pub RunShorterThanTheResetRefines : Type 0
 RunShorterThanTheResetRefines = (s : Setting) (run : Run) (cycles : ℕ) → cycles < s.map.reset_cycles → Refines s run cycles
 
 -- Where a run refines the model, so do its first p cycles by themselves: what has gone well so far does not depend on what
--- comes later.
+-- comes later. (A command of bound 4 that starts at cycle 5 and ends at cycle 8 is still open in a run of 7 cycles, and 7 < 5 + 4.)
 abbrev pub PrefixRefines : Type 0
 PrefixRefines = (s : Setting) (run : Run) (cycles p : ℕ) → p ≤ cycles → Refines s run cycles → Refines s run p
 

@@ -38,7 +38,7 @@ abbrev mutual
 abbrev pub ValueFitsItsWidth : Type 0
 ValueFitsItsWidth = (s : Scope) (v : Valuation) (e : Expression) → LeavesFit s v e → self_value s v e < 2 ^ width_of s e
 
--- In a wider context it is a number of the context's width, by either sign.
+-- In a wider context it is a number of the context's width, by either sign: 4'd9 + 4'd8 is 1 by itself, and 17 in 5 bits.
 abbrev pub ValueFitsItsContext : Type 0
 ValueFitsItsContext =
     (s : Scope) (v : Valuation) (e : Expression) (w : ℕ) (signed : Bool) → LeavesFit s v e → width_of s e ≤ w

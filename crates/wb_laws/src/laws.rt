@@ -1,6 +1,7 @@
 //! The laws, each the contract of a function without code.
 ghost use Rattle.wb_laws.specs.Instructions.{InstructionWithoutChildIsItsUpdate};
 ghost use Rattle.wb_laws.specs.Runs.{RunShorterThanTheResetRefines, PrefixRefines, IdleCycleHasOneCount, IdleCycleHasOneState};
+ghost use Rattle.wb_laws.specs.Settled.{SettledValueFitsItsWidth};
 ghost use Rattle.wb_laws.specs.Terms.{TermFitsItsSort};
 ghost use Rattle.wb_laws.specs.Widths.{ValueFitsItsWidth, ValueFitsItsContext};
 
@@ -38,4 +39,9 @@ pub fn a_term_fits_its_sort()
 pub fn a_value_fits_its_width()
     ensures alone { ValueFitsItsWidth }
     ensures in_context { ValueFitsItsContext }
+{}
+
+/// In a settled valuation of a design the value of each expression is a number of its width, where the text's numbers are.
+pub fn a_settled_value_fits_its_width()
+    ensures { SettledValueFitsItsWidth }
 {}

@@ -1,0 +1,62 @@
+-- Values of expressions in a design that has settled.
+use Rattle.std.specs.Prelude.{◌≡◌, ◌^◌, ◌<◌, List, [], ◌∷◌, Some, is_some, IsTrue, ◌⊎◌, ⊤}
+use Rattle.wb_meaning.specs.Value.{Name, Valuation, entry_of}
+use Rattle.wb_meaning.specs.Verilog.Syntax.{Expression, number, name, concatenation, replication, as_signed, as_unsigned, unary, reduction, binary, shift, power, comparison, logical, conditional, Expressions, no_expressions, expression, ParameterDeclaration, Module, Source}
+use Rattle.wb_meaning.specs.Verilog.Expression.{width_of, self_value}
+use Rattle.wb_meaning.specs.Verilog.Hierarchy.{all_parameters, Placed, placed_scope, module_named, Instance, instance_named, connected}
+use Rattle.wb_meaning.specs.Verilog.Settled.{Design, at_path, inside, IsDeclared, IsSettled}
+
+abbrev mutual
+  -- The numbers whose bits may come into the expression's value fit their widths, and its names are all of a kind.
+  pub LeavesAre : (Name → Type 0) → Expression → Type 0
+  LeavesAre IsOfKind (number k) = k.value < 2 ^ k.width
+  LeavesAre IsOfKind (name n x) = IsOfKind n
+  LeavesAre IsOfKind (concatenation es) = AllLeavesAre IsOfKind es
+  LeavesAre IsOfKind (replication k es) = AllLeavesAre IsOfKind es
+  LeavesAre IsOfKind (as_signed x) = LeavesAre IsOfKind x
+  LeavesAre IsOfKind (as_unsigned x) = LeavesAre IsOfKind x
+  LeavesAre IsOfKind (unary op x) = LeavesAre IsOfKind x
+  LeavesAre IsOfKind (reduction op x) = ⊤
+  LeavesAre IsOfKind (binary op x y) = LeavesAre IsOfKind x × LeavesAre IsOfKind y
+  LeavesAre IsOfKind (shift op x n) = LeavesAre IsOfKind x
+  LeavesAre IsOfKind (power x n) = ⊤
+  LeavesAre IsOfKind (comparison op x y) = ⊤
+  LeavesAre IsOfKind (logical op x y) = ⊤
+  LeavesAre IsOfKind (conditional c x y) = LeavesAre IsOfKind x × LeavesAre IsOfKind y
+
+  pub AllLeavesAre : (Name → Type 0) → Expressions → Type 0
+  AllLeavesAre IsOfKind no_expressions = ⊤
+  AllLeavesAre IsOfKind (expression e es) = LeavesAre IsOfKind e × AllLeavesAre IsOfKind es
+
+-- The numbers of an expression fit, whatever its names are.
+abbrev pub NumbersFit : Expression → Type 0
+NumbersFit e = LeavesAre (λ n. ⊤) e
+
+abbrev pub ValuesFit : List (Name × Expression) → Type 0
+ValuesFit [] = ⊤
+ValuesFit (v ∷ vs) = NumbersFit v.1 × ValuesFit vs
+
+abbrev pub ParametersFit : List ParameterDeclaration → Type 0
+ParametersFit [] = ⊤
+ParametersFit (d ∷ ds) = ValuesFit d.values × ParametersFit ds
+
+-- The numbers in the parameters' values of a module fit, and so do those that its instances give to parameters.
+pub record HasFittingNumbers (m : Module) : Type 0 where
+  pub parameters : ParametersFit (all_parameters m)
+  pub overrides : (u : Name) (i : Instance) (names : List Name) (n : Name) (e : Expression) → instance_named m.items u ≡ Some i
+      → connected i.parameters names n ≡ Some e → NumbersFit e
+
+abbrev pub SourceHasFittingNumbers : Source → Type 0
+SourceHasFittingNumbers source = (n : Name) (m : Module) → module_named source n ≡ Some m → HasFittingNumbers m
+
+-- n is a parameter of the module, or one of its nets and variables
+abbrev pub IsKnown : Placed → Name → Type 0
+IsKnown p n = IsTrue (is_some (entry_of p.constants n)) ⊎ IsDeclared p n
+
+-- In a settled valuation the value of each expression of a module is a number of its width, where its numbers and those of the
+-- source's parameters fit their widths: parameters, nets, variables and memories all do.
+abbrev pub SettledValueFitsItsWidth : Type 0
+SettledValueFitsItsWidth =
+    (d : Design) (registers inputs v : Valuation) (path : List Name) (p : Placed) (e : Expression)
+    → SourceHasFittingNumbers d.source → IsSettled d registers inputs v → at_path d path ≡ Some p → LeavesAre (IsKnown p) e
+    → self_value (placed_scope p) (inside v path) e < 2 ^ width_of (placed_scope p) e
