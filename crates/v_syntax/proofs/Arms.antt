@@ -125,7 +125,7 @@ module _ (s : Scope) (v : Valuation) (e : Expression) (w : ℕ) (t : Bool) (r : 
 
   -- chains of operators
   binary-within : (b : Box Expression Global) (a : Vec BinaryLink Global) → e ≡ Binary b a → (width_at s (tree_of b.value) ≤ w) × AreLinksWithin s w a.items
-  binary-within b a i = within-linked s a.items (tree_of b.value) w (narrow.of-Binary s e n b a i).1 (subst (λ y. width_at s y ≤ w) (ap tree_of i ∙ tree_of-Binary b a) h)
+  binary-within b a i = within-linked s a.items (tree_of b.value) w (subst (λ y. width_at s y ≤ w) (ap tree_of i ∙ tree_of-Binary b a) h)
 
   pub first-narrow : (b : Box Expression Global) (a : Vec BinaryLink Global) → e ≡ Binary b a → (x : Expression) → x ≡ b.value → IsNarrow s (tree_of x)
   first-narrow b a i x j = subst (λ y. IsNarrow s (tree_of y)) (sym j) (narrow.of-Binary s e n b a i).0
@@ -143,7 +143,7 @@ module _ (s : Scope) (v : Valuation) (e : Expression) (w : ℕ) (t : Bool) (r : 
       r ≡ links_value s v w t y ls → r ≡ value_at s v (tree_of e) w t
   links-value b a i x j ls k y f g =
       g ∙ ap (links_value s v w t y) k ∙ ap (λ z. links_value s v w t z a.items) (f ∙ ap (λ z. value_at s v (tree_of z) w t) j)
-      ∙ sym (ap (λ z. value_at s v (tree_of z) w t) i ∙ ap (λ z. value_at s v z w t) (tree_of-Binary b a) ∙ value-linked s v a.items (tree_of b.value) w t (narrow.of-Binary s e n b a i).1)
+      ∙ sym (ap (λ z. value_at s v (tree_of z) w t) i ∙ ap (λ z. value_at s v z w t) (tree_of-Binary b a) ∙ value-linked s v a.items (tree_of b.value) w t)
 
   -- chains of tests
   pub test-narrow : (b : Box Expression Global) (a : Vec TestLink Global) → e ≡ Test b a → (x : Expression) → x ≡ b.value → IsNarrow s (tree_of x)

@@ -1,6 +1,7 @@
 pub mod Trees
 pub mod Signs
 pub mod Numbers
+pub mod Integers
 pub mod Widths
 pub mod Narrows
 pub mod Values

@@ -9,7 +9,7 @@ use Rattle.wb_meaning.specs.Verilog.Expression.{Scope, width_of, widths_of}
 use Rattle.v_syntax.specs.declared.tree.PrefixOperator.{PrefixOperator}
 use Rattle.v_syntax.specs.declared.tree.PrefixOperator.TheVariants.{Plus}
 use Rattle.v_syntax.specs.declared.tree.BinaryOperator.{BinaryOperator}
-use Rattle.v_syntax.specs.declared.tree.BinaryOperator.TheVariants.{Power, Divide, Modulo}
+use Rattle.v_syntax.specs.declared.tree.BinaryOperator.TheVariants.{Power}
 use Rattle.v_syntax.specs.declared.tree.TestOperator.{TestOperator}
 use Rattle.v_syntax.specs.declared.tree.TestOperator.TheVariants.{Less}
 use Rattle.v_syntax.specs.declared.tree.BinaryLink.{BinaryLink}
@@ -18,7 +18,7 @@ use Rattle.v_syntax.specs.declared.tree.Choice.{Choice}
 use Rattle.v_syntax.specs.declared.tree.Expression.{Expression, Concatenation, Prefix, Binary, Test, Conditional}
 use Rattle.v_syntax.specs.Tree.{tree_of, prefixed, all_prefixed, combined, tested, expressions_of}
 use Rattle.v_syntax.specs.Narrow.{IsWidth, IsNarrow, AreNarrow}
-use Rattle.v_syntax.specs.Chain.{linked, test_linked, chosen, IsCoveredLink, AreLinksNarrow, AreTestsNarrow, AreChoicesNarrow}
+use Rattle.v_syntax.specs.Chain.{linked, test_linked, chosen, AreLinksNarrow, AreTestsNarrow, AreChoicesNarrow}
 use Rattle.v_syntax.proofs.Trees.{tree_of-Concatenation, tree_of-Binary, tree_of-Test, tree_of-Conditional}
 
 widest : (v w : _) → IsWidth v → IsWidth w → IsWidth (max v w)
@@ -36,23 +36,21 @@ narrow_width s (unary op x) h = narrow_width s x h
 narrow_width s (reduction op x) h = (omega arith, omega arith)
 narrow_width s (binary op x y) h = widest _ _ (narrow_width s x h.0) (narrow_width s y h.1)
 narrow_width s (shift op x n) h = narrow_width s x h.0
-narrow_width s (power x n) h = absurd h
+narrow_width s (power x n) h = narrow_width s x h.0
 narrow_width s (comparison op x y) h = (omega arith, omega arith)
 narrow_width s (logical op x y) h = (omega arith, omega arith)
 narrow_width s (conditional c x y) h = widest _ _ (narrow_width s x h.1) (narrow_width s y h.2)
 
-narrow-combined : (s : Scope) (o : BinaryOperator) (x y : pure.Expression) → IsNarrow s (combined o x y) → IsCoveredLink o × IsNarrow s x × IsNarrow s y
-narrow-combined s Power x y h = absurd h
-narrow-combined s Divide x y h = absurd h.2
-narrow-combined s Modulo x y h = absurd h.2
-narrow-combined s _ x y h = (tt, h.0, h.1)
+narrow-combined : (s : Scope) (o : BinaryOperator) (x y : pure.Expression) → IsNarrow s (combined o x y) → IsNarrow s x × IsNarrow s y
+narrow-combined s Power x y h = h
+narrow-combined s _ x y h = h
 
 pub narrow-linked : (s : Scope) (ls : List BinaryLink) (x : pure.Expression) → IsNarrow s (linked ls x) → IsNarrow s x × AreLinksNarrow s ls
 narrow-linked s [] x h = (h, tt)
 narrow-linked s (l ∷ ls) x h =
     let g = narrow-linked s ls _ h in
     let f = narrow-combined s l.operator x (tree_of l.operand) g.0 in
-    (f.1, (f.0, f.2, g.1))
+    (f.0, (f.1, g.1))
 
 narrow-tested : (s : Scope) (o : TestOperator) (x y : pure.Expression) → IsNarrow s (tested o x y) → IsNarrow s x × IsNarrow s y
 narrow-tested s Less x y h = h

@@ -9,7 +9,7 @@ use Rattle.wb_meaning.specs.Verilog.Expression.{Scope, bit, is_nonzero, widened}
 use Rattle.v_syntax.specs.declared.tree.PrefixOperator.{PrefixOperator}
 use Rattle.v_syntax.specs.declared.tree.PrefixOperator.TheVariants.{Plus}
 use Rattle.v_syntax.specs.declared.tree.BinaryOperator.{BinaryOperator}
-use Rattle.v_syntax.specs.declared.tree.BinaryOperator.TheVariants.{Power, Divide, Modulo, ShiftLeft, ShiftRight, ArithmeticShiftRight}
+use Rattle.v_syntax.specs.declared.tree.BinaryOperator.TheVariants.{Power, ShiftLeft, ShiftRight, ArithmeticShiftRight}
 use Rattle.v_syntax.specs.declared.tree.TestOperator.{TestOperator}
 use Rattle.v_syntax.specs.declared.tree.TestOperator.TheVariants.{Less}
 use Rattle.v_syntax.specs.declared.tree.BinaryLink.{BinaryLink}
@@ -17,8 +17,8 @@ use Rattle.v_syntax.specs.declared.tree.TestLink.{TestLink}
 use Rattle.v_syntax.specs.declared.tree.Choice.{Choice}
 use Rattle.v_syntax.specs.declared.tree.Expression.{Expression}
 use Rattle.v_syntax.specs.Tree.{tree_of, prefixed, all_prefixed, combined, tested, expressions_of}
-use Rattle.v_syntax.specs.Chain.{linked, test_linked, chosen, is_reduction, has_reduction, IsCoveredLink, AreLinksNarrow}
-use Rattle.v_syntax.specs.Evaluation.{width_at, sign_at, value_at, self_at, run_width, step_value, run_value, prefixes_value, is_shift, applied, links_value, AreLinksWithin, is_logical, compared_said, said, tests_value, context_width, context_sign, choices_value, AreChoicesWithin, parts_width, parts_value}
+use Rattle.v_syntax.specs.Chain.{linked, test_linked, chosen, is_reduction, has_reduction, leaves_to_left}
+use Rattle.v_syntax.specs.Evaluation.{width_at, sign_at, value_at, self_at, run_width, step_value, run_value, prefixes_value, applied, links_value, AreLinksWithin, is_logical, compared_said, said, tests_value, context_width, context_sign, choices_value, AreChoicesWithin, parts_width, parts_value}
 use Rattle.v_syntax.specs.Operators.{unary_prefix_value, reduction_prefix_value, joined_truth}
 
 -- truth values as bits
@@ -92,33 +92,29 @@ prefixes-reduced (o ∷ os) w y y' u x h =
 
 -- links
 
-value-combined : (s : Scope) (v : Valuation) (o : BinaryOperator) (x y : pure.Expression) (w : ℕ) (t : Bool) → IsCoveredLink o → value_at s v (combined o x y) w t ≡ applied s v o w t (value_at s v x w t) y
-unfolding value_at self_at
-value-combined s v Power x y w t h = absurd h
-value-combined s v Divide x y w t h = absurd h
-value-combined s v Modulo x y w t h = absurd h
-value-combined s v _ x y w t h = refl
+value-combined : (s : Scope) (v : Valuation) (o : BinaryOperator) (x y : pure.Expression) (w : ℕ) (t : Bool) → value_at s v (combined o x y) w t ≡ applied s v o w t (value_at s v x w t) y
+unfolding value_at self_at sign_at width_at
+value-combined s v Power x y w t = refl
+value-combined s v _ x y w t = refl
 
-pub value-linked : (s : Scope) (v : Valuation) (ls : List BinaryLink) (x : pure.Expression) (w : ℕ) (t : Bool) → AreLinksNarrow s ls → value_at s v (linked ls x) w t ≡ links_value s v w t (value_at s v x w t) ls
-value-linked s v [] x w t h = refl
-value-linked s v (l ∷ ls) x w t h =
-    value-linked s v ls _ w t h.2 ∙ ap (λ a. links_value s v w t a ls) (value-combined s v l.operator x (tree_of l.operand) w t h.0)
+pub value-linked : (s : Scope) (v : Valuation) (ls : List BinaryLink) (x : pure.Expression) (w : ℕ) (t : Bool) → value_at s v (linked ls x) w t ≡ links_value s v w t (value_at s v x w t) ls
+value-linked s v [] x w t = refl
+value-linked s v (l ∷ ls) x w t =
+    value-linked s v ls _ w t ∙ ap (λ a. links_value s v w t a ls) (value-combined s v l.operator x (tree_of l.operand) w t)
 
-within-combined : (s : Scope) (o : BinaryOperator) (x y : pure.Expression) (w : ℕ) → IsCoveredLink o → width_at s (combined o x y) ≤ w → (width_at s x ≤ w) × (is_shift o ≡ false → width_at s y ≤ w)
+within-combined : (s : Scope) (o : BinaryOperator) (x y : pure.Expression) (w : ℕ) → width_at s (combined o x y) ≤ w → (width_at s x ≤ w) × (leaves_to_left o ≡ false → width_at s y ≤ w)
 unfolding width_at
-within-combined s Power x y w c h = absurd c
-within-combined s Divide x y w c h = absurd c
-within-combined s Modulo x y w c h = absurd c
-within-combined s ShiftLeft x y w c h = (h, λ k. cc k)
-within-combined s ShiftRight x y w c h = (h, λ k. cc k)
-within-combined s ArithmeticShiftRight x y w c h = (h, λ k. cc k)
-within-combined s _ x y w c h = (omega (arith, h), λ k. omega (arith, h))
+within-combined s Power x y w h = (h, λ k. cc k)
+within-combined s ShiftLeft x y w h = (h, λ k. cc k)
+within-combined s ShiftRight x y w h = (h, λ k. cc k)
+within-combined s ArithmeticShiftRight x y w h = (h, λ k. cc k)
+within-combined s _ x y w h = (omega (arith, h), λ k. omega (arith, h))
 
-pub within-linked : (s : Scope) (ls : List BinaryLink) (x : pure.Expression) (w : ℕ) → AreLinksNarrow s ls → width_at s (linked ls x) ≤ w → (width_at s x ≤ w) × AreLinksWithin s w ls
-within-linked s [] x w n h = (h, tt)
-within-linked s (l ∷ ls) x w n h =
-    let g = within-linked s ls _ w n.2 h in
-    let f = within-combined s l.operator x (tree_of l.operand) w n.0 g.0 in
+pub within-linked : (s : Scope) (ls : List BinaryLink) (x : pure.Expression) (w : ℕ) → width_at s (linked ls x) ≤ w → (width_at s x ≤ w) × AreLinksWithin s w ls
+within-linked s [] x w h = (h, tt)
+within-linked s (l ∷ ls) x w h =
+    let g = within-linked s ls _ w h in
+    let f = within-combined s l.operator x (tree_of l.operand) w g.0 in
     (f.0, (f.1, g.1))
 
 -- tests

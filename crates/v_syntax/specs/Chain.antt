@@ -4,7 +4,7 @@ use Rattle.wb_meaning.specs.Verilog.Expression as meaning
 use Rattle.v_syntax.specs.declared.tree.PrefixOperator.{PrefixOperator}
 use Rattle.v_syntax.specs.declared.tree.PrefixOperator.TheVariants.{Plus, Minus, Complement}
 use Rattle.v_syntax.specs.declared.tree.BinaryOperator.{BinaryOperator}
-use Rattle.v_syntax.specs.declared.tree.BinaryOperator.TheVariants.{Power, Divide, Modulo, ShiftLeft, ShiftRight, ArithmeticShiftRight}
+use Rattle.v_syntax.specs.declared.tree.BinaryOperator.TheVariants.{Power, ShiftLeft, ShiftRight, ArithmeticShiftRight}
 use Rattle.v_syntax.specs.declared.tree.BinaryLink.{BinaryLink}
 use Rattle.v_syntax.specs.declared.tree.TestLink.{TestLink}
 use Rattle.v_syntax.specs.declared.tree.Choice.{Choice}
@@ -69,15 +69,9 @@ abbrev pub choices_width : meaning.Scope → List Choice → ℕ → ℕ
 choices_width s [] w = w
 choices_width s (c ∷ cs) w = choices_width s cs (max w (meaning.width_of s (tree_of c.value)))
 
-abbrev pub IsCoveredLink : BinaryOperator → Type 0
-IsCoveredLink Power = ⊥
-IsCoveredLink Divide = ⊥
-IsCoveredLink Modulo = ⊥
-IsCoveredLink _ = Unit {0}
-
 abbrev pub AreLinksNarrow : meaning.Scope → List BinaryLink → Type 0
 AreLinksNarrow s [] = Unit {0}
-AreLinksNarrow s (l ∷ ls) = IsCoveredLink l.operator × IsNarrow s (tree_of l.operand) × AreLinksNarrow s ls
+AreLinksNarrow s (l ∷ ls) = IsNarrow s (tree_of l.operand) × AreLinksNarrow s ls
 
 abbrev pub AreTestsNarrow : meaning.Scope → List TestLink → Type 0
 AreTestsNarrow s [] = Unit {0}

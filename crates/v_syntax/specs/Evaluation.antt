@@ -7,7 +7,6 @@ use Rattle.wb_meaning.specs.Verilog.Expression as meaning
 use Rattle.wb_meaning.specs.Verilog.Expression.{Scope, bit, is_nonzero, integer_from}
 use Rattle.v_syntax.specs.declared.tree.PrefixOperator.{PrefixOperator}
 use Rattle.v_syntax.specs.declared.tree.BinaryOperator.{BinaryOperator}
-use Rattle.v_syntax.specs.declared.tree.BinaryOperator.TheVariants.{ShiftLeft, ShiftRight, ArithmeticShiftRight}
 use Rattle.v_syntax.specs.declared.tree.TestOperator.{TestOperator}
 use Rattle.v_syntax.specs.declared.tree.TestOperator.TheVariants.{Both, Either}
 use Rattle.v_syntax.specs.declared.tree.Expression.{Expression}
@@ -15,8 +14,8 @@ use Rattle.v_syntax.specs.declared.tree.BinaryLink.{BinaryLink}
 use Rattle.v_syntax.specs.declared.tree.TestLink.{TestLink}
 use Rattle.v_syntax.specs.declared.tree.Choice.{Choice}
 use Rattle.v_syntax.specs.Tree.{tree_of}
-use Rattle.v_syntax.specs.Chain.{is_reduction}
-use Rattle.v_syntax.specs.Operators.{unary_prefix_value, reduction_prefix_value, shifted_value, plain_value, compared_value, joined_truth}
+use Rattle.v_syntax.specs.Chain.{is_reduction, leaves_to_left}
+use Rattle.v_syntax.specs.Operators.{unary_prefix_value, reduction_prefix_value, outer_value, plain_value, compared_value, joined_truth}
 
 -- The meaning's functions under names that do not unfold by themselves.
 unfoldable pub width_at : Scope → pure.Expression → ℕ
@@ -78,16 +77,10 @@ prefixes_value [] w y u x = y
 prefixes_value (o ∷ os) w y u x =
     cond (is_reduction o) (bit (reduction_prefix_value o (run_width os u) (run_value os u x))) (unary_prefix_value o w (prefixes_value os w y u x))
 
-abbrev pub is_shift : BinaryOperator → Bool
-is_shift ShiftLeft = true
-is_shift ShiftRight = true
-is_shift ArithmeticShiftRight = true
-is_shift _ = false
-
 -- an operator on a left operand of value a and a right operand
 abbrev pub applied : Scope → Valuation → BinaryOperator → ℕ → Bool → ℕ → pure.Expression → ℕ
 applied s v o w signed a y =
-    cond (is_shift o) (shifted_value o w signed a (self_at s v y)) (plain_value o w a (value_at s v y w signed))
+    cond (leaves_to_left o) (outer_value o w signed a (sign_at s y) (width_at s y) (self_at s v y)) (plain_value o w signed a (value_at s v y w signed))
 
 abbrev pub links_value : Scope → Valuation → ℕ → Bool → ℕ → List BinaryLink → ℕ
 links_value s v w signed a [] = a
@@ -95,7 +88,7 @@ links_value s v w signed a (l ∷ ls) = links_value s v w signed (applied s v l.
 
 -- The operands that are widened with the whole are no wider than w.
 abbrev pub IsLinkWithin : Scope → ℕ → BinaryLink → Type 0
-IsLinkWithin s w l = is_shift l.operator ≡ false → width_at s (tree_of l.operand) ≤ w
+IsLinkWithin s w l = leaves_to_left l.operator ≡ false → width_at s (tree_of l.operand) ≤ w
 
 abbrev pub AreLinksWithin : Scope → ℕ → List BinaryLink → Type 0
 AreLinksWithin s w [] = Unit {0}

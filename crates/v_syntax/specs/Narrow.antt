@@ -1,8 +1,8 @@
 -- Expressions that fit words: no part is wider than 128 bits, and objects and values fit.
--- Replications, part selects, ** and / and % are not covered so far: no expression with one of them is narrow.
+-- Replications and part selects are not covered so far: no expression with one of them is narrow.
 use Rattle.std.specs.Prelude.{ℕ, ◌^◌, ◌≤◌, ◌<◌, slice_index, IfSome}
 use Rattle.wb_meaning.specs.Value.{Value, as_number, as_words, Valuation}
-use Rattle.wb_meaning.specs.Verilog.Syntax.{Expression, number, name, concatenation, replication, as_signed, as_unsigned, unary, reduction, binary, shift, power, comparison, logical, conditional, Expressions, no_expressions, expression, Select, index, part, part_up, part_down, Selects, whole, one, two, BinaryOperator, divide, modulo}
+use Rattle.wb_meaning.specs.Verilog.Syntax.{Expression, number, name, concatenation, replication, as_signed, as_unsigned, unary, reduction, binary, shift, power, comparison, logical, conditional, Expressions, no_expressions, expression, Select, index, part, part_up, part_down, Selects, whole, one, two}
 use Rattle.wb_meaning.specs.Verilog.Expression.{Object, Scope, object_width, widths_of, selects_width}
 
 -- 1 to 128 bits
@@ -26,12 +26,6 @@ HasFittingValues s v = (n : _) → FitsObject (s n) (v n)
 abbrev pub IsReady : Scope → Valuation → Type 0
 IsReady s v = HasNarrowObjects s × HasFittingValues s v
 
--- the operators whose values are computed so far
-abbrev pub IsCoveredOperator : BinaryOperator → Type 0
-IsCoveredOperator divide = ⊥
-IsCoveredOperator modulo = ⊥
-IsCoveredOperator _ = Unit {0}
-
 abbrev mutual
   -- Each part of the expression has 1 to 128 bits, and each number's bits fit its width. (Only the forms with a width of
   -- their own are looked at: every other form is as wide as its widest operand, or has one bit.)
@@ -44,9 +38,9 @@ abbrev mutual
   IsNarrow s (as_unsigned x) = IsNarrow s x
   IsNarrow s (unary op x) = IsNarrow s x
   IsNarrow s (reduction op x) = IsNarrow s x
-  IsNarrow s (binary op x y) = IsNarrow s x × IsNarrow s y × IsCoveredOperator op
+  IsNarrow s (binary op x y) = IsNarrow s x × IsNarrow s y
   IsNarrow s (shift op x n) = IsNarrow s x × IsNarrow s n
-  IsNarrow s (power x n) = ⊥
+  IsNarrow s (power x n) = IsNarrow s x × IsNarrow s n
   IsNarrow s (comparison op x y) = IsNarrow s x × IsNarrow s y
   IsNarrow s (logical op x y) = IsNarrow s x × IsNarrow s y
   IsNarrow s (conditional c x y) = IsNarrow s c × IsNarrow s x × IsNarrow s y

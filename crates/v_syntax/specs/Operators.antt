@@ -1,11 +1,11 @@
 -- What the code's operators do to numbers, by the meaning of the operators that they stand for.
-use Rattle.std.specs.Prelude.{ℕ, Bool, false, ℤ}
+use Rattle.std.specs.Prelude.{ℕ, Bool, cond, ℤ, pos, neg_ℤ}
 use Rattle.wb_meaning.specs.Verilog.Syntax as pure
-use Rattle.wb_meaning.specs.Verilog.Expression.{unary_value, reduction_value, binary_value, shift_value, comparison_value, logical_value}
+use Rattle.wb_meaning.specs.Verilog.Expression.{unary_value, reduction_value, binary_value, shift_value, power_value, integer_from, comparison_value, logical_value}
 use Rattle.v_syntax.specs.declared.tree.PrefixOperator.{PrefixOperator}
 use Rattle.v_syntax.specs.declared.tree.PrefixOperator.TheVariants.{Minus, Complement, AllOnes, NotAllOnes, AnyOne, NoOne, OddOnes, EvenOnes}
 use Rattle.v_syntax.specs.declared.tree.BinaryOperator.{BinaryOperator}
-use Rattle.v_syntax.specs.declared.tree.BinaryOperator.TheVariants.{Multiply, Add, Subtract, ShiftLeft, ArithmeticShiftRight, And, Xor, Xnor, Or}
+use Rattle.v_syntax.specs.declared.tree.BinaryOperator.TheVariants.{Power, Multiply, Divide, Modulo, Add, Subtract, ShiftLeft, ArithmeticShiftRight, And, Xor, Xnor, Or}
 use Rattle.v_syntax.specs.declared.tree.TestOperator.{TestOperator}
 use Rattle.v_syntax.specs.declared.tree.TestOperator.TheVariants.{Less, LessOrEqual, Greater, GreaterOrEqual, NotEqual, Both}
 
@@ -28,15 +28,27 @@ shifted_value ShiftLeft w signed x n = shift_value pure.left w signed x n
 shifted_value ArithmeticShiftRight w signed x n = shift_value pure.arithmetic_right w signed x n
 shifted_value _ w signed x n = shift_value pure.right w signed x n
 
-abbrev pub plain_value : BinaryOperator → ℕ → ℕ → ℕ → ℕ
-plain_value Multiply w x y = binary_value pure.multiply w false x y
-plain_value Add w x y = binary_value pure.add w false x y
-plain_value Subtract w x y = binary_value pure.subtract w false x y
-plain_value And w x y = binary_value pure.bitwise_and w false x y
-plain_value Xor w x y = binary_value pure.bitwise_xor w false x y
-plain_value Xnor w x y = binary_value pure.bitwise_xnor w false x y
-plain_value Or w x y = binary_value pure.bitwise_or w false x y
-plain_value _ w x y = x
+-- an operator whose right operand is by itself, of width u, sign t and value n: a power, or a shift
+abbrev pub outer_value : BinaryOperator → ℕ → Bool → ℕ → Bool → ℕ → ℕ → ℕ
+outer_value Power w signed x t u n = power_value w x (integer_from t u n)
+outer_value o w signed x t u n = shifted_value o w signed x n
+
+-- an operator whose operands both stand in the context
+abbrev pub plain_value : BinaryOperator → ℕ → Bool → ℕ → ℕ → ℕ
+plain_value Multiply w signed x y = binary_value pure.multiply w signed x y
+plain_value Divide w signed x y = binary_value pure.divide w signed x y
+plain_value Modulo w signed x y = binary_value pure.modulo w signed x y
+plain_value Add w signed x y = binary_value pure.add w signed x y
+plain_value Subtract w signed x y = binary_value pure.subtract w signed x y
+plain_value And w signed x y = binary_value pure.bitwise_and w signed x y
+plain_value Xor w signed x y = binary_value pure.bitwise_xor w signed x y
+plain_value Xnor w signed x y = binary_value pure.bitwise_xnor w signed x y
+plain_value Or w signed x y = binary_value pure.bitwise_or w signed x y
+plain_value _ w signed x y = x
+
+-- the integer of this size, below 0 where it is negative
+abbrev pub integer_of_size : Bool → ℕ → ℤ
+integer_of_size negative n = cond negative (neg_ℤ (pos n)) (pos n)
 
 abbrev pub compared_value : TestOperator → ℤ → ℤ → Bool
 compared_value Less x y = comparison_value pure.less x y

@@ -1,7 +1,7 @@
 -- Expressions whose values are known, over unsigned a and b and signed s, of 8 bits each.
 use Rattle.std.specs.Prelude.{ℕ, Bool, true, false, [], ◌∷◌, None}
 use Rattle.wb_meaning.specs.Value.{Name, Valuation, valuation_of, number as a_number}
-use Rattle.wb_meaning.specs.Verilog.Syntax.{Expression, number, name, concatenation, unary, minus, binary, add, shift, right, arithmetic_right, comparison, less, no_expressions, expression, whole}
+use Rattle.wb_meaning.specs.Verilog.Syntax.{Expression, number, name, concatenation, unary, minus, binary, add, divide, modulo, power, shift, right, arithmetic_right, comparison, less, no_expressions, expression, whole}
 use Rattle.wb_meaning.specs.Verilog.Expression.{Object, Scope, scope_of}
 
 abbrev byte : Bool → Object
@@ -36,6 +36,23 @@ one = number (record { width = 32; sized = false; signed = true; value = 1; unkn
 -- 8'd1
 abbrev pub unsigned_one : Expression
 unsigned_one = number (record { width = 8; sized = true; signed = false; value = 1; unknown = 0; wild = 0 })
+
+-- x as an unsigned number of 8 bits, and as a signed one
+abbrev pub byte_of : ℕ → Expression
+byte_of x = number (record { width = 8; sized = true; signed = false; value = x; unknown = 0; wild = 0 })
+
+abbrev pub signed_byte_of : ℕ → Expression
+signed_byte_of x = number (record { width = 8; sized = true; signed = true; value = x; unknown = 0; wild = 0 })
+
+-- x / y, x % y and x ** y
+abbrev pub quotient_of : Expression → Expression → Expression
+quotient_of x y = binary divide x y
+
+abbrev pub remainder_of : Expression → Expression → Expression
+remainder_of x y = binary modulo x y
+
+abbrev pub power_of : Expression → Expression → Expression
+power_of x y = power x y
 
 -- (a + b) >> 1
 abbrev pub half_sum : Expression

@@ -1,6 +1,7 @@
 //! Syntax trees of Verilog sources, and plain programs that say what their expressions are worth.
 #![tactic(auto)]
 
+mod arithmetic;
 mod choice;
 mod evaluation;
 pub mod expression;

@@ -6,12 +6,12 @@ ghost use Rattle.v_syntax.specs.Index.{integer_at};
 ghost use Rattle.v_syntax.specs.Scope.{scope_at, valuation_at};
 ghost use Rattle.v_syntax.specs.Tree.{tree_of, select_of, selects_of, expressions_of};
 ghost use Rattle.v_syntax.specs.Narrow.{IsNarrow, AreNarrow, IsSelectNarrow, AreSelectsNarrow, HasNarrowObjects, HasFittingValues, IsReady};
-ghost use Rattle.v_syntax.specs.Chain.{has_reduction, AreLinksNarrow, AreTestsNarrow, AreChoicesNarrow};
-ghost use Rattle.v_syntax.specs.Evaluation.{named_width, named_value, selects_width_at, selects_at, index_at, one_width, one_value, two_value, is_shift, width_at, value_at, self_at, links_value, AreLinksWithin, applied, run_width, run_value, prefixes_value, is_logical, context_width, context_sign, said, compared_said, tests_value, sign_at, choices_value, AreChoicesWithin, parts_value, parts_width};
+ghost use Rattle.v_syntax.specs.Chain.{has_reduction, leaves_to_left, AreLinksNarrow, AreTestsNarrow, AreChoicesNarrow};
+ghost use Rattle.v_syntax.specs.Evaluation.{named_width, named_value, selects_width_at, selects_at, index_at, one_width, one_value, two_value, width_at, value_at, self_at, links_value, AreLinksWithin, applied, run_width, run_value, prefixes_value, is_logical, context_width, context_sign, said, compared_said, tests_value, sign_at, choices_value, AreChoicesWithin, parts_value, parts_width};
 
 use crate::scope::{Entry, Scope, number_at, word_at};
 use crate::select::{Integer, indexed_bit, integer_of, word_number};
-use crate::sign::{is_reduction, reduces, sign_of};
+use crate::sign::{is_reduction, leaves_to_left, reduces, sign_of};
 use crate::tree::{
     BinaryLink, BinaryOperator, Choice, Expression, PrefixOperator, Select, Selects, TestLink,
     TestOperator,
@@ -100,18 +100,6 @@ fn is_logical(operator: TestOperator) -> bool
     ensures { result ≡ is_logical operator }
 {
     matches!(operator, TestOperator::Both | TestOperator::Either)
-}
-
-/// Whether the operator is a shift.
-fn is_shift(operator: BinaryOperator) -> bool
-    ensures { result ≡ is_shift operator }
-{
-    matches!(
-        operator,
-        BinaryOperator::ShiftLeft
-            | BinaryOperator::ShiftRight
-            | BinaryOperator::ArithmeticShiftRight
-    )
 }
 
 /// A number of `width` bits with a word below it.
@@ -407,19 +395,20 @@ fn applied(
 ) -> u128
     requires ready { IsReady (scope_at scope.now) (valuation_at values.now) }
     requires narrow { IsNarrow (scope_at scope.now) (tree_of operand.now) }
-    requires within { is_shift operator ≡ false → width_at (scope_at scope.now) (tree_of operand.now) ≤ width }
+    requires within { leaves_to_left operator ≡ false → width_at (scope_at scope.now) (tree_of operand.now) ≤ width }
     requires some_bits { 1 ≤ width }
     requires at_most_128 { width ≤ 128 }
     requires fits { left < 2 ^ width }
     ensures value { result ≡ applied (scope_at scope.now) (valuation_at values.now) operator width signed left (tree_of operand.now) }
     ensures fits { result < 2 ^ width }
 {
-    if is_shift(operator) {
-        let count = self_value(scope, values, operand);
-        word::shifted(operator, width, signed, left, count.value)
+    if leaves_to_left(operator) {
+        let right = self_value(scope, values, operand);
+        let right_signed = operand_sign(scope, operand);
+        word::by_operand(operator, width, signed, left, right, right_signed)
     } else {
         let right = value_in(scope, values, operand, width, signed);
-        word::binary(operator, width, left, right)
+        word::binary(operator, width, signed, left, right)
     }
 }
 

@@ -4,6 +4,7 @@ ghost use Rattle.wb_meaning.specs.Verilog.Expression.{widened, integer_from, bit
 ghost use Rattle.v_syntax.specs.Chain.{is_reduction};
 ghost use Rattle.v_syntax.specs.Operators as operators;
 
+use crate::arithmetic::{natural, power, quotient, remainder};
 use crate::tree::{BinaryOperator, PrefixOperator, TestOperator};
 use wb_bits::Word;
 
@@ -69,13 +70,7 @@ pub(crate) fn reduction(operator: PrefixOperator, width: u32, value: u128) -> bo
 }
 
 /// The word of this width shifted by the unsigned number `count`.
-pub(crate) fn shifted(
-    operator: BinaryOperator,
-    width: u32,
-    signed: bool,
-    value: u128,
-    count: u128,
-) -> u128
+fn shifted(operator: BinaryOperator, width: u32, signed: bool, value: u128, count: u128) -> u128
     requires some_bits { 1 ≤ width }
     requires at_most_128 { width ≤ 128 }
     requires fits { value < 2 ^ width }
@@ -91,28 +86,50 @@ pub(crate) fn shifted(
     }
 }
 
-/// What an operator other than `**`, `/`, `%` and the shifts makes of two numbers of `width` bits.
-pub(crate) fn binary(operator: BinaryOperator, width: u32, x: u128, y: u128) -> u128
+/// What a shift or `**` makes of a number of `width` bits and an operand by itself.
+pub(crate) fn by_operand(
+    operator: BinaryOperator,
+    width: u32,
+    signed: bool,
+    value: u128,
+    operand: Word,
+    operand_signed: bool,
+) -> u128
+    requires some_bits { 1 ≤ width }
+    requires at_most_128 { width ≤ 128 }
+    requires fits { value < 2 ^ width }
+    ensures value { result ≡ operators.outer_value operator width signed value operand_signed operand.width operand.value }
+    ensures fits { result < 2 ^ width }
+{
+    match operator {
+        BinaryOperator::Power => power(width, value, natural(operand_signed, operand)),
+        _ => shifted(operator, width, signed, value, operand.value),
+    }
+}
+
+/// What an operator other than `**` and the shifts makes of two numbers of `width` bits.
+pub(crate) fn binary(operator: BinaryOperator, width: u32, signed: bool, x: u128, y: u128) -> u128
     requires some_bits { 1 ≤ width }
     requires at_most_128 { width ≤ 128 }
     requires left_fits { x < 2 ^ width }
     requires right_fits { y < 2 ^ width }
-    ensures value { result ≡ operators.plain_value operator width x y }
+    ensures value { result ≡ operators.plain_value operator width signed x y }
     ensures fits { result < 2 ^ width }
 {
     let left = Word::new(width, x);
     let right = Word::new(width, y);
-    let word = match operator {
-        BinaryOperator::Add => wb_bits::add(left, right),
-        BinaryOperator::Subtract => wb_bits::sub(left, right),
-        BinaryOperator::Multiply => wb_bits::mul(left, right),
-        BinaryOperator::And => wb_bits::and(left, right),
-        BinaryOperator::Or => wb_bits::or(left, right),
-        BinaryOperator::Xor => wb_bits::xor(left, right),
-        BinaryOperator::Xnor => wb_bits::not(wb_bits::xor(left, right)),
-        _ => left,
-    };
-    word.value
+    match operator {
+        BinaryOperator::Add => wb_bits::add(left, right).value,
+        BinaryOperator::Subtract => wb_bits::sub(left, right).value,
+        BinaryOperator::Multiply => wb_bits::mul(left, right).value,
+        BinaryOperator::Divide => quotient(signed, width, x, y),
+        BinaryOperator::Modulo => remainder(signed, width, x, y),
+        BinaryOperator::And => wb_bits::and(left, right).value,
+        BinaryOperator::Or => wb_bits::or(left, right).value,
+        BinaryOperator::Xor => wb_bits::xor(left, right).value,
+        BinaryOperator::Xnor => wb_bits::not(wb_bits::xor(left, right)).value,
+        _ => x,
+    }
 }
 
 /// Whether one number of `width` bits is below another, as their signs say.

@@ -24,3 +24,21 @@ pub fn mixed_comparisons()
     ensures signed { self_value worked.names worked.no_operands (worked.minus_is_below worked.one) ≡ 1 }
     ensures unsigned { self_value worked.names worked.no_operands (worked.minus_is_below worked.unsigned_one) ≡ 0 }
 {}
+
+/// Of signed operands of 8 bits: `-7 / 2 = -3`, `7 / -2 = -3`, `-7 % 2 = -1`, `7 % -2 = 1`, and `-128 / -1` wraps. Unsigned: `200 / 3 = 66`, `200 % 3 = 2`.
+pub fn quotients()
+    ensures negative_left { self_value worked.names worked.no_operands (worked.quotient_of (worked.signed_byte_of 249) (worked.signed_byte_of 2)) ≡ 253 }
+    ensures negative_right { self_value worked.names worked.no_operands (worked.quotient_of (worked.signed_byte_of 7) (worked.signed_byte_of 254)) ≡ 253 }
+    ensures rest_of_negative { self_value worked.names worked.no_operands (worked.remainder_of (worked.signed_byte_of 249) (worked.signed_byte_of 2)) ≡ 255 }
+    ensures rest_by_negative { self_value worked.names worked.no_operands (worked.remainder_of (worked.signed_byte_of 7) (worked.signed_byte_of 254)) ≡ 1 }
+    ensures wraps { self_value worked.names worked.no_operands (worked.quotient_of (worked.signed_byte_of 128) (worked.signed_byte_of 255)) ≡ 128 }
+    ensures unsigned { self_value worked.names worked.no_operands (worked.quotient_of (worked.byte_of 200) (worked.byte_of 3)) ≡ 66 }
+    ensures unsigned_rest { self_value worked.names worked.no_operands (worked.remainder_of (worked.byte_of 200) (worked.byte_of 3)) ≡ 2 }
+{}
+
+/// In 8 bits: `3 ** 4 = 81`, `3 ** 6 = 729`, which is cut to 217, and `-2 ** 3 = -8`.
+pub fn powers()
+    ensures fits { self_value worked.names worked.no_operands (worked.power_of (worked.byte_of 3) (worked.byte_of 4)) ≡ 81 }
+    ensures cut { self_value worked.names worked.no_operands (worked.power_of (worked.byte_of 3) (worked.byte_of 6)) ≡ 217 }
+    ensures negative { self_value worked.names worked.no_operands (worked.power_of (worked.signed_byte_of 254) (worked.byte_of 3)) ≡ 248 }
+{}
