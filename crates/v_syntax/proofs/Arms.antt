@@ -1,13 +1,13 @@
 -- What each form of an expression asks of its parts, and its value by theirs: e is the expression, x the operand
 -- and ls the chain as calls were given them, and r what was returned.
-use Rattle.std.proofs.Common.{◌≡◌, ◌≤◌, ◌<◌, ℕ, ◌^◌, ◌∙◌, refl, ap, sym, subst, Bool, true, false, cond, max, List, [], ◌∷◌, Some, None, unwrap_or, arith}
+use Rattle.std.proofs.Common.{◌≡◌, ◌≤◌, ◌<◌, ℕ, ◌*◌, ◌^◌, ◌∙◌, refl, ap, sym, subst, Bool, true, false, cond, max, List, [], ◌∷◌, Some, None, unwrap_or, arith}
 use Rattle.std.specs.Borrow.{Bor}
 use Rattle.std.specs.declared.boxed.Box.{Box}
 use Rattle.std.specs.declared.vec.Vec.{Vec}
 use Rattle.std.specs.declared.alloc.Global.{Global}
 use Rattle.wb_meaning.specs.Value.{Valuation}
 use Rattle.wb_meaning.specs.Verilog.Syntax as pure
-use Rattle.wb_meaning.specs.Verilog.Syntax.{name, concatenation}
+use Rattle.wb_meaning.specs.Verilog.Syntax.{name, concatenation, replication}
 use Rattle.wb_meaning.specs.Verilog.Expression as meaning
 use Rattle.wb_meaning.specs.Verilog.Expression.{Scope, widened, bit}
 use Rattle.v_syntax.specs.declared.tree.Number.{Number as CodeNumber}
@@ -16,15 +16,15 @@ use Rattle.v_syntax.specs.declared.tree.BinaryLink.{BinaryLink}
 use Rattle.v_syntax.specs.declared.tree.TestLink.{TestLink}
 use Rattle.v_syntax.specs.declared.tree.Choice.{Choice}
 use Rattle.v_syntax.specs.declared.tree.Selects.{Selects}
-use Rattle.v_syntax.specs.declared.tree.Expression.{Expression, Number, Name, Concatenation, AsSigned, AsUnsigned, Prefix, Binary, Test, Conditional}
+use Rattle.v_syntax.specs.declared.tree.Expression.{Expression, Number, Name, Concatenation, Replication, AsSigned, AsUnsigned, Prefix, Binary, Test, Conditional}
 use Rattle.v_syntax.specs.Tree.{tree_of, selects_of, all_prefixed, expressions_of}
-use Rattle.v_syntax.specs.Narrow.{IsNarrow, AreNarrow, AreSelectsNarrow}
+use Rattle.v_syntax.specs.Narrow.{IsWidth, HasNarrowObjects, IsNarrow, AreNarrow, AreSelectsNarrow}
 use Rattle.v_syntax.specs.Chain.{has_reduction, AreLinksNarrow, AreTestsNarrow, AreChoicesNarrow}
-use Rattle.v_syntax.specs.Evaluation.{width_at, sign_at, value_at, self_at, selects_width_at, selects_at, is_logical, prefixes_value, links_value, AreLinksWithin, tests_value, context_width, context_sign, choices_value, AreChoicesWithin, parts_width, parts_value}
-use Rattle.v_syntax.proofs.Trees.{tree_of-Concatenation, tree_of-Binary, tree_of-Test, tree_of-Conditional}
+use Rattle.v_syntax.specs.Evaluation.{width_at, sign_at, value_at, self_at, count_at, selects_width_at, selects_at, is_logical, prefixes_value, links_value, AreLinksWithin, tests_value, context_width, context_sign, choices_value, AreChoicesWithin, parts_width, parts_value}
+use Rattle.v_syntax.proofs.Trees.{tree_of-Concatenation, tree_of-Replication, tree_of-Binary, tree_of-Test, tree_of-Conditional}
 use Rattle.v_syntax.proofs.Narrows as narrow
 use Rattle.v_syntax.proofs.Narrows.{narrow_width}
-use Rattle.v_syntax.proofs.Values.{bit_fits, prefixes-unary, prefixes-reduced, run-width, run-unary, value-all_prefixed, value-linked, within-linked, value-test_linked, within-test_linked, value-chosen, within-chosen, widths-parts, joined-parts}
+use Rattle.v_syntax.proofs.Values.{bit_fits, prefixes-unary, prefixes-reduced, run-width, run-unary, value-all_prefixed, value-linked, within-linked, value-test_linked, within-test_linked, value-chosen, within-chosen, widths-parts, joined-parts, width-repeated, value-repeated, some_left, some_right, most_right}
 
 pub some_bits : (s : Scope) (e : Expression) (w : ℕ) → IsNarrow s (tree_of e) → width_at s (tree_of e) ≤ w → 1 ≤ w
 unfolding width_at
@@ -105,6 +105,57 @@ module _ (s : Scope) (v : Valuation) (e : Expression) (w : ℕ) (t : Bool) (r : 
   unfolding value_at width_at self_at
   unsigned-value b i x j u y k l g =
       g ∙ ap (λ c. widened t c w y) (k ∙ ap (λ z. width_at s (tree_of z)) j) ∙ ap (widened t (width_at s (tree_of b.value)) w) (l ∙ ap (λ z. self_at s v (tree_of z)) j) ∙ sym (ap (λ z. value_at s v (tree_of z) w t) i)
+
+  -- replications
+  repeated-tree : (b : Box Expression Global) (a : Vec Expression Global) → e ≡ Replication b a → tree_of e ≡ replication (tree_of b.value) (expressions_of a.items)
+  repeated-tree b a i = ap tree_of i ∙ tree_of-Replication b a
+
+  repeated-width : (b : Box Expression Global) (a : Vec Expression Global) → e ≡ Replication b a → IsWidth (count_at s (tree_of b.value) * parts_width s a.items)
+  repeated-width b a i = subst IsWidth (width-repeated s (tree_of b.value) a.items) (narrow.of-Replication s e n b a i).0
+
+  pub repeated-objects : (b : Box Expression Global) (a : Vec Expression Global) → e ≡ Replication b a → HasNarrowObjects s
+  repeated-objects b a i = (narrow.of-Replication s e n b a i).1
+
+  pub count-narrow : (b : Box Expression Global) (a : Vec Expression Global) → e ≡ Replication b a → (x : Expression) → x ≡ b.value → IsNarrow s (tree_of x)
+  count-narrow b a i x j = subst (λ y. IsNarrow s (tree_of y)) (sym j) (narrow.of-Replication s e n b a i).2
+
+  pub repeated-narrow : (b : Box Expression Global) (a : Vec Expression Global) → e ≡ Replication b a → (es : List Expression) → es ≡ a.items → AreNarrow s (expressions_of es)
+  repeated-narrow b a i es j = subst (λ l. AreNarrow s (expressions_of l)) (sym j) (narrow.of-Replication s e n b a i).3
+
+  pub repeated-some : (b : Box Expression Global) (a : Vec Expression Global) → e ≡ Replication b a → (es : List Expression) → es ≡ a.items → 1 ≤ parts_width s es
+  repeated-some b a i es j = subst (λ l. 1 ≤ parts_width s l) (sym j) (some_right _ _ (repeated-width b a i).0)
+
+  pub repeated-most : (b : Box Expression Global) (a : Vec Expression Global) → e ≡ Replication b a → (es : List Expression) → es ≡ a.items → parts_width s es ≤ 128
+  repeated-most b a i es j =
+      let bounds = repeated-width b a i in
+      let more : parts_width s a.items ≤ count_at s (tree_of b.value) * parts_width s a.items = most_right _ _ bounds.0 in
+      subst (λ l. parts_width s l ≤ 128) (sym j) (omega (arith, more, bounds.1))
+
+  repeated-is : (b : Box Expression Global) (a : Vec Expression Global) → e ≡ Replication b a → (x : Expression) → x ≡ b.value → (m : ℕ) → m ≡ count_at s (tree_of x) → (es : List Expression) → es ≡ a.items → (u : ℕ) → u ≡ parts_width s es → m * u ≡ count_at s (tree_of b.value) * parts_width s a.items
+  repeated-is b a i x j m is_m es k u is_u = ap (λ z. z * u) (is_m ∙ ap (λ z. count_at s (tree_of z)) j) ∙ ap (λ z. count_at s (tree_of b.value) * z) (is_u ∙ ap (parts_width s) k)
+
+  pub count-some : (b : Box Expression Global) (a : Vec Expression Global) → e ≡ Replication b a → (x : Expression) → x ≡ b.value → (m : ℕ) → m ≡ count_at s (tree_of x) → 1 ≤ m
+  count-some b a i x j m is_m = subst (λ z. 1 ≤ z) (sym (is_m ∙ ap (λ z. count_at s (tree_of z)) j)) (some_left _ _ (repeated-width b a i).0)
+
+  pub copies-most : (b : Box Expression Global) (a : Vec Expression Global) → e ≡ Replication b a → (x : Expression) → x ≡ b.value → (m : ℕ) → m ≡ count_at s (tree_of x) → (es : List Expression) → es ≡ a.items → (u : ℕ) → u ≡ parts_width s es → m * u ≤ 128
+  copies-most b a i x j m is_m es k u is_u = subst (λ z. z ≤ 128) (sym (repeated-is b a i x j m is_m es k u is_u)) (repeated-width b a i).1
+
+  pub copies-within : (b : Box Expression Global) (a : Vec Expression Global) → e ≡ Replication b a → (x : Expression) → x ≡ b.value → (m : ℕ) → m ≡ count_at s (tree_of x) → (es : List Expression) → es ≡ a.items → (u : ℕ) → u ≡ parts_width s es → m * u ≤ w
+  unfolding width_at
+  copies-within b a i x j m is_m es k u is_u =
+      subst (λ z. z ≤ w) (sym (repeated-is b a i x j m is_m es k u is_u)) (subst (λ z. z ≤ w) (ap (meaning.width_of s) (repeated-tree b a i) ∙ width-repeated s (tree_of b.value) a.items) h)
+
+  pub copies-value : (b : Box Expression Global) (a : Vec Expression Global) → e ≡ Replication b a → (x : Expression) → x ≡ b.value → (m : ℕ) → m ≡ count_at s (tree_of x) → (es : List Expression) → es ≡ a.items → (u y : ℕ) → u ≡ parts_width s es → y ≡ parts_value s v es →
+      (p q : ℕ) → p ≡ m * u → q ≡ meaning.repeated m u y → r ≡ widened t p w q → r ≡ value_at s v (tree_of e) w t
+  copies-value b a i x j m is_m es k u y is_u is_y p q is_p is_q g =
+      let own_m : m ≡ count_at s (tree_of b.value) = is_m ∙ ap (λ z. count_at s (tree_of z)) j in
+      let own_u : u ≡ parts_width s a.items = is_u ∙ ap (parts_width s) k in
+      let own_y : y ≡ parts_value s v a.items = is_y ∙ ap (parts_value s v) k in
+      g ∙ ap (λ z. widened t z w q) is_p ∙ ap (widened t (m * u) w) is_q
+      ∙ ap (λ z. widened t (z * u) w (meaning.repeated z u y)) own_m
+      ∙ ap (λ z. widened t (count_at s (tree_of b.value) * z) w (meaning.repeated (count_at s (tree_of b.value)) z y)) own_u
+      ∙ ap (λ z. widened t (count_at s (tree_of b.value) * parts_width s a.items) w (meaning.repeated (count_at s (tree_of b.value)) (parts_width s a.items) z)) own_y
+      ∙ sym (ap (λ z. value_at s v z w t) (repeated-tree b a i) ∙ value-repeated s v (tree_of b.value) a.items w t)
 
   -- operators before an operand
   pub prefix-narrow : (os : Vec PrefixOperator Global) (b : Box Expression Global) → e ≡ Prefix os b → (x : Expression) → x ≡ b.value → IsNarrow s (tree_of x)

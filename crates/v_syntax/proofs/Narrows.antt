@@ -15,11 +15,11 @@ use Rattle.v_syntax.specs.declared.tree.TestOperator.TheVariants.{Less}
 use Rattle.v_syntax.specs.declared.tree.BinaryLink.{BinaryLink}
 use Rattle.v_syntax.specs.declared.tree.TestLink.{TestLink}
 use Rattle.v_syntax.specs.declared.tree.Choice.{Choice}
-use Rattle.v_syntax.specs.declared.tree.Expression.{Expression, Concatenation, Prefix, Binary, Test, Conditional}
+use Rattle.v_syntax.specs.declared.tree.Expression.{Expression, Concatenation, Replication, Prefix, Binary, Test, Conditional}
 use Rattle.v_syntax.specs.Tree.{tree_of, prefixed, all_prefixed, combined, tested, expressions_of}
 use Rattle.v_syntax.specs.Narrow.{IsWidth, IsNarrow, AreNarrow}
 use Rattle.v_syntax.specs.Chain.{linked, test_linked, chosen, AreLinksNarrow, AreTestsNarrow, AreChoicesNarrow}
-use Rattle.v_syntax.proofs.Trees.{tree_of-Concatenation, tree_of-Binary, tree_of-Test, tree_of-Conditional}
+use Rattle.v_syntax.proofs.Trees.{tree_of-Concatenation, tree_of-Replication, tree_of-Binary, tree_of-Test, tree_of-Conditional}
 
 widest : (v w : _) → IsWidth v → IsWidth w → IsWidth (max v w)
 widest v w h k = (omega (arith, h.0), omega (arith, h.1, k.1))
@@ -29,7 +29,7 @@ pub narrow_width : (s : Scope) (e : pure.Expression) → IsNarrow s e → IsWidt
 narrow_width s (number k) h = h.0
 narrow_width s (name n x) h = h.0
 narrow_width s (concatenation es) h = h.0
-narrow_width s (replication k es) h = absurd h
+narrow_width s (replication k es) h = h.0
 narrow_width s (as_signed x) h = narrow_width s x h
 narrow_width s (as_unsigned x) h = narrow_width s x h
 narrow_width s (unary op x) h = narrow_width s x h
@@ -81,6 +81,9 @@ narrow-all_prefixed s (o ∷ os) x h = narrow-all_prefixed s os x (narrow-prefix
 module _ (s : Scope) (e : Expression) (h : IsNarrow s (tree_of e)) where
   pub of-Concatenation : (v : Vec Expression Global) → e ≡ Concatenation v → IsWidth (widths_of s (expressions_of v.items)) × AreNarrow s (expressions_of v.items)
   of-Concatenation v i = subst (IsNarrow s) (ap tree_of i ∙ tree_of-Concatenation v) h
+
+  pub of-Replication : (b : Box Expression Global) (v : Vec Expression Global) → e ≡ Replication b v → IsNarrow s (replication (tree_of b.value) (expressions_of v.items))
+  of-Replication b v i = subst (IsNarrow s) (ap tree_of i ∙ tree_of-Replication b v) h
 
   pub of-Prefix : (os : Vec PrefixOperator Global) (b : Box Expression Global) → e ≡ Prefix os b → IsNarrow s (tree_of b.value)
   of-Prefix os b i = narrow-all_prefixed s os.items (tree_of b.value) (subst (IsNarrow s) (ap tree_of i) h)

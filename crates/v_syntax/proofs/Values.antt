@@ -1,9 +1,10 @@
 -- Values of chains, over the lists of their links.
-use Rattle.std.proofs.Common.{◌≡◌, ◌≤◌, ◌<◌, ℕ, ◌+◌, ◌*◌, ◌^◌, ◌∙◌, refl, ap, max, cond, Bool, true, false, ◌&&◌, ◌||◌, List, [], ◌∷◌, Option, Some, unwrap_or, arith}
+use Rattle.std.proofs.Common.{◌≡◌, ◌≤◌, ◌<◌, ℕ, zero, suc, ◌+◌, ◌*◌, ◌^◌, ◌∙◌, refl, ap, max, cond, Bool, true, false, ◌&&◌, ◌||◌, List, [], ◌∷◌, Option, Some, unwrap_or, arith}
 use Rattle.std.proofs.Math.Pow.{pow_mono}
+use Rattle.std.proofs.Math.Nat.{zero-mul, mul-zero}
 use Rattle.wb_meaning.specs.Value.{Valuation}
 use Rattle.wb_meaning.specs.Verilog.Syntax as pure
-use Rattle.wb_meaning.specs.Verilog.Syntax.{concatenation}
+use Rattle.wb_meaning.specs.Verilog.Syntax.{concatenation, replication}
 use Rattle.wb_meaning.specs.Verilog.Expression as meaning
 use Rattle.wb_meaning.specs.Verilog.Expression.{Scope, bit, is_nonzero, widened}
 use Rattle.v_syntax.specs.declared.tree.PrefixOperator.{PrefixOperator}
@@ -18,7 +19,7 @@ use Rattle.v_syntax.specs.declared.tree.Choice.{Choice}
 use Rattle.v_syntax.specs.declared.tree.Expression.{Expression}
 use Rattle.v_syntax.specs.Tree.{tree_of, prefixed, all_prefixed, combined, tested, expressions_of}
 use Rattle.v_syntax.specs.Chain.{linked, test_linked, chosen, is_reduction, has_reduction, leaves_to_left}
-use Rattle.v_syntax.specs.Evaluation.{width_at, sign_at, value_at, self_at, run_width, step_value, run_value, prefixes_value, applied, links_value, AreLinksWithin, is_logical, compared_said, said, tests_value, context_width, context_sign, choices_value, AreChoicesWithin, parts_width, parts_value}
+use Rattle.v_syntax.specs.Evaluation.{width_at, sign_at, value_at, self_at, count_at, run_width, step_value, run_value, prefixes_value, applied, links_value, AreLinksWithin, is_logical, compared_said, said, tests_value, context_width, context_sign, choices_value, AreChoicesWithin, parts_width, parts_value}
 use Rattle.v_syntax.specs.Operators.{unary_prefix_value, reduction_prefix_value, joined_truth}
 
 -- truth values as bits
@@ -225,3 +226,36 @@ joined-parts s v [] = refl
 joined-parts s v (e ∷ es) =
     ap (λ w. meaning.self_value s v (tree_of e) * 2 ^ w + meaning.joined_value s v (expressions_of es)) (widths-parts s es)
     ∙ ap (λ j. meaning.self_value s v (tree_of e) * 2 ^ parts_width s es + j) (joined-parts s v es)
+
+-- copies side by side
+
+pub width-repeated : (s : Scope) (k : pure.Expression) (es : List Expression) → meaning.width_of s (replication k (expressions_of es)) ≡ count_at s k * parts_width s es
+unfolding count_at
+width-repeated s k es = ap (λ w. meaning.natural_of (meaning.integer_of s meaning.no_values k) * w) (widths-parts s es)
+
+pub value-repeated : (s : Scope) (v : Valuation) (k : pure.Expression) (es : List Expression) (w : ℕ) (t : Bool) →
+    value_at s v (replication k (expressions_of es)) w t ≡ widened t (count_at s k * parts_width s es) w (meaning.repeated (count_at s k) (parts_width s es) (parts_value s v es))
+unfolding value_at count_at
+value-repeated s v k es w t =
+    let n : ℕ = meaning.natural_of (meaning.integer_of s meaning.no_values k) in
+    ap (λ u. widened t (n * u) w (meaning.repeated n u (meaning.joined_value s v (expressions_of es)))) (widths-parts s es)
+    ∙ ap (λ y. widened t (n * parts_width s es) w (meaning.repeated n (parts_width s es) y)) (joined-parts s v es)
+
+pub some_left : (m u : ℕ) → 1 ≤ m * u → 1 ≤ m
+some_left zero u h = absurd (omega (arith, h, zero-mul u))
+some_left (suc m) u h = omega arith
+
+pub some_right : (m u : ℕ) → 1 ≤ m * u → 1 ≤ u
+some_right m zero h = absurd (omega (arith, h, mul-zero m))
+some_right m (suc u) h = omega arith
+
+pub most_right : (m u : ℕ) → 1 ≤ m * u → u ≤ m * u
+most_right zero u h = absurd (omega (arith, h, zero-mul u))
+most_right (suc m) u h = omega arith
+
+-- the number of a constant, over what the calls returned
+pub count-value : (s : Scope) (e : pure.Expression) (t : Bool) (u y : ℕ) → t ≡ sign_at s e → u ≡ width_at s e → y ≡ self_at s meaning.no_values e → (r : ℕ) → r ≡ meaning.natural_of (meaning.integer_from t u y) → r ≡ count_at s e
+unfolding count_at sign_at width_at self_at
+count-value s e t u y is_t is_u is_y r g =
+    g ∙ ap (λ b. meaning.natural_of (meaning.integer_from b u y)) is_t ∙ ap (λ m. meaning.natural_of (meaning.integer_from (meaning.sign_of s e) m y)) is_u
+    ∙ ap (λ z. meaning.natural_of (meaning.integer_from (meaning.sign_of s e) (meaning.width_of s e) z)) is_y

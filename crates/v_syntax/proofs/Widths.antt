@@ -1,9 +1,10 @@
 -- The widths of chains, over the lists of their links.
-use Rattle.std.proofs.Common.{◌≡◌, ℕ, ◌∙◌, refl, ap, sym, max, cond, Bool, true, false, ◌||◌, List, [], ◌∷◌, arith}
+use Rattle.std.proofs.Common.{◌≡◌, ◌≤◌, ℕ, ◌*◌, ◌∙◌, refl, ap, sym, subst, max, cond, Bool, true, false, ◌||◌, List, [], ◌∷◌, arith}
 use Rattle.std.specs.declared.boxed.Box.{Box}
 use Rattle.std.specs.declared.vec.Vec.{Vec}
 use Rattle.std.specs.declared.alloc.Global.{Global}
 use Rattle.wb_meaning.specs.Verilog.Syntax as pure
+use Rattle.wb_meaning.specs.Verilog.Expression as meaning
 use Rattle.wb_meaning.specs.Verilog.Expression.{Scope, width_of, widths_of}
 use Rattle.v_syntax.specs.declared.tree.PrefixOperator.{PrefixOperator}
 use Rattle.v_syntax.specs.declared.tree.PrefixOperator.TheVariants.{Plus}
@@ -14,10 +15,14 @@ use Rattle.v_syntax.specs.declared.tree.TestOperator.TheVariants.{Less}
 use Rattle.v_syntax.specs.declared.tree.BinaryLink.{BinaryLink}
 use Rattle.v_syntax.specs.declared.tree.TestLink.{TestLink}
 use Rattle.v_syntax.specs.declared.tree.Choice.{Choice}
-use Rattle.v_syntax.specs.declared.tree.Expression.{Expression, Concatenation, Prefix, Binary, Test, Conditional}
+use Rattle.v_syntax.specs.declared.tree.Expression.{Expression, Concatenation, Replication, Prefix, Binary, Test, Conditional}
 use Rattle.v_syntax.specs.Tree.{tree_of, prefixed, all_prefixed, combined, tested, expressions_of}
 use Rattle.v_syntax.specs.Chain.{linked, test_linked, chosen, is_reduction, has_reduction, has_no_link, leaves_to_left, links_width, choices_width}
-use Rattle.v_syntax.proofs.Trees.{tree_of-Concatenation, tree_of-Binary, tree_of-Test, tree_of-Conditional}
+use Rattle.v_syntax.specs.Narrow.{IsWidth, IsNarrow}
+use Rattle.v_syntax.specs.Evaluation.{count_at}
+use Rattle.v_syntax.proofs.Narrows.{narrow_width}
+use Rattle.v_syntax.proofs.Values.{most_right}
+use Rattle.v_syntax.proofs.Trees.{tree_of-Concatenation, tree_of-Replication, tree_of-Binary, tree_of-Test, tree_of-Conditional}
 
 width-combined : (s : Scope) (o : BinaryOperator) (x y : pure.Expression) → width_of s (combined o x y) ≡ cond (leaves_to_left o) (width_of s x) (max (width_of s x) (width_of s y))
 width-combined s Power x y = refl
@@ -103,3 +108,31 @@ module _ (s : Scope) (e : Expression) (x : Expression) (w r : ℕ) (of_x : w ≡
 
 pub at-Concatenation : (s : Scope) (e : Expression) (r : ℕ) (v : Vec Expression Global) → e ≡ Concatenation v → (es : List Expression) → es ≡ v.items → r ≡ widths_of s (expressions_of es) → r ≡ width_of s (tree_of e)
 at-Concatenation s e r v i es k h = h ∙ ap (λ l. widths_of s (expressions_of l)) k ∙ sym (ap (λ y. width_of s (tree_of y)) i ∙ width-Concatenation s v)
+
+-- replications: x is the count, m its number, u the width of the parts
+count-is : (s : Scope) (k : pure.Expression) → meaning.natural_of (meaning.integer_of s meaning.no_values k) ≡ count_at s k
+unfolding count_at
+count-is s k = refl
+
+width-Replication : (s : Scope) (b : Box Expression Global) (v : Vec Expression Global) → width_of s (tree_of (Replication b v)) ≡ count_at s (tree_of b.value) * widths_of s (expressions_of v.items)
+width-Replication s b v = ap (width_of s) (tree_of-Replication b v) ∙ ap (λ m. m * widths_of s (expressions_of v.items)) (count-is s (tree_of b.value))
+
+module _ (s : Scope) (e : Expression) (b : Box Expression Global) (v : Vec Expression Global) (i : e ≡ Replication b v) (x : Expression) (j : x ≡ b.value) (m : ℕ) (is_m : m ≡ count_at s (tree_of x)) (es : List Expression) (k : es ≡ v.items) (u : ℕ) (is_u : u ≡ widths_of s (expressions_of es)) where
+  copies-width : m * u ≡ width_of s (tree_of e)
+  copies-width =
+      ap (λ z. z * u) (is_m ∙ ap (λ z. count_at s (tree_of z)) j) ∙ ap (λ z. count_at s (tree_of b.value) * z) (is_u ∙ ap (λ l. widths_of s (expressions_of l)) k)
+      ∙ sym (ap (λ y. width_of s (tree_of y)) i ∙ width-Replication s b v)
+
+  pub at-Replication : (r : ℕ) → r ≡ m * u → r ≡ width_of s (tree_of e)
+  at-Replication r g = g ∙ copies-width
+
+pub copies-most : (s : Scope) (e : Expression) → IsNarrow s (tree_of e) → (b : Box Expression Global) (v : Vec Expression Global) → e ≡ Replication b v → (x : Expression) → x ≡ b.value → (m : ℕ) → m ≡ count_at s (tree_of x) →
+    (es : List Expression) → es ≡ v.items → (u : ℕ) → u ≡ widths_of s (expressions_of es) → m * u ≤ 128
+copies-most s e n b v i x j m is_m es k u is_u = subst (λ z. z ≤ 128) (sym (copies-width s e b v i x j m is_m es k u is_u)) (narrow_width s (tree_of e) n).1
+
+pub repeated-most : (s : Scope) (e : Expression) → IsNarrow s (tree_of e) → (b : Box Expression Global) (v : Vec Expression Global) → e ≡ Replication b v → (es : List Expression) → es ≡ v.items → widths_of s (expressions_of es) ≤ 128
+repeated-most s e n b v i es k =
+    let bounds : IsWidth (count_at s (tree_of b.value) * widths_of s (expressions_of v.items)) =
+    subst IsWidth (ap (λ y. width_of s (tree_of y)) i ∙ width-Replication s b v) (narrow_width s (tree_of e) n) in
+    let more : widths_of s (expressions_of v.items) ≤ count_at s (tree_of b.value) * widths_of s (expressions_of v.items) = most_right _ _ bounds.0 in
+    subst (λ l. widths_of s (expressions_of l) ≤ 128) (sym k) (omega (arith, more, bounds.1))

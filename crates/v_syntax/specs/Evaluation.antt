@@ -30,6 +30,10 @@ value_at s v e w signed = meaning.value_of s v e w signed
 unfoldable pub self_at : Scope → Valuation → pure.Expression → ℕ
 self_at s v e = meaning.self_value s v e
 
+-- the number of a constant, read where no net or variable has a value: one below 0 counts as 0
+unfoldable pub count_at : Scope → pure.Expression → ℕ
+count_at s e = meaning.natural_of (meaning.integer_of s meaning.no_values e)
+
 -- a name that stands whole
 abbrev pub named_width : Scope → Name → ℕ
 named_width s n = meaning.object_width (s n)

@@ -1,9 +1,9 @@
 -- Expressions that fit words: no part is wider than 128 bits, and objects and values fit.
--- Replications and part selects are not covered so far: no expression with one of them is narrow.
+-- Part selects are not covered so far: no expression with one of them is narrow.
 use Rattle.std.specs.Prelude.{ℕ, ◌^◌, ◌≤◌, ◌<◌, slice_index, IfSome}
 use Rattle.wb_meaning.specs.Value.{Value, as_number, as_words, Valuation}
 use Rattle.wb_meaning.specs.Verilog.Syntax.{Expression, number, name, concatenation, replication, as_signed, as_unsigned, unary, reduction, binary, shift, power, comparison, logical, conditional, Expressions, no_expressions, expression, Select, index, part, part_up, part_down, Selects, whole, one, two}
-use Rattle.wb_meaning.specs.Verilog.Expression.{Object, Scope, object_width, widths_of, selects_width}
+use Rattle.wb_meaning.specs.Verilog.Expression.{Object, Scope, object_width, width_of, widths_of, selects_width}
 
 -- 1 to 128 bits
 abbrev pub IsWidth : ℕ → Type 0
@@ -33,7 +33,7 @@ abbrev mutual
   IsNarrow s (number k) = IsWidth k.width × (k.value < 2 ^ k.width)
   IsNarrow s (name n x) = IsWidth (selects_width s (s n) x) × AreSelectsNarrow s x
   IsNarrow s (concatenation es) = IsWidth (widths_of s es) × AreNarrow s es
-  IsNarrow s (replication k es) = ⊥
+  IsNarrow s (replication k es) = IsWidth (width_of s (replication k es)) × HasNarrowObjects s × IsNarrow s k × AreNarrow s es
   IsNarrow s (as_signed x) = IsNarrow s x
   IsNarrow s (as_unsigned x) = IsNarrow s x
   IsNarrow s (unary op x) = IsNarrow s x

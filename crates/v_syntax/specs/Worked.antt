@@ -1,7 +1,7 @@
 -- Expressions whose values are known, over unsigned a and b and signed s, of 8 bits each.
 use Rattle.std.specs.Prelude.{ℕ, Bool, true, false, [], ◌∷◌, None}
 use Rattle.wb_meaning.specs.Value.{Name, Valuation, valuation_of, number as a_number}
-use Rattle.wb_meaning.specs.Verilog.Syntax.{Expression, number, name, concatenation, unary, minus, binary, add, divide, modulo, power, shift, right, arithmetic_right, comparison, less, no_expressions, expression, whole}
+use Rattle.wb_meaning.specs.Verilog.Syntax.{Expression, number, name, concatenation, replication, unary, minus, binary, add, divide, modulo, power, shift, right, arithmetic_right, comparison, less, no_expressions, expression, whole}
 use Rattle.wb_meaning.specs.Verilog.Expression.{Object, Scope, scope_of}
 
 abbrev byte : Bool → Object
@@ -53,6 +53,14 @@ remainder_of x y = binary modulo x y
 
 abbrev pub power_of : Expression → Expression → Expression
 power_of x y = power x y
+
+-- 2'b10
+abbrev pub two_bits : Expression
+two_bits = number (record { width = 2; sized = true; signed = false; value = 2; unknown = 0; wild = 0 })
+
+-- {n{x}}
+abbrev pub copies_of : Expression → Expression → Expression
+copies_of n x = replication n (expression x no_expressions)
 
 -- (a + b) >> 1
 abbrev pub half_sum : Expression

@@ -7,8 +7,9 @@ ghost use Rattle.v_syntax.specs.Scope.{scope_at, valuation_at};
 ghost use Rattle.v_syntax.specs.Tree.{tree_of, select_of, selects_of, expressions_of};
 ghost use Rattle.v_syntax.specs.Narrow.{IsNarrow, AreNarrow, IsSelectNarrow, AreSelectsNarrow, HasNarrowObjects, HasFittingValues, IsReady};
 ghost use Rattle.v_syntax.specs.Chain.{has_reduction, leaves_to_left, AreLinksNarrow, AreTestsNarrow, AreChoicesNarrow};
-ghost use Rattle.v_syntax.specs.Evaluation.{named_width, named_value, selects_width_at, selects_at, index_at, one_width, one_value, two_value, width_at, value_at, self_at, links_value, AreLinksWithin, applied, run_width, run_value, prefixes_value, is_logical, context_width, context_sign, said, compared_said, tests_value, sign_at, choices_value, AreChoicesWithin, parts_value, parts_width};
+ghost use Rattle.v_syntax.specs.Evaluation.{named_width, named_value, selects_width_at, selects_at, index_at, one_width, one_value, two_value, count_at, width_at, value_at, self_at, links_value, AreLinksWithin, applied, run_width, run_value, prefixes_value, is_logical, context_width, context_sign, said, compared_said, tests_value, sign_at, choices_value, AreChoicesWithin, parts_value, parts_width};
 
+use crate::arithmetic::natural;
 use crate::scope::{Entry, Scope, number_at, word_at};
 use crate::select::{Integer, indexed_bit, integer_of, word_number};
 use crate::sign::{is_reduction, leaves_to_left, reduces, sign_of};
@@ -140,6 +141,20 @@ fn prefixed(operators: &[PrefixOperator], width: u32, value: u128, own: Word) ->
     outer
 }
 
+/// So many copies of a word side by side.
+fn copies(count: u128, word: Word) -> Word
+    requires some { 1 ≤ count }
+    requires at_most_128 { count * word.width ≤ 128 }
+    ensures width { result.width ≡ count * word.width }
+    ensures value { result.value ≡ meaning.repeated count word.width word.value }
+{
+    let mut all = word;
+    for _i in 1..count {
+        all = wb_bits::concat(word, all);
+    }
+    all
+}
+
 /// The conjunction of two truth values.
 fn both(x: bool, y: bool) -> bool
     ensures { result ≡ (x && y) }
@@ -148,6 +163,7 @@ fn both(x: bool, y: bool) -> bool
 }
 
 /// The width of an expression, with its bounds.
+#[cycle(value)]
 fn operand_width(scope: &Scope<'_>, operand: &Expression<'_>) -> u32
     requires narrow { IsNarrow (scope_at scope.now) (tree_of operand.now) }
     ensures width { result ≡ width_at (scope_at scope.now) (tree_of operand.now) }
@@ -173,6 +189,7 @@ struct Left {
 }
 
 /// The width of the context in which the first operand of a chain of tests is evaluated; `width` is the whole's.
+#[cycle(value)]
 fn context_width(scope: &Scope<'_>, own: u32, links: &[TestLink<'_>], width: u32) -> u32
     requires narrow { AreTestsNarrow (scope_at scope.now) links.now }
     ensures { result ≡ context_width (scope_at scope.now) own links.now width }
@@ -234,7 +251,11 @@ fn value_in(
             signed,
         ),
         Expression::Concatenation(parts) => in_context(joined(scope, values, parts), width, signed),
-        Expression::Replication(_, _) => unreachable!(),
+        Expression::Replication(count, parts) => in_context(
+            copies(constant_of(scope, count), joined(scope, values, parts)),
+            width,
+            signed,
+        ),
         Expression::AsSigned(operand) => in_context(
             self_value(scope, values, operand),
             width,
@@ -285,6 +306,19 @@ fn self_value(scope: &Scope<'_>, values: &[Entry<'_>], expression: &Expression<'
     let width = operand_width(scope, expression);
     let signed = operand_sign(scope, expression);
     Word::new(width, value_in(scope, values, expression, width, signed))
+}
+
+/// The number of a constant, read where no net or variable has a value; one below 0 counts as 0.
+#[cycle(value)]
+pub(crate) fn constant_of(scope: &Scope<'_>, expression: &Expression<'_>) -> u128
+    requires objects { HasNarrowObjects (scope_at scope.now) }
+    requires narrow { IsNarrow (scope_at scope.now) (tree_of expression.now) }
+    ensures { result ≡ count_at (scope_at scope.now) (tree_of expression.now) }
+{
+    natural(
+        operand_sign(scope, expression),
+        self_value(scope, &[], expression),
+    )
 }
 
 /// What a name with selects reads.

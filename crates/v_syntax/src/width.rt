@@ -1,5 +1,5 @@
 //! Widths of expressions (1364-2005, 5.4.1).
-ghost use Rattle.std.specs.Prelude.{◌≡◌, ◌≤◌, if◌then◌else◌};
+ghost use Rattle.std.specs.Prelude.{◌≡◌, ◌*◌, ◌≤◌, if◌then◌else◌};
 ghost use Rattle.wb_meaning.specs.Verilog.Expression.{width_of, widths_of, object_width, selects_width};
 ghost use Rattle.v_syntax.specs.Scope.{object_of, scope_at};
 ghost use Rattle.v_syntax.specs.Tree.{tree_of, selects_of, expressions_of};
@@ -9,6 +9,7 @@ ghost use Rattle.v_syntax.specs.Chain.{has_reduction, has_no_link, links_width, 
 use crate::scope::{Object, Scope};
 use crate::sign::{leaves_to_left, reduces};
 use crate::tree::{BinaryLink, Choice, Expression, PrefixOperator, Selects, TestLink};
+use crate::value::constant_of;
 
 /// How many bits a net, a variable or a word of a memory has.
 pub(crate) fn object_width(object: Object) -> u32
@@ -51,8 +52,16 @@ fn prefixed_width(operators: &[PrefixOperator], width: u32) -> u32
     if reduces(operators) { 1 } else { width }
 }
 
+/// The width of so many copies of this width.
+fn repeated_width(count: u128, width: u32) -> u32
+    requires { count * width ≤ 128 }
+    ensures { result ≡ count * width }
+{
+    if width == 0 { 0 } else { count as u32 * width }
+}
+
 /// How many bits the expression has by itself.
-#[cycle(width)]
+#[cycle(value)]
 pub fn width_of(scope: &Scope<'_>, expression: &Expression<'_>) -> u32
     requires narrow { IsNarrow (scope_at scope.now) (tree_of expression.now) }
     ensures { result ≡ width_of (scope_at scope.now) (tree_of expression.now) }
@@ -61,7 +70,10 @@ pub fn width_of(scope: &Scope<'_>, expression: &Expression<'_>) -> u32
         Expression::Number(number) => number.width as u32,
         Expression::Name(name, selects) => selected_width(scope, scope.object(name), selects),
         Expression::Concatenation(parts) => parts_width(scope, parts),
-        Expression::Replication(_, _) => unreachable!(),
+        Expression::Replication(count, parts) => repeated_width(
+            constant_of(scope, count),
+            parts_width(scope, parts),
+        ),
         Expression::AsSigned(operand) => width_of(scope, operand),
         Expression::AsUnsigned(operand) => width_of(scope, operand),
         Expression::Prefix(operators, operand) => prefixed_width(
@@ -79,7 +91,7 @@ pub fn width_of(scope: &Scope<'_>, expression: &Expression<'_>) -> u32
 }
 
 /// How many bits the parts have together.
-#[cycle(width)]
+#[cycle(value)]
 pub(crate) fn parts_width(scope: &Scope<'_>, parts: &[Expression<'_>]) -> u32
     requires narrow { AreNarrow (scope_at scope.now) (expressions_of parts.now) }
     requires at_most_128 { widths_of (scope_at scope.now) (expressions_of parts.now) ≤ 128 }
@@ -93,7 +105,7 @@ pub(crate) fn parts_width(scope: &Scope<'_>, parts: &[Expression<'_>]) -> u32
 }
 
 /// The width of a chain whose first operand has this width.
-#[cycle(width)]
+#[cycle(value)]
 fn linked_width(scope: &Scope<'_>, mut width: u32, links: &[BinaryLink<'_>]) -> u32
     requires narrow { AreLinksNarrow (scope_at scope.now) links.now }
     ensures { result ≡ links_width (scope_at scope.now) width links.now }
@@ -107,7 +119,7 @@ fn linked_width(scope: &Scope<'_>, mut width: u32, links: &[BinaryLink<'_>]) -> 
 }
 
 /// The width of a conditional whose last value has this width.
-#[cycle(width)]
+#[cycle(value)]
 fn chosen_width(scope: &Scope<'_>, choices: &[Choice<'_>], mut width: u32) -> u32
     requires narrow { AreChoicesNarrow (scope_at scope.now) choices.now }
     ensures { result ≡ choices_width (scope_at scope.now) choices.now width }

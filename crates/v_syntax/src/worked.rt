@@ -42,3 +42,9 @@ pub fn powers()
     ensures cut { self_value worked.names worked.no_operands (worked.power_of (worked.byte_of 3) (worked.byte_of 6)) ≡ 217 }
     ensures negative { self_value worked.names worked.no_operands (worked.power_of (worked.signed_byte_of 254) (worked.byte_of 3)) ≡ 248 }
 {}
+
+/// `{3{2'b10}}` is 6'b101010, which is 42, with no sign: widened it stays 42.
+pub fn replications()
+    ensures alone { self_value worked.names worked.no_operands (worked.copies_of (worked.byte_of 3) worked.two_bits) ≡ 42 }
+    ensures widened { assigned_value worked.names worked.no_operands 9 (worked.copies_of (worked.byte_of 3) worked.two_bits) ≡ 42 }
+{}
