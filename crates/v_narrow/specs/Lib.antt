@@ -1,0 +1,2 @@
+pub mod Test
+pub mod Fitting
