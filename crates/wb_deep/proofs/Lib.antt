@@ -1,0 +1,2 @@
+-- Lemmas on chains.
+pub mod Chains

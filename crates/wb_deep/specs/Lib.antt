@@ -1,0 +1,2 @@
+-- The words of the builders' contracts.
+pub mod Small
