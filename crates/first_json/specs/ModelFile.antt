@@ -6,7 +6,8 @@ use Rattle.wb_meaning.specs.Term.{Term, is_width, same_sort, some_if, sort_of}
 use Rattle.wb_meaning.specs.Model.{StateDeclaration, InputDeclaration, Model, machine, Instruction, instruction, instruction_name, Instructions, no_instructions, and_then, no_child}
 use Rattle.serde_json.specs.Data.{Data, null, boolean, number, string, array, object, Items, no_items, item, Members, no_members, member}
 use Rattle.serde_json.specs.Find.{at, as_str, as_bool, as_object}
-use Rattle.first_json.specs.Names.{is_model_name, with_hexadecimal_digits, are_hexadecimal_digits}
+use Rattle.wb_meaning.specs.ModelFile.Names.{is_model_name}
+use Rattle.wb_meaning.specs.ModelFile.Shape.{with_hexadecimal_digits, are_hexadecimal_digits}
 use Rattle.first_json.specs.Json.{document, has_members, has_items, option_if, under, unsigned_in, with_first, list_in}
 
 -- ---- names, sorts and numbers

@@ -2,7 +2,8 @@
 
 ghost use Rattle.std.specs.Prelude.{◌≡◌, ◌<◌, ◌^◌, ◌*◌, ◌%◌, ◌∷◌, [], length, IsTrue};
 ghost use Rattle.std.specs.List.{list_all};
-ghost use Rattle.first_json.specs.Names.{is_letter, is_digit, is_name_byte, is_identifier_byte, is_decimal_byte, begins_with, is_identifier, is_decimal, decimal_value, with_digits, begins_with_wb, is_kept_word, is_model_name};
+ghost use Rattle.first_json.specs.Names.{is_identifier_byte, is_decimal_byte, is_identifier, is_decimal, decimal_value, with_digits};
+ghost use Rattle.wb_meaning.specs.ModelFile.Names.{is_letter, is_digit, is_name_byte, begins_with, begins_with_wb, is_kept_word, is_model_name};
 
 use crate::words::is_reserved_word;
 

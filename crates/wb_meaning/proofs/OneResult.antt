@@ -1,9 +1,9 @@
 -- An instruction has at most one result, and none where its child has trouble.
-use Rattle.std.proofs.Common.{◌≡◌, ◌≢◌, ℕ, zero, suc, ◌+◌, ◌<◌, ◌≤◌, Bool, true, false, ◌⊎◌, inl, inr, arith, subst, sym, refl, ◌∙◌, ap}
+use Rattle.std.proofs.Common.{◌≡◌, ℕ, zero, suc, inl, inr, subst, sym, ◌∙◌, ap}
 use Rattle.std.specs.Prelude.{IsTrue, IsFalse}
 use Rattle.wb_meaning.specs.Value.{Valuation}
 use Rattle.wb_meaning.specs.Model.{Machine, machine, Instruction, instruction, Instructions, no_instructions, and_then, Child, no_child, child, Model, valid_of, holds, decode_of, updated, entered, left_behind, states_of, point_of}
-use Rattle.wb_meaning.specs.Instruction.{Reaches, NoneDecodes, SomeDecodes, DoesInstruction, DoesChild, DoesStep, DoesOne, Steps, state_in, Trouble, InstructionTrouble, ChildTrouble, StepTrouble, OneTrouble, stuck, too_long}
+use Rattle.wb_meaning.specs.Instruction.{Reaches, NoneDecodes, DoesInstruction, DoesChild, DoesStep, DoesOne, Steps, state_in}
 use Rattle.wb_meaning.proofs.OneInstruction.{both_ways}
 
 -- a step begins where the valid condition holds

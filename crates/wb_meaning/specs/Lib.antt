@@ -2,7 +2,9 @@ pub mod Value
 pub mod Number
 pub mod Term
 pub mod Model
+pub mod Words
 pub mod Instruction
+pub mod ModelFile
 pub mod Verilog
 pub mod Map
 pub mod Run
