@@ -5,6 +5,8 @@ pub mod Model
 pub mod Words
 pub mod Instruction
 pub mod ModelFile
+pub mod Script
+pub mod Simulation
 pub mod Verilog
 pub mod Map
 pub mod Run
