@@ -63,7 +63,7 @@ has_state_widths m = list_all (λ s. is_sort s.sort) (states_in m)
 abbrev pub has_bad_width : WrittenModel → Bool
 has_bad_width m =
     truth_not (list_all (λ i. is_sort i.sort) m.inputs
-      && (list_all has_state_widths (machines_in m.top) && list_all (λ p. has_widths p.written) (all_terms m)))
+    && (list_all has_state_widths (machines_in m.top) && list_all (λ p. has_widths p.written) (all_terms m)))
 
 -- a place takes a term of this sort
 abbrev pub takes : Place → Sort → Bool

@@ -35,7 +35,7 @@ mutual
   -- the instructions. The widths of sorts and the initial values are as they are written.
   pub data WrittenMachine : Type 0 where
     machine : (states : List StateDeclaration) → (definitions : Entries WrittenTerm) → (fetch : Option WrittenTerm)
-      → (valid : WrittenTerm) → (instructions : WrittenInstructions) → WrittenMachine
+        → (valid : WrittenTerm) → (instructions : WrittenInstructions) → WrittenMachine
 
   pub data WrittenInstruction : Type 0 where
     instruction : (called : Name) → (decode : WrittenTerm) → (update : Entries WrittenTerm) → (program : WrittenChild) → WrittenInstruction
