@@ -1,5 +1,5 @@
 //! What selects behind names take: the addresses of words, and bits, by the values of their indexes (1364-2005, 5.2).
-ghost use Rattle.std.specs.Prelude.{◌≡◌, true, ◌<◌, ◌≤◌, ◌^◌};
+ghost use Rattle.std.specs.Prelude.{◌≡◌, true, ◌<◌, ◌≤◌, ◌^◌, negsuc};
 ghost use Rattle.v_syntax.specs.Index.{integer_at, span_of};
 ghost use Rattle.v_syntax.specs.Scope.{object_of, scope_at, valuation_at};
 ghost use Rattle.v_syntax.specs.Tree.{tree_of, select_of};
@@ -40,6 +40,16 @@ fn bound_of(scope: &Scope<'_>, expression: &Expression<'_>) -> Integer
     integer_by_itself(scope, &[], expression)
 }
 
+/// What a part select is as an index of a memory: out of range.
+fn no_index() -> Integer
+    ensures { integer_at result ≡ negsuc 0 }
+{
+    Integer {
+        negative: true,
+        magnitude: 0,
+    }
+}
+
 /// The integer of an index; of a part select, which is no index, one that is out of range.
 #[cycle(value)]
 pub(crate) fn index_of(
@@ -53,10 +63,9 @@ pub(crate) fn index_of(
 {
     match select {
         Select::Index(index) => integer_by_itself(scope, values, index),
-        _ => Integer {
-            negative: true,
-            magnitude: 0,
-        },
+        Select::Part(_, _) => no_index(),
+        Select::PartUp(_, _) => no_index(),
+        Select::PartDown(_, _) => no_index(),
     }
 }
 
