@@ -12,7 +12,7 @@ pub mod scope;
 pub mod select;
 pub mod sign;
 pub mod statement;
-mod taken;
+pub mod taken;
 pub mod target;
 pub mod tree;
 mod value;

@@ -1,14 +1,15 @@
 //! What selects behind names take: the addresses of words, and bits, by the values of their indexes (1364-2005, 5.2).
 ghost use Rattle.std.specs.Prelude.{◌≡◌, true, ◌<◌, ◌≤◌, ◌^◌, negsuc};
+ghost use Rattle.wb_meaning.specs.Verilog.Expression as meaning;
 ghost use Rattle.v_syntax.specs.Index.{integer_at, span_of};
 ghost use Rattle.v_syntax.specs.Scope.{object_of, scope_at, valuation_at};
 ghost use Rattle.v_syntax.specs.Tree.{tree_of, select_of};
-ghost use Rattle.v_syntax.specs.Narrow.{IsNarrow, IsSelectNarrow, HasNarrowObjects, IsReady};
+ghost use Rattle.v_syntax.specs.Narrow.{IsWidth, IsNarrow, IsSelectNarrow, HasNarrowObjects, HasFittingValues, IsReady};
 ghost use Rattle.v_syntax.specs.Evaluation.{integer_self_at, bound_at, index_at, bits_at, taken_at};
 
 use crate::scope::{Entry, Object, Scope};
 use crate::select::{
-    Integer, Span, bits_downward, bits_from_index, bits_upward, count_between, integer_of,
+    self, Integer, Span, bits_downward, bits_from_index, bits_upward, count_between,
 };
 use crate::tree::{Expression, Select};
 use crate::value::{constant_of, operand_sign, self_value};
@@ -26,7 +27,7 @@ pub(crate) fn integer_by_itself(
     ensures small { result.negative ≡ true → result.magnitude < 2 ^ 127 }
 {
     let word = self_value(scope, values, expression);
-    integer_of(word, operand_sign(scope, expression))
+    select::integer_of(word, operand_sign(scope, expression))
 }
 
 /// The integer of a constant, read where no net or variable has a value.
@@ -117,4 +118,45 @@ pub(crate) fn taken_by(
             count,
         ),
     }
+}
+
+/// The integer that an expression stands for by its own sign.
+pub fn integer_of(
+    scope: &Scope<'_>,
+    values: &[Entry<'_>],
+    expression: &Expression<'_>,
+) -> Integer
+    requires objects { HasNarrowObjects (scope_at scope.now) }
+    requires values { HasFittingValues (scope_at scope.now) (valuation_at values.now) }
+    requires narrow { IsNarrow (scope_at scope.now) (tree_of expression.now) }
+    ensures value { integer_at result ≡ meaning.integer_of (scope_at scope.now) (valuation_at values.now) (tree_of expression.now) }
+    ensures small { result.negative ≡ true → result.magnitude < 2 ^ 127 }
+{
+    integer_by_itself(scope, values, expression)
+}
+
+/// The number of an index by its own sign; of a part select, which is no index, -1.
+pub fn select_index(scope: &Scope<'_>, values: &[Entry<'_>], select: &Select<'_>) -> Integer
+    requires objects { HasNarrowObjects (scope_at scope.now) }
+    requires values { HasFittingValues (scope_at scope.now) (valuation_at values.now) }
+    requires narrow { IsSelectNarrow (scope_at scope.now) (select_of select.now) }
+    ensures { integer_at result ≡ meaning.select_index (scope_at scope.now) (valuation_at values.now) (select_of select.now) }
+{
+    index_of(scope, values, select)
+}
+
+/// The bits of an object that a select takes, 1 to 128 of them.
+pub fn select_bits(
+    scope: &Scope<'_>,
+    values: &[Entry<'_>],
+    object: Object,
+    select: &Select<'_>,
+) -> Span
+    requires objects { HasNarrowObjects (scope_at scope.now) }
+    requires values { HasFittingValues (scope_at scope.now) (valuation_at values.now) }
+    requires narrow { IsSelectNarrow (scope_at scope.now) (select_of select.now) }
+    requires count { IsWidth (meaning.select_bits (scope_at scope.now) (valuation_at values.now) (object_of object) (select_of select.now)).count }
+    ensures { span_of result ≡ meaning.select_bits (scope_at scope.now) (valuation_at values.now) (object_of object) (select_of select.now) }
+{
+    taken_by(scope, values, object, select)
 }
