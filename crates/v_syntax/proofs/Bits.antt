@@ -51,9 +51,9 @@ pub ascending_upward : (o : Object) (b : ℤ) (n : ℕ) → 1 ≤ n → o.left <
 ascending_upward o b n some h p is_p r is_r =
     let moved : pos o.right -ℤ b -ℤ pos (n - 1) ≡ pos o.right -ℤ (b +ℤ (pos n -ℤ pos 1)) = omega (arith, ints) in
     let low : (c : Bool) → nat_le o.right o.left ≡ c → cond c (b -ℤ pos o.right) (pos o.right -ℤ b) -ℤ pos (n - 1)
-        ≡ cond c (cond c (b -ℤ pos o.right) (pos o.right -ℤ b)) (cond c (b +ℤ (pos n -ℤ pos 1) -ℤ pos o.right) (pos o.right -ℤ (b +ℤ (pos n -ℤ pos 1)))) = λ c.
+    ≡ cond c (cond c (b -ℤ pos o.right) (pos o.right -ℤ b)) (cond c (b +ℤ (pos n -ℤ pos 1) -ℤ pos o.right) (pos o.right -ℤ (b +ℤ (pos n -ℤ pos 1)))) = λ c.
     elim c as (λ c. nat_le o.right o.left ≡ c → cond c (b -ℤ pos o.right) (pos o.right -ℤ b) -ℤ pos (n - 1)
-        ≡ cond c (cond c (b -ℤ pos o.right) (pos o.right -ℤ b)) (cond c (b +ℤ (pos n -ℤ pos 1) -ℤ pos o.right) (pos o.right -ℤ (b +ℤ (pos n -ℤ pos 1))))) [
+    ≡ cond c (cond c (b -ℤ pos o.right) (pos o.right -ℤ b)) (cond c (b +ℤ (pos n -ℤ pos 1) -ℤ pos o.right) (pos o.right -ℤ (b +ℤ (pos n -ℤ pos 1))))) [
       | true ↦ λ e. let l : o.right ≤ o.left = leb-true _ _ e in absurd (omega arith)
       | false ↦ λ e. moved
     ] in

@@ -53,11 +53,7 @@ fn no_index() -> Integer
 
 /// The integer of an index; of a part select, which is no index, one that is out of range.
 #[cycle(value)]
-pub(crate) fn index_of(
-    scope: &Scope<'_>,
-    values: &[Entry<'_>],
-    select: &Select<'_>,
-) -> Integer
+pub(crate) fn index_of(scope: &Scope<'_>, values: &[Entry<'_>], select: &Select<'_>) -> Integer
     requires ready { IsReady (scope_at scope.now) (valuation_at values.now) }
     requires narrow { IsSelectNarrow (scope_at scope.now) (select_of select.now) }
     ensures { integer_at result ≡ index_at (scope_at scope.now) (valuation_at values.now) (select_of select.now) }
@@ -121,11 +117,7 @@ pub(crate) fn taken_by(
 }
 
 /// The integer that an expression stands for by its own sign.
-pub fn integer_of(
-    scope: &Scope<'_>,
-    values: &[Entry<'_>],
-    expression: &Expression<'_>,
-) -> Integer
+pub fn integer_of(scope: &Scope<'_>, values: &[Entry<'_>], expression: &Expression<'_>) -> Integer
     requires objects { HasNarrowObjects (scope_at scope.now) }
     requires values { HasFittingValues (scope_at scope.now) (valuation_at values.now) }
     requires narrow { IsNarrow (scope_at scope.now) (tree_of expression.now) }

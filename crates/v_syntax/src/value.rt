@@ -46,12 +46,7 @@ fn addressed_word(values: &[Entry<'_>], name: &str, addresses: (u32, u32), addre
 }
 
 /// The word of a memory with this address, with the memory's width.
-fn memory_word(
-    scope: &Scope<'_>,
-    values: &[Entry<'_>],
-    name: &str,
-    address: Integer,
-) -> Word
+fn memory_word(scope: &Scope<'_>, values: &[Entry<'_>], name: &str, address: Integer) -> Word
     requires ready { IsReady (scope_at scope.now) (valuation_at values.now) }
     ensures width { result.width ≡ named_width (scope_at scope.now) name.now }
     ensures value { result.value ≡ meaning.word_of (scope_at scope.now name.now) (integer_at address) (valuation_at values.now name.now) }
@@ -275,7 +270,11 @@ fn value_in(
 
 /// The expression by itself.
 #[cycle(value)]
-pub(crate) fn self_value(scope: &Scope<'_>, values: &[Entry<'_>], expression: &Expression<'_>) -> Word
+pub(crate) fn self_value(
+    scope: &Scope<'_>,
+    values: &[Entry<'_>],
+    expression: &Expression<'_>,
+) -> Word
     requires ready { IsReady (scope_at scope.now) (valuation_at values.now) }
     requires narrow { IsNarrow (scope_at scope.now) (tree_of expression.now) }
     ensures width { result.width ≡ width_at (scope_at scope.now) (tree_of expression.now) }
