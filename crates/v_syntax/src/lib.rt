@@ -6,6 +6,8 @@ mod choice;
 mod evaluation;
 pub mod expression;
 pub mod module;
+#[cfg(test)]
+mod parts;
 pub mod place;
 pub mod register;
 pub mod scope;

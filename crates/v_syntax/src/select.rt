@@ -93,10 +93,10 @@ pub fn bits_upward(object: Object, base: Integer, count: u32) -> Span
     ensures { span_of result ≡ meaning.bits_upward (object_of object) (integer_at base) count }
 {
     let place = place_of_bit(object, base);
-    let back = if object.right <= object.left {
-        0
-    } else {
+    let back = if object.left < object.right {
         count - 1
+    } else {
+        0
     };
     Span { place, back, count }
 }

@@ -4,6 +4,6 @@ use Rattle.v_syntax.specs.Scope.{object_of}
 use Rattle.v_syntax.proofs.Bits.{ascending_upward}
 use Rattle.v_syntax.proofs.select.bits_upward.Goals as goal
 
-pub returns-else-object : goal.returns-else-object
-returns-else-object c =
-    ascending_upward (object_of c.args.object) (integer_at c.args.base) c.args.count c.requires.some_bits c.if-object.false (integer_at c.place_of_bit-place.result) c.place_of_bit-place.ensures _ refl
+pub returns-then-object : goal.returns-then-object
+returns-then-object c =
+    ascending_upward (object_of c.args.object) (integer_at c.args.base) c.args.count c.requires.some_bits c.if-object.true (integer_at c.place_of_bit-place.result) c.place_of_bit-place.ensures _ refl
