@@ -9,10 +9,3 @@ pub mod Arms
 pub mod Steps
 pub mod Bits
 pub mod Selected
-pub mod Cut
-pub mod Writing
-pub mod Written
-pub mod Targets
-pub mod Choices
-pub mod Runs
-pub mod Edges

@@ -7,8 +7,3 @@ pub mod Narrow
 pub mod Evaluation
 pub mod Worked
 pub mod Index
-pub mod Places
-pub mod Statements
-pub mod Effects
-pub mod Registers
-pub mod WorkedStatements

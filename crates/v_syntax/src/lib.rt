@@ -2,21 +2,13 @@
 #![tactic(auto)]
 
 mod arithmetic;
-mod choice;
-mod evaluation;
 pub mod expression;
 pub mod module;
-pub mod place;
-pub mod register;
 pub mod scope;
 mod select;
 pub mod sign;
-pub mod statement;
-pub mod target;
 pub mod tree;
-mod value;
+pub mod value;
 pub mod width;
 mod word;
 pub mod worked;
-pub mod worked_statements;
-pub mod write;

@@ -1,0 +1,7 @@
+pub mod Cut
+pub mod Writing
+pub mod Written
+pub mod Targets
+pub mod Choices
+pub mod Runs
+pub mod Edges

@@ -1,0 +1,89 @@
+//! Places: some bits of a net, a variable or a word of a memory, and what a number written there leaves.
+ghost use Rattle.std.specs.Prelude.{◌≡◌, ◌%◌, ◌^◌, ◌<◌, ◌≤◌};
+ghost use Rattle.wb_meaning.specs.Verilog.Statement.{with_bits_from, with_bits};
+ghost use Rattle.v_statement.specs.Places.{bits_of};
+
+/// An integer: the number `rest`, or where it is negative -1 - `rest`.
+#[derive(Clone, Copy, PartialEq, Eq, Debug)]
+pub struct Integer {
+    pub negative: bool,
+    pub rest: u128,
+}
+
+/// So many bits from a place on, counted from 0 at the low end.
+#[derive(Clone, Copy, PartialEq, Eq, Debug)]
+pub struct Bits {
+    pub low: Integer,
+    pub count: u32,
+}
+
+/// Where a value goes.
+#[derive(Clone, Copy, PartialEq, Eq, Debug)]
+pub enum Cell {
+    /// A net or variable.
+    Variable,
+    /// The word of a memory with this number, counted from 0 at the least address.
+    Word(u32),
+    /// An address out of range.
+    Nowhere,
+}
+
+/// Some bits of a name's cell.
+#[derive(Clone, Copy)]
+pub struct Place<'s> {
+    pub name: &'s str,
+    pub cell: Cell,
+    pub bits: Bits,
+}
+
+/// A waiting nonblocking assignment: its places, the leftmost first, and its value.
+#[derive(Drop)]
+pub struct Update<'s> {
+    pub places: Vec<Place<'s>>,
+    pub value: u128,
+}
+
+/// The lowest `count` bits of a number.
+pub(crate) fn lowest(number: u128, count: u32) -> u128
+    requires { count ≤ 128 }
+    ensures { result ≡ number % 2 ^ count }
+{
+    number & wb_bits::mask(count)
+}
+
+/// The number `old` of `width` bits with `count` of them, from `low` on, replaced by those of `number`.
+/// Bits past the width are not written.
+pub(crate) fn with_bits_from(width: u32, old: u128, low: u128, count: u32, number: u128) -> u128
+    requires at_most_128 { width ≤ 128 }
+    requires fits { old < 2 ^ width }
+    ensures { result ≡ with_bits_from width old low count number }
+{
+    if low >= u128::from(width) {
+        return old;
+    }
+    let from = low as u32;
+    let to = width.min(from.saturating_add(count));
+    let below = lowest(old, from);
+    let taken = lowest(number, to - from) << from;
+    below + taken + (old - lowest(old, to))
+}
+
+/// The number `old` of `width` bits with some of them replaced by those of `number`. Bits out of range are not written.
+pub(crate) fn with_bits(width: u32, old: u128, bits: Bits, number: u128) -> u128
+    requires at_most_128 { width ≤ 128 }
+    requires fits { old < 2 ^ width }
+    requires count_at_most_128 { bits.count ≤ 128 }
+    ensures value { result ≡ with_bits width old (bits_of bits) number }
+    ensures fits { result < 2 ^ width }
+{
+    let rest = bits.low.rest;
+    if !bits.low.negative {
+        return with_bits_from(width, old, rest, bits.count, number);
+    }
+    if rest >= u128::from(bits.count) {
+        return old;
+    }
+    let below = rest as u32 + 1;
+    let shown = number.checked_shr(below).unwrap_or(0);
+    with_bits_from(width, old, 0, bits.count - below, shown)
+}
