@@ -1,4 +1,5 @@
 pub mod Cut
+pub mod Taken
 pub mod Writing
 pub mod Written
 pub mod Targets

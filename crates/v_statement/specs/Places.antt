@@ -1,5 +1,5 @@
 -- The integers, places and updates that the code's values stand for.
-use Rattle.std.specs.Prelude.{ℕ, cond, List, [], ◌∷◌, Option, Some, None, ℤ, pos, negsuc, ◌+◌}
+use Rattle.std.specs.Prelude.{ℕ, cond, List, [], ◌∷◌, Option, Some, None, ℤ, pos, negsuc, ◌-ℤ◌, int_lt, ◌+◌}
 use Rattle.wb_meaning.specs.Value.{Name, same_name}
 use Rattle.wb_meaning.specs.Verilog.Expression as expression
 use Rattle.wb_meaning.specs.Verilog.Statement as meaning
@@ -15,7 +15,12 @@ abbrev pub integer_of : Integer → ℤ
 integer_of i = cond i.negative (negsuc i.rest) (pos i.rest)
 
 abbrev pub bits_of : Bits → expression.Bits
-bits_of b = record { low = integer_of b.low; count = b.count }
+bits_of b =
+    record { low = cond b.downward (integer_of b.from -ℤ (pos b.count -ℤ pos 1)) (integer_of b.from); count = b.count }
+
+-- how many bits stand from the bound h to the bound l, both among them
+abbrev pub count_between : ℤ → ℤ → ℕ
+count_between h l = expression.natural_of (cond (int_lt h l) (l -ℤ h) (h -ℤ l)) + 1
 
 abbrev pub cell_of : Cell → meaning.Cell
 cell_of Variable = meaning.variable

@@ -1,6 +1,6 @@
 -- Statements whose values fit words: each expression in them does, and each target has at most 128 bits.
 use Rattle.std.specs.Prelude.{◌≤◌, List, [], ◌∷◌, Option, Some}
-use Rattle.wb_meaning.specs.Verilog.Syntax.{Select, index, Selects, whole, one, two, Target, place, joined, Targets, no_targets, target, Statement, empty, blocking, nonblocking, if_then, if_else, case, block, Statements, no_statements, statement, CaseItems, no_items, arm, default_arm}
+use Rattle.wb_meaning.specs.Verilog.Syntax.{Select, index, part, part_up, part_down, Selects, whole, one, two, Target, place, joined, Targets, no_targets, target, Statement, empty, blocking, nonblocking, if_then, if_else, case, block, Statements, no_statements, statement, CaseItems, no_items, arm, default_arm}
 use Rattle.wb_meaning.specs.Verilog.Expression.{Scope}
 use Rattle.wb_meaning.specs.Verilog.Statement.{target_width}
 use Rattle.wb_meaning.specs.Value.{Valuation}
@@ -14,10 +14,12 @@ use Rattle.v_syntax.specs.Narrow.{IsNarrow, AreNarrow, HasNarrowObjects, HasFitt
 abbrev pub IsReadyFor : Scope → Valuation → Type 0
 IsReadyFor s v = HasNarrowObjects s × HasFittingValues s v
 
--- an index of a memory or of a bit (part selects are not covered)
+-- Of a part select, the bounds or the base and the width. (How many bits it takes is among the widths of the target.)
 abbrev pub IsNarrowSelect : Scope → Select → Type 0
 IsNarrowSelect s (index i) = IsNarrow s i
-IsNarrowSelect s _ = ⊥
+IsNarrowSelect s (part h l) = IsNarrow s h × IsNarrow s l
+IsNarrowSelect s (part_up b n) = IsNarrow s b × IsNarrow s n
+IsNarrowSelect s (part_down b n) = IsNarrow s b × IsNarrow s n
 
 abbrev pub AreNarrowSelects : Scope → Selects → Type 0
 AreNarrowSelects s whole = Unit {0}

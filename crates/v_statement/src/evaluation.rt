@@ -1,9 +1,9 @@
 //! What statements read: the values that assignments give, conditions, and indexes.
 ghost use Rattle.std.specs.Prelude.{◌≡◌, true, ◌≤◌, ◌<◌, ◌^◌};
-ghost use Rattle.wb_meaning.specs.Verilog.Expression.{width_of, value_of, integer_of as meaning_integer, integer_from, is_true, assigned_value};
+ghost use Rattle.wb_meaning.specs.Verilog.Expression.{width_of, value_of, integer_of as meaning_integer, integer_from, is_true, assigned_value, no_values};
 ghost use Rattle.v_syntax.specs.Scope.{scope_at, valuation_at};
 ghost use Rattle.v_syntax.specs.Tree.{tree_of};
-ghost use Rattle.v_syntax.specs.Narrow.{IsNarrow};
+ghost use Rattle.v_syntax.specs.Narrow.{IsNarrow, HasNarrowObjects};
 ghost use Rattle.v_statement.specs.Places.{integer_of};
 ghost use Rattle.v_statement.specs.Statements.{IsReadyFor};
 
@@ -99,4 +99,14 @@ pub(crate) fn integer_of(
         width,
         value_of(scope, values, expression, width, signed),
     )
+}
+
+/// The integer of a constant, read where no net or variable has a value.
+pub(crate) fn constant_of(scope: &Scope<'_>, expression: &Expression<'_>) -> Integer
+    requires objects { HasNarrowObjects (scope_at scope.now) }
+    requires narrow { IsNarrow (scope_at scope.now) (tree_of expression.now) }
+    ensures value { integer_of result ≡ meaning_integer (scope_at scope.now) no_values (tree_of expression.now) }
+    ensures small { result.negative ≡ true → result.rest < 2 ^ 127 }
+{
+    integer_of(scope, &[], expression)
 }

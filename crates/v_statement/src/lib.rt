@@ -5,6 +5,7 @@ mod choice;
 mod evaluation;
 pub mod place;
 pub mod register;
+mod select;
 pub mod statement;
 pub mod target;
 pub mod worked_statements;

@@ -1,7 +1,7 @@
 //! Places: some bits of a net, a variable or a word of a memory, and what a number written there leaves.
-ghost use Rattle.std.specs.Prelude.{◌≡◌, ◌%◌, ◌^◌, ◌<◌, ◌≤◌};
-ghost use Rattle.wb_meaning.specs.Verilog.Statement.{with_bits_from, with_bits};
-ghost use Rattle.v_statement.specs.Places.{bits_of};
+ghost use Rattle.std.specs.Prelude.{◌≡◌, ◌%◌, ◌^◌, ◌<◌, ◌≤◌, pos, ◌-ℤ◌};
+ghost use Rattle.wb_meaning.specs.Verilog.Statement.{with_bits_from, with_bits_at, with_bits};
+ghost use Rattle.v_statement.specs.Places.{integer_of, bits_of};
 
 /// An integer: the number `rest`, or where it is negative -1 - `rest`.
 #[derive(Clone, Copy, PartialEq, Eq, Debug)]
@@ -10,10 +10,12 @@ pub struct Integer {
     pub rest: u128,
 }
 
-/// So many bits from a place on, counted from 0 at the low end.
+/// So many bits side by side, from a place upward, or downward from it, which is then the place of the highest of them.
+/// Places are counted from 0 at the low end; those below 0 and from the width on are out of range.
 #[derive(Clone, Copy, PartialEq, Eq, Debug)]
 pub struct Bits {
-    pub low: Integer,
+    pub from: Integer,
+    pub downward: bool,
     pub count: u32,
 }
 
@@ -68,6 +70,58 @@ pub(crate) fn with_bits_from(width: u32, old: u128, low: u128, count: u32, numbe
     below + taken + (old - lowest(old, to))
 }
 
+/// The same for `count` bits from the place `low` on. Bits out of range are not written.
+fn with_bits_upward(width: u32, old: u128, low: Integer, count: u32, number: u128) -> u128
+    requires at_most_128 { width ≤ 128 }
+    requires fits { old < 2 ^ width }
+    requires count_at_most_128 { count ≤ 128 }
+    ensures value { result ≡ with_bits_at width old (integer_of low) count number }
+    ensures fits { result < 2 ^ width }
+{
+    if !low.negative {
+        return with_bits_from(width, old, low.rest, count, number);
+    }
+    if low.rest >= u128::from(count) {
+        return old;
+    }
+    let below = low.rest as u32 + 1;
+    let shown = number.checked_shr(below).unwrap_or(0);
+    with_bits_from(width, old, 0, count - below, shown)
+}
+
+/// The integer `number` - `back`.
+fn lowered(number: u128, back: u32) -> Integer
+    ensures { integer_of result ≡ pos number -ℤ pos back }
+{
+    let back = u128::from(back);
+    if back <= number {
+        Integer {
+            negative: false,
+            rest: number - back,
+        }
+    } else {
+        Integer {
+            negative: true,
+            rest: back - number - 1,
+        }
+    }
+}
+
+/// The same for `count` bits from the place `high` downward. Bits out of range are not written.
+fn with_bits_downward(width: u32, old: u128, high: Integer, count: u32, number: u128) -> u128
+    requires at_most_128 { width ≤ 128 }
+    requires fits { old < 2 ^ width }
+    requires count_at_most_128 { count ≤ 128 }
+    ensures value { result ≡ with_bits_at width old (integer_of high -ℤ (pos count -ℤ pos 1)) count number }
+    ensures fits { result < 2 ^ width }
+{
+    if high.negative || count == 0 {
+        return old;
+    }
+    let low = lowered(high.rest, count - 1);
+    with_bits_upward(width, old, low, count, number)
+}
+
 /// The number `old` of `width` bits with some of them replaced by those of `number`. Bits out of range are not written.
 pub(crate) fn with_bits(width: u32, old: u128, bits: Bits, number: u128) -> u128
     requires at_most_128 { width ≤ 128 }
@@ -76,14 +130,9 @@ pub(crate) fn with_bits(width: u32, old: u128, bits: Bits, number: u128) -> u128
     ensures value { result ≡ with_bits width old (bits_of bits) number }
     ensures fits { result < 2 ^ width }
 {
-    let rest = bits.low.rest;
-    if !bits.low.negative {
-        return with_bits_from(width, old, rest, bits.count, number);
+    if bits.downward {
+        with_bits_downward(width, old, bits.from, bits.count, number)
+    } else {
+        with_bits_upward(width, old, bits.from, bits.count, number)
     }
-    if rest >= u128::from(bits.count) {
-        return old;
-    }
-    let below = rest as u32 + 1;
-    let shown = number.checked_shr(below).unwrap_or(0);
-    with_bits_from(width, old, 0, bits.count - below, shown)
 }

@@ -9,13 +9,13 @@ ghost use Rattle.v_syntax.specs.Tree.{statement_of};
 ghost use Rattle.v_statement.specs.Statements.{IsReadyFor, IsNarrowStatement};
 ghost use Rattle.v_statement.specs.Registers.{events_list, AreNarrowBlocks, AreNarrowUpdates};
 
-use v_syntax::module::{EdgeKind, Event, Events, Item};
 use crate::place::Update;
-use v_syntax::scope::{Entry, Scope, Value, Values};
 use crate::statement::run;
-use v_syntax::tree::Statement;
 use crate::write::write;
 use std::alloc::{AllocError, Global};
+use v_syntax::module::{EdgeKind, Event, Events, Item};
+use v_syntax::scope::{Entry, Scope, Value, Values};
+use v_syntax::tree::Statement;
 
 /// Whether the event is an edge.
 fn is_edge(kind: EdgeKind) -> bool

@@ -13,11 +13,11 @@ ghost use Rattle.v_statement.specs.Effects.{effect_at, first_true, run_if_any, A
 use crate::choice::chosen_item;
 use crate::evaluation::{assigned_value, is_true};
 use crate::place::{Place, Update};
-use v_syntax::scope::{Entry, Scope, Values};
 use crate::target::{add_places, places_width};
-use v_syntax::tree::{Arm, CaseItem, CaseKind, Expression, Statement, Target};
 use crate::write::write;
 use std::alloc::{AllocError, Global};
+use v_syntax::scope::{Entry, Scope, Values};
+use v_syntax::tree::{Arm, CaseItem, CaseKind, Expression, Statement, Target};
 
 /// The places of a target.
 fn places_of<'s>(

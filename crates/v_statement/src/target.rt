@@ -1,68 +1,20 @@
 //! The places that the targets of assignments mean.
-ghost use Rattle.std.specs.Prelude.{◌≡◌, true, ◌≤◌, ◌<◌, ◌^◌, ◌++◌, [], ◌∷◌, OnOk};
-ghost use Rattle.wb_meaning.specs.Verilog.Expression.{object_width, place_of_bit, select_index, select_bits};
-ghost use Rattle.wb_meaning.specs.Verilog.Statement.{indexed_cell, all_bits, place_of as meaning_place, places, all_places, places_width};
+ghost use Rattle.std.specs.Prelude.{◌≡◌, ◌≤◌, ◌++◌, [], ◌∷◌, OnOk};
+ghost use Rattle.wb_meaning.specs.Verilog.Expression.{no_values, select_index, select_bits, selects_width};
+ghost use Rattle.wb_meaning.specs.Verilog.Statement.{place_of as meaning_place, places, all_places, places_width, target_width, targets_width};
 ghost use Rattle.v_syntax.specs.Scope.{object_of, scope_at, valuation_at};
 ghost use Rattle.v_syntax.specs.Tree.{selects_of, select_of, target_of};
-ghost use Rattle.v_syntax.specs.Narrow.{IsNarrowObject};
-ghost use Rattle.v_statement.specs.Places.{integer_of, bits_of, cell_of, place_of, places_of};
+ghost use Rattle.v_statement.specs.Places.{integer_of, bits_of, place_of, places_of};
 ghost use Rattle.v_statement.specs.Statements.{IsReadyFor, IsNarrowSelect, AreNarrowSelects, HasNarrowSelects, HaveNarrowSelects, target_list};
 
-use crate::evaluation::integer_of;
+use crate::evaluation::{constant_of, integer_of};
 use crate::place::{Bits, Cell, Integer, Place};
+use crate::select::{
+    all_bits, bit_at, bits_between, bits_downward, bits_upward, count_of, indexed_cell,
+};
+use std::alloc::AllocError;
 use v_syntax::scope::{Entry, Object, Scope};
 use v_syntax::tree::{Select, Selects, Target};
-use v_syntax::width::object_width;
-use std::alloc::AllocError;
-
-/// The place of the bit with this index, counted from 0 at the low end.
-fn place_of_bit(object: Object, index: Integer) -> Integer
-    requires { index.negative ≡ true → index.rest < 2 ^ 127 }
-    ensures { integer_of result ≡ place_of_bit (object_of object) (integer_of index) }
-{
-    let right = u128::from(object.right);
-    let (negative, rest) = match (object.right <= object.left, index.negative) {
-        (true, true) => (true, index.rest + right),
-        (true, false) if index.rest >= right => (false, index.rest - right),
-        (true, false) => (true, right - index.rest - 1),
-        (false, true) => (false, right + index.rest + 1),
-        (false, false) if right >= index.rest => (false, right - index.rest),
-        (false, false) => (true, index.rest - right - 1),
-    };
-    Integer { negative, rest }
-}
-
-/// The word of a memory that an index names.
-fn indexed_cell(object: Object, index: Integer) -> Cell
-    ensures { cell_of result ≡ indexed_cell (object_of object) (integer_of index) }
-{
-    match object.addresses {
-        None => Cell::Nowhere,
-        Some((first, last)) => {
-            let low = u128::from(first.min(last));
-            let high = u128::from(first.max(last));
-            if !index.negative && low <= index.rest && index.rest <= high {
-                Cell::Word((index.rest - low) as u32)
-            } else {
-                Cell::Nowhere
-            }
-        }
-    }
-}
-
-/// All bits of a net, a variable or a word of a memory.
-fn all_bits(object: Object) -> Bits
-    requires { IsNarrowObject (object_of object) }
-    ensures { bits_of result ≡ all_bits (object_of object) }
-{
-    Bits {
-        low: Integer {
-            negative: false,
-            rest: 0,
-        },
-        count: object_width(object),
-    }
-}
 
 /// The number of an index by its own sign; of a part select, which is no index, one that is out of range.
 fn select_index(scope: &Scope<'_>, values: &[Entry<'_>], select: &Select<'_>) -> Integer
@@ -83,15 +35,27 @@ fn select_index(scope: &Scope<'_>, values: &[Entry<'_>], select: &Select<'_>) ->
 fn select_bits(scope: &Scope<'_>, values: &[Entry<'_>], object: Object, select: &Select<'_>) -> Bits
     requires ready { IsReadyFor (scope_at scope.now) (valuation_at values.now) }
     requires narrow { IsNarrowSelect (scope_at scope.now) (select_of select.now) }
+    requires at_most_128 { (select_bits (scope_at scope.now) no_values (object_of object) (select_of select.now)).count ≤ 128 }
     ensures { bits_of result
         ≡ select_bits (scope_at scope.now) (valuation_at values.now) (object_of object) (select_of select.now) }
 {
     match select {
-        Select::Index(index) => Bits {
-            low: place_of_bit(object, integer_of(scope, values, index)),
-            count: 1,
-        },
-        Select::Part(_, _) | Select::PartUp(_, _) | Select::PartDown(_, _) => unreachable!(),
+        Select::Index(index) => bit_at(object, integer_of(scope, values, index)),
+        Select::Part(left, right) => bits_between(
+            object,
+            constant_of(scope, left),
+            constant_of(scope, right),
+        ),
+        Select::PartUp(base, width) => bits_upward(
+            object,
+            integer_of(scope, values, base),
+            count_of(constant_of(scope, width)),
+        ),
+        Select::PartDown(base, width) => bits_downward(
+            object,
+            integer_of(scope, values, base),
+            count_of(constant_of(scope, width)),
+        ),
     }
 }
 
@@ -104,6 +68,7 @@ fn place_of<'s>(
 ) -> Place<'s>
     requires ready { IsReadyFor (scope_at scope.now) (valuation_at values.now) }
     requires narrow { AreNarrowSelects (scope_at scope.now) (selects_of selects.now) }
+    requires at_most_128 { selects_width (scope_at scope.now) (scope_at scope.now name.now) (selects_of selects.now) ≤ 128 }
     ensures { place_of result
         ≡ meaning_place (scope_at scope.now) (valuation_at values.now) name.now (selects_of selects.now) }
 {
@@ -135,6 +100,7 @@ pub(crate) fn add_places<'s>(
 ) -> Result<(), AllocError>
     requires ready { IsReadyFor (scope_at scope.now) (valuation_at values.now) }
     requires narrow { HasNarrowSelects (scope_at scope.now) (target_of target.now) }
+    requires at_most_128 { target_width (scope_at scope.now) (target_of target.now) ≤ 128 }
     ensures { OnOk result (places_of found.new.items
         ≡ places_of found.old.items ++ places (scope_at scope.now) (valuation_at values.now) (target_of target.now)) }
 {
@@ -154,6 +120,7 @@ fn add_place<'s>(
 ) -> Result<(), AllocError>
     requires ready { IsReadyFor (scope_at scope.now) (valuation_at values.now) }
     requires narrow { AreNarrowSelects (scope_at scope.now) (selects_of selects.now) }
+    requires at_most_128 { selects_width (scope_at scope.now) (scope_at scope.now name.now) (selects_of selects.now) ≤ 128 }
     ensures { OnOk result (places_of found.new.items
         ≡ places_of found.old.items ++ meaning_place (scope_at scope.now) (valuation_at values.now) name.now (selects_of selects.now) ∷ []) }
 {
@@ -171,6 +138,7 @@ fn add_all_places<'s>(
 ) -> Result<(), AllocError>
     requires ready { IsReadyFor (scope_at scope.now) (valuation_at values.now) }
     requires narrow { HaveNarrowSelects (scope_at scope.now) (target_list targets.now) }
+    requires at_most_128 { targets_width (scope_at scope.now) (target_list targets.now) ≤ 128 }
     ensures { OnOk result (places_of found.new.items
         ≡ places_of found.old.items ++ all_places (scope_at scope.now) (valuation_at values.now) (target_list targets.now)) }
 {

@@ -7,9 +7,9 @@ ghost use Rattle.v_syntax.specs.Scope.{object_of, scope_at, value_of_entry, valu
 ghost use Rattle.v_statement.specs.Places.{bits_of, cell_of, place_of, places_of, index_from};
 
 use crate::place::{Bits, Cell, Place, with_bits};
+use std::alloc::{AllocError, Global};
 use v_syntax::scope::{Entry, Object, Scope, Value, Values};
 use v_syntax::width::object_width;
-use std::alloc::{AllocError, Global};
 
 /// The index of the first entry under the name.
 fn index_of(entries: &[Entry<'_>], name: &str) -> Option<usize>

@@ -1,6 +1,6 @@
-use Rattle.std.proofs.Common.{◌∙◌, ◌++◌, ap, sym, subst, rules}
+use Rattle.std.proofs.Common.{◌∙◌, ◌++◌, ◌≤◌, ap, sym, subst, rules}
 use Rattle.std.proofs.lemmas.Result.{on_ok_weaker}
-use Rattle.wb_meaning.specs.Verilog.Statement.{places, all_places}
+use Rattle.wb_meaning.specs.Verilog.Statement.{places, all_places, target_width, targets_width}
 use Rattle.v_syntax.specs.Scope.{scope_at, valuation_at}
 use Rattle.v_syntax.specs.Tree.{target_of}
 use Rattle.v_statement.specs.Places.{places_of}
@@ -14,9 +14,14 @@ add_places-add_all_places-requires t c = (
   search (rules, the_lemmas),
   (
     c.requires.ready,
-    let s = scope_at c.args.scope.now in
-        let h = subst (HasNarrowSelects s) (ap target_of c.in-Joined.is ∙ target_of-Joined c.in-Joined.targets) c.requires.narrow in
-        subst (λ ts. HaveNarrowSelects s (target_list ts)) (sym c.deref.ensures.value) h,
+    (
+      let s = scope_at c.args.scope.now in
+          let h = subst (HasNarrowSelects s) (ap target_of c.in-Joined.is ∙ target_of-Joined c.in-Joined.targets) c.requires.narrow in
+          subst (λ ts. HaveNarrowSelects s (target_list ts)) (sym c.deref.ensures.value) h,
+      let s = scope_at c.args.scope.now in
+          let h = subst (λ t. target_width s t ≤ 128) (ap target_of c.in-Joined.is ∙ target_of-Joined c.in-Joined.targets) c.requires.at_most_128 in
+          subst (λ ts. targets_width s (target_list ts) ≤ 128) (sym c.deref.ensures.value) h,
+    ),
   ),
 )
 
