@@ -1,5 +1,5 @@
 //! Writing numbers to places of values.
-ghost use Rattle.std.specs.Prelude.{◌≡◌, ◌≤◌, ◌<◌, ◌^◌, OnOk, ◌%◌, map, slice_set, slice_index};
+ghost use Rattle.std.specs.Prelude.{◌≡◌, ◌≤◌, ◌<◌, ◌+◌, ◌^◌, OnOk, OnErr, length, slice_set, slice_index, vec_len, vec_capacity};
 ghost use Rattle.wb_meaning.specs.Verilog.Expression.{object_width};
 ghost use Rattle.wb_meaning.specs.Verilog.Statement.{with_bits, written_cell, written_place, written, places_width};
 ghost use Rattle.v_syntax.specs.Narrow.{FitsObject, IsNarrowObject, HasNarrowObjects, HasFittingValues};
@@ -69,19 +69,22 @@ fn write_cell(
     }
 }
 
-/// Writes a number to a place.
-pub(crate) fn write_place<'s>(
+/// Writes a number to a place, where there is room for one more entry.
+fn write_place<'s>(
     alloc: Global,
     scope: &Scope<'_>,
     values: &mut Values<'s>,
     place: &Place<'s>,
     number: u128,
-) -> Result<(), AllocError>
+)
     requires narrow { HasNarrowObjects (scope_at scope.now) }
     requires fits { HasFittingValues (scope_at scope.now) (valuation_at values.old.entries.items) }
     requires count_at_most_128 { place.now.bits.count ≤ 128 }
-    ensures { OnOk result (valuation_at values.new.entries.items
-        ≡ written_place (scope_at scope.now) (valuation_at values.old.entries.items) (place_of place.now) number) }
+    requires room { vec_len values.old.entries < vec_capacity values.old.entries }
+    ensures written { valuation_at values.new.entries.items
+        ≡ written_place (scope_at scope.now) (valuation_at values.old.entries.items) (place_of place.now) number }
+    ensures room { vec_len values.new.entries ≤ vec_len values.old.entries + 1 }
+    ensures capacity { vec_capacity values.old.entries ≤ vec_capacity values.new.entries }
 {
     let object = scope.object(place.name);
     match index_of(&values.entries, place.name) {
@@ -95,19 +98,42 @@ pub(crate) fn write_place<'s>(
                 place.bits,
                 number,
             );
-            Ok(())
         }
         None => {
             let mut value = Value::Number(0);
             write_cell(alloc, object, &mut value, place.cell, place.bits, number);
             let name = place.name;
-            values.entries.push(Entry { name, value })?;
-            Ok(())
+            if values.entries.push(Entry { name, value }).is_err() {
+                unreachable!()
+            }
         }
     }
 }
 
-/// Writes a number to places, the leftmost of which gets the high bits.
+/// Writes a number to places, where there is room for an entry for each.
+fn write_in_room<'s>(
+    alloc: Global,
+    scope: &Scope<'_>,
+    values: &mut Values<'s>,
+    places: &[Place<'s>],
+    number: u128,
+)
+    requires narrow { HasNarrowObjects (scope_at scope.now) }
+    requires fits { HasFittingValues (scope_at scope.now) (valuation_at values.old.entries.items) }
+    requires at_most_128 { places_width (places_of places.now) ≤ 128 }
+    requires room { vec_len values.old.entries + length places.now ≤ vec_capacity values.old.entries }
+    ensures { valuation_at values.new.entries.items
+        ≡ written (scope_at scope.now) (valuation_at values.old.entries.items) (places_of places.now) number }
+{
+    let mut rest = number;
+    for i in 0..places.len() {
+        let place = &places[places.len() - 1 - i];
+        write_place(alloc, scope, values, place, rest);
+        rest = rest.checked_shr(place.bits.count).unwrap_or(0);
+    }
+}
+
+/// Writes a number to places, the leftmost of which gets the high bits. Where memory is wanted, the values stay as they were.
 pub fn write<'s>(
     alloc: Global,
     scope: &Scope<'_>,
@@ -120,12 +146,9 @@ pub fn write<'s>(
     requires at_most_128 { places_width (places_of places.now) ≤ 128 }
     ensures written { OnOk result (valuation_at values.new.entries.items
         ≡ written (scope_at scope.now) (valuation_at values.old.entries.items) (places_of places.now) number) }
+    ensures kept { OnErr result (values.new.entries.items ≡ values.old.entries.items) }
 {
-    let mut rest = number;
-    for i in 0..places.len() {
-        let place = &places[places.len() - 1 - i];
-        write_place(alloc, scope, values, place, rest)?;
-        rest = rest.checked_shr(place.bits.count).unwrap_or(0);
-    }
+    values.entries.reserve(places.len())?;
+    write_in_room(alloc, scope, values, places, number);
     Ok(())
 }
