@@ -1,5 +1,5 @@
 -- Runs of statements over the lists of their parts, and that the values still fit after them.
-use Rattle.std.proofs.Common.{◌≡◌, ◌∙◌, refl, ap, sym, subst, Bool, true, false, cond, List, [], ◌∷◌, append_assoc, append-nil, Option, Some, None, is_some, ℕ, suc, ◌+◌, ◌<◌, length, drop, get_or, arith}
+use Rattle.std.proofs.Common.{◌≡◌, ◌∙◌, refl, ap, sym, subst, Bool, true, false, cond, List, [], ◌∷◌, ◌++◌, append_assoc, append-nil, Option, Some, None, is_some, ℕ, suc, ◌+◌, ◌<◌, length, drop, get_or, arith}
 use Rattle.std.proofs.Math.Seq.{drop-cons}
 use Rattle.std.specs.declared.boxed.Box.{Box}
 use Rattle.std.specs.declared.vec.Vec.{Vec}
@@ -19,7 +19,10 @@ use Rattle.v_syntax.specs.declared.tree.Expression.{Expression}
 use Rattle.v_syntax.specs.Tree.{tree_of, statement_of, arms_before, statements_of, items_of, arm_before, or_empty, name_of_option, case_kind_of, expressions_of}
 use Rattle.v_syntax.specs.Narrow.{IsNarrow, HasFittingValues}
 use Rattle.v_statement.specs.Statements.{IsNarrowStatement, statement_list, arm_list}
-use Rattle.v_statement.specs.Effects.{first_true, run_if_any, AreNarrowArms, item_list}
+use Rattle.v_statement.specs.declared.place.Update.{Update as CodeUpdate}
+use Rattle.v_syntax.specs.declared.scope.Values.{Values as CodeValues}
+use Rattle.v_statement.specs.Places.{update_of, updates_of}
+use Rattle.v_statement.specs.Effects.{effect_at, first_true, run_if_any, AreNarrowArms, item_list}
 use Rattle.v_statement.proofs.Written.{written_fits}
 use mathlib.Core.Former as Former
 
@@ -197,3 +200,14 @@ valuation_is e v us h = ap (λ (k : Effect). k.valuation) h
 pub turn-fits : (s : Scope) (us : List Update) (x : pure.Statement) (v : Valuation) (e : Effect) → e ≡ behind us (run s x v)
     → HasFittingValues s v → HasFittingValues s e.valuation
 turn-fits s us x v e h fits = subst (HasFittingValues s) (sym (ap (λ (k : Effect). k.valuation) h)) (run_fits s x v fits)
+
+-- a run on copies, whose updates are then put behind those that wait
+updates-append : (us vs : List CodeUpdate) → updates_of (us ++ vs) ≡ updates_of us ++ updates_of vs
+updates-append [] vs = refl
+updates-append (u ∷ us) vs = ap (λ ws. update_of u ∷ ws) (updates-append us vs)
+
+pub run-appended : (values : CodeValues) (old added new : List CodeUpdate) (e : Effect) → effect_at values added ≡ e → new ≡ old ++ added
+    → effect_at values new ≡ behind (updates_of old) e
+run-appended values old added new e h is =
+    let updates = ap updates_of is ∙ updates-append old added ∙ ap (λ (f : Effect). updates_of old ++ f.updates) h in
+    λ i. record { valuation = (h i).valuation; updates = updates i }

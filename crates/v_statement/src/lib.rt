@@ -2,6 +2,7 @@
 #![tactic(auto)]
 
 mod choice;
+mod copy;
 mod evaluation;
 pub mod place;
 pub mod register;

@@ -1,20 +1,21 @@
 //! What the clocked blocks of one module leave at the clock's edge.
-ghost use Rattle.std.specs.Prelude.{◌≡◌, ◌≤◌, ◌++◌, ◌∷◌, [], IfOk, OnOk, map};
+ghost use Rattle.std.specs.Prelude.{◌≡◌, ◌≤◌, ◌++◌, ◌∷◌, [], OnOk, OnErr, map};
 ghost use Rattle.wb_meaning.specs.Verilog.Statement.{run, with_updates};
 ghost use Rattle.wb_meaning.specs.Verilog.Register.{is_edge, has_edge, is_clocked, clocked_blocks, updates_of as updates_of_blocks, after_edge};
-ghost use Rattle.v_syntax.specs.Scope.{scope_at, valuation_at, value_of_entry, values_of};
+ghost use Rattle.v_syntax.specs.Scope.{scope_at, valuation_at};
 ghost use Rattle.v_syntax.specs.Source.{edge_of, events_of, item_of};
 ghost use Rattle.v_statement.specs.Places.{updates_of};
 ghost use Rattle.v_syntax.specs.Tree.{statement_of};
 ghost use Rattle.v_statement.specs.Statements.{IsReadyFor, IsNarrowStatement};
 ghost use Rattle.v_statement.specs.Registers.{events_list, AreNarrowBlocks, AreNarrowUpdates};
 
+use crate::copy::copied;
 use crate::place::Update;
-use crate::statement::run;
+use crate::statement::run_statement;
 use crate::write::write;
 use std::alloc::{AllocError, Global};
 use v_syntax::module::{EdgeKind, Event, Events, Item};
-use v_syntax::scope::{Entry, Scope, Value, Values};
+use v_syntax::scope::{Entry, Scope, Values};
 use v_syntax::tree::Statement;
 
 /// Whether the event is an edge.
@@ -49,29 +50,6 @@ pub fn is_clocked(events: &Events<'_>) -> bool
     }
 }
 
-/// A copy of a value.
-fn copied_value(alloc: Global, value: &Value) -> Result<Value, AllocError>
-    ensures { IfOk result (λ copy. value_of_entry copy ≡ value_of_entry value.now) }
-{
-    match value {
-        Value::Number(number) => Ok(Value::Number(*number)),
-        Value::Words(words) => Ok(Value::Words(Vec::from_slice(alloc, words)?)),
-    }
-}
-
-/// A copy of values.
-fn copied<'s>(alloc: Global, values: &[Entry<'s>]) -> Result<Values<'s>, AllocError>
-    ensures { IfOk result (λ copy. values_of copy.entries.items ≡ values_of values.now) }
-{
-    let mut entries = Vec::new(alloc);
-    for entry in values {
-        let value = copied_value(alloc, &entry.value)?;
-        let name = entry.name;
-        entries.push(Entry { name, value })?;
-    }
-    Ok(Values { entries })
-}
-
 /// Runs a block on a copy of the values, and adds its updates behind those that wait.
 fn add_updates<'s>(
     alloc: Global,
@@ -86,7 +64,7 @@ fn add_updates<'s>(
         ≡ updates_of updates.old.items ++ (run (scope_at scope.now) (statement_of block.now) (valuation_at values.now)).updates) }
 {
     let mut copy = copied(alloc, values)?;
-    run(alloc, scope, block, &mut copy, updates)
+    run_statement(alloc, scope, block, &mut copy, updates)
 }
 
 /// Adds the updates of the item's block where it is clocked.
@@ -159,7 +137,8 @@ fn apply<'s>(
 }
 
 /// What the clocked blocks among a module's items leave at the clock's edge: each is run on the values, and their updates take
-/// place in their order. A name that a block assigns and that has no value yet gets one.
+/// place in their order. A name that a block assigns and that has no value yet gets one. Where memory is wanted, the values
+/// stay as they were.
 pub fn after_edge<'s>(
     alloc: Global,
     scope: &Scope<'_>,
@@ -168,10 +147,14 @@ pub fn after_edge<'s>(
 ) -> Result<(), AllocError>
     requires ready { IsReadyFor (scope_at scope.now) (valuation_at values.old.entries.items) }
     requires narrow { AreNarrowBlocks (scope_at scope.now) (clocked_blocks (map item_of items.now)) }
-    ensures { OnOk result (valuation_at values.new.entries.items
+    ensures after { OnOk result (valuation_at values.new.entries.items
         ≡ after_edge (scope_at scope.now) (clocked_blocks (map item_of items.now)) (valuation_at values.old.entries.items)) }
+    ensures kept { OnErr result (values.new.entries.items ≡ values.old.entries.items) }
 {
     let mut updates = Vec::new(alloc);
     add_clocked(alloc, scope, items, &values.entries, &mut updates)?;
-    apply(alloc, scope, &updates, values)
+    let mut after = copied(alloc, &values.entries)?;
+    apply(alloc, scope, &updates, &mut after)?;
+    *values = after;
+    Ok(())
 }

@@ -1,5 +1,5 @@
 //! Runs of statements (1364-2005, 9.2 to 9.5): blocking assignments change the values, nonblocking ones add updates.
-ghost use Rattle.std.specs.Prelude.{◌≡◌, ◌≤◌, ◌<◌, ◌^◌, ◌++◌, ◌∷◌, [], IfOk, OnOk, is_some};
+ghost use Rattle.std.specs.Prelude.{◌≡◌, ◌≤◌, ◌<◌, ◌^◌, ◌++◌, ◌∷◌, [], IfOk, OnOk, OnErr, is_some};
 ghost use Rattle.wb_meaning.specs.Verilog.Syntax.{case as meaning_case};
 ghost use Rattle.wb_meaning.specs.Verilog.Expression.{assigned_value};
 ghost use Rattle.wb_meaning.specs.Verilog.Statement.{places, written, target_width, run, run_all, behind};
@@ -11,6 +11,7 @@ ghost use Rattle.v_statement.specs.Statements.{IsReadyFor, IsNarrowTarget, IsNar
 ghost use Rattle.v_statement.specs.Effects.{effect_at, first_true, run_if_any, AreNarrowArms, item_list, statement_in};
 
 use crate::choice::chosen_item;
+use crate::copy::copied;
 use crate::evaluation::{assigned_value, is_true};
 use crate::place::{Place, Update};
 use crate::target::{add_places, places_width};
@@ -108,9 +109,33 @@ fn defer<'s>(
     Ok(())
 }
 
-/// Runs a statement on the values, and adds its updates behind those that wait.
-#[cycle(run)]
+/// Runs a statement on the values, and adds its updates behind those that wait. Where memory is wanted, both stay as they were.
 pub fn run<'s>(
+    alloc: Global,
+    scope: &Scope<'_>,
+    statement: &Statement<'s>,
+    values: &mut Values<'s>,
+    updates: &mut Vec<Update<'s>>,
+) -> Result<(), AllocError>
+    requires ready { IsReadyFor (scope_at scope.now) (valuation_at values.old.entries.items) }
+    requires narrow { IsNarrowStatement (scope_at scope.now) (statement_of statement.now) }
+    ensures effect { OnOk result (effect_at values.new updates.new.items
+        ≡ behind (updates_of updates.old.items)
+        (run (scope_at scope.now) (statement_of statement.now) (valuation_at values.old.entries.items))) }
+    ensures values_kept { OnErr result (values.new.entries.items ≡ values.old.entries.items) }
+    ensures updates_kept { OnErr result (updates.new.items ≡ updates.old.items) }
+{
+    let mut after = copied(alloc, &values.entries)?;
+    let mut added = Vec::new(alloc);
+    run_statement(alloc, scope, statement, &mut after, &mut added)?;
+    updates.append(&mut added)?;
+    *values = after;
+    Ok(())
+}
+
+/// Runs a statement on the values, and adds its updates behind those that wait. Where memory is wanted, some of it may have run.
+#[cycle(run)]
+pub(crate) fn run_statement<'s>(
     alloc: Global,
     scope: &Scope<'_>,
     statement: &Statement<'s>,
@@ -134,7 +159,7 @@ pub fn run<'s>(
                 return Ok(());
             }
             match last {
-                Some(other) => run(alloc, scope, other, values, updates),
+                Some(other) => run_statement(alloc, scope, other, values, updates),
                 None => Ok(()),
             }
         }
@@ -161,7 +186,7 @@ fn run_all<'s>(
         (run_all (scope_at scope.now) (statement_list statements.now) (valuation_at values.old.entries.items))) }
 {
     for statement in statements {
-        run(alloc, scope, statement, values, updates)?;
+        run_statement(alloc, scope, statement, values, updates)?;
     }
     Ok(())
 }
@@ -186,7 +211,7 @@ fn run_arms<'s>(
 {
     for arm in arms {
         if is_true(scope, &values.entries, &arm.condition) {
-            run(alloc, scope, &arm.statement, values, updates)?;
+            run_statement(alloc, scope, &arm.statement, values, updates)?;
             return Ok(true);
         }
     }
@@ -234,7 +259,7 @@ fn run_item<'s>(
         (run (scope_at scope.now) (statement_in item.now) (valuation_at values.old.entries.items))) }
 {
     match item {
-        CaseItem::Values(_, statement) => run(alloc, scope, statement, values, updates),
-        CaseItem::Default(statement) => run(alloc, scope, statement, values, updates),
+        CaseItem::Values(_, statement) => run_statement(alloc, scope, statement, values, updates),
+        CaseItem::Default(statement) => run_statement(alloc, scope, statement, values, updates),
     }
 }

@@ -8,8 +8,8 @@ use Rattle.v_statement.specs.Places.{updates_of}
 use Rattle.v_syntax.specs.Narrow.{HasFittingValues}
 use Rattle.v_statement.proofs.register.add_updates.Goals as goal
 
-pub run-requires-clause-ready : goal.run-requires-clause-ready
-run-requires-clause-ready c =
+pub run_statement-requires-clause-ready : goal.run_statement-requires-clause-ready
+run_statement-requires-clause-ready c =
     (c.requires.ready.0, subst (HasFittingValues (scope_at c.args.scope.now)) (sym (ap valuation_of c.in_ok-copy.ensures)) c.requires.ready.1)
 
 pub returns : goal.returns
@@ -18,4 +18,4 @@ returns c =
     let x = statement_of c.args.block.now in
     let us = updates_of c.args.updates.now.items in
     let same = ap (λ v. us ++ (run s x v).updates) (ap valuation_of c.in_ok-copy.ensures) in
-    on_ok_weaker c.run.result (λ k. ap (λ (e : Effect). e.updates) k ∙ same) c.run.ensures
+    on_ok_weaker c.run_statement.result (λ k. ap (λ (e : Effect). e.updates) k ∙ same) c.run_statement.ensures

@@ -13,8 +13,8 @@ use Rattle.v_statement.proofs.Choices as choices
 use Rattle.v_statement.proofs.Runs as runs
 use Rattle.v_statement.proofs.statement.+run.Goals as goal
 
-pub run-run_arms-requires : goal.run-run_arms-requires
-run-run_arms-requires t c = (
+pub run_statement-run_arms-requires : goal.run_statement-run_arms-requires
+run_statement-run_arms-requires t c = (
   search (rules, the_lemmas),
   (
     c.requires.ready,
@@ -24,14 +24,14 @@ run-run_arms-requires t c = (
   ),
 )
 
-pub run-returns-then-branch : goal.run-returns-then-branch
-run-returns-then-branch t c =
+pub run_statement-returns-then-branch : goal.run_statement-returns-then-branch
+run_statement-returns-then-branch t c =
     runs.if-run (scope_at c.args.scope.now) (valuation_at c.args.values.now.entries.items) (updates_of c.args.updates.now.items) c.args.statement.now
     c.in-If.arms c.in-If.last c.in-If.is c.deref-in-If.result.now c.deref-in-If.ensures.value _ _
     c.in_ok-run_arms-in-If.ensures.found c.if-branch.true c.in_ok-run_arms-in-If.ensures.effect
 
-pub run-run-requires : goal.run-run-requires
-run-run-requires t c = (
+pub run_statement-run_statement-requires : goal.run_statement-run_statement-requires
+run_statement-run_statement-requires t c = (
   search (rules, the_lemmas),
   (
     let s = scope_at c.args.scope.now in
@@ -48,8 +48,8 @@ run-run-requires t c = (
   ),
 )
 
-pub run-returns-in-Some : goal.run-returns-in-Some
-run-returns-in-Some t c =
+pub run_statement-returns-in-Some : goal.run_statement-returns-in-Some
+run_statement-returns-in-Some t c =
     let s = scope_at c.args.scope.now in
     let v = valuation_at c.args.values.now.entries.items in
     let us = updates_of c.args.updates.now.items in
@@ -61,10 +61,10 @@ run-returns-in-Some t c =
     c.in_ok-run_arms-in-If.ensures.found c.if-branch.false in
     let same = runs.behind-same s e before (statement_of c.deref-in-Some.result.now) mid
     ∙ ap (behind us) (ap (λ x. run s (statement_of x) v) c.deref-in-Some.ensures ∙ sym (rest ∙ ap (λ o. run s (runs.or_else_empty o) v) c.in-Some.is)) in
-    on_ok_weaker c.run.result (λ k. k ∙ same) c.run.ensures
+    on_ok_weaker c.run_statement.result (λ k. k ∙ same) c.run_statement.ensures
 
-pub run-returns-in-None : goal.run-returns-in-None
-run-returns-in-None t c =
+pub run_statement-returns-in-None : goal.run_statement-returns-in-None
+run_statement-returns-in-None t c =
     let s = scope_at c.args.scope.now in
     let v = valuation_at c.args.values.now.entries.items in
     let us = updates_of c.args.updates.now.items in
@@ -75,8 +75,8 @@ run-returns-in-None t c =
     c.in_ok-run_arms-in-If.ensures.found c.if-branch.false in
     mid ∙ sym (runs.behind-unchanged us v) ∙ ap (behind us) (sym (rest ∙ ap (λ o. run s (runs.or_else_empty o) v) c.in-None.is))
 
-pub run-run_all-requires : goal.run-run_all-requires
-run-run_all-requires t c = (
+pub run_statement-run_all-requires : goal.run_statement-run_all-requires
+run_statement-run_all-requires t c = (
   search (rules, the_lemmas),
   (
     c.requires.ready,
@@ -86,8 +86,8 @@ run-run_all-requires t c = (
   ),
 )
 
-pub run-returns-in-Block : goal.run-returns-in-Block
-run-returns-in-Block t c =
+pub run_statement-returns-in-Block : goal.run_statement-returns-in-Block
+run_statement-returns-in-Block t c =
     let s = scope_at c.args.scope.now in
     let v = valuation_at c.args.values.now.entries.items in
     let us = updates_of c.args.updates.now.items in
@@ -103,18 +103,18 @@ run_all-loop-statement-preserved t c =
     let i = c.loop-statement.statement-index in
     let v = valuation_at c.loop-statement.values.entries.items in
     let us = updates_of c.loop-statement.updates.items in
-    let e : Effect = effect_at c.run.new.values c.run.new.updates.items in
+    let e : Effect = effect_at c.run_statement.new.values c.run_statement.new.updates.items in
     let rest = runs.rest_is xs i r (omega arith) c.statement-item.is in
     record {
       same = c.loop-statement.invariant.same
           ∙ ap (λ ys. behind us (run_all s (statement_list ys) v)) rest
-          ∙ runs.run-more s us v (statement_of r) (statement_list (drop (i + 1) xs)) e c.in_ok-run.ensures;
-      ready = (c.requires.ready.0, runs.turn-fits s us (statement_of r) v e c.in_ok-run.ensures c.loop-statement.invariant.ready.1);
+          ∙ runs.run-more s us v (statement_of r) (statement_list (drop (i + 1) xs)) e c.in_ok-run_statement.ensures;
+      ready = (c.requires.ready.0, runs.turn-fits s us (statement_of r) v e c.in_ok-run_statement.ensures c.loop-statement.invariant.ready.1);
       narrow = (subst (λ ys. AreNarrowStatements s (statement_list ys)) rest c.loop-statement.invariant.narrow).1;
     }
 
-pub run-run_case-requires : goal.run-run_case-requires
-run-run_case-requires t c = (
+pub run_statement-run_case-requires : goal.run_statement-run_case-requires
+run_statement-run_case-requires t c = (
   search (rules, the_lemmas),
   (
     c.requires.ready,
@@ -124,8 +124,8 @@ run-run_case-requires t c = (
   ),
 )
 
-pub run-returns-in-Case : goal.run-returns-in-Case
-run-returns-in-Case t c =
+pub run_statement-returns-in-Case : goal.run_statement-returns-in-Case
+run_statement-returns-in-Case t c =
     let s = scope_at c.args.scope.now in
     let v = valuation_at c.args.values.now.entries.items in
     let us = updates_of c.args.updates.now.items in

@@ -1,7 +1,7 @@
 use Rattle.std.proofs.Common.{◌∙◌, arith}
 use Rattle.v_statement.proofs.Runs.{rest_is}
 use Rattle.v_statement.proofs.Edges.{copy-turn}
-use Rattle.v_statement.proofs.register.copied.Goals as goal
+use Rattle.v_statement.proofs.copy.copied.Goals as goal
 
 pub loop-entry-preserved : goal.loop-entry-preserved
 loop-entry-preserved c =
