@@ -13,5 +13,5 @@ apply-requires-clause-narrow c =
     let blocks = clocked_blocks (map item_of c.args.items.now) in
     let v = valuation_at c.deref.result.now in
     subst AreNarrowUpdates
-    (sym (ap updates_of c.deref-2.ensures.value ∙ c.in_ok-add_clocked.ensures ∙ ap (λ us. updates_of us ++ updates_of_blocks s v blocks) c.new-updates.ensures.items))
+    (sym (ap updates_of c.deref-3.ensures.value ∙ c.in_ok-add_clocked.ensures ∙ ap (λ us. updates_of us ++ updates_of_blocks s v blocks) c.new-updates.ensures.items))
     (blocks-narrow s v blocks c.requires.narrow)
