@@ -6,3 +6,4 @@ pub mod Targets
 pub mod Choices
 pub mod Runs
 pub mod Edges
+pub mod Small
