@@ -1,10 +1,10 @@
 -- The bits that part selects take, and bits that are written from a place downward.
-use Rattle.std.proofs.Common.{◌≡◌, ◌≤◌, ◌<◌, ℕ, zero, suc, ◌+◌, ◌-◌, ◌*◌, ◌/◌, ◌%◌, ◌^◌, ◌∙◌, refl, ap, sym, subst, add-zero, Bool, true, false, cond, not, nat_le, nat_lt, ℤ, pos, negsuc, ◌+ℤ◌, ◌-ℤ◌, arith}
+use Rattle.std.proofs.Common.{◌≡◌, ◌<◌, ℕ, ◌+◌, ◌-◌, ◌*◌, ◌/◌, ◌%◌, ◌^◌, ◌∙◌, refl, ap, sym, subst, add-zero, Bool, true, false, cond, not, nat_le, nat_lt, ℤ, pos, negsuc, ◌+ℤ◌, ◌-ℤ◌, arith}
 use Rattle.std.proofs.Math.Nat.{mod-one, mod-eq_of_lt, mod-add-div}
 use Rattle.std.proofs.lemmas.Bool.{false≢true}
 use Rattle.std.proofs.lemmas.Bool.Decides.{nat_tests}
 use Rattle.std.proofs.lemmas.Int.{ints}
-use Rattle.wb_meaning.specs.Verilog.Expression.{Object, place_of_bit, Bits, bits_upward, bits_downward}
+use Rattle.wb_meaning.specs.Verilog.Expression.{Object, place_of_bit, Bits, bits_upward}
 use Rattle.wb_meaning.specs.Verilog.Statement.{with_bits_from, with_bits_at}
 
 -- where no bits are written
@@ -39,7 +39,7 @@ no_bits w old (negsuc k) x h =
     let none : 0 ≡ 0 - (k + 1) = omega arith in
     subst (λ m. old ≡ with_bits_from w old 0 m (x / 2 ^ (k + 1))) none (sym (none_written w old 0 (x / 2 ^ (k + 1)) h))
 
--- the bits upward and downward from a base, from the base's place on
+-- the bits upward from a base, from the base's place on
 pub upward_is : (o : Object) (b p : ℤ) (n : ℕ) (d : Bool) → p ≡ place_of_bit o b → nat_le o.right o.left ≡ not d
     → ◌≡◌ {A = Bits} (record { low = cond d (p -ℤ (pos n -ℤ pos 1)) p; count = n }) (bits_upward o b n)
 upward_is o b p n true is_p e =
@@ -51,18 +51,6 @@ upward_is o b p n true is_p e =
     moved x y z = omega (arith, ints)
 upward_is o b p n false is_p e =
     λ i. record { low = (is_p ∙ sym (ap (λ t. cond t (place_of_bit o b) (place_of_bit o (b +ℤ (pos n -ℤ pos 1)))) e)) i; count = n }
-
-pub downward_is : (o : Object) (b p : ℤ) (n : ℕ) (d : Bool) → p ≡ place_of_bit o b → nat_le o.right o.left ≡ d
-    → ◌≡◌ {A = Bits} (record { low = cond d (p -ℤ (pos n -ℤ pos 1)) p; count = n }) (bits_downward o b n)
-downward_is o b p n true is_p e =
-    let low : p -ℤ (pos n -ℤ pos 1) ≡ b -ℤ (pos n -ℤ pos 1) -ℤ pos o.right =
-    ap (λ q. q -ℤ (pos n -ℤ pos 1)) (is_p ∙ ap (λ t. cond t (b -ℤ pos o.right) (pos o.right -ℤ b)) e) ∙ swapped b (pos o.right) (pos n -ℤ pos 1) in
-    λ i. record { low = (low ∙ sym (ap (λ t. cond t (cond t (b -ℤ (pos n -ℤ pos 1) -ℤ pos o.right) (pos o.right -ℤ (b -ℤ (pos n -ℤ pos 1)))) (place_of_bit o b)) e)) i; count = n }
-  where
-    swapped : (x y z : ℤ) → x -ℤ y -ℤ z ≡ x -ℤ z -ℤ y
-    swapped x y z = omega (arith, ints)
-downward_is o b p n false is_p e =
-    λ i. record { low = (is_p ∙ sym (ap (λ t. cond t (place_of_bit o (b -ℤ (pos n -ℤ pos 1))) (place_of_bit o b)) e)) i; count = n }
 
 -- what is not written, as the code tests it
 pub below_zero_is : (w old : ℕ) (negative : Bool) (r n x : ℕ) → old < 2 ^ w → negative ≡ true

@@ -1,10 +1,9 @@
 use Rattle.std.proofs.Common.{◌∙◌, ap}
 use Rattle.wb_meaning.specs.Value.{valuation_of}
-use Rattle.wb_meaning.specs.Verilog.Statement.{Effect, behind, run}
+use Rattle.wb_meaning.specs.Verilog.Statement.{behind, run}
 use Rattle.v_syntax.specs.Scope.{scope_at, valuation_at, values_of}
 use Rattle.v_syntax.specs.Tree.{statement_of}
 use Rattle.v_statement.specs.Places.{updates_of}
-use Rattle.v_statement.specs.Effects.{effect_at}
 use Rattle.v_statement.proofs.Runs.{run-appended}
 use Rattle.v_statement.proofs.statement.run.Goals as goal
 
