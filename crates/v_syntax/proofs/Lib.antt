@@ -11,10 +11,3 @@ pub mod Bits
 pub mod Selected
 pub mod Taking
 pub mod PartReads
-pub mod Cut
-pub mod Writing
-pub mod Written
-pub mod Targets
-pub mod Choices
-pub mod Runs
-pub mod Edges

@@ -8,8 +8,3 @@ pub mod Evaluation
 pub mod Worked
 pub mod Index
 pub mod Parts
-pub mod Places
-pub mod Statements
-pub mod Effects
-pub mod Registers
-pub mod WorkedStatements

@@ -535,8 +535,9 @@ fn compared(
     word::compared(operator, signed, width, left.value, right)
 }
 
-/// The value of the expression in a context, as the meaning has it.
-pub(crate) fn value_in_context(
+/// The value of the expression in a context of `width` bits, at most 128 and no fewer than its own, where `signed` says
+/// whether its operands are widened with their sign.
+pub fn value_in_context(
     scope: &Scope<'_>,
     values: &[Entry<'_>],
     expression: &Expression<'_>,

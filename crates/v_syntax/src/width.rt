@@ -12,8 +12,8 @@ use crate::taken::count_of;
 use crate::tree::{BinaryLink, Choice, Expression, PrefixOperator, Selects, TestLink};
 use crate::value::constant_of;
 
-/// How many bits a net, a variable or a word of a memory has.
-pub(crate) fn object_width(object: Object) -> u32
+/// How many bits a net, a variable or a word of a memory has, at most 128.
+pub fn object_width(object: Object) -> u32
     requires { object_width (object_of object) ≤ 128 }
     ensures { result ≡ object_width (object_of object) }
 {

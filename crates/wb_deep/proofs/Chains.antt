@@ -17,7 +17,7 @@ use Rattle.v_syntax.specs.declared.tree.Statement.{Blocking}
 use Rattle.v_syntax.specs.Tree.{tree_of, statement_of, prefixed, all_prefixed, combined, arm_before, or_empty}
 use Rattle.v_syntax.specs.Chain.{linked, chosen}
 use Rattle.v_syntax.specs.Narrow.{IsNarrow, HasNarrowObjects}
-use Rattle.v_syntax.specs.Statements.{IsNarrowStatement, arm_list}
+use Rattle.v_statement.specs.Statements.{IsNarrowStatement, arm_list}
 use Rattle.wb_deep.specs.Small.{IsSmall, IsSmallStatement}
 
 -- What stands at the end of the chain may be anything small.

@@ -4,7 +4,7 @@ use Rattle.v_syntax.specs.declared.tree.Expression.{Expression}
 use Rattle.v_syntax.specs.declared.tree.Statement.{Statement}
 use Rattle.v_syntax.specs.Tree.{tree_of, statement_of}
 use Rattle.v_syntax.specs.Narrow.{IsNarrow, HasNarrowObjects}
-use Rattle.v_syntax.specs.Statements.{IsNarrowStatement}
+use Rattle.v_statement.specs.Statements.{IsNarrowStatement}
 
 abbrev pub IsSmall : Expression → Type 0
 IsSmall e = (s : Scope) → IsNarrow s (tree_of e)

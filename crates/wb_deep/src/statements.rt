@@ -7,7 +7,7 @@ use crate::expressions::number;
 use std::alloc::{AllocError, Global};
 use std::test::Fail;
 use v_syntax::scope::{Scope, Value, Values};
-use v_syntax::statement::run;
+use v_statement::statement::run;
 use v_syntax::tree::{Arm, Selects, Statement, Target};
 
 /// How many arms stand before the last one.

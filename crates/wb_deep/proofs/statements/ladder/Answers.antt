@@ -1,8 +1,8 @@
 use Rattle.std.proofs.Common.{sym, subst, None}
 use Rattle.v_syntax.specs.declared.tree.Arm.{Arm}
 use Rattle.v_syntax.specs.declared.tree.Statement.{Empty}
-use Rattle.v_syntax.specs.Statements.{IsNarrowStatement}
-use Rattle.v_syntax.proofs.Runs.{statement_of-If}
+use Rattle.v_statement.specs.Statements.{IsNarrowStatement}
+use Rattle.v_statement.proofs.Runs.{statement_of-If}
 use Rattle.wb_deep.proofs.Chains.{AreSmallArms, one_more_arm}
 use Rattle.wb_deep.proofs.statements.ladder.Goals as goal
 

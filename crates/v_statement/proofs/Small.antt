@@ -1,0 +1,43 @@
+-- Statements of tests that fit words.
+use Rattle.std.proofs.Common.{◌≡◌, ◌≤◌, ◌<◌, ◌++◌, ◌∙◌, ℕ, ap, sym, subst, Bool, true, false, cond, List, [], ◌∷◌, arith}
+use Rattle.std.specs.Borrow.{Bor}
+use Rattle.wb_meaning.specs.Value.{Name}
+use Rattle.wb_meaning.specs.Verilog.Syntax as pure
+use Rattle.wb_meaning.specs.Verilog.Syntax.{number, one, place}
+use Rattle.wb_meaning.specs.Verilog.Expression.{Scope, Object, no_values, select_bits, is_memory, object_width}
+use Rattle.v_syntax.specs.declared.tree.Expression.{Expression}
+use Rattle.v_syntax.specs.declared.tree.Select.{Select}
+use Rattle.v_syntax.specs.declared.tree.Selects.{Whole, One}
+use Rattle.v_syntax.specs.declared.tree.Target.{Place}
+use Rattle.v_syntax.specs.declared.tree.Statement.{Statement, Blocking}
+use Rattle.v_syntax.specs.Tree.{tree_of, select_of}
+use Rattle.v_syntax.specs.Narrow.{IsNarrow, HasNarrowObjects}
+use Rattle.v_statement.specs.Statements.{IsNarrowSelect, IsNarrowTarget, AreNarrowStatements, statement_list}
+
+-- an unsigned number of 8 bits
+abbrev pub byte : ℕ → pure.Expression
+byte x = number (record { width = 8; sized = true; signed = false; value = x; unknown = 0; wild = 0 })
+
+abbrev pub IsSmallSelect : pure.Select → Type 0
+IsSmallSelect x = (s : Scope) → IsNarrowSelect s x × ((o : Object) → (select_bits s no_values o x).count ≤ 128)
+
+byte_fits : (s : Scope) (x : ℕ) → x < 256 → IsNarrow s (byte x)
+byte_fits s x h = ((omega arith, omega arith), h)
+
+select_fits : (s : Scope) (n : Name) (x : pure.Select) → HasNarrowObjects s → IsSmallSelect x → IsNarrowTarget s (place n (one x))
+select_fits s n x o h = ((h s).0, either (is_memory (s n)))
+  where
+    either : (t : Bool) → cond t (object_width (s n)) (select_bits s no_values (s n) x).count ≤ 128
+    either true = (o n).0
+    either false = (h s).1 (s n)
+
+-- an assignment to a whole name, and one to a part of it
+pub two_assignments : (xs ys zs : List Statement) (n m : Bor (List ℕ)) (x : Select) (d e : Expression) (y z : ℕ)
+    → xs ≡ [] → ys ≡ xs ++ Blocking (Place n Whole) d ∷ [] → zs ≡ ys ++ Blocking (Place m (One x)) e ∷ []
+    → tree_of d ≡ byte y → tree_of e ≡ byte z → y < 256 → z < 256 → IsSmallSelect (select_of x)
+    → (s : Scope) → HasNarrowObjects s → AreNarrowStatements s (statement_list zs)
+two_assignments xs ys zs n m x d e y z none first second is_d is_e a b h s o =
+    let before : ys ≡ Blocking (Place n Whole) d ∷ [] = first ∙ ap (λ ws. ws ++ Blocking (Place n Whole) d ∷ []) none in
+    let both : zs ≡ Blocking (Place n Whole) d ∷ Blocking (Place m (One x)) e ∷ [] = second ∙ ap (λ ws. ws ++ Blocking (Place m (One x)) e ∷ []) before in
+    subst (λ ws. AreNarrowStatements s (statement_list ws)) (sym both)
+    (((tt, (o n.now).0), subst (IsNarrow s) (sym is_d) (byte_fits s y a)), ((select_fits s m.now (select_of x) o h, subst (IsNarrow s) (sym is_e) (byte_fits s z b)), tt))

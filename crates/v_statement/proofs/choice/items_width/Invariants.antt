@@ -1,0 +1,12 @@
+use Rattle.std.proofs.Common.{◌≡◌, max, drop}
+use Rattle.wb_meaning.specs.Verilog.Statement.{items_width}
+use Rattle.v_syntax.specs.Scope.{scope_at}
+use Rattle.v_statement.specs.Effects.{item_list, AreValuesNarrow}
+use Rattle.v_statement.proofs.choice.items_width.Given as goal
+
+abbrev pub invariant-loop-item : goal.invariant-loop-item
+invariant-loop-item l = record {
+  same : max l.initial.width (items_width (scope_at l.scope) (item_list l.items))
+      ≡ max l.width (items_width (scope_at l.scope) (item_list (drop l.item-index l.items)));
+  narrow : AreValuesNarrow (scope_at l.scope) (drop l.item-index l.items);
+}

@@ -1,0 +1,161 @@
+//! The places that the targets of assignments mean.
+ghost use Rattle.std.specs.Prelude.{◌≡◌, ◌≤◌, ◌++◌, [], ◌∷◌, OnOk};
+ghost use Rattle.wb_meaning.specs.Verilog.Expression.{no_values, select_index, select_bits, selects_width};
+ghost use Rattle.wb_meaning.specs.Verilog.Statement.{place_of as meaning_place, places, all_places, places_width, target_width, targets_width};
+ghost use Rattle.v_syntax.specs.Scope.{object_of, scope_at, valuation_at};
+ghost use Rattle.v_syntax.specs.Tree.{selects_of, select_of, target_of};
+ghost use Rattle.v_statement.specs.Places.{integer_of, bits_of, place_of, places_of};
+ghost use Rattle.v_statement.specs.Statements.{IsReadyFor, IsNarrowSelect, AreNarrowSelects, HasNarrowSelects, HaveNarrowSelects, target_list};
+
+use crate::evaluation::{constant_of, integer_of};
+use crate::place::{Bits, Cell, Integer, Place};
+use crate::select::{
+    all_bits, bit_at, bits_between, bits_downward, bits_upward, count_of, indexed_cell,
+};
+use std::alloc::AllocError;
+use v_syntax::scope::{Entry, Object, Scope};
+use v_syntax::tree::{Select, Selects, Target};
+
+/// The number of an index by its own sign; of a part select, which is no index, one that is out of range.
+fn select_index(scope: &Scope<'_>, values: &[Entry<'_>], select: &Select<'_>) -> Integer
+    requires ready { IsReadyFor (scope_at scope.now) (valuation_at values.now) }
+    requires narrow { IsNarrowSelect (scope_at scope.now) (select_of select.now) }
+    ensures { integer_of result ≡ select_index (scope_at scope.now) (valuation_at values.now) (select_of select.now) }
+{
+    match select {
+        Select::Index(index) => integer_of(scope, values, index),
+        Select::Part(_, _) | Select::PartUp(_, _) | Select::PartDown(_, _) => Integer {
+            negative: true,
+            rest: 0,
+        },
+    }
+}
+
+/// The bits that a select takes.
+fn select_bits(scope: &Scope<'_>, values: &[Entry<'_>], object: Object, select: &Select<'_>) -> Bits
+    requires ready { IsReadyFor (scope_at scope.now) (valuation_at values.now) }
+    requires narrow { IsNarrowSelect (scope_at scope.now) (select_of select.now) }
+    requires at_most_128 { (select_bits (scope_at scope.now) no_values (object_of object) (select_of select.now)).count ≤ 128 }
+    ensures { bits_of result
+        ≡ select_bits (scope_at scope.now) (valuation_at values.now) (object_of object) (select_of select.now) }
+{
+    match select {
+        Select::Index(index) => bit_at(object, integer_of(scope, values, index)),
+        Select::Part(left, right) => bits_between(
+            object,
+            constant_of(scope, left),
+            constant_of(scope, right),
+        ),
+        Select::PartUp(base, width) => bits_upward(
+            object,
+            integer_of(scope, values, base),
+            count_of(constant_of(scope, width)),
+        ),
+        Select::PartDown(base, width) => bits_downward(
+            object,
+            integer_of(scope, values, base),
+            count_of(constant_of(scope, width)),
+        ),
+    }
+}
+
+/// The place that a name with selects means, its indexes read in the values.
+fn place_of<'s>(
+    scope: &Scope<'_>,
+    values: &[Entry<'_>],
+    name: &'s str,
+    selects: &Selects<'s>,
+) -> Place<'s>
+    requires ready { IsReadyFor (scope_at scope.now) (valuation_at values.now) }
+    requires narrow { AreNarrowSelects (scope_at scope.now) (selects_of selects.now) }
+    requires at_most_128 { selects_width (scope_at scope.now) (scope_at scope.now name.now) (selects_of selects.now) ≤ 128 }
+    ensures { place_of result
+        ≡ meaning_place (scope_at scope.now) (valuation_at values.now) name.now (selects_of selects.now) }
+{
+    let object = scope.object(name);
+    let (cell, bits) = match selects {
+        Selects::Whole => (Cell::Variable, all_bits(object)),
+        Selects::One(select) if object.addresses.is_some() => {
+            (
+                indexed_cell(object, select_index(scope, values, select)),
+                all_bits(object),
+            )
+        }
+        Selects::One(select) => (Cell::Variable, select_bits(scope, values, object, select)),
+        Selects::Two(index, select) => (
+            indexed_cell(object, select_index(scope, values, index)),
+            select_bits(scope, values, object, select),
+        ),
+    };
+    Place { name, cell, bits }
+}
+
+/// Adds the places of a target, the leftmost first.
+#[cycle(places)]
+pub(crate) fn add_places<'s>(
+    scope: &Scope<'_>,
+    values: &[Entry<'_>],
+    target: &Target<'s>,
+    found: &mut Vec<Place<'s>>,
+) -> Result<(), AllocError>
+    requires ready { IsReadyFor (scope_at scope.now) (valuation_at values.now) }
+    requires narrow { HasNarrowSelects (scope_at scope.now) (target_of target.now) }
+    requires at_most_128 { target_width (scope_at scope.now) (target_of target.now) ≤ 128 }
+    ensures { OnOk result (places_of found.new.items
+        ≡ places_of found.old.items ++ places (scope_at scope.now) (valuation_at values.now) (target_of target.now)) }
+{
+    match target {
+        Target::Place(name, selects) => add_place(scope, values, name, selects, found),
+        Target::Joined(targets) => add_all_places(scope, values, targets, found),
+    }
+}
+
+/// Adds the place of a name with selects.
+fn add_place<'s>(
+    scope: &Scope<'_>,
+    values: &[Entry<'_>],
+    name: &'s str,
+    selects: &Selects<'s>,
+    found: &mut Vec<Place<'s>>,
+) -> Result<(), AllocError>
+    requires ready { IsReadyFor (scope_at scope.now) (valuation_at values.now) }
+    requires narrow { AreNarrowSelects (scope_at scope.now) (selects_of selects.now) }
+    requires at_most_128 { selects_width (scope_at scope.now) (scope_at scope.now name.now) (selects_of selects.now) ≤ 128 }
+    ensures { OnOk result (places_of found.new.items
+        ≡ places_of found.old.items ++ meaning_place (scope_at scope.now) (valuation_at values.now) name.now (selects_of selects.now) ∷ []) }
+{
+    found.push(place_of(scope, values, name, selects))?;
+    Ok(())
+}
+
+/// Adds the places of targets, the leftmost first.
+#[cycle(places)]
+fn add_all_places<'s>(
+    scope: &Scope<'_>,
+    values: &[Entry<'_>],
+    targets: &[Target<'s>],
+    found: &mut Vec<Place<'s>>,
+) -> Result<(), AllocError>
+    requires ready { IsReadyFor (scope_at scope.now) (valuation_at values.now) }
+    requires narrow { HaveNarrowSelects (scope_at scope.now) (target_list targets.now) }
+    requires at_most_128 { targets_width (scope_at scope.now) (target_list targets.now) ≤ 128 }
+    ensures { OnOk result (places_of found.new.items
+        ≡ places_of found.old.items ++ all_places (scope_at scope.now) (valuation_at values.now) (target_list targets.now)) }
+{
+    for target in targets {
+        add_places(scope, values, target, found)?;
+    }
+    Ok(())
+}
+
+/// How many bits the places take together.
+pub(crate) fn places_width(places: &[Place<'_>]) -> u32
+    requires { places_width (places_of places.now) ≤ 128 }
+    ensures { result ≡ places_width (places_of places.now) }
+{
+    let mut width = 0;
+    for place in places {
+        width += place.bits.count;
+    }
+    width
+}

@@ -1,9 +1,0 @@
-use Rattle.std.proofs.Common.{◌≡◌, drop}
-use Rattle.wb_meaning.specs.Verilog.Statement.{all_signed}
-use Rattle.v_syntax.specs.Scope.{scope_at}
-use Rattle.v_syntax.specs.Tree.{expressions_of}
-use Rattle.v_syntax.proofs.choice.all_signed.Given as goal
-
-abbrev pub invariant-loop-expression : goal.invariant-loop-expression
-invariant-loop-expression l =
-    all_signed (scope_at l.scope) (expressions_of l.expressions) ≡ all_signed (scope_at l.scope) (expressions_of (drop l.expression-index l.expressions))

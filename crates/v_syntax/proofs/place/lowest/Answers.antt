@@ -1,6 +1,0 @@
-use Rattle.std.proofs.Common.{ap, bit_and, ◌∙◌}
-use Rattle.std.proofs.lemmas.Nat.{and_mask}
-use Rattle.v_syntax.proofs.place.lowest.Goals as goal
-
-pub returns : goal.returns
-returns c = ap (λ m. bit_and c.args.number m) c.mask.ensures ∙ and_mask c.args.number c.args.count
