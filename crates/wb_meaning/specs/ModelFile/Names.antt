@@ -35,14 +35,14 @@ is_model_name text = begins_with is_letter text && list_all is_name_byte text &&
 
 -- the names of a machine's states and definitions
 abbrev pub data_names : WrittenMachine → List Name
-data_names (machine states definitions fetch valid instructions) = map (λ s. s.state_name) states ++ map (λ d. d.0) definitions
+data_names (machine ss ds f v is) = map (λ s. s.state_name) ss ++ map (λ d. d.0) ds
 
 abbrev pub instruction_names_in : WrittenInstructions → List Name
 instruction_names_in no_instructions = []
 instruction_names_in (and_then (instruction called decode update program) is) = called ∷ instruction_names_in is
 
 abbrev pub instruction_names : WrittenMachine → List Name
-instruction_names (machine states definitions fetch valid instructions) = instruction_names_in instructions
+instruction_names (machine ss ds f v is) = instruction_names_in is
 
 abbrev pub joined : List (List Name) → List Name
 joined [] = []

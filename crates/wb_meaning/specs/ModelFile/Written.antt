@@ -55,7 +55,7 @@ pub record WrittenModel : Type 0 where
   pub top : WrittenMachine
 
 abbrev pub states_in : WrittenMachine → List StateDeclaration
-states_in (machine states definitions fetch valid instructions) = states
+states_in (machine ss ds f v is) = ss
 
 abbrev mutual
   -- a machine and the machines of its instructions' children, in the order of the file
