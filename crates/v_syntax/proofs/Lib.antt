@@ -9,3 +9,5 @@ pub mod Arms
 pub mod Steps
 pub mod Bits
 pub mod Selected
+pub mod Taking
+pub mod PartReads

@@ -7,3 +7,4 @@ pub mod Narrow
 pub mod Evaluation
 pub mod Worked
 pub mod Index
+pub mod Parts

@@ -4,9 +4,12 @@
 mod arithmetic;
 pub mod expression;
 pub mod module;
+#[cfg(test)]
+mod parts;
 pub mod scope;
-mod select;
+pub mod select;
 pub mod sign;
+pub mod taken;
 pub mod tree;
 pub mod value;
 pub mod width;
