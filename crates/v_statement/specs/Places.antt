@@ -1,5 +1,5 @@
 -- The places and updates that the code's values stand for.
-use Rattle.std.specs.Prelude.{ℕ, cond, List, [], ◌∷◌, Option, Some, None, ℤ, pos, ◌-ℤ◌, ◌+◌}
+use Rattle.std.specs.Prelude.{ℕ, cond, List, [], ◌∷◌, Option, Some, None, pos, ◌-ℤ◌, ◌+◌}
 use Rattle.wb_meaning.specs.Value.{Name, same_name}
 use Rattle.wb_meaning.specs.Verilog.Expression as expression
 use Rattle.wb_meaning.specs.Verilog.Statement as meaning
