@@ -1,9 +1,9 @@
--- The integers, places and updates that the code's values stand for.
-use Rattle.std.specs.Prelude.{ℕ, cond, List, [], ◌∷◌, Option, Some, None, ℤ, pos, negsuc, ◌-ℤ◌, int_lt, ◌+◌}
+-- The places and updates that the code's values stand for.
+use Rattle.std.specs.Prelude.{ℕ, cond, List, [], ◌∷◌, Option, Some, None, pos, ◌-ℤ◌, ◌+◌}
 use Rattle.wb_meaning.specs.Value.{Name, same_name}
 use Rattle.wb_meaning.specs.Verilog.Expression as expression
 use Rattle.wb_meaning.specs.Verilog.Statement as meaning
-use Rattle.v_statement.specs.declared.place.Integer.{Integer}
+use Rattle.v_syntax.specs.Index.{integer_at}
 use Rattle.v_statement.specs.declared.place.Bits.{Bits}
 use Rattle.v_statement.specs.declared.place.Cell.{Cell}
 use Rattle.v_statement.specs.declared.place.Cell.TheVariants.{Variable, Word, Nowhere}
@@ -11,16 +11,9 @@ use Rattle.v_statement.specs.declared.place.Place.{Place}
 use Rattle.v_statement.specs.declared.place.Update.{Update}
 use Rattle.v_syntax.specs.declared.scope.Entry.{Entry}
 
-abbrev pub integer_of : Integer → ℤ
-integer_of i = cond i.negative (negsuc i.rest) (pos i.rest)
-
 abbrev pub bits_of : Bits → expression.Bits
 bits_of b =
-    record { low = cond b.downward (integer_of b.from -ℤ (pos b.count -ℤ pos 1)) (integer_of b.from); count = b.count }
-
--- how many bits stand from the bound h to the bound l, both among them
-abbrev pub count_between : ℤ → ℤ → ℕ
-count_between h l = expression.natural_of (cond (int_lt h l) (l -ℤ h) (h -ℤ l)) + 1
+    record { low = cond b.downward (integer_at b.from -ℤ (pos b.count -ℤ pos 1)) (integer_at b.from); count = b.count }
 
 abbrev pub cell_of : Cell → meaning.Cell
 cell_of Variable = meaning.variable

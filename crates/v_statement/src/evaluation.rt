@@ -1,19 +1,20 @@
 //! What statements read: the values that assignments give, conditions, and indexes.
 ghost use Rattle.std.specs.Prelude.{◌≡◌, true, ◌≤◌, ◌<◌, ◌^◌};
-ghost use Rattle.wb_meaning.specs.Verilog.Expression.{width_of, value_of, integer_of as meaning_integer, integer_from, is_true, assigned_value, no_values};
+ghost use Rattle.wb_meaning.specs.Verilog.Expression.{width_of, value_of, integer_of as meaning_integer, is_true, assigned_value, no_values};
 ghost use Rattle.v_syntax.specs.Scope.{scope_at, valuation_at};
 ghost use Rattle.v_syntax.specs.Tree.{tree_of};
 ghost use Rattle.v_syntax.specs.Narrow.{IsNarrow, HasNarrowObjects};
-ghost use Rattle.v_statement.specs.Places.{integer_of};
+ghost use Rattle.v_syntax.specs.Index.{integer_at};
 ghost use Rattle.v_statement.specs.Statements.{IsReadyFor};
 
-use crate::place::{Integer, lowest};
+use crate::place::lowest;
 use v_syntax::scope::{Entry, Scope};
+use v_syntax::select::Integer;
 use v_syntax::sign::sign_of;
+use v_syntax::taken::integer_of;
 use v_syntax::tree::Expression;
 use v_syntax::value::value_in_context;
 use v_syntax::width::width_of;
-use wb_bits::Word;
 
 /// The value of the expression in a context of this width and sign.
 pub(crate) fn value_of(
@@ -61,52 +62,12 @@ pub(crate) fn assigned_value(
     lowest(value_of(scope, values, expression, wider, signed), width)
 }
 
-/// The integer that a number of `width` bits stands for by its sign.
-fn integer_from(signed: bool, width: u32, value: u128) -> Integer
-    requires some_bits { 1 ≤ width }
-    requires at_most_128 { width ≤ 128 }
-    requires fits { value < 2 ^ width }
-    ensures value { integer_of result ≡ integer_from signed width value }
-    ensures small { result.negative ≡ true → result.rest < 2 ^ 127 }
-{
-    if signed && Word::new(width, value).is_negative() {
-        return Integer {
-            negative: true,
-            rest: wb_bits::mask(width) - value,
-        };
-    }
-    Integer {
-        negative: false,
-        rest: value,
-    }
-}
-
-/// The integer that the expression stands for by its own sign.
-pub(crate) fn integer_of(
-    scope: &Scope<'_>,
-    values: &[Entry<'_>],
-    expression: &Expression<'_>,
-) -> Integer
-    requires ready { IsReadyFor (scope_at scope.now) (valuation_at values.now) }
-    requires narrow { IsNarrow (scope_at scope.now) (tree_of expression.now) }
-    ensures value { integer_of result ≡ meaning_integer (scope_at scope.now) (valuation_at values.now) (tree_of expression.now) }
-    ensures small { result.negative ≡ true → result.rest < 2 ^ 127 }
-{
-    let width = width_of(scope, expression);
-    let signed = sign_of(scope, expression);
-    integer_from(
-        signed,
-        width,
-        value_of(scope, values, expression, width, signed),
-    )
-}
-
 /// The integer of a constant, read where no net or variable has a value.
 pub(crate) fn constant_of(scope: &Scope<'_>, expression: &Expression<'_>) -> Integer
     requires objects { HasNarrowObjects (scope_at scope.now) }
     requires narrow { IsNarrow (scope_at scope.now) (tree_of expression.now) }
-    ensures value { integer_of result ≡ meaning_integer (scope_at scope.now) no_values (tree_of expression.now) }
-    ensures small { result.negative ≡ true → result.rest < 2 ^ 127 }
+    ensures value { integer_at result ≡ meaning_integer (scope_at scope.now) no_values (tree_of expression.now) }
+    ensures small { result.negative ≡ true → result.magnitude < 2 ^ 127 }
 {
     integer_of(scope, &[], expression)
 }

@@ -1,14 +1,10 @@
 //! Places: some bits of a net, a variable or a word of a memory, and what a number written there leaves.
 ghost use Rattle.std.specs.Prelude.{◌≡◌, ◌%◌, ◌^◌, ◌<◌, ◌≤◌, pos, ◌-ℤ◌};
 ghost use Rattle.wb_meaning.specs.Verilog.Statement.{with_bits_from, with_bits_at, with_bits};
-ghost use Rattle.v_statement.specs.Places.{integer_of, bits_of};
+ghost use Rattle.v_syntax.specs.Index.{integer_at};
+ghost use Rattle.v_statement.specs.Places.{bits_of};
 
-/// An integer: the number `rest`, or where it is negative -1 - `rest`.
-#[derive(Clone, Copy, PartialEq, Eq, Debug)]
-pub struct Integer {
-    pub negative: bool,
-    pub rest: u128,
-}
+use v_syntax::select::Integer;
 
 /// So many bits side by side, from a place upward, or downward from it, which is then the place of the highest of them.
 /// Places are counted from 0 at the low end; those below 0 and from the width on are out of range.
@@ -75,34 +71,34 @@ fn with_bits_upward(width: u32, old: u128, low: Integer, count: u32, number: u12
     requires at_most_128 { width ≤ 128 }
     requires fits { old < 2 ^ width }
     requires count_at_most_128 { count ≤ 128 }
-    ensures value { result ≡ with_bits_at width old (integer_of low) count number }
+    ensures value { result ≡ with_bits_at width old (integer_at low) count number }
     ensures fits { result < 2 ^ width }
 {
     if !low.negative {
-        return with_bits_from(width, old, low.rest, count, number);
+        return with_bits_from(width, old, low.magnitude, count, number);
     }
-    if low.rest >= u128::from(count) {
+    if low.magnitude >= u128::from(count) {
         return old;
     }
-    let below = low.rest as u32 + 1;
+    let below = low.magnitude as u32 + 1;
     let shown = number.checked_shr(below).unwrap_or(0);
     with_bits_from(width, old, 0, count - below, shown)
 }
 
 /// The integer `number` - `back`.
 fn lowered(number: u128, back: u32) -> Integer
-    ensures { integer_of result ≡ pos number -ℤ pos back }
+    ensures { integer_at result ≡ pos number -ℤ pos back }
 {
     let back = u128::from(back);
     if back <= number {
         Integer {
             negative: false,
-            rest: number - back,
+            magnitude: number - back,
         }
     } else {
         Integer {
             negative: true,
-            rest: back - number - 1,
+            magnitude: back - number - 1,
         }
     }
 }
@@ -112,13 +108,13 @@ fn with_bits_downward(width: u32, old: u128, high: Integer, count: u32, number: 
     requires at_most_128 { width ≤ 128 }
     requires fits { old < 2 ^ width }
     requires count_at_most_128 { count ≤ 128 }
-    ensures value { result ≡ with_bits_at width old (integer_of high -ℤ (pos count -ℤ pos 1)) count number }
+    ensures value { result ≡ with_bits_at width old (integer_at high -ℤ (pos count -ℤ pos 1)) count number }
     ensures fits { result < 2 ^ width }
 {
     if high.negative || count == 0 {
         return old;
     }
-    let low = lowered(high.rest, count - 1);
+    let low = lowered(high.magnitude, count - 1);
     with_bits_upward(width, old, low, count, number)
 }
 

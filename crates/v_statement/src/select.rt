@@ -4,40 +4,25 @@ ghost use Rattle.wb_meaning.specs.Verilog.Expression as meaning;
 ghost use Rattle.wb_meaning.specs.Verilog.Statement.{indexed_cell, all_bits};
 ghost use Rattle.v_syntax.specs.Scope.{object_of};
 ghost use Rattle.v_syntax.specs.Narrow.{IsNarrowObject};
-ghost use Rattle.v_statement.specs.Places.{integer_of, bits_of, cell_of, count_between};
+ghost use Rattle.v_syntax.specs.Index.{integer_at, count_between};
+ghost use Rattle.v_statement.specs.Places.{bits_of, cell_of};
 
-use crate::place::{Bits, Cell, Integer};
+use crate::place::{Bits, Cell};
 use v_syntax::scope::Object;
+use v_syntax::select::{Integer, count_between, place_of_bit};
 use v_syntax::width::object_width;
-
-/// The place of the bit with this index, counted from 0 at the low end.
-fn place_of_bit(object: Object, index: Integer) -> Integer
-    requires { index.negative ≡ true → index.rest < 2 ^ 127 }
-    ensures { integer_of result ≡ meaning.place_of_bit (object_of object) (integer_of index) }
-{
-    let right = u128::from(object.right);
-    let (negative, rest) = match (object.right <= object.left, index.negative) {
-        (true, true) => (true, index.rest + right),
-        (true, false) if index.rest >= right => (false, index.rest - right),
-        (true, false) => (true, right - index.rest - 1),
-        (false, true) => (false, right + index.rest + 1),
-        (false, false) if right >= index.rest => (false, right - index.rest),
-        (false, false) => (true, index.rest - right - 1),
-    };
-    Integer { negative, rest }
-}
 
 /// The word of a memory that an index names.
 pub(crate) fn indexed_cell(object: Object, index: Integer) -> Cell
-    ensures { cell_of result ≡ indexed_cell (object_of object) (integer_of index) }
+    ensures { cell_of result ≡ indexed_cell (object_of object) (integer_at index) }
 {
     match object.addresses {
         None => Cell::Nowhere,
         Some((first, last)) => {
             let low = u128::from(first.min(last));
             let high = u128::from(first.max(last));
-            if !index.negative && low <= index.rest && index.rest <= high {
-                Cell::Word((index.rest - low) as u32)
+            if !index.negative && low <= index.magnitude && index.magnitude <= high {
+                Cell::Word((index.magnitude - low) as u32)
             } else {
                 Cell::Nowhere
             }
@@ -53,7 +38,7 @@ pub(crate) fn all_bits(object: Object) -> Bits
     Bits {
         from: Integer {
             negative: false,
-            rest: 0,
+            magnitude: 0,
         },
         downward: false,
         count: object_width(object),
@@ -62,8 +47,8 @@ pub(crate) fn all_bits(object: Object) -> Bits
 
 /// The bit with this index.
 pub(crate) fn bit_at(object: Object, index: Integer) -> Bits
-    requires { index.negative ≡ true → index.rest < 2 ^ 127 }
-    ensures { bits_of result ≡ record { low = meaning.place_of_bit (object_of object) (integer_of index); count = 1 } }
+    requires { index.negative ≡ true → index.magnitude < 2 ^ 127 }
+    ensures { bits_of result ≡ record { low = meaning.place_of_bit (object_of object) (integer_at index); count = 1 } }
 {
     Bits {
         from: place_of_bit(object, index),
@@ -72,24 +57,11 @@ pub(crate) fn bit_at(object: Object, index: Integer) -> Bits
     }
 }
 
-/// How many bits stand between two bounds, both among them.
-fn count_between(left: Integer, right: Integer) -> u32
-    requires { count_between (integer_of left) (integer_of right) ≤ 128 }
-    ensures { result ≡ count_between (integer_of left) (integer_of right) }
-{
-    if left.negative != right.negative {
-        return (left.rest + right.rest) as u32 + 2;
-    }
-    let most = left.rest.max(right.rest);
-    let least = left.rest.min(right.rest);
-    (most - least) as u32 + 1
-}
-
 /// The bits between two bounds, both among them.
 pub(crate) fn bits_between(object: Object, left: Integer, right: Integer) -> Bits
-    requires small { right.negative ≡ true → right.rest < 2 ^ 127 }
-    requires at_most_128 { count_between (integer_of left) (integer_of right) ≤ 128 }
-    ensures { bits_of result ≡ meaning.bits_between (object_of object) (integer_of left) (integer_of right) }
+    requires small { right.negative ≡ true → right.magnitude < 2 ^ 127 }
+    requires at_most_128 { count_between (integer_at left) (integer_at right) ≤ 128 }
+    ensures { bits_of result ≡ meaning.bits_between (object_of object) (integer_at left) (integer_at right) }
 {
     Bits {
         from: place_of_bit(object, right),
@@ -100,20 +72,20 @@ pub(crate) fn bits_between(object: Object, left: Integer, right: Integer) -> Bit
 
 /// The integer as a count, which is 0 where it is negative.
 pub(crate) fn count_of(integer: Integer) -> u32
-    requires { meaning.natural_of (integer_of integer) ≤ 128 }
-    ensures { result ≡ meaning.natural_of (integer_of integer) }
+    requires { meaning.natural_of (integer_at integer) ≤ 128 }
+    ensures { result ≡ meaning.natural_of (integer_at integer) }
 {
     if integer.negative {
         0
     } else {
-        integer.rest as u32
+        integer.magnitude as u32
     }
 }
 
 /// So many bits with indexes from the base up, as `[base +: count]` takes them.
 pub(crate) fn bits_upward(object: Object, base: Integer, count: u32) -> Bits
-    requires { base.negative ≡ true → base.rest < 2 ^ 127 }
-    ensures { bits_of result ≡ meaning.bits_upward (object_of object) (integer_of base) count }
+    requires { base.negative ≡ true → base.magnitude < 2 ^ 127 }
+    ensures { bits_of result ≡ meaning.bits_upward (object_of object) (integer_at base) count }
 {
     Bits {
         from: place_of_bit(object, base),
@@ -124,8 +96,8 @@ pub(crate) fn bits_upward(object: Object, base: Integer, count: u32) -> Bits
 
 /// So many bits with indexes from the base down, as `[base -: count]` takes them.
 pub(crate) fn bits_downward(object: Object, base: Integer, count: u32) -> Bits
-    requires { base.negative ≡ true → base.rest < 2 ^ 127 }
-    ensures { bits_of result ≡ meaning.bits_downward (object_of object) (integer_of base) count }
+    requires { base.negative ≡ true → base.magnitude < 2 ^ 127 }
+    ensures { bits_of result ≡ meaning.bits_downward (object_of object) (integer_at base) count }
 {
     Bits {
         from: place_of_bit(object, base),

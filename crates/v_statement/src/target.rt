@@ -4,29 +4,32 @@ ghost use Rattle.wb_meaning.specs.Verilog.Expression.{no_values, select_index, s
 ghost use Rattle.wb_meaning.specs.Verilog.Statement.{place_of as meaning_place, places, all_places, places_width, target_width, targets_width};
 ghost use Rattle.v_syntax.specs.Scope.{object_of, scope_at, valuation_at};
 ghost use Rattle.v_syntax.specs.Tree.{selects_of, select_of, target_of};
-ghost use Rattle.v_statement.specs.Places.{integer_of, bits_of, place_of, places_of};
+ghost use Rattle.v_syntax.specs.Index.{integer_at};
+ghost use Rattle.v_statement.specs.Places.{bits_of, place_of, places_of};
 ghost use Rattle.v_statement.specs.Statements.{IsReadyFor, IsNarrowSelect, AreNarrowSelects, HasNarrowSelects, HaveNarrowSelects, target_list};
 
-use crate::evaluation::{constant_of, integer_of};
-use crate::place::{Bits, Cell, Integer, Place};
+use crate::evaluation::constant_of;
+use crate::place::{Bits, Cell, Place};
 use crate::select::{
     all_bits, bit_at, bits_between, bits_downward, bits_upward, count_of, indexed_cell,
 };
 use std::alloc::AllocError;
 use v_syntax::scope::{Entry, Object, Scope};
+use v_syntax::select::Integer;
+use v_syntax::taken::integer_of;
 use v_syntax::tree::{Select, Selects, Target};
 
 /// The number of an index by its own sign; of a part select, which is no index, one that is out of range.
 fn select_index(scope: &Scope<'_>, values: &[Entry<'_>], select: &Select<'_>) -> Integer
     requires ready { IsReadyFor (scope_at scope.now) (valuation_at values.now) }
     requires narrow { IsNarrowSelect (scope_at scope.now) (select_of select.now) }
-    ensures { integer_of result ≡ select_index (scope_at scope.now) (valuation_at values.now) (select_of select.now) }
+    ensures { integer_at result ≡ select_index (scope_at scope.now) (valuation_at values.now) (select_of select.now) }
 {
     match select {
         Select::Index(index) => integer_of(scope, values, index),
         Select::Part(_, _) | Select::PartUp(_, _) | Select::PartDown(_, _) => Integer {
             negative: true,
-            rest: 0,
+            magnitude: 0,
         },
     }
 }

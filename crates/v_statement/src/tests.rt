@@ -7,13 +7,14 @@ ghost use Rattle.v_syntax.specs.Tree.{tree_of, select_of, statement_of};
 ghost use Rattle.v_syntax.specs.Narrow.{HasNarrowObjects};
 ghost use Rattle.v_statement.specs.Statements.{IsNarrowSelect, IsNarrowStatement};
 
-use crate::place::{Bits, Cell, Integer, Place};
+use crate::place::{Bits, Cell, Place};
 use crate::register::after_edge;
 use crate::statement::run;
 use crate::write::write;
 use std::alloc::{AllocError, Global};
 use std::test::Fail;
 use v_syntax::scope::{Declaration, Entry, Object, Scope, Value, Values};
+use v_syntax::select::Integer;
 use v_syntax::tree::{Expression, Number, Select, Selects, Statement, Target};
 
 /// A form of part select.
@@ -156,7 +157,7 @@ fn writes(rt: HostRuntime) -> Result<(), Fail> {
         bits: Bits {
             from: Integer {
                 negative: false,
-                rest: 9,
+                magnitude: 9,
             },
             downward: true,
             count: 4,
