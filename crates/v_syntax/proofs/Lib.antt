@@ -10,4 +10,3 @@ pub mod Steps
 pub mod Bits
 pub mod Selected
 pub mod Taking
-pub mod PartReads

@@ -7,4 +7,3 @@ pub mod Narrow
 pub mod Evaluation
 pub mod Worked
 pub mod Index
-pub mod Parts

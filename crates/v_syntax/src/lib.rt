@@ -4,8 +4,6 @@
 mod arithmetic;
 pub mod expression;
 pub mod module;
-#[cfg(test)]
-mod parts;
 pub mod scope;
 pub mod select;
 pub mod sign;
