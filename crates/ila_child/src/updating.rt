@@ -35,7 +35,7 @@ pub(crate) fn update(
     ensures fits { OnOk result (Fits terms.now env.new) }
 {
     let writes = written(alloc, terms, env, words, updates)?;
-    write(terms, env, writes);
+    make_writes(terms, env, writes);
     Ok(())
 }
 
@@ -62,7 +62,7 @@ fn written(
 }
 
 /// Makes writes, one after another.
-fn write(terms: &Terms, env: &mut Env, writes: Vec<Write>)
+fn make_writes(terms: &Terms, env: &mut Env, writes: Vec<Write>)
     requires writes { AreFitting terms.now.names writes.items }
     requires fits { Fits terms.now env.old }
     ensures values { values_of env.new ≡ with_writes writes.items (values_of env.old) }

@@ -13,7 +13,7 @@ pub(crate) const NESTING: usize = 3;
 
 /// Where a name or a term may be read.
 #[derive(Clone, Copy)]
-pub(crate) enum Scope {
+pub enum Scope {
     /// In the top and in every child.
     Anywhere,
     /// In this child and in those inside it.

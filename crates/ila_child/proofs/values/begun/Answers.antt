@@ -1,0 +1,1 @@
+use Rattle.ila_child.proofs.Depth.{val_read, depth_around, depth_nested}
