@@ -2,3 +2,4 @@ pub mod Updates
 pub mod Initial
 pub mod Found
 pub mod Depth
+pub mod Places
