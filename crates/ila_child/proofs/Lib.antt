@@ -3,3 +3,4 @@ pub mod Initial
 pub mod Found
 pub mod Depth
 pub mod Places
+pub mod Points

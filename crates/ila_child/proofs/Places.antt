@@ -211,6 +211,30 @@ private_place i from total (x ∷ cs) (suc c) d k h l e =
           (omega arith, omega arith)
     ]
 
+-- the same among the scopes of all names
+pub private_name_scope : (n total : ℕ) (cs : List Child) (c : ℕ) (d : Child) (k : ℕ) → are_placed n total cs ≡ true → c < length cs → (get_or cs c d).first.0 ≤ k → k < (get_or cs c d).first.0 + length (get_or cs c d).initial_values.items → get_or (name_scopes n cs) k Anywhere ≡ Within c
+private_name_scope n total cs c d k h l a b =
+    let f = first_private n total cs c d h l in
+    let p : k ≡ n + (k - n) = omega (arith, f) in
+    let z : 0 + c ≡ c = omega arith in
+    ap (λ j. get_or (name_scopes n cs) j Anywhere) p
+    ∙ behind_copies n Anywhere (private_scopes 0 cs) (k - n)
+    ∙ private_scope 0 n total cs c d (k - n) h l (omega (arith, f)) (omega (arith, f))
+    ∙ ap (λ (j : ℕ). Within j) z
+
+pub private_name_place : (n total : ℕ) (cs : List Child) (c : ℕ) (d : Child) (k : ℕ) → are_placed n total cs ≡ true → c < length cs → get_or (name_scopes n cs) k Anywhere ≡ Within c → ((get_or cs c d).first.0 ≤ k) × (k < (get_or cs c d).first.0 + length (get_or cs c d).initial_values.items)
+private_name_place n total cs c d k h l e = elim (below_or k n) [
+  | inl b ↦ let clash : Anywhere ≡ Within c = sym (top_scope n cs k b) ∙ e in absurd (cc)
+  | inr b ↦
+      let p : k ≡ n + (k - n) = omega arith in
+      let z : c ≡ 0 + c = omega arith in
+      let there = sym (behind_copies n Anywhere (private_scopes 0 cs) (k - n)) ∙ sym (ap (λ j. get_or (name_scopes n cs) j Anywhere) p) ∙ e ∙ ap (λ (j : ℕ). Within j) z in
+      let r = private_place 0 n total cs c d (k - n) h l there in
+      let r0 = r.0 in
+      let r1 = r.1 in
+      (omega arith, omega arith)
+]
+
 -- The states of a part of the table, each with an initial value by its sort and what is stated.
 abbrev pub states_by : (Sort → Option Value → Option meaning.Value) → Entries Sort → List (Option Value) → List StateDeclaration
 states_by f [] is = []

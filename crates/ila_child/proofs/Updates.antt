@@ -175,3 +175,8 @@ with_initial-turn ns from is k d xs h =
     let e : from + (k + 1) ≡ suc (from + k) = omega arith in
     ap (λ j. with_initial ns j (drop (k + 1) is) (set xs (from + k) (beginning (sort_at ns (from + k)) (get_or is k d)))) e
     ∙ sym (ap (λ r. with_initial ns (from + k) r xs) (drop_more is k d h))
+
+pub length-with_updates : (g : Graph) (p : Valuation) (us : List Update) (xs : List meaning.Value) → length (with_updates g p us xs) ≡ length xs
+length-with_updates g p [] xs = refl
+length-with_updates g p (u ∷ us) xs =
+    length-with_updates g p us (set xs u.state.0 (val (tree g u.term.0) p)) ∙ length-set xs u.state.0 (val (tree g u.term.0) p)

@@ -1,2 +1,1 @@
-use Rattle.ila_child.proofs.Depth.{val_read, depth_around, depth_nested}
-use Rattle.ila_child.proofs.Places.{begun_in}
+use Rattle.ila_child.proofs.Points.{left_point}
