@@ -4,3 +4,5 @@ pub mod Found
 pub mod Depth
 pub mod Places
 pub mod Points
+pub mod Machines
+pub mod Programs

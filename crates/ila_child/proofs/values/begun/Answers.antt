@@ -1,1 +1,2 @@
-use Rattle.ila_child.proofs.Points.{left_point}
+use Rattle.ila_child.proofs.Machines.{one_taken}
+use Rattle.ila_child.proofs.Programs.{troubled}
