@@ -1,5 +1,5 @@
 -- A machine's steps and programs at the values of an environment.
-use Rattle.std.specs.Prelude.{ℕ, zero, suc, ◌-◌, ◌<◌, ◌≡◌, Bool, true, cond, List, length, ⊤, Option, Some, None, IsTrue, IsFalse}
+use Rattle.std.specs.Prelude.{ℕ, zero, suc, ◌-◌, ◌<◌, ◌≤◌, ◌≡◌, Bool, true, cond, List, length, ⊤, Option, Some, None, IsTrue, IsFalse}
 use Rattle.wb_meaning.specs.Value as meaning
 use Rattle.wb_meaning.specs.Value.{number, Valuation, valuation_of}
 use Rattle.wb_meaning.specs.Model as pure
@@ -35,6 +35,12 @@ HasDepth cs zero None = ⊤
 HasDepth cs zero (Some c) = ⊥
 HasDepth cs (suc d) None = ⊥
 HasDepth cs (suc d) (Some c) = HasDepth cs d (around cs c)
+
+-- At most three children are around one another at a place.
+pub record IsDeep (cs : List Child) (at : Option ℕ) : Type 0 where
+  pub depth : ℕ
+  pub has : HasDepth cs depth at
+  pub low : depth ≤ 3
 
 -- The program, if any, is a child that is run from the place.
 abbrev pub IsLinked : List Child → Option ℕ → Option ChildId → Type 0

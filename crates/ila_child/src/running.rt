@@ -3,7 +3,7 @@
 ghost use Rattle.std.specs.Prelude.{◌≡◌, ◌≤◌, true, length, IfOk, OnOk};
 ghost use Rattle.wb_terms.specs.Environment.{Fits};
 ghost use Rattle.ila_model.specs.Sorted.{is_machine};
-ghost use Rattle.ila_child.specs.Running.{HasDepth, IsLinked, IsTaken, IsRun};
+ghost use Rattle.ila_child.specs.Running.{HasDepth, IsDeep, IsLinked, IsTaken, IsRun};
 
 use crate::decoding::{Decoded, find_decoded};
 use crate::evaluation::holds;
@@ -41,6 +41,7 @@ fn take(
     env: &mut Env,
     words: &mut Evaluated,
 ) -> Result<Taken, NoMemory>
+    requires deep { IsDeep model.now.parts.children.items at }
     requires machine { is_machine model.now.parts at valid.0 instructions.now ≡ true }
     requires room { length model.now.parts.terms.nodes ≤ length words.old }
     requires fits { Fits model.now.parts.terms env.old }
@@ -59,7 +60,8 @@ fn take(
             update(alloc, terms, env, words, &instruction.updates)?;
             Ok(Taken::One(instruction.child))
         }
-        _ => Ok(Taken::Stuck),
+        Decoded::Nothing => Ok(Taken::Stuck),
+        Decoded::Several(_, _) => Ok(Taken::Stuck),
     }
 }
 
@@ -82,11 +84,11 @@ pub(crate) fn run_program(
     ensures fits { OnOk result (Fits model.now.parts.terms env.new) }
     ensures room { OnOk result (length words.new ≡ length words.old) }
 {
-    let Some(ChildId(place)) = program else {
+    let Some(id) = program else {
         return Ok(None);
     };
-    let child = &model.parts.children[place];
-    let inside = Some(place);
+    let child = &model.parts.children[id.0];
+    let inside = Some(id.0);
     let terms = &model.parts.terms;
     begin(alloc, terms, env, child.first.0, &child.initial_values)?;
     for step in 0..child.steps {
@@ -94,9 +96,9 @@ pub(crate) fn run_program(
             Taken::NotValid => return Ok(None),
             Taken::Stuck => return Ok(Some(Trouble::Stuck(depth + 1, step))),
             Taken::One(inner) => {
-                let trouble = run_program(alloc, model, inside, depth + 1, inner, env, words)?;
-                if trouble.is_some() {
-                    return Ok(trouble);
+                match run_program(alloc, model, inside, depth + 1, inner, env, words)? {
+                    None => {}
+                    Some(trouble) => return Ok(Some(trouble)),
                 }
             }
         }
