@@ -6,3 +6,5 @@ pub mod Places
 pub mod Points
 pub mod Machines
 pub mod Programs
+pub mod Starts
+pub mod Answers

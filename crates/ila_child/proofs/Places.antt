@@ -109,12 +109,12 @@ home-at p k d h b =
     scoped-at p.terms.names (name_scopes (tops p) p.children.items) k d (length-name_scopes (tops p) (length p.terms.names) p.children.items h) b
 
 -- a place in a list that begins with copies
-at_copies : (n : ℕ) (s : Scope) (ss : List Scope) (k : ℕ) → k < n → get_or (replicate n s ++ ss) k Anywhere ≡ s
+pub at_copies : (n : ℕ) (s : Scope) (ss : List Scope) (k : ℕ) → k < n → get_or (replicate n s ++ ss) k Anywhere ≡ s
 at_copies zero s ss k h = absurd (omega arith)
 at_copies (suc n) s ss zero h = refl
 at_copies (suc n) s ss (suc k) h = at_copies n s ss k (omega arith)
 
-behind_copies : (n : ℕ) (s : Scope) (ss : List Scope) (k : ℕ) → get_or (replicate n s ++ ss) (n + k) Anywhere ≡ get_or ss k Anywhere
+pub behind_copies : (n : ℕ) (s : Scope) (ss : List Scope) (k : ℕ) → get_or (replicate n s ++ ss) (n + k) Anywhere ≡ get_or ss k Anywhere
 behind_copies zero s ss k = ap (λ j. get_or ss j Anywhere) (let e : 0 + k ≡ k = omega arith in e)
 behind_copies (suc n) s ss k =
     let e : suc n + k ≡ suc (n + k) = omega arith in
