@@ -3,7 +3,10 @@ use Rattle.std.specs.Prelude.{ℕ, ◌+◌, ◌<◌, ◌≡◌, ◌++◌, List, 
 use Rattle.wb_meaning.specs.Value as meaning
 use Rattle.wb_meaning.specs.Value.{Sort, Entries, Valuation, HasSort}
 use Rattle.wb_meaning.specs.Model as pure
-use Rattle.wb_meaning.specs.Instruction.{DoesInstruction, InstructionTrouble, Trouble, stuck, too_long}
+use Rattle.wb_meaning.specs.Instruction.{DoesInstruction, InstructionTrouble, stuck, too_long}
+use Rattle.wb_meaning.specs.Instruction as instruction
+use Rattle.ila_child.specs.declared.running.Trouble.{Trouble}
+use Rattle.ila_child.specs.declared.running.Trouble.TheVariants.{Stuck, TooLong}
 use Rattle.wb_terms.specs.declared.values.Env.{Env}
 use Rattle.wb_terms.specs.Environment.{values_of}
 use Rattle.ila_model.specs.declared.parts.Instruction.{Instruction}
@@ -35,7 +38,7 @@ started p i = instruction_of p.terms (program_of p.terms p.children.items nestin
 abbrev pub IsLed : Parts → Valuation → ℕ → List meaning.Value → Type 0
 IsLed p v k xs = (i : Instruction) × (after : Valuation) × (slice_get p.instructions.items k ≡ Some i) × DoesInstruction (started p i) v after × HasStates p xs after
 
-abbrev pub IsTroubledAt : Parts → Valuation → ℕ → Trouble → Type 0
+abbrev pub IsTroubledAt : Parts → Valuation → ℕ → instruction.Trouble → Type 0
 IsTroubledAt p v k t = (i : Instruction) × (slice_get p.instructions.items k ≡ Some i) × InstructionTrouble (started p i) v 1 t
 
 abbrev pub IsStart : Parts → Valuation → ℕ → Stepped → Type 0
@@ -45,3 +48,8 @@ IsStart p v k NoInstruction = ⊥
 IsStart p v k (Several i j) = ⊥
 IsStart p v k (ChildStuck d s) = IsTroubledAt p v k (stuck d s)
 IsStart p v k (ChildTooLong d) = IsTroubledAt p v k (too_long d)
+
+-- the answer where a child has trouble
+abbrev pub stop_of : Trouble → Stepped
+stop_of (Stuck d s) = ChildStuck d s
+stop_of (TooLong d) = ChildTooLong d

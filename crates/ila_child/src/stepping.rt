@@ -8,7 +8,7 @@ ghost use Rattle.ila_child.specs.State.{IsStateOf, AreInputsOf};
 ghost use Rattle.ila_child.specs.Decoding.{decodes, IsOnlyFound};
 ghost use Rattle.ila_child.specs.Running.{seen};
 ghost use Rattle.ila_child.specs.Step.{IsStepped};
-ghost use Rattle.ila_child.specs.Start.{zeros_of, IsEnvironment, IsStart};
+ghost use Rattle.ila_child.specs.Start.{zeros_of, stop_of, IsEnvironment, IsStart};
 
 use crate::decoding::{Decoded, find_decoded};
 use crate::evaluation::holds;
@@ -60,7 +60,10 @@ pub fn step(
     match find_decoded(terms, &env, &words, &model.parts.instructions) {
         Decoded::Nothing => Ok(Stepped::NoInstruction),
         Decoded::Several(first, second) => Ok(Stepped::Several(first, second)),
-        Decoded::One(place) => start(alloc, model, place, env, words),
+        Decoded::One(place) => {
+            let stepped = start(alloc, model, place, env, words)?;
+            Ok(stepped)
+        }
     }
 }
 
@@ -89,8 +92,17 @@ fn start(
             values.truncate(model.state_count());
             Ok(Stepped::Next(place, State::new(values)))
         }
-        Some(Trouble::Stuck(depth, step)) => Ok(Stepped::ChildStuck(depth, step)),
-        Some(Trouble::TooLong(depth)) => Ok(Stepped::ChildTooLong(depth)),
+        Some(trouble) => Ok(stopped(trouble)),
+    }
+}
+
+/// The answer where a child has trouble.
+fn stopped(trouble: Trouble) -> Stepped
+    ensures { result ≡ stop_of trouble }
+{
+    match trouble {
+        Trouble::Stuck(depth, step) => Stepped::ChildStuck(depth, step),
+        Trouble::TooLong(depth) => Stepped::ChildTooLong(depth),
     }
 }
 
