@@ -110,10 +110,11 @@ answered name p s q w k (Next j r) v f b =
     let is = p.instructions.items in
     let here = there is k i led.2 in
     let does = subst (λ x. DoesInstruction (started p x) (point_of (model_from name p) q w) after) here led.3 in
-    let same : k ≡ j = sym b.0 in
-    ((v, subst (IsOnlyDecoded (model_from name p) q w) same (only_decoded name p q w k i f)),
+    let same : k ≡ j = sym b.0 in (
+      (v, subst (IsOnlyDecoded (model_from name p) q w) same (only_decoded name p q w k i f)),
       (after, (v, does_one p.terms (inner_of p) (point_of (model_from name p) q w) after is k i f does), state_led p s name r after led.4),
-      state_sorted p s name r after led.4)
+      state_sorted p s name r after led.4,
+    )
 answered name p s q w k NotValid v f b = absurd b
 answered name p s q w k NoInstruction v f b = absurd b
 answered name p s q w k (SeveralDecode i j) v f b = absurd b

@@ -8,3 +8,4 @@ pub mod Machines
 pub mod Programs
 pub mod Starts
 pub mod Answers
+pub mod Checked

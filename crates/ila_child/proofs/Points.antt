@@ -100,16 +100,16 @@ updated_point p s at d us xs deep low h l =
     let long = length-with_updates g v us xs ∙ l in
     by_places ns (updated (map (update_of g) us) w) (point_at p at ys)
     (λ k b.
-        let n = name_at ns k in
-        let r = may_read p.children.items at (home p n) in
-        ap (λ o. updated_value o w (w n)) (update-named g 0 us k s.distinct of b)
-        ∙ terms_same p at d 0 us k xs (w n) deep low h
-        ∙ ap (λ x. updated_value (update_at g us k) v x) (known_point p at xs k s.distinct l b)
-        ∙ sym (updates_guarded p at 0 us k v (value_at xs k) (number 0) h)
-        ∙ ap (λ x. cond r x (number 0)) (sym (with_updates-at g v 0 us xs k of l))
-        ∙ sym (known_point p at ys k s.distinct long b))
+    let n = name_at ns k in
+    let r = may_read p.children.items at (home p n) in
+    ap (λ o. updated_value o w (w n)) (update-named g 0 us k s.distinct of b)
+    ∙ terms_same p at d 0 us k xs (w n) deep low h
+    ∙ ap (λ x. updated_value (update_at g us k) v x) (known_point p at xs k s.distinct l b)
+    ∙ sym (updates_guarded p at 0 us k v (value_at xs k) (number 0) h)
+    ∙ ap (λ x. cond r x (number 0)) (sym (with_updates-at g v 0 us xs k of l))
+    ∙ sym (known_point p at ys k s.distinct long b))
     (λ n e.
-        ap (λ o. updated_value o w (w n)) (update-lacking g 0 us n of e) ∙ lacking_point p at xs n e ∙ sym (lacking_point p at ys n e))
+    ap (λ o. updated_value o w (w n)) (update-lacking g 0 us n of e) ∙ lacking_point p at xs n e ∙ sym (lacking_point p at ys n e))
 
 -- children
 
@@ -212,25 +212,25 @@ entered_point p s c d x xs i l =
     let long = length-with_initial ns x.first.0 is xs ∙ l in
     by_places ns (entered (privates_of g x) w) (point_at p (Some c) ys)
     (λ k b.
-        let n = name_at ns k in
-        elim (is_private x.first.0 (length is) k) [
-          | inl r ↦
-              let there = private_home p s c d x k i b r.0 r.1 in
-              ap (λ o. initial_value o (w n)) (private_named g x k None s.distinct r.0 r.1 b)
-              ∙ sym (known_point p (Some c) ys k s.distinct long b
-              ∙ ap (λ (h : Scope). cond (may_read cs (Some c) h) (value_at ys k) (number 0)) there
-              ∙ ap (λ q. cond q (value_at ys k) (number 0)) (around_itself cs c)
-              ∙ begun_in ns x.first.0 is xs k None r.0 r.1 (omega (arith, l)))
-          | inr out ↦
-              let other = other_home p s c d x k i b out in
-              ap (λ o. initial_value o (w n)) (other_named g x k s.distinct out b)
-              ∙ known_point p at xs k s.distinct l b
-              ∙ ap (λ q. cond q (value_at xs k) (number 0)) (sym (read_inside cs (home p n) c d i.nested i.deep other))
-              ∙ ap (λ y. cond (may_read cs (Some c) (home p n)) y (number 0)) (sym (kept ns x.first.0 is xs k out))
-              ∙ sym (known_point p (Some c) ys k s.distinct long b)
-        ])
+    let n = name_at ns k in
+    elim (is_private x.first.0 (length is) k) [
+      | inl r ↦
+          let there = private_home p s c d x k i b r.0 r.1 in
+          ap (λ o. initial_value o (w n)) (private_named g x k None s.distinct r.0 r.1 b)
+          ∙ sym (known_point p (Some c) ys k s.distinct long b
+          ∙ ap (λ (h : Scope). cond (may_read cs (Some c) h) (value_at ys k) (number 0)) there
+          ∙ ap (λ q. cond q (value_at ys k) (number 0)) (around_itself cs c)
+          ∙ begun_in ns x.first.0 is xs k None r.0 r.1 (omega (arith, l)))
+      | inr out ↦
+          let other = other_home p s c d x k i b out in
+          ap (λ o. initial_value o (w n)) (other_named g x k s.distinct out b)
+          ∙ known_point p at xs k s.distinct l b
+          ∙ ap (λ q. cond q (value_at xs k) (number 0)) (sym (read_inside cs (home p n) c d i.nested i.deep other))
+          ∙ ap (λ y. cond (may_read cs (Some c) (home p n)) y (number 0)) (sym (kept ns x.first.0 is xs k out))
+          ∙ sym (known_point p (Some c) ys k s.distinct long b)
+    ])
     (λ n e.
-        ap (λ o. initial_value o (w n)) (lacking_named g x n e) ∙ lacking_point p at xs n e ∙ sym (lacking_point p (Some c) ys n e))
+    ap (λ o. initial_value o (w n)) (lacking_named g x n e) ∙ lacking_point p at xs n e ∙ sym (lacking_point p (Some c) ys n e))
 
 -- the point behind a child
 pub left_point : (p : Parts) (s : AreSorted p) (c d : ℕ) (x : Child) (xs ys : List meaning.Value) → IsInside p c d x → length xs ≡ length p.terms.names → length ys ≡ length p.terms.names → left_behind (privates_of p.terms x) (point_at p (around p.children.items c) xs) (point_at p (Some c) ys) ≡ point_at p (around p.children.items c) ys
@@ -243,22 +243,22 @@ left_point p s c d x xs ys i l m =
     let last = point_at p (Some c) ys in
     by_places ns (left_behind (privates_of g x) before last) (point_at p at ys)
     (λ k b.
-        let n = name_at ns k in
-        elim (is_private x.first.0 (length x.initial_values.items) k) [
-          | inl r ↦
-              let there = private_home p s c d x k i b r.0 r.1 in
-              let outside : may_read cs at (home p n) ≡ false = ap (may_read cs at) there ∙ not_around cs c d i.deep in
-              ap (λ (o : Option StateDeclaration). cond (is_some o) (before n) (last n)) (private_named g x k None s.distinct r.0 r.1 b)
-              ∙ known_point p at xs k s.distinct l b
-              ∙ ap (λ q. cond q (value_at xs k) (number 0)) outside
-              ∙ sym (known_point p at ys k s.distinct m b ∙ ap (λ q. cond q (value_at ys k) (number 0)) outside)
-          | inr out ↦
-              let other = other_home p s c d x k i b out in
-              ap (λ (o : Option StateDeclaration). cond (is_some o) (before n) (last n)) (other_named g x k s.distinct out b)
-              ∙ known_point p (Some c) ys k s.distinct m b
-              ∙ ap (λ q. cond q (value_at ys k) (number 0)) (read_inside cs (home p n) c d i.nested i.deep other)
-              ∙ sym (known_point p at ys k s.distinct m b)
-        ])
+    let n = name_at ns k in
+    elim (is_private x.first.0 (length x.initial_values.items) k) [
+      | inl r ↦
+          let there = private_home p s c d x k i b r.0 r.1 in
+          let outside : may_read cs at (home p n) ≡ false = ap (may_read cs at) there ∙ not_around cs c d i.deep in
+          ap (λ (o : Option StateDeclaration). cond (is_some o) (before n) (last n)) (private_named g x k None s.distinct r.0 r.1 b)
+          ∙ known_point p at xs k s.distinct l b
+          ∙ ap (λ q. cond q (value_at xs k) (number 0)) outside
+          ∙ sym (known_point p at ys k s.distinct m b ∙ ap (λ q. cond q (value_at ys k) (number 0)) outside)
+      | inr out ↦
+          let other = other_home p s c d x k i b out in
+          ap (λ (o : Option StateDeclaration). cond (is_some o) (before n) (last n)) (other_named g x k s.distinct out b)
+          ∙ known_point p (Some c) ys k s.distinct m b
+          ∙ ap (λ q. cond q (value_at ys k) (number 0)) (read_inside cs (home p n) c d i.nested i.deep other)
+          ∙ sym (known_point p at ys k s.distinct m b)
+    ])
     (λ n e.
-        ap (λ (o : Option StateDeclaration). cond (is_some o) (before n) (last n)) (lacking_named g x n e)
-        ∙ lacking_point p (Some c) ys n e ∙ sym (lacking_point p at ys n e))
+    ap (λ (o : Option StateDeclaration). cond (is_some o) (before n) (last n)) (lacking_named g x n e)
+    ∙ lacking_point p (Some c) ys n e ∙ sym (lacking_point p at ys n e))

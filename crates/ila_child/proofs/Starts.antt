@@ -28,13 +28,13 @@ use Rattle.ila_child.proofs.Updates.{AreOfSorts-length, AreOfSorts-at}
 use Rattle.ila_child.proofs.Places.{valuation-at, valuation-lacking, distinct-take, distinct-drop, lacks-take, lacks-drop, behind_take, home-at, top_scope, at_copies, behind_copies, below_or, states_by, stated_only, declared-by, named-lacking, named_in, named_behind, input_lacking, input_in, input_before, input_behind}
 use Rattle.ila_child.proofs.Points.{by_places, known_point, lacking_point}
 
-states_table : (ns : Entries Sort) (is : List (Option Value)) → sorts_of_states (declared_states ns is) ≡ take (length is) ns
+pub states_table : (ns : Entries Sort) (is : List (Option Value)) → sorts_of_states (declared_states ns is) ≡ take (length is) ns
 states_table [] [] = refl
 states_table [] (i ∷ is) = refl
 states_table (n ∷ ns) [] = refl
 states_table (n ∷ ns) (i ∷ is) = ap (λ (r : Entries Sort). n ∷ r) (states_table ns is)
 
-inputs_table : (m : ℕ) (ns : Entries Sort) → sorts_of_inputs (declared_inputs m ns) ≡ take m ns
+pub inputs_table : (m : ℕ) (ns : Entries Sort) → sorts_of_inputs (declared_inputs m ns) ≡ take m ns
 inputs_table zero ns = refl
 inputs_table (suc m) [] = refl
 inputs_table (suc m) (n ∷ ns) = ap (λ (r : Entries Sort). n ∷ r) (inputs_table m ns)
@@ -178,39 +178,39 @@ start_point p s name q w e a i =
     let iv_is : (x : Name) → iv x ≡ valuation_of (named (take m (drop n ns)) w) x = λ x. ap (λ t. valuation_of (named t w) x) (inputs_table m (drop n ns)) in
     by_places ns (seen p None e) (point_of mo sv iv)
     (λ k b.
-        let x = name_at ns k in
-        elim (below_or k n) [
-          | inl lo ↦
-              top_value p s xs k l (omega arith)
-              ∙ ap (λ ys. value_at ys k) i
-              ∙ first_part (q ++ w) zs k (omega (arith, length-append q w, a.states_count))
-              ∙ first_part q w k (omega (arith, a.states_count))
-              ∙ sym (front_value n ns q k s.distinct (omega arith) a.states_count lo)
-              ∙ sym (sv_is x)
-              ∙ sym (ap (λ r. cond r (iv x) (sv x)) (input_before m n ns k s.distinct lo b))
-          | inr lo ↦ elim (below_or k (n + m)) [
-              | inl hi ↦
-                  let at : k - length q ≡ k - n = omega (arith, a.states_count) in
-                  top_value p s xs k l hi
-                  ∙ ap (λ ys. value_at ys k) i
-                  ∙ first_part (q ++ w) zs k (omega (arith, length-append q w, a.states_count, a.inputs_count))
-                  ∙ second_part q w k (omega (arith, a.states_count))
-                  ∙ ap (value_at w) at
-                  ∙ sym (middle_value n m ns w k s.distinct (omega arith) a.inputs_count lo hi)
-                  ∙ sym (iv_is x)
-                  ∙ sym (ap (λ r. cond r (iv x) (sv x)) (input_in m n ns k s.distinct lo hi b))
-              | inr hi ↦
-                  hidden_value p s xs k l hi b
-                  ∙ sym (valuation-lacking (take n ns) q x (behind_take n ns k s.distinct lo b))
-                  ∙ sym (sv_is x)
-                  ∙ sym (ap (λ r. cond r (iv x) (sv x)) (input_behind m n ns k s.distinct hi b))
-            ]
-        ])
+    let x = name_at ns k in
+    elim (below_or k n) [
+      | inl lo ↦
+          top_value p s xs k l (omega arith)
+          ∙ ap (λ ys. value_at ys k) i
+          ∙ first_part (q ++ w) zs k (omega (arith, length-append q w, a.states_count))
+          ∙ first_part q w k (omega (arith, a.states_count))
+          ∙ sym (front_value n ns q k s.distinct (omega arith) a.states_count lo)
+          ∙ sym (sv_is x)
+          ∙ sym (ap (λ r. cond r (iv x) (sv x)) (input_before m n ns k s.distinct lo b))
+      | inr lo ↦ elim (below_or k (n + m)) [
+        | inl hi ↦
+            let at : k - length q ≡ k - n = omega (arith, a.states_count) in
+            top_value p s xs k l hi
+            ∙ ap (λ ys. value_at ys k) i
+            ∙ first_part (q ++ w) zs k (omega (arith, length-append q w, a.states_count, a.inputs_count))
+            ∙ second_part q w k (omega (arith, a.states_count))
+            ∙ ap (value_at w) at
+            ∙ sym (middle_value n m ns w k s.distinct (omega arith) a.inputs_count lo hi)
+            ∙ sym (iv_is x)
+            ∙ sym (ap (λ r. cond r (iv x) (sv x)) (input_in m n ns k s.distinct lo hi b))
+        | inr hi ↦
+            hidden_value p s xs k l hi b
+            ∙ sym (valuation-lacking (take n ns) q x (behind_take n ns k s.distinct lo b))
+            ∙ sym (sv_is x)
+            ∙ sym (ap (λ r. cond r (iv x) (sv x)) (input_behind m n ns k s.distinct hi b))
+      ]
+    ])
     (λ x u.
-        lacking_point p None xs x u
-        ∙ sym (valuation-lacking (take n ns) q x (lacks-take n ns x u))
-        ∙ sym (sv_is x)
-        ∙ sym (ap (λ r. cond r (iv x) (sv x)) (input_lacking m (drop n ns) x (lacks-drop n ns x u))))
+    lacking_point p None xs x u
+    ∙ sym (valuation-lacking (take n ns) q x (lacks-take n ns x u))
+    ∙ sym (sv_is x)
+    ∙ sym (ap (λ r. cond r (iv x) (sv x)) (input_lacking m (drop n ns) x (lacks-drop n ns x u))))
 
 -- the state that a step leads to
 pub state_led : (p : Parts) (s : AreSorted p) (name : Name) (xs : List meaning.Value) (after : Valuation) → HasStates p xs after → state_valuation (model_from name p) xs ≡ state_in (model_from name p) after
@@ -224,22 +224,22 @@ state_led p s name xs after h =
     let by : (x : Name) → is_some (state_named (declared_states ns is) x) ≡ is_some (state_named (states_by stated_only ns is) x) = λ x. ap (λ ss. is_some (state_named ss x)) (declared-by ns is) in
     by_places ns (state_valuation mo xs) (state_in mo after)
     (λ k b.
-        let x = name_at ns k in
-        elim (below_or k n) [
-          | inl lo ↦
-              let there : is_some (state_named (states_by stated_only ns is) x) ≡ true = ap (λ (o : Option StateDeclaration). is_some o) (named_in stated_only ns 0 is k None s.distinct (omega arith) (omega arith) b) in
-              sv_is x ∙ front_value n ns xs k s.distinct within h.count lo
-              ∙ h.value k (omega (arith, h.count))
-              ∙ sym (ap (λ r. cond r (after x) (number 0)) (by x ∙ there))
-          | inr lo ↦
-              let none : is_some (state_named (states_by stated_only ns is) x) ≡ false = ap (λ (o : Option StateDeclaration). is_some o) (named_behind stated_only ns 0 is k s.distinct (omega arith) b) in
-              sv_is x ∙ valuation-lacking (take n ns) xs x (behind_take n ns k s.distinct lo b)
-              ∙ sym (ap (λ r. cond r (after x) (number 0)) (by x ∙ none))
-        ])
+    let x = name_at ns k in
+    elim (below_or k n) [
+      | inl lo ↦
+          let there : is_some (state_named (states_by stated_only ns is) x) ≡ true = ap (λ (o : Option StateDeclaration). is_some o) (named_in stated_only ns 0 is k None s.distinct (omega arith) (omega arith) b) in
+          sv_is x ∙ front_value n ns xs k s.distinct within h.count lo
+          ∙ h.value k (omega (arith, h.count))
+          ∙ sym (ap (λ r. cond r (after x) (number 0)) (by x ∙ there))
+      | inr lo ↦
+          let none : is_some (state_named (states_by stated_only ns is) x) ≡ false = ap (λ (o : Option StateDeclaration). is_some o) (named_behind stated_only ns 0 is k s.distinct (omega arith) b) in
+          sv_is x ∙ valuation-lacking (take n ns) xs x (behind_take n ns k s.distinct lo b)
+          ∙ sym (ap (λ r. cond r (after x) (number 0)) (by x ∙ none))
+    ])
     (λ x u.
-        let none : is_some (state_named (states_by stated_only ns is) x) ≡ false = ap (λ (o : Option StateDeclaration). is_some o) (named-lacking stated_only ns is x u) in
-        sv_is x ∙ valuation-lacking (take n ns) xs x (lacks-take n ns x u)
-        ∙ sym (ap (λ r. cond r (after x) (number 0)) (by x ∙ none)))
+    let none : is_some (state_named (states_by stated_only ns is) x) ≡ false = ap (λ (o : Option StateDeclaration). is_some o) (named-lacking stated_only ns is x u) in
+    sv_is x ∙ valuation-lacking (take n ns) xs x (lacks-take n ns x u)
+    ∙ sym (ap (λ r. cond r (after x) (number 0)) (by x ∙ none)))
 
 sorted_places : (ns : Entries Sort) (xs : List meaning.Value) → length xs ≡ length ns → ((k : ℕ) → k < length xs → HasSort (value_at xs k) (sort_at ns k)) → AreOfSorts ns xs
 sorted_places [] [] l f = tt

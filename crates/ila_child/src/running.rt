@@ -92,7 +92,15 @@ pub(crate) fn run_program(
     let terms = &model.parts.terms;
     begin(alloc, terms, env, child.first.0, &child.initial_values)?;
     for step in 0..child.steps {
-        match take(alloc, model, inside, child.valid, &child.instructions, env, words)? {
+        match take(
+            alloc,
+            model,
+            inside,
+            child.valid,
+            &child.instructions,
+            env,
+            words,
+        )? {
             Taken::NotValid => return Ok(None),
             Taken::Stuck => return Ok(Some(Trouble::Stuck(depth + 1, step))),
             Taken::One(inner) => {

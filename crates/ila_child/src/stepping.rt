@@ -85,7 +85,15 @@ fn start(
     let terms = &model.parts.terms;
     let instruction = &model.parts.instructions[place];
     update(alloc, terms, &mut env, &words, &instruction.updates)?;
-    let trouble = run_program(alloc, model, None, 0, instruction.child, &mut env, &mut words)?;
+    let trouble = run_program(
+        alloc,
+        model,
+        None,
+        0,
+        instruction.child,
+        &mut env,
+        &mut words,
+    )?;
     match trouble {
         None => {
             let mut values = env.values;

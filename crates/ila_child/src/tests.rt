@@ -1,6 +1,6 @@
 //! Tests: steps of a counter with changed conditions, and a memory that is stored to twice at one address.
 
-ghost use Rattle.std.specs.Prelude.{◌≡◌, [], ◌∷◌, IfOk, string_bytes};
+ghost use Rattle.std.specs.Prelude.{◌≡◌, ◌<◌, [], ◌∷◌, IfOk, string_bytes};
 ghost use Rattle.wb_meaning.specs.Value.{word, memory};
 ghost use Rattle.wb_meaning.specs.Model.{states_of};
 ghost use Rattle.ila_model.specs.Model.{model_of};
@@ -311,5 +311,92 @@ fn multipliers(rt: HostRuntime) -> Result<(), Fail> {
     assert_eq!(rt; product(alloc, 4096, BELOW_4, 15, 15)?, Seen::Next(0, 225));
     assert_eq!(rt; product(alloc, 3, BELOW_4, 3, 5)?, Seen::ChildTooLong(1));
     assert_eq!(rt; product(alloc, 4, BELOW_2, 3, 5)?, Seen::ChildStuck(1, 2));
+    Ok(())
+}
+
+const NO_STEP: TermId = TermId(10);
+
+const EACH_STEP: TermId = TermId(9);
+
+/// Names: r of 4 bits, and the private f of one bit.
+fn nested_terms(alloc: Global) -> Result<Terms, PutStop>
+    ensures { IfOk result (λ t. t.names ≡ (114 ∷ [], word 4) ∷ (102 ∷ [], word 1) ∷ []) }
+{
+    let Ok(mut terms) = Terms::new(alloc) else {
+        return Err(PutStop::NoMemory);
+    };
+    let r = terms.declare(named(alloc, "r")?, Sort::Word(4))?;
+    let f = terms.declare(named(alloc, "f")?, Sort::Word(1))?;
+    let sum = terms.put(Node::Name(r))?;
+    let flag = terms.put(Node::Name(f))?;
+    let one = terms.put(Node::Const(4, 1))?;
+    let two = terms.put(Node::Const(4, 2))?;
+    let clear = terms.put(Node::Const(1, 0))?;
+    terms.put(Node::Const(1, 1))?;
+    terms.put(Node::Eq(flag, clear))?;
+    terms.put(Node::Add(sum, one))?;
+    terms.put(Node::Add(sum, two))?;
+    terms.put(Node::Truth(true))?;
+    terms.put(Node::Truth(false))?;
+    Ok(terms)
+}
+
+/// GO adds 1 to r; its child adds 2 once, and has a child of its own without instructions.
+fn nested(alloc: Global, inner_valid: TermId) -> Result<IlaModel, Fail>
+    ensures states { IfOk result (λ m. sorts_of_states (states_of (model_of m).top) ≡ (114 ∷ [], word 4) ∷ []) }
+    ensures inputs { IfOk result (λ m. sorts_of_inputs (model_of m).inputs ≡ []) }
+{
+    let terms = nested_terms(alloc)?;
+    let mut go = instruction(alloc, "GO", TermId(9), TermId(7))?;
+    go.child = Some(ChildId(0));
+    let mut add = instruction(alloc, "A", TermId(9), TermId(8))?;
+    add.child = Some(ChildId(1));
+    add.updates.push(Update {
+        state: NameId(1),
+        term: TermId(5),
+    })?;
+    let outer = Child {
+        around: None,
+        first: NameId(1),
+        initial_values: vec![in alloc; Some(Value::Number(0))]?,
+        valid: TermId(6),
+        steps: 1,
+        instructions: vec![in alloc; add]?,
+    };
+    let inner = Child {
+        around: Some(ChildId(0)),
+        first: NameId(2),
+        initial_values: Vec::new(alloc),
+        valid: inner_valid,
+        steps: 1,
+        instructions: Vec::new(alloc),
+    };
+    let parts = Parts {
+        terms,
+        initial_values: vec![in alloc; None]?,
+        inputs: 0,
+        valid: TermId(9),
+        instructions: vec![in alloc; go]?,
+        children: vec![in alloc; outer, inner]?,
+    };
+    match IlaModel::new(alloc, String::from_str(alloc, "nested")?, parts)? {
+        Some(model) => Ok(model),
+        None => Err("ill sorted".into()),
+    }
+}
+
+#[test]
+fn nests(rt: HostRuntime) -> Result<(), Fail> {
+    let alloc = rt.alloc();
+    let rows = [
+        (NO_STEP, Seen::Next(0, 3)),
+        (EACH_STEP, Seen::ChildStuck(2, 0)),
+    ];
+    for (inner_valid, expected) in rows {
+        let model = nested(alloc, inner_valid)?;
+        let state = State::new(vec![in alloc; Value::Number(0)]?);
+        let stepped = step(alloc, &model, &state, &Inputs::new(Vec::new(alloc)))?;
+        assert_eq!(rt; seen_in(&stepped), expected);
+    }
     Ok(())
 }

@@ -33,7 +33,6 @@ is_nested-turn cs k c h =
     let p : 3 - k ≡ suc (3 - (k + 1)) = omega arith in
     ap (λ l. is_nested cs l (Some c)) p
 
-
 pub is_nested-end : (cs : List Child) (k : ℕ) (at : Option ℕ) → 3 ≤ k → is_nested cs (3 - k) at ≡ is_none at
 is_nested-end cs k None h = is_nested-top cs (3 - k)
 is_nested-end cs k (Some c) h =

@@ -132,7 +132,11 @@ fn name_scopes(
     let mut scopes = Vec::with_capacity(alloc, total)?;
     push_scopes(&mut scopes, Scope::Anywhere, tops)?;
     for (place, child) in children.iter().enumerate() {
-        push_scopes(&mut scopes, Scope::Within(place), child.initial_values.len())?;
+        push_scopes(
+            &mut scopes,
+            Scope::Within(place),
+            child.initial_values.len(),
+        )?;
     }
     Ok(scopes)
 }

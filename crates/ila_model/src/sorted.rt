@@ -28,12 +28,7 @@ pub(crate) fn are_declarations(parts: &Parts) -> bool
 }
 
 /// Whether the names from a place on may be states with these initial values.
-fn are_states(
-    terms: &Terms,
-    first: usize,
-    initial_values: &[Option<Value>],
-    private: bool,
-) -> bool
+fn are_states(terms: &Terms, first: usize, initial_values: &[Option<Value>], private: bool) -> bool
     ensures { result ≡ are_states private (drop first terms.now.names) initial_values.now }
 {
     let names = terms.name_count() as usize;

@@ -118,20 +118,98 @@ fn sorts(rt: HostRuntime) -> Result<(), Fail> {
     let update = |state, term| Update { state, term };
     let rows = [
         (GOOD, true),
-        (Row { initial: 255, ..GOOD }, true),
-        (Row { initial: 256, ..GOOD }, false),
-        (Row { valid: MORE, ..GOOD }, false),
-        (Row { valid: UNPUT, ..GOOD }, false),
-        (Row { valid: IS_PRIVATE, ..GOOD }, false),
-        (Row { update: update(OP, SMALL), ..GOOD }, false),
-        (Row { update: update(STEP, SMALL), ..GOOD }, false),
-        (Row { update: update(CNT, SMALL), ..GOOD }, false),
-        (Row { around: Some(ChildId(0)), ..GOOD }, false),
-        (Row { begins: None, ..GOOD }, false),
-        (Row { begins: Some(2), ..GOOD }, false),
+        (
+            Row {
+                initial: 255,
+                ..GOOD
+            },
+            true,
+        ),
+        (
+            Row {
+                initial: 256,
+                ..GOOD
+            },
+            false,
+        ),
+        (
+            Row {
+                valid: MORE,
+                ..GOOD
+            },
+            false,
+        ),
+        (
+            Row {
+                valid: UNPUT,
+                ..GOOD
+            },
+            false,
+        ),
+        (
+            Row {
+                valid: IS_PRIVATE,
+                ..GOOD
+            },
+            false,
+        ),
+        (
+            Row {
+                update: update(OP, SMALL),
+                ..GOOD
+            },
+            false,
+        ),
+        (
+            Row {
+                update: update(STEP, SMALL),
+                ..GOOD
+            },
+            false,
+        ),
+        (
+            Row {
+                update: update(CNT, SMALL),
+                ..GOOD
+            },
+            false,
+        ),
+        (
+            Row {
+                around: Some(ChildId(0)),
+                ..GOOD
+            },
+            false,
+        ),
+        (
+            Row {
+                begins: None,
+                ..GOOD
+            },
+            false,
+        ),
+        (
+            Row {
+                begins: Some(2),
+                ..GOOD
+            },
+            false,
+        ),
         (Row { steps: 0, ..GOOD }, false),
-        (Row { steps: 4097, ..GOOD }, false),
-        (Row { child_valid: MORE, ..GOOD }, false),
+        (
+            Row {
+                steps: 4097,
+                ..GOOD
+            },
+            false,
+        ),
+        (
+            Row {
+                child_valid: MORE,
+                ..GOOD
+            },
+            false,
+        ),
     ];
     for (row, good) in rows {
         assert_eq!(rt; model(rt.alloc(), &row)?.is_some(), good);
