@@ -1,6 +1,11 @@
-pub mod Found
 pub mod Updates
-pub mod Points
-pub mod Answers
 pub mod Initial
-pub mod Models
+pub mod Found
+pub mod Depth
+pub mod Places
+pub mod Points
+pub mod Machines
+pub mod Programs
+pub mod Starts
+pub mod Answers
+pub mod Checked

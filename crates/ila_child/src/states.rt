@@ -1,12 +1,12 @@
 //! States of a model and its inputs: a value for each state, and one for each input.
 
-ghost use Rattle.std.specs.Prelude.{◌≡◌, IfOk, map};
+ghost use Rattle.std.specs.Prelude.{◌≡◌, ◌↔◌, IfOk, IfSome, IsTrue, is_some, map};
 ghost use Rattle.wb_meaning.specs.Model.{states_of};
 ghost use Rattle.wb_terms.specs.Environment.{as_value};
 ghost use Rattle.ila_model.specs.Model.{model_of};
-ghost use Rattle.ila_child.specs.State.{IsStateOf, initial_values};
+ghost use Rattle.ila_child.specs.State.{IsStateOf, AreInputsOf, initial_values};
 
-use crate::values::{copy_of, zero_of};
+use crate::values::{are_of_sorts, copy_of, zero_of};
 use ila_model::IlaModel;
 use std::alloc::Global;
 use std::marker::Model;
@@ -52,6 +52,18 @@ impl State {
         State { values }
     }
 
+    /// The state of these values, exactly where there is one for each state of the model, of its sort.
+    pub fn checked(model: &IlaModel, values: Vec<Value>) -> Option<State>
+        ensures sorted { IsTrue (is_some result) ↔ IsStateOf (model_of model.now) (map as_value values.items) }
+        ensures values { IfSome result (λ q. q ≡ map as_value values.items) }
+    {
+        if are_of_sorts(&model.parts.terms, 0, model.state_count(), &values) {
+            Some(State { values })
+        } else {
+            None
+        }
+    }
+
     /// The values, in the order of the states.
     pub fn values(&self) -> &[Value]
         ensures { map as_value result.now ≡ self.now }
@@ -66,6 +78,23 @@ impl Inputs {
         ensures { result ≡ map as_value values.items }
     {
         Inputs { values }
+    }
+
+    /// The inputs of these values, exactly where there is one for each input of the model, of its sort.
+    pub fn checked(model: &IlaModel, values: Vec<Value>) -> Option<Inputs>
+        ensures sorted { IsTrue (is_some result) ↔ AreInputsOf (model_of model.now) (map as_value values.items) }
+        ensures values { IfSome result (λ w. w ≡ map as_value values.items) }
+    {
+        if are_of_sorts(
+            &model.parts.terms,
+            model.state_count(),
+            model.input_count(),
+            &values,
+        ) {
+            Some(Inputs { values })
+        } else {
+            None
+        }
     }
 
     /// The values, in the order of the inputs.
