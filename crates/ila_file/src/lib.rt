@@ -5,8 +5,10 @@ mod impossible;
 mod keys;
 mod note;
 mod place;
+mod scalars;
 mod shape;
 mod stop;
+mod terms;
 mod written;
 
 pub use keys::unknown_key;
