@@ -40,18 +40,21 @@ fn operation_in<'v>(
     match items.as_slice() {
         [operator, a] => {
             let x = term_in(alloc, a)?;
-            of_one(alloc, operator.as_str(), x)
+            let term = of_one(alloc, operator.as_str(), x)?;
+            Ok(term)
         }
         [operator, a, b] => {
             let x = term_in(alloc, a)?;
             let y = term_in(alloc, b)?;
-            of_two(alloc, operator.as_str(), a, b, x, y)
+            let term = of_two(alloc, operator.as_str(), a, b, x, y)?;
+            Ok(term)
         }
         [operator, a, b, c] => {
             let x = term_in(alloc, a)?;
             let y = term_in(alloc, b)?;
             let z = term_in(alloc, c)?;
-            of_three(alloc, operator.as_str(), a, b, x, y, z)
+            let term = of_three(alloc, operator.as_str(), a, b, x, y, z)?;
+            Ok(term)
         }
         _ => Ok(None),
     }
