@@ -1,3 +1,6 @@
 pub mod Digits
+pub mod Instructions
+pub mod Lists
 pub mod Operations
+pub mod Shapes
 pub mod Shown

@@ -1,3 +1,4 @@
 pub mod View
 pub mod Notes
 pub mod Reading
+pub mod Parts

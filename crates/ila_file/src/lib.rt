@@ -1,6 +1,7 @@
 //! Model files as they are written, and their reading from the data of JSON.
 #![tactic(auto)]
 
+mod declarations;
 mod impossible;
 mod keys;
 mod note;

@@ -1,13 +1,13 @@
 //! Sorts and numbers of a model file.
 
-ghost use Rattle.std.specs.Prelude.{◌≡◌, ◌<◌, codes, IsTrue, option_map, option_and_then};
+ghost use Rattle.std.specs.Prelude.{◌≡◌, ◌<◌, codes, IsTrue, Some, option_map};
 ghost use Rattle.std.specs.List.{list_all};
 ghost use Rattle.wb_meaning.specs.Term.{some_if};
 ghost use Rattle.wb_meaning.specs.Value.{same_name, truth, word, truth_value, number as number_value};
 ghost use Rattle.serde_json.specs.Data.{array};
 ghost use Rattle.serde_json.specs.View.{view, items_view};
 ghost use Rattle.wb_meaning.specs.ModelFile.Shape.{is_hexadecimal_digit, digit_value, with_hexadecimal_digits, are_hexadecimal_digits, number_of_text, number_in, sort_in, memory_of};
-ghost use Rattle.ila_file.specs.View.{sort_view, value_view};
+ghost use Rattle.ila_file.specs.View.{sort_view, initial_view};
 
 use crate::written::{WrittenSort, WrittenValue};
 use serde_json::Value;
@@ -132,22 +132,22 @@ fn number_of_digits(digits: &[u8]) -> u128
     number
 }
 
-/// An initial truth value.
-pub(crate) fn truth_of(truth: Option<bool>) -> Option<WrittenValue>
-    ensures { option_map value_view result ≡ option_map truth_value truth }
+/// An initial truth value, where one is stated as it should be.
+pub(crate) fn stated_truth(truth: Option<bool>) -> Option<Option<WrittenValue>>
+    ensures { option_map initial_view result ≡ option_map (λ b. Some (truth_value b)) truth }
 {
     match truth {
-        Some(truth) => Some(WrittenValue::Truth(truth)),
+        Some(truth) => Some(Some(WrittenValue::Truth(truth))),
         None => None,
     }
 }
 
-/// The initial number of a word.
-pub(crate) fn number_of(number: Option<u128>) -> Option<WrittenValue>
-    ensures { option_map value_view result ≡ option_map number_value number }
+/// The initial number of a word, where one is stated as it should be.
+pub(crate) fn stated_number(number: Option<u128>) -> Option<Option<WrittenValue>>
+    ensures { option_map initial_view result ≡ option_map (λ n. Some (number_value n)) number }
 {
     match number {
-        Some(number) => Some(WrittenValue::Number(number)),
+        Some(number) => Some(Some(WrittenValue::Number(number))),
         None => None,
     }
 }

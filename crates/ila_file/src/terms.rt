@@ -6,17 +6,28 @@ ghost use Rattle.serde_json.specs.Find.{as_str};
 ghost use Rattle.serde_json.specs.View.{view, items_view};
 ghost use Rattle.wb_meaning.specs.ModelFile.Shape.{term_in, unsigned_in, number_in, unary_of, binary_of, with_const, with_unary, with_binary, with_widening, with_extract, with_three, of_one, of_two, of_three};
 ghost use Rattle.wb_meaning.specs.ModelFile.Written.{ite, store};
+ghost use Rattle.ila_file.specs.Reading.{IsReading};
 ghost use Rattle.ila_file.specs.View.{term_view, unary_view, binary_view, widening_view};
 
 use crate::NoMemory;
 use crate::scalars::number_in;
+use crate::stop::Stop;
 use crate::written::{BinaryOperator, UnaryOperator, Widening, WrittenTerm};
 use serde_json::Value;
 use std::alloc::Global;
 
+/// The term that a value is.
+pub(crate) fn read_term<'v>(alloc: Global, value: &'v Value) -> Result<WrittenTerm<'v>, Stop>
+    ensures { IsReading term_view result (term_in (view value.now)) }
+{
+    let term = term_in(alloc, value)?;
+    let term = term.ok_or(Stop::Refused)?;
+    Ok(term)
+}
+
 /// A term: true, false, a name, or a list of an operator and its operands.
 #[cycle(term)]
-pub(crate) fn term_in<'v>(
+fn term_in<'v>(
     alloc: Global,
     value: &'v Value,
 ) -> Result<Option<WrittenTerm<'v>>, NoMemory>
