@@ -1,3 +1,4 @@
+pub mod Depth
 pub mod Digits
 pub mod Instructions
 pub mod Lists

@@ -3,8 +3,8 @@
 ghost use Rattle.std.specs.Prelude.{◌≡◌, codes, Some, option_map};
 ghost use Rattle.serde_json.specs.Find.{get, as_array, as_object};
 ghost use Rattle.serde_json.specs.View.{view, items_view, members_view};
-ghost use Rattle.wb_meaning.specs.ModelFile.Shape.{list_in, unsigned_in, input_in, definition_in, term_in, update_in, instruction_in, instructions_in, child_in, model_in};
-ghost use Rattle.ila_file.specs.Parts.{under, under_if_there, or_empty, state_of, machine_under, child_found};
+ghost use Rattle.wb_meaning.specs.ModelFile.Shape.{list_in, unsigned_in, input_in, definition_in, term_in, update_in, all_instructions, model_in};
+ghost use Rattle.ila_file.specs.Parts.{under, under_if_there, or_empty, state_of, machine_under, child_found, instruction_list, instruction_parts, child_parts, model_parts};
 ghost use Rattle.ila_file.specs.Reading.{IsReading, IsNotedReading};
 ghost use Rattle.ila_file.specs.View.{term_view, states_view, inputs_view, definitions_view, updates_view, fetch_view, instructions_view, machine_view, instruction_view, child_view, instruction_list_view, held_child_view, model_view};
 
@@ -147,7 +147,7 @@ pub(crate) fn instruction_in<'v>(
     alloc: Global,
     value: &'v Value,
 ) -> Result<WrittenInstruction<'v>, Stop>
-    ensures { IsReading instruction_view result (instruction_in (view value.now)) }
+    ensures { IsReading instruction_view result (instruction_parts (view value.now)) }
 {
     let name = text_under(value, "name").ok_or(Stop::Refused)?;
     let decode = term_under(alloc, value, "decode")?;
@@ -180,7 +180,7 @@ fn child_under<'v>(
 
 #[cycle(instruction)]
 fn child_in<'v>(alloc: Global, value: &'v Value) -> Result<WrittenChild<'v>, Stop>
-    ensures { IsReading child_view result (child_in (view value.now)) }
+    ensures { IsReading child_view result (child_parts (view value.now)) }
 {
     let steps = steps_under(value).ok_or(Stop::Refused)?;
     let instructions = instructions_under(alloc, value)?;
@@ -194,9 +194,20 @@ fn instructions_under<'v>(
     alloc: Global,
     value: &'v Value,
 ) -> Result<Vec<WrittenInstruction<'v>>, Stop>
-    ensures { IsReading instruction_list_view result (under instructions_in (codes "instructions") (view value.now)) }
+    ensures { IsReading instruction_list_view result (under instruction_list (codes "instructions") (view value.now)) }
 {
     let items = list_under(value, "instructions").ok_or(Stop::Refused)?;
+    let instructions = instructions_in(alloc, items)?;
+    Ok(instructions)
+}
+
+#[cycle(instruction)]
+fn instructions_in<'v>(
+    alloc: Global,
+    items: &'v Vec<Value>,
+) -> Result<Vec<WrittenInstruction<'v>>, Stop>
+    ensures { IsReading instruction_list_view result (all_instructions (items_view items.now.items)) }
+{
     let mut instructions = Vec::new(alloc);
     for item in items {
         let instruction = instruction_in(alloc, item)?;
@@ -215,6 +226,12 @@ pub(crate) fn steps_under(value: &Value) -> Option<u64>
 
 fn model_in<'v>(alloc: Global, value: &'v Value) -> Result<WrittenModel<'v>, Stop>
     ensures { IsReading model_view result (model_in (view value.now)) }
+{
+    model_by_parts(alloc, value)
+}
+
+fn model_by_parts<'v>(alloc: Global, value: &'v Value) -> Result<WrittenModel<'v>, Stop>
+    ensures { IsReading model_view result (model_parts (view value.now)) }
 {
     let name = text_under(value, "name").ok_or(Stop::Refused)?;
     let inputs = inputs_under(alloc, value)?;
