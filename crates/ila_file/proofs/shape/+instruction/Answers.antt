@@ -1,4 +1,4 @@
-use Rattle.std.proofs.Common.{◌≡◌, ◌<◌, ◌≤◌, ◌+◌, ◌*◌, List, ◌∷◌, length, drop, get_or, Some, sym, ap, ◌∙◌, arith, rules, map, add-one, drop-cons}
+use Rattle.std.proofs.Common.{◌≡◌, ◌<◌, ◌≤◌, ◌+◌, ◌*◌, List, ◌∷◌, length, drop, get_or, Some, sym, ap, ◌∙◌, arith, rules, subst, [], ◌++◌, map, add-one, drop-cons}
 use Rattle.std.specs.Prelude.{codes}
 use Rattle.serde_json.specs.Find.{as_array}
 use Rattle.ila_file.specs.Parts.{under}
@@ -6,14 +6,19 @@ use Rattle.serde_json.specs.Data.{depth, items_depth}
 use Rattle.serde_json.specs.View.{view, items_view}
 use Rattle.serde_json.specs.declared.value.Value.{Value}
 use Rattle.wb_meaning.specs.ModelFile.Shape.{all_instructions, instruction_in}
+use Rattle.std.proofs.lemmas.List.{drop_all}
+use Rattle.ila_file.specs.Reading.{IsReading}
 use Rattle.ila_file.specs.View.{instruction_view}
 use Rattle.ila_file.proofs.Depth.{found_below, list_below, item_below}
 use Rattle.ila_file.proofs.Instructions.{before, before_nothing, before_end, before_pushed, before_refused}
 use Rattle.ila_file.proofs.Shapes.{instruction_in-parts}
 use Rattle.ila_file.proofs.shape.+instruction.Goals as goal
 
-pub instruction_in-child_under-requires : goal.instruction_in-child_under-requires
-instruction_in-child_under-requires t c = (omega (arith, c.decreases), tt)
+pub instruction_by_parts-child_under-requires : goal.instruction_by_parts-child_under-requires
+instruction_by_parts-child_under-requires t c = (omega (arith, c.decreases), tt)
+
+pub instruction_in-instruction_by_parts-requires : goal.instruction_in-instruction_by_parts-requires
+instruction_in-instruction_by_parts-requires t c = (omega (arith, c.decreases), tt)
 
 pub child_in-instructions_under-requires : goal.child_in-instructions_under-requires
 child_in-instructions_under-requires t c = (omega (arith, c.decreases), tt)
@@ -48,4 +53,17 @@ instructions_in-loop-item-preserved t c =
     c.loop-item.invariant
     ∙ (ap (λ (us : List Value). before (map instruction_view kept) (all_instructions (items_view us))) cut
     ∙ before_pushed instruction_view kept _ c.in_ok-instruction.instruction _ (all_instructions (items_view (drop (i + 1) vs)))
-    (ap (λ (w : Value). instruction_in (view w)) (sym c.item-item.is) ∙ (sym (instruction_in-parts (view v)) ∙ c.in_ok-instruction.ensures)) c.in_ok-push.ensures.items)
+    (ap (λ (w : Value). instruction_in (view w)) (sym c.item-item.is) ∙ c.in_ok-instruction.ensures) c.in_ok-push.ensures.items)
+
+pub instructions_in-returns : goal.instructions_in-returns
+instructions_in-returns t c =
+    let vs = c.deref-item-items.result.now in
+    let kept = c.loop-item.instructions.items in
+    let over : drop c.loop-item.item-index vs ≡ [] = drop_all c.loop-item.item-index vs c.loop-item-test.false in
+    ap (λ (us : List Value). all_instructions (items_view us)) (sym c.deref-item-items.ensures.value)
+    ∙ (c.loop-item.invariant
+    ∙ (ap (λ (us : List Value). before (map instruction_view kept) (all_instructions (items_view us))) over ∙ before_end (map instruction_view kept)))
+
+pub instruction_in-returns : goal.instruction_in-returns
+instruction_in-returns t c =
+    subst (λ o. IsReading instruction_view c.instruction_by_parts.result o) (instruction_in-parts (view c.args.value.now)) c.instruction_by_parts.ensures

@@ -8,19 +8,22 @@ use Rattle.ila_file.proofs.shape.+instruction.Given as goal
 
 -- each goes down by the depth of the data
 abbrev pub decreases-instruction_in : goal.decreases-instruction_in
-decreases-instruction_in l = 2 * depth (view l.value.now) + 1
+decreases-instruction_in l = 3 * depth (view l.value.now) + 2
+
+abbrev pub decreases-instruction_by_parts : goal.decreases-instruction_by_parts
+decreases-instruction_by_parts l = 3 * depth (view l.value.now) + 1
 
 abbrev pub decreases-child_under : goal.decreases-child_under
-decreases-child_under l = 2 * depth (view l.value.now)
+decreases-child_under l = 3 * depth (view l.value.now)
 
 abbrev pub decreases-child_in : goal.decreases-child_in
-decreases-child_in l = 2 * depth (view l.value.now) + 1
+decreases-child_in l = 3 * depth (view l.value.now) + 1
 
 abbrev pub decreases-instructions_under : goal.decreases-instructions_under
-decreases-instructions_under l = 2 * depth (view l.value.now)
+decreases-instructions_under l = 3 * depth (view l.value.now)
 
 abbrev pub decreases-instructions_in : goal.decreases-instructions_in
-decreases-instructions_in l = 2 * items_depth (items_view l.items.now.items) + 2
+decreases-instructions_in l = 3 * items_depth (items_view l.items.now.items) + 3
 
 abbrev pub invariant-instructions_in-loop-item : goal.invariant-instructions_in-loop-item
 invariant-instructions_in-loop-item l =
