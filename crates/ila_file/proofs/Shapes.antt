@@ -98,7 +98,7 @@ found_by_order Equal x rest = refl
 found_by_order Greater x rest = refl
 
 -- the member under a key, by the order of keys or by their equality
-found : (k l : Name) (x rest : Option Data) → match_ordering (slice_cmp nat_cmp k l) rest x rest ≡ cond (same_name l k) x rest
+pub found : (k l : Name) (x rest : Option Data) → match_ordering (slice_cmp nat_cmp k l) rest x rest ≡ cond (same_name l k) x rest
 found k l x rest = found_by_order (slice_cmp nat_cmp k l) x rest ∙ ap (λ b. cond b x rest) (is_eq-slice_cmp k l ∙ same_name_turned k l)
 
 and_then_if : {A B : Type 0} (f : A → Option B) (b : Bool) (x y : Option A) → option_and_then f (cond b x y) ≡ cond b (option_and_then f x) (option_and_then f y)

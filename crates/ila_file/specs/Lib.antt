@@ -2,3 +2,4 @@ pub mod View
 pub mod Notes
 pub mod Reading
 pub mod Parts
+pub mod KeyParts

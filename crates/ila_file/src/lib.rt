@@ -2,7 +2,7 @@
 #![tactic(auto)]
 
 mod declarations;
-mod impossible;
+mod diagnosis;
 mod keys;
 mod note;
 mod place;
