@@ -9,8 +9,8 @@ ghost use Rattle.ila_file.specs.Reading.{IsReading, IsNotedReading};
 ghost use Rattle.ila_file.specs.View.{term_view, states_view, inputs_view, definitions_view, updates_view, fetch_view, instructions_view, machine_view, instruction_view, child_view, instruction_list_view, held_child_view, model_view};
 
 use crate::declarations::{definitions_in, inputs_in, states_in, text_under, updates_in};
+use crate::diagnosis::shape_note;
 use crate::stop::{ShapeStop, Stop};
-use crate::Note;
 use crate::terms::read_term;
 use crate::written::{
     Definition, WrittenChild, WrittenInput, WrittenInstruction, WrittenMachine, WrittenModel,
@@ -267,7 +267,7 @@ pub fn read_shape<'v>(alloc: Global, value: &'v Value) -> Result<WrittenModel<'v
 
 /// The refusal of data of another shape, with a note.
 fn refusal(alloc: Global, value: &Value) -> ShapeStop {
-    match Note::new(alloc, b"") {
+    match shape_note(alloc, value) {
         Ok(note) => ShapeStop::Refused(note),
         Err(_) => ShapeStop::NoMemory,
     }
