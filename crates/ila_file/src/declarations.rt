@@ -192,11 +192,7 @@ pub(crate) fn updates_in<'v>(
     Ok(updates)
 }
 
-fn update_in<'v>(
-    alloc: Global,
-    state: &'v str,
-    value: &'v Value,
-) -> Result<WrittenUpdate<'v>, Stop>
+fn update_in<'v>(alloc: Global, state: &'v str, value: &'v Value) -> Result<WrittenUpdate<'v>, Stop>
     ensures { IsReading update_view result (named state.now (term_in (view value.now))) }
 {
     let term = read_term(alloc, value)?;

@@ -160,10 +160,7 @@ fn state_part(item: &Value) -> &str {
     }
 }
 
-fn definition_spot<'v>(
-    alloc: Global,
-    value: &'v Value,
-) -> Result<Option<Spot<'v>>, NoMemory> {
+fn definition_spot<'v>(alloc: Global, value: &'v Value) -> Result<Option<Spot<'v>>, NoMemory> {
     let Some(found) = value.get("define") else {
         return Ok(None);
     };

@@ -23,6 +23,7 @@ pub(crate) const MODEL_KEYS: [&str; 7] = [
     "valid",
     "instructions",
 ];
+
 pub(crate) const CHILD_KEYS: [&str; 6] = [
     "states",
     "define",
@@ -31,9 +32,13 @@ pub(crate) const CHILD_KEYS: [&str; 6] = [
     "steps",
     "instructions",
 ];
+
 pub(crate) const INSTRUCTION_KEYS: [&str; 4] = ["name", "decode", "update", "child"];
+
 pub(crate) const INPUT_KEYS: [&str; 2] = ["name", "sort"];
+
 const MEMORY_KEYS: [&str; 2] = ["name", "sort"];
+
 const STATE_KEYS: [&str; 3] = ["name", "sort", "init"];
 
 /// The place of a key that objects of its kind do not have, where there is one: that of the first such object in the file.

@@ -22,3 +22,6 @@ pub use written::{
     WrittenInstruction, WrittenMachine, WrittenModel, WrittenSort, WrittenState, WrittenTerm,
     WrittenUpdate, WrittenValue,
 };
+
+#[cfg(test)]
+mod tests;

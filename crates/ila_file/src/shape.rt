@@ -153,10 +153,7 @@ pub(crate) fn instruction_in<'v>(
 }
 
 #[cycle(instruction)]
-fn instruction_by_parts<'v>(
-    alloc: Global,
-    value: &'v Value,
-) -> Result<WrittenInstruction<'v>, Stop>
+fn instruction_by_parts<'v>(alloc: Global, value: &'v Value) -> Result<WrittenInstruction<'v>, Stop>
     ensures { IsReading instruction_view result (instruction_parts (view value.now)) }
 {
     let name = text_under(value, "name").ok_or(Stop::Refused)?;
@@ -172,10 +169,7 @@ fn instruction_by_parts<'v>(
 }
 
 #[cycle(instruction)]
-fn child_under<'v>(
-    alloc: Global,
-    value: &'v Value,
-) -> Result<Option<Box<WrittenChild<'v>>>, Stop>
+fn child_under<'v>(alloc: Global, value: &'v Value) -> Result<Option<Box<WrittenChild<'v>>>, Stop>
     ensures { IsReading held_child_view result (child_found (get (codes "child") (view value.now))) }
 {
     match value.get("child") {

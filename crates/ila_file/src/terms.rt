@@ -27,10 +27,7 @@ pub(crate) fn read_term<'v>(alloc: Global, value: &'v Value) -> Result<WrittenTe
 
 /// A term: true, false, a name, or a list of an operator and its operands.
 #[cycle(term)]
-fn term_in<'v>(
-    alloc: Global,
-    value: &'v Value,
-) -> Result<Option<WrittenTerm<'v>>, NoMemory>
+fn term_in<'v>(alloc: Global, value: &'v Value) -> Result<Option<WrittenTerm<'v>>, NoMemory>
     ensures { IfOk result (λ o. option_map term_view o ≡ term_in (view value.now)) }
 {
     match value {

@@ -25,7 +25,8 @@ operation_in-returns-in_ok-term-in-len4 t c =
 pub operation_in-returns-in_default : goal.operation_in-returns-in_default
 operation_in-returns-in_default t c =
     elim c.in_default.branch [
-      operation_in-in_default-via-then-as_slice-lt2 w ↦
-        few_items c.as_slice.result.now (search rules) ∙ ap (λ (vs : List Value). term_in (array (items_view vs))) c.as_slice.ensures.value
-    | operation_in-in_default-via-else-as_slice-lt2+else-this-lt3+else-this-lt4+else-this-lt5 w ↦
-        many_items c.as_slice.result.now (search rules) ∙ ap (λ (vs : List Value). term_in (array (items_view vs))) c.as_slice.ensures.value ]
+      | operation_in-in_default-via-then-as_slice-lt2 w ↦
+          few_items c.as_slice.result.now (search rules) ∙ ap (λ (vs : List Value). term_in (array (items_view vs))) c.as_slice.ensures.value
+      | operation_in-in_default-via-else-as_slice-lt2+else-this-lt3+else-this-lt4+else-this-lt5 w ↦
+          many_items c.as_slice.result.now (search rules) ∙ ap (λ (vs : List Value). term_in (array (items_view vs))) c.as_slice.ensures.value
+    ]
