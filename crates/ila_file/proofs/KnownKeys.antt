@@ -1,5 +1,5 @@
 -- Unknown keys by what stands under the known ones.
-use Rattle.std.proofs.Common.{◌≡◌, Bool, true, false, cond, ◌||◌, List, [], ◌∷◌, Option, Some, None, option_and_then, is_some, refl, sym, ap, ◌∙◌}
+use Rattle.std.proofs.Common.{◌≡◌, Bool, true, false, cond, ◌||◌, Option, Some, option_and_then, is_some, refl, ap, ◌∙◌}
 use Rattle.std.specs.Prelude.{codes}
 use Rattle.wb_meaning.specs.Value.{Name, same_name}
 use Rattle.wb_meaning.specs.ModelFile.Keys.{has_other_key, some_item, some_item_of, some_item_under, is_list, is_memory_state, state_has_other_key, input_has_other_key, input_keys, instruction_keys, child_keys, model_keys, instruction_has_unknown_key, child_under_has_unknown_key, child_has_unknown_key, instructions_under_have_unknown_key, instructions_have_unknown_key, some_instruction_has_unknown_key, model_has_unknown_key}

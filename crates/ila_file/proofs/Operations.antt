@@ -1,6 +1,6 @@
 -- A list that is a term, by its items.
-use Rattle.std.proofs.Common.{◌≡◌, ℕ, suc, ◌+◌, ◌<◌, ◌≤◌, List, [], ◌∷◌, length, get_or, Option, Some, None, option_and_then, refl, sym, ap, ◌∙◌, arith, subst}
-use Rattle.wb_meaning.specs.Value.{Name, Sort}
+use Rattle.std.proofs.Common.{◌≡◌, ◌<◌, ◌≤◌, List, [], ◌∷◌, length, get_or, Option, None, option_and_then, refl, ap, ◌∙◌, arith}
+use Rattle.wb_meaning.specs.Value.{Name}
 use Rattle.wb_meaning.specs.ModelFile.Written.{WrittenTerm}
 use Rattle.wb_meaning.specs.ModelFile.Shape.{term_in, sort_in, of_one, of_two, of_three}
 use Rattle.serde_json.specs.Data.{Data, null, boolean, number, string, array, object, Items, no_items, item}

@@ -1,18 +1,18 @@
 -- The shapes of the definitions, by what stands under the keys.
-use Rattle.std.proofs.Common.{◌≡◌, ℕ, ◌<◌, ◌≤◌, Bool, true, false, List, [], ◌∷◌, Option, Some, None, option_and_then, Ordering, Less, Equal, Greater, is_eq, nat_cmp, bytes_eq, refl, sym, ap, ◌∙◌, arith, cond, length, get_or}
+use Rattle.std.proofs.Common.{◌≡◌, ◌<◌, ◌≤◌, Bool, true, false, List, [], ◌∷◌, Option, Some, None, option_and_then, Ordering, Less, Equal, Greater, is_eq, nat_cmp, refl, sym, ap, ◌∙◌, arith, cond, length, get_or}
 use Rattle.std.specs.Prelude.{codes}
 use Rattle.std.specs.Ordering.{match_ordering}
 use Rattle.std.specs.Cmp.Lexicographic.{slice_cmp, nat_list_eq_equiv}
 use Rattle.std.proofs.lemmas.Map.Text.{is_eq-slice_cmp}
 use Rattle.wb_meaning.specs.Value.{Name, same_name, Entries}
 use Rattle.wb_meaning.specs.Model.{StateDeclaration}
-use Rattle.wb_meaning.specs.ModelFile.Written.{WrittenTerm, WrittenInstructions, WrittenChild, no_child, machine}
-use Rattle.wb_meaning.specs.ModelFile.Shape.{state_in, input_in, definition_in, named, term_in, machine_from, child_under, child_in, instructions_under, instructions_in, instruction_in, instruction_from, child_from, model_in, model_from, required, optional, list_in, update_in, unsigned_in, state_in, private_state_in}
+use Rattle.wb_meaning.specs.ModelFile.Written.{WrittenTerm, WrittenInstructions, WrittenChild}
+use Rattle.wb_meaning.specs.ModelFile.Shape.{input_in, definition_in, named, term_in, machine_from, child_under, child_in, instructions_under, instructions_in, instruction_in, instruction_from, child_from, model_in, model_from}
 use Rattle.serde_json.specs.Data.{Data, null, boolean, number, string, array, object, Items, no_items, item, Members, no_members, member}
-use Rattle.serde_json.specs.Find.{as_str, get_member, get}
+use Rattle.serde_json.specs.Find.{as_str, get_member}
 use Rattle.serde_json.specs.View.{view, items_view}
 use Rattle.serde_json.specs.declared.value.Value.{Value}
-use Rattle.ila_file.specs.Parts.{state_of, state_under, input_under, or_empty, machine_of_parts, machine_under, instruction_list, child_found, child_parts, instruction_parts, model_parts}
+use Rattle.ila_file.specs.Parts.{state_of, state_under, input_under, or_empty, machine_of_parts, instruction_list, child_found, child_parts, instruction_parts, model_parts}
 
 pub state_of-under : (p : Bool) (d : Data) → state_under p d ≡ state_of p d
 state_of-under true null = refl

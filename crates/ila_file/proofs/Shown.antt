@@ -1,5 +1,5 @@
 -- What a note shows of a text is printable.
-use Rattle.std.proofs.Common.{◌≡◌, ℕ, ◌≤◌, Bool, true, false, cond, ◌&&◌, IsTrue, List, [], ◌∷◌, map, take, length, refl, sym, ap, ◌∙◌, arith}
+use Rattle.std.proofs.Common.{◌≡◌, ℕ, ◌≤◌, Bool, true, false, cond, List, [], ◌∷◌, map, take, length, refl, arith}
 use Rattle.std.proofs.lemmas.List.{length-map, length-take}
 use Rattle.std.specs.List.{list_all}
 use Rattle.ila_file.specs.Notes.{shown, is_printable}

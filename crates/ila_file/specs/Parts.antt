@@ -1,5 +1,5 @@
 -- The shape of a model file's objects by what stands under their keys.
-use Rattle.std.specs.Prelude.{ℕ, Bool, true, false, List, [], Option, Some, None, option_and_then, codes}
+use Rattle.std.specs.Prelude.{Bool, true, false, List, [], Option, Some, None, option_and_then, codes}
 use Rattle.wb_meaning.specs.Value.{Name, Sort, Value, Entries}
 use Rattle.wb_meaning.specs.Model.{StateDeclaration, InputDeclaration}
 use Rattle.wb_meaning.specs.ModelFile.Written.{WrittenTerm, WrittenMachine, machine, WrittenInstruction, WrittenInstructions, WrittenChild, no_child, WrittenModel}

@@ -1,5 +1,5 @@
 -- The written model that the code's stands for.
-use Rattle.std.specs.Prelude.{ℕ, List, [], ◌∷◌, map, Option, Some, None, option_map, Vec, Box}
+use Rattle.std.specs.Prelude.{List, [], ◌∷◌, map, Option, Some, None, option_map, Vec, Box}
 use Rattle.std.specs.Global.{Global}
 use Rattle.wb_meaning.specs.Value.{Name, Sort, truth, word, memory, Value, truth_value, number, Entries}
 use Rattle.wb_meaning.specs.Model.{StateDeclaration, InputDeclaration}

@@ -1,4 +1,4 @@
-use Rattle.std.proofs.Common.{◌<◌, ◌≤◌, length, rules}
+use Rattle.std.proofs.Common.{rules}
 use Rattle.ila_file.proofs.Shapes.{few_items, many_items}
 use Rattle.ila_file.proofs.declarations.pair_in.Goals.{in_default-via-then-items-lt2, in_default-via-else-items-lt2+else-items-lt3}
 use Rattle.ila_file.proofs.declarations.pair_in.Goals as goal

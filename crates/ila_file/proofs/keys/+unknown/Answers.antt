@@ -1,6 +1,6 @@
-use Rattle.std.proofs.Common.{◌≡◌, ◌<◌, ◌≤◌, ◌+◌, ◌*◌, Some, length, get_or, sym, ap, ◌∙◌, arith, rules}
+use Rattle.std.proofs.Common.{◌≡◌, ◌<◌, Some, length, get_or, sym, ◌∙◌, arith, rules}
 use Rattle.std.specs.Prelude.{codes}
-use Rattle.serde_json.specs.Data.{depth, items_depth}
+use Rattle.serde_json.specs.Data.{depth}
 use Rattle.serde_json.specs.Find.{as_array}
 use Rattle.serde_json.specs.View.{view, items_view}
 use Rattle.ila_file.specs.Parts.{under}

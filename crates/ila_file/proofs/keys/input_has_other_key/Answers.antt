@@ -1,4 +1,4 @@
-use Rattle.std.proofs.Common.{◌∙◌, ap}
+use Rattle.std.proofs.Common.{◌∙◌}
 use Rattle.serde_json.specs.View.{view}
 use Rattle.ila_file.proofs.KnownKeys.{input_keys-parts}
 use Rattle.ila_file.proofs.keys.input_has_other_key.Goals as goal

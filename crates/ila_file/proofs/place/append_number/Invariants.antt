@@ -1,4 +1,4 @@
-use Rattle.std.proofs.Common.{ℕ, ◌≤◌, length}
+use Rattle.std.proofs.Common.{◌≤◌, length}
 use Rattle.ila_file.proofs.place.append_number.Given as goal
 
 abbrev pub invariant-loop-left : goal.invariant-loop-left

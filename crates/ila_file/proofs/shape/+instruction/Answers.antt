@@ -1,8 +1,8 @@
-use Rattle.std.proofs.Common.{◌≡◌, ◌<◌, ◌≤◌, ◌+◌, ◌*◌, List, ◌∷◌, length, drop, get_or, Some, sym, ap, ◌∙◌, arith, rules, subst, [], ◌++◌, map, add-one, drop-cons}
+use Rattle.std.proofs.Common.{◌≡◌, ◌<◌, ◌+◌, List, ◌∷◌, length, drop, get_or, Some, sym, ap, ◌∙◌, arith, rules, subst, [], map, add-one, drop-cons}
 use Rattle.std.specs.Prelude.{codes}
 use Rattle.serde_json.specs.Find.{as_array}
 use Rattle.ila_file.specs.Parts.{under}
-use Rattle.serde_json.specs.Data.{depth, items_depth}
+use Rattle.serde_json.specs.Data.{depth}
 use Rattle.serde_json.specs.View.{view, items_view}
 use Rattle.serde_json.specs.declared.value.Value.{Value}
 use Rattle.wb_meaning.specs.ModelFile.Shape.{all_instructions, instruction_in}
@@ -10,7 +10,7 @@ use Rattle.std.proofs.lemmas.List.{drop_all}
 use Rattle.ila_file.specs.Reading.{IsReading}
 use Rattle.ila_file.specs.View.{instruction_view}
 use Rattle.ila_file.proofs.Depth.{found_below, list_below, item_below}
-use Rattle.ila_file.proofs.Instructions.{before, before_nothing, before_end, before_pushed, before_refused}
+use Rattle.ila_file.proofs.Instructions.{before, before_end, before_pushed}
 use Rattle.ila_file.proofs.Shapes.{instruction_in-parts}
 use Rattle.ila_file.proofs.shape.+instruction.Goals as goal
 
