@@ -1,0 +1,27 @@
+//! Model files as they are written, and their reading from the data of JSON.
+#![tactic(auto)]
+
+mod declarations;
+mod diagnosis;
+mod keys;
+mod note;
+mod place;
+mod scalars;
+mod shape;
+mod stop;
+mod terms;
+mod written;
+
+pub use keys::unknown_key;
+pub use note::Note;
+pub use place::{Place, Spot};
+pub use shape::read_shape;
+pub use stop::{NoMemory, ShapeStop};
+pub use written::{
+    BinaryOperator, Definition, UnaryOperator, Widening, WrittenChild, WrittenInput,
+    WrittenInstruction, WrittenMachine, WrittenModel, WrittenSort, WrittenState, WrittenTerm,
+    WrittenUpdate, WrittenValue,
+};
+
+#[cfg(test)]
+mod tests;
