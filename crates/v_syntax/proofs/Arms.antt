@@ -48,6 +48,10 @@ module _ (s : Scope) (v : Valuation) (e : Expression) (w : ℕ) (t : Bool) (r : 
   pub name-narrow : (m : Bor (List ℕ)) (x : Selects) → e ≡ Name m x → AreSelectsNarrow s (selects_of x)
   name-narrow m x i = (subst (λ y. IsNarrow s (tree_of y)) i n).1
 
+  pub name-width : (m : Bor (List ℕ)) (x : Selects) → e ≡ Name m x → IsWidth (selects_width_at s m.now (selects_of x))
+  unfolding selects_width_at
+  name-width m x i = (subst (λ y. IsNarrow s (tree_of y)) i n).0
+
   pub name-within : (m : Bor (List ℕ)) (x : Selects) → e ≡ Name m x → selects_width_at s m.now (selects_of x) ≤ w
   unfolding width_at selects_width_at
   name-within m x i = subst (λ y. width_at s (tree_of y) ≤ w) i h

@@ -1,54 +1,60 @@
--- Bits of a number out of its range are 0.
-use Rattle.std.proofs.Common.{◌≡◌, ◌≤◌, ◌<◌, ℕ, ◌+◌, ◌-◌, ◌*◌, ◌%◌, ◌^◌, ◌∙◌, refl, ap, sym, subst, true, false, cond, nat_le, pos, negsuc, ◌-ℤ◌, arith}
-use Rattle.std.proofs.Math.Nat.{div-eq_of_lt, mul-mod_left}
-use Rattle.std.proofs.Math.Pow.{pow_mono, pow-add}
+-- Bits of a number from a place on, and the places of bits.
+use Rattle.std.proofs.Common.{◌≡◌, ◌≤◌, ◌<◌, ℕ, ◌+◌, ◌-◌, ◌*◌, ◌/◌, ◌%◌, ◌^◌, ◌∙◌, refl, ap, sym, subst, Bool, true, false, cond, not, nat_le, ℤ, pos, negsuc, ◌+ℤ◌, ◌-ℤ◌, arith}
+use Rattle.std.proofs.Math.Nat.{div-eq_of_lt, mul-mod_left, zero-mod}
+use Rattle.std.proofs.Math.Pow.{pow_mono, pow-add, mod-mod-pow}
 use borrow.Author.Tests.{leb-false, leb-true}
+use Rattle.std.proofs.lemmas.Bool.{false≢true}
 use Rattle.std.proofs.lemmas.Int.{ints}
-use Rattle.wb_meaning.specs.Verilog.Expression.{Object, object_width, place_of_bit, bits_from}
+use Rattle.wb_meaning.specs.Number.{top_bit, word_not}
+use Rattle.wb_meaning.specs.Verilog.Expression.{Object, object_width, place_of_bit, Bits, bits_from, bits_upward}
 
-pub below-zero : (x k : ℕ) → 0 ≡ bits_from (negsuc k) 1 x
-below-zero x k =
-    let e : x * 2 ^ (k + 1) ≡ x * 2 ^ k * 2 ^ 1 = rw (pow-add 2 k 1) (omega arith) in
-    sym (ap (λ n. n % 2 ^ 1) e ∙ mul-mod_left (x * 2 ^ k) (2 ^ 1))
-
-pub beyond : (x w k : ℕ) → x < 2 ^ w → w ≤ k → 0 ≡ bits_from (pos k) 1 x
-beyond x w k h l =
+-- bits past the number
+pub beyond : (x w k n : ℕ) → x < 2 ^ w → w ≤ k → 0 ≡ x / 2 ^ k % 2 ^ n
+beyond x w k n h l =
     let more : 2 ^ w ≤ 2 ^ k = pow_mono l in
     let lt : x < 2 ^ k = omega arith in
-    sym (ap (λ n. n % 2 ^ 1) (div-eq_of_lt lt))
+    sym (ap (λ m. m % 2 ^ n) (div-eq_of_lt lt) ∙ zero-mod (2 ^ n))
 
-sub-negative : (i r : ℕ) → i < r → pos i -ℤ pos r ≡ negsuc (r - i - 1)
-sub-negative i r h = omega (arith, ints)
+-- bits below the number
+pub below : (x k n : ℕ) → n ≤ k → 0 ≡ x * 2 ^ k % 2 ^ n
+below x k n l =
+    let e : k - n + n ≡ k = omega arith in
+    let power : 2 ^ k ≡ 2 ^ (k - n) * 2 ^ n = subst (λ j. 2 ^ j ≡ 2 ^ (k - n) * 2 ^ n) e (pow-add 2 (k - n) n) in
+    let whole : x * 2 ^ k ≡ x * 2 ^ (k - n) * 2 ^ n = rw power (omega arith) in
+    sym (ap (λ m. m % 2 ^ n) whole ∙ mul-mod_left (x * 2 ^ (k - n)) (2 ^ n))
 
-negative-sub : (m r : ℕ) → negsuc m -ℤ pos r ≡ negsuc (m + r)
-negative-sub m r = omega (arith, ints)
+-- what was cut to more bits first
+pub cut_first : (x n high r : ℕ) → n ≤ high → r ≡ x % 2 ^ high % 2 ^ n → r ≡ x % 2 ^ n
+cut_first x n high r l is_r =
+    let e : high - n + n ≡ high = omega arith in
+    is_r ∙ subst (λ j. x % 2 ^ j % 2 ^ n ≡ x % 2 ^ n) e (mod-mod-pow x (high - n) n)
 
-sub-of_negative : (m r : ℕ) → pos r -ℤ negsuc m ≡ pos (r + m + 1)
-sub-of_negative m r = omega (arith, ints)
+-- bits that stand so far below a number that none of them reaches it
+pub far_below : (negative : Bool) (m b n x : ℕ) → not negative ≡ false → n ≤ 128 → 128 ≤ m → 0 ≡ bits_from (cond negative (negsuc m) (pos m) -ℤ pos b) n x
+far_below false m b n x q l h = absurd (false≢true (sym q))
+far_below true m b n x q l h =
+    let e : negsuc m -ℤ pos b ≡ negsuc (m + b) = omega (arith, ints) in
+    subst (λ z. 0 ≡ bits_from z n x) (sym e) (below x (m + b + 1) n (omega (arith, l, h)))
 
--- a negative index
-pub negative-index : (o : Object) (m x : ℕ) → x < 2 ^ object_width o → 0 ≡ bits_from (place_of_bit o (negsuc m)) 1 x
-negative-index o m x h =
-    elim (nat_le o.right o.left) as (λ b. nat_le o.right o.left ≡ b → 0 ≡ bits_from (cond b (negsuc m -ℤ pos o.right) (pos o.right -ℤ negsuc m)) 1 x) [
-      | true ↦ λ e. subst (λ z. 0 ≡ bits_from z 1 x) (sym (negative-sub m o.right)) (below-zero x (m + o.right))
-      | false ↦ λ e.
-          let l : o.left < o.right = leb-false _ _ e in
-          let w : object_width o ≤ o.right + m + 1 = omega arith in
-          subst (λ z. 0 ≡ bits_from z 1 x) (sym (sub-of_negative m o.right)) (beyond x (object_width o) (o.right + m + 1) h w)
-    ] refl
+-- the magnitude of a negative number of at most w bits
+pub small_magnitude : (w x r : ℕ) → 1 ≤ w → w ≤ 128 → x < 2 ^ w → top_bit w x ≡ true → r ≡ word_not w x → r < 2 ^ 127
+small_magnitude w x r some most h t is_r =
+    let top : 2 ^ w ≤ 2 * x = leb-true _ _ t in
+    let e : 1 + (w - 1) ≡ w = omega arith in
+    let twice : 2 ^ w ≡ 2 * 2 ^ (w - 1) = subst (λ k. 2 ^ k ≡ 2 * 2 ^ (w - 1)) e (pow-add 2 1 (w - 1)) in
+    let fewer : w - 1 ≤ 127 = omega (arith, most) in
+    let power : 2 ^ (w - 1) ≤ 2 ^ 127 = pow_mono fewer in
+    omega (arith, top, twice, power, is_r, h)
 
--- an index below a descending range
-pub index-below : (o : Object) (i x : ℕ) → o.right ≤ o.left → i < o.right → 0 ≡ bits_from (place_of_bit o (pos i)) 1 x
-index-below o i x d h =
-    elim (nat_le o.right o.left) as (λ b. nat_le o.right o.left ≡ b → 0 ≡ bits_from (cond b (pos i -ℤ pos o.right) (pos o.right -ℤ pos i)) 1 x) [
-      | true ↦ λ e. subst (λ z. 0 ≡ bits_from z 1 x) (sym (sub-negative i o.right h)) (below-zero x (o.right - i - 1))
-      | false ↦ λ e. let l : o.left < o.right = leb-false _ _ e in absurd (omega arith)
-    ] refl
-
--- an index above an ascending range
-pub index-above : (o : Object) (i x : ℕ) → o.left < o.right → o.right < i → 0 ≡ bits_from (place_of_bit o (pos i)) 1 x
-index-above o i x d h =
-    elim (nat_le o.right o.left) as (λ b. nat_le o.right o.left ≡ b → 0 ≡ bits_from (cond b (pos i -ℤ pos o.right) (pos o.right -ℤ pos i)) 1 x) [
+-- the lowest bit of those from a base up, in an ascending range
+pub ascending_upward : (o : Object) (b : ℤ) (n : ℕ) → 1 ≤ n → o.left < o.right → (p : ℤ) → p ≡ place_of_bit o b → (r : Bits) → r ≡ record { low = p -ℤ pos (n - 1); count = n } → r ≡ bits_upward o b n
+ascending_upward o b n some h p is_p r is_r =
+    let moved : pos o.right -ℤ b -ℤ pos (n - 1) ≡ pos o.right -ℤ (b +ℤ (pos n -ℤ pos 1)) = omega (arith, ints) in
+    let low : (c : Bool) → nat_le o.right o.left ≡ c → cond c (b -ℤ pos o.right) (pos o.right -ℤ b) -ℤ pos (n - 1)
+    ≡ cond c (cond c (b -ℤ pos o.right) (pos o.right -ℤ b)) (cond c (b +ℤ (pos n -ℤ pos 1) -ℤ pos o.right) (pos o.right -ℤ (b +ℤ (pos n -ℤ pos 1)))) = λ c.
+    elim c as (λ c. nat_le o.right o.left ≡ c → cond c (b -ℤ pos o.right) (pos o.right -ℤ b) -ℤ pos (n - 1)
+    ≡ cond c (cond c (b -ℤ pos o.right) (pos o.right -ℤ b)) (cond c (b +ℤ (pos n -ℤ pos 1) -ℤ pos o.right) (pos o.right -ℤ (b +ℤ (pos n -ℤ pos 1))))) [
       | true ↦ λ e. let l : o.right ≤ o.left = leb-true _ _ e in absurd (omega arith)
-      | false ↦ λ e. subst (λ z. 0 ≡ bits_from z 1 x) (sym (sub-negative o.right i h)) (below-zero x (i - o.right - 1))
-    ] refl
+      | false ↦ λ e. moved
+    ] in
+    is_r ∙ (λ i. record { low = (ap (λ z. z -ℤ pos (n - 1)) is_p ∙ low (nat_le o.right o.left) refl) i; count = n })

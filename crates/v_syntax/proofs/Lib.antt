@@ -9,6 +9,8 @@ pub mod Arms
 pub mod Steps
 pub mod Bits
 pub mod Selected
+pub mod Taking
+pub mod PartReads
 pub mod Cut
 pub mod Writing
 pub mod Written

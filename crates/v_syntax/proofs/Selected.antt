@@ -1,19 +1,71 @@
 -- What names with selects read, over what the calls returned.
-use Rattle.std.proofs.Common.{◌≡◌, ℕ, ◌∙◌, refl, ap, sym, subst, Bool, ℤ}
+use Rattle.std.proofs.Common.{◌≡◌, ◌≤◌, ℕ, ◌∙◌, refl, ap, sym, subst, Bool, true, false, cond, ℤ}
 use Rattle.wb_meaning.specs.Value.{Name, Valuation}
-use Rattle.wb_meaning.specs.Verilog.Syntax.{one, two}
+use Rattle.wb_meaning.specs.Verilog.Syntax as pure
+use Rattle.wb_meaning.specs.Verilog.Syntax.{index, part, part_up, part_down, one, two}
 use Rattle.wb_meaning.specs.Verilog.Expression as meaning
-use Rattle.wb_meaning.specs.Verilog.Expression.{Scope}
-use Rattle.std.specs.declared.boxed.Box.{Box}
-use Rattle.std.specs.declared.alloc.Global.{Global}
-use Rattle.v_syntax.specs.declared.tree.Expression.{Expression}
-use Rattle.v_syntax.specs.declared.tree.Select.{Select, Index, Index', Part', PartUp', PartDown'}
+use Rattle.wb_meaning.specs.Verilog.Expression.{Object, Scope, Bits, is_memory, object_width, no_values}
+use Rattle.v_syntax.specs.declared.tree.Select.{Select}
 use Rattle.v_syntax.specs.declared.tree.Selects.{Selects, Whole, One, Two}
-use Rattle.v_syntax.specs.Tree.{tree_of, select_of, selects_of}
-use Rattle.v_syntax.specs.Narrow.{IsSelectNarrow, AreSelectsNarrow}
-use Rattle.v_syntax.specs.Evaluation.{width_at, sign_at, self_at, named_width, named_value, selects_width_at, selects_at, index_at, one_width, one_value, two_value}
+use Rattle.v_syntax.specs.Tree.{select_of, selects_of}
+use Rattle.v_syntax.specs.Narrow.{IsWidth, IsSelectNarrow, AreSelectsNarrow}
+use Rattle.v_syntax.specs.Evaluation.{named_width, named_value, selects_width_at, selects_at, index_at, bits_at, taken_at}
 
-module _ (s : Scope) (v : Valuation) (n : Name) (x : Selects) (h : AreSelectsNarrow s (selects_of x)) where
+-- How many bits a select takes is the same of each object, and by all values.
+pub count-is : (s : Scope) (v : Valuation) (o : Object) (x : pure.Select) → (meaning.select_bits s v o x).count ≡ taken_at s x
+unfolding taken_at
+count-is s v o (index i) = refl
+count-is s v o (part h l) = refl
+count-is s v o (part_up b n) = refl
+count-is s v o (part_down b n) = refl
+
+pub count-taken : (s : Scope) (v : Valuation) (o : Object) (x : pure.Select) (b : Bits) → b ≡ bits_at s v o x → b.count ≡ taken_at s x
+unfolding bits_at
+count-taken s v o x b is_b = ap (λ (z : Bits). z.count) is_b ∙ count-is s v o x
+
+pub taken-width : (s : Scope) (v : Valuation) (o : Object) (x : pure.Select) (b : Bits) → b ≡ bits_at s v o x → IsWidth (taken_at s x) → IsWidth b.count
+taken-width s v o x b is_b w = subst IsWidth (sym (count-taken s v o x b is_b)) w
+
+-- the widths of one select and of two
+pub one-word : (s : Scope) (o : Object) (x : pure.Select) → is_memory o ≡ true → meaning.selects_width s o (one x) ≡ object_width o
+one-word s o x m = ap (λ b. cond b (object_width o) (meaning.select_bits s no_values o x).count) m
+
+pub one-taken : (s : Scope) (o : Object) (x : pure.Select) → is_memory o ≡ false → meaning.selects_width s o (one x) ≡ taken_at s x
+one-taken s o x m = ap (λ b. cond b (object_width o) (meaning.select_bits s no_values o x).count) m ∙ count-is s no_values o x
+
+pub two-taken : (s : Scope) (o : Object) (a x : pure.Select) → meaning.selects_width s o (two a x) ≡ taken_at s x
+two-taken s o a x = count-is s no_values o x
+
+-- the same as a program returned them
+module _ (s : Scope) (o : Object) (x : Selects) (h : AreSelectsNarrow s (selects_of x)) (m : meaning.selects_width s o (selects_of x) ≤ 128) where
+  module _ (y : Select) (i : x ≡ One y) where
+    pub at_one-narrow : IsSelectNarrow s (select_of y)
+    at_one-narrow = subst (λ z. AreSelectsNarrow s (selects_of z)) i h
+
+    at_one : is_memory o ≡ false → meaning.selects_width s o (selects_of x) ≡ taken_at s (select_of y)
+    at_one q = ap (λ z. meaning.selects_width s o (selects_of z)) i ∙ one-taken s o (select_of y) q
+
+    pub at_one-most : is_memory o ≡ false → taken_at s (select_of y) ≤ 128
+    at_one-most q = subst (λ k. k ≤ 128) (at_one q) m
+
+    pub at_one-width : is_memory o ≡ false → (r : ℕ) → r ≡ taken_at s (select_of y) → r ≡ meaning.selects_width s o (selects_of x)
+    at_one-width q r g = g ∙ sym (at_one q)
+
+  module _ (z y : Select) (i : x ≡ Two z y) where
+    pub at_two-narrow : IsSelectNarrow s (select_of y)
+    at_two-narrow = (subst (λ a. AreSelectsNarrow s (selects_of a)) i h).1
+
+    at_two : meaning.selects_width s o (selects_of x) ≡ taken_at s (select_of y)
+    at_two = ap (λ a. meaning.selects_width s o (selects_of a)) i ∙ two-taken s o (select_of z) (select_of y)
+
+    pub at_two-most : taken_at s (select_of y) ≤ 128
+    at_two-most = subst (λ k. k ≤ 128) at_two m
+
+    pub at_two-width : (r : ℕ) → r ≡ taken_at s (select_of y) → r ≡ meaning.selects_width s o (selects_of x)
+    at_two-width r g = g ∙ sym at_two
+
+-- what a name with selects reads
+module _ (s : Scope) (v : Valuation) (n : Name) (x : Selects) (h : AreSelectsNarrow s (selects_of x)) (w : IsWidth (selects_width_at s n (selects_of x))) where
   pub whole-width : x ≡ Whole → (r : ℕ) → r ≡ named_width s n → r ≡ selects_width_at s n (selects_of x)
   unfolding selects_width_at
   whole-width i r g = g ∙ sym (ap (λ y. selects_width_at s n (selects_of y)) i)
@@ -22,56 +74,64 @@ module _ (s : Scope) (v : Valuation) (n : Name) (x : Selects) (h : AreSelectsNar
   unfolding selects_at
   whole-value i r g = g ∙ sym (ap (λ y. selects_at s v n (selects_of y)) i)
 
-  one-form : (y : Select) → IsSelectNarrow s (select_of y) → selects_width_at s n (one (select_of y)) ≡ one_width s n
-  unfolding selects_width_at
-  one-form (Index' _ i) k = refl
-  one-form (Part' _ a _ b) k = absurd k
-  one-form (PartUp' _ a _ b) k = absurd k
-  one-form (PartDown' _ a _ b) k = absurd k
+  -- one select, of an object o
+  module _ (y : Select) (i : x ≡ One y) (o : Object) (is_o : o ≡ s n) where
+    pub one-narrow : IsSelectNarrow s (select_of y)
+    one-narrow = subst (λ z. AreSelectsNarrow s (selects_of z)) i h
 
-  one-read : (y : Select) → IsSelectNarrow s (select_of y) → selects_at s v n (one (select_of y)) ≡ one_value s v n (index_at s v (select_of y))
-  unfolding selects_at index_at
-  one-read (Index' _ i) k = refl
-  one-read (Part' _ a _ b) k = absurd k
-  one-read (PartUp' _ a _ b) k = absurd k
-  one-read (PartDown' _ a _ b) k = absurd k
+    -- of a memory
+    pub word-width : is_memory o ≡ true → (r : ℕ) → r ≡ named_width s n → r ≡ selects_width_at s n (selects_of x)
+    unfolding selects_width_at
+    word-width m r g =
+        g ∙ sym (ap (λ z. selects_width_at s n (selects_of z)) i ∙ one-word s (s n) (select_of y) (sym (ap is_memory is_o) ∙ m))
 
-  pub one-width : (y : Select) → x ≡ One y → (r : ℕ) → r ≡ one_width s n → r ≡ selects_width_at s n (selects_of x)
-  one-width y i r g =
-      g ∙ sym (ap (λ z. selects_width_at s n (selects_of z)) i ∙ one-form y (subst (λ z. AreSelectsNarrow s (selects_of z)) i h))
+    pub word-value : is_memory o ≡ true → (k : ℤ) → k ≡ index_at s v (select_of y) → (r : ℕ) → r ≡ meaning.word_of (s n) k (v n) → r ≡ selects_at s v n (selects_of x)
+    unfolding selects_at index_at
+    word-value m k is_k r g =
+        g ∙ ap (λ z. meaning.word_of (s n) z (v n)) is_k
+        ∙ sym (ap (λ z. selects_at s v n (selects_of z)) i
+        ∙ ap (λ b. cond b (meaning.word_of (s n) (meaning.select_index s v (select_of y)) (v n)) (meaning.bits_of (meaning.whole_value (s n) (v n)) (meaning.select_bits s v (s n) (select_of y)))) (sym (ap is_memory is_o) ∙ m))
 
-  pub one-value : (y : Select) → x ≡ One y → (k : ℤ) → k ≡ index_at s v (select_of y) → (r : ℕ) → r ≡ one_value s v n k → r ≡ selects_at s v n (selects_of x)
-  one-value y i k is_k r g =
-      g ∙ ap (one_value s v n) is_k ∙ sym (ap (λ z. selects_at s v n (selects_of z)) i ∙ one-read y (subst (λ z. AreSelectsNarrow s (selects_of z)) i h))
+    -- of bits
+    pub one-width : is_memory o ≡ false → IsWidth (taken_at s (select_of y))
+    unfolding selects_width_at
+    one-width m =
+        subst IsWidth (ap (λ z. selects_width_at s n (selects_of z)) i ∙ one-taken s (s n) (select_of y) (sym (ap is_memory is_o) ∙ m)) w
 
-  two-form : (y z : Select) → IsSelectNarrow s (select_of z) → selects_width_at s n (two (select_of y) (select_of z)) ≡ 1
-  unfolding selects_width_at
-  two-form y (Index' _ i) k = refl
-  two-form y (Part' _ a _ b) k = absurd k
-  two-form y (PartUp' _ a _ b) k = absurd k
-  two-form y (PartDown' _ a _ b) k = absurd k
+    pub part-width : is_memory o ≡ false → (b : Bits) → b ≡ bits_at s v o (select_of y) → (r : ℕ) → r ≡ b.count → r ≡ selects_width_at s n (selects_of x)
+    unfolding selects_width_at
+    part-width m b is_b r g =
+        g ∙ count-taken s v o (select_of y) b is_b
+        ∙ sym (ap (λ z. selects_width_at s n (selects_of z)) i ∙ one-taken s (s n) (select_of y) (sym (ap is_memory is_o) ∙ m))
 
-  two-read : (y z : Select) → IsSelectNarrow s (select_of z) → selects_at s v n (two (select_of y) (select_of z)) ≡ two_value s v n (index_at s v (select_of y)) (index_at s v (select_of z))
-  unfolding selects_at index_at
-  two-read y (Index' _ i) k = refl
-  two-read y (Part' _ a _ b) k = absurd k
-  two-read y (PartUp' _ a _ b) k = absurd k
-  two-read y (PartDown' _ a _ b) k = absurd k
+    pub part-value : is_memory o ≡ false → (b : Bits) → b ≡ bits_at s v o (select_of y) → (a : ℕ) → a ≡ named_value s v n → (r : ℕ) → r ≡ meaning.bits_of a b → r ≡ selects_at s v n (selects_of x)
+    unfolding selects_at bits_at
+    part-value m b is_b a is_a r g =
+        g ∙ ap (λ z. meaning.bits_of z b) is_a ∙ ap (meaning.bits_of (meaning.whole_value (s n) (v n))) (is_b ∙ ap (λ z. meaning.select_bits s v z (select_of y)) is_o)
+        ∙ sym (ap (λ z. selects_at s v n (selects_of z)) i
+        ∙ ap (λ b. cond b (meaning.word_of (s n) (meaning.select_index s v (select_of y)) (v n)) (meaning.bits_of (meaning.whole_value (s n) (v n)) (meaning.select_bits s v (s n) (select_of y)))) (sym (ap is_memory is_o) ∙ m))
 
-  pub two-width : (y z : Select) → x ≡ Two y z → (r : ℕ) → r ≡ 1 → r ≡ selects_width_at s n (selects_of x)
-  two-width y z i r g =
-      g ∙ sym (ap (λ a. selects_width_at s n (selects_of a)) i ∙ two-form y z (subst (λ a. AreSelectsNarrow s (selects_of a)) i h).1)
+  -- bits of a word of a memory
+  module _ (z y : Select) (i : x ≡ Two z y) where
+    pub address-narrow : IsSelectNarrow s (select_of z)
+    address-narrow = (subst (λ a. AreSelectsNarrow s (selects_of a)) i h).0
 
-  pub two-value : (y z : Select) → x ≡ Two y z → (k l : ℤ) → k ≡ index_at s v (select_of y) → l ≡ index_at s v (select_of z) → (r : ℕ) → r ≡ two_value s v n k l → r ≡ selects_at s v n (selects_of x)
-  two-value y z i k l is_k is_l r g =
-      g ∙ ap (λ a. two_value s v n a l) is_k ∙ ap (two_value s v n (index_at s v (select_of y))) is_l
-      ∙ sym (ap (λ a. selects_at s v n (selects_of a)) i ∙ two-read y z (subst (λ a. AreSelectsNarrow s (selects_of a)) i h).1)
+    pub two-narrow : IsSelectNarrow s (select_of y)
+    two-narrow = (subst (λ a. AreSelectsNarrow s (selects_of a)) i h).1
 
-pub index-value : (s : Scope) (v : Valuation) (y : Select) (b : Box Expression Global) → y ≡ Index b → (x1 x2 : Expression) → x1 ≡ b.value → x2 ≡ b.value → (w a : ℕ) (t : Bool) → w ≡ width_at s (tree_of x1) → a ≡ self_at s v (tree_of x1) → t ≡ sign_at s (tree_of x2) →
-    (k : ℤ) → k ≡ meaning.integer_from t w a → k ≡ index_at s v (select_of y)
-unfolding index_at width_at self_at sign_at
-index-value s v y b i x1 x2 j1 j2 w a t is_w is_a is_t k is_k =
-    is_k ∙ ap (λ z. meaning.integer_from z w a) (is_t ∙ ap (λ z. sign_at s (tree_of z)) j2)
-    ∙ ap (λ z. meaning.integer_from (sign_at s (tree_of b.value)) z a) (is_w ∙ ap (λ z. width_at s (tree_of z)) j1)
-    ∙ ap (meaning.integer_from (sign_at s (tree_of b.value)) (width_at s (tree_of b.value))) (is_a ∙ ap (λ z. self_at s v (tree_of z)) j1)
-    ∙ sym (ap (λ z. index_at s v (select_of z)) i)
+    pub two-width : IsWidth (taken_at s (select_of y))
+    unfolding selects_width_at
+    two-width = subst IsWidth (ap (λ a. selects_width_at s n (selects_of a)) i ∙ two-taken s (s n) (select_of z) (select_of y)) w
+
+    module _ (o : Object) (is_o : o ≡ s n) (b : Bits) (is_b : b ≡ bits_at s v o (select_of y)) where
+      pub both-width : (r : ℕ) → r ≡ b.count → r ≡ selects_width_at s n (selects_of x)
+      unfolding selects_width_at
+      both-width r g =
+          g ∙ count-taken s v o (select_of y) b is_b ∙ sym (ap (λ a. selects_width_at s n (selects_of a)) i ∙ two-taken s (s n) (select_of z) (select_of y))
+
+      pub both-value : (k : ℤ) → k ≡ index_at s v (select_of z) → (a : ℕ) → a ≡ meaning.word_of (s n) k (v n) → (r : ℕ) → r ≡ meaning.bits_of a b → r ≡ selects_at s v n (selects_of x)
+      unfolding selects_at index_at bits_at
+      both-value k is_k a is_a r g =
+          g ∙ ap (λ c. meaning.bits_of c b) (is_a ∙ ap (λ c. meaning.word_of (s n) c (v n)) is_k)
+          ∙ ap (meaning.bits_of (meaning.word_of (s n) (meaning.select_index s v (select_of z)) (v n))) (is_b ∙ ap (λ c. meaning.select_bits s v c (select_of y)) is_o)
+          ∙ sym (ap (λ a. selects_at s v n (selects_of a)) i)

@@ -51,17 +51,19 @@ selects_at s v n x = meaning.selected s v (s n) (v n) x
 unfoldable pub index_at : Scope → Valuation → pure.Select → ℤ
 index_at s v x = meaning.select_index s v x
 
--- a name with one index: a word of a memory, or a bit
-abbrev pub one_width : Scope → Name → ℕ
-one_width s n = cond (meaning.is_memory (s n)) (meaning.object_width (s n)) 1
+-- the integer that an expression stands for by its own sign, and that of a constant
+unfoldable pub integer_self_at : Scope → Valuation → pure.Expression → ℤ
+integer_self_at s v e = meaning.integer_of s v e
 
-abbrev pub one_value : Scope → Valuation → Name → ℤ → ℕ
-one_value s v n i =
-    cond (meaning.is_memory (s n)) (meaning.word_of (s n) i (v n)) (meaning.bits_of (meaning.whole_value (s n) (v n)) (record { low = meaning.place_of_bit (s n) i; count = 1 }))
+unfoldable pub bound_at : Scope → pure.Expression → ℤ
+bound_at s e = meaning.integer_of s meaning.no_values e
 
--- a bit of a word of a memory
-abbrev pub two_value : Scope → Valuation → Name → ℤ → ℤ → ℕ
-two_value s v n a i = meaning.bits_of (meaning.word_of (s n) a (v n)) (record { low = meaning.place_of_bit (s n) i; count = 1 })
+-- the bits that a select takes of an object, and how many these are, which is the same of each object and by all values
+unfoldable pub bits_at : Scope → Valuation → meaning.Object → pure.Select → meaning.Bits
+bits_at s v o x = meaning.select_bits s v o x
+
+unfoldable pub taken_at : Scope → pure.Select → ℕ
+taken_at s x = (meaning.select_bits s meaning.no_values meaning.undeclared x).count
 
 -- Operators before an operand that has the width w and the value x by itself: the width and value of the whole by itself.
 abbrev pub run_width : List PrefixOperator → ℕ → ℕ

@@ -7,6 +7,7 @@ pub mod Narrow
 pub mod Evaluation
 pub mod Worked
 pub mod Index
+pub mod Parts
 pub mod Places
 pub mod Statements
 pub mod Effects

@@ -1,5 +1,4 @@
 -- Expressions that fit words: no part is wider than 128 bits, and objects and values fit.
--- Part selects are not covered so far: no expression with one of them is narrow.
 use Rattle.std.specs.Prelude.{ℕ, ◌^◌, ◌≤◌, ◌<◌, slice_index, IfSome}
 use Rattle.wb_meaning.specs.Value.{Value, as_number, as_words, Valuation}
 use Rattle.wb_meaning.specs.Verilog.Syntax.{Expression, number, name, concatenation, replication, as_signed, as_unsigned, unary, reduction, binary, shift, power, comparison, logical, conditional, Expressions, no_expressions, expression, Select, index, part, part_up, part_down, Selects, whole, one, two}
@@ -49,12 +48,13 @@ abbrev mutual
   AreNarrow s no_expressions = Unit {0}
   AreNarrow s (expression e es) = IsNarrow s e × AreNarrow s es
 
-  -- of selects by an index; part selects are not covered so far
+  -- Bounds and widths of part selects are constants, read where no net or variable has a value, as the counts of
+  -- replications are. (How many bits a part select takes is among the widths that are looked at.)
   pub IsSelectNarrow : Scope → Select → Type 0
   IsSelectNarrow s (index i) = IsNarrow s i
-  IsSelectNarrow s (part h l) = ⊥
-  IsSelectNarrow s (part_up b n) = ⊥
-  IsSelectNarrow s (part_down b n) = ⊥
+  IsSelectNarrow s (part h l) = HasNarrowObjects s × IsNarrow s h × IsNarrow s l
+  IsSelectNarrow s (part_up b n) = HasNarrowObjects s × IsNarrow s b × IsNarrow s n
+  IsSelectNarrow s (part_down b n) = HasNarrowObjects s × IsNarrow s b × IsNarrow s n
 
   pub AreSelectsNarrow : Scope → Selects → Type 0
   AreSelectsNarrow s whole = Unit {0}

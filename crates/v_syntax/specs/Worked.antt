@@ -1,7 +1,7 @@
 -- Expressions whose values are known, over unsigned a and b and signed s, of 8 bits each.
-use Rattle.std.specs.Prelude.{ℕ, Bool, true, false, [], ◌∷◌, None}
-use Rattle.wb_meaning.specs.Value.{Name, Valuation, valuation_of, number as a_number}
-use Rattle.wb_meaning.specs.Verilog.Syntax.{Expression, number, name, concatenation, replication, unary, minus, binary, add, divide, modulo, power, shift, right, arithmetic_right, comparison, less, no_expressions, expression, whole}
+use Rattle.std.specs.Prelude.{ℕ, Bool, true, false, [], ◌∷◌, Some, None}
+use Rattle.wb_meaning.specs.Value.{Name, Valuation, valuation_of, number as a_number, words}
+use Rattle.wb_meaning.specs.Verilog.Syntax.{Expression, number, name, concatenation, replication, unary, minus, binary, add, divide, modulo, power, shift, right, arithmetic_right, comparison, less, no_expressions, expression, index, part, part_up, part_down, Select, whole, one as one_select, two as two_selects}
 use Rattle.wb_meaning.specs.Verilog.Expression.{Object, Scope, scope_of}
 
 abbrev byte : Bool → Object
@@ -77,3 +77,50 @@ half_part = shift arithmetic_right (concatenation (expression (name s whole) no_
 -- -x < 1
 abbrev pub minus_is_below : Expression → Expression
 minus_is_below x = comparison less (unary minus x) one
+
+-- v of bits [7:0], u of bits [0:7], a memory m of words [0:1] with bits [7:0], and a parameter p of 8 bits
+abbrev v : Name
+v = 118 ∷ []
+
+abbrev u : Name
+u = 117 ∷ []
+
+abbrev m : Name
+m = 109 ∷ []
+
+abbrev p : Name
+p = 112 ∷ []
+
+abbrev pub part_names : Scope
+part_names = scope_of ((v, byte false) ∷ ((u, record { signed = false; left = 0; right = 7; addresses = None; constant = None }) ∷ ((m, record { signed = false; left = 7; right = 0; addresses = Some (0, 1); constant = None }) ∷ ((p, record { signed = false; left = 7; right = 0; addresses = None; constant = Some 165 }) ∷ []))))
+
+-- v and u are 8'hA5, which is 8'b10100101, and m[1] is 8'h2D, which is 8'b00101101.
+abbrev pub part_values : Valuation
+part_values = valuation_of ((v, a_number 165) ∷ ((u, a_number 165) ∷ ((m, words (0 ∷ (45 ∷ []))) ∷ [])))
+
+-- x of v, of u, of p and of m[1]
+abbrev pub of_v : Select → Expression
+of_v x = name v (one_select x)
+
+abbrev pub of_u : Select → Expression
+of_u x = name u (one_select x)
+
+abbrev pub of_p : Select → Expression
+of_p x = name p (one_select x)
+
+abbrev pub of_word : Select → Expression
+of_word x = name m (two_selects (index one) x)
+
+-- [h:l], [x +: n] and [x -: n]
+abbrev pub part_of : ℕ → ℕ → Select
+part_of h l = part (byte_of h) (byte_of l)
+
+abbrev pub up_from : Expression → ℕ → Select
+up_from x n = part_up x (byte_of n)
+
+abbrev pub down_from : Expression → ℕ → Select
+down_from x n = part_down x (byte_of n)
+
+-- -1
+abbrev pub minus_one : Expression
+minus_one = unary minus one

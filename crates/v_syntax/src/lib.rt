@@ -6,12 +6,15 @@ mod choice;
 mod evaluation;
 pub mod expression;
 pub mod module;
+#[cfg(test)]
+mod parts;
 pub mod place;
 pub mod register;
 pub mod scope;
-mod select;
+pub mod select;
 pub mod sign;
 pub mod statement;
+pub mod taken;
 pub mod target;
 pub mod tree;
 mod value;

@@ -4,18 +4,18 @@ ghost use Rattle.wb_meaning.specs.Verilog.Expression.{widened};
 ghost use Rattle.wb_meaning.specs.Verilog.Expression as meaning;
 ghost use Rattle.v_syntax.specs.Index.{integer_at};
 ghost use Rattle.v_syntax.specs.Scope.{scope_at, valuation_at};
-ghost use Rattle.v_syntax.specs.Tree.{tree_of, select_of, selects_of, expressions_of};
-ghost use Rattle.v_syntax.specs.Narrow.{IsNarrow, AreNarrow, IsSelectNarrow, AreSelectsNarrow, HasNarrowObjects, HasFittingValues, IsReady};
+ghost use Rattle.v_syntax.specs.Tree.{tree_of, selects_of, expressions_of};
+ghost use Rattle.v_syntax.specs.Narrow.{IsWidth, IsNarrow, AreNarrow, AreSelectsNarrow, HasNarrowObjects, HasFittingValues, IsReady};
 ghost use Rattle.v_syntax.specs.Chain.{has_reduction, leaves_to_left, AreLinksNarrow, AreTestsNarrow, AreChoicesNarrow};
-ghost use Rattle.v_syntax.specs.Evaluation.{named_width, named_value, selects_width_at, selects_at, index_at, one_width, one_value, two_value, count_at, width_at, value_at, self_at, links_value, AreLinksWithin, applied, run_width, run_value, prefixes_value, is_logical, context_width, context_sign, said, compared_said, tests_value, sign_at, choices_value, AreChoicesWithin, parts_value, parts_width};
+ghost use Rattle.v_syntax.specs.Evaluation.{named_width, named_value, selects_width_at, selects_at, count_at, width_at, value_at, self_at, links_value, AreLinksWithin, applied, run_width, run_value, prefixes_value, is_logical, context_width, context_sign, said, compared_said, tests_value, sign_at, choices_value, AreChoicesWithin, parts_value, parts_width};
 
 use crate::arithmetic::natural;
 use crate::scope::{Entry, Scope, number_at, word_at};
-use crate::select::{Integer, indexed_bit, integer_of, word_number};
+use crate::select::{Integer, bits_of, word_number};
 use crate::sign::{is_reduction, leaves_to_left, reduces, sign_of};
+use crate::taken::{index_of, taken_by};
 use crate::tree::{
-    BinaryLink, BinaryOperator, Choice, Expression, PrefixOperator, Select, Selects, TestLink,
-    TestOperator,
+    BinaryLink, BinaryOperator, Choice, Expression, PrefixOperator, Selects, TestLink, TestOperator,
 };
 use crate::width::{object_width, width_of};
 use crate::word;
@@ -45,45 +45,18 @@ fn addressed_word(values: &[Entry<'_>], name: &str, addresses: (u32, u32), addre
     }
 }
 
-/// What a name with one index reads: a word of a memory, or a bit.
-fn one_selected(scope: &Scope<'_>, values: &[Entry<'_>], name: &str, index: Integer) -> Word
+/// The word of a memory with this address, with the memory's width.
+fn memory_word(scope: &Scope<'_>, values: &[Entry<'_>], name: &str, address: Integer) -> Word
     requires ready { IsReady (scope_at scope.now) (valuation_at values.now) }
-    ensures width { result.width ≡ one_width (scope_at scope.now) name.now }
-    ensures value { result.value ≡ one_value (scope_at scope.now) (valuation_at values.now) name.now (integer_at index) }
+    ensures width { result.width ≡ named_width (scope_at scope.now) name.now }
+    ensures value { result.value ≡ meaning.word_of (scope_at scope.now name.now) (integer_at address) (valuation_at values.now name.now) }
 {
     let object = scope.object(name);
-    match object.addresses {
-        Some(addresses) => Word::new(
-            object_width(object),
-            addressed_word(values, name, addresses, index),
-        ),
-        None => Word::new(
-            1,
-            indexed_bit(object, index, named_value(scope, values, name).value),
-        ),
-    }
-}
-
-/// What a name with two indexes reads: a bit of a word of a memory.
-fn two_selected(
-    scope: &Scope<'_>,
-    values: &[Entry<'_>],
-    name: &str,
-    address: Integer,
-    index: Integer,
-) -> Word
-    requires ready { IsReady (scope_at scope.now) (valuation_at values.now) }
-    ensures width { result.width ≡ 1 }
-    ensures value { result.value ≡ two_value (scope_at scope.now) (valuation_at values.now) name.now (integer_at address) (integer_at index) }
-{
-    let object = scope.object(name);
-    match object.addresses {
-        Some(addresses) => {
-            let word = addressed_word(values, name, addresses, address);
-            Word::new(1, indexed_bit(object, index, word))
-        }
-        None => Word::new(1, indexed_bit(object, index, 0)),
-    }
+    let word = match object.addresses {
+        Some(addresses) => addressed_word(values, name, addresses, address),
+        None => 0,
+    };
+    Word::new(object_width(object), word)
 }
 
 /// A word widened to `width` bits, with its sign bit where the whole is signed.
@@ -174,7 +147,7 @@ fn operand_width(scope: &Scope<'_>, operand: &Expression<'_>) -> u32
 }
 
 /// The sign of an expression.
-fn operand_sign(scope: &Scope<'_>, operand: &Expression<'_>) -> bool
+pub(crate) fn operand_sign(scope: &Scope<'_>, operand: &Expression<'_>) -> bool
     ensures { result ≡ sign_at (scope_at scope.now) (tree_of operand.now) }
 {
     sign_of(scope, operand)
@@ -297,7 +270,11 @@ fn value_in(
 
 /// The expression by itself.
 #[cycle(value)]
-fn self_value(scope: &Scope<'_>, values: &[Entry<'_>], expression: &Expression<'_>) -> Word
+pub(crate) fn self_value(
+    scope: &Scope<'_>,
+    values: &[Entry<'_>],
+    expression: &Expression<'_>,
+) -> Word
     requires ready { IsReady (scope_at scope.now) (valuation_at values.now) }
     requires narrow { IsNarrow (scope_at scope.now) (tree_of expression.now) }
     ensures width { result.width ≡ width_at (scope_at scope.now) (tree_of expression.now) }
@@ -326,33 +303,25 @@ pub(crate) fn constant_of(scope: &Scope<'_>, expression: &Expression<'_>) -> u12
 fn named(scope: &Scope<'_>, values: &[Entry<'_>], name: &str, selects: &Selects<'_>) -> Word
     requires ready { IsReady (scope_at scope.now) (valuation_at values.now) }
     requires narrow { AreSelectsNarrow (scope_at scope.now) (selects_of selects.now) }
+    requires width { IsWidth (selects_width_at (scope_at scope.now) name.now (selects_of selects.now)) }
     ensures width { result.width ≡ selects_width_at (scope_at scope.now) name.now (selects_of selects.now) }
     ensures value { result.value ≡ selects_at (scope_at scope.now) (valuation_at values.now) name.now (selects_of selects.now) }
 {
+    let object = scope.object(name);
     match selects {
         Selects::Whole => named_value(scope, values, name),
-        Selects::One(select) => one_selected(scope, values, name, index_of(scope, values, select)),
-        Selects::Two(first, second) => {
-            let address = index_of(scope, values, first);
-            let index = index_of(scope, values, second);
-            two_selected(scope, values, name, address, index)
+        Selects::One(select) => {
+            if object.addresses.is_some() {
+                memory_word(scope, values, name, index_of(scope, values, select))
+            } else {
+                let whole = named_value(scope, values, name);
+                bits_of(whole.value, taken_by(scope, values, object, select))
+            }
         }
-    }
-}
-
-/// The integer that an index stands for, by its own sign.
-#[cycle(value)]
-fn index_of(scope: &Scope<'_>, values: &[Entry<'_>], select: &Select<'_>) -> Integer
-    requires ready { IsReady (scope_at scope.now) (valuation_at values.now) }
-    requires narrow { IsSelectNarrow (scope_at scope.now) (select_of select.now) }
-    ensures { integer_at result ≡ index_at (scope_at scope.now) (valuation_at values.now) (select_of select.now) }
-{
-    match select {
-        Select::Index(index) => {
-            let word = self_value(scope, values, index);
-            integer_of(word, operand_sign(scope, index))
+        Selects::Two(address, select) => {
+            let word = memory_word(scope, values, name, index_of(scope, values, address));
+            bits_of(word.value, taken_by(scope, values, object, select))
         }
-        _ => unreachable!(),
     }
 }
 

@@ -8,6 +8,7 @@ ghost use Rattle.v_syntax.specs.Chain.{has_reduction, has_no_link, links_width, 
 
 use crate::scope::{Object, Scope};
 use crate::sign::{leaves_to_left, reduces};
+use crate::taken::count_of;
 use crate::tree::{BinaryLink, Choice, Expression, PrefixOperator, Selects, TestLink};
 use crate::value::constant_of;
 
@@ -17,25 +18,6 @@ pub(crate) fn object_width(object: Object) -> u32
     ensures { result ≡ object_width (object_of object) }
 {
     object.left.max(object.right) - object.left.min(object.right) + 1
-}
-
-/// How many bits selects by an index read of an object: a word of a memory is read whole.
-fn selected_width(_scope: &Scope<'_>, object: Object, selects: &Selects<'_>) -> u32
-    requires narrow { AreSelectsNarrow (scope_at _scope.now) (selects_of selects.now) }
-    requires at_most_128 { selects_width (scope_at _scope.now) (object_of object) (selects_of selects.now) ≤ 128 }
-    ensures { result ≡ selects_width (scope_at _scope.now) (object_of object) (selects_of selects.now) }
-{
-    match selects {
-        Selects::Whole => object_width(object),
-        Selects::One(_) => {
-            if object.addresses.is_some() {
-                object_width(object)
-            } else {
-                1
-            }
-        }
-        Selects::Two(_, _) => 1,
-    }
 }
 
 /// The width of a chain of tests whose first operand has this width.
@@ -87,6 +69,26 @@ pub fn width_of(scope: &Scope<'_>, expression: &Expression<'_>) -> u32
             choices,
             width_of(scope, last),
         ),
+    }
+}
+
+/// How many bits selects read of an object: a word of a memory is read whole.
+#[cycle(value)]
+fn selected_width(scope: &Scope<'_>, object: Object, selects: &Selects<'_>) -> u32
+    requires narrow { AreSelectsNarrow (scope_at scope.now) (selects_of selects.now) }
+    requires at_most_128 { selects_width (scope_at scope.now) (object_of object) (selects_of selects.now) ≤ 128 }
+    ensures { result ≡ selects_width (scope_at scope.now) (object_of object) (selects_of selects.now) }
+{
+    match selects {
+        Selects::Whole => object_width(object),
+        Selects::One(select) => {
+            if object.addresses.is_some() {
+                object_width(object)
+            } else {
+                count_of(scope, select)
+            }
+        }
+        Selects::Two(_, select) => count_of(scope, select),
     }
 }
 

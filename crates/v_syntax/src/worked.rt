@@ -48,3 +48,28 @@ pub fn replications()
     ensures alone { self_value worked.names worked.no_operands (worked.copies_of (worked.byte_of 3) worked.two_bits) ≡ 42 }
     ensures widened { assigned_value worked.names worked.no_operands 9 (worked.copies_of (worked.byte_of 3) worked.two_bits) ≡ 42 }
 {}
+
+/// Of `v = 8'hA5` over `[7:0]`: `v[7:4] = 10`, `v[3:0] = 5`, `v[2 +: 4] = 9` and `v[5 -: 4] = 9`. Bits out of range read 0.
+pub fn parts()
+    ensures high { self_value worked.part_names worked.part_values (worked.of_v (worked.part_of 7 4)) ≡ 10 }
+    ensures low { self_value worked.part_names worked.part_values (worked.of_v (worked.part_of 3 0)) ≡ 5 }
+    ensures above { self_value worked.part_names worked.part_values (worked.of_v (worked.part_of 9 6)) ≡ 2 }
+    ensures upward { self_value worked.part_names worked.part_values (worked.of_v (worked.up_from (worked.byte_of 2) 4)) ≡ 9 }
+    ensures downward { self_value worked.part_names worked.part_values (worked.of_v (worked.down_from (worked.byte_of 5) 4)) ≡ 9 }
+    ensures below { self_value worked.part_names worked.part_values (worked.of_v (worked.up_from worked.minus_one 2)) ≡ 2 }
+    ensures parameter { self_value worked.part_names worked.part_values (worked.of_p (worked.part_of 7 4)) ≡ 10 }
+{}
+
+/// Of `u = 8'hA5` over `[0:7]`: `u[0:3] = 10`, `u[2 +: 4] = 9`, `u[5 -: 4] = 9`, and `u[6 +: 4] = 4`, of which two bits are out of range.
+pub fn ascending_parts()
+    ensures high { self_value worked.part_names worked.part_values (worked.of_u (worked.part_of 0 3)) ≡ 10 }
+    ensures upward { self_value worked.part_names worked.part_values (worked.of_u (worked.up_from (worked.byte_of 2) 4)) ≡ 9 }
+    ensures downward { self_value worked.part_names worked.part_values (worked.of_u (worked.down_from (worked.byte_of 5) 4)) ≡ 9 }
+    ensures past { self_value worked.part_names worked.part_values (worked.of_u (worked.up_from (worked.byte_of 6) 4)) ≡ 4 }
+{}
+
+/// Of a memory with `m[1] = 8'h2D`: `m[1][6:3] = 5` and `m[1][2 +: 3] = 3`.
+pub fn word_parts()
+    ensures part { self_value worked.part_names worked.part_values (worked.of_word (worked.part_of 6 3)) ≡ 5 }
+    ensures upward { self_value worked.part_names worked.part_values (worked.of_word (worked.up_from (worked.byte_of 2) 3)) ≡ 3 }
+{}

@@ -1,12 +1,13 @@
 use Rattle.std.proofs.Common.{◌≤◌, ◌<◌, ◌^◌, ◌∙◌, ◌+◌, drop, ap, sym, subst, rules, arith}
-use Rattle.v_syntax.specs.Scope.{scope_at, valuation_at}
-use Rattle.v_syntax.specs.Tree.{tree_of, expressions_of}
+use Rattle.v_syntax.specs.Scope.{object_of, scope_at, valuation_at}
+use Rattle.v_syntax.specs.Tree.{tree_of, select_of, expressions_of}
 use Rattle.v_syntax.specs.Evaluation.{width_at, value_at, context_width, parts_width, parts_value}
 use Rattle.v_syntax.specs.declared.tree.Expression.{the_lemmas}
 use Rattle.v_syntax.proofs.Arms as arms
 use Rattle.v_syntax.proofs.Steps as steps
 use Rattle.v_syntax.proofs.Selected as selected
-use Rattle.v_syntax.specs.Index.{integer_at}
+use Rattle.v_syntax.proofs.Taking as taking
+use Rattle.v_syntax.specs.Index.{integer_at, span_of}
 use Rattle.v_syntax.proofs.Values.{self_is, count-value}
 use Rattle.wb_meaning.specs.Verilog.Expression.{widths_of}
 use Rattle.v_syntax.specs.Narrow.{IsNarrow, AreNarrow}
@@ -148,35 +149,15 @@ value::tests_value-loop-link-preserved t c =
 
 pub value::value_in-named-requires : goal.value::value_in-named-requires
 value::value_in-named-requires t c =
-    (search (rules, the_lemmas), (c.requires.ready, arms.name-narrow (scope_at c.args.scope.now) (valuation_at c.args.values.now) c.args.expression.now c.args.width c.args.signed 0 c.requires.narrow c.requires.within c.in-Name.name c.in-Name.selects c.in-Name.is))
+    (search (rules, the_lemmas), (c.requires.ready, (arms.name-narrow (scope_at c.args.scope.now) (valuation_at c.args.values.now) c.args.expression.now c.args.width c.args.signed 0 c.requires.narrow c.requires.within c.in-Name.name c.in-Name.selects c.in-Name.is, arms.name-width (scope_at c.args.scope.now) (valuation_at c.args.values.now) c.args.expression.now c.args.width c.args.signed 0 c.requires.narrow c.requires.within c.in-Name.name c.in-Name.selects c.in-Name.is)))
 
 pub value::named-returns-in-Whole-clause-width : goal.value::named-returns-in-Whole-clause-width
 value::named-returns-in-Whole-clause-width t c =
-    selected.whole-width (scope_at c.args.scope.now) (valuation_at c.args.values.now) c.args.name.now c.args.selects.now c.requires.1.1.1 c.in-Whole.is c.named_value.result.width c.named_value.ensures.width
+    selected.whole-width (scope_at c.args.scope.now) (valuation_at c.args.values.now) c.args.name.now c.args.selects.now c.requires.1.1.1.0 c.requires.1.1.1.1 c.in-Whole.is c.named_value.result.width c.named_value.ensures.width
 
 pub value::named-returns-in-Whole-clause-value : goal.value::named-returns-in-Whole-clause-value
 value::named-returns-in-Whole-clause-value t c =
-    selected.whole-value (scope_at c.args.scope.now) (valuation_at c.args.values.now) c.args.name.now c.args.selects.now c.requires.1.1.1 c.in-Whole.is c.named_value.result.value c.named_value.ensures.value
-
-pub value::named-returns-in-One-clause-width : goal.value::named-returns-in-One-clause-width
-value::named-returns-in-One-clause-width t c =
-    selected.one-width (scope_at c.args.scope.now) (valuation_at c.args.values.now) c.args.name.now c.args.selects.now c.requires.1.1.1 c.in-One.select c.in-One.is c.one_selected.result.width c.one_selected.ensures.width
-
-pub value::named-returns-in-One-clause-value : goal.value::named-returns-in-One-clause-value
-value::named-returns-in-One-clause-value t c =
-    selected.one-value (scope_at c.args.scope.now) (valuation_at c.args.values.now) c.args.name.now c.args.selects.now c.requires.1.1.1 c.in-One.select c.in-One.is (integer_at c.index_of.result) c.index_of.ensures c.one_selected.result.value c.one_selected.ensures.value
-
-pub value::named-returns-in-Two-clause-width : goal.value::named-returns-in-Two-clause-width
-value::named-returns-in-Two-clause-width t c =
-    selected.two-width (scope_at c.args.scope.now) (valuation_at c.args.values.now) c.args.name.now c.args.selects.now c.requires.1.1.1 c.in-Two.first c.in-Two.second c.in-Two.is c.two_selected.result.width c.two_selected.ensures.width
-
-pub value::named-returns-in-Two-clause-value : goal.value::named-returns-in-Two-clause-value
-value::named-returns-in-Two-clause-value t c =
-    selected.two-value (scope_at c.args.scope.now) (valuation_at c.args.values.now) c.args.name.now c.args.selects.now c.requires.1.1.1 c.in-Two.first c.in-Two.second c.in-Two.is (integer_at c.index_of-address.result) (integer_at c.index_of-index.result) c.index_of-address.ensures c.index_of-index.ensures c.two_selected.result.value c.two_selected.ensures.value
-
-pub value::index_of-returns : goal.value::index_of-returns
-value::index_of-returns t c =
-    selected.index-value (scope_at c.args.scope.now) (valuation_at c.args.values.now) c.args.select.now c.in-Index.index c.in-Index.is c.deref.result.now c.deref-in-Index.result.now c.deref.ensures c.deref-in-Index.ensures c.self_value-word.result.width c.self_value-word.result.value c.operand_sign.result c.self_value-word.ensures.width c.self_value-word.ensures.value c.operand_sign.ensures (integer_at c.integer_of.result) c.integer_of.ensures
+    selected.whole-value (scope_at c.args.scope.now) (valuation_at c.args.values.now) c.args.name.now c.args.selects.now c.requires.1.1.1.0 c.requires.1.1.1.1 c.in-Whole.is c.named_value.result.value c.named_value.ensures.value
 
 pub width::width_of-parts_width-requires : goal.width::width_of-parts_width-requires
 width::width_of-parts_width-requires t c =
@@ -293,3 +274,135 @@ width::width_of-repeated_width-requires t c =
 pub width::width_of-returns-in-Replication : goal.width::width_of-returns-in-Replication
 width::width_of-returns-in-Replication t c =
     widths.at-Replication (scope_at c.args.scope.now) c.args.expression.now c.in-Replication.count c.in-Replication.parts c.in-Replication.is c.deref-in-Replication.result.now c.deref-in-Replication.ensures c.constant_of.result c.constant_of.ensures c.deref-in-Replication-2.result.now c.deref-in-Replication-2.ensures.value c.parts_width-in-Replication.result c.parts_width-in-Replication.ensures c.repeated_width.result c.repeated_width.ensures
+
+pub taken::integer_by_itself-returns-clause-value : goal.taken::integer_by_itself-returns-clause-value
+taken::integer_by_itself-returns-clause-value t c =
+    taking.integer-value (scope_at c.args.scope.now) (valuation_at c.args.values.now) (tree_of c.args.expression.now) c.operand_sign.result c.self_value-word.result.width c.self_value-word.result.value c.operand_sign.ensures c.self_value-word.ensures.width c.self_value-word.ensures.value (integer_at c.integer_of.result) c.integer_of.ensures.value
+
+pub taken::bound_of-returns-clause-value : goal.taken::bound_of-returns-clause-value
+taken::bound_of-returns-clause-value t c =
+    taking.bound-value (scope_at c.args.scope.now) (tree_of c.args.expression.now) (integer_at c.integer_by_itself.result) c.integer_by_itself.ensures.value
+
+pub taken::index_of-returns-in-Index : goal.taken::index_of-returns-in-Index
+taken::index_of-returns-in-Index t c =
+    taking.index-value (scope_at c.args.scope.now) c.args.select.now c.in-Index.index c.in-Index.is (valuation_at c.args.values.now) c.deref.result.now c.deref.ensures (integer_at c.integer_by_itself.result) c.integer_by_itself.ensures.value
+
+pub taken::index_of-returns-in-Part : goal.taken::index_of-returns-in-Part
+taken::index_of-returns-in-Part t c =
+    taking.no_index-Part (scope_at c.args.scope.now) c.args.select.now c.in-Part.field-0 c.in-Part.field-1 c.in-Part.is (valuation_at c.args.values.now) (integer_at c.no_index.result) c.no_index.ensures
+
+pub taken::index_of-returns-in-PartUp : goal.taken::index_of-returns-in-PartUp
+taken::index_of-returns-in-PartUp t c =
+    taking.no_index-PartUp (scope_at c.args.scope.now) c.args.select.now c.in-PartUp.field-0 c.in-PartUp.field-1 c.in-PartUp.is (valuation_at c.args.values.now) (integer_at c.no_index-in-PartUp.result) c.no_index-in-PartUp.ensures
+
+pub taken::index_of-returns-in-PartDown : goal.taken::index_of-returns-in-PartDown
+taken::index_of-returns-in-PartDown t c =
+    taking.no_index-PartDown (scope_at c.args.scope.now) c.args.select.now c.in-PartDown.field-0 c.in-PartDown.field-1 c.in-PartDown.is (valuation_at c.args.values.now) (integer_at c.no_index-in-PartDown.result) c.no_index-in-PartDown.ensures
+
+pub taken::count_of-count_between-requires : goal.taken::count_of-count_between-requires
+taken::count_of-count_between-requires t c =
+    taking.part-most (scope_at c.args.scope.now) c.args.select.now c.in-Part.left c.in-Part.right c.in-Part.is c.deref.result.now c.deref-in-Part.result.now c.deref.ensures c.deref-in-Part.ensures (integer_at c.bound_of.result) (integer_at c.bound_of-in-Part.result) c.bound_of.ensures.value c.bound_of-in-Part.ensures.value c.requires.at_most_128
+
+pub taken::count_of-overflow_cast-result : goal.taken::count_of-overflow_cast-result
+taken::count_of-overflow_cast-result t c =
+    omega (arith, taking.up-count (scope_at c.args.scope.now) c.args.select.now c.in-PartUp.field-0 c.in-PartUp.count c.in-PartUp.is c.deref-in-PartUp.result.now c.deref-in-PartUp.ensures c.constant_of.result c.constant_of.ensures, c.requires.at_most_128)
+
+pub taken::count_of-overflow_cast-result-in-PartDown : goal.taken::count_of-overflow_cast-result-in-PartDown
+taken::count_of-overflow_cast-result-in-PartDown t c =
+    omega (arith, taking.down-count (scope_at c.args.scope.now) c.args.select.now c.in-PartDown.field-0 c.in-PartDown.count c.in-PartDown.is c.deref-in-PartDown.result.now c.deref-in-PartDown.ensures c.constant_of-in-PartDown.result c.constant_of-in-PartDown.ensures, c.requires.at_most_128)
+
+pub taken::count_of-returns-in-Index : goal.taken::count_of-returns-in-Index
+taken::count_of-returns-in-Index t c =
+    taking.index-count (scope_at c.args.scope.now) c.args.select.now c.in-Index.field-0 c.in-Index.is
+
+pub taken::count_of-returns-in-Part : goal.taken::count_of-returns-in-Part
+taken::count_of-returns-in-Part t c =
+    taking.part-count (scope_at c.args.scope.now) c.args.select.now c.in-Part.left c.in-Part.right c.in-Part.is c.deref.result.now c.deref-in-Part.result.now c.deref.ensures c.deref-in-Part.ensures (integer_at c.bound_of.result) (integer_at c.bound_of-in-Part.result) c.bound_of.ensures.value c.bound_of-in-Part.ensures.value c.count_between.result c.count_between.ensures
+
+pub taken::count_of-returns-in-PartUp : goal.taken::count_of-returns-in-PartUp
+taken::count_of-returns-in-PartUp t c =
+    taking.up-count (scope_at c.args.scope.now) c.args.select.now c.in-PartUp.field-0 c.in-PartUp.count c.in-PartUp.is c.deref-in-PartUp.result.now c.deref-in-PartUp.ensures c.constant_of.result c.constant_of.ensures
+
+pub taken::count_of-returns-in-PartDown : goal.taken::count_of-returns-in-PartDown
+taken::count_of-returns-in-PartDown t c =
+    taking.down-count (scope_at c.args.scope.now) c.args.select.now c.in-PartDown.field-0 c.in-PartDown.count c.in-PartDown.is c.deref-in-PartDown.result.now c.deref-in-PartDown.ensures c.constant_of-in-PartDown.result c.constant_of-in-PartDown.ensures
+
+pub taken::taken_by-returns-in-Index : goal.taken::taken_by-returns-in-Index
+taken::taken_by-returns-in-Index t c =
+    taking.index-bits (scope_at c.args.scope.now) c.args.select.now c.in-Index.index c.in-Index.is (valuation_at c.args.values.now) (object_of c.args.object) c.deref.result.now c.deref.ensures (integer_at c.integer_by_itself.result) c.integer_by_itself.ensures.value c.count_of-count.result c.count_of-count.ensures (span_of c.bits_from_index.result) c.bits_from_index.ensures
+
+pub taken::taken_by-returns-in-Part : goal.taken::taken_by-returns-in-Part
+taken::taken_by-returns-in-Part t c =
+    taking.part-bits (scope_at c.args.scope.now) c.args.select.now c.in-Part.field-0 c.in-Part.right c.in-Part.is (valuation_at c.args.values.now) (object_of c.args.object) c.deref-in-Part.result.now c.deref-in-Part.ensures (integer_at c.bound_of.result) c.bound_of.ensures.value c.count_of-count.result c.count_of-count.ensures (span_of c.bits_from_index-in-Part.result) c.bits_from_index-in-Part.ensures
+
+pub taken::taken_by-returns-in-PartUp : goal.taken::taken_by-returns-in-PartUp
+taken::taken_by-returns-in-PartUp t c =
+    taking.up-bits (scope_at c.args.scope.now) c.args.select.now c.in-PartUp.base c.in-PartUp.field-1 c.in-PartUp.is (valuation_at c.args.values.now) (object_of c.args.object) c.deref-in-PartUp.result.now c.deref-in-PartUp.ensures (integer_at c.integer_by_itself-in-PartUp.result) c.integer_by_itself-in-PartUp.ensures.value c.count_of-count.result c.count_of-count.ensures (span_of c.bits_upward.result) c.bits_upward.ensures
+
+pub taken::taken_by-returns-in-PartDown : goal.taken::taken_by-returns-in-PartDown
+taken::taken_by-returns-in-PartDown t c =
+    taking.down-bits (scope_at c.args.scope.now) c.args.select.now c.in-PartDown.base c.in-PartDown.field-1 c.in-PartDown.is (valuation_at c.args.values.now) (object_of c.args.object) c.deref-in-PartDown.result.now c.deref-in-PartDown.ensures (integer_at c.integer_by_itself-in-PartDown.result) c.integer_by_itself-in-PartDown.ensures.value c.count_of-count.result c.count_of-count.ensures (span_of c.bits_downward.result) c.bits_downward.ensures
+
+pub value::named-taken_by-requires : goal.value::named-taken_by-requires
+value::named-taken_by-requires t c =
+    (search (rules, the_lemmas), (c.requires.1.1.0, (selected.one-narrow (scope_at c.args.scope.now) (valuation_at c.args.values.now) c.args.name.now c.args.selects.now c.requires.1.1.1.0 c.requires.1.1.1.1 c.in-One.select c.in-One.is (object_of c.object-object.result) c.object-object.ensures, selected.one-width (scope_at c.args.scope.now) (valuation_at c.args.values.now) c.args.name.now c.args.selects.now c.requires.1.1.1.0 c.requires.1.1.1.1 c.in-One.select c.in-One.is (object_of c.object-object.result) c.object-object.ensures (sym c.is_some.ensures ∙ c.if-is_some.false))))
+
+pub value::named-bits_of-requires-clause-some_bits : goal.value::named-bits_of-requires-clause-some_bits
+value::named-bits_of-requires-clause-some_bits t c =
+    (selected.taken-width (scope_at c.args.scope.now) (valuation_at c.args.values.now) (object_of c.object-object.result) (select_of c.in-One.select) (span_of c.taken_by.result) c.taken_by.ensures (selected.one-width (scope_at c.args.scope.now) (valuation_at c.args.values.now) c.args.name.now c.args.selects.now c.requires.1.1.1.0 c.requires.1.1.1.1 c.in-One.select c.in-One.is (object_of c.object-object.result) c.object-object.ensures (sym c.is_some.ensures ∙ c.if-is_some.false))).0
+
+pub value::named-bits_of-requires-clause-at_most_128 : goal.value::named-bits_of-requires-clause-at_most_128
+value::named-bits_of-requires-clause-at_most_128 t c =
+    (selected.taken-width (scope_at c.args.scope.now) (valuation_at c.args.values.now) (object_of c.object-object.result) (select_of c.in-One.select) (span_of c.taken_by.result) c.taken_by.ensures (selected.one-width (scope_at c.args.scope.now) (valuation_at c.args.values.now) c.args.name.now c.args.selects.now c.requires.1.1.1.0 c.requires.1.1.1.1 c.in-One.select c.in-One.is (object_of c.object-object.result) c.object-object.ensures (sym c.is_some.ensures ∙ c.if-is_some.false))).1
+
+pub value::named-taken_by-requires-in-Two : goal.value::named-taken_by-requires-in-Two
+value::named-taken_by-requires-in-Two t c =
+    (search (rules, the_lemmas), (c.requires.1.1.0, (selected.two-narrow (scope_at c.args.scope.now) (valuation_at c.args.values.now) c.args.name.now c.args.selects.now c.requires.1.1.1.0 c.requires.1.1.1.1 c.in-Two.address c.in-Two.select c.in-Two.is, selected.two-width (scope_at c.args.scope.now) (valuation_at c.args.values.now) c.args.name.now c.args.selects.now c.requires.1.1.1.0 c.requires.1.1.1.1 c.in-Two.address c.in-Two.select c.in-Two.is)))
+
+pub value::named-bits_of-requires-in-Two-clause-some_bits : goal.value::named-bits_of-requires-in-Two-clause-some_bits
+value::named-bits_of-requires-in-Two-clause-some_bits t c =
+    (selected.taken-width (scope_at c.args.scope.now) (valuation_at c.args.values.now) (object_of c.object-object.result) (select_of c.in-Two.select) (span_of c.taken_by-in-Two.result) c.taken_by-in-Two.ensures (selected.two-width (scope_at c.args.scope.now) (valuation_at c.args.values.now) c.args.name.now c.args.selects.now c.requires.1.1.1.0 c.requires.1.1.1.1 c.in-Two.address c.in-Two.select c.in-Two.is)).0
+
+pub value::named-bits_of-requires-in-Two-clause-at_most_128 : goal.value::named-bits_of-requires-in-Two-clause-at_most_128
+value::named-bits_of-requires-in-Two-clause-at_most_128 t c =
+    (selected.taken-width (scope_at c.args.scope.now) (valuation_at c.args.values.now) (object_of c.object-object.result) (select_of c.in-Two.select) (span_of c.taken_by-in-Two.result) c.taken_by-in-Two.ensures (selected.two-width (scope_at c.args.scope.now) (valuation_at c.args.values.now) c.args.name.now c.args.selects.now c.requires.1.1.1.0 c.requires.1.1.1.1 c.in-Two.address c.in-Two.select c.in-Two.is)).1
+
+pub value::named-returns-then-is_some-clause-width : goal.value::named-returns-then-is_some-clause-width
+value::named-returns-then-is_some-clause-width t c =
+    selected.word-width (scope_at c.args.scope.now) (valuation_at c.args.values.now) c.args.name.now c.args.selects.now c.requires.1.1.1.0 c.requires.1.1.1.1 c.in-One.select c.in-One.is (object_of c.object-object.result) c.object-object.ensures (sym c.is_some.ensures ∙ c.if-is_some.true) c.memory_word.result.width c.memory_word.ensures.width
+
+pub value::named-returns-then-is_some-clause-value : goal.value::named-returns-then-is_some-clause-value
+value::named-returns-then-is_some-clause-value t c =
+    selected.word-value (scope_at c.args.scope.now) (valuation_at c.args.values.now) c.args.name.now c.args.selects.now c.requires.1.1.1.0 c.requires.1.1.1.1 c.in-One.select c.in-One.is (object_of c.object-object.result) c.object-object.ensures (sym c.is_some.ensures ∙ c.if-is_some.true) (integer_at c.index_of.result) c.index_of.ensures c.memory_word.result.value c.memory_word.ensures.value
+
+pub value::named-returns-else-is_some-clause-width : goal.value::named-returns-else-is_some-clause-width
+value::named-returns-else-is_some-clause-width t c =
+    selected.part-width (scope_at c.args.scope.now) (valuation_at c.args.values.now) c.args.name.now c.args.selects.now c.requires.1.1.1.0 c.requires.1.1.1.1 c.in-One.select c.in-One.is (object_of c.object-object.result) c.object-object.ensures (sym c.is_some.ensures ∙ c.if-is_some.false) (span_of c.taken_by.result) c.taken_by.ensures c.bits_of.result.width c.bits_of.ensures.width
+
+pub value::named-returns-else-is_some-clause-value : goal.value::named-returns-else-is_some-clause-value
+value::named-returns-else-is_some-clause-value t c =
+    selected.part-value (scope_at c.args.scope.now) (valuation_at c.args.values.now) c.args.name.now c.args.selects.now c.requires.1.1.1.0 c.requires.1.1.1.1 c.in-One.select c.in-One.is (object_of c.object-object.result) c.object-object.ensures (sym c.is_some.ensures ∙ c.if-is_some.false) (span_of c.taken_by.result) c.taken_by.ensures c.named_value-whole.result.value c.named_value-whole.ensures.value c.bits_of.result.value c.bits_of.ensures.value
+
+pub value::named-returns-in-Two-clause-width : goal.value::named-returns-in-Two-clause-width
+value::named-returns-in-Two-clause-width t c =
+    selected.both-width (scope_at c.args.scope.now) (valuation_at c.args.values.now) c.args.name.now c.args.selects.now c.requires.1.1.1.0 c.requires.1.1.1.1 c.in-Two.address c.in-Two.select c.in-Two.is (object_of c.object-object.result) c.object-object.ensures (span_of c.taken_by-in-Two.result) c.taken_by-in-Two.ensures c.bits_of-in-Two.result.width c.bits_of-in-Two.ensures.width
+
+pub value::named-returns-in-Two-clause-value : goal.value::named-returns-in-Two-clause-value
+value::named-returns-in-Two-clause-value t c =
+    selected.both-value (scope_at c.args.scope.now) (valuation_at c.args.values.now) c.args.name.now c.args.selects.now c.requires.1.1.1.0 c.requires.1.1.1.1 c.in-Two.address c.in-Two.select c.in-Two.is (object_of c.object-object.result) c.object-object.ensures (span_of c.taken_by-in-Two.result) c.taken_by-in-Two.ensures (integer_at c.index_of-in-Two.result) c.index_of-in-Two.ensures c.memory_word-word.result.value c.memory_word-word.ensures.value c.bits_of-in-Two.result.value c.bits_of-in-Two.ensures.value
+
+pub width::selected_width-count_of-requires : goal.width::selected_width-count_of-requires
+width::selected_width-count_of-requires t c =
+    (search (rules, the_lemmas), (selected.at_one-narrow (scope_at c.args.scope.now) (object_of c.args.object) c.args.selects.now c.requires.narrow c.requires.at_most_128 c.in-One.select c.in-One.is, selected.at_one-most (scope_at c.args.scope.now) (object_of c.args.object) c.args.selects.now c.requires.narrow c.requires.at_most_128 c.in-One.select c.in-One.is (sym c.is_some.ensures ∙ c.if-is_some.false)))
+
+pub width::selected_width-count_of-requires-in-Two : goal.width::selected_width-count_of-requires-in-Two
+width::selected_width-count_of-requires-in-Two t c =
+    (search (rules, the_lemmas), (selected.at_two-narrow (scope_at c.args.scope.now) (object_of c.args.object) c.args.selects.now c.requires.narrow c.requires.at_most_128 c.in-Two.field-0 c.in-Two.select c.in-Two.is, selected.at_two-most (scope_at c.args.scope.now) (object_of c.args.object) c.args.selects.now c.requires.narrow c.requires.at_most_128 c.in-Two.field-0 c.in-Two.select c.in-Two.is))
+
+pub width::selected_width-returns-else-is_some : goal.width::selected_width-returns-else-is_some
+width::selected_width-returns-else-is_some t c =
+    selected.at_one-width (scope_at c.args.scope.now) (object_of c.args.object) c.args.selects.now c.requires.narrow c.requires.at_most_128 c.in-One.select c.in-One.is (sym c.is_some.ensures ∙ c.if-is_some.false) c.count_of.result c.count_of.ensures
+
+pub width::selected_width-returns-in-Two : goal.width::selected_width-returns-in-Two
+width::selected_width-returns-in-Two t c =
+    selected.at_two-width (scope_at c.args.scope.now) (object_of c.args.object) c.args.selects.now c.requires.narrow c.requires.at_most_128 c.in-Two.field-0 c.in-Two.select c.in-Two.is c.count_of-in-Two.result c.count_of-in-Two.ensures
