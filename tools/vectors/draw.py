@@ -113,6 +113,46 @@ FORMS += [("logical " + o, test(o), 4) for o in ("&&", "||")]
 FORMS += [("conditional", conditional, 9), ("concatenation", concatenation, 8), ("$signed", cast("$signed", "$s"), 6), ("$unsigned", cast("$unsigned", "$u"), 6)]
 ANY = [lambda d: bit_select(), lambda d: word_select()] + [f for n, f, k in FORMS[9:]]
 
+def power(d):
+    x = operand(d)
+    y = R.choice([E(str(k), str(k), 32, "number") for k in (0, 1, 2, 3, 5, 8)] + [E("a4", "a4", 4, "name"), E("4'd3", "4'd3", 4, "number"), E("4'sd2", "4'sd2", 4, "number")])
+    return E(f"({x.v} ** {y.v})", f"{x.p} {y.p} **", x.w, "binary", x.loose)
+def replication(d):
+    while True:
+        k = R.randint(1, 5)
+        xs = [R.choice([lambda: operand(d), name, bit_select])() for _ in range(R.randint(1, 2))]
+        if k * sum(x.w for x in xs) <= 128 and not any(x.loose for x in xs): break
+    return E(f"{{{k}{{" + ", ".join(x.v for x in xs) + "}}", f"{k} " + " ".join(x.p for x in xs) + " {{%d}}" % len(xs), k * sum(x.w for x in xs), "replication")
+def bounds(left, right):
+    a, b = sorted([R.randint(min(left, right), max(left, right)) for _ in range(2)])
+    return (a, b) if left < right else (b, a)
+def part(d):
+    n, s, l, r = R.choice(NAMES); h, t = bounds(l, r); return E(f"{n}[{h}:{t}]", f"{h} {t} {n}[:]", abs(h - t) + 1, "select")
+def indexed_part(op):
+    def f(d):
+        n, s, l, r = R.choice(NAMES); b = index(min(l, r), max(l, r)); k = R.randint(1, abs(l - r) + 1)
+        return E(f"{n}[{b.v} {op} {k}]", f"{b.p} {k} {n}[{op}]", k, "select")
+    return f
+def word_part(d):
+    n, s, l, r, f, t = R.choice(MEMORIES); i = index(min(f, t), max(f, t))
+    if R.random() < 0.5:
+        h, e = bounds(l, r); return E(f"{n}[{i.v}][{h}:{e}]", f"{i.p} {h} {e} {n}[][:]", abs(h - e) + 1, "select")
+    op = R.choice(["+:", "-:"]); b = index(r, l); k = R.randint(1, 4)
+    return E(f"{n}[{i.v}][{b.v} {op} {k}]", f"{i.p} {b.p} {k} {n}[][{op}]", k, "select")
+def within(f):
+    """the form by itself, or as an operand"""
+    def g(d):
+        x = f(d); k = R.random()
+        if k < 0.4: return x
+        y = name()
+        if k < 0.7: return E(f"({x.v} + {y.v})", f"{x.p} {y.p} +", max(x.w, y.w), "binary")
+        return E(f"($signed({x.v}) >>> 1)", f"{x.p} $s 1 >>>", x.w, "binary")
+    return g
+
+MORE = [("binary /", binary("/"), 10), ("binary %", binary("%"), 10), ("power", power, 10), ("replication", within(replication), 10),
+    ("part select", within(part), 12), ("part select upward", within(indexed_part("+:")), 12), ("part select downward", within(indexed_part("-:")), 12),
+    ("part of a word", within(word_part), 12)]
+
 def declarations(setting):
     lines = []
     for (n, s, l, r), x in zip(NAMES, SCALARS[setting]):
@@ -141,20 +181,22 @@ def run(rows):
             i, h = line.split(); out[int(i)] = h
     return out
 
-def main():
+def main(forms):
     drawn = []
-    for form, f, wanted in FORMS:
+    for form, f, wanted in forms:
         for k in range(wanted * 4):
             for _ in range(100):
                 e = f(2)
                 if len(e.p) <= 60: break
             drawn.append((form, R.randrange(SETTINGS), R.choice(WIDTHS), e))
     known = run([(s, w, e) for f, s, w, e in drawn])
-    left = {n: k for n, f, k in FORMS}; kept = []; skipped = 0; seen = set()
+    left = {n: k for n, f, k in forms}; kept = []; skipped = 0; seen = set()
     for (form, s, w, e), h in zip(drawn, known):
         if any(c in "xzXZ" for c in h): skipped += 1; continue
         if left[form] == 0 or (s, w, e.p) in seen: continue
         left[form] -= 1; seen.add((s, w, e.p)); kept.append((form, s, w, e, int(h, 16)))
     print("skipped for x or z:", skipped, "kept:", len(kept), "missing:", {k: v for k, v in left.items() if v}, file=sys.stderr)
     for form, s, w, e, h in kept: print(form, "|", s, w, e.p, hex(h))
-main()
+main(FORMS)
+R.seed(20261127)
+main(MORE)

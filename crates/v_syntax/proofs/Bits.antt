@@ -2,11 +2,11 @@
 use Rattle.std.proofs.Common.{◌≡◌, ◌≤◌, ◌<◌, ℕ, ◌+◌, ◌-◌, ◌*◌, ◌/◌, ◌%◌, ◌^◌, ◌∙◌, refl, ap, sym, subst, Bool, true, false, cond, not, nat_le, ℤ, pos, negsuc, ◌+ℤ◌, ◌-ℤ◌, arith}
 use Rattle.std.proofs.Math.Nat.{div-eq_of_lt, mul-mod_left, zero-mod}
 use Rattle.std.proofs.Math.Pow.{pow_mono, pow-add, mod-mod-pow}
-use borrow.Author.Tests.{leb-false, leb-true}
+use borrow.Author.Tests.{leb-true}
 use Rattle.std.proofs.lemmas.Bool.{false≢true}
 use Rattle.std.proofs.lemmas.Int.{ints}
 use Rattle.wb_meaning.specs.Number.{top_bit, word_not}
-use Rattle.wb_meaning.specs.Verilog.Expression.{Object, object_width, place_of_bit, Bits, bits_from, bits_upward}
+use Rattle.wb_meaning.specs.Verilog.Expression.{Object, place_of_bit, Bits, bits_from, bits_upward}
 
 -- bits past the number
 pub beyond : (x w k n : ℕ) → x < 2 ^ w → w ≤ k → 0 ≡ x / 2 ^ k % 2 ^ n

@@ -1,5 +1,5 @@
 -- What names with selects read, over what the calls returned.
-use Rattle.std.proofs.Common.{◌≡◌, ◌≤◌, ℕ, ◌∙◌, refl, ap, sym, subst, Bool, true, false, cond, ℤ}
+use Rattle.std.proofs.Common.{◌≡◌, ◌≤◌, ℕ, ◌∙◌, refl, ap, sym, subst, true, false, cond, ℤ}
 use Rattle.wb_meaning.specs.Value.{Name, Valuation}
 use Rattle.wb_meaning.specs.Verilog.Syntax as pure
 use Rattle.wb_meaning.specs.Verilog.Syntax.{index, part, part_up, part_down, one, two}

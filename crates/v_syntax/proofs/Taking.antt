@@ -1,5 +1,5 @@
 -- What selects take, over what the calls returned.
-use Rattle.std.proofs.Common.{◌≡◌, ◌≤◌, ℕ, ◌∙◌, refl, ap, sym, subst, Bool, ℤ, negsuc}
+use Rattle.std.proofs.Common.{◌≡◌, ◌≤◌, ℕ, ◌∙◌, ap, sym, subst, Bool, ℤ, negsuc}
 use Rattle.wb_meaning.specs.Value.{Valuation}
 use Rattle.wb_meaning.specs.Verilog.Syntax as pure
 use Rattle.wb_meaning.specs.Verilog.Expression as meaning
@@ -10,7 +10,6 @@ use Rattle.v_syntax.specs.declared.tree.Expression.{Expression}
 use Rattle.v_syntax.specs.declared.tree.Select.{Select, Index, Part, PartUp, PartDown}
 use Rattle.v_syntax.specs.Tree.{tree_of, select_of}
 use Rattle.v_syntax.specs.Index.{count_between}
-use Rattle.v_syntax.specs.Narrow.{IsSelectNarrow}
 use Rattle.v_syntax.specs.Evaluation.{width_at, sign_at, self_at, count_at, integer_self_at, bound_at, index_at, bits_at, taken_at}
 
 pub integer-value : (s : Scope) (v : Valuation) (e : pure.Expression) (t : Bool) (u y : ℕ) → t ≡ sign_at s e → u ≡ width_at s e → y ≡ self_at s v e → (r : ℤ) → r ≡ meaning.integer_from t u y → r ≡ integer_self_at s v e

@@ -166,7 +166,7 @@ pub fn bits_of(value: u128, span: Span) -> Word
 }
 
 /// The number of the word with this address, counted from 0 at the least address, where it is in range.
-pub(crate) fn word_number(addresses: (u32, u32), index: Integer) -> Option<u128>
+pub fn word_number(addresses: (u32, u32), index: Integer) -> Option<u128>
     ensures { result ≡ meaning.word_number addresses (integer_at index) }
 {
     let least = u128::from(addresses.0.min(addresses.1));

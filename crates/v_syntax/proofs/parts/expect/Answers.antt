@@ -1,4 +1,4 @@
-use Rattle.std.proofs.Common.{refl, ◌^◌, ◌<◌, max, min, ◌+◌, ◌-◌, arith, ap, sym, subst, ◌≡◌}
+use Rattle.std.proofs.Common.{refl, ◌^◌, ◌<◌, max, min, ◌+◌, ◌-◌, arith, sym, subst, ◌≡◌}
 use Rattle.v_syntax.proofs.PartReads.{pushed}
 use Rattle.v_syntax.proofs.parts.expect.Goals as goal
 
