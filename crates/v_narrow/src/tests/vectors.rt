@@ -1,0 +1,241 @@
+//! Values of Verilog expressions that another tool printed: each row of the table, evaluated behind the tests of this crate.
+
+use super::postfix::{Stop, parsed};
+use super::rows::{
+    KNOWN_NAMES, KNOWN_ROWS, KnownRow, MEMORIES, Memory, NAMES, Named, PARAMETERS, Parameter, ROWS,
+    Row, SETTINGS, WORDS,
+};
+use crate::{are_objects_narrow, is_narrow, values_fit};
+use std::alloc::Global;
+use std::process::Abort;
+use std::test::Fail;
+use v_syntax::expression::assigned_value;
+use v_syntax::scope::{Declaration, Entry, Object, Scope, Value, Values};
+use v_syntax::tree::Expression;
+
+/// A net or variable with this sign and these bits.
+fn object(signed: bool, left: u32, right: u32) -> Object {
+    Object {
+        signed,
+        left,
+        right,
+        addresses: None,
+        constant: None,
+    }
+}
+
+fn declare_names(
+    declarations: &mut Vec<Declaration<'static>>,
+    names: &[Named],
+) -> Result<(), Stop> {
+    for (name, signed, left, right) in names.iter().copied() {
+        declarations.push(Declaration {
+            name,
+            object: object(signed, left, right),
+        })?;
+    }
+    Ok(())
+}
+
+fn declare_parameters(
+    declarations: &mut Vec<Declaration<'static>>,
+    parameters: &[Parameter],
+) -> Result<(), Stop> {
+    for (name, signed, left, right, number) in parameters.iter().copied() {
+        declarations.push(Declaration {
+            name,
+            object: Object {
+                constant: Some(number),
+                ..object(signed, left, right)
+            },
+        })?;
+    }
+    Ok(())
+}
+
+fn declare_memories(
+    declarations: &mut Vec<Declaration<'static>>,
+    memories: &[Memory],
+) -> Result<(), Stop> {
+    for (name, signed, left, right, first, last) in memories.iter().copied() {
+        declarations.push(Declaration {
+            name,
+            object: Object {
+                addresses: Some((first, last)),
+                ..object(signed, left, right)
+            },
+        })?;
+    }
+    Ok(())
+}
+
+fn add_numbers(
+    entries: &mut Vec<Entry<'static>>,
+    names: &[Named],
+    numbers: &[u128],
+) -> Result<(), Stop> {
+    for ((name, _, _, _), number) in names.iter().copied().zip(numbers.iter().copied()) {
+        entries.push(Entry {
+            name,
+            value: Value::Number(number),
+        })?;
+    }
+    Ok(())
+}
+
+fn add_words(
+    alloc: Global,
+    entries: &mut Vec<Entry<'static>>,
+    memories: &[Memory],
+    words: &[[u128; 4]],
+) -> Result<(), Stop> {
+    for ((name, _, _, _, _, _), words) in memories.iter().copied().zip(words.iter().copied()) {
+        let value = Value::Words(Vec::from_slice(alloc, &words)?);
+        entries.push(Entry { name, value })?;
+    }
+    Ok(())
+}
+
+/// What an assignment of the expression gives a target of this width, where all is narrow and fits.
+fn assigned(
+    scope: &Scope<'_>,
+    values: &Values<'_>,
+    width: u32,
+    expression: &Expression<'_>,
+) -> Option<u128> {
+    if width < 1 || width > 128 || !are_objects_narrow(scope) || !values_fit(scope, values) {
+        return None;
+    }
+    if !is_narrow(scope, expression) {
+        return None;
+    }
+    Some(assigned_value(scope, values, width, expression))
+}
+
+/// The text's expression gives a target of this width this value.
+fn check(
+    rt: &impl Abort,
+    alloc: Global,
+    scope: &Scope<'_>,
+    values: &Values<'_>,
+    width: u32,
+    text: &str,
+    value: u128,
+) -> Result<(), Stop> {
+    let expression = parsed(alloc, text)?;
+    assert_eq!(rt; assigned(scope, values, width, &expression), Some(value), "at {text}");
+    Ok(())
+}
+
+/// The scope of all names, parameters and memories of the table.
+fn declared(
+    alloc: Global,
+    names: &[Named],
+    parameters: &[Parameter],
+    memories: &[Memory],
+) -> Result<Scope<'static>, Stop> {
+    let mut declarations = Vec::new(alloc);
+    declare_names(&mut declarations, names)?;
+    declare_parameters(&mut declarations, parameters)?;
+    declare_memories(&mut declarations, memories)?;
+    Ok(Scope { declarations })
+}
+
+/// The values of the table's names and memories.
+fn valued(
+    alloc: Global,
+    names: &[Named],
+    numbers: &[u128],
+    memories: &[Memory],
+    words: &[[u128; 4]],
+) -> Result<Values<'static>, Stop> {
+    let mut entries = Vec::new(alloc);
+    add_numbers(&mut entries, names, numbers)?;
+    add_words(alloc, &mut entries, memories, words)?;
+    Ok(Values { entries })
+}
+
+/// All rows of a setting.
+fn check_rows(
+    rt: &impl Abort,
+    alloc: Global,
+    scope: &Scope<'_>,
+    values: &Values<'_>,
+    setting: usize,
+    rows: &[Row],
+) -> Result<(), Stop> {
+    for (of_setting, width, text, value) in rows.iter().copied() {
+        if of_setting == setting {
+            check(rt, alloc, scope, values, width, text, value)?;
+        }
+    }
+    Ok(())
+}
+
+/// All rows of a setting, with the numbers and words that it gives names and memories.
+fn check_setting(
+    rt: &impl Abort,
+    alloc: Global,
+    setting: usize,
+    numbers: &[u128],
+    words: &[[u128; 4]],
+) -> Result<(), Stop> {
+    let scope = declared(alloc, &NAMES, &PARAMETERS, &MEMORIES)?;
+    let values = valued(alloc, &NAMES, numbers, &MEMORIES, words)?;
+    check_rows(rt, alloc, &scope, &values, setting, &ROWS)
+}
+
+/// A row whose names have values of their own.
+fn check_known(rt: &impl Abort, alloc: Global, names: &[Named], row: KnownRow) -> Result<(), Stop> {
+    let (numbers, width, text, value) = row;
+    let scope = declared(alloc, names, &[], &[])?;
+    let values = valued(alloc, names, &numbers, &[], &[])?;
+    check(rt, alloc, &scope, &values, width, text, value)
+}
+
+fn check_known_rows(
+    rt: &impl Abort,
+    alloc: Global,
+    names: &[Named],
+    rows: &[KnownRow],
+) -> Result<(), Stop> {
+    for row in rows.iter().copied() {
+        check_known(rt, alloc, names, row)?;
+    }
+    Ok(())
+}
+
+#[test]
+fn known(rt: HostRuntime) -> Result<(), Fail> {
+    Ok(check_known_rows(&rt, rt.alloc(), &KNOWN_NAMES, &KNOWN_ROWS)?)
+}
+
+#[test]
+fn first_setting(rt: HostRuntime) -> Result<(), Fail> {
+    Ok(check_setting(&rt, rt.alloc(), 0, &SETTINGS[0], &WORDS[0])?)
+}
+
+#[test]
+fn second_setting(rt: HostRuntime) -> Result<(), Fail> {
+    Ok(check_setting(&rt, rt.alloc(), 1, &SETTINGS[1], &WORDS[1])?)
+}
+
+#[test]
+fn third_setting(rt: HostRuntime) -> Result<(), Fail> {
+    Ok(check_setting(&rt, rt.alloc(), 2, &SETTINGS[2], &WORDS[2])?)
+}
+
+#[test]
+fn fourth_setting(rt: HostRuntime) -> Result<(), Fail> {
+    Ok(check_setting(&rt, rt.alloc(), 3, &SETTINGS[3], &WORDS[3])?)
+}
+
+#[test]
+fn fifth_setting(rt: HostRuntime) -> Result<(), Fail> {
+    Ok(check_setting(&rt, rt.alloc(), 4, &SETTINGS[4], &WORDS[4])?)
+}
+
+#[test]
+fn sixth_setting(rt: HostRuntime) -> Result<(), Fail> {
+    Ok(check_setting(&rt, rt.alloc(), 5, &SETTINGS[5], &WORDS[5])?)
+}
