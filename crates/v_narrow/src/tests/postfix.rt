@@ -152,12 +152,13 @@ fn prefixes<'s>(
     operand: Expression<'s>,
     joins: bool,
 ) -> Result<(Vec<PrefixOperator>, Box<Expression<'s>>), Stop> {
+    if !joins {
+        let boxed = Box::new(alloc, operand)?;
+        return Ok((Vec::new(alloc), boxed));
+    }
     match operand {
-        Expression::Prefix(operators, inner) if joins => Ok((operators, inner)),
-        other => {
-            let boxed = Box::new(alloc, other)?;
-            Ok((Vec::new(alloc), boxed))
-        }
+        Expression::Prefix(operators, inner) => Ok((operators, inner)),
+        _ => Err(Stop::Malformed),
     }
 }
 
@@ -167,12 +168,13 @@ fn links<'s>(
     left: Expression<'s>,
     joins: bool,
 ) -> Result<(Box<Expression<'s>>, Vec<BinaryLink<'s>>), Stop> {
+    if !joins {
+        let boxed = Box::new(alloc, left)?;
+        return Ok((boxed, Vec::new(alloc)));
+    }
     match left {
-        Expression::Binary(first, links) if joins => Ok((first, links)),
-        other => {
-            let boxed = Box::new(alloc, other)?;
-            Ok((boxed, Vec::new(alloc)))
-        }
+        Expression::Binary(first, links) => Ok((first, links)),
+        _ => Err(Stop::Malformed),
     }
 }
 
@@ -182,12 +184,13 @@ fn tests<'s>(
     left: Expression<'s>,
     joins: bool,
 ) -> Result<(Box<Expression<'s>>, Vec<TestLink<'s>>), Stop> {
+    if !joins {
+        let boxed = Box::new(alloc, left)?;
+        return Ok((boxed, Vec::new(alloc)));
+    }
     match left {
-        Expression::Test(first, links) if joins => Ok((first, links)),
-        other => {
-            let boxed = Box::new(alloc, other)?;
-            Ok((boxed, Vec::new(alloc)))
-        }
+        Expression::Test(first, links) => Ok((first, links)),
+        _ => Err(Stop::Malformed),
     }
 }
 
@@ -197,12 +200,13 @@ fn choices<'s>(
     last: Expression<'s>,
     joins: bool,
 ) -> Result<(Vec<Choice<'s>>, Box<Expression<'s>>), Stop> {
+    if !joins {
+        let boxed = Box::new(alloc, last)?;
+        return Ok((Vec::new(alloc), boxed));
+    }
     match last {
-        Expression::Conditional(choices, inner) if joins => Ok((choices, inner)),
-        other => {
-            let boxed = Box::new(alloc, other)?;
-            Ok((Vec::new(alloc), boxed))
-        }
+        Expression::Conditional(choices, inner) => Ok((choices, inner)),
+        _ => Err(Stop::Malformed),
     }
 }
 

@@ -13,22 +13,22 @@
 //! mask what they read.
 
 /// A setting, the target's width, the expression, and the number.
-pub type Row = (usize, u32, &'static str, u128);
+pub type Row<'s> = (usize, u32, &'s str, u128);
 
 /// A name with its sign and range.
-pub type Named = (&'static str, bool, u32, u32);
+pub type Named<'s> = (&'s str, bool, u32, u32);
 
 /// A parameter with its sign, range and number.
-pub type Parameter = (&'static str, bool, u32, u32, u128);
+pub type Parameter<'s> = (&'s str, bool, u32, u32, u128);
 
 /// A memory with its sign, range and addresses.
-pub type Memory = (&'static str, bool, u32, u32, u32, u32);
+pub type Memory<'s> = (&'s str, bool, u32, u32, u32, u32);
 
 /// The values of the known names, the target's width, the expression, and the number.
-pub type KnownRow = ([u128; 3], u32, &'static str, u128);
+pub type KnownRow<'s> = ([u128; 3], u32, &'s str, u128);
 
 /// Names with sign and range. The bits of `a8` are `[7:0]`, unsigned; those of `s8` signed.
-pub const NAMES: [Named; 20] = [
+pub const NAMES: [Named<'static>; 20] = [
     ("a1", false, 0, 0),
     ("a4", false, 3, 0),
     ("a8", false, 7, 0),
@@ -52,10 +52,10 @@ pub const NAMES: [Named; 20] = [
 ];
 
 /// The parameters.
-pub const PARAMETERS: [Parameter; 2] = [("p8", false, 7, 0, 200), ("q9", true, 8, 0, 509)];
+pub const PARAMETERS: [Parameter<'static>; 2] = [("p8", false, 7, 0, 200), ("q9", true, 8, 0, 509)];
 
 /// The memories.
-pub const MEMORIES: [Memory; 2] = [("m8", false, 7, 0, 0, 3), ("n9", true, 8, 0, 5, 2)];
+pub const MEMORIES: [Memory<'static>; 2] = [("m8", false, 7, 0, 0, 3), ("n9", true, 8, 0, 5, 2)];
 
 /// The values of the names in each setting, in their order.
 pub const SETTINGS: [[u128; 20]; 6] = [
@@ -204,7 +204,7 @@ pub const WORDS: [[[u128; 4]; 2]; 6] = [
 ];
 
 /// The rows, by the outermost form.
-pub const ROWS: [Row; 305] = [
+pub const ROWS: [Row<'static>; 305] = [
     // plain decimal
     (2, 127, "100", 0x64),
     (5, 4, "9", 9),
@@ -697,10 +697,10 @@ pub const ROWS: [Row; 305] = [
 ];
 
 /// The names of the known rows.
-pub const KNOWN_NAMES: [Named; 3] = [("a", false, 7, 0), ("b", false, 7, 0), ("sa", true, 7, 0)];
+pub const KNOWN_NAMES: [Named<'static>; 3] = [("a", false, 7, 0), ("b", false, 7, 0), ("sa", true, 7, 0)];
 
 /// The known rows.
-pub const KNOWN_ROWS: [KnownRow; 10] = [
+pub const KNOWN_ROWS: [KnownRow<'static>; 10] = [
     ([255, 255, 0], 8, "a b + 1 >>", 127),
     ([255, 255, 0], 9, "a b + 1 >>", 255),
     ([128, 0, 0], 8, "a b + 1 >>", 64),

@@ -24,9 +24,9 @@ fn object(signed: bool, left: u32, right: u32) -> Object {
     }
 }
 
-fn declare_names(
-    declarations: &mut Vec<Declaration<'static>>,
-    names: &[Named],
+fn declare_names<'s>(
+    declarations: &mut Vec<Declaration<'s>>,
+    names: &[Named<'s>],
 ) -> Result<(), Stop> {
     for (name, signed, left, right) in names.iter().copied() {
         declarations.push(Declaration {
@@ -37,9 +37,9 @@ fn declare_names(
     Ok(())
 }
 
-fn declare_parameters(
-    declarations: &mut Vec<Declaration<'static>>,
-    parameters: &[Parameter],
+fn declare_parameters<'s>(
+    declarations: &mut Vec<Declaration<'s>>,
+    parameters: &[Parameter<'s>],
 ) -> Result<(), Stop> {
     for (name, signed, left, right, number) in parameters.iter().copied() {
         declarations.push(Declaration {
@@ -53,9 +53,9 @@ fn declare_parameters(
     Ok(())
 }
 
-fn declare_memories(
-    declarations: &mut Vec<Declaration<'static>>,
-    memories: &[Memory],
+fn declare_memories<'s>(
+    declarations: &mut Vec<Declaration<'s>>,
+    memories: &[Memory<'s>],
 ) -> Result<(), Stop> {
     for (name, signed, left, right, first, last) in memories.iter().copied() {
         declarations.push(Declaration {
@@ -69,9 +69,9 @@ fn declare_memories(
     Ok(())
 }
 
-fn add_numbers(
-    entries: &mut Vec<Entry<'static>>,
-    names: &[Named],
+fn add_numbers<'s>(
+    entries: &mut Vec<Entry<'s>>,
+    names: &[Named<'s>],
     numbers: &[u128],
 ) -> Result<(), Stop> {
     for ((name, _, _, _), number) in names.iter().copied().zip(numbers.iter().copied()) {
@@ -83,10 +83,10 @@ fn add_numbers(
     Ok(())
 }
 
-fn add_words(
+fn add_words<'s>(
     alloc: Global,
-    entries: &mut Vec<Entry<'static>>,
-    memories: &[Memory],
+    entries: &mut Vec<Entry<'s>>,
+    memories: &[Memory<'s>],
     words: &[[u128; 4]],
 ) -> Result<(), Stop> {
     for ((name, _, _, _, _, _), words) in memories.iter().copied().zip(words.iter().copied()) {
@@ -128,12 +128,12 @@ fn check(
 }
 
 /// The scope of all names, parameters and memories of the table.
-fn declared(
+fn declared<'s>(
     alloc: Global,
-    names: &[Named],
-    parameters: &[Parameter],
-    memories: &[Memory],
-) -> Result<Scope<'static>, Stop> {
+    names: &[Named<'s>],
+    parameters: &[Parameter<'s>],
+    memories: &[Memory<'s>],
+) -> Result<Scope<'s>, Stop> {
     let mut declarations = Vec::new(alloc);
     declare_names(&mut declarations, names)?;
     declare_parameters(&mut declarations, parameters)?;
@@ -142,13 +142,13 @@ fn declared(
 }
 
 /// The values of the table's names and memories.
-fn valued(
+fn valued<'s>(
     alloc: Global,
-    names: &[Named],
+    names: &[Named<'s>],
     numbers: &[u128],
-    memories: &[Memory],
+    memories: &[Memory<'s>],
     words: &[[u128; 4]],
-) -> Result<Values<'static>, Stop> {
+) -> Result<Values<'s>, Stop> {
     let mut entries = Vec::new(alloc);
     add_numbers(&mut entries, names, numbers)?;
     add_words(alloc, &mut entries, memories, words)?;
@@ -162,7 +162,7 @@ fn check_rows(
     scope: &Scope<'_>,
     values: &Values<'_>,
     setting: usize,
-    rows: &[Row],
+    rows: &[Row<'_>],
 ) -> Result<(), Stop> {
     for (of_setting, width, text, value) in rows.iter().copied() {
         if of_setting == setting {
@@ -186,7 +186,12 @@ fn check_setting(
 }
 
 /// A row whose names have values of their own.
-fn check_known(rt: &impl Abort, alloc: Global, names: &[Named], row: KnownRow) -> Result<(), Stop> {
+fn check_known(
+    rt: &impl Abort,
+    alloc: Global,
+    names: &[Named<'_>],
+    row: KnownRow<'_>,
+) -> Result<(), Stop> {
     let (numbers, width, text, value) = row;
     let scope = declared(alloc, names, &[], &[])?;
     let values = valued(alloc, names, &numbers, &[], &[])?;
@@ -196,8 +201,8 @@ fn check_known(rt: &impl Abort, alloc: Global, names: &[Named], row: KnownRow) -
 fn check_known_rows(
     rt: &impl Abort,
     alloc: Global,
-    names: &[Named],
-    rows: &[KnownRow],
+    names: &[Named<'_>],
+    rows: &[KnownRow<'_>],
 ) -> Result<(), Stop> {
     for row in rows.iter().copied() {
         check_known(rt, alloc, names, row)?;
