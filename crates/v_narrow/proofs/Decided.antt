@@ -45,7 +45,7 @@ pub copies-same : (c w : ℕ) → is_width (c * min w 129) ≡ is_width (c * w)
 copies-same c w = ⊎_elim
     (λ h. let e : min w 129 ≡ w = omega (arith, h) in ap (λ k. is_width (c * k)) e)
     (λ h. let e : min w 129 ≡ 129 = omega (arith, h) in ap (λ k. is_width (c * k)) e
-        ∙ same-width (c * 129) (c * w) (λ k. absurd (too_wide c 129 (omega arith) k)) (λ k. absurd (too_wide c w (omega (arith, h)) k)))
+    ∙ same-width (c * 129) (c * w) (λ k. absurd (too_wide c 129 (omega arith) k)) (λ k. absurd (too_wide c w (omega (arith, h)) k)))
     (cases_lt w 130)
 
 -- what a program returned of copies, where t, u and v are true

@@ -46,11 +46,7 @@ fn narrow(checked: Checked<'_, '_>, expression: &Expression<'_>) -> bool
             checked.scope.object(name),
             selects,
         ),
-        Expression::Concatenation(parts) => parts_fit(
-            checked,
-            parts,
-            parts_narrow(checked, parts),
-        ),
+        Expression::Concatenation(parts) => parts_fit(checked, parts, parts_narrow(checked, parts)),
         Expression::Replication(count, parts) => repeated_fit(
             checked,
             count,

@@ -78,7 +78,11 @@ fn count_of(scope: &Scope<'_>, expression: &Expression<'_>) -> u128
     ensures { result ≡ count_at (scope_at scope.now) (tree_of expression.now) }
 {
     let integer = bound_of(scope, expression);
-    if integer.negative { 0 } else { integer.magnitude }
+    if integer.negative {
+        0
+    } else {
+        integer.magnitude
+    }
 }
 
 /// Whether the parts have 1 to 128 bits together, where `narrow` says whether each is narrow.

@@ -303,11 +303,7 @@ fn braced<'s>(stack: &mut Stack<'s>, rest: &str) -> Result<Expression<'s>, Stop>
 /// An operator that takes what stands before it; `joins` where it joins the chain of its operand.
 fn operator<'s>(stack: &mut Stack<'s>, word: &str, joins: bool) -> Result<Expression<'s>, Stop> {
     if let Some(rest) = word.strip_prefix("u") {
-        return prefix(
-            stack,
-            prefix_operator(rest).ok_or(Stop::Malformed)?,
-            joins,
-        );
+        return prefix(stack, prefix_operator(rest).ok_or(Stop::Malformed)?, joins);
     }
     if let Some(operator) = binary_operator(word) {
         return binary(stack, operator, joins);

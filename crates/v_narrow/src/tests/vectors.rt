@@ -2,8 +2,10 @@
 
 use super::postfix::{Stop, parsed};
 use super::rows::{
-    KNOWN_NAMES, KNOWN_ROWS, KnownRow, MEMORIES, Memory, NAMES, Named, PARAMETERS, Parameter, ROWS,
-    Row, SETTINGS, WORDS,
+    FIFTH_NUMBERS, FIFTH_ROWS, FIFTH_WORDS, FIRST_NUMBERS, FIRST_ROWS, FIRST_WORDS, FOURTH_NUMBERS,
+    FOURTH_ROWS, FOURTH_WORDS, KNOWN_NAMES, KNOWN_ROWS, KnownRow, MEMORIES, Memory, NAMES, Named,
+    PARAMETERS, Parameter, Row, SECOND_NUMBERS, SECOND_ROWS, SECOND_WORDS, SIXTH_NUMBERS,
+    SIXTH_ROWS, SIXTH_WORDS, THIRD_NUMBERS, THIRD_ROWS, THIRD_WORDS,
 };
 use crate::{are_objects_narrow, is_narrow, values_fit};
 use std::alloc::Global;
@@ -123,7 +125,11 @@ fn check(
     value: u128,
 ) -> Result<(), Stop> {
     let expression = parsed(alloc, text)?;
-    assert_eq!(rt; assigned(scope, values, width, &expression), Some(value), "at {text}");
+    assert_eq!(rt;
+        assigned(scope, values, width, &expression),
+        Some(value),
+        "at {text}"
+    );
     Ok(())
 }
 
@@ -161,13 +167,10 @@ fn check_rows(
     alloc: Global,
     scope: &Scope<'_>,
     values: &Values<'_>,
-    setting: usize,
     rows: &[Row<'_>],
 ) -> Result<(), Stop> {
-    for (of_setting, width, text, value) in rows.iter().copied() {
-        if of_setting == setting {
-            check(rt, alloc, scope, values, width, text, value)?;
-        }
+    for (width, text, value) in rows.iter().copied() {
+        check(rt, alloc, scope, values, width, text, value)?;
     }
     Ok(())
 }
@@ -176,13 +179,13 @@ fn check_rows(
 fn check_setting(
     rt: &impl Abort,
     alloc: Global,
-    setting: usize,
     numbers: &[u128],
     words: &[[u128; 4]],
+    rows: &[Row<'_>],
 ) -> Result<(), Stop> {
     let scope = declared(alloc, &NAMES, &PARAMETERS, &MEMORIES)?;
     let values = valued(alloc, &NAMES, numbers, &MEMORIES, words)?;
-    check_rows(rt, alloc, &scope, &values, setting, &ROWS)
+    check_rows(rt, alloc, &scope, &values, rows)
 }
 
 /// A row whose names have values of their own.
@@ -217,30 +220,42 @@ fn known(rt: HostRuntime) -> Result<(), Fail> {
 
 #[test]
 fn first_setting(rt: HostRuntime) -> Result<(), Fail> {
-    Ok(check_setting(&rt, rt.alloc(), 0, &SETTINGS[0], &WORDS[0])?)
+    Ok(check_setting(&rt, rt.alloc(), &FIRST_NUMBERS, &FIRST_WORDS, &FIRST_ROWS)?)
 }
 
 #[test]
 fn second_setting(rt: HostRuntime) -> Result<(), Fail> {
-    Ok(check_setting(&rt, rt.alloc(), 1, &SETTINGS[1], &WORDS[1])?)
+    Ok(check_setting(
+        &rt,
+        rt.alloc(),
+        &SECOND_NUMBERS,
+        &SECOND_WORDS,
+        &SECOND_ROWS,
+    )?)
 }
 
 #[test]
 fn third_setting(rt: HostRuntime) -> Result<(), Fail> {
-    Ok(check_setting(&rt, rt.alloc(), 2, &SETTINGS[2], &WORDS[2])?)
+    Ok(check_setting(&rt, rt.alloc(), &THIRD_NUMBERS, &THIRD_WORDS, &THIRD_ROWS)?)
 }
 
 #[test]
 fn fourth_setting(rt: HostRuntime) -> Result<(), Fail> {
-    Ok(check_setting(&rt, rt.alloc(), 3, &SETTINGS[3], &WORDS[3])?)
+    Ok(check_setting(
+        &rt,
+        rt.alloc(),
+        &FOURTH_NUMBERS,
+        &FOURTH_WORDS,
+        &FOURTH_ROWS,
+    )?)
 }
 
 #[test]
 fn fifth_setting(rt: HostRuntime) -> Result<(), Fail> {
-    Ok(check_setting(&rt, rt.alloc(), 4, &SETTINGS[4], &WORDS[4])?)
+    Ok(check_setting(&rt, rt.alloc(), &FIFTH_NUMBERS, &FIFTH_WORDS, &FIFTH_ROWS)?)
 }
 
 #[test]
 fn sixth_setting(rt: HostRuntime) -> Result<(), Fail> {
-    Ok(check_setting(&rt, rt.alloc(), 5, &SETTINGS[5], &WORDS[5])?)
+    Ok(check_setting(&rt, rt.alloc(), &SIXTH_NUMBERS, &SIXTH_WORDS, &SIXTH_ROWS)?)
 }
