@@ -1,5 +1,5 @@
 -- How many bits selects take, over what the calls returned.
-use Rattle.std.proofs.Common.{◌≡◌, ◌≤◌, ℕ, ◌∙◌, ap, sym, subst, Bool, true, false, cond, ℤ, pos, negsuc}
+use Rattle.std.proofs.Common.{◌≡◌, ℕ, ◌∙◌, ap, sym, subst, Bool, true, false, cond, ℤ, pos, negsuc}
 use Rattle.wb_meaning.specs.Verilog.Expression as meaning
 use Rattle.wb_meaning.specs.Verilog.Expression.{Scope}
 use Rattle.std.specs.declared.boxed.Box.{Box}
