@@ -16,7 +16,7 @@ use Rattle.v_syntax.specs.declared.scope.Entry.{Entry}
 use Rattle.v_syntax.specs.Scope.{object_of, objects_of, value_of_entry, values_of}
 use Rattle.v_syntax.specs.Narrow.{IsNarrowObject, FitsObject}
 use Rattle.v_narrow.specs.Fitting.{AreDeclaredNarrow, AreEntriesFitting, number_fits, constant_fits, object_test, declared_test, words_fit, value_fits, entries_test}
-use Rattle.v_narrow.proofs.Narrowed.{Decides, at_most, object-decides}
+use Rattle.v_narrow.proofs.Decided.{Decides, at_most, object-decides}
 
 -- An object that is wide enough holds each number of so many bits.
 wide-fits : (high : ℕ) (o : meaning.Object) (x l : ℕ) → l + 1 ≡ object_width o → high ≤ l + 1 → x < 2 ^ high → number_fits o x ≡ true
@@ -85,3 +85,7 @@ module _ (r : Bool) (ds is : List Declaration) (e : r ≡ declared_test ds) (j :
 module _ (s : meaning.Scope) (r : Bool) (es is : List Entry) (e : r ≡ entries_test s es) (j : es ≡ is) where
   pub entries_if : Decides r (AreEntriesFitting s is)
   entries_if = (λ k. subst (AreEntriesFitting s) j ((entries-decides s es).0 (sym e ∙ k)), λ k. e ∙ (entries-decides s es).1 (subst (AreEntriesFitting s) (sym j) k))
+
+-- where the test of what is declared is true, all objects are narrow
+pub objects_if : (ds : List Declaration) (r : Bool) → r ≡ declared_test ds → r ≡ true → (n : Name) → IsNarrowObject (object_or_undeclared (entry_of (objects_of ds) n))
+objects_if ds r e h = found_narrow ds ((declared-decides ds).0 (sym e ∙ h))

@@ -1,3 +1,5 @@
+pub mod Decided
 pub mod Arms
+pub mod Counted
 pub mod Narrowed
 pub mod Fitted

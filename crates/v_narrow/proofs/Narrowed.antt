@@ -1,97 +1,81 @@
 -- Expressions whose test is true are narrow.
-use Rattle.std.proofs.Common.{◌≡◌, ℕ, ◌≤◌, ◌^◌, Bool, true, false, cond, ◌&&◌, nat_le, refl, sym, ◌∙◌, arith, List}
+use Rattle.std.proofs.Common.{◌≡◌, ◌^◌, Bool, true, false, ◌&&◌, refl, sym, ◌∙◌, List}
 use Rattle.std.proofs.lemmas.Bool.{false≢true}
-use Rattle.std.proofs.lemmas.Bool.Decides.{Decides-and, Decides-ltb, nat_tests}
+use Rattle.std.proofs.lemmas.Bool.Decides.{Decides-and, Decides-ltb}
 use Rattle.wb_meaning.specs.Verilog.Syntax.{Expression, number, name, concatenation, replication, as_signed, as_unsigned, unary, reduction, binary, shift, power, comparison, logical, conditional, Expressions, no_expressions, expression, Select, index, part, part_up, part_down, Selects, whole, one, two}
-use Rattle.wb_meaning.specs.Verilog.Expression.{Object, Scope, object_width, selects_width, widths_of, is_memory}
-use Rattle.v_syntax.specs.Narrow.{IsWidth, IsNarrow, AreNarrow, IsSelectNarrow, AreSelectsNarrow}
-use Rattle.v_narrow.specs.Test.{is_width, is_object_narrow, is_indexed_narrow, narrow_test, all_test, select_test, selects_test, narrow_at, parts_test}
+use Rattle.wb_meaning.specs.Verilog.Expression.{Object, Scope, width_of, selects_width, widths_of}
 use Rattle.v_syntax.specs.declared.tree.Expression.{Expression as CodeExpression}
 use Rattle.v_syntax.specs.Tree.{expressions_of}
+use Rattle.v_syntax.specs.Narrow.{IsWidth, IsNarrow, AreNarrow, IsSelectNarrow, AreSelectsNarrow, HasNarrowObjects}
+use Rattle.v_narrow.specs.Test.{is_width, narrow_test, all_test, select_test, selects_test, narrow_at, select_at, parts_test}
+use Rattle.v_narrow.proofs.Decided.{width-decides}
 use Rattle.v_narrow.proofs.Arms.{all_parts}
-
--- the test is true where the fact holds, and only there
-abbrev pub Decides : Bool → Type 0 → Type 0
-Decides b P = (b ≡ true → P) × (P → b ≡ true)
-
-pub at_most : (a b : ℕ) → Decides (nat_le a b) (a ≤ b)
-at_most a b = (λ h. grind (arith, nat_tests, h), λ h. grind (arith, nat_tests, h))
-
-pub width-decides : (w : ℕ) → Decides (is_width w) (IsWidth w)
-width-decides w = Decides-and (nat_le 1 w) (nat_le w 128) (at_most 1 w) (at_most w 128)
-
-no_and : (b : Bool) → b && false ≡ true → ⊥
-no_and true e = false≢true e
-no_and false e = false≢true e
 
 both : (a b : Bool) → a && b ≡ true → (a ≡ true) × (b ≡ true)
 both true b e = (refl, e)
 both false b e = absurd (false≢true e)
 
-pub object-decides : (o : Object) → Decides (is_object_narrow o) (object_width o ≤ 128)
-object-decides o = at_most (object_width o) 128
+all_three : (a b c : Bool) → a && (b && c) ≡ true → (a ≡ true) × (b ≡ true) × (c ≡ true)
+all_three true b c e = let h = both b c e in (refl, h.0, h.1)
+all_three false b c e = absurd (false≢true e)
 
-some_width : (o : Object) → 1 ≤ object_width o
-some_width o = omega arith
+-- t says whether all objects are narrow
+module _ (t : Bool) (s : Scope) (known : t ≡ true → HasNarrowObjects s) where
+  mutual
+    pub narrow-holds : (e : Expression) → narrow_test t s e ≡ true → IsNarrow s e
+    narrow-holds (number k) h = (Decides-and _ _ (width-decides k.width) (Decides-ltb k.value (2 ^ k.width))).0 h
+    narrow-holds (name n x) h = selects-hold (s n) x h
+    narrow-holds (concatenation es) h =
+        let p = both (all_test t s es) (is_width (widths_of s es)) h in ((width-decides (widths_of s es)).0 p.1, all-hold es p.0)
+    narrow-holds (replication k es) h =
+        let p = both (t && (narrow_test t s k && all_test t s es)) (is_width (width_of s (replication k es))) h in
+        let q = all_three t (narrow_test t s k) (all_test t s es) p.0 in
+        ((width-decides (width_of s (replication k es))).0 p.1, known q.0, narrow-holds k q.1, all-hold es q.2)
+    narrow-holds (as_signed x) h = narrow-holds x h
+    narrow-holds (as_unsigned x) h = narrow-holds x h
+    narrow-holds (unary op x) h = narrow-holds x h
+    narrow-holds (reduction op x) h = narrow-holds x h
+    narrow-holds (binary op x y) h = let p = both (narrow_test t s x) (narrow_test t s y) h in (narrow-holds x p.0, narrow-holds y p.1)
+    narrow-holds (shift op x n) h = let p = both (narrow_test t s x) (narrow_test t s n) h in (narrow-holds x p.0, narrow-holds n p.1)
+    narrow-holds (power x n) h = let p = both (narrow_test t s x) (narrow_test t s n) h in (narrow-holds x p.0, narrow-holds n p.1)
+    narrow-holds (comparison op x y) h = let p = both (narrow_test t s x) (narrow_test t s y) h in (narrow-holds x p.0, narrow-holds y p.1)
+    narrow-holds (logical op x y) h = let p = both (narrow_test t s x) (narrow_test t s y) h in (narrow-holds x p.0, narrow-holds y p.1)
+    narrow-holds (conditional c x y) h =
+        let p = both (narrow_test t s c && narrow_test t s x) (narrow_test t s y) h in
+        let q = both (narrow_test t s c) (narrow_test t s x) p.0 in
+        (narrow-holds c q.0, narrow-holds x q.1, narrow-holds y p.1)
 
-whole-decides : (o : Object) → Decides (is_object_narrow o) (IsWidth (object_width o))
-whole-decides o = (λ e. (some_width o, (object-decides o).0 e), λ h. (object-decides o).1 h.1)
+    pub all-hold : (es : Expressions) → all_test t s es ≡ true → AreNarrow s es
+    all-hold no_expressions h = tt
+    all-hold (expression e es) h = let p = both (narrow_test t s e) (all_test t s es) h in (narrow-holds e p.0, all-hold es p.1)
 
-indexed : (w : ℕ) (b : Bool) → 1 ≤ w → Decides (cond b (nat_le w 128) true) (IsWidth (cond b w 1))
-indexed w true h = (λ e. (h, (at_most w 128).0 e), λ k. (at_most w 128).1 k.1)
-indexed w false h = (λ e. (omega arith, omega arith), λ k. refl)
+    pub select-holds : (x : Select) → select_test t s x ≡ true → IsSelectNarrow s x
+    select-holds (index i) h = narrow-holds i h
+    select-holds (part a b) h =
+        let p = all_three t (narrow_test t s a) (narrow_test t s b) h in (known p.0, narrow-holds a p.1, narrow-holds b p.2)
+    select-holds (part_up a b) h =
+        let p = all_three t (narrow_test t s a) (narrow_test t s b) h in (known p.0, narrow-holds a p.1, narrow-holds b p.2)
+    select-holds (part_down a b) h =
+        let p = all_three t (narrow_test t s a) (narrow_test t s b) h in (known p.0, narrow-holds a p.1, narrow-holds b p.2)
 
-mutual
-  pub narrow-holds : (s : Scope) (e : Expression) → narrow_test s e ≡ true → IsNarrow s e
-  narrow-holds s (number k) t = (Decides-and _ _ (width-decides k.width) (Decides-ltb k.value (2 ^ k.width))).0 t
-  narrow-holds s (name n x) t = selects-hold s (s n) x t
-  narrow-holds s (concatenation es) t =
-      let h = both (all_test s es) (is_width (widths_of s es)) t in ((width-decides (widths_of s es)).0 h.1, all-hold s es h.0)
-  narrow-holds s (replication k es) t = absurd (false≢true t)
-  narrow-holds s (as_signed x) t = narrow-holds s x t
-  narrow-holds s (as_unsigned x) t = narrow-holds s x t
-  narrow-holds s (unary op x) t = narrow-holds s x t
-  narrow-holds s (reduction op x) t = narrow-holds s x t
-  narrow-holds s (binary op x y) t = let h = both (narrow_test s x) (narrow_test s y) t in (narrow-holds s x h.0, narrow-holds s y h.1)
-  narrow-holds s (shift op x n) t = let h = both (narrow_test s x) (narrow_test s n) t in (narrow-holds s x h.0, narrow-holds s n h.1)
-  narrow-holds s (power x n) t = let h = both (narrow_test s x) (narrow_test s n) t in (narrow-holds s x h.0, narrow-holds s n h.1)
-  narrow-holds s (comparison op x y) t = let h = both (narrow_test s x) (narrow_test s y) t in (narrow-holds s x h.0, narrow-holds s y h.1)
-  narrow-holds s (logical op x y) t = let h = both (narrow_test s x) (narrow_test s y) t in (narrow-holds s x h.0, narrow-holds s y h.1)
-  narrow-holds s (conditional c x y) t =
-      let h = both (narrow_test s c && narrow_test s x) (narrow_test s y) t in
-      let k = both (narrow_test s c) (narrow_test s x) h.0 in
-      (narrow-holds s c k.0, narrow-holds s x k.1, narrow-holds s y h.1)
+    selects-hold : (o : Object) (x : Selects) → selects_test t s o x ≡ true → IsWidth (selects_width s o x) × AreSelectsNarrow s x
+    selects-hold o whole h = ((width-decides (selects_width s o whole)).0 h, tt)
+    selects-hold o (one x) h =
+        let p = both (select_test t s x) (is_width (selects_width s o (one x))) h in ((width-decides (selects_width s o (one x))).0 p.1, select-holds x p.0)
+    selects-hold o (two x y) h =
+        let p = both (select_test t s x && select_test t s y) (is_width (selects_width s o (two x y))) h in
+        let q = both (select_test t s x) (select_test t s y) p.0 in
+        ((width-decides (selects_width s o (two x y))).0 p.1, (select-holds x q.0, select-holds y q.1))
 
-  pub all-hold : (s : Scope) (es : Expressions) → all_test s es ≡ true → AreNarrow s es
-  all-hold s no_expressions t = tt
-  all-hold s (expression e es) t = let h = both (narrow_test s e) (all_test s es) t in (narrow-holds s e h.0, all-hold s es h.1)
+  -- where a program returned the test and it is true, the expression is narrow
+  pub narrow_if : (e : Expression) (r : Bool) → r ≡ narrow_at t s e → r ≡ true → IsNarrow s e
+  unfolding narrow_at
+  narrow_if e r i h = narrow-holds e (sym i ∙ h)
 
-  select-holds : (s : Scope) (x : Select) → select_test s x ≡ true → IsSelectNarrow s x
-  select-holds s (index i) t = narrow-holds s i t
-  select-holds s (part h l) t = absurd (false≢true t)
-  select-holds s (part_up b n) t = absurd (false≢true t)
-  select-holds s (part_down b n) t = absurd (false≢true t)
+  pub select_if : (x : Select) (r : Bool) → r ≡ select_at t s x → r ≡ true → IsSelectNarrow s x
+  unfolding select_at
+  select_if x r i h = select-holds x (sym i ∙ h)
 
-  selects-hold : (s : Scope) (o : Object) (x : Selects) → selects_test s o x ≡ true → IsWidth (selects_width s o x) × AreSelectsNarrow s x
-  selects-hold s o whole t = ((whole-decides o).0 t, tt)
-  selects-hold s o (one (index i)) t =
-      let h = both (is_indexed_narrow o) (narrow_test s i) t in
-      ((indexed (object_width o) (is_memory o) (some_width o)).0 h.0, narrow-holds s i h.1)
-  selects-hold s o (one (part h l)) t = absurd (no_and (is_indexed_narrow o) t)
-  selects-hold s o (one (part_up b n)) t = absurd (no_and (is_indexed_narrow o) t)
-  selects-hold s o (one (part_down b n)) t = absurd (no_and (is_indexed_narrow o) t)
-  selects-hold s o (two x (index i)) t =
-      let h = both (select_test s x) (narrow_test s i) t in
-      ((omega arith, omega arith), (select-holds s x h.0, narrow-holds s i h.1))
-  selects-hold s o (two x (part h l)) t = absurd (no_and (select_test s x) t)
-  selects-hold s o (two x (part_up b n)) t = absurd (no_and (select_test s x) t)
-  selects-hold s o (two x (part_down b n)) t = absurd (no_and (select_test s x) t)
-
--- where a program returned the test and it is true, the expression is narrow
-pub narrow_if : (s : Scope) (e : Expression) (r : Bool) → r ≡ narrow_at s e → r ≡ true → IsNarrow s e
-unfolding narrow_at
-narrow_if s e r h t = narrow-holds s e (sym h ∙ t)
-
--- parts whose test is true
-pub parts_are_narrow : (s : Scope) (es : List CodeExpression) → parts_test s es ≡ true → AreNarrow s (expressions_of es)
-parts_are_narrow s es h = all-hold s (expressions_of es) (all_parts s es ∙ h)
+  -- parts whose test is true
+  pub parts_if : (es : List CodeExpression) (r : Bool) → r ≡ parts_test t s es → r ≡ true → AreNarrow s (expressions_of es)
+  parts_if es r i h = all-hold (expressions_of es) (all_parts t s es ∙ sym i ∙ h)

@@ -1,15 +1,23 @@
 //! Whether expressions fit words, one after the other down the tree.
-ghost use Rattle.std.specs.Prelude.{◌≡◌, true, IsTrue, ◌&&◌};
-ghost use Rattle.wb_meaning.specs.Verilog.Expression.{widths_of};
+ghost use Rattle.std.specs.Prelude.{◌≡◌, IsTrue, ◌&&◌, true};
 ghost use Rattle.v_syntax.specs.Scope.{object_of, scope_at};
-ghost use Rattle.v_syntax.specs.Tree.{tree_of, select_of, selects_of, expressions_of};
-ghost use Rattle.v_syntax.specs.Narrow.{IsNarrow, AreNarrow};
-ghost use Rattle.v_narrow.specs.Test.{is_width, number_test, is_indexed_narrow, narrow_at, select_at, selects_at, parts_test, links_test, tests_test, choices_test};
+ghost use Rattle.v_syntax.specs.Tree.{tree_of, select_of, selects_of};
+ghost use Rattle.v_syntax.specs.Narrow.{IsNarrow};
+ghost use Rattle.v_narrow.specs.Test.{number_test, narrow_at, select_at, selects_at, parts_test, links_test, tests_test, choices_test};
+ghost use Rattle.v_narrow.specs.Fitting.{declared_test};
 
-use crate::object::is_object_narrow;
+use crate::object::{are_declared_narrow, is_object_narrow};
+use crate::width::{one_fits, parts_fit, repeated_fit, two_fit};
 use v_syntax::scope::{Object, Scope};
 use v_syntax::tree::{BinaryLink, Choice, Expression, Number, Select, Selects, TestLink};
-use v_syntax::width::width_of;
+
+/// A scope, and whether all its objects fit words.
+#[derive(Clone, Copy)]
+pub(crate) struct Checked<'s, 't> {
+    pub(crate) scope: &'s Scope<'t>,
+    pub(crate) objects: bool,
+    pub(crate) ghost known: { objects ≡ declared_test scope.now.declarations.items },
+}
 
 /// Whether the number has 1 to 128 bits, and its value no more than these.
 fn is_number_narrow(number: &Number) -> bool
@@ -19,102 +27,95 @@ fn is_number_narrow(number: &Number) -> bool
     1 <= width && width <= 128 && value <= wb_bits::mask(width as u32)
 }
 
-/// Whether what an index reads of the object has at most 128 bits: a word of a memory, or a bit.
-fn is_indexed_narrow(object: Object) -> bool
-    ensures { result ≡ is_indexed_narrow (object_of object) }
+/// Whether all three hold.
+fn all_three(first: bool, second: bool, third: bool) -> bool
+    ensures { result ≡ (first && (second && third)) }
 {
-    object.addresses.is_none() || is_object_narrow(object)
-}
-
-/// Whether parts that are narrow have 1 to 128 bits together.
-fn fit_together(scope: &Scope<'_>, parts: &[Expression<'_>]) -> bool
-    requires { AreNarrow (scope_at scope.now) (expressions_of parts.now) }
-    ensures { result ≡ is_width (widths_of (scope_at scope.now) (expressions_of parts.now)) }
-{
-    let mut width = 0;
-    for part in parts {
-        let own = width_of(scope, part);
-        if own > 128 - width {
-            return false;
-        }
-        width += own;
-    }
-    width > 0
-}
-
-/// Whether the parts have 1 to 128 bits together, where `narrow` says whether each is narrow.
-fn joined(scope: &Scope<'_>, parts: &[Expression<'_>], narrow: bool) -> bool
-    requires { narrow ≡ parts_test (scope_at scope.now) parts.now }
-    ensures { result ≡ (parts_test (scope_at scope.now) parts.now && is_width (widths_of (scope_at scope.now) (expressions_of parts.now))) }
-{
-    narrow && fit_together(scope, parts)
-}
-
-/// Whether both hold.
-fn both(first: bool, second: bool) -> bool
-    ensures { result ≡ (first && second) }
-{
-    first && second
+    first && second && third
 }
 
 /// Whether the expression is narrow.
 #[cycle(narrow)]
-fn narrow(scope: &Scope<'_>, expression: &Expression<'_>) -> bool
-    ensures { result ≡ narrow_at (scope_at scope.now) (tree_of expression.now) }
+fn narrow(checked: Checked<'_, '_>, expression: &Expression<'_>) -> bool
+    ensures { result ≡ narrow_at checked.entry.objects (scope_at checked.entry.scope.now) (tree_of expression.now) }
 {
     match expression {
         Expression::Number(number) => is_number_narrow(number),
-        Expression::Name(name, selects) => selects_narrow(scope, scope.object(name), selects),
-        Expression::Concatenation(parts) => joined(scope, parts, parts_narrow(scope, parts)),
-        Expression::Replication(_, _) => false,
-        Expression::AsSigned(operand) => narrow(scope, operand),
-        Expression::AsUnsigned(operand) => narrow(scope, operand),
-        Expression::Prefix(_, operand) => narrow(scope, operand),
-        Expression::Binary(first, links) => links_narrow(scope, narrow(scope, first), links),
-        Expression::Test(first, links) => tests_narrow(scope, narrow(scope, first), links),
+        Expression::Name(name, selects) => selects_narrow(
+            checked,
+            checked.scope.object(name),
+            selects,
+        ),
+        Expression::Concatenation(parts) => parts_fit(checked, parts, parts_narrow(checked, parts)),
+        Expression::Replication(count, parts) => repeated_fit(
+            checked,
+            count,
+            parts,
+            narrow(checked, count),
+            parts_narrow(checked, parts),
+        ),
+        Expression::AsSigned(operand) => narrow(checked, operand),
+        Expression::AsUnsigned(operand) => narrow(checked, operand),
+        Expression::Prefix(_, operand) => narrow(checked, operand),
+        Expression::Binary(first, links) => links_narrow(checked, narrow(checked, first), links),
+        Expression::Test(first, links) => tests_narrow(checked, narrow(checked, first), links),
         Expression::Conditional(choices, last) => choices_narrow(
-            scope,
+            checked,
             choices,
-            narrow(scope, last),
+            narrow(checked, last),
         ),
     }
 }
 
-/// Whether what the selects read of the object has at most 128 bits, and their indexes are narrow.
+/// Whether what the selects read of the object has 1 to 128 bits, and each select is narrow.
 #[cycle(narrow)]
-fn selects_narrow(scope: &Scope<'_>, object: Object, selects: &Selects<'_>) -> bool
-    ensures { result ≡ selects_at (scope_at scope.now) (object_of object) (selects_of selects.now) }
+fn selects_narrow(checked: Checked<'_, '_>, object: Object, selects: &Selects<'_>) -> bool
+    ensures { result ≡ selects_at checked.entry.objects (scope_at checked.entry.scope.now) (object_of object) (selects_of selects.now) }
 {
     match selects {
         Selects::Whole => is_object_narrow(object),
-        Selects::One(select) => both(is_indexed_narrow(object), select_narrow(scope, select)),
-        Selects::Two(first, second) => both(
-            select_narrow(scope, first),
-            select_narrow(scope, second),
+        Selects::One(select) => one_fits(checked, object, select, select_narrow(checked, select)),
+        Selects::Two(first, second) => two_fit(
+            checked,
+            second,
+            select_narrow(checked, first),
+            select_narrow(checked, second),
         ),
     }
 }
 
-/// Whether the select is a narrow index.
+/// Whether the expressions in the select are narrow, and what is read of them with no values can be.
 #[cycle(narrow)]
-fn select_narrow(scope: &Scope<'_>, select: &Select<'_>) -> bool
-    ensures { result ≡ select_at (scope_at scope.now) (select_of select.now) }
+fn select_narrow(checked: Checked<'_, '_>, select: &Select<'_>) -> bool
+    ensures { result ≡ select_at checked.entry.objects (scope_at checked.entry.scope.now) (select_of select.now) }
 {
     match select {
-        Select::Index(index) => narrow(scope, index),
-        Select::Part(_, _) => false,
-        Select::PartUp(_, _) => false,
-        Select::PartDown(_, _) => false,
+        Select::Index(index) => narrow(checked, index),
+        Select::Part(left, right) => all_three(
+            checked.objects,
+            narrow(checked, left),
+            narrow(checked, right),
+        ),
+        Select::PartUp(base, count) => all_three(
+            checked.objects,
+            narrow(checked, base),
+            narrow(checked, count),
+        ),
+        Select::PartDown(base, count) => all_three(
+            checked.objects,
+            narrow(checked, base),
+            narrow(checked, count),
+        ),
     }
 }
 
 /// Whether each part is narrow.
 #[cycle(narrow)]
-fn parts_narrow(scope: &Scope<'_>, parts: &[Expression<'_>]) -> bool
-    ensures { result ≡ parts_test (scope_at scope.now) parts.now }
+fn parts_narrow(checked: Checked<'_, '_>, parts: &[Expression<'_>]) -> bool
+    ensures { result ≡ parts_test checked.entry.objects (scope_at checked.entry.scope.now) parts.now }
 {
     for part in parts {
-        if !narrow(scope, part) {
+        if !narrow(checked, part) {
             return false;
         }
     }
@@ -123,11 +124,11 @@ fn parts_narrow(scope: &Scope<'_>, parts: &[Expression<'_>]) -> bool
 
 /// Whether a chain is narrow, where `first` says so of its first operand.
 #[cycle(narrow)]
-fn links_narrow(scope: &Scope<'_>, first: bool, links: &[BinaryLink<'_>]) -> bool
-    ensures { result ≡ (first && links_test (scope_at scope.now) links.now) }
+fn links_narrow(checked: Checked<'_, '_>, first: bool, links: &[BinaryLink<'_>]) -> bool
+    ensures { result ≡ (first && links_test checked.entry.objects (scope_at checked.entry.scope.now) links.now) }
 {
     for link in links {
-        if !narrow(scope, &link.operand) {
+        if !narrow(checked, &link.operand) {
             return false;
         }
     }
@@ -136,11 +137,11 @@ fn links_narrow(scope: &Scope<'_>, first: bool, links: &[BinaryLink<'_>]) -> boo
 
 /// Whether a chain of tests is narrow, where `first` says so of its first operand.
 #[cycle(narrow)]
-fn tests_narrow(scope: &Scope<'_>, first: bool, links: &[TestLink<'_>]) -> bool
-    ensures { result ≡ (first && tests_test (scope_at scope.now) links.now) }
+fn tests_narrow(checked: Checked<'_, '_>, first: bool, links: &[TestLink<'_>]) -> bool
+    ensures { result ≡ (first && tests_test checked.entry.objects (scope_at checked.entry.scope.now) links.now) }
 {
     for link in links {
-        if !narrow(scope, &link.operand) {
+        if !narrow(checked, &link.operand) {
             return false;
         }
     }
@@ -149,23 +150,27 @@ fn tests_narrow(scope: &Scope<'_>, first: bool, links: &[TestLink<'_>]) -> bool
 
 /// Whether a conditional is narrow, where `last` says so of its last value.
 #[cycle(narrow)]
-fn choices_narrow(scope: &Scope<'_>, choices: &[Choice<'_>], last: bool) -> bool
-    ensures { result ≡ (choices_test (scope_at scope.now) choices.now && last) }
+fn choices_narrow(checked: Checked<'_, '_>, choices: &[Choice<'_>], last: bool) -> bool
+    ensures { result ≡ (choices_test checked.entry.objects (scope_at checked.entry.scope.now) choices.now && last) }
 {
     for choice in choices {
-        if !narrow(scope, &choice.condition) || !narrow(scope, &choice.value) {
+        if !narrow(checked, &choice.condition) || !narrow(checked, &choice.value) {
             return false;
         }
     }
     last
 }
 
-/// Whether each part of the expression fits words of at most 128 bits, and is of a form whose value is computed: part selects are
-/// not, and of replications this says no, since their counts are not looked at. The parts of a concatenation are walked through
-/// again for their widths.
+/// Whether each part of the expression fits words of at most 128 bits. Counts of replications and bounds of part selects are
+/// read with no values, which is done only where all objects of the scope are narrow. The parts of a concatenation or
+/// replication are walked through again for their widths, and counts and bounds for their values.
 pub fn is_narrow(scope: &Scope<'_>, expression: &Expression<'_>) -> bool
     ensures narrow { IsTrue result → IsNarrow (scope_at scope.now) (tree_of expression.now) }
-    ensures exact { result ≡ narrow_at (scope_at scope.now) (tree_of expression.now) }
+    ensures exact { result ≡ narrow_at (declared_test scope.now.declarations.items) (scope_at scope.now) (tree_of expression.now) }
 {
-    narrow(scope, expression)
+    let checked = Checked {
+        scope,
+        objects: are_declared_narrow(&scope.declarations),
+    };
+    narrow(checked, expression)
 }

@@ -3,6 +3,9 @@
 
 mod expression;
 mod object;
+#[cfg(test)]
+mod tests;
+mod width;
 
 pub use expression::is_narrow;
 pub use object::{are_objects_narrow, values_fit};

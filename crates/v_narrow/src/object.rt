@@ -41,7 +41,7 @@ fn constant_fits(object: Object) -> bool
 }
 
 /// Whether each declared object fits words.
-fn are_declared_narrow(declarations: &[Declaration<'_>]) -> bool
+pub(crate) fn are_declared_narrow(declarations: &[Declaration<'_>]) -> bool
     ensures { result ≡ declared_test declarations.now }
 {
     for declaration in declarations {

@@ -3,7 +3,7 @@ use Rattle.wb_meaning.specs.Verilog.Expression.{widths_of}
 use Rattle.v_syntax.specs.Scope.{scope_at}
 use Rattle.v_syntax.specs.Tree.{expressions_of}
 use Rattle.v_syntax.specs.Narrow.{AreNarrow}
-use Rattle.v_narrow.proofs.expression.fit_together.Given as goal
+use Rattle.v_narrow.proofs.width.width_together.Given as goal
 
 abbrev pub invariant-loop-part : goal.invariant-loop-part
 invariant-loop-part l = record {

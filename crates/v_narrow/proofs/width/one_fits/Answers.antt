@@ -1,0 +1,11 @@
+use Rattle.v_syntax.specs.Scope.{scope_at}
+use Rattle.v_syntax.specs.Tree.{select_of}
+use Rattle.v_narrow.proofs.Narrowed.{select_if}
+use Rattle.v_narrow.proofs.Fitted.{objects_if}
+use Rattle.v_narrow.proofs.width.one_fits.Goals as goal
+
+pub takes_few-requires : goal.takes_few-requires
+takes_few-requires c =
+    select_if c.args.checked.objects (scope_at c.args.checked.scope.now)
+    (objects_if c.args.checked.scope.now.declarations.items c.args.checked.objects c.args.checked.known)
+    (select_of c.args.select.now) c.args.narrow c.requires c.if-not-narrow.false
