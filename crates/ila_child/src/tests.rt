@@ -1,6 +1,6 @@
 //! Tests: steps of a counter with changed conditions, and a memory that is stored to twice at one address.
 
-ghost use Rattle.std.specs.Prelude.{◌≡◌, ◌<◌, [], ◌∷◌, IfOk, string_bytes};
+ghost use Rattle.std.specs.Prelude.{◌≡◌, ◌<◌, [], ◌∷◌, IfOk, length, string_bytes};
 ghost use Rattle.wb_meaning.specs.Value.{word, memory};
 ghost use Rattle.wb_meaning.specs.Model.{states_of};
 ghost use Rattle.ila_model.specs.Model.{model_of};
@@ -222,9 +222,10 @@ const BELOW_4: TermId = TermId(8);
 
 const BELOW_2: TermId = TermId(9);
 
-/// Names: p of 8 bits, the inputs x and y of 4 bits, and the private i of 3 bits.
-fn multiplier_terms(alloc: Global) -> Result<Terms, PutStop>
-    ensures { IfOk result (λ t. t.names ≡ (112 ∷ [], word 8) ∷ (120 ∷ [], word 4) ∷ (121 ∷ [], word 4) ∷ (105 ∷ [], word 3) ∷ []) }
+/// Names: p of 8 bits, the inputs x and y of 4 bits, and the private i of 3 bits; and the first ten terms.
+fn multiplier_names(alloc: Global) -> Result<Terms, PutStop>
+    ensures names { IfOk result (λ t. t.names ≡ (112 ∷ [], word 8) ∷ (120 ∷ [], word 4) ∷ (121 ∷ [], word 4) ∷ (105 ∷ [], word 3) ∷ []) }
+    ensures count { IfOk result (λ t. length t.nodes ≡ 10) }
 {
     let Ok(mut terms) = Terms::new(alloc) else {
         return Err(PutStop::NoMemory);
@@ -233,9 +234,9 @@ fn multiplier_terms(alloc: Global) -> Result<Terms, PutStop>
     let x = terms.declare(named(alloc, "x")?, Sort::Word(4))?;
     let y = terms.declare(named(alloc, "y")?, Sort::Word(4))?;
     let i = terms.declare(named(alloc, "i")?, Sort::Word(3))?;
-    let product = terms.put(Node::Name(p))?;
-    let factor = terms.put(Node::Name(x))?;
-    let other = terms.put(Node::Name(y))?;
+    terms.put(Node::Name(p))?;
+    terms.put(Node::Name(x))?;
+    terms.put(Node::Name(y))?;
     let place = terms.put(Node::Name(i))?;
     terms.put(Node::Const(8, 0))?;
     terms.put(Node::Truth(true))?;
@@ -243,18 +244,26 @@ fn multiplier_terms(alloc: Global) -> Result<Terms, PutStop>
     let two = terms.put(Node::Const(3, 2))?;
     terms.put(Node::Ult(place, four))?;
     terms.put(Node::Ult(place, two))?;
-    let shift = terms.put(Node::Zext(4, place))?;
-    let shifted = terms.put(Node::Lshr(other, shift))?;
+    Ok(terms)
+}
+
+/// All terms of the multiplier.
+fn multiplier_terms(alloc: Global) -> Result<Terms, PutStop>
+    ensures { IfOk result (λ t. t.names ≡ (112 ∷ [], word 8) ∷ (120 ∷ [], word 4) ∷ (121 ∷ [], word 4) ∷ (105 ∷ [], word 3) ∷ []) }
+{
+    let mut terms = multiplier_names(alloc)?;
+    let shift = terms.put(Node::Zext(4, TermId(3)))?;
+    let shifted = terms.put(Node::Lshr(TermId(2), shift))?;
     let lowest = terms.put(Node::Extract(0, 0, shifted))?;
     let one = terms.put(Node::Const(1, 1))?;
     let is_set = terms.put(Node::Eq(lowest, one))?;
-    let wide = terms.put(Node::Zext(8, factor))?;
-    let by = terms.put(Node::Zext(8, place))?;
+    let wide = terms.put(Node::Zext(8, TermId(1)))?;
+    let by = terms.put(Node::Zext(8, TermId(3)))?;
     let part = terms.put(Node::Shl(wide, by))?;
-    let sum = terms.put(Node::Add(product, part))?;
-    terms.put(Node::Ite(is_set, sum, product))?;
+    let sum = terms.put(Node::Add(TermId(0), part))?;
+    terms.put(Node::Ite(is_set, sum, TermId(0)))?;
     let next = terms.put(Node::Const(3, 1))?;
-    terms.put(Node::Add(place, next))?;
+    terms.put(Node::Add(TermId(3), next))?;
     Ok(terms)
 }
 
