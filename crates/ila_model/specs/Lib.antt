@@ -1,3 +1,4 @@
+pub mod Scope
 pub mod Sorted
 pub mod Meaning
 pub mod Model

@@ -5,4 +5,4 @@ use Rattle.ila_model.specs.declared.model.IlaModel.{IlaModel}
 use Rattle.ila_model.specs.Meaning.{model_from}
 
 abbrev pub model_of : IlaModel → Model
-model_of m = model_from (string_bytes m.name) m.terms m.initial_values.items m.valid.0 m.instructions.items
+model_of m = model_from (string_bytes m.name) m.parts

@@ -1,11 +1,12 @@
-//! Instruction-level models: states, inputs, a valid condition and instructions over a store of terms, well sorted.
+//! Instruction-level models: states, inputs, a valid condition, instructions and child programs over a store of terms, well sorted.
 #![tactic(auto)]
 
-mod instructions;
 mod model;
+mod parts;
+mod scopes;
 mod sorted;
 #[cfg(test)]
 mod tests;
 
-pub use instructions::{Instruction, Update};
 pub use model::IlaModel;
+pub use parts::{Child, ChildId, Instruction, Parts, Update};

@@ -1,13 +1,14 @@
 -- Lemmas on the words that stand for values: of addresses, and of memories with a word replaced.
-use Rattle.std.proofs.Common.{◌≡◌, ℕ, zero, suc, ◌<◌, ◌^◌, Bool, true, false, ◌&&◌, nat_lt, nat_le, List, [], ◌∷◌, length, Option, Some, IsTrue, IsSome, refl, ap, ◌∙◌, arith}
+use Rattle.std.proofs.Common.{◌≡◌, ℕ, zero, suc, ◌<◌, ◌^◌, Bool, true, false, ◌&&◌, nat_lt, nat_le, List, [], ◌∷◌, length, Option, Some, None, IsTrue, IsSome, refl, ap, ◌∙◌, arith}
 use Rattle.std.specs.Prelude.{◌==◌, slice_set}
 use Rattle.std.proofs.Math.ListN.{length-set}
 use Rattle.std.proofs.Math.Pow.{pow-lt}
 use Rattle.std.proofs.lemmas.Bool.{false≢true}
 use Rattle.std.proofs.lemmas.Bool.Decides.{nat_tests}
-use Rattle.wb_meaning.specs.Value.{Value, Sort, word, memory, truth_value, number, words, all_below, as_words, as_number}
+use Rattle.wb_meaning.specs.Value.{Value, Sort, truth, word, memory, truth_value, number, words, all_below, as_words, as_number}
 use Rattle.wb_meaning.specs.Term.{is_sort, is_width, some_if, load_sort, store_sort}
 use Rattle.wb_terms.specs.Held.{IsHeldBy}
+use Rattle.wb_terms.specs.Environment.{HasSortOf}
 use Rattle.wb_terms.proofs.InRange.{IsInRange}
 
 pub both : (a b : Bool) → IsTrue (a && b) → IsTrue a × IsTrue b
@@ -82,6 +83,9 @@ all_below-set d (w ∷ ws) (suc k) x h b =
 pub test_of : (a b : ℕ) → a < b → IsTrue (nat_lt a b)
 test_of a b h = grind (arith, nat_tests)
 
+equal_test : (a b : ℕ) → a ≡ b → IsTrue (a == b)
+equal_test a b h = grind (arith, nat_tests)
+
 length_written : (ws : List ℕ) (k x a : ℕ) → length ws ≡ 2 ^ a → length (slice_set ws k x) ≡ 2 ^ a
 length_written ws k x a h = length-set ws k x ∙ h
 
@@ -98,3 +102,16 @@ held_store m i x vm vi vx wm nm wx nx w n s hm hx ew en =
     let l = length_written ws k q.0 a p.2 in
     let b : IsTrue (all_below d (slice_set ws k q.0)) = all_below-set d ws k q.0 p.3 (test_of q.0 (2 ^ d) q.3) in
     rw (t.5, p.1, q.1) (ew, en, l, b)
+
+-- a value that a word stands for is of its sort
+pub HasSortOf-held : (o : Option Sort) (v : Value) (w n : ℕ) → IsHeldBy o v w n → HasSortOf v o
+HasSortOf-held None v w n h = absurd h
+HasSortOf-held (Some truth) (truth_value b) w n h = refl
+HasSortOf-held (Some truth) (number m) w n h = absurd h
+HasSortOf-held (Some truth) (words ws) w n h = absurd h
+HasSortOf-held (Some (word u)) (truth_value b) w n h = absurd h
+HasSortOf-held (Some (word u)) (number m) w n h = test_of m (2 ^ u) h.2
+HasSortOf-held (Some (word u)) (words ws) w n h = absurd h
+HasSortOf-held (Some (memory a d)) (truth_value b) w n h = absurd h
+HasSortOf-held (Some (memory a d)) (number m) w n h = absurd h
+HasSortOf-held (Some (memory a d)) (words ws) w n h = both_from (length ws == 2 ^ a) (all_below d ws) (equal_test (length ws) (2 ^ a) h.2) h.3

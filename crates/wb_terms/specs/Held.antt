@@ -1,5 +1,5 @@
 -- What the scratch keeps of a term: its value as a word. A truth value is a word of one bit, and a memory, which has no number, is 0.
-use Rattle.std.specs.Prelude.{ℕ, ◌<◌, ◌≡◌, ◌^◌, cond, List, length, Option, Some, IsTrue, slice_index_or}
+use Rattle.std.specs.Prelude.{ℕ, ◌<◌, ◌≤◌, ◌≡◌, ◌^◌, cond, List, length, Option, Some, IsTrue, slice_index_or}
 use Rattle.wb_meaning.specs.Value.{Value, Sort, truth, word, memory, truth_value, number, words, all_below}
 use Rattle.wb_meaning.specs.Term.{sort_of}
 use Rattle.wb_bits.specs.declared.Word.{Word}
@@ -17,3 +17,8 @@ IsHeldBy _ _ w n = ⊥
 -- the words hold the terms below a bound
 abbrev pub AreHeld : Graph → Env → List Word → ℕ → Type 0
 AreHeld g e ws n = (k : ℕ) (d : Word) → k < n → IsHeldBy (sort_of (tree g k)) (value_of g e k) (slice_index_or ws k d).width (slice_index_or ws k d).value
+
+-- the words hold every term of the store
+pub record Holds (g : Graph) (e : Env) (ws : List Word) : Type 0 where
+  pub room : length g.nodes ≤ length ws
+  pub held : AreHeld g e ws (length g.nodes)

@@ -85,7 +85,7 @@ fn fill(terms: &Terms, env: &Env, words: &mut [Word], last: TermId)
 }
 
 /// The value of a term as a word, by those of the earlier terms.
-fn word_of(terms: &Terms, env: &Env, words: &[Word], id: TermId) -> Word
+pub(crate) fn word_of(terms: &Terms, env: &Env, words: &[Word], id: TermId) -> Word
     requires id { id.0 < length terms.now.nodes }
     requires room { length terms.now.nodes ≤ length words.now }
     requires fits { Fits terms.now env.now }
@@ -159,7 +159,7 @@ enum Read {
 }
 
 /// The word of a memory at an address, by the words of the earlier terms.
-fn word_at(terms: &Terms, env: &Env, words: &[Word], id: TermId, address: u64) -> Word
+pub(crate) fn word_at(terms: &Terms, env: &Env, words: &[Word], id: TermId, address: u64) -> Word
     requires id { id.0 < length terms.now.nodes }
     requires room { length terms.now.nodes ≤ length words.now }
     requires fits { Fits terms.now env.now }

@@ -3,6 +3,7 @@
 
 mod evaluation;
 mod nodes;
+mod passes;
 mod sorts;
 mod store;
 #[cfg(test)]
@@ -11,6 +12,7 @@ mod values;
 
 pub use evaluation::{Scratch, eval, eval_at};
 pub use nodes::{NameId, Node, TermId};
+pub use passes::Evaluated;
 pub use sorts::Sort;
 use std::alloc::AllocError;
 pub use store::{PutStop, Terms};
