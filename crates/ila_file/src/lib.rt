@@ -1,10 +1,19 @@
 //! Model files as they are written, and their reading from the data of JSON.
 #![tactic(auto)]
 
-mod probe;
+mod impossible;
+mod keys;
+mod note;
+mod place;
+mod shape;
+mod stop;
 mod written;
 
-pub use probe::{child_with, has_step_limits, instruction_with, machine_with};
+pub use keys::unknown_key;
+pub use note::Note;
+pub use place::{Place, Spot};
+pub use shape::read_shape;
+pub use stop::{NoMemory, ShapeStop};
 pub use written::{
     BinaryOperator, Definition, UnaryOperator, Widening, WrittenChild, WrittenInput,
     WrittenInstruction, WrittenMachine, WrittenModel, WrittenSort, WrittenState, WrittenTerm,
