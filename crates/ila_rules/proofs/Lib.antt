@@ -1,5 +1,5 @@
 pub mod Briefs
 pub mod Bits
 pub mod Frames
+pub mod Parts
 pub mod Walks
-pub mod Probe

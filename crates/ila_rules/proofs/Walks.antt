@@ -16,6 +16,7 @@ use Rattle.ila_rules.specs.Seen.{LookUp, States, condition}
 use Rattle.ila_rules.specs.Flaws.{Flaws, with_term, state_flaws, definition_flaws, fetch_flaws, head_flaws, own_flaws, look_states, look_within, look_fetch, states_within, machine_flaws, instructions_flaws, instruction_flaws, child_flaws}
 use Rattle.ila_rules.specs.View.{look_frames, look_of, states_frames, states_of}
 use Rattle.ila_rules.specs.declared.scope.Frame.{Frame}
+use Rattle.ila_rules.proofs.Parts.{instruction_is, machine_is}
 use Rattle.ila_rules.proofs.Frames.{look_behind, states_behind}
 
 -- ---- a machine's names and its head
@@ -63,7 +64,7 @@ instruction_parts : (inner look : LookUp) (states : States) (i : WrittenInstruct
     → child_flaws inner states (held_child_view (out-WrittenInstruction i).child)
         (own_flaws look states (term_view (out-WrittenInstruction i).decode) (map update_view (out-WrittenInstruction i).updates.items) f)
     ≡ instruction_flaws inner look states (instruction_view i) f
-instruction_parts inner look states i f = ?
+instruction_parts inner look states i f = sym (ap (λ w. instruction_flaws inner look states w f) (instruction_is i (out-WrittenInstruction i).child refl))
 
 pub with_child : (old lent : List Frame) (last : Frame) (i : WrittenInstruction) (us : List WrittenUpdate) (b : Box WrittenChild Global) (x : WrittenChild) (f0 f1 f2 : Flaws)
     → us ≡ (out-WrittenInstruction i).updates.items → lent ≡ old → (out-WrittenInstruction i).child ≡ Some b → x ≡ b.value
@@ -103,7 +104,7 @@ machine_parts : (look : LookUp) (states : States) (m : WrittenMachine) (f : Flaw
         (head_flaws look (map state_view (out-WrittenMachine m).states.items) (map definition_view (out-WrittenMachine m).definitions.items)
             (fetch_view (out-WrittenMachine m).fetch) (term_view (out-WrittenMachine m).valid) f)
     ≡ machine_flaws look states (machine_view m) f
-machine_parts look states m f = ?
+machine_parts look states m f = sym (ap (λ w. machine_flaws look states w f) (machine_is m))
 
 pub machine_all : (old new : List Frame) (last : Frame) (m : WrittenMachine) (ss : List WrittenState) (ds : List Definition) (is : List WrittenInstruction) (k : ℕ) (f0 f1 f2 : Flaws)
     → ss ≡ (out-WrittenMachine m).states.items → ds ≡ (out-WrittenMachine m).definitions.items → is ≡ (out-WrittenMachine m).instructions.items

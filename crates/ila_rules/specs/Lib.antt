@@ -1,3 +1,4 @@
 pub mod Seen
 pub mod Flaws
 pub mod View
+pub mod Depths

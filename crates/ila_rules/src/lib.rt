@@ -2,6 +2,7 @@
 #![tactic(auto)]
 
 mod findings;
+mod limits;
 mod scope;
 mod sorts;
 mod terms;
