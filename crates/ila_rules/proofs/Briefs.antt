@@ -167,7 +167,7 @@ briefs_more names k v = λ i n. sym (map_cond (same_name k n) v (entry_of names 
 pub defined_same : (names : Entries Visible) (e : WrittenTerm) → brief_at (briefs names) e ≡ brief_of (defined names e)
 defined_same names e = λ i. record { sort = sort_same names e i; memory = memory_same names e i }
 
-definition_more : (names : Entries Visible) (k : Name) (e : WrittenTerm)
+pub definition_more : (names : Entries Visible) (k : Name) (e : WrittenTerm)
     → with_name k (brief_at (briefs names) e) (briefs names) ≡ briefs ((k, defined names e) ∷ names)
 definition_more names k e = ap (λ b. with_name k b (briefs names)) (defined_same names e) ∙ briefs_more names k (defined names e)
 
@@ -194,14 +194,5 @@ fetch_same names (Some e) = definition_more names (codes "fetch") e
 
 -- ---- states that updates may set
 
-pub sorts_of : List StateDeclaration → States
+abbrev pub sorts_of : List StateDeclaration → States
 sorts_of ss n = option_map (λ s. s.sort) (state_named ss n)
-
-first_named : (b : Bool) (s : StateDeclaration) (o : Option StateDeclaration) (t : Option Sort)
-    → first_of (option_map (λ d. d.sort) (cond b (Some s) o)) t ≡ cond b (Some s.sort) (first_of (option_map (λ d. d.sort) o) t)
-first_named true s o t = refl
-first_named false s o t = refl
-
-cond_none : (b : Bool) (s : StateDeclaration) → option_map (λ d. d.sort) (cond b (Some s) None) ≡ some_if b s.sort
-cond_none true s = refl
-cond_none false s = refl

@@ -6,7 +6,10 @@ use Rattle.std.specs.Cmp.Lexicographic.{slice_cmp}
 use Rattle.std.specs.BTreeMap as tree
 use Rattle.std.specs.BTreeMap.{BTreeMap}
 use Rattle.std.proofs.lemmas.Slice.Eq.{bytes_eq-Decides}
-use Rattle.std.proofs.lemmas.Map.Text.{btree_map_updates_str}
+use Rattle.std.specs.BTreeSet as sorted
+use Rattle.std.specs.BTreeSet.{BTreeSet}
+use Rattle.std.proofs.lemmas.Map.Text.{btree_map_updates_str, is_eq-slice_cmp}
+use Rattle.ila_rules.specs.NameFlaws.{with_member}
 use Rattle.wb_meaning.specs.Value.{Name, same_name}
 use Rattle.wb_meaning.specs.Term.{some_if}
 use Rattle.wb_meaning.specs.Verilog.Hierarchy.{first_of}
@@ -14,7 +17,7 @@ use Rattle.wb_meaning.specs.Model.{StateDeclaration}
 use Rattle.ila_rules.specs.Seen.{Brief, LookUp, States, with_name, brief_declared}
 use Rattle.ila_rules.specs.Flaws.{look_states, with_state, states_within}
 use Rattle.ila_rules.specs.declared.scope.Frame.{Frame}
-use Rattle.ila_rules.specs.View.{under_name, look_frame, look_frames, look_of, no_names, seen_onto, states_frame, states_frames, states_of}
+use Rattle.ila_rules.specs.View.{known, under_name, look_frame, look_frames, look_of, no_names, seen_onto, states_frame, states_frames, states_of}
 
 map_cond : {A B : Type 0} (f : A → B) (b : Bool) (v : A) (o : Option A) → option_map f (cond b (Some v) o) ≡ cond b (Some (f v)) (option_map f o)
 map_cond f true v o = refl
@@ -138,3 +141,19 @@ states_in_own fs e f ss none is =
     ∙ (within_over (states_frames fs) (states_frame e) ss
     ∙ (ap (λ (l : States). states_within (under (states_frames fs) l) ss) none
     ∙ ap (λ (l : States). states_within l ss) (λ i n. first_none (states_frames fs n) i)))
+
+-- ---- sets of names
+
+pub member_more : (s n : BTreeSet (Bor (List ℕ))) (k : Bor (List ℕ)) → sorted.Updates (λ x y. slice_cmp nat_cmp x.now y.now) s n k true → (q : Name)
+    → known n q ≡ with_member k.now (known s) q
+member_more s n k u q =
+    let at_q : Bor (List ℕ) = record { ref_ptr = (0, 0); now = q } in
+    u.0 at_q ∙ ap (λ t. cond t true (known s q)) (is_eq-slice_cmp k.now q)
+
+-- ---- the frame of the inputs
+
+pub look_only : (f : Frame) → look_frames (f ∷ []) ≡ look_frame f
+look_only f = λ i n. first_none (look_frame f n) i
+
+pub states_only : (f : Frame) → states_frames (f ∷ []) ≡ states_frame f
+states_only f = λ i n. first_none (states_frame f n) i

@@ -5,19 +5,20 @@ use Rattle.std.proofs.lemmas.List.{drop_all}
 use Rattle.wb_meaning.specs.Value.{Entries}
 use Rattle.wb_meaning.specs.Model.{StateDeclaration}
 use Rattle.wb_meaning.specs.ModelFile.Written as pure
-use Rattle.ila_file.specs.View.{state_view, definition_view, update_view, fetch_view, term_view, machine_view, instruction_view, child_view, held_child_view, instructions_view}
+use Rattle.ila_file.specs.View.{input_view, state_view, definition_view, update_view, fetch_view, term_view, machine_view, instruction_view, child_view, held_child_view, instructions_view}
 use Rattle.ila_file.specs.declared.written.WrittenState.{WrittenState}
+use Rattle.ila_file.specs.declared.written.WrittenInput.{WrittenInput}
 use Rattle.ila_file.specs.declared.written.WrittenUpdate.{WrittenUpdate}
 use Rattle.ila_file.specs.declared.written.Definition.{Definition}
 use Rattle.ila_file.specs.declared.written.WrittenChild.{WrittenChild}
 use Rattle.ila_file.specs.declared.written.WrittenInstruction.{WrittenInstruction, out-WrittenInstruction}
 use Rattle.ila_file.specs.declared.written.WrittenMachine.{WrittenMachine, out-WrittenMachine}
 use Rattle.ila_rules.specs.Seen.{LookUp, States, condition}
-use Rattle.ila_rules.specs.Flaws.{Flaws, with_term, state_flaws, definition_flaws, fetch_flaws, head_flaws, own_flaws, look_states, look_within, look_fetch, states_within, machine_flaws, instructions_flaws, instruction_flaws, child_flaws}
-use Rattle.ila_rules.specs.View.{look_frames, look_of, states_frames, states_of}
+use Rattle.ila_rules.specs.Flaws.{Flaws, no_flaws, input_flaws, look_inputs, with_term, state_flaws, definition_flaws, fetch_flaws, head_flaws, own_flaws, look_states, look_within, look_fetch, states_within, machine_flaws, instructions_flaws, instruction_flaws, child_flaws}
+use Rattle.ila_rules.specs.View.{look_frame, look_frames, look_of, no_names, states_frame, states_frames, states_of}
 use Rattle.ila_rules.specs.declared.scope.Frame.{Frame}
 use Rattle.ila_rules.proofs.Parts.{instruction_is, machine_is}
-use Rattle.ila_rules.proofs.Frames.{look_behind, states_behind}
+use Rattle.ila_rules.proofs.Frames.{look_behind, states_behind, look_only, states_only}
 
 -- ---- a machine's names and its head
 
@@ -120,3 +121,22 @@ machine_all old new last m ss ds is k f0 f1 f2 same_ss same_ds same_is head inne
     sym (ap (λ (xs : List WrittenInstruction). instructions_flaws (look_frames new) (look_of new last) (states_frames new) (instructions_view xs) f2) (drop_all k is past))
     ∙ (turns
     ∙ (rw (inner, look, states, head, same_ss, same_ds, same_is) (machine_parts (look_frames old) (states_frames old) m f0)))
+
+-- ---- the whole file
+
+pub whole : (lent inputs : List WrittenInput) (start frames : List Frame) (f : Frame) (w : pure.WrittenMachine) (f0 f1 f2 : Flaws)
+    → lent ≡ inputs → start ≡ [] → frames ≡ start ++ f ∷ [] → f0 ≡ no_flaws → f1 ≡ input_flaws (map input_view lent) f0
+    → look_frame f ≡ look_inputs no_names (map input_view lent) → states_frame f ≡ (λ n. None)
+    → f2 ≡ machine_flaws (look_frames frames) (states_frames frames) w f1
+    → f2 ≡ machine_flaws (look_inputs no_names (map input_view inputs)) (λ n. None) w (input_flaws (map input_view inputs) no_flaws)
+whole lent inputs start frames f w f0 f1 f2 same empty pushed none first look states last =
+    let one : frames ≡ f ∷ [] = pushed ∙ ap (λ (fs : List Frame). fs ++ f ∷ []) empty in
+    let looks : look_frames frames ≡ look_inputs no_names (map input_view inputs) =
+        ap (λ (fs : List Frame). look_frames fs) one ∙ (look_only f ∙ (look ∙ ap (λ (xs : List WrittenInput). look_inputs no_names (map input_view xs)) same)) in
+    let none_set : states_frames frames ≡ (λ n. None) = ap (λ (fs : List Frame). states_frames fs) one ∙ (states_only f ∙ states) in
+    let started : f1 ≡ input_flaws (map input_view inputs) no_flaws =
+        first ∙ (ap (λ (x : Flaws). input_flaws (map input_view lent) x) none ∙ ap (λ (xs : List WrittenInput). input_flaws (map input_view xs) no_flaws) same) in
+    last
+    ∙ (ap (λ (x : LookUp). machine_flaws x (states_frames frames) w f1) looks
+    ∙ (ap (λ (x : States). machine_flaws (look_inputs no_names (map input_view inputs)) x w f1) none_set
+    ∙ ap (λ (x : Flaws). machine_flaws (look_inputs no_names (map input_view inputs)) (λ n. None) w x) started))

@@ -114,3 +114,7 @@ abbrev mutual
   pub child_flaws : LookUp → States → WrittenChild → Flaws → Flaws
   child_flaws inner states no_child flaws = flaws
   child_flaws inner states (child steps program) flaws = machine_flaws inner states program flaws
+
+-- The flaws of the states and the terms of a whole file.
+abbrev pub model_flaws : WrittenModel → Flaws
+model_flaws m = machine_flaws (look_inputs (λ n. None) m.inputs) (λ n. None) m.top (input_flaws m.inputs no_flaws)

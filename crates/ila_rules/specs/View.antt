@@ -15,6 +15,9 @@ use Rattle.ila_rules.specs.declared.findings.Findings.{Findings}
 use Rattle.ila_rules.specs.declared.findings.Role as code
 use Rattle.ila_rules.specs.declared.findings.Role.TheVariants.{Definition, Fetch, Condition, Update}
 use Rattle.ila_rules.specs.declared.scope.Frame.{Frame}
+use Rattle.ila_rules.specs.declared.declared_names.Names.{Names}
+use Rattle.ila_rules.specs.NameFlaws.{NameSet, NameFlaws}
+use Rattle.std.specs.BTreeSet.{BTreeSet, contains_by}
 
 -- the value under a name
 abbrev pub under_name : {X : Type 0} → BTreeMap (Bor (List ℕ)) X → Name → Option X
@@ -73,3 +76,11 @@ flaws_view f = record {
   bad_number = is_some f.bad_number;
   memory_copy = is_some f.memory_copy
 }
+
+-- ---- names
+
+abbrev pub known : BTreeSet (Bor (List ℕ)) → NameSet
+known s n = contains_by (λ k. slice_cmp nat_cmp n k.now) s
+
+abbrev pub names_view : Names → NameFlaws
+names_view s = record { bad = is_some s.bad; twice = is_some s.twice; data_set = known s.data_set; instruction_set = known s.instruction_set }
