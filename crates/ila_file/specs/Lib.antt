@@ -1,3 +1,5 @@
 pub mod View
 pub mod Notes
 pub mod Reading
+pub mod Parts
+pub mod KeyParts

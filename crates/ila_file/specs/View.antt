@@ -132,6 +132,9 @@ machine_view = fold-WrittenMachine pure.WrittenChild pure.WrittenInstruction pur
 abbrev pub instructions_view : List WrittenInstruction → pure.WrittenInstructions
 instructions_view is = instructions_from (map instruction_view is)
 
+abbrev pub instruction_list_view : Vec WrittenInstruction Global → pure.WrittenInstructions
+instruction_list_view v = instructions_view v.items
+
 -- the child of an instruction, where there is one
 abbrev pub held_child_view : Option (Box WrittenChild Global) → pure.WrittenChild
 held_child_view None = pure.no_child

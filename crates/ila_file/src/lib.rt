@@ -1,12 +1,15 @@
 //! Model files as they are written, and their reading from the data of JSON.
 #![tactic(auto)]
 
-mod impossible;
+mod declarations;
+mod diagnosis;
 mod keys;
 mod note;
 mod place;
+mod scalars;
 mod shape;
 mod stop;
+mod terms;
 mod written;
 
 pub use keys::unknown_key;
@@ -19,3 +22,6 @@ pub use written::{
     WrittenInstruction, WrittenMachine, WrittenModel, WrittenSort, WrittenState, WrittenTerm,
     WrittenUpdate, WrittenValue,
 };
+
+#[cfg(test)]
+mod tests;

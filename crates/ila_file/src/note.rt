@@ -62,5 +62,9 @@ fn shown_bytes(alloc: Global, text: &[u8]) -> Result<Vec<u8>, NoMemory>
 fn shown(byte: u8) -> u8
     ensures { result ≡ shown byte }
 {
-    if 32 <= byte && byte <= 126 { byte } else { b'?' }
+    if 32 <= byte && byte <= 126 {
+        byte
+    } else {
+        b'?'
+    }
 }

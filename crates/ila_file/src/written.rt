@@ -73,17 +73,9 @@ pub enum WrittenTerm<'v> {
     /// A word widened to a width in bits.
     Widen(Widening, u64, Box<WrittenTerm<'v>>),
     /// A condition, the value where it is true, and the value where it is false.
-    Ite(
-        Box<WrittenTerm<'v>>,
-        Box<WrittenTerm<'v>>,
-        Box<WrittenTerm<'v>>,
-    ),
+    Ite(Box<WrittenTerm<'v>>, Box<WrittenTerm<'v>>, Box<WrittenTerm<'v>>),
     /// A memory, an address, and the word that it has there.
-    Store(
-        Box<WrittenTerm<'v>>,
-        Box<WrittenTerm<'v>>,
-        Box<WrittenTerm<'v>>,
-    ),
+    Store(Box<WrittenTerm<'v>>, Box<WrittenTerm<'v>>, Box<WrittenTerm<'v>>),
 }
 
 /// A sort, its widths as they are written.

@@ -1,0 +1,6 @@
+use Rattle.std.proofs.Common.{◌≡◌, drop, map}
+use Rattle.wb_meaning.specs.ModelFile.Keys.{is_among}
+use Rattle.ila_file.proofs.keys.is_among.Given as goal
+
+abbrev pub invariant-loop-key : goal.invariant-loop-key
+invariant-loop-key l = is_among l.name (map (λ k. k.now) l.keys) ≡ is_among l.name (map (λ k. k.now) (drop l.key-index l.keys))
