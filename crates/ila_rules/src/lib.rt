@@ -13,3 +13,6 @@ mod walk;
 
 pub use judge::broken_rule;
 pub use rule::{ModelRefusal, ModelRule};
+
+#[cfg(test)]
+mod tests;

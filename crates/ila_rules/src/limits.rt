@@ -54,17 +54,13 @@ fn deeper_than<'v>(
 {
     let (index, name) = instruction;
     if left == 0 {
-        let note = place.note(child_spot(index, name))?;
+        let note = place.note(Spot::item("instructions", index, Some(name)).part("child"))?;
         return Ok(Some(note));
     }
     place.enter(index)?;
     let found = deeper_child(&child.machine, left - 1, place)?;
     place.leave();
     Ok(found)
-}
-
-fn child_spot(index: usize, name: &str) -> Spot<'_> {
-    Spot::item("instructions", index, Some(name)).part("child")
 }
 
 /// The first child whose steps are not 1 to 4,096.
@@ -91,10 +87,9 @@ fn unlimited_in(
 ) -> Result<Option<Note>, NoMemory>
     ensures { IfOk result (λ o. is_some o ≡ not (instruction_has_step_limits (instruction_view instruction.now))) }
 {
-    let name = instruction.name;
     match &instruction.child {
         Some(child) => {
-            let found = unlimited(child, (index, name), place)?;
+            let found = unlimited(child, index, place)?;
             Ok(found)
         }
         None => Ok(None),
@@ -102,19 +97,18 @@ fn unlimited_in(
 }
 
 #[cycle(steps)]
-fn unlimited<'v>(
-    child: &WrittenChild<'v>,
-    instruction: (usize, &'v str),
+fn unlimited(
+    child: &WrittenChild<'_>,
+    index: usize,
     place: &mut Place,
 ) -> Result<Option<Note>, NoMemory>
     ensures { IfOk result (λ o. is_some o ≡ not (child_has_step_limits (child_view child.now))) }
 {
-    let (index, name) = instruction;
+    place.enter(index)?;
     if child.steps < 1 || child.steps > 4096 {
-        let note = place.note(child_spot(index, name).member("steps"))?;
+        let note = place.note(Spot::key("steps"))?;
         return Ok(Some(note));
     }
-    place.enter(index)?;
     let found = unlimited_child(&child.machine, place)?;
     place.leave();
     Ok(found)
