@@ -119,13 +119,13 @@ both_called n (Some k) None = by_value (same_name k n) where
   by_value false = refl
 both_called n (Some k) (Some m) =
     called_if n k (same_name k m) ∙ by_value (same_name k m) (same_name k n) (same_name m n)
-        (λ e. ap (λ x. same_name x n) ((bytes_eq-Decides k m).0 e))
-        (λ e f. (bytes_eq-Decides k m).1 ((bytes_eq-Decides k n).0 e ∙ sym ((bytes_eq-Decides m n).0 f))) where
-  by_value : (a b c : Bool) → (a ≡ true → b ≡ c) → (b ≡ true → c ≡ true → a ≡ true) → (a && b) ≡ (b && c)
-  by_value true b c f g = same_and b c (f refl)
-  by_value false true true f g = g refl refl
-  by_value false true false f g = refl
-  by_value false false c f g = refl
+    (λ e. ap (λ x. same_name x n) ((bytes_eq-Decides k m).0 e))
+    (λ e f. (bytes_eq-Decides k m).1 ((bytes_eq-Decides k n).0 e ∙ sym ((bytes_eq-Decides m n).0 f))) where
+      by_value : (a b c : Bool) → (a ≡ true → b ≡ c) → (b ≡ true → c ≡ true → a ≡ true) → (a && b) ≡ (b && c)
+      by_value true b c f g = same_and b c (f refl)
+      by_value false true true f g = g refl refl
+      by_value false true false f g = refl
+      by_value false false c f g = refl
 
 pub called_same : (n : Name) (t : Term) → is_memory_called n (memory_of t) ≡ is_memory_with_stores n t
 called_same n (terms.name k s) = refl

@@ -26,7 +26,7 @@ flaws_after ms ps f = record {
   bad_width = f.bad_width || not (list_all has_state_widths ms && list_all (λ p. has_widths p.written) ps);
   bad_sort = f.bad_sort || not (list_all sort_fits ps);
   bad_number = f.bad_number || not (list_all has_fitting_initial_values ms && list_all (λ p. has_fitting_constants p.written) ps);
-  memory_copy = f.memory_copy || list_any copies ps
+  memory_copy = f.memory_copy || list_any copies ps;
 }
 
 or_false : (b : Bool) → b ≡ (b || false)
@@ -67,12 +67,17 @@ after_after ms ns ps qs f = λ i. record {
       ∙ (ap (λ b. f.bad_number || not (b && (list_all (λ p. has_fitting_constants p.written) ps && list_all (λ p. has_fitting_constants p.written) qs))) (sym (list_all-append has_fitting_initial_values ms ns))
       ∙ ap (λ b. f.bad_number || not (list_all has_fitting_initial_values (ms ++ ns) && b)) (sym (list_all-append (λ p. has_fitting_constants p.written) ps qs)))) i;
   memory_copy = (or_or f.memory_copy (list_any copies ps) (list_any copies qs)
-      ∙ ap (λ b. f.memory_copy || b) (sym (list_any-append copies ps qs))) i
+      ∙ ap (λ b. f.memory_copy || b) (sym (list_any-append copies ps qs))) i;
 }
 
 nothing_after : (f : Flaws) → f ≡ flaws_after [] [] f
 nothing_after f = λ i. record {
-  unknown_name = or_false f.unknown_name i; bad_width = or_false f.bad_width i; bad_sort = or_false f.bad_sort i; bad_number = or_false f.bad_number i; memory_copy = or_false f.memory_copy i }
+  unknown_name = or_false f.unknown_name i;
+  bad_width = or_false f.bad_width i;
+  bad_sort = or_false f.bad_sort i;
+  bad_number = or_false f.bad_number i;
+  memory_copy = or_false f.memory_copy i;
+}
 
 -- ---- one term
 
@@ -122,7 +127,7 @@ term_judged names e p f = λ i. record {
   bad_width = (ap (λ b. f.bad_width || not b) (and_true (has_widths e))) i;
   bad_sort = (ap (λ b. f.bad_sort || not b) (role_sort p (sort_at (briefs names) e) ∙ (ap (takes_sort p) (sort_same names e) ∙ and_true (takes_sort p (written_sort names e))))) i;
   bad_number = (ap (λ b. f.bad_number || not b) (and_true (has_fitting_constants e))) i;
-  memory_copy = (ap (λ b. f.memory_copy || b) (role_copies names e p ∙ or_false (copies_memory p (term_of names e)))) i
+  memory_copy = (ap (λ b. f.memory_copy || b) (role_copies names e p ∙ or_false (copies_memory p (term_of names e)))) i;
 }
 
 -- ---- lists of terms
@@ -156,19 +161,25 @@ declared_after ss f = record {
   bad_width = f.bad_width || not (list_all (λ s. is_sort s.sort) ss);
   bad_sort = f.bad_sort;
   bad_number = f.bad_number || not (list_all (λ s. fits_sort s.sort s.init) ss);
-  memory_copy = f.memory_copy
+  memory_copy = f.memory_copy;
 }
 
 states_judged : (ss : List StateDeclaration) (f : Flaws) → state_flaws ss f ≡ declared_after ss f
 unfolding declared_after with_declared
 states_judged [] f = λ i. record {
-  unknown_name = f.unknown_name; bad_width = or_false f.bad_width i; bad_sort = f.bad_sort; bad_number = or_false f.bad_number i; memory_copy = f.memory_copy }
+  unknown_name = f.unknown_name;
+  bad_width = or_false f.bad_width i;
+  bad_sort = f.bad_sort;
+  bad_number = or_false f.bad_number i;
+  memory_copy = f.memory_copy;
+}
 states_judged (s ∷ ss) f = states_judged ss (with_declared s.sort s.init f) ∙ (λ i. record {
   unknown_name = f.unknown_name;
   bad_width = or_not f.bad_width (is_sort s.sort) (list_all (λ d. is_sort d.sort) ss) i;
   bad_sort = f.bad_sort;
   bad_number = or_not f.bad_number (fits_sort s.sort s.init) (list_all (λ d. fits_sort d.sort d.init) ss) i;
-  memory_copy = f.memory_copy })
+  memory_copy = f.memory_copy;
+})
 
 machine_states : (m : WrittenMachine) (f : Flaws) → state_flaws (states_in m) f ≡ flaws_after (m ∷ []) [] f
 unfolding declared_after
@@ -177,7 +188,8 @@ machine_states m f = states_judged (states_in m) f ∙ (λ i. record {
   bad_width = ap (λ b. f.bad_width || not b) (and_true (has_state_widths m) ∙ and_true (has_state_widths m && true)) i;
   bad_sort = or_false f.bad_sort i;
   bad_number = ap (λ b. f.bad_number || not b) (and_true (has_fitting_initial_values m) ∙ and_true (has_fitting_initial_values m && true)) i;
-  memory_copy = or_false f.memory_copy i })
+  memory_copy = or_false f.memory_copy i;
+})
 
 sorts_append : (xs : List StateDeclaration) (s : StateDeclaration) (n : Name)
     → first_of (option_map (λ d. d.sort) (state_named xs n)) (some_if (same_name s.state_name n) s.sort) ≡ option_map (λ d. d.sort) (state_named (xs ++ s ∷ []) n)
@@ -215,7 +227,7 @@ within_same around ss ds = ap (λ (l : LookUp). look_definitions l ds) (states_s
 head_judged : (around : Scope) (ss : List StateDeclaration) (ds : Entries WrittenTerm) (g : Option WrittenTerm) (v : WrittenTerm) (f : Flaws)
     → head_flaws (briefs around.names) ss ds g v f
     ≡ flaws_after [] (placed (with_fetch (scope_within around ss ds).names g) v of_condition ∷ [])
-        (flaws_after [] (placed_fetch (scope_within around ss ds).names g) (flaws_after [] (placed_definitions (with_states around.names ss) ds) (state_flaws ss f)))
+    (flaws_after [] (placed_fetch (scope_within around ss ds).names g) (flaws_after [] (placed_definitions (with_states around.names ss) ds) (state_flaws ss f)))
 head_judged around ss ds g v f =
     let inner = (scope_within around ss ds).names in
     let seen = with_fetch inner g in
@@ -270,7 +282,7 @@ mutual
       let decoded = flaws_after [] (placed names decode of_condition ∷ []) f in
       child_judged inner program (own_flaws (briefs names) (sorts_of inner.states) decode us f)
       ∙ (ap (flaws_after (machines_of_child program) (terms_of_child inner program))
-          (updates_judged names inner.states us (with_term (briefs names) condition decode f) ∙ ap (flaws_after [] (placed_updates names inner.states us)) (term_judged names decode of_condition f))
+      (updates_judged names inner.states us (with_term (briefs names) condition decode f) ∙ ap (flaws_after [] (placed_updates names inner.states us)) (term_judged names decode of_condition f))
       ∙ (after_after [] (machines_of_child program) (placed_updates names inner.states us) (terms_of_child inner program) decoded
       ∙ after_after [] (machines_of_child program) (placed names decode of_condition ∷ []) (placed_updates names inner.states us ++ terms_of_child inner program) f))
 
@@ -282,23 +294,39 @@ mutual
 -- ---- inputs, and the whole file
 
 inputs_judged : (is : List InputDeclaration) (f : Flaws) → input_flaws is f ≡ record {
-  unknown_name = f.unknown_name; bad_width = f.bad_width || not (list_all (λ i. is_sort i.sort) is); bad_sort = f.bad_sort; bad_number = f.bad_number; memory_copy = f.memory_copy }
+  unknown_name = f.unknown_name;
+  bad_width = f.bad_width || not (list_all (λ i. is_sort i.sort) is);
+  bad_sort = f.bad_sort;
+  bad_number = f.bad_number;
+  memory_copy = f.memory_copy;
+}
 unfolding with_declared
 inputs_judged [] f = λ i. record {
-  unknown_name = f.unknown_name; bad_width = or_false f.bad_width i; bad_sort = f.bad_sort; bad_number = f.bad_number; memory_copy = f.memory_copy }
+  unknown_name = f.unknown_name;
+  bad_width = or_false f.bad_width i;
+  bad_sort = f.bad_sort;
+  bad_number = f.bad_number;
+  memory_copy = f.memory_copy;
+}
 inputs_judged (x ∷ is) f = inputs_judged is (with_declared x.sort None f) ∙ (λ i. record {
   unknown_name = f.unknown_name;
   bad_width = or_not f.bad_width (is_sort x.sort) (list_all (λ y. is_sort y.sort) is) i;
   bad_sort = f.bad_sort;
   bad_number = sym (or_false f.bad_number) i;
-  memory_copy = f.memory_copy })
+  memory_copy = f.memory_copy;
+})
 
 not_and : (a b : Bool) → (not a || not b) ≡ not (a && b)
 not_and true b = refl
 not_and false b = refl
 
 pub model_judged : (m : WrittenModel) → model_flaws m ≡ record {
-  unknown_name = has_unknown_name m; bad_width = has_bad_width m; bad_sort = has_bad_sort m; bad_number = has_bad_number m; memory_copy = has_memory_copy m }
+  unknown_name = has_unknown_name m;
+  bad_width = has_bad_width m;
+  bad_sort = has_bad_sort m;
+  bad_number = has_bad_number m;
+  memory_copy = has_memory_copy m;
+}
 model_judged m =
     ap (λ (l : LookUp). machine_flaws l (λ n. None) m.top (input_flaws m.inputs no_flaws)) (inputs_same [] m.inputs)
     ∙ (machine_judged (outermost m) m.top (input_flaws m.inputs no_flaws)
@@ -308,4 +336,5 @@ model_judged m =
       bad_width = not_and (list_all (λ x. is_sort x.sort) m.inputs) (list_all has_state_widths (machines_in m.top) && list_all (λ p. has_widths p.written) (all_terms m)) i;
       bad_sort = has_bad_sort m;
       bad_number = has_bad_number m;
-      memory_copy = has_memory_copy m })))
+      memory_copy = has_memory_copy m;
+    })))

@@ -67,7 +67,7 @@ names_after ds is s = record {
   bad = s.bad || not (list_all is_model_name ds && list_all is_model_name is);
   twice = s.twice || (clash s.data_set ds || clash s.instruction_set is);
   data_set = with_all s.data_set ds;
-  instruction_set = with_all s.instruction_set is
+  instruction_set = with_all s.instruction_set is;
 }
 
 four : (a b c d e : Bool) → ((a || not (b && c)) || not (d && e)) ≡ (a || not ((b && d) && (c && e)))
@@ -93,7 +93,7 @@ after_after ds es is js s = λ i. record {
       ∙ (ap (λ b. s.twice || (b || (clash s.instruction_set is || clash (with_all s.instruction_set is) js))) (sym (clash_append s.data_set ds es))
       ∙ ap (λ b. s.twice || (clash s.data_set (ds ++ es) || b)) (sym (clash_append s.instruction_set is js)))) i;
   data_set = all_append s.data_set ds es i;
-  instruction_set = all_append s.instruction_set is js i
+  instruction_set = all_append s.instruction_set is js i;
 }
 
 or_false : (b : Bool) → b ≡ (b || false)
@@ -121,7 +121,8 @@ data_after n s = λ i. record {
   bad = ap (λ b. s.bad || not b) (and_true (is_model_name n) ∙ and_true (is_model_name n && true)) i;
   twice = ap (λ b. s.twice || b) (only (s.data_set n)) i;
   data_set = with_member n s.data_set;
-  instruction_set = s.instruction_set }
+  instruction_set = s.instruction_set;
+}
 
 instruction_after : (n : Name) (s : NameFlaws) → with_instruction n s ≡ names_after [] (n ∷ []) s
 unfolding with_instruction
@@ -129,7 +130,8 @@ instruction_after n s = λ i. record {
   bad = ap (λ b. s.bad || not b) (and_true (is_model_name n)) i;
   twice = ap (λ b. s.twice || b) (only_second (s.instruction_set n)) i;
   data_set = s.data_set;
-  instruction_set = with_member n s.instruction_set }
+  instruction_set = with_member n s.instruction_set;
+}
 
 all_data_after : (ns : List Name) (s : NameFlaws) → with_all_data ns s ≡ names_after ns [] s
 all_data_after [] s = nothing_after s
@@ -173,7 +175,7 @@ mutual
       let defs = map (λ d. d.0) ds in
       below_named is (with_all_data defs (with_all_data names s))
       ∙ (ap (names_after (data_of (machines_below is)) (file_below is))
-          (all_data_after defs (with_all_data names s) ∙ ap (names_after defs []) (all_data_after names s))
+      (all_data_after defs (with_all_data names s) ∙ ap (names_after defs []) (all_data_after names s))
       ∙ (after_after defs (data_of (machines_below is)) [] (file_below is) (names_after names [] s)
       ∙ (after_after names (defs ++ data_of (machines_below is)) [] (file_below is) s
       ∙ ap (λ ns. names_after ns (file_below is) s) (append_assoc names defs (data_of (machines_below is))))))
@@ -214,10 +216,10 @@ mutual
       let below = instructions_of (machines_below is) in
       let inner = instructions_of (machines_of_child program) in
       IsPermutation-cons called (file_child program ++ file_below is) (instruction_names_in is ++ instructions_of (machines_of_child program ++ machines_below is))
-        (subst (λ b. IsPermutation (file_child program ++ file_below is) (instruction_names_in is ++ b)) (joined_append instruction_names (machines_of_child program) (machines_below is))
-        (IsPermutation-trans (file_child program ++ file_below is) (inner ++ (instruction_names_in is ++ below)) (instruction_names_in is ++ (inner ++ below))
-          (IsPermutation-append (file_child program) inner (file_below is) (instruction_names_in is ++ below) (child_moved program) (below_moved is))
-          (moved inner (instruction_names_in is) below)))
+      (subst (λ b. IsPermutation (file_child program ++ file_below is) (instruction_names_in is ++ b)) (joined_append instruction_names (machines_of_child program) (machines_below is))
+      (IsPermutation-trans (file_child program ++ file_below is) (inner ++ (instruction_names_in is ++ below)) (instruction_names_in is ++ (inner ++ below))
+      (IsPermutation-append (file_child program) inner (file_below is) (instruction_names_in is ++ below) (child_moved program) (below_moved is))
+      (moved inner (instruction_names_in is) below)))
 
   child_moved : (c : WrittenChild) → IsPermutation (file_child c) (instructions_of (machines_of_child c))
   child_moved no_child = IsPermutation-refl []

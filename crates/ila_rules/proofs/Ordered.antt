@@ -32,13 +32,13 @@ pub in_order : (m : WrittenModel) (names : NameFlaws) (flaws : Flaws) (deep step
     → first_of_all names.bad names.twice flaws.unknown_name flaws.bad_width flaws.bad_sort flaws.bad_number flaws.memory_copy deep steps ≡ broken_rule m
 in_order m names flaws deep steps named judged nested limited =
     all_same names.bad (has_bad_name m) names.twice (has_duplicate_name m) flaws.unknown_name (has_unknown_name m) flaws.bad_width (has_bad_width m)
-        flaws.bad_sort (has_bad_sort m) flaws.bad_number (has_bad_number m) flaws.memory_copy (has_memory_copy m) deep (has_too_deep_child m) steps
-        (ap (λ (s : NameFlaws). s.bad) named ∙ bad_named m)
-        (ap (λ (s : NameFlaws). s.twice) named ∙ twice_named m)
-        (ap (λ (s : Flaws). s.unknown_name) (judged ∙ model_judged m))
-        (ap (λ (s : Flaws). s.bad_width) (judged ∙ model_judged m))
-        (ap (λ (s : Flaws). s.bad_sort) (judged ∙ model_judged m))
-        (ap (λ (s : Flaws). s.bad_number) (judged ∙ model_judged m))
-        (ap (λ (s : Flaws). s.memory_copy) (judged ∙ model_judged m))
-        (nested ∙ deeper_same 3 m.top)
+    flaws.bad_sort (has_bad_sort m) flaws.bad_number (has_bad_number m) flaws.memory_copy (has_memory_copy m) deep (has_too_deep_child m) steps
+    (ap (λ (s : NameFlaws). s.bad) named ∙ bad_named m)
+    (ap (λ (s : NameFlaws). s.twice) named ∙ twice_named m)
+    (ap (λ (s : Flaws). s.unknown_name) (judged ∙ model_judged m))
+    (ap (λ (s : Flaws). s.bad_width) (judged ∙ model_judged m))
+    (ap (λ (s : Flaws). s.bad_sort) (judged ∙ model_judged m))
+    (ap (λ (s : Flaws). s.bad_number) (judged ∙ model_judged m))
+    (ap (λ (s : Flaws). s.memory_copy) (judged ∙ model_judged m))
+    (nested ∙ deeper_same 3 m.top)
     ∙ ap (λ b. first_of_all (has_bad_name m) (has_duplicate_name m) (has_unknown_name m) (has_bad_width m) (has_bad_sort m) (has_bad_number m) (has_memory_copy m) (has_too_deep_child m) b) limited

@@ -19,5 +19,5 @@ instruction_is i (Some b) h =
 
 pub machine_is : (m : WrittenMachine)
     → machine_view m ≡ pure.machine (states_view (out-WrittenMachine m).states) (definitions_view (out-WrittenMachine m).definitions) (fetch_view (out-WrittenMachine m).fetch)
-        (term_view (out-WrittenMachine m).valid) (instructions_view (out-WrittenMachine m).instructions.items)
+    (term_view (out-WrittenMachine m).valid) (instructions_view (out-WrittenMachine m).instructions.items)
 machine_is m = fold_out-WrittenMachine pure.WrittenChild pure.WrittenInstruction pure.WrittenMachine child_step instruction_step machine_step m

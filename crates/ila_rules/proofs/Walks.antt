@@ -50,20 +50,20 @@ pub head_all : (old outer new lent shown : List Frame) (last : Frame) (ss : List
     → f3 ≡ head_flaws (look_frames old) ss ds f v f0
 head_all old outer new lent shown last ss ds f v f0 f1 f2 f3 same_old same_lent same_shown inner look first second third =
     let one : f1 ≡ definition_flaws (look_states (look_frames old) ss) ds (state_flaws ss f0) =
-        first ∙ ap (λ (fs : List Frame). definition_flaws (look_states (look_frames fs) ss) ds (state_flaws ss f0)) same_old in
+    first ∙ ap (λ (fs : List Frame). definition_flaws (look_states (look_frames fs) ss) ds (state_flaws ss f0)) same_old in
     let two : f2 ≡ fetch_flaws (look_within (look_frames old) ss ds) f f1 =
-        second ∙ (ap (λ (fs : List Frame). fetch_flaws (look_frames fs) f f1) same_lent ∙ ap (λ (l : LookUp). fetch_flaws l f f1) inner) in
+    second ∙ (ap (λ (fs : List Frame). fetch_flaws (look_frames fs) f f1) same_lent ∙ ap (λ (l : LookUp). fetch_flaws l f f1) inner) in
     third
     ∙ (ap (λ (fs : List Frame). with_term (look_of fs last) condition v f2) same_shown
     ∙ (ap (λ (l : LookUp). with_term l condition v f2) look
     ∙ ap (λ (x : Flaws). with_term (look_fetch (look_within (look_frames old) ss ds) f) condition v x)
-        (two ∙ ap (λ (x : Flaws). fetch_flaws (look_within (look_frames old) ss ds) f x) one)))
+    (two ∙ ap (λ (x : Flaws). fetch_flaws (look_within (look_frames old) ss ds) f x) one)))
 
 -- ---- instructions
 
 instruction_parts : (inner look : LookUp) (states : States) (i : WrittenInstruction) (f : Flaws)
     → child_flaws inner states (held_child_view (out-WrittenInstruction i).child)
-        (own_flaws look states (term_view (out-WrittenInstruction i).decode) (map update_view (out-WrittenInstruction i).updates.items) f)
+    (own_flaws look states (term_view (out-WrittenInstruction i).decode) (map update_view (out-WrittenInstruction i).updates.items) f)
     ≡ instruction_flaws inner look states (instruction_view i) f
 instruction_parts inner look states i f = sym (ap (λ w. instruction_flaws inner look states w f) (instruction_is i (out-WrittenInstruction i).child refl))
 
@@ -77,9 +77,9 @@ with_child old lent last i us b x f0 f1 f2 same_us same is value own below =
     ∙ (ap (λ (y : WrittenChild). child_flaws (look_frames old) (states_frames old) (child_view y) f1) value
     ∙ (sym (ap (λ c. child_flaws (look_frames old) (states_frames old) (held_child_view c) f1) is)
     ∙ (ap (λ (y : Flaws). child_flaws (look_frames old) (states_frames old) (held_child_view (out-WrittenInstruction i).child) y)
-        (own
-        ∙ (ap (λ (fs : List Frame). own_flaws (look_of fs last) (states_frames fs) (term_view (out-WrittenInstruction i).decode) (map update_view us) f0) same
-        ∙ ap (λ (xs : List WrittenUpdate). own_flaws (look_of old last) (states_frames old) (term_view (out-WrittenInstruction i).decode) (map update_view xs) f0) same_us))
+    (own
+    ∙ (ap (λ (fs : List Frame). own_flaws (look_of fs last) (states_frames fs) (term_view (out-WrittenInstruction i).decode) (map update_view us) f0) same
+    ∙ ap (λ (xs : List WrittenUpdate). own_flaws (look_of old last) (states_frames old) (term_view (out-WrittenInstruction i).decode) (map update_view xs) f0) same_us))
     ∙ instruction_parts (look_frames old) (look_of old last) (states_frames old) i f0)))
 
 pub without_child : (old lent : List Frame) (last : Frame) (i : WrittenInstruction) (us : List WrittenUpdate) (f0 f1 : Flaws)
@@ -89,21 +89,21 @@ pub without_child : (old lent : List Frame) (last : Frame) (i : WrittenInstructi
 without_child old lent last i us f0 f1 same_us same is own =
     sym (ap (λ c. child_flaws (look_frames old) (states_frames old) (held_child_view c) f1) is)
     ∙ (ap (λ (y : Flaws). child_flaws (look_frames old) (states_frames old) (held_child_view (out-WrittenInstruction i).child) y)
-        (own
-        ∙ (ap (λ (fs : List Frame). own_flaws (look_of fs last) (states_frames fs) (term_view (out-WrittenInstruction i).decode) (map update_view us) f0) same
-        ∙ ap (λ (xs : List WrittenUpdate). own_flaws (look_of old last) (states_frames old) (term_view (out-WrittenInstruction i).decode) (map update_view xs) f0) same_us))
+    (own
+    ∙ (ap (λ (fs : List Frame). own_flaws (look_of fs last) (states_frames fs) (term_view (out-WrittenInstruction i).decode) (map update_view us) f0) same
+    ∙ ap (λ (xs : List WrittenUpdate). own_flaws (look_of old last) (states_frames old) (term_view (out-WrittenInstruction i).decode) (map update_view xs) f0) same_us))
     ∙ instruction_parts (look_frames old) (look_of old last) (states_frames old) i f0)
 
 -- ---- machines
 
 machine_parts : (look : LookUp) (states : States) (m : WrittenMachine) (f : Flaws)
     → instructions_flaws
-        (look_within look (map state_view (out-WrittenMachine m).states.items) (map definition_view (out-WrittenMachine m).definitions.items))
-        (look_fetch (look_within look (map state_view (out-WrittenMachine m).states.items) (map definition_view (out-WrittenMachine m).definitions.items)) (fetch_view (out-WrittenMachine m).fetch))
-        (states_within states (map state_view (out-WrittenMachine m).states.items))
-        (instructions_view (out-WrittenMachine m).instructions.items)
-        (head_flaws look (map state_view (out-WrittenMachine m).states.items) (map definition_view (out-WrittenMachine m).definitions.items)
-            (fetch_view (out-WrittenMachine m).fetch) (term_view (out-WrittenMachine m).valid) f)
+    (look_within look (map state_view (out-WrittenMachine m).states.items) (map definition_view (out-WrittenMachine m).definitions.items))
+    (look_fetch (look_within look (map state_view (out-WrittenMachine m).states.items) (map definition_view (out-WrittenMachine m).definitions.items)) (fetch_view (out-WrittenMachine m).fetch))
+    (states_within states (map state_view (out-WrittenMachine m).states.items))
+    (instructions_view (out-WrittenMachine m).instructions.items)
+    (head_flaws look (map state_view (out-WrittenMachine m).states.items) (map definition_view (out-WrittenMachine m).definitions.items)
+    (fetch_view (out-WrittenMachine m).fetch) (term_view (out-WrittenMachine m).valid) f)
     ≡ machine_flaws look states (machine_view m) f
 machine_parts look states m f = sym (ap (λ w. machine_flaws look states w f) (machine_is m))
 
@@ -115,7 +115,7 @@ pub machine_all : (old new : List Frame) (last : Frame) (m : WrittenMachine) (ss
     → states_frames new ≡ states_within (states_frames old) (map state_view ss)
     → length is ≤ k
     → instructions_flaws (look_frames new) (look_of new last) (states_frames new) (instructions_view (drop k is)) f2
-        ≡ instructions_flaws (look_frames new) (look_of new last) (states_frames new) (instructions_view is) f1
+    ≡ instructions_flaws (look_frames new) (look_of new last) (states_frames new) (instructions_view is) f1
     → f2 ≡ machine_flaws (look_frames old) (states_frames old) (machine_view m) f0
 machine_all old new last m ss ds is k f0 f1 f2 same_ss same_ds same_is head inner look states past turns =
     sym (ap (λ (xs : List WrittenInstruction). instructions_flaws (look_frames new) (look_of new last) (states_frames new) (instructions_view xs) f2) (drop_all k is past))
@@ -132,10 +132,10 @@ pub whole : (lent inputs : List WrittenInput) (start frames : List Frame) (f : F
 whole lent inputs start frames f w f0 f1 f2 same empty pushed none first look states last =
     let one : frames ≡ f ∷ [] = pushed ∙ ap (λ (fs : List Frame). fs ++ f ∷ []) empty in
     let looks : look_frames frames ≡ look_inputs no_names (map input_view inputs) =
-        ap (λ (fs : List Frame). look_frames fs) one ∙ (look_only f ∙ (look ∙ ap (λ (xs : List WrittenInput). look_inputs no_names (map input_view xs)) same)) in
+    ap (λ (fs : List Frame). look_frames fs) one ∙ (look_only f ∙ (look ∙ ap (λ (xs : List WrittenInput). look_inputs no_names (map input_view xs)) same)) in
     let none_set : states_frames frames ≡ (λ n. None) = ap (λ (fs : List Frame). states_frames fs) one ∙ (states_only f ∙ states) in
     let started : f1 ≡ input_flaws (map input_view inputs) no_flaws =
-        first ∙ (ap (λ (x : Flaws). input_flaws (map input_view lent) x) none ∙ ap (λ (xs : List WrittenInput). input_flaws (map input_view xs) no_flaws) same) in
+    first ∙ (ap (λ (x : Flaws). input_flaws (map input_view lent) x) none ∙ ap (λ (xs : List WrittenInput). input_flaws (map input_view xs) no_flaws) same) in
     last
     ∙ (ap (λ (x : LookUp). machine_flaws x (states_frames frames) w f1) looks
     ∙ (ap (λ (x : States). machine_flaws (look_inputs no_names (map input_view inputs)) x w f1) none_set

@@ -25,7 +25,7 @@ with_term look role e f = record {
   bad_width = f.bad_width || not (has_widths e);
   bad_sort = f.bad_sort || not (has_role_sort role (sort_at look e));
   bad_number = f.bad_number || not (has_fitting_constants e);
-  memory_copy = f.memory_copy || copies_at role (memory_at look e)
+  memory_copy = f.memory_copy || copies_at role (memory_at look e);
 }
 
 unfoldable pub with_declared : Sort → Option Value → Flaws → Flaws
@@ -34,7 +34,7 @@ with_declared s x f = record {
   bad_width = f.bad_width || not (is_sort s);
   bad_sort = f.bad_sort;
   bad_number = f.bad_number || not (fits_sort s x);
-  memory_copy = f.memory_copy
+  memory_copy = f.memory_copy;
 }
 
 abbrev pub input_flaws : List InputDeclaration → Flaws → Flaws
@@ -91,7 +91,7 @@ look_within look ss ds = look_definitions (look_states look ss) ds
 abbrev pub head_flaws : LookUp → List StateDeclaration → Entries WrittenTerm → Option WrittenTerm → WrittenTerm → Flaws → Flaws
 head_flaws look ss ds f v flaws =
     with_term (look_fetch (look_within look ss ds) f) condition v
-        (fetch_flaws (look_within look ss ds) f (definition_flaws (look_states look ss) ds (state_flaws ss flaws)))
+    (fetch_flaws (look_within look ss ds) f (definition_flaws (look_states look ss) ds (state_flaws ss flaws)))
 
 -- the flaws of an instruction, but for its child
 abbrev pub own_flaws : LookUp → States → WrittenTerm → Entries WrittenTerm → Flaws → Flaws

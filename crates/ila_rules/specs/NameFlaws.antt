@@ -26,7 +26,7 @@ with_data n s = record {
   bad = s.bad || not (is_model_name n);
   twice = s.twice || s.data_set n;
   data_set = with_member n s.data_set;
-  instruction_set = s.instruction_set
+  instruction_set = s.instruction_set;
 }
 
 unfoldable pub with_instruction : Name → NameFlaws → NameFlaws
@@ -34,7 +34,7 @@ with_instruction n s = record {
   bad = s.bad || not (is_model_name n);
   twice = s.twice || s.instruction_set n;
   data_set = s.data_set;
-  instruction_set = with_member n s.instruction_set
+  instruction_set = with_member n s.instruction_set;
 }
 
 abbrev pub with_all_data : List Name → NameFlaws → NameFlaws

@@ -74,7 +74,7 @@ flaws_view f = record {
   bad_width = is_some f.bad_width;
   bad_sort = is_some f.bad_sort;
   bad_number = is_some f.bad_number;
-  memory_copy = is_some f.memory_copy
+  memory_copy = is_some f.memory_copy;
 }
 
 -- ---- names

@@ -101,7 +101,10 @@ impl<'v> Names<'v> {
         ensures { IfOk result (λ _. names_view self.new ≡ with_all_data (map (λ d. d.0) (map definition_view definitions.now)) (names_view self.old)) }
     {
         for (index, definition) in definitions.iter().enumerate() {
-            self.add_data(definition.name, Spot::item("define", index, Some(definition.name)))?;
+            self.add_data(
+                definition.name,
+                Spot::item("define", index, Some(definition.name)),
+            )?;
         }
         Ok(())
     }

@@ -174,9 +174,24 @@ impl Findings {
         let unknown = is_unknown(term, role, frames, last);
         keep_first(&mut self.unknown_name, unknown, &self.place, spot)?;
         keep_first(&mut self.bad_width, !has_widths(term), &self.place, spot)?;
-        keep_first(&mut self.bad_sort, !has_role_sort(role, sort), &self.place, spot)?;
-        keep_first(&mut self.bad_number, !has_fitting_constants(term), &self.place, spot)?;
-        keep_first(&mut self.memory_copy, copies(role, memory), &self.place, spot)?;
+        keep_first(
+            &mut self.bad_sort,
+            !has_role_sort(role, sort),
+            &self.place,
+            spot,
+        )?;
+        keep_first(
+            &mut self.bad_number,
+            !has_fitting_constants(term),
+            &self.place,
+            spot,
+        )?;
+        keep_first(
+            &mut self.memory_copy,
+            copies(role, memory),
+            &self.place,
+            spot,
+        )?;
         Ok(Seen { sort, memory })
     }
 
@@ -191,7 +206,12 @@ impl Findings {
         ensures { IfOk result (λ _. flaws_view self.new ≡ with_declared (sort_view sort) (initial_view initial) (flaws_view self.old)) }
     {
         keep_first(&mut self.bad_width, !is_sort(sort), &self.place, spot)?;
-        keep_first(&mut self.bad_number, !fits_sort(sort, initial), &self.place, spot)?;
+        keep_first(
+            &mut self.bad_number,
+            !fits_sort(sort, initial),
+            &self.place,
+            spot,
+        )?;
         Ok(())
     }
 }

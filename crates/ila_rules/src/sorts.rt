@@ -77,10 +77,7 @@ fn word_sort(operand: Option<WrittenSort>) -> Option<WrittenSort>
     }
 }
 
-fn same_bits_sort(
-    first: Option<WrittenSort>,
-    second: Option<WrittenSort>,
-) -> Option<WrittenSort>
+fn same_bits_sort(first: Option<WrittenSort>, second: Option<WrittenSort>) -> Option<WrittenSort>
     ensures { option_map sort_view result ≡ same_bits_sort (option_map sort_view first) (option_map sort_view second) }
 {
     match (first, second) {
@@ -92,10 +89,7 @@ fn same_bits_sort(
     }
 }
 
-fn same_word_sort(
-    first: Option<WrittenSort>,
-    second: Option<WrittenSort>,
-) -> Option<WrittenSort>
+fn same_word_sort(first: Option<WrittenSort>, second: Option<WrittenSort>) -> Option<WrittenSort>
     ensures { option_map sort_view result ≡ same_word_sort (option_map sort_view first) (option_map sort_view second) }
 {
     match (first, second) {
@@ -172,10 +166,8 @@ pub(crate) fn binary_sort(
             same_bits_sort(first, second)
         }
         BinaryOperator::Eq => compared(same_bits_sort(first, second)),
-        BinaryOperator::Ult
-        | BinaryOperator::Ule
-        | BinaryOperator::Slt
-        | BinaryOperator::Sle => compared(same_word_sort(first, second)),
+        BinaryOperator::Ult | BinaryOperator::Ule | BinaryOperator::Slt | BinaryOperator::Sle =>
+            compared(same_word_sort(first, second)),
         BinaryOperator::Concat => concat_sort(first, second),
         BinaryOperator::Load => load_sort(first, second),
         BinaryOperator::Add
@@ -188,11 +180,7 @@ pub(crate) fn binary_sort(
 }
 
 /// The sort of the bits from a high index down to a low one.
-pub(crate) fn extract_sort(
-    high: u64,
-    low: u64,
-    operand: Option<WrittenSort>,
-) -> Option<WrittenSort>
+pub(crate) fn extract_sort(high: u64, low: u64, operand: Option<WrittenSort>) -> Option<WrittenSort>
     ensures { option_map sort_view result ≡ extract_sort high low (option_map sort_view operand) }
 {
     match operand {

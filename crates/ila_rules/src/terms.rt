@@ -130,13 +130,7 @@ fn common_memory<'v>(first: Option<&'v str>, second: Option<&'v str>) -> Option<
     ensures { name_view result ≡ common_memory (name_view first.entry) (name_view second.entry) }
 {
     match (first, second) {
-        (Some(name), Some(other)) => {
-            if name == other {
-                Some(name)
-            } else {
-                None
-            }
-        }
+        (Some(name), Some(other)) => { if name == other { Some(name) } else { None } }
         _ => None,
     }
 }

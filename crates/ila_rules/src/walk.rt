@@ -215,7 +215,14 @@ fn judge_instruction<'v>(
     ensures frames { IfOk result (λ _. frames.new.items ≡ frames.old.items) }
 {
     let name = (index, instruction.name);
-    judge_own(name, &instruction.decode, &instruction.updates, frames, last, findings)?;
+    judge_own(
+        name,
+        &instruction.decode,
+        &instruction.updates,
+        frames,
+        last,
+        findings,
+    )?;
     match &instruction.child {
         Some(child) => {
             judge_child(child, index, frames, findings)?;

@@ -9,4 +9,4 @@ pub returns : goal.returns
 returns c =
     c.in_order.ensures
     ∙ in_order (model_view c.args.model.now) (names_view c.in_ok-names.names) (flaws_view c.in_ok-findings.findings) (is_some c.in_ok-deep.deep) (is_some c.in_ok-steps.steps)
-        c.in_ok-names.ensures c.in_ok-findings.ensures c.in_ok-deep.ensures c.in_ok-steps.ensures
+    c.in_ok-names.ensures c.in_ok-findings.ensures c.in_ok-deep.ensures c.in_ok-steps.ensures

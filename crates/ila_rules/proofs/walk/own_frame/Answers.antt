@@ -13,14 +13,14 @@ returns-clause-flaws c =
     let ds = map definition_view c.args.definitions.now in
     c.in_ok-add_definitions.ensures.flaws
     ∙ (ap (λ (l : LookUp). definition_flaws l ds (flaws_view c.add_states.new.findings))
-        (states_in_last c.args.frames.now c.new-frame.result c.add_states.new.frame ss c.new-frame.ensures.look c.in_ok-add_states.ensures.look)
+    (states_in_last c.args.frames.now c.new-frame.result c.add_states.new.frame ss c.new-frame.ensures.look c.in_ok-add_states.ensures.look)
     ∙ ap (λ (f : Flaws). definition_flaws (look_states (look_frames c.args.frames.now) ss) ds f) c.in_ok-add_states.ensures.flaws)
 
 pub returns-clause-look : goal.returns-clause-look
 returns-clause-look c =
     c.in_ok-add_definitions.ensures.look
     ∙ ap (λ (l : LookUp). look_definitions l (map definition_view c.args.definitions.now))
-        (states_in_last c.args.frames.now c.new-frame.result c.add_states.new.frame (map state_view c.args.states.now) c.new-frame.ensures.look c.in_ok-add_states.ensures.look)
+    (states_in_last c.args.frames.now c.new-frame.result c.add_states.new.frame (map state_view c.args.states.now) c.new-frame.ensures.look c.in_ok-add_states.ensures.look)
 
 pub returns-clause-states : goal.returns-clause-states
 returns-clause-states c =
