@@ -1,19 +1,17 @@
 -- What is known of visible names tells of their terms what the rules want.
-use Rattle.std.proofs.Common.{◌≡◌, ℕ, Bool, true, false, cond, not, ◌&&◌, ◌||◌, Option, Some, None, option_map, sym, refl, ap, ◌∙◌, subst}
-use Rattle.std.specs.Prelude.{is_none, codes, List, [], ◌∷◌, ◌++◌, option_and_then}
+use Rattle.std.proofs.Common.{◌≡◌, ℕ, Bool, true, false, cond, ◌&&◌, Option, Some, None, option_map, sym, refl, ap, ◌∙◌}
+use Rattle.std.specs.Prelude.{is_none, codes, List, [], ◌∷◌, option_and_then}
 use Rattle.std.proofs.lemmas.Slice.Eq.{bytes_eq-Decides}
-use Rattle.wb_meaning.specs.Value.{Name, same_name, Sort, truth, word, memory, Entries, entry_of}
+use Rattle.wb_meaning.specs.Value.{Name, same_name, Entries, entry_of}
 use Rattle.wb_meaning.specs.Term as terms
 use Rattle.wb_meaning.specs.Term.{Term, is_sort, some_if}
 use Rattle.wb_meaning.specs.Model.{StateDeclaration, InputDeclaration, state_named}
-use Rattle.wb_meaning.specs.Verilog.Hierarchy.{first_of}
 use Rattle.wb_meaning.specs.ModelFile.Written as written
 use Rattle.wb_meaning.specs.ModelFile.Written.{WrittenTerm, UnaryOperator, BinaryOperator, Widening, zext, sext}
-use Rattle.wb_meaning.specs.ModelFile.Scope as scope
-use Rattle.wb_meaning.specs.ModelFile.Scope.{Visible, Scope, Place, term_of, term_named, unary_term, binary_term, widened_term, unary_sort, binary_sort, written_sort, declared, defined, with_inputs, with_states, with_definitions, with_fetch}
-use Rattle.wb_meaning.specs.ModelFile.Rules.{uses_unknown_name, is_memory_with_stores, updates_no_state, takes_sort, copies_memory}
-use Rattle.ila_rules.specs.Seen.{Brief, LookUp, States, with_name, sort_at, common_memory, memory_at, uses_unknown, brief_at, brief_declared, Role, definition, fetch, condition, update, updates_none, has_role_sort, is_memory_called, copies_at}
-use Rattle.ila_rules.specs.Flaws.{look_inputs, look_states, look_definitions, look_fetch, with_state, states_within}
+use Rattle.wb_meaning.specs.ModelFile.Scope.{Visible, term_of, term_named, unary_term, binary_term, widened_term, unary_sort, written_sort, declared, defined, with_inputs, with_states, with_definitions, with_fetch}
+use Rattle.wb_meaning.specs.ModelFile.Rules.{uses_unknown_name, is_memory_with_stores}
+use Rattle.ila_rules.specs.Seen.{Brief, LookUp, States, with_name, sort_at, common_memory, memory_at, uses_unknown, brief_at, is_memory_called}
+use Rattle.ila_rules.specs.Flaws.{look_inputs, look_states, look_definitions, look_fetch}
 
 -- the memory that a term is with words stored to it
 abbrev pub memory_of : Term → Option Name

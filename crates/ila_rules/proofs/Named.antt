@@ -2,12 +2,12 @@
 use Rattle.std.proofs.Common.{◌≡◌, ℕ, ◌+◌, ◌≤◌, Bool, true, false, cond, not, ◌&&◌, ◌||◌, List, [], ◌∷◌, ◌++◌, map, sym, refl, ap, ◌∙◌, subst, arith}
 use Rattle.std.specs.List.{list_all, list_any, sum_by}
 use Rattle.std.specs.List.Sorted.{IsPermutation}
-use Rattle.std.proofs.lemmas.List.Folds.{list_any-append, list_all-append}
-use Rattle.std.proofs.lemmas.List.Sorted.{IsPermutation-refl, IsPermutation-trans, IsPermutation-append, IsPermutation-append_comm, IsPermutation-append_left, IsPermutation-append_right, IsPermutation-cons, list_any-IsPermutation, sum_by-IsPermutation}
+use Rattle.std.proofs.lemmas.List.Folds.{list_all-append}
+use Rattle.std.proofs.lemmas.List.Sorted.{IsPermutation-refl, IsPermutation-trans, IsPermutation-append, IsPermutation-append_comm, IsPermutation-append_left, IsPermutation-cons, list_any-IsPermutation, sum_by-IsPermutation}
 use Rattle.std.proofs.lemmas.List.Sums.{sum_by-cons}
 use Rattle.std.proofs.lemmas.Slice.Eq.{bytes_eq-Decides}
-use Rattle.wb_meaning.specs.Value.{Name, same_name, Entries}
-use Rattle.wb_meaning.specs.ModelFile.Written.{WrittenTerm, WrittenMachine, machine, WrittenInstruction, instruction, WrittenInstructions, no_instructions, and_then, WrittenChild, no_child, child, WrittenModel, machines_in, machines_below, machines_of_instruction, machines_of_child}
+use Rattle.wb_meaning.specs.Value.{Name, same_name}
+use Rattle.wb_meaning.specs.ModelFile.Written.{WrittenMachine, machine, WrittenInstruction, instruction, WrittenInstructions, no_instructions, and_then, WrittenChild, no_child, child, WrittenModel, machines_in, machines_below, machines_of_instruction, machines_of_child}
 use Rattle.wb_meaning.specs.ModelFile.Keys.{is_among}
 use Rattle.wb_meaning.specs.ModelFile.Names.{is_model_name, data_names, instruction_names, instruction_names_in, joined, all_data_names, all_instruction_names, has_twice}
 use Rattle.wb_meaning.specs.ModelFile.Rules.{has_bad_name, has_duplicate_name}

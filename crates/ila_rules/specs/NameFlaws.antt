@@ -1,5 +1,5 @@
 -- Which names of a model file are not legal or stand twice, gathered name after name in the order of the file.
-use Rattle.std.specs.Prelude.{ℕ, Bool, true, false, cond, not, ◌||◌, List, [], ◌∷◌, map}
+use Rattle.std.specs.Prelude.{Bool, true, false, cond, not, ◌||◌, List, [], ◌∷◌, map}
 use Rattle.wb_meaning.specs.Value.{Name, same_name}
 use Rattle.wb_meaning.specs.ModelFile.Written.{WrittenMachine, machine, WrittenInstruction, instruction, WrittenInstructions, no_instructions, and_then, WrittenChild, no_child, child, WrittenModel}
 use Rattle.wb_meaning.specs.ModelFile.Names.{is_model_name}

@@ -1,8 +1,7 @@
 -- What the judging of a term needs of the names that are visible: their sorts, and which memory they are.
-use Rattle.std.specs.Prelude.{ℕ, Bool, true, false, cond, not, ◌&&◌, ◌||◌, Option, Some, None, is_none, option_and_then}
-use Rattle.wb_meaning.specs.Value.{Name, same_name, Sort, truth, word, memory, Entries}
-use Rattle.wb_meaning.specs.Term as terms
-use Rattle.wb_meaning.specs.Term.{Term, is_width, some_if, extract_sort, extended_sort, ite_sort, store_sort, is_sort, same_sort}
+use Rattle.std.specs.Prelude.{Bool, true, false, cond, not, ◌&&◌, ◌||◌, Option, Some, None, is_none, option_and_then}
+use Rattle.wb_meaning.specs.Value.{Name, same_name, Sort, truth, word, memory}
+use Rattle.wb_meaning.specs.Term.{is_width, some_if, extract_sort, extended_sort, ite_sort, store_sort, is_sort, same_sort}
 use Rattle.wb_meaning.specs.ModelFile.Written as written
 use Rattle.wb_meaning.specs.ModelFile.Written.{WrittenTerm}
 use Rattle.wb_meaning.specs.ModelFile.Scope.{unary_sort, binary_sort}

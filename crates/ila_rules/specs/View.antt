@@ -1,10 +1,10 @@
 -- What the code's frames of names are seen as.
-use Rattle.std.specs.Prelude.{ℕ, Bool, List, [], ◌∷◌, Option, Some, None, option_map, is_some, Vec}
+use Rattle.std.specs.Prelude.{ℕ, List, [], ◌∷◌, Option, None, option_map, is_some}
 use Rattle.std.specs.Borrow.{Bor}
 use Rattle.std.specs.Ordering.{nat_cmp}
 use Rattle.std.specs.Cmp.Lexicographic.{slice_cmp}
 use Rattle.std.specs.BTreeMap.{BTreeMap, get_by}
-use Rattle.wb_meaning.specs.Value.{Name, Sort}
+use Rattle.wb_meaning.specs.Value.{Name}
 use Rattle.wb_meaning.specs.Verilog.Hierarchy.{first_of}
 use Rattle.ila_file.specs.View.{sort_view}
 use Rattle.ila_rules.specs.Seen.{Brief, LookUp, States, Role}

@@ -1,5 +1,4 @@
-use Rattle.std.proofs.Common.{ap, ◌∙◌, sym, Option}
-use Rattle.wb_meaning.specs.ModelFile.Written.{WrittenTerm}
+use Rattle.std.proofs.Common.{ap, ◌∙◌, sym}
 use Rattle.ila_file.specs.View.{fetch_view}
 use Rattle.ila_rules.specs.Flaws.{look_fetch}
 use Rattle.ila_rules.specs.View.{look_frames}
