@@ -1,7 +1,6 @@
 -- Names of Verilog and of models, and plain decimals, by their bytes.
-use Rattle.std.specs.Prelude.{ℕ, ◌+◌, ◌*◌, ◌-◌, ◌%◌, ◌^◌, Bool, false, not, ◌&&◌, ◌||◌, ◌==◌, nat_le, cond, List, [], ◌∷◌, length, codes}
+use Rattle.std.specs.Prelude.{ℕ, ◌+◌, ◌*◌, ◌-◌, ◌%◌, ◌^◌, Bool, not, ◌&&◌, ◌||◌, ◌==◌, cond, List, [], ◌∷◌}
 use Rattle.std.specs.List.{list_all}
-use Rattle.wb_meaning.specs.Value.{same_name}
 use Rattle.wb_meaning.specs.Words.{is_reserved}
 use Rattle.wb_meaning.specs.ModelFile.Names.{is_letter, is_digit, is_name_byte, begins_with}
 

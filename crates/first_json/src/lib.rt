@@ -11,7 +11,6 @@ mod names;
 mod scalars;
 mod stop;
 mod term_file;
-mod words;
 
 pub use map::{FirstExpression, FirstMap, Mapped, MappedInstruction};
 pub use map_file::read_map;

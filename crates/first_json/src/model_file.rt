@@ -15,12 +15,12 @@ use crate::model::{
     FirstInput, FirstInstruction, FirstModel, FirstSort, FirstState, FirstTerm, FirstUpdate,
     FirstValue,
 };
-use crate::names::is_model_name;
 use crate::scalars::{sort_in, value_in};
 use crate::stop::Stop;
 use crate::term_file::term_of_sort;
 use serde_json::{Map, Value};
 use std::alloc::{AllocError, Global};
+use wb_names::is_model_name;
 
 /// The model that a file's bytes stand for, where the file is in the first profile.
 pub fn read_model(alloc: Global, bytes: &[u8]) -> Result<Option<FirstModel>, NoMemory>

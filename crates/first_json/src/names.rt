@@ -1,29 +1,11 @@
-//! Names of Verilog and of models, and plain decimals, by their bytes.
+//! Names of Verilog, and plain decimals, by their bytes.
 
-ghost use Rattle.std.specs.Prelude.{◌≡◌, ◌<◌, ◌^◌, ◌*◌, ◌%◌, ◌∷◌, [], length, IsTrue};
+ghost use Rattle.std.specs.Prelude.{◌≡◌, ◌<◌, ◌^◌, ◌*◌, ◌%◌, ◌∷◌, [], IsTrue};
 ghost use Rattle.std.specs.List.{list_all};
 ghost use Rattle.first_json.specs.Names.{is_identifier_byte, is_decimal_byte, is_identifier, is_decimal, decimal_value, with_digits};
-ghost use Rattle.wb_meaning.specs.ModelFile.Names.{is_letter, is_digit, is_name_byte, begins_with, begins_with_wb, is_kept_word, is_model_name};
+ghost use Rattle.wb_meaning.specs.ModelFile.Names.{is_digit, begins_with};
 
-use crate::words::is_reserved_word;
-
-fn is_letter(byte: u8) -> bool
-    ensures { result ≡ is_letter byte }
-{
-    (65 <= byte && byte <= 90) || (97 <= byte && byte <= 122) || byte == 95
-}
-
-fn is_digit(byte: u8) -> bool
-    ensures { result ≡ is_digit byte }
-{
-    48 <= byte && byte <= 57
-}
-
-fn is_name_byte(byte: u8) -> bool
-    ensures { result ≡ is_name_byte byte }
-{
-    is_letter(byte) || is_digit(byte)
-}
+use wb_names::{begins_with_letter, is_digit, is_name_byte, is_reserved_word};
 
 fn is_identifier_byte(byte: u8) -> bool
     ensures { result ≡ is_identifier_byte byte }
@@ -35,15 +17,6 @@ fn is_decimal_byte(byte: u8) -> bool
     ensures { result ≡ is_decimal_byte byte }
 {
     is_digit(byte) || byte == 95
-}
-
-fn begins_with_letter(text: &[u8]) -> bool
-    ensures { result ≡ begins_with is_letter text.now }
-{
-    match text.first() {
-        Some(byte) => is_letter(*byte),
-        None => false,
-    }
 }
 
 fn begins_with_digit(text: &[u8]) -> bool
@@ -103,33 +76,4 @@ fn with_digit(value: u32, byte: u8) -> u32
             .wrapping_mul(10)
             .wrapping_add(u32::from(byte.saturating_sub(48)))
     }
-}
-
-fn begins_with_wb(text: &[u8]) -> bool
-    ensures { result ≡ begins_with_wb text.now }
-{
-    match text {
-        [first, second, third, ..] => *first == 119 && *second == 98 && *third == 95,
-        _ => false,
-    }
-}
-
-fn are_name_bytes(text: &[u8]) -> bool
-    ensures { result ≡ list_all is_name_byte text.now }
-{
-    text.iter().all(|byte| is_name_byte(*byte))
-}
-
-/// Whether the word is reserved, `fetch`, or begins with `wb_`.
-fn is_kept_word(text: &[u8]) -> bool
-    ensures { result ≡ is_kept_word text.now }
-{
-    is_reserved_word(text) || text == b"fetch".as_slice() || begins_with_wb(text)
-}
-
-/// Whether the text is a name of a model.
-pub(crate) fn is_model_name(text: &[u8]) -> bool
-    ensures { result ≡ is_model_name text.now }
-{
-    begins_with_letter(text) && are_name_bytes(text) && text.len() <= 64 && !is_kept_word(text)
 }

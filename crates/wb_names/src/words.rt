@@ -144,7 +144,7 @@ fn is_among(word: &[u8], words: &[&str]) -> bool
 }
 
 /// Whether the word is no identifier.
-pub(crate) fn is_reserved_word(word: &[u8]) -> bool
+pub fn is_reserved_word(word: &[u8]) -> bool
     ensures { result ≡ is_reserved word.now }
 {
     is_among(word, &GRAMMAR_WORDS) || is_among(word, &OTHER_WORDS)

@@ -1,0 +1,9 @@
+pub mod Briefs
+pub mod Bits
+pub mod Frames
+pub mod Parts
+pub mod Walks
+pub mod Judged
+pub mod Named
+pub mod Depth
+pub mod Ordered
