@@ -1,0 +1,166 @@
+//! Model files as bytes, and the rule by which each is refused first.
+
+mod counter;
+mod examples;
+mod machine;
+mod pairs;
+
+use crate::model_refusal;
+use std::alloc::Global;
+use std::test::Fail;
+
+/// A text of a model file, what stands in its place, and the answer then.
+type Row = (&'static str, &'static str, &'static str);
+
+/// The answer that is no refusal.
+const MODEL: &str = "a model";
+
+/// What the reading of the bytes answers.
+fn answer(alloc: Global, bytes: &[u8]) -> &'static str {
+    match model_refusal(alloc, bytes) {
+        Ok(None) => MODEL,
+        Ok(Some(refusal)) => refusal.rule.name(),
+        Err(_) => "no memory",
+    }
+}
+
+/// The text with its first place of `old` replaced by `new`.
+fn changed(alloc: Global, text: &str, old: &str, new: &str) -> Result<String, Fail> {
+    let (before, behind) = text.split_once(old).ok_or("the text is not there")?;
+    let mut changed = String::from_str(alloc, before)?;
+    changed.push_str(new)?;
+    changed.push_str(behind)?;
+    Ok(changed)
+}
+
+/// Each changed text is answered so. A failure names what was put in.
+fn answers_are(alloc: Global, base: &str, rows: &[Row]) -> Result<(), Fail> {
+    for (old, new, expected) in rows.iter().copied() {
+        let text = changed(alloc, base, old, new)?;
+        if answer(alloc, text.as_bytes()) != expected {
+            return Err(new.into());
+        }
+    }
+    Ok(())
+}
+
+#[test]
+fn other_files(rt: HostRuntime) -> Result<(), Fail> {
+    files_are(rt.alloc(), &counter::FILES)
+}
+
+/// Each whole file is answered so.
+fn files_are(alloc: Global, files: &[(&'static str, &'static str)]) -> Result<(), Fail> {
+    for (text, expected) in files.iter().copied() {
+        if answer(alloc, text.as_bytes()) != expected {
+            return Err(text.into());
+        }
+    }
+    Ok(())
+}
+
+#[test]
+fn bytes_that_are_no_text(rt: HostRuntime) -> Result<(), Fail> {
+    match answer(rt.alloc(), b"{\"name\":\"\xff\"}") {
+        "M1 BadJson" => Ok(()),
+        other => Err(other.into()),
+    }
+}
+
+#[test]
+fn prefixes_of_a_file(rt: HostRuntime) -> Result<(), Fail> {
+    prefixes_are_refused(rt.alloc(), counter::COUNTER.as_bytes())
+}
+
+fn prefixes_are_refused(alloc: Global, bytes: &[u8]) -> Result<(), Fail> {
+    for end in 0..bytes.len() {
+        if answer(alloc, &bytes[..end]) != "M1 BadJson" {
+            return Err("a prefix is read".into());
+        }
+    }
+    Ok(())
+}
+
+/// Empty lists, each but the last within the one before.
+fn nested(alloc: Global, depth: usize) -> Result<String, Fail> {
+    let mut text = String::new(alloc);
+    for _list in 0..depth {
+        text.push_str("[")?;
+    }
+    for _list in 0..depth {
+        text.push_str("]")?;
+    }
+    Ok(text)
+}
+
+#[test]
+fn nested_lists(rt: HostRuntime) -> Result<(), Fail> {
+    let deep = nested(rt.alloc(), 127)?;
+    let deeper = nested(rt.alloc(), 128)?;
+    match (
+        answer(rt.alloc(), deep.as_bytes()),
+        answer(rt.alloc(), deeper.as_bytes()),
+    ) {
+        ("M2 BadShape", "M1 BadJson") => Ok(()),
+        (other, _) => Err(other.into()),
+    }
+}
+
+#[test]
+fn changed_counters(rt: HostRuntime) -> Result<(), Fail> {
+    answers_are(rt.alloc(), counter::COUNTER, &counter::ROWS)
+}
+
+#[test]
+fn changed_machines(rt: HostRuntime) -> Result<(), Fail> {
+    answers_are(rt.alloc(), machine::MACHINE, &machine::ROWS)
+}
+
+#[test]
+fn changed_children(rt: HostRuntime) -> Result<(), Fail> {
+    answers_are(rt.alloc(), machine::MACHINE, &machine::CHILD_ROWS)
+}
+
+/// Each two changes of one text are answered as the first of them alone.
+fn first_of_two_counts(alloc: Global, base: &str, rows: &[Row]) -> Result<(), Fail> {
+    let mut rest = rows;
+    while let Some(((old, new, expected), others)) = rest.split_first() {
+        let text = changed(alloc, base, *old, *new)?;
+        each_besides(alloc, text.as_str(), others, *expected)?;
+        rest = others;
+    }
+    Ok(())
+}
+
+/// The text is answered so whichever change is made besides.
+fn each_besides(
+    alloc: Global,
+    text: &str,
+    rows: &[Row],
+    expected: &'static str,
+) -> Result<(), Fail> {
+    for (old, new, _rule) in rows.iter().copied() {
+        let text = changed(alloc, text, old, new)?;
+        if answer(alloc, text.as_bytes()) != expected {
+            return Err(new.into());
+        }
+    }
+    Ok(())
+}
+
+#[test]
+fn two_broken_rules(rt: HostRuntime) -> Result<(), Fail> {
+    answers_are(rt.alloc(), machine::MACHINE, &pairs::BREAKS)?;
+    first_of_two_counts(rt.alloc(), machine::MACHINE, &pairs::BREAKS)
+}
+
+#[test]
+fn two_broken_rules_in_a_turned_file(rt: HostRuntime) -> Result<(), Fail> {
+    answers_are(rt.alloc(), pairs::TURNED, &pairs::BREAKS)?;
+    first_of_two_counts(rt.alloc(), pairs::TURNED, &pairs::BREAKS)
+}
+
+#[test]
+fn models(rt: HostRuntime) -> Result<(), Fail> {
+    files_are(rt.alloc(), &examples::MODELS)
+}
