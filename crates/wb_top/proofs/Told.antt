@@ -1,5 +1,5 @@
 -- From the first bytes that are read to the bytes that are held.
-use Rattle.std.proofs.Common.{◌≡◌, ◌<◌, ◌≤◌, ◌+◌, ◌-◌, ◌^◌, ℕ, min, List, [], ◌∷◌, ◌++◌, take, map, length, refl, ap, sym, ◌∙◌, subst, arith, Some, None, true, false, append-nil}
+use Rattle.std.proofs.Common.{◌≡◌, ◌<◌, ◌≤◌, ◌+◌, ◌-◌, ◌^◌, ◌&&◌, ℕ, Bool, cond, nat_le, min, List, [], ◌∷◌, ◌++◌, take, map, length, refl, ap, sym, ◌∙◌, subst, arith, Some, None, true, false, append-nil}
 use Rattle.std.proofs.lemmas.List.{take_all, length-take}
 use Rattle.std.proofs.Math.Seq.{take-length}
 use Rattle.std.specs.declared.option.Option.{Option}
@@ -8,9 +8,12 @@ use Rattle.wb_meaning.specs.Value.{Name}
 use Rattle.wb_outside.specs.Outside.{with_appended, GrewByPrefix, AreStartsOf}
 use Rattle.wb_first.specs.Names.{First}
 use Rattle.wb_top.specs.Words.{Check, check_of, names_in}
-use Rattle.wb_top.specs.Files.{most_bytes, IsCaseOf, IsCase, AreHeld}
+use Rattle.std.proofs.lemmas.Bool.Decides.{nat_tests}
+use Rattle.wb_meaning.specs.ModelFile.Meaning.{ModelRule}
+use Rattle.wb_top.specs.Files.{most_bytes, has_fitting_length, all_fit, broken_by, refusing_rule, IsCaseOf, IsCase, AreHeld}
+use Rattle.wb_top.proofs.Cases.{each_fits}
 use Rattle.wb_top.specs.Asked.{wanted_names, AskedAll, AskedSome}
-use Rattle.wb_top.specs.Outcome.{IsReported, IsAnswer, IsChecked, IsOutcome}
+use Rattle.wb_top.specs.Outcome.{IsReported, IsRefused, IsAnswer, IsChecked, IsOutcome}
 use Rattle.wb_top.specs.declared.status.Status.{Status}
 use Rattle.wb_top.specs.declared.status.Status.TheVariants.{Done, Failed, Usage, Refused, ReadFault, WriteFault, NoMemory}
 
@@ -51,12 +54,42 @@ starts_of_case (m ∷ p ∷ d ∷ []) f case =
     subst (λ contents. IsCase contents f) (sym same) case
 starts_of_case (m ∷ p ∷ d ∷ x ∷ xs) f case = case
 
+-- ---- the rule that refuses them
+
+fits_as_start : (n l : ℕ) (m : List ℕ) → l ≡ min (n + 1) (length m) → nat_le l n ≡ nat_le (length m) n
+fits_as_start n l m is = grind (arith, nat_tests, is)
+
+start_fits_as_all : (m : List ℕ) → has_fitting_length (take (most_bytes + 1) m) ≡ has_fitting_length m
+start_fits_as_all m = fits_as_start most_bytes _ m (length-take (most_bytes + 1) m)
+
+starts_fit : (m p d : List ℕ) → all_fit (take (most_bytes + 1) m) (take (most_bytes + 1) p) (take (most_bytes + 1) d) ≡ all_fit m p d
+unfolding all_fit
+starts_fit m p d = λ i. start_fits_as_all m i && (start_fits_as_all p i && start_fits_as_all d i)
+
+same_if_fit : (m p d : List ℕ) (b : Bool) → all_fit m p d ≡ b
+    → cond b (broken_by (take (most_bytes + 1) m)) None ≡ cond b (broken_by m) None
+same_if_fit m p d true fit = ap broken_by (whole most_bytes m (each_fits m p d fit).0)
+same_if_fit m p d false fit = refl
+
+-- the first bytes are refused by the rule that refuses all bytes
+pub rule_of_starts : (contents : List (List ℕ)) → refusing_rule (starts contents) ≡ refusing_rule contents
+rule_of_starts [] = refl
+rule_of_starts (m ∷ []) = refl
+rule_of_starts (m ∷ p ∷ []) = refl
+rule_of_starts (m ∷ p ∷ d ∷ []) =
+    ap (λ b. cond b (broken_by (take (most_bytes + 1) m)) None) (starts_fit m p d) ∙ same_if_fit m p d (all_fit m p d) refl
+rule_of_starts (m ∷ p ∷ d ∷ x ∷ xs) = refl
+
+refused_at : (contents : List (List ℕ)) (o : Option ModelRule) (text : List ℕ) → IsRefused (starts contents) o text → IsRefused contents o text
+refused_at contents None text refused = (λ f case. refused.0 f (starts_of_case contents f case), refused.1)
+refused_at contents (Some rule) text refused = refused
+
 -- so an answer on the first bytes is one on all bytes
 pub answer_of_starts : (contents : List (List ℕ)) (status : Status) (text : List ℕ) → IsAnswer (starts contents) status text
     → IsAnswer contents status text
-answer_of_starts contents Done text answer = (answer.0, case_of_starts contents answer.0 answer.1, answer.2)
-answer_of_starts contents Failed text answer = (answer.0, case_of_starts contents answer.0 answer.1, answer.2)
-answer_of_starts contents Refused text answer = (λ f case. answer.0 f (starts_of_case contents f case), answer.1)
+answer_of_starts contents Done text answer = (answer.0, case_of_starts contents answer.0 answer.1, answer.2, sym (rule_of_starts contents) ∙ answer.3)
+answer_of_starts contents Failed text answer = (answer.0, case_of_starts contents answer.0 answer.1, answer.2, sym (rule_of_starts contents) ∙ answer.3)
+answer_of_starts contents Refused text answer = subst (λ o. IsRefused contents o text) (rule_of_starts contents) (refused_at contents _ text answer)
 answer_of_starts contents Usage text answer = absurd answer.2
 answer_of_starts contents ReadFault text answer = absurd answer.2
 answer_of_starts contents WriteFault text answer = absurd answer.2

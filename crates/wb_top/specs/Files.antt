@@ -1,6 +1,8 @@
 -- Which model, map and module the bytes of three files stand for in the first profile.
-use Rattle.std.specs.Prelude.{◌≡◌, ◌≤◌, ℕ, List, [], ◌∷◌, length, map, Option, Some, IfSome, IsTrue}
+use Rattle.std.specs.Prelude.{◌≡◌, ◌≤◌, ◌&&◌, ℕ, Bool, cond, nat_le, List, [], ◌∷◌, length, map, Option, Some, None, IfSome, IsTrue}
 use Rattle.wb_meaning.specs.Value.{Name}
+use Rattle.wb_meaning.specs.ModelFile.Meaning.{ModelRule, reading_of}
+use Rattle.ila_json.specs.Reading.{refusal_in}
 use Rattle.first_text.specs.Spelling.{IsFirstText}
 use Rattle.first_json.specs.MapFile.{map_of_bytes}
 use Rattle.first_json.specs.ModelFile.{model_of_bytes}
@@ -10,6 +12,22 @@ use Rattle.wb_first.specs.Accepted.{is_accepted}
 -- a file has at most so many bytes
 abbrev pub most_bytes : ℕ
 most_bytes = 4194304
+
+abbrev pub has_fitting_length : List ℕ → Bool
+has_fitting_length bytes = nat_le (length bytes) most_bytes
+
+-- no file is too long
+unfoldable pub all_fit : (model_bytes map_bytes design_bytes : List ℕ) → Bool
+all_fit m p d = has_fitting_length m && (has_fitting_length p && has_fitting_length d)
+
+-- the first rule that a model file breaks
+unfoldable pub broken_by : List ℕ → Option ModelRule
+broken_by m = refusal_in (reading_of m)
+
+-- The first rule that the model file breaks, where no file is too long.
+abbrev pub refusing_rule : List (List ℕ) → Option ModelRule
+refusing_rule (m ∷ p ∷ d ∷ []) = cond (all_fit m p d) (broken_by m) None
+refusing_rule _ = None
 
 -- The bytes stand for this model, this map and this module, which the profile accepts together.
 pub record IsCaseOf (model_bytes map_bytes design_bytes : List ℕ) (f : First) : Type 0 where

@@ -1,12 +1,15 @@
 -- What a judgement of three files means.
-use Rattle.std.specs.Prelude.{ℕ, List}
+use Rattle.std.specs.Prelude.{◌≡◌, ℕ, List, [], ◌∷◌, Some, None}
 use Rattle.wb_first.specs.Names.{First}
 use Rattle.wb_first.specs.CaseView.{case_of}
-use Rattle.wb_top.specs.Files.{IsCaseOf}
+use Rattle.ila_rules.specs.Rule.{rule_view}
+use Rattle.wb_top.specs.Files.{IsCaseOf, refusing_rule}
 use Rattle.wb_top.specs.declared.judged.Judged.{Judged}
-use Rattle.wb_top.specs.declared.judged.Judged.TheVariants.{Case, Outside}
+use Rattle.wb_top.specs.declared.judged.Judged.TheVariants.{Case, Outside, Refused}
 
--- a case is what the bytes stand for; outside the profile they stand for none
+-- A case is what the bytes stand for; outside the profile they stand for none; refused is the model file by the first rule that
+-- it breaks, and by none in the other two.
 abbrev pub IsJudged : List ℕ → List ℕ → List ℕ → Judged → Type 0
-IsJudged m p d (Case c) = IsCaseOf m p d (case_of c)
-IsJudged m p d (Outside place) = (f : First) → ¬ IsCaseOf m p d f
+IsJudged m p d (Case c) = IsCaseOf m p d (case_of c) × (refusing_rule (m ∷ p ∷ d ∷ []) ≡ None)
+IsJudged m p d (Outside place) = ((f : First) → ¬ IsCaseOf m p d f) × (refusing_rule (m ∷ p ∷ d ∷ []) ≡ None)
+IsJudged m p d (Refused r) = refusing_rule (m ∷ p ∷ d ∷ []) ≡ Some (rule_view r.rule)

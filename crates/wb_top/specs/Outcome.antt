@@ -6,8 +6,10 @@ use Rattle.wb_meaning.specs.Soundness.{EveryRunRefines}
 use Rattle.wb_outside.specs.Outside.{Rose, with_appended, GrewByPrefix}
 use Rattle.wb_first.specs.Names.{First, setting_of}
 use Rattle.wb_top.specs.Words.{Check, check_of, names_in}
-use Rattle.wb_top.specs.Files.{IsCase, AreHeld}
-use Rattle.wb_top.specs.Texts.{usage_text, IsRefusal}
+use Rattle.wb_meaning.specs.ModelFile.Meaning.{ModelRule}
+use Rattle.ila_rules.specs.Rule.{rule_name}
+use Rattle.wb_top.specs.Files.{refusing_rule, IsCase, AreHeld}
+use Rattle.wb_top.specs.Texts.{usage_text, IsRefusalBy, IsRefusal}
 use Rattle.wb_top.specs.declared.status.Status.{Status}
 use Rattle.wb_top.specs.declared.status.Status.TheVariants.{Done, Failed, Usage, Refused, ReadFault, WriteFault, NoMemory}
 
@@ -17,10 +19,15 @@ IsReported f Done text = IsReport (setting_of f) text false × EveryRunRefines (
 IsReported f Failed text = IsReport (setting_of f) text true
 IsReported f _ text = ⊥
 
--- The answer to a check of these files, and its text. Refused: the files stand for no case of the profile.
+-- Refused: by the first rule that the model file breaks; where it breaks none, the files stand for no case of the profile.
+abbrev pub IsRefused : List (List ℕ) → Option ModelRule → List ℕ → Type 0
+IsRefused contents (Some rule) text = IsRefusalBy (rule_name rule) text
+IsRefused contents None text = ((f : First) → ¬ IsCase contents f) × IsRefusal text
+
+-- The answer to a check of these files, and its text.
 abbrev pub IsAnswer : List (List ℕ) → Status → List ℕ → Type 0
-IsAnswer contents Refused text = ((f : First) → ¬ IsCase contents f) × IsRefusal text
-IsAnswer contents status text = (f : First) × IsCase contents f × IsReported f status text
+IsAnswer contents Refused text = IsRefused contents (refusing_rule contents) text
+IsAnswer contents status text = (f : First) × IsCase contents f × IsReported f status text × (refusing_rule contents ≡ None)
 
 -- The words ask for a check, and this is the answer to it on the files that are held.
 abbrev pub IsChecked : Option (Name → Option (List ℕ)) → List Name → Status → List ℕ → Type 0

@@ -10,6 +10,11 @@ pub record IsNote (text : List ℕ) : Type 0 where
   pub short : length text ≤ 80
   pub one_line : IsTrue (list_all (λ b. not (b == 10)) text)
 
+-- A refusal by a rule: its name, and a note that leads to the place.
+abbrev pub IsRefusalBy : List ℕ → List ℕ → Type 0
+IsRefusalBy rule text =
+    (note : List ℕ) × IsNote note × (text ≡ codes "refused " ++ (rule ++ 10 ∷ (codes "note " ++ (note ++ 10 ∷ []))))
+
 -- What is written of files that are not accepted yet: the kind of the refusal, and a note that says where.
 abbrev pub IsRefusal : List ℕ → Type 0
 IsRefusal text =

@@ -7,7 +7,7 @@ ghost use Rattle.wb_top.specs.Outcome.{IsAnswer, IsReported};
 use crate::judged::{Judged, judge};
 use crate::status::Status;
 use crate::stop::NoMemory;
-use crate::texts::refusal;
+use crate::texts::{refusal, refusal_by};
 use first_report::check;
 use std::alloc::Global;
 use wb_first::FirstCase;
@@ -40,6 +40,13 @@ fn answer_of(alloc: Global, model: &[u8], map: &[u8], design: &[u8]) -> Result<O
         }
         Judged::Outside(place) => {
             let text = refusal(alloc, place)?;
+            Ok(Outcome {
+                status: Status::Refused,
+                text,
+            })
+        }
+        Judged::Refused(broken) => {
+            let text = refusal_by(alloc, &broken)?;
             Ok(Outcome {
                 status: Status::Refused,
                 text,

@@ -1,16 +1,18 @@
-//! Whether three files are a case of the first profile.
+//! Whether three files are a case of the first profile, and which rule refuses the model file.
 
-ghost use Rattle.std.specs.Prelude.{◌≡◌, ◌≤◌, IfOk, IsTrue, length, IfSome, IfNone, ◌↔◌};
+ghost use Rattle.std.specs.Prelude.{◌≡◌, ◌∷◌, [], true, None, IfOk, IfSome, IfNone, is_none};
 ghost use Rattle.first_text.specs.Tree.{FirstModule as PureModule};
 ghost use Rattle.first_text.specs.Spelling.{IsFirstText};
 ghost use Rattle.first_text.specs.View.{first_module_of};
-ghost use Rattle.wb_top.specs.Files.{most_bytes};
+ghost use Rattle.wb_top.specs.Files.{has_fitting_length, all_fit, refusing_rule};
 ghost use Rattle.wb_top.specs.Judged.{IsJudged};
 
 use crate::stop::NoMemory;
 use first_accept::accept;
 use first_json::{read_map, read_model};
 use first_text::{FirstModule, one_tree, read_text};
+use ila_json::model_refusal;
+use ila_rules::ModelRefusal;
 use std::alloc::{AllocError, Global};
 use wb_first::FirstCase;
 
@@ -35,6 +37,8 @@ pub(crate) enum Place {
 pub(crate) enum Judged {
     Case(FirstCase),
     Outside(Place),
+    /// The model file breaks a rule.
+    Refused(ModelRefusal),
 }
 
 /// Judges the bytes of a model file, a map file and a Verilog file.
@@ -46,15 +50,44 @@ pub(crate) fn judge(
 ) -> Result<Judged, NoMemory>
     ensures { IfOk result (IsJudged model.now map.now design.now) }
 {
+    if let Some(place) = too_long(model, map, design) {
+        return Ok(Judged::Outside(place));
+    }
+    match model_refusal(alloc, model)? {
+        Some(refusal) => Ok(Judged::Refused(refusal)),
+        None => in_profile(alloc, model, map, design),
+    }
+}
+
+/// The first file that is too long.
+fn too_long(model: &[u8], map: &[u8], design: &[u8]) -> Option<Place>
+    ensures { is_none result ≡ all_fit model.now map.now design.now }
+{
     if !fits(model) {
-        return Ok(Judged::Outside(Place::Model));
+        return Some(Place::Model);
     }
     if !fits(map) {
-        return Ok(Judged::Outside(Place::Map));
+        return Some(Place::Map);
     }
     if !fits(design) {
-        return Ok(Judged::Outside(Place::Design));
+        return Some(Place::Design);
     }
+    None
+}
+
+/// Whether a file is no longer than files may be.
+fn fits(bytes: &[u8]) -> bool
+    ensures { result ≡ has_fitting_length bytes.now }
+{
+    bytes.len() as u64 <= MOST_BYTES
+}
+
+/// Judges the bytes of files of which none is too long, and whose model file breaks no rule.
+fn in_profile(alloc: Global, model: &[u8], map: &[u8], design: &[u8]) -> Result<Judged, NoMemory>
+    requires fit { all_fit model.now map.now design.now ≡ true }
+    requires unbroken { refusing_rule (model.now ∷ map.now ∷ design.now ∷ []) ≡ None }
+    ensures { IfOk result (IsJudged model.now map.now design.now) }
+{
     let Some(model) = read_model(alloc, model)? else {
         return Ok(Judged::Outside(Place::Model));
     };
@@ -69,13 +102,6 @@ pub(crate) fn judge(
         Some(case) => Ok(Judged::Case(case)),
         None => Ok(Judged::Outside(Place::Together)),
     }
-}
-
-/// Whether a file is no longer than files may be.
-fn fits(bytes: &[u8]) -> bool
-    ensures { IsTrue result ↔ (length bytes.now ≤ most_bytes) }
-{
-    bytes.len() as u64 <= MOST_BYTES
 }
 
 /// The module of a text, where the text is in the profile.

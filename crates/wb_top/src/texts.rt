@@ -1,10 +1,12 @@
 //! The texts that a call writes beside reports.
 
 ghost use Rattle.std.specs.Prelude.{◌≡◌, IfOk};
-ghost use Rattle.wb_top.specs.Texts.{usage_text, IsRefusal};
+ghost use Rattle.ila_rules.specs.Rule.{rule_view, rule_name};
+ghost use Rattle.wb_top.specs.Texts.{usage_text, IsRefusalBy, IsRefusal};
 
 use crate::judged::Place;
 use crate::stop::NoMemory;
+use ila_rules::ModelRefusal;
 use std::alloc::Global;
 
 /// The text for words that ask for nothing that the program does.
@@ -12,6 +14,18 @@ pub(crate) fn usage(alloc: Global) -> Result<Vec<u8>, NoMemory>
     ensures { IfOk result (λ text. text.items ≡ usage_text) }
 {
     Vec::from_slice(alloc, b"usage\n")
+}
+
+/// The text for a model file that breaks a rule.
+pub(crate) fn refusal_by(alloc: Global, broken: &ModelRefusal) -> Result<Vec<u8>, NoMemory>
+    ensures { IfOk result (λ text. IsRefusalBy (rule_name (rule_view broken.now.rule)) text.items) }
+{
+    let mut text = Vec::from_slice(alloc, b"refused ")?;
+    text.extend_from_slice(broken.rule.name().as_bytes())?;
+    text.extend_from_slice(b"\nnote ")?;
+    text.extend_from_slice(broken.note.as_bytes())?;
+    text.extend_from_slice(b"\n")?;
+    Ok(text)
 }
 
 /// The text for files that are not accepted yet.

@@ -2,7 +2,7 @@ use Rattle.std.proofs.Common.{ap, sym, ◌∙◌, is_some, option_map}
 use Rattle.first_json.specs.ModelView.{first_model_of}
 use Rattle.first_json.specs.View.{map_of}
 use Rattle.wb_top.proofs.Cases.{not_accepted}
-use Rattle.wb_top.proofs.judged.judge.Goals as goal
+use Rattle.wb_top.proofs.judged.in_profile.Goals as goal
 
 pub returns-in-None : goal.returns-in-None
 returns-in-None c =
