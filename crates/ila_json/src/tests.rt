@@ -6,6 +6,8 @@ mod machine;
 mod pairs;
 
 use crate::model_refusal;
+use ila_file::NoMemory;
+use ila_rules::ModelRefusal;
 use std::alloc::Global;
 use std::test::Fail;
 
@@ -59,6 +61,38 @@ fn files_are(alloc: Global, files: &[(&'static str, &'static str)]) -> Result<()
     Ok(())
 }
 
+/// Files and the notes of their refusals.
+const NOTES: [(&str, &str); 4] = [
+    ("{", "not JSON: line 1 column 1"),
+    ("[1,\n2", "not JSON: line 2 column 1"),
+    ("[]", "model"),
+    (
+        r#"{"name":"m","states":[],"inputs":[],"valid":true,"instructions":[],"x":0}"#,
+        "x",
+    ),
+];
+
+fn is_noted(answer: Result<Option<ModelRefusal>, NoMemory>, note: &str) -> bool {
+    match answer {
+        Ok(Some(refusal)) => refusal.note.as_bytes() == note.as_bytes(),
+        _ => false,
+    }
+}
+
+fn notes_are(alloc: Global, rows: &[(&'static str, &'static str)]) -> Result<(), Fail> {
+    for (text, note) in rows.iter().copied() {
+        if !is_noted(model_refusal(alloc, text.as_bytes()), note) {
+            return Err(text.into());
+        }
+    }
+    Ok(())
+}
+
+#[test]
+fn notes(rt: HostRuntime) -> Result<(), Fail> {
+    notes_are(rt.alloc(), &NOTES)
+}
+
 #[test]
 fn bytes_that_are_no_text(rt: HostRuntime) -> Result<(), Fail> {
     match answer(rt.alloc(), b"{\"name\":\"\xff\"}") {
@@ -107,8 +141,23 @@ fn nested_lists(rt: HostRuntime) -> Result<(), Fail> {
 }
 
 #[test]
-fn changed_counters(rt: HostRuntime) -> Result<(), Fail> {
-    answers_are(rt.alloc(), counter::COUNTER, &counter::ROWS)
+fn counters_of_no_shape(rt: HostRuntime) -> Result<(), Fail> {
+    answers_are(rt.alloc(), counter::COUNTER, &counter::SHAPE_ROWS)
+}
+
+#[test]
+fn counters_of_other_names(rt: HostRuntime) -> Result<(), Fail> {
+    answers_are(rt.alloc(), counter::COUNTER, &counter::NAME_ROWS)
+}
+
+#[test]
+fn counters_of_other_sorts(rt: HostRuntime) -> Result<(), Fail> {
+    answers_are(rt.alloc(), counter::COUNTER, &counter::SORT_ROWS)
+}
+
+#[test]
+fn other_legal_counters(rt: HostRuntime) -> Result<(), Fail> {
+    answers_are(rt.alloc(), counter::COUNTER, &counter::LEGAL_ROWS)
 }
 
 #[test]
@@ -123,11 +172,9 @@ fn changed_children(rt: HostRuntime) -> Result<(), Fail> {
 
 /// Each two changes of one text are answered as the first of them alone.
 fn first_of_two_counts(alloc: Global, base: &str, rows: &[Row]) -> Result<(), Fail> {
-    let mut rest = rows;
-    while let Some(((old, new, expected), others)) = rest.split_first() {
-        let text = changed(alloc, base, *old, *new)?;
-        each_besides(alloc, text.as_str(), others, *expected)?;
-        rest = others;
+    for (place, (old, new, expected)) in rows.iter().copied().enumerate() {
+        let text = changed(alloc, base, old, new)?;
+        each_besides(alloc, text.as_str(), &rows[place + 1..], expected)?;
     }
     Ok(())
 }

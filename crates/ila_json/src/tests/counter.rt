@@ -28,8 +28,8 @@ pub(super) const FILES: [(&str, &str); 12] = [
     ),
 ];
 
-/// Changes of the counter.
-pub(super) const ROWS: [Row; 206] = [
+/// Changes of the counter that are no JSON, of another shape, or with other keys.
+pub(super) const SHAPE_ROWS: [Row; 73] = [
     (r#""name":"op""#, r#""name":op"#, "M1 BadJson"),
     (r#""init":0"#, r#""init":00"#, "M1 BadJson"),
     (r#""init":0"#, r#""init":1e999"#, "M1 BadJson"),
@@ -207,6 +207,10 @@ pub(super) const ROWS: [Row; 206] = [
         r#""sort":[4,8],"init":null"#,
         "M3 UnknownKey",
     ),
+];
+
+/// Changes of the counter that break a rule on names.
+pub(super) const NAME_ROWS: [Row; 43] = [
     (r#""name":"cnt""#, r#""name":"wb_c""#, "M4 BadName"),
     (r#""name":"cnt""#, r#""name":"fetch""#, "M4 BadName"),
     (r#""name":"cnt""#, r#""name":"""#, "M4 BadName"),
@@ -318,6 +322,10 @@ pub(super) const ROWS: [Row; 206] = [
         r#""define":[["a",true]],"fetch":"b","valid":true"#,
         "M6 UnknownName",
     ),
+];
+
+/// Changes of the counter that break a rule on widths, sorts, numbers, memories or child programs.
+pub(super) const SORT_ROWS: [Row; 65] = [
     (
         r#""valid":true"#,
         r#""valid":["eq",["const",129,0],["const",129,0]]"#,
@@ -551,6 +559,10 @@ pub(super) const ROWS: [Row; 206] = [
         r#""name":"INC","child":{"states":[],"valid":true,"steps":18446744073709551615,"instructions":[]}"#,
         "M12 BadSteps",
     ),
+];
+
+/// Changes of the counter that are models.
+pub(super) const LEGAL_ROWS: [Row; 25] = [
     (r#""counter""#, r#""cnt""#, MODEL),
     (r#""counter""#, r#""wb""#, MODEL),
     (r#""counter""#, r#""_""#, MODEL),

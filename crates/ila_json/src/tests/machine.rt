@@ -7,7 +7,7 @@ pub(super) const MACHINE: &str =
     r#"{"name":"machine","states":[{"name":"p","sort":8,"init":"0x1f"},{"name":"m","sort":[4,8]},{"name":"n","sort":[4,8]},{"name":"t","sort":"bool","init":true}],"inputs":[{"name":"x","sort":4},{"name":"y","sort":4}],"define":[["half",["extract",7,4,"p"]],["put",["store","m","x","p"]]],"fetch":["load","m","x"],"valid":["eq","fetch","p"],"instructions":[{"name":"RUN","decode":"t","update":{"p":["const",8,0],"m":"put"},"child":{"states":[{"name":"i","sort":3,"init":0}],"define":[["last",["eq","i",["const",3,7]]]],"fetch":["add","i",["const",3,1]],"valid":["ult","i",["const",3,4]],"steps":4,"instructions":[{"name":"STEP","decode":["not","last"],"update":{"p":["add","p",["zext",8,"half"]],"i":"fetch"},"child":{"states":[{"name":"j","sort":2,"init":3}],"valid":"t","steps":3,"instructions":[{"name":"LAST","decode":true,"update":{"j":["add","j",["const",2,1]],"n":["store","n","y","p"]}}]}}]}},{"name":"SKIP","decode":["not","t"],"update":{}}]}"#;
 
 /// Changes of its states, inputs, definitions, fetch and top instructions.
-pub(super) const ROWS: [Row; 67] = [
+pub(super) const ROWS: [Row; 68] = [
     (
         r#"["half",["extract",7,4,"p"]]"#,
         r#"["half",["extract",7,4,"p"]],,"#,
@@ -105,6 +105,11 @@ pub(super) const ROWS: [Row; 67] = [
     (
         r#""decode":["not","t"]"#,
         r#""decode":"last""#,
+        "M6 UnknownName",
+    ),
+    (
+        r#"["half",["extract",7,4,"p"]]"#,
+        r#"["half",["extract",7,4,"p"]],["spare",["ite","t","n","put"]]"#,
         "M6 UnknownName",
     ),
     (
@@ -243,8 +248,8 @@ pub(super) const ROWS: [Row; 67] = [
     (r#"["zext",8,"half"]"#, r#"["sext",8,"half"]"#, MODEL),
     (r#""fetch":["load","m","x"]"#, r#""fetch":"p""#, MODEL),
     (
-        r#"["half",["extract",7,4,"p"]]"#,
-        r#"["half",["extract",7,4,"p"]],["spare",["ite","t","n","put"]]"#,
+        r#"["put",["store","m","x","p"]]"#,
+        r#"["put",["store","m","x","p"]],["spare",["ite","t","n","put"]]"#,
         MODEL,
     ),
 ];
