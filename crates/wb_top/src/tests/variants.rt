@@ -14,7 +14,8 @@ enum Changed {
     Design,
 }
 
-/// One text for another in one file, and the status and the last line that the check then ends with.
+/// One text for another in one file, the status of the check then, and what its text ends with; of a model file that breaks a rule,
+/// what it begins with.
 type Row = (Changed, &'static str, &'static str, Status, &'static str);
 
 const MODELS: [Row; 34] = [
@@ -37,7 +38,7 @@ const MODELS: [Row; 34] = [
         r#""init":0"#,
         r#""init":256"#,
         Status::Refused,
-        "note the model file\n",
+        "refused M9 BadNumber\nnote ",
     ),
     (
         Changed::Model,
@@ -51,35 +52,35 @@ const MODELS: [Row; 34] = [
         r#""init":0"#,
         r#""init":true"#,
         Status::Refused,
-        "note the model file\n",
+        "refused M2 BadShape\nnote ",
     ),
     (
         Changed::Model,
         r#""sort":8"#,
         r#""sort":0"#,
         Status::Refused,
-        "note the model file\n",
+        "refused M7 BadWidth\nnote ",
     ),
     (
         Changed::Model,
         r#""sort":8"#,
         r#""sort":129"#,
         Status::Refused,
-        "note the model file\n",
+        "refused M7 BadWidth\nnote ",
     ),
     (
         Changed::Model,
         r#""sort":8"#,
         r#""sort":[1,4]"#,
         Status::Refused,
-        "note the model file\n",
+        "refused M3 UnknownKey\nnote ",
     ),
     (
         Changed::Model,
         r#""op","sort":1"#,
         r#""op","sort":"bool""#,
         Status::Refused,
-        "note the model file\n",
+        "refused M8 BadSort\nnote ",
     ),
     (
         Changed::Model,
@@ -114,21 +115,21 @@ const MODELS: [Row; 34] = [
         r#""valid":true"#,
         r#""valid":["eq","op",["const",129,1]]"#,
         Status::Refused,
-        "note the model file\n",
+        "refused M7 BadWidth\nnote ",
     ),
     (
         Changed::Model,
         r#""valid":true"#,
         r#""valid":"zz""#,
         Status::Refused,
-        "note the model file\n",
+        "refused M6 UnknownName\nnote ",
     ),
     (
         Changed::Model,
         r#""valid":true"#,
         r#""valid":1"#,
         Status::Refused,
-        "note the model file\n",
+        "refused M2 BadShape\nnote ",
     ),
     (
         Changed::Model,
@@ -149,56 +150,56 @@ const MODELS: [Row; 34] = [
         r#""name":"cnt""#,
         r#""name":"wb_c""#,
         Status::Refused,
-        "note the model file\n",
+        "refused M4 BadName\nnote ",
     ),
     (
         Changed::Model,
         r#""name":"cnt""#,
         r#""name":"begin""#,
         Status::Refused,
-        "note the model file\n",
+        "refused M4 BadName\nnote ",
     ),
     (
         Changed::Model,
         r#""name":"cnt""#,
         r#""name":"op""#,
         Status::Refused,
-        "note the model file\n",
+        "refused M5 DuplicateName\nnote ",
     ),
     (
         Changed::Model,
         r#""name":"CLR""#,
         r#""name":"INC""#,
         Status::Refused,
-        "note the model file\n",
+        "refused M5 DuplicateName\nnote ",
     ),
     (
         Changed::Model,
         r#"{"name":"counter""#,
         r#"{"x":1,"name":"counter""#,
         Status::Refused,
-        "note the model file\n",
+        "refused M3 UnknownKey\nnote ",
     ),
     (
         Changed::Model,
         r#""inputs":[{"name":"op","sort":1}],"#,
         "",
         Status::Refused,
-        "note the model file\n",
+        "refused M2 BadShape\nnote ",
     ),
     (
         Changed::Model,
         r#"["add","cnt",["const",8,1]]"#,
         r#"["add","cnt",["const",4,1]]"#,
         Status::Refused,
-        "note the model file\n",
+        "refused M8 BadSort\nnote ",
     ),
     (
         Changed::Model,
         r#"["const",8,0]"#,
         r#"["const",8,256]"#,
         Status::Refused,
-        "note the model file\n",
+        "refused M9 BadNumber\nnote ",
     ),
     (
         Changed::Model,
@@ -212,7 +213,7 @@ const MODELS: [Row; 34] = [
         r#"["eq","op",["const",1,0]]"#,
         r#"["eq","op"]"#,
         Status::Refused,
-        "note the model file\n",
+        "refused M2 BadShape\nnote ",
     ),
     (
         Changed::Model,
@@ -240,21 +241,21 @@ const MODELS: [Row; 34] = [
         r#""update":{"cnt":["const",8,0]}"#,
         r#""update":{"cnt":["const",8,0]},"child":{}"#,
         Status::Refused,
-        "note the model file\n",
+        "refused M2 BadShape\nnote ",
     ),
     (
         Changed::Model,
         r#""update":{"cnt":["const",8,0]}"#,
         r#""update":{"op":["const",1,0]}"#,
         Status::Refused,
-        "note the model file\n",
+        "refused M6 UnknownName\nnote ",
     ),
     (
         Changed::Model,
         r#"{"name":"counter""#,
         r#""name":"counter""#,
         Status::Refused,
-        "note the model file\n",
+        "refused M1 BadJson\nnote ",
     ),
 ];
 
@@ -719,7 +720,8 @@ fn ends_as(alloc: Global, row: &Row) -> Result<bool, Fail> {
         Changed::Map => checked(alloc, MODEL, &with_change(alloc, MAP, old, new)?, DESIGN)?,
         Changed::Design => checked(alloc, MODEL, MAP, &with_change(alloc, DESIGN, old, new)?)?,
     };
-    Ok(ended == status && sink.bytes().ends_with(line.as_bytes()))
+    let text = sink.bytes();
+    Ok(ended == status && (text.ends_with(line.as_bytes()) || text.starts_with(line.as_bytes())))
 }
 
 fn first_other(alloc: Global, rows: &[Row]) -> Result<Option<usize>, Fail> {
