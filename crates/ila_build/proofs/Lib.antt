@@ -1,0 +1,5 @@
+mod Growing
+mod Refused
+mod Arms
+mod Sorting
+mod Definitions

@@ -1,0 +1,40 @@
+-- What the visible names of a machine stand for is in the store of terms, and stays so as definitions are put.
+use Rattle.std.specs.Prelude.{ℕ, ◌<◌, ◌≡◌, Bool, true, not, ◌&&◌, List, [], ◌∷◌, length, ⊤, Option, Some, None, Result, Ok, Err}
+use Rattle.std.specs.Borrow.{Bor}
+use Rattle.std.specs.BTreeMap.{BTreeMap}
+use Rattle.std.specs.List.{list_all}
+use Rattle.wb_meaning.specs.Value.{Name, Entries, entry_of}
+use Rattle.wb_meaning.specs.Term.{sort_of}
+use Rattle.wb_meaning.specs.ModelFile.Written.{WrittenTerm}
+use Rattle.wb_meaning.specs.ModelFile.Scope.{Visible, Placed, term_of, written_sort, placed_definitions, with_definitions}
+use Rattle.wb_meaning.specs.ModelFile.Rules.{is_unknown_at, takes_sort, has_fitting_constants}
+use Rattle.wb_terms.specs.declared.nodes.TermId.{TermId}
+use Rattle.wb_terms.specs.declared.store.PutStop.{PutStop}
+use Rattle.wb_terms.specs.declared.store.PutStop.TheVariants.{BadSort, NoMemory}
+use Rattle.wb_terms.specs.Graph.{Graph, tree}
+use Rattle.ila_build.specs.Standing.{found}
+
+abbrev pub StandsFor : Graph → Visible → Option TermId → Type 0
+StandsFor g v None = ⊥
+StandsFor g v (Some id) = (id.0 < length g.nodes) × (tree g id.0 ≡ v.term) × (sort_of v.term ≡ v.sort)
+
+-- Each visible name stands for its term, which is in the store and has the sort of the name.
+unfoldable pub Knows : Graph → BTreeMap (Bor (List ℕ)) TermId → Option TermId → Entries Visible → Type 0
+Knows g t f names = (n : Name) (v : Visible) → entry_of names n ≡ Some v → StandsFor g v (found t f n)
+
+-- A term of a file uses visible names, has a sort that its place takes, and its constants fit.
+unfoldable pub is_right : Placed → Bool
+is_right p = not (is_unknown_at p) && (takes_sort p.place (written_sort p.names p.written) && has_fitting_constants p.written)
+
+unfoldable pub are_right : List Placed → Bool
+are_right ps = list_all is_right ps
+
+-- The call is done with this fact, or memory is wanting: no rule refuses it.
+abbrev pub IsDone : Result ⊤ PutStop → Type 0 → Type 0
+IsDone (Ok u) P = P
+IsDone (Err BadSort) P = ⊥
+IsDone (Err NoMemory) P = ⊤
+
+-- Where no rule refuses the definitions, their names stand for their terms besides what was known before.
+unfoldable pub AreDefined : Graph → BTreeMap (Bor (List ℕ)) TermId → Graph → BTreeMap (Bor (List ℕ)) TermId → Result ⊤ PutStop → Entries WrittenTerm → Type 0
+AreDefined g t h u r ds = (names : Entries Visible) → Knows g t None names → are_right (placed_definitions names ds) ≡ true → IsDone r (Knows h u None (with_definitions names ds))

@@ -1,0 +1,10 @@
+//! The code's model of a model file as it is written: its terms in a store, shared and never copied.
+#![tactic(auto)]
+
+mod defining;
+mod nodes;
+mod putting;
+mod table;
+
+pub use defining::put_definitions;
+pub use putting::put_term;
