@@ -1,6 +1,6 @@
 -- Definitions: what is known of the names after one of them is what its scope says.
-use Rattle.std.proofs.Common.{◌≡◌, ℕ, ◌<◌, Bool, true, false, cond, not, ◌&&◌, ◌||◌, List, [], ◌∷◌, length, drop, get_or, map, Bor, Option, Some, None, refl, sym, ap, ◌∙◌, subst, arith, add-one}
-use Rattle.std.specs.Prelude.{Result, Ok, Err, is_some, ⊤}
+use Rattle.std.proofs.Common.{◌≡◌, ◌<◌, Bool, true, false, cond, not, ◌&&◌, ◌||◌, ℕ, zero, suc, ◌+◌, ◌≤◌, drop-cons, List, [], ◌∷◌, length, drop, get_or, map, Bor, Option, Some, None, refl, sym, ap, ◌∙◌, subst, arith}
+use Rattle.std.specs.Prelude.{Result, Ok, Err, OnOk, is_ok, ⊤}
 use Rattle.std.specs.BTreeMap.{BTreeMap}
 use Rattle.std.specs.List.{list_all}
 use Rattle.std.proofs.lemmas.Bool.{false≢true, and_parts}
@@ -17,6 +17,23 @@ use Rattle.ila_build.specs.Standing.{under_name, found, seen, seen_by, IsIn, Are
 use Rattle.ila_build.specs.Knowing.{StandsFor, Knows, is_right, are_right, IsDone, AreDefined}
 use Rattle.ila_build.proofs.Growing.{onward, same}
 use Rattle.ila_build.proofs.Sorting.{AreSorted, sort_is, term_is, or_parts}
+
+-- ---- lists and results
+
+pub on_ok : {A E : Type 0} (r : Result A E) (P : Type 0) → is_ok r ≡ true → OnOk r P → P
+on_ok (Ok x) P e d = d
+on_ok (Err s) P e d = absurd (false≢true e)
+
+pub rest_cut : {A B : Type 0} (f : A → B) (xs : List A) (i : ℕ) (x : A) → i < length xs → x ≡ get_or xs i x → map f (drop i xs) ≡ f x ∷ map f (drop (i + 1) xs)
+rest_cut f xs i x h e =
+    let one : suc i ≡ i + 1 = omega arith in
+    ap (map f) (drop-cons xs i x h) ∙ (ap (λ y. f y ∷ map f (drop (suc i) xs)) (sym e) ∙ ap (λ j. f x ∷ map f (drop j xs)) one)
+
+pub rest_end : {A B : Type 0} (f : A → B) (xs : List A) (i : ℕ) → length xs ≤ i → map f (drop i xs) ≡ []
+rest_end f [] zero h = refl
+rest_end f [] (suc i) h = refl
+rest_end f (x ∷ xs) zero h = absurd (omega (arith, h))
+rest_end f (x ∷ xs) (suc i) h = rest_end f xs i (omega (arith, h))
 
 -- ---- one term
 
