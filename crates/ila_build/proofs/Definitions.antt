@@ -1,6 +1,6 @@
 -- Definitions: what is known of the names after one of them is what its scope says.
 use Rattle.std.proofs.Common.{◌≡◌, ◌<◌, Bool, true, false, cond, not, ◌&&◌, ◌||◌, ℕ, zero, suc, ◌+◌, ◌≤◌, drop-cons, List, [], ◌∷◌, length, drop, get_or, map, Bor, Option, Some, None, refl, sym, ap, ◌∙◌, subst, arith}
-use Rattle.std.specs.Prelude.{Result, Ok, Err, OnOk, is_ok, ⊤}
+use Rattle.std.specs.Prelude.{Result, Ok, Err, OnOk, is_ok, is_some, ⊤}
 use Rattle.std.specs.BTreeMap.{BTreeMap}
 use Rattle.std.specs.List.{list_all}
 use Rattle.std.proofs.lemmas.Bool.{false≢true, and_parts}
@@ -13,9 +13,12 @@ use Rattle.wb_terms.specs.declared.nodes.TermId.{TermId}
 use Rattle.wb_terms.specs.declared.store.PutStop.{PutStop}
 use Rattle.wb_terms.specs.declared.store.PutStop.TheVariants.{BadSort, NoMemory}
 use Rattle.wb_terms.specs.Graph.{Graph, tree}
-use Rattle.ila_build.specs.Standing.{under_name, found, seen, seen_by, IsIn, AreIn, term_by, IsGrown, IsPut}
-use Rattle.ila_build.specs.Knowing.{StandsFor, Knows, is_right, are_right, IsDone, AreDefined}
-use Rattle.ila_build.proofs.Growing.{onward, same}
+use Rattle.std.proofs.lemmas.Cmp.{nat_list_eq_equiv}
+use Rattle.std.proofs.lemmas.Slice.Eq.{bytes_eq-Decides}
+use Rattle.wb_meaning.specs.ModelFile.Keys.{is_among}
+use Rattle.ila_build.specs.Standing.{IsFresh, IsKept, under_name, found, seen, seen_by, StandsFor, IsIn, AreIn, StandAll, IsTable, term_by, IsGrown, IsWider, IsPut}
+use Rattle.ila_build.specs.Knowing.{Knows, is_right, are_right, IsDone, AreDefined, defined_names}
+use Rattle.ila_build.proofs.Growing.{onward, same, wider, widen, are_in-grown}
 use Rattle.ila_build.proofs.Sorting.{AreSorted, sort_is, term_is, or_parts}
 
 -- ---- lists and results
@@ -28,6 +31,11 @@ pub rest_cut : {A B : Type 0} (f : A → B) (xs : List A) (i : ℕ) (x : A) → 
 rest_cut f xs i x h e =
     let one : suc i ≡ i + 1 = omega arith in
     ap (map f) (drop-cons xs i x h) ∙ (ap (λ y. f y ∷ map f (drop (suc i) xs)) (sym e) ∙ ap (λ j. f x ∷ map f (drop j xs)) one)
+
+pub rest_cut_at : {A B : Type 0} (f : A → B) (xs : List A) (i : ℕ) (d : A) → i < length xs → map f (drop i xs) ≡ f (get_or xs i d) ∷ map f (drop (i + 1) xs)
+rest_cut_at f xs i d h =
+    let one : suc i ≡ i + 1 = omega arith in
+    ap (map f) (drop-cons xs i d h) ∙ ap (λ j. f (get_or xs i d) ∷ map f (drop j xs)) one
 
 pub rest_end : {A B : Type 0} (f : A → B) (xs : List A) (i : ℕ) → length xs ≤ i → map f (drop i xs) ≡ []
 rest_end f [] zero h = refl
@@ -45,11 +53,11 @@ stands_sorted : (g : Graph) (v : Visible) (o : Option TermId) → StandsFor g v 
 stands_sorted g v None s = absurd s
 stands_sorted g v (Some id) s = s.2
 
-stands_grown : (g h : Graph) (v : Visible) (o : Option TermId) → IsGrown g h → StandsFor g v o → StandsFor h v o
+pub stands_grown : (g h : Graph) (v : Visible) (o : Option TermId) → IsWider g h → StandsFor g v o → StandsFor h v o
 stands_grown g h v None b s = absurd s
 stands_grown g h v (Some id) b s = (omega (arith, s.0, b.longer), b.trees id.0 s.0 ∙ s.1, s.2)
 
-pub knows_grown : (g h : Graph) (t : BTreeMap (Bor (List ℕ)) TermId) (f : Option TermId) (names : Entries Visible) → IsGrown g h → Knows g t f names → Knows h t f names
+pub knows_grown : (g h : Graph) (t : BTreeMap (Bor (List ℕ)) TermId) (f : Option TermId) (names : Entries Visible) → IsWider g h → Knows g t f names → Knows h t f names
 unfolding Knows
 knows_grown g h t f names b k = λ n v e. stands_grown g h v (found t f n) b (k n v e)
 
@@ -102,7 +110,7 @@ more_names names m w n v P x y true e p q = p cc
 more_names names m w n v P x y false e p q = q e
 
 pub knows_more : (g h : Graph) (t u : BTreeMap (Bor (List ℕ)) TermId) (names : Entries Visible) (m : Name) (w : Visible) (id : TermId)
-    → IsGrown g h → Knows g t None names → StandsFor h w (Some id)
+    → IsWider g h → Knows g t None names → StandsFor h w (Some id)
     → ((q : Name) → under_name u q ≡ cond (same_name m q) (Some id) (under_name t q)) → Knows h u None ((m, w) ∷ names)
 unfolding Knows
 knows_more g h t u names m w id b k s r n v e =
@@ -131,19 +139,39 @@ pub one_defined : (g h : Graph) (t u : BTreeMap (Bor (List ℕ)) TermId) (n : Na
     → IsPut g h (Ok id) (term_by (seen_by g t None) e)
     → ((q : Name) → under_name u q ≡ cond (same_name n q) (Some id) (under_name t q)) → AreDefined g t h u (Ok tt) ((n, e) ∷ [])
 unfolding AreDefined
-one_defined g h t u n e id put r names k right =
+one_defined g h t u n e id put r names k right fresh =
     let it : IsTermOf h id names e = right_put g h t None names e of_definition (Ok id) k (first_right (placed names e of_definition) [] right).0 put in
-    knows_more g h t u names n (defined names e) id put.0 k (it.within, it.tree, it.sort) r
+    knows_more g h t u names n (defined names e) id (wider put.0) k (it.within, it.tree, it.sort) r
 
 pub one_lost : (g h : Graph) (t u : BTreeMap (Bor (List ℕ)) TermId) (n : Name) (e : WrittenTerm) (s : PutStop)
     → IsPut g h (Err s) (term_by (seen_by g t None) e) → AreDefined g t h u (Err s) ((n, e) ∷ [])
 unfolding AreDefined
-one_lost g h t u n e BadSort put names k right = right_put g h t None names e of_definition (Err BadSort) k (first_right (placed names e of_definition) [] right).0 put
-one_lost g h t u n e NoMemory put names k right = tt
+one_lost g h t u n e BadSort put names k right fresh = right_put g h t None names e of_definition (Err BadSort) k (first_right (placed names e of_definition) [] right).0 put
+one_lost g h t u n e NoMemory put names k right fresh = tt
 
 pub one_out : (g h : Graph) (t u : BTreeMap (Bor (List ℕ)) TermId) (ds : Entries WrittenTerm) → AreDefined g t h u (Err NoMemory) ds
 unfolding AreDefined
-one_out g h t u ds names k right = tt
+one_out g h t u ds names k right fresh = tt
+
+-- a name that stands in the table already
+pub one_twice : (g : Graph) (t : BTreeMap (Bor (List ℕ)) TermId) (n : Name) (e : WrittenTerm) → is_some (under_name t n) ≡ true → AreDefined g t g t (Err BadSort) ((n, e) ∷ [])
+unfolding AreDefined
+one_twice g t n e h names k right fresh = false≢true (sym (ap is_some fresh.0) ∙ h)
+
+other_name : (m n : Name) (ns : List Name) → is_among m ns ≡ false → is_among n ns ≡ true → same_name m n ≡ false
+other_name m n ns h k = by_test (same_name m n) refl where
+  by_test : (b : Bool) → same_name m n ≡ b → b ≡ false
+  by_test false e = refl
+  by_test true e = absurd (false≢true (sym h ∙ (ap (λ x. is_among x ns) ((bytes_eq-Decides m n).0 e) ∙ k)))
+
+abbrev pub IsAside : BTreeMap (Bor (List ℕ)) TermId → BTreeMap (Bor (List ℕ)) TermId → Name → Type 0
+IsAside t u m = (q : Name) → same_name m q ≡ false → under_name u q ≡ under_name t q
+
+fresh_from : (t u : BTreeMap (Bor (List ℕ)) TermId) (m : Name) (ns : List Name) → IsAside t u m → is_among m ns ≡ false → IsFresh t ns → IsFresh u ns
+fresh_from t u m [] a h f = tt
+fresh_from t u m (n ∷ ns) a h f =
+    let p = or_parts (same_name m n) (is_among m ns) h in
+    (a n p.0 ∙ f.0, f.1, fresh_from t u m ns a p.1 f.2)
 
 -- ---- a list of definitions: where the loop stands, the rest are still to be put in a scope that the whole leads through
 
@@ -151,44 +179,84 @@ pub record Reaches (g : Graph) (t : BTreeMap (Bor (List ℕ)) TermId) (rest : En
   pub names : Entries Visible
   pub knows : Knows g t None names
   pub right : are_right (placed_definitions names rest) ≡ true
+  pub fresh : IsFresh t (defined_names rest)
   pub leads : with_definitions names rest ≡ last
 
 unfoldable pub AreReached : Graph → BTreeMap (Bor (List ℕ)) TermId → Graph → BTreeMap (Bor (List ℕ)) TermId → Entries WrittenTerm → Entries WrittenTerm → Type 0
-AreReached g t h u rest ds = (names : Entries Visible) → Knows g t None names → are_right (placed_definitions names ds) ≡ true → Reaches h u rest (with_definitions names ds)
+AreReached g t h u rest ds = (names : Entries Visible) → Knows g t None names → are_right (placed_definitions names ds) ≡ true → IsFresh t (defined_names ds) → Reaches h u rest (with_definitions names ds)
 
 pub reached_start : (g : Graph) (t : BTreeMap (Bor (List ℕ)) TermId) (ds : Entries WrittenTerm) → AreReached g t g t ds ds
 unfolding AreReached
-reached_start g t ds names k right = record { names = names; knows = k; right = right; leads = refl }
+reached_start g t ds names k right fresh = record { names = names; knows = k; right = right; fresh = fresh; leads = refl }
 
 one_of : (r : Result ⊤ PutStop) (P : Type 0) → r ≡ Ok tt → IsDone r P → P
 one_of (Ok x) P e d = d
 one_of (Err s) P e d = cc
 
 pub reached_turn : (g h k : Graph) (t u w : BTreeMap (Bor (List ℕ)) TermId) (d : Name × WrittenTerm) (rest ds : Entries WrittenTerm)
-    → AreReached g t h u (d ∷ rest) ds → AreDefined h u k w (Ok tt) (d ∷ []) → AreReached g t k w rest ds
+    → AreReached g t h u (d ∷ rest) ds → AreDefined h u k w (Ok tt) (d ∷ []) → IsAside u w d.0 → AreReached g t k w rest ds
 unfolding AreReached AreDefined are_right
-reached_turn g h k t u w d rest ds r one names knows right =
-    let at = r names knows right in
+reached_turn g h k t u w d rest ds r one aside names knows right fresh =
+    let at = r names knows right fresh in
     let parts = first_right (placed at.names d.1 of_definition) (placed_definitions ((d.0, defined at.names d.1) ∷ at.names) rest) at.right in
     record {
       names = (d.0, defined at.names d.1) ∷ at.names;
-      knows = one at.names at.knows (first_alone (placed at.names d.1 of_definition) parts.0);
+      knows = one at.names at.knows (first_alone (placed at.names d.1 of_definition) parts.0) (at.fresh.0, refl, tt);
       right = parts.1;
+      fresh = fresh_from u w d.0 (defined_names rest) aside at.fresh.1 at.fresh.2;
       leads = at.leads;
     }
 
 pub reached_end : (g h : Graph) (t u : BTreeMap (Bor (List ℕ)) TermId) (ds : Entries WrittenTerm) → AreReached g t h u [] ds → AreDefined g t h u (Ok tt) ds
 unfolding AreReached AreDefined are_right
-reached_end g h t u ds r names knows right =
-    let at = r names knows right in
+reached_end g h t u ds r names knows right fresh =
+    let at = r names knows right fresh in
     subst (Knows h u None) at.leads at.knows
 
 -- a definition that is lost loses the list
 pub reached_lost : (g h k : Graph) (t u w : BTreeMap (Bor (List ℕ)) TermId) (d : Name × WrittenTerm) (rest ds : Entries WrittenTerm) (s : PutStop)
     → AreReached g t h u (d ∷ rest) ds → AreDefined h u k w (Err s) (d ∷ []) → AreDefined g t k w (Err s) ds
 unfolding AreReached AreDefined are_right
-reached_lost g h k t u w d rest ds BadSort r one names knows right =
-    let at = r names knows right in
+reached_lost g h k t u w d rest ds BadSort r one names knows right fresh =
+    let at = r names knows right fresh in
     let parts = first_right (placed at.names d.1 of_definition) (placed_definitions ((d.0, defined at.names d.1) ∷ at.names) rest) at.right in
-    one at.names at.knows (first_alone (placed at.names d.1 of_definition) parts.0)
-reached_lost g h k t u w d rest ds NoMemory r one names knows right = tt
+    one at.names at.knows (first_alone (placed at.names d.1 of_definition) parts.0) (at.fresh.0, refl, tt)
+reached_lost g h k t u w d rest ds NoMemory r one names knows right fresh = tt
+
+-- ---- what the table keeps
+
+pub aside : (t u : BTreeMap (Bor (List ℕ)) TermId) (m : Name) (id : TermId) → ((q : Name) → under_name u q ≡ cond (same_name m q) (Some id) (under_name t q)) → IsAside t u m
+aside t u m id r q h = r q ∙ ap (λ b. cond b (Some id) (under_name t q)) h
+
+is_known : (o : Option TermId) (id : TermId) → is_some o ≡ false → o ≡ Some id → ⊥
+is_known None id h e = cc
+is_known (Some x) id h e = false≢true (sym h)
+
+pub none_of : {A : Type 0} (o : Option A) → is_some o ≡ false → o ≡ None
+none_of None h = refl
+none_of (Some x) h = absurd (false≢true (sym h))
+
+-- a name that was not in the table
+pub kept : (t u : BTreeMap (Bor (List ℕ)) TermId) (m : Name) (id : TermId) → is_some (under_name t m) ≡ false
+    → ((q : Name) → under_name u q ≡ cond (same_name m q) (Some id) (under_name t q)) → IsKept t u
+unfolding IsKept
+kept t u m id h r n i e = by_test (same_name m n) refl where
+  by_test : (b : Bool) → same_name m n ≡ b → under_name u n ≡ Some i
+  by_test false k = aside t u m id r n k ∙ e
+  by_test true k = absurd (is_known (under_name t m) i h (ap (under_name t) ((bytes_eq-Decides m n).0 k) ∙ e))
+
+pub kept_same : (t : BTreeMap (Bor (List ℕ)) TermId) → IsKept t t
+unfolding IsKept
+kept_same t n i e = e
+
+pub kept_onward : (t u w : BTreeMap (Bor (List ℕ)) TermId) → IsKept t u → IsKept u w → IsKept t w
+unfolding IsKept
+kept_onward t u w a b n i e = b n i (a n i e)
+
+pub stands_kept : (g : Graph) (v : Visible) (x y : Option TermId) → ((id : TermId) → x ≡ Some id → y ≡ Some id) → StandsFor g v x → StandsFor g v y
+stands_kept g v None y k s = absurd s
+stands_kept g v (Some id) y k s = subst (StandsFor g v) (sym (k id refl)) s
+
+pub knows_kept : (g h : Graph) (t u : BTreeMap (Bor (List ℕ)) TermId) (names : Entries Visible) → IsWider g h → IsKept t u → Knows g t None names → Knows h u None names
+unfolding Knows IsKept
+knows_kept g h t u names b a k = λ n v e. stands_kept h v (under_name t n) (under_name u n) (a n) (stands_grown g h v (under_name t n) b (k n v e))

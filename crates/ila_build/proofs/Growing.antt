@@ -1,5 +1,6 @@
 -- Stores that have grown: what a put term does to the terms before it, and to what names stand for.
-use Rattle.std.proofs.Common.{◌≡◌, ℕ, zero, suc, ◌+◌, ◌<◌, ◌≤◌, List, [], ◌∷◌, ◌++◌, length, get_or, Bor, Option, Some, None, refl, sym, ap, ◌∙◌, subst, arith, length-append}
+use Rattle.std.proofs.Common.{◌≡◌, ℕ, zero, suc, ◌+◌, ◌<◌, ◌≤◌, List, [], ◌∷◌, ◌++◌, length, get_or, Bor, Option, Some, None, refl, sym, ap, ◌∙◌, subst, arith, length-append, append_assoc}
+use Rattle.std.proofs.lemmas.List.{append-nil}
 use Rattle.std.specs.Prelude.{◌↔◌, Result, Ok, Err, IfOk, OnOk, OnErr, ⊤}
 use Rattle.std.proofs.Math.Seq.{get_or-append_seam}
 use Rattle.std.proofs.Math.ListN.{get_or-append}
@@ -12,14 +13,25 @@ use Rattle.wb_terms.specs.declared.store.PutStop.{PutStop}
 use Rattle.wb_terms.specs.declared.store.PutStop.TheVariants.{BadSort, NoMemory}
 use Rattle.wb_terms.specs.Graph.{Graph, tree, tree_at, trees_of, tree_of_node, with_node}
 use Rattle.wb_terms.proofs.StoreLemmas.{length-trees_after}
-use Rattle.ila_build.specs.Standing.{IsIn, AreIn, found, seen, seen_by, IsGrown, IsPut}
+use Rattle.ila_build.specs.Standing.{IsIn, AreIn, found, seen, seen_by, IsGrown, IsWider, IsPut}
 
 pub same : (g : Graph) → IsGrown g g
 same g = record { names = refl; longer = omega arith; trees = λ k i. refl }
 
 pub onward : {f g h : Graph} → IsGrown f g → IsGrown g h → IsGrown f h
-onward a b = record {
+onward {f} {g} {h} a b = record {
   names = b.names ∙ a.names;
+  longer = omega (arith, a.longer, b.longer);
+  trees = λ k i. b.trees k (omega (arith, i, a.longer)) ∙ a.trees k i;
+}
+
+pub wider : {g h : Graph} → IsGrown g h → IsWider g h
+wider {g} {h} a = record { more = []; names = a.names ∙ sym (append-nil g.names); longer = a.longer; trees = a.trees }
+
+pub widen : {f g h : Graph} → IsWider f g → IsWider g h → IsWider f h
+widen {f} {g} {h} a b = record {
+  more = a.more ++ b.more;
+  names = b.names ∙ (ap (λ ns. ns ++ b.more) a.names ∙ append_assoc f.names a.more b.more);
   longer = omega (arith, a.longer, b.longer);
   trees = λ k i. b.trees k (omega (arith, i, a.longer)) ∙ a.trees k i;
 }
@@ -37,7 +49,7 @@ by_node g h n t e ts =
       trees = λ k i. ap (λ us. tree_at us k) ts ∙ get_or-append (trees_of g) (t ∷ []) _ k (omega (arith, i, as_many g));
     }
 
-new_tree : (g h : Graph) (t : Term) (k : ℕ) → k ≡ length g.nodes → trees_of h ≡ trees_of g ++ t ∷ [] → tree h k ≡ t
+pub new_tree : (g h : Graph) (t : Term) (k : ℕ) → k ≡ length g.nodes → trees_of h ≡ trees_of g ++ t ∷ [] → tree h k ≡ t
 new_tree g h t k e ts =
     let at : k ≡ length (trees_of g) = e ∙ sym (as_many g) in
     ap (λ us. tree_at us k) ts ∙ (ap (λ j. tree_at (trees_of g ++ t ∷ []) j) at ∙ get_or-append_seam (trees_of g) t [] _)
@@ -79,3 +91,14 @@ is_in-grown g h (Some id) b i = omega (arith, b.longer, i)
 pub are_in-grown : (g h : Graph) (t : BTreeMap (Bor (List ℕ)) TermId) (f : Option TermId) → IsGrown g h → AreIn g t f → AreIn h t f
 unfolding AreIn
 are_in-grown g h t f b i = λ n. is_in-grown g h (found t f n) b (i n)
+
+is_in-wider : (g h : Graph) (o : Option TermId) → IsWider g h → IsIn g o → IsIn h o
+is_in-wider g h None b i = tt
+is_in-wider g h (Some id) b i = omega (arith, b.longer, i)
+
+pub are_in-wider : (g h : Graph) (t : BTreeMap (Bor (List ℕ)) TermId) (f : Option TermId) → IsWider g h → AreIn g t f → AreIn h t f
+unfolding AreIn
+are_in-wider g h t f b i = λ n. is_in-wider g h (found t f n) b (i n)
+
+pub wide_same : (g : Graph) → IsWider g g
+wide_same g = wider (same g)

@@ -3,3 +3,4 @@ mod Refused
 mod Arms
 mod Sorting
 mod Definitions
+mod Declared

@@ -1,5 +1,5 @@
 -- What the visible names of a machine stand for is in the store of terms, and stays so as definitions are put.
-use Rattle.std.specs.Prelude.{ℕ, ◌<◌, ◌≡◌, Bool, true, not, ◌&&◌, List, [], ◌∷◌, length, ⊤, Option, Some, None, Result, Ok, Err}
+use Rattle.std.specs.Prelude.{ℕ, ◌<◌, ◌≡◌, Bool, true, not, ◌&&◌, List, [], ◌∷◌, map, length, ⊤, Option, Some, None, Result, Ok, Err}
 use Rattle.std.specs.Borrow.{Bor}
 use Rattle.std.specs.BTreeMap.{BTreeMap}
 use Rattle.std.specs.List.{list_all}
@@ -12,11 +12,7 @@ use Rattle.wb_terms.specs.declared.nodes.TermId.{TermId}
 use Rattle.wb_terms.specs.declared.store.PutStop.{PutStop}
 use Rattle.wb_terms.specs.declared.store.PutStop.TheVariants.{BadSort, NoMemory}
 use Rattle.wb_terms.specs.Graph.{Graph, tree}
-use Rattle.ila_build.specs.Standing.{found}
-
-abbrev pub StandsFor : Graph → Visible → Option TermId → Type 0
-StandsFor g v None = ⊥
-StandsFor g v (Some id) = (id.0 < length g.nodes) × (tree g id.0 ≡ v.term) × (sort_of v.term ≡ v.sort)
+use Rattle.ila_build.specs.Standing.{found, IsFresh, StandsFor}
 
 -- Each visible name stands for its term, which is in the store and has the sort of the name.
 unfoldable pub Knows : Graph → BTreeMap (Bor (List ℕ)) TermId → Option TermId → Entries Visible → Type 0
@@ -35,6 +31,9 @@ IsDone (Ok u) P = P
 IsDone (Err BadSort) P = ⊥
 IsDone (Err NoMemory) P = ⊤
 
+abbrev pub defined_names : Entries WrittenTerm → List Name
+defined_names ds = map (λ d. d.0) ds
+
 -- Where no rule refuses the definitions, their names stand for their terms besides what was known before.
 unfoldable pub AreDefined : Graph → BTreeMap (Bor (List ℕ)) TermId → Graph → BTreeMap (Bor (List ℕ)) TermId → Result ⊤ PutStop → Entries WrittenTerm → Type 0
-AreDefined g t h u r ds = (names : Entries Visible) → Knows g t None names → are_right (placed_definitions names ds) ≡ true → IsDone r (Knows h u None (with_definitions names ds))
+AreDefined g t h u r ds = (names : Entries Visible) → Knows g t None names → are_right (placed_definitions names ds) ≡ true → IsFresh t (defined_names ds) → IsDone r (Knows h u None (with_definitions names ds))
