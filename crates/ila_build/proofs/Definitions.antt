@@ -139,24 +139,24 @@ pub one_defined : (g h : Graph) (t u : BTreeMap (Bor (List ℕ)) TermId) (n : Na
     → IsPut g h (Ok id) (term_by (seen_by g t None) e)
     → ((q : Name) → under_name u q ≡ cond (same_name n q) (Some id) (under_name t q)) → AreDefined g t h u (Ok tt) ((n, e) ∷ [])
 unfolding AreDefined
-one_defined g h t u n e id put r names k right fresh =
+one_defined g h t u n e id put r names k right =
     let it : IsTermOf h id names e = right_put g h t None names e of_definition (Ok id) k (first_right (placed names e of_definition) [] right).0 put in
     knows_more g h t u names n (defined names e) id (wider put.0) k (it.within, it.tree, it.sort) r
 
 pub one_lost : (g h : Graph) (t u : BTreeMap (Bor (List ℕ)) TermId) (n : Name) (e : WrittenTerm) (s : PutStop)
     → IsPut g h (Err s) (term_by (seen_by g t None) e) → AreDefined g t h u (Err s) ((n, e) ∷ [])
 unfolding AreDefined
-one_lost g h t u n e BadSort put names k right fresh = right_put g h t None names e of_definition (Err BadSort) k (first_right (placed names e of_definition) [] right).0 put
-one_lost g h t u n e NoMemory put names k right fresh = tt
+one_lost g h t u n e BadSort put names k right = λ fresh. right_put g h t None names e of_definition (Err BadSort) k (first_right (placed names e of_definition) [] right).0 put
+one_lost g h t u n e NoMemory put names k right = tt
 
 pub one_out : (g h : Graph) (t u : BTreeMap (Bor (List ℕ)) TermId) (ds : Entries WrittenTerm) → AreDefined g t h u (Err NoMemory) ds
 unfolding AreDefined
-one_out g h t u ds names k right fresh = tt
+one_out g h t u ds names k right = tt
 
 -- a name that stands in the table already
 pub one_twice : (g : Graph) (t : BTreeMap (Bor (List ℕ)) TermId) (n : Name) (e : WrittenTerm) → is_some (under_name t n) ≡ true → AreDefined g t g t (Err BadSort) ((n, e) ∷ [])
 unfolding AreDefined
-one_twice g t n e h names k right fresh = false≢true (sym (ap is_some fresh.0) ∙ h)
+one_twice g t n e h names k right = λ fresh. false≢true (sym (ap is_some fresh.0) ∙ h)
 
 other_name : (m n : Name) (ns : List Name) → is_among m ns ≡ false → is_among n ns ≡ true → same_name m n ≡ false
 other_name m n ns h k = by_test (same_name m n) refl where
@@ -175,53 +175,49 @@ fresh_from t u m (n ∷ ns) a h f =
 
 -- ---- a list of definitions: where the loop stands, the rest are still to be put in a scope that the whole leads through
 
-pub record Reaches (g : Graph) (t : BTreeMap (Bor (List ℕ)) TermId) (rest : Entries WrittenTerm) (last : Entries Visible) : Type 0 where
+pub record Reaches (first : BTreeMap (Bor (List ℕ)) TermId) (all : Entries WrittenTerm) (g : Graph) (t : BTreeMap (Bor (List ℕ)) TermId) (rest : Entries WrittenTerm) (last : Entries Visible) : Type 0 where
   pub names : Entries Visible
   pub knows : Knows g t None names
   pub right : are_right (placed_definitions names rest) ≡ true
-  pub fresh : IsFresh t (defined_names rest)
+  pub fresh : IsFresh first (defined_names all) → IsFresh t (defined_names rest)
   pub leads : with_definitions names rest ≡ last
 
 unfoldable pub AreReached : Graph → BTreeMap (Bor (List ℕ)) TermId → Graph → BTreeMap (Bor (List ℕ)) TermId → Entries WrittenTerm → Entries WrittenTerm → Type 0
-AreReached g t h u rest ds = (names : Entries Visible) → Knows g t None names → are_right (placed_definitions names ds) ≡ true → IsFresh t (defined_names ds) → Reaches h u rest (with_definitions names ds)
+AreReached g t h u rest ds = (names : Entries Visible) → Knows g t None names → are_right (placed_definitions names ds) ≡ true → Reaches t ds h u rest (with_definitions names ds)
 
 pub reached_start : (g : Graph) (t : BTreeMap (Bor (List ℕ)) TermId) (ds : Entries WrittenTerm) → AreReached g t g t ds ds
 unfolding AreReached
-reached_start g t ds names k right fresh = record { names = names; knows = k; right = right; fresh = fresh; leads = refl }
-
-one_of : (r : Result ⊤ PutStop) (P : Type 0) → r ≡ Ok tt → IsDone r P → P
-one_of (Ok x) P e d = d
-one_of (Err s) P e d = cc
+reached_start g t ds names k right = record { names = names; knows = k; right = right; fresh = λ f. f; leads = refl }
 
 pub reached_turn : (g h k : Graph) (t u w : BTreeMap (Bor (List ℕ)) TermId) (d : Name × WrittenTerm) (rest ds : Entries WrittenTerm)
     → AreReached g t h u (d ∷ rest) ds → AreDefined h u k w (Ok tt) (d ∷ []) → IsAside u w d.0 → AreReached g t k w rest ds
 unfolding AreReached AreDefined are_right
-reached_turn g h k t u w d rest ds r one aside names knows right fresh =
-    let at = r names knows right fresh in
+reached_turn g h k t u w d rest ds r one aside names knows right =
+    let at = r names knows right in
     let parts = first_right (placed at.names d.1 of_definition) (placed_definitions ((d.0, defined at.names d.1) ∷ at.names) rest) at.right in
     record {
       names = (d.0, defined at.names d.1) ∷ at.names;
-      knows = one at.names at.knows (first_alone (placed at.names d.1 of_definition) parts.0) (at.fresh.0, refl, tt);
+      knows = one at.names at.knows (first_alone (placed at.names d.1 of_definition) parts.0);
       right = parts.1;
-      fresh = fresh_from u w d.0 (defined_names rest) aside at.fresh.1 at.fresh.2;
+      fresh = λ f. let a = at.fresh f in fresh_from u w d.0 (defined_names rest) aside a.1 a.2;
       leads = at.leads;
     }
 
 pub reached_end : (g h : Graph) (t u : BTreeMap (Bor (List ℕ)) TermId) (ds : Entries WrittenTerm) → AreReached g t h u [] ds → AreDefined g t h u (Ok tt) ds
 unfolding AreReached AreDefined are_right
-reached_end g h t u ds r names knows right fresh =
-    let at = r names knows right fresh in
+reached_end g h t u ds r names knows right =
+    let at = r names knows right in
     subst (Knows h u None) at.leads at.knows
 
 -- a definition that is lost loses the list
 pub reached_lost : (g h k : Graph) (t u w : BTreeMap (Bor (List ℕ)) TermId) (d : Name × WrittenTerm) (rest ds : Entries WrittenTerm) (s : PutStop)
     → AreReached g t h u (d ∷ rest) ds → AreDefined h u k w (Err s) (d ∷ []) → AreDefined g t k w (Err s) ds
 unfolding AreReached AreDefined are_right
-reached_lost g h k t u w d rest ds BadSort r one names knows right fresh =
-    let at = r names knows right fresh in
+reached_lost g h k t u w d rest ds BadSort r one names knows right =
+    let at = r names knows right in
     let parts = first_right (placed at.names d.1 of_definition) (placed_definitions ((d.0, defined at.names d.1) ∷ at.names) rest) at.right in
-    one at.names at.knows (first_alone (placed at.names d.1 of_definition) parts.0) (at.fresh.0, refl, tt)
-reached_lost g h k t u w d rest ds NoMemory r one names knows right fresh = tt
+    λ f. one at.names at.knows (first_alone (placed at.names d.1 of_definition) parts.0) ((at.fresh f).0, refl, tt)
+reached_lost g h k t u w d rest ds NoMemory r one names knows right = tt
 
 -- ---- what the table keeps
 

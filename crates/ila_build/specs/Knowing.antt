@@ -25,15 +25,15 @@ is_right p = not (is_unknown_at p) && (takes_sort p.place (written_sort p.names 
 unfoldable pub are_right : List Placed → Bool
 are_right ps = list_all is_right ps
 
--- The call is done with this fact, or memory is wanting: no rule refuses it.
-abbrev pub IsDone : Result ⊤ PutStop → Type 0 → Type 0
-IsDone (Ok u) P = P
-IsDone (Err BadSort) P = ⊥
-IsDone (Err NoMemory) P = ⊤
+-- The call is done with a fact, or memory is wanting, or it is refused, which is not so where this holds.
+abbrev pub IsDone : Result ⊤ PutStop → (fact unless : Type 0) → Type 0
+IsDone (Ok u) P Q = P
+IsDone (Err BadSort) P Q = Q → ⊥
+IsDone (Err NoMemory) P Q = ⊤
 
 abbrev pub defined_names : Entries WrittenTerm → List Name
 defined_names ds = map (λ d. d.0) ds
 
 -- Where no rule refuses the definitions, their names stand for their terms besides what was known before.
 unfoldable pub AreDefined : Graph → BTreeMap (Bor (List ℕ)) TermId → Graph → BTreeMap (Bor (List ℕ)) TermId → Result ⊤ PutStop → Entries WrittenTerm → Type 0
-AreDefined g t h u r ds = (names : Entries Visible) → Knows g t None names → are_right (placed_definitions names ds) ≡ true → IsFresh t (defined_names ds) → IsDone r (Knows h u None (with_definitions names ds))
+AreDefined g t h u r ds = (names : Entries Visible) → Knows g t None names → are_right (placed_definitions names ds) ≡ true → IsDone r (Knows h u None (with_definitions names ds)) (IsFresh t (defined_names ds))

@@ -1,3 +1,4 @@
 pub mod Standing
 pub mod Knowing
 pub mod Declaring
+pub mod Updating

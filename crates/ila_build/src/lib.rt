@@ -1,18 +1,13 @@
 //! The code's model of a model file as it is written: its terms in a store, shared and never copied.
 #![tactic(auto)]
 
-mod build;
 mod declaring;
 mod defining;
-mod machine;
 mod nodes;
 mod putting;
 mod table;
-#[cfg(test)]
-mod tests;
 mod updating;
 
-pub use build::build;
 pub use declaring::{declare_inputs, declare_states, initial_values};
 pub use defining::put_definitions;
 pub use putting::put_term;

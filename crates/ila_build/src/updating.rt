@@ -1,24 +1,46 @@
 //! The updates of an instruction: their terms are put, and they are ordered by their states.
 
-ghost use Rattle.std.specs.Prelude.{◌≡◌, OnOk};
-ghost use Rattle.ila_build.specs.Standing.{AreIn, IsGrown};
+ghost use Rattle.std.specs.Prelude.{◌≡◌, ◌<◌, ◌==◌, ℕ, cond, length, None, Some, IfOk, IfSome, OnOk};
+ghost use Rattle.wb_meaning.specs.Verilog.Hierarchy.{first_of};
+ghost use Rattle.ila_build.specs.Standing.{AreIn, IsGrown, under_name};
+ghost use Rattle.ila_build.specs.Updating.{IsLeafOf, chosen};
 
 use crate::putting::{put_term, under_name};
 use ila_file::WrittenUpdate;
-use ila_model::Update;
 use std::alloc::Global;
 use std::collections::BTreeMap;
-use wb_terms::{NameId, Node, PutStop, TermId, Terms};
+use wb_terms::{NameId, NoMemory, Node, PutStop, TermId, Terms};
 
 /// The declared name that a name stands for, if it stands for one.
 fn declared_id<'v>(terms: &Terms, known: &BTreeMap<&'v [u8], TermId>, name: &'v str) -> Option<NameId>
     requires { AreIn terms.now known.now None }
+    ensures { IfSome result (λ i. IsLeafOf terms.now i (under_name known.now name.now)) }
 {
-    let term = under_name(known, name)?;
+    match under_name(known, name) {
+        Some(term) => name_of(terms, term),
+        None => None,
+    }
+}
+
+/// The declared name that a term is, if it is one.
+fn name_of(terms: &Terms, term: TermId) -> Option<NameId>
+    requires { term.0 < length terms.now.nodes }
+    ensures { IfSome result (λ i. IsLeafOf terms.now i (Some term)) }
+{
     match *terms.node(term) {
         Node::Name(id) => Some(id),
         _ => None,
     }
+}
+
+/// Chooses a term for a state, unless one is chosen.
+fn choose(table: &mut BTreeMap<usize, TermId>, state: usize, term: TermId) -> Result<(), NoMemory>
+    ensures { OnOk result ((k : ℕ) → chosen table.new k ≡ first_of (chosen table.old k) (cond (k == state) (Some term) None)) }
+{
+    if !table.contains_key(&state) {
+        table.insert(state, term)?;
+    }
+    Ok(())
 }
 
 /// Puts an update's term, and chooses it for its state unless one is chosen.
@@ -37,23 +59,19 @@ fn put_update<'v>(
         return Err(PutStop::BadSort);
     };
     let term = put_term(terms, known, fetch, &update.term)?;
-    if !chosen.contains_key(&state.0) && chosen.insert(state.0, term).is_err() {
+    if choose(chosen, state.0, term).is_err() {
         return Err(PutStop::NoMemory);
     }
     Ok(())
 }
 
 /// The chosen updates, by ascending states.
-fn chosen_updates(alloc: Global, chosen: &BTreeMap<usize, TermId>) -> Result<Vec<Update>, PutStop> {
+fn chosen_updates(alloc: Global, table: &BTreeMap<usize, TermId>) -> Result<Vec<(usize, TermId)>, NoMemory>
+    ensures { IfOk result (λ updates. updates.items ≡ table.now.entries) }
+{
     let mut updates = Vec::new(alloc);
-    for (state, term) in chosen {
-        let update = Update {
-            state: NameId(*state),
-            term: *term,
-        };
-        if updates.push(update).is_err() {
-            return Err(PutStop::NoMemory);
-        }
+    for (state, term) in table {
+        updates.push((*state, *term))?;
     }
     Ok(updates)
 }
@@ -65,7 +83,7 @@ pub(crate) fn put_updates<'v>(
     known: &BTreeMap<&'v [u8], TermId>,
     fetch: Option<TermId>,
     updates: &[WrittenUpdate<'v>],
-) -> Result<Vec<Update>, PutStop>
+) -> Result<Vec<(usize, TermId)>, PutStop>
     requires named { AreIn terms.old known.now None }
     requires in_store { AreIn terms.old known.now fetch }
     ensures grown { OnOk result (IsGrown terms.old terms.new) }
@@ -74,5 +92,8 @@ pub(crate) fn put_updates<'v>(
     for update in updates {
         put_update(terms, known, fetch, &mut chosen, update)?;
     }
-    chosen_updates(alloc, &chosen)
+    let Ok(updates) = chosen_updates(alloc, &chosen) else {
+        return Err(PutStop::NoMemory);
+    };
+    Ok(updates)
 }
