@@ -80,7 +80,7 @@ IsRight h names e (Ok id) = IsTermOf h id names e
 IsRight h names e (Err BadSort) = ⊥
 IsRight h names e (Err NoMemory) = ⊤
 
-not_true : (b : Bool) → not b ≡ true → b ≡ false
+pub not_true : (b : Bool) → not b ≡ true → b ≡ false
 not_true false h = refl
 not_true true h = absurd (false≢true h)
 

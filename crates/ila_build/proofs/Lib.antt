@@ -4,3 +4,4 @@ mod Arms
 mod Sorting
 mod Definitions
 mod Declared
+mod Chosen

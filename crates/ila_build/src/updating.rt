@@ -1,9 +1,12 @@
 //! The updates of an instruction: their terms are put, and they are ordered by their states.
 
-ghost use Rattle.std.specs.Prelude.{◌≡◌, ◌<◌, ◌==◌, ℕ, cond, length, None, Some, IfOk, IfSome, OnOk};
+ghost use Rattle.std.specs.Prelude.{◌≡◌, ◌<◌, ◌==◌, ℕ, cond, length, map, None, Some, IfOk, IfSome, OnOk};
+ghost use Rattle.std.specs.Ordering.{nat_cmp};
+ghost use Rattle.std.specs.BTreeMap.{IsOrdered};
 ghost use Rattle.wb_meaning.specs.Verilog.Hierarchy.{first_of};
-ghost use Rattle.ila_build.specs.Standing.{AreIn, IsGrown, under_name};
-ghost use Rattle.ila_build.specs.Updating.{IsLeafOf, chosen};
+ghost use Rattle.ila_file.specs.View.{update_view};
+ghost use Rattle.ila_build.specs.Standing.{AreIn, IsGrown, IsTable, under_name};
+ghost use Rattle.ila_build.specs.Updating.{AreUpdated, ChoosesOne, IsLeafOf, chosen};
 
 use crate::putting::{put_term, under_name};
 use ila_file::WrittenUpdate;
@@ -48,18 +51,20 @@ fn put_update<'v>(
     terms: &mut Terms,
     known: &BTreeMap<&'v [u8], TermId>,
     fetch: Option<TermId>,
-    chosen: &mut BTreeMap<usize, TermId>,
+    table: &mut BTreeMap<usize, TermId>,
     update: &WrittenUpdate<'v>,
 ) -> Result<(), PutStop>
-    requires named { AreIn terms.old known.now None }
+    requires table { IsTable terms.old known.now }
     requires in_store { AreIn terms.old known.now fetch }
     ensures grown { OnOk result (IsGrown terms.old terms.new) }
+    ensures chosen { OnOk result (ChoosesOne terms.old known.now fetch terms.new table.old table.new (update_view update.now)) }
 {
+    let _names = terms.name_count();
     let Some(state) = declared_id(terms, known, update.state) else {
         return Err(PutStop::BadSort);
     };
     let term = put_term(terms, known, fetch, &update.term)?;
-    if choose(chosen, state.0, term).is_err() {
+    if choose(table, state.0, term).is_err() {
         return Err(PutStop::NoMemory);
     }
     Ok(())
@@ -67,7 +72,8 @@ fn put_update<'v>(
 
 /// The chosen updates, by ascending states.
 fn chosen_updates(alloc: Global, table: &BTreeMap<usize, TermId>) -> Result<Vec<(usize, TermId)>, NoMemory>
-    ensures { IfOk result (λ updates. updates.items ≡ table.now.entries) }
+    ensures updates { IfOk result (λ updates. updates.items ≡ table.now.entries) }
+    ensures ordered { IsOrdered nat_cmp table.now }
 {
     let mut updates = Vec::new(alloc);
     for (state, term) in table {
@@ -84,15 +90,17 @@ pub(crate) fn put_updates<'v>(
     fetch: Option<TermId>,
     updates: &[WrittenUpdate<'v>],
 ) -> Result<Vec<(usize, TermId)>, PutStop>
-    requires named { AreIn terms.old known.now None }
+    requires table { IsTable terms.old known.now }
     requires in_store { AreIn terms.old known.now fetch }
     ensures grown { OnOk result (IsGrown terms.old terms.new) }
+    ensures updates { IfOk result (λ us. AreUpdated terms.old known.now fetch terms.new us.items (map update_view updates.now)) }
 {
-    let mut chosen = BTreeMap::new(alloc);
+    let _names = terms.name_count();
+    let mut table = BTreeMap::new(alloc);
     for update in updates {
-        put_update(terms, known, fetch, &mut chosen, update)?;
+        put_update(terms, known, fetch, &mut table, update)?;
     }
-    let Ok(updates) = chosen_updates(alloc, &chosen) else {
+    let Ok(updates) = chosen_updates(alloc, &table) else {
         return Err(PutStop::NoMemory);
     };
     Ok(updates)
