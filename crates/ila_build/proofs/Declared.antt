@@ -84,3 +84,7 @@ table_grown g h t u b e keep i a = (i, subst (StandAll h u) (sym e) (all_kept g 
 
 pub names_turn : (old now : Entries Sort) (x : Name × Sort) (rest all : Entries Sort) → now ≡ old ++ x ∷ [] → old ++ x ∷ rest ≡ all → now ++ rest ≡ all
 names_turn old now x rest all e h = ap (λ ns. ns ++ rest) e ∙ (append_assoc old (x ∷ []) rest ∙ h)
+
+pub in_table : (g : Graph) (t : BTreeMap (Bor (List ℕ)) TermId) → IsTable g t → AreIn g t None
+unfolding IsTable
+in_table g t s = s.0
