@@ -4,7 +4,7 @@ use Rattle.std.proofs.lemmas.Bool.{cases_eq}
 use Rattle.wb_meaning.specs.Value.{Valuation}
 use Rattle.wb_meaning.specs.Model.{holds}
 use Rattle.wb_terms.specs.Graph.{Graph, tree}
-use Rattle.ila_model.specs.declared.instructions.Instruction.{Instruction}
+use Rattle.ila_model.specs.declared.parts.Instruction.{Instruction}
 use Rattle.ila_child.specs.Decoding.{decodes, IsFound}
 
 -- the condition of the instruction at a place

@@ -1,6 +1,8 @@
-pub mod Found
 pub mod Updates
-pub mod Points
-pub mod Answers
 pub mod Initial
-pub mod Models
+pub mod Found
+pub mod Depth
+pub mod Places
+pub mod Points
+pub mod Machines
+pub mod Programs

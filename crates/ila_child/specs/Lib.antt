@@ -3,3 +3,5 @@ pub mod State
 pub mod Step
 pub mod Decoding
 pub mod Updating
+pub mod Running
+pub mod Start

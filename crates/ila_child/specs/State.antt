@@ -3,7 +3,7 @@ use Rattle.std.specs.Prelude.{List, map}
 use Rattle.wb_meaning.specs.Value.{Sort, Value, Entries, Valuation, valuation_of}
 use Rattle.wb_meaning.specs.Model.{StateDeclaration, InputDeclaration, Model, states_of, value_or}
 use Rattle.wb_terms.specs.Environment.{AreOfSorts, named}
-use Rattle.ila_child.specs.Values.{zero_of}
+use Rattle.ila_model.specs.Meaning.{zero_of}
 
 abbrev pub sorts_of_states : List StateDeclaration → Entries Sort
 sorts_of_states = map (λ s. (s.state_name, s.sort))

@@ -1,22 +1,55 @@
--- The values of states after updates, by the states' places.
-use Rattle.std.specs.Prelude.{ℕ, ◌<◌, ◌≡◌, cond, ◌==◌, List, [], ◌∷◌, length, Option, Some, None, slice_index_or}
-use Rattle.wb_meaning.specs.Value.{Value, number, Valuation, HasSort}
-use Rattle.wb_meaning.specs.Term.{Term}
-use Rattle.wb_meaning.specs.Model.{updated_value}
+-- The values of the names after updates, and after private states have begun.
+use Rattle.std.specs.Prelude.{ℕ, suc, ◌<◌, ◌≡◌, Bool, true, ◌&&◌, nat_le, nat_lt, cond, ◌==◌, List, [], ◌∷◌, length, ⊤, Option, Some, None, slice_index_or, slice_set}
+use Rattle.wb_meaning.specs.Value as meaning
+use Rattle.wb_meaning.specs.Value.{Sort, Entries, number, Valuation, HasSort}
+use Rattle.wb_meaning.specs.Term.{Term, val}
+use Rattle.wb_terms.specs.declared.values.Value.{Value}
 use Rattle.wb_terms.specs.Graph.{Graph, tree}
-use Rattle.ila_model.specs.declared.instructions.Update.{Update}
-use Rattle.ila_model.specs.Sorted.{sort_at}
+use Rattle.wb_terms.specs.Environment.{as_value}
+use Rattle.ila_model.specs.declared.parts.Update.{Update}
+use Rattle.ila_model.specs.Sorted.{is_term_of, sort_at}
+use Rattle.ila_child.specs.declared.updating.Write.{Write}
+use Rattle.ila_child.specs.Values.{beginning}
+
+-- The updates are of declared names, each by a term of its sort, in ascending order from a place on.
+abbrev pub are_updates_of : Graph → (from : ℕ) → List Update → Bool
+are_updates_of g k [] = true
+are_updates_of g k (u ∷ us) =
+    nat_le k u.state.0
+    && (nat_lt u.state.0 (length g.names) && (is_term_of g (sort_at g.names u.state.0) u.term.0 && are_updates_of g (suc u.state.0) us))
 
 -- the term that updates the state at a place, if any
 abbrev pub update_at : Graph → List Update → ℕ → Option Term
 update_at g [] k = None
 update_at g (u ∷ us) k = cond (u.state.0 == k) (Some (tree g u.term.0)) (update_at g us k)
 
-abbrev pub value_at : List Value → ℕ → Value
+abbrev pub value_at : List meaning.Value → ℕ → meaning.Value
 value_at xs k = slice_index_or xs k (number 0)
 
--- Each of so many states has its update's value at the point, or its old value, and this is of its sort.
-pub record AreUpdated (g : Graph) (p : Valuation) (states : ℕ) (us : List Update) (olds news : List Value) : Type 0 where
-  pub count : length news ≡ states
-  pub value : (k : ℕ) → k < states → value_at news k ≡ updated_value (update_at g us k) p (value_at olds k)
-  pub sorted : (k : ℕ) → k < states → HasSort (value_at news k) (sort_at g.names k)
+-- each updated name has the value of its term at the point
+abbrev pub with_updates : Graph → Valuation → List Update → List meaning.Value → List meaning.Value
+with_updates g p [] xs = xs
+with_updates g p (u ∷ us) xs = with_updates g p us (slice_set xs u.state.0 (val (tree g u.term.0) p))
+
+abbrev pub with_writes : List Write → List meaning.Value → List meaning.Value
+with_writes [] xs = xs
+with_writes (w ∷ ws) xs = with_writes ws (slice_set xs w.place (as_value w.value))
+
+-- the names from a place on have the values with which they begin
+abbrev pub with_initial : Entries Sort → (from : ℕ) → List (Option Value) → List meaning.Value → List meaning.Value
+with_initial ns k [] xs = xs
+with_initial ns k (i ∷ is) xs = with_initial ns (suc k) is (slice_set xs k (beginning (sort_at ns k) i))
+
+-- each write is of a declared name, of its sort
+abbrev pub AreFitting : Entries Sort → List Write → Type 0
+AreFitting ns [] = ⊤
+AreFitting ns (w ∷ ws) = (w.place < length ns) × HasSort (as_value w.value) (sort_at ns w.place) × AreFitting ns ws
+
+-- the writes are those of the updates at the point
+abbrev pub AreWritesOf : Graph → Valuation → List Update → List Write → Type 0
+AreWritesOf g p [] [] = ⊤
+AreWritesOf g p [] (w ∷ ws) = ⊥
+AreWritesOf g p (u ∷ us) [] = ⊥
+AreWritesOf g p (u ∷ us) (w ∷ ws) =
+    (w.place ≡ u.state.0) × (as_value w.value ≡ val (tree g u.term.0) p) × (u.state.0 < length g.names)
+    × HasSort (as_value w.value) (sort_at g.names u.state.0) × AreWritesOf g p us ws

@@ -1,14 +1,17 @@
--- The zero of a sort, and the number of words of a memory.
-use Rattle.std.specs.Prelude.{ℕ, ◌≡◌, ◌^◌, false, Option, Some, replicate}
-use Rattle.wb_meaning.specs.Value.{Sort, truth, word, memory, Value, truth_value, number, words}
-
--- false, 0, or a memory whose words are 0
-abbrev pub zero_of : Sort → Value
-zero_of truth = truth_value false
-zero_of (word w) = number 0
-zero_of (memory a d) = words (replicate (2 ^ a) 0)
+-- The number of words of a memory, and the value with which a state begins.
+use Rattle.std.specs.Prelude.{ℕ, ◌≡◌, ◌^◌, Option, Some, option_map}
+use Rattle.wb_meaning.specs.Value as meaning
+use Rattle.wb_meaning.specs.Value.{Sort, memory}
+use Rattle.wb_meaning.specs.Model.{value_or}
+use Rattle.wb_terms.specs.declared.values.Value.{Value}
+use Rattle.wb_terms.specs.Environment.{as_value}
+use Rattle.ila_model.specs.Meaning.{zero_of}
 
 -- the number of words of a memory of the sort
 abbrev pub IsMemoryOf : ℕ → Option Sort → Type 0
 IsMemoryOf n (Some (memory a d)) = n ≡ 2 ^ a
 IsMemoryOf n _ = ⊥
+
+-- the stated initial value, if any, else the zero of the sort
+abbrev pub beginning : Sort → Option Value → meaning.Value
+beginning s i = value_or (option_map as_value i) (zero_of s)

@@ -1,14 +1,16 @@
-//! Which instructions of a model decode.
+//! Which instructions of a machine decode.
 
-ghost use Rattle.std.specs.Prelude.{◌≡◌, ◌≤◌, length};
-ghost use Rattle.wb_terms.specs.Environment.{Fits, valuation};
-ghost use Rattle.ila_child.specs.Decoding.{decodes, AreDecoded};
+ghost use Rattle.std.specs.Prelude.{◌≡◌, true, length};
+ghost use Rattle.wb_terms.specs.Environment.{valuation};
+ghost use Rattle.wb_terms.specs.Held.{Holds};
+ghost use Rattle.ila_child.specs.Decoding.{decodes, are_conditions, AreDecoded};
 
 use crate::evaluation::holds;
-use ila_model::IlaModel;
-use wb_terms::{Env, Scratch};
+use ila_model::Instruction;
+use wb_terms::{Env, Evaluated, Terms};
 
-/// The instructions that decode, as far as a step asks, by their places in the model's order.
+/// The instructions that decode, as far as a step asks, by their places in the machine's order.
+#[derive(Clone, Copy)]
 pub(crate) enum Decoded {
     /// None decodes.
     Nothing,
@@ -19,15 +21,19 @@ pub(crate) enum Decoded {
 }
 
 /// Looks for the first two instructions whose decode conditions hold.
-pub(crate) fn find_decoded(model: &IlaModel, env: &Env, scratch: &mut Scratch) -> Decoded
-    requires room { length model.now.terms.nodes ≤ scratch.old }
-    requires fits { Fits model.now.terms env.now }
-    ensures decoded { AreDecoded (decodes model.now.terms (valuation model.now.terms env.now) model.now.instructions.items) (length model.now.instructions.items) result }
-    ensures room { scratch.new ≡ scratch.old }
+pub(crate) fn find_decoded(
+    terms: &Terms,
+    env: &Env,
+    words: &Evaluated,
+    instructions: &[Instruction],
+) -> Decoded
+    requires conditions { are_conditions terms.now instructions.now ≡ true }
+    requires words { Holds terms.now env.now words.now }
+    ensures { AreDecoded (decodes terms.now (valuation terms.now env.now) instructions.now) (length instructions.now) result }
 {
     let mut found = None;
-    for (place, instruction) in model.instructions.iter().enumerate() {
-        if holds(&model.terms, env, scratch, instruction.decode) {
+    for (place, instruction) in instructions.iter().enumerate() {
+        if holds(terms, env, words, instruction.decode) {
             match found {
                 Some(first) => return Decoded::Several(first, place),
                 None => found = Some(place),

@@ -1,26 +1,25 @@
-//! Values of a model's terms under an environment of its store.
+//! Values of a model's terms, by one pass over its store under an environment.
 
-ghost use Rattle.std.specs.Prelude.{◌≡◌, ◌<◌, ◌≤◌, true, length, IfOk};
-ghost use Rattle.wb_meaning.specs.Value.{as_words};
+ghost use Rattle.std.specs.Prelude.{◌≡◌, ◌<◌, true, length, IfOk};
+ghost use Rattle.wb_meaning.specs.Value.{truth, as_words};
 ghost use Rattle.wb_meaning.specs.Term.{sort_of};
 ghost use Rattle.wb_meaning.specs.Model.{holds};
 ghost use Rattle.wb_terms.specs.Graph.{tree};
 ghost use Rattle.wb_terms.specs.Environment.{Fits, HasSortOf, valuation, value_of, as_value};
-ghost use Rattle.ila_model.specs.Sorted.{is_condition};
+ghost use Rattle.wb_terms.specs.Held.{Holds};
+ghost use Rattle.ila_model.specs.Sorted.{is_term_of};
 ghost use Rattle.ila_child.specs.Values.{IsMemoryOf};
 
 use std::alloc::Global;
-use wb_terms::{Env, NoMemory, Scratch, Sort, TermId, Terms, Value, eval, eval_at};
+use wb_terms::{Env, Evaluated, NoMemory, Sort, TermId, Terms, Value};
 
 /// Whether a condition holds.
-pub(crate) fn holds(terms: &Terms, env: &Env, scratch: &mut Scratch, id: TermId) -> bool
-    requires condition { is_condition terms.now id.0 ≡ true }
-    requires room { length terms.now.nodes ≤ scratch.old }
-    requires fits { Fits terms.now env.now }
-    ensures value { result ≡ holds (tree terms.now id.0) (valuation terms.now env.now) }
-    ensures room { scratch.new ≡ scratch.old }
+pub(crate) fn holds(terms: &Terms, env: &Env, words: &Evaluated, id: TermId) -> bool
+    requires condition { is_term_of terms.now truth id.0 ≡ true }
+    requires words { Holds terms.now env.now words.now }
+    ensures { result ≡ holds (tree terms.now id.0) (valuation terms.now env.now) }
 {
-    eval(terms, env, scratch, id) == 1
+    words.number(terms, env, id) == 1
 }
 
 /// The value of a term.
@@ -28,22 +27,21 @@ pub(crate) fn term_value(
     alloc: Global,
     terms: &Terms,
     env: &Env,
-    scratch: &mut Scratch,
+    words: &Evaluated,
     id: TermId,
 ) -> Result<Value, NoMemory>
     requires id { id.0 < length terms.now.nodes }
-    requires room { length terms.now.nodes ≤ scratch.old }
+    requires words { Holds terms.now env.now words.now }
     requires fits { Fits terms.now env.now }
     ensures value { IfOk result (λ value. as_value value ≡ value_of terms.now env.now id.0) }
     ensures sorted { IfOk result (λ value. HasSortOf (as_value value) (sort_of (tree terms.now id.0))) }
-    ensures room { scratch.new ≡ scratch.old }
 {
     match terms.sort(id) {
-        Sort::Truth => Ok(Value::Truth(eval(terms, env, scratch, id) == 1)),
-        Sort::Word(_) => Ok(Value::Number(eval(terms, env, scratch, id))),
+        Sort::Truth => Ok(Value::Truth(words.number(terms, env, id) == 1)),
+        Sort::Word(_) => Ok(Value::Number(words.number(terms, env, id))),
         Sort::Memory(address_width, _) => {
-            let words = memory_words(alloc, terms, env, scratch, id, 1 << address_width)?;
-            Ok(Value::Words(words))
+            let values = memory_words(alloc, terms, env, words, id, 1 << address_width)?;
+            Ok(Value::Words(values))
         }
     }
 }
@@ -53,21 +51,20 @@ fn memory_words(
     alloc: Global,
     terms: &Terms,
     env: &Env,
-    scratch: &mut Scratch,
+    words: &Evaluated,
     id: TermId,
     count: u64,
 ) -> Result<Vec<u128>, NoMemory>
     requires id { id.0 < length terms.now.nodes }
-    requires room { length terms.now.nodes ≤ scratch.old }
+    requires words { Holds terms.now env.now words.now }
     requires fits { Fits terms.now env.now }
     requires memory { IsMemoryOf count (sort_of (tree terms.now id.0)) }
-    ensures words { IfOk result (λ words. words.items ≡ as_words (value_of terms.now env.now id.0)) }
-    ensures sorted { IfOk result (λ words. HasSortOf (value_of terms.now env.now id.0) (sort_of (tree terms.now id.0))) }
-    ensures room { scratch.new ≡ scratch.old }
+    ensures words { IfOk result (λ values. values.items ≡ as_words (value_of terms.now env.now id.0)) }
+    ensures sorted { IfOk result (λ values. HasSortOf (value_of terms.now env.now id.0) (sort_of (tree terms.now id.0))) }
 {
-    let mut words = Vec::new(alloc);
+    let mut values = Vec::new(alloc);
     for address in 0..count {
-        words.push(eval_at(terms, env, scratch, id, address))?;
+        values.push(words.word_at(terms, env, id, address))?;
     }
-    Ok(words)
+    Ok(values)
 }

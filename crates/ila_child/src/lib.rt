@@ -3,6 +3,7 @@
 
 mod decoding;
 mod evaluation;
+mod running;
 mod states;
 mod stepping;
 #[cfg(test)]

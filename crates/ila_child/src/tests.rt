@@ -7,7 +7,7 @@ ghost use Rattle.ila_model.specs.Model.{model_of};
 ghost use Rattle.ila_child.specs.State.{sorts_of_states, sorts_of_inputs};
 
 use super::*;
-use ila_model::{IlaModel, Instruction, Update};
+use ila_model::{Child, ChildId, IlaModel, Instruction, Parts, Update};
 use std::alloc::Global;
 use std::test::Fail;
 use wb_terms::{NameId, Node, PutStop, Sort, TermId, Terms, Value};
@@ -69,6 +69,7 @@ fn instruction(
         name: String::from_str(alloc, name)?,
         decode,
         updates: vec![in alloc; update]?,
+        child: None,
     })
 }
 
@@ -83,7 +84,15 @@ fn counter(alloc: Global, valid: TermId, clear: TermId) -> Result<IlaModel, Fail
     let increment = instruction(alloc, "INC", OP_IS_ONE, MORE)?;
     let clear = instruction(alloc, "CLR", clear, ZERO)?;
     let instructions = vec![in alloc; increment, clear]?;
-    match IlaModel::new(name, terms, initial_values, valid, instructions) {
+    let parts = Parts {
+        terms,
+        initial_values,
+        inputs: 1,
+        valid,
+        instructions,
+        children: Vec::new(alloc),
+    };
+    match IlaModel::new(alloc, name, parts)? {
         Some(model) => Ok(model),
         None => Err("ill sorted".into()),
     }
@@ -96,6 +105,8 @@ enum Seen {
     NotValid,
     NoInstruction,
     Several(usize, usize),
+    ChildStuck(u32, u32),
+    ChildTooLong(u32),
     Other,
 }
 
@@ -108,6 +119,8 @@ fn seen_in(stepped: &Stepped) -> Seen {
         Stepped::NotValid => Seen::NotValid,
         Stepped::NoInstruction => Seen::NoInstruction,
         Stepped::Several(first, second) => Seen::Several(*first, *second),
+        Stepped::ChildStuck(depth, step) => Seen::ChildStuck(*depth, *step),
+        Stepped::ChildTooLong(depth) => Seen::ChildTooLong(*depth),
     }
 }
 
@@ -153,7 +166,15 @@ fn stores(alloc: Global) -> Result<IlaModel, Fail>
     let initial_values = vec![in alloc; None]?;
     let write = instruction(alloc, "W", TermId(6), TermId(5))?;
     let instructions = vec![in alloc; write]?;
-    match IlaModel::new(name, terms, initial_values, TermId(6), instructions) {
+    let parts = Parts {
+        terms,
+        initial_values,
+        inputs: 1,
+        valid: TermId(6),
+        instructions,
+        children: Vec::new(alloc),
+    };
+    match IlaModel::new(alloc, name, parts)? {
         Some(model) => Ok(model),
         None => Err("ill sorted".into()),
     }
@@ -194,5 +215,101 @@ fn memories(rt: HostRuntime) -> Result<(), Fail> {
     };
     assert_eq!(rt; before.as_slice(), [0, 0, 0, 0].as_slice());
     assert_eq!(rt; after.as_slice(), [0, 0, 0, 2].as_slice());
+    Ok(())
+}
+
+const BELOW_4: TermId = TermId(8);
+
+const BELOW_2: TermId = TermId(9);
+
+/// Names: p of 8 bits, the inputs x and y of 4 bits, and the private i of 3 bits.
+fn multiplier_terms(alloc: Global) -> Result<Terms, PutStop>
+    ensures { IfOk result (λ t. t.names ≡ (112 ∷ [], word 8) ∷ (120 ∷ [], word 4) ∷ (121 ∷ [], word 4) ∷ (105 ∷ [], word 3) ∷ []) }
+{
+    let Ok(mut terms) = Terms::new(alloc) else {
+        return Err(PutStop::NoMemory);
+    };
+    let p = terms.declare(named(alloc, "p")?, Sort::Word(8))?;
+    let x = terms.declare(named(alloc, "x")?, Sort::Word(4))?;
+    let y = terms.declare(named(alloc, "y")?, Sort::Word(4))?;
+    let i = terms.declare(named(alloc, "i")?, Sort::Word(3))?;
+    let product = terms.put(Node::Name(p))?;
+    let factor = terms.put(Node::Name(x))?;
+    let other = terms.put(Node::Name(y))?;
+    let place = terms.put(Node::Name(i))?;
+    terms.put(Node::Const(8, 0))?;
+    terms.put(Node::Truth(true))?;
+    let four = terms.put(Node::Const(3, 4))?;
+    let two = terms.put(Node::Const(3, 2))?;
+    terms.put(Node::Ult(place, four))?;
+    terms.put(Node::Ult(place, two))?;
+    let shift = terms.put(Node::Zext(4, place))?;
+    let shifted = terms.put(Node::Lshr(other, shift))?;
+    let lowest = terms.put(Node::Extract(0, 0, shifted))?;
+    let one = terms.put(Node::Const(1, 1))?;
+    let is_set = terms.put(Node::Eq(lowest, one))?;
+    let wide = terms.put(Node::Zext(8, factor))?;
+    let by = terms.put(Node::Zext(8, place))?;
+    let part = terms.put(Node::Shl(wide, by))?;
+    let sum = terms.put(Node::Add(product, part))?;
+    terms.put(Node::Ite(is_set, sum, product))?;
+    let next = terms.put(Node::Const(3, 1))?;
+    terms.put(Node::Add(place, next))?;
+    Ok(terms)
+}
+
+/// A multiplier by shifts and additions, with so many steps, whose STEP has this decode condition.
+fn multiplier(alloc: Global, steps: u32, decode: TermId) -> Result<IlaModel, Fail>
+    ensures states { IfOk result (λ m. sorts_of_states (states_of (model_of m).top) ≡ (112 ∷ [], word 8) ∷ []) }
+    ensures inputs { IfOk result (λ m. sorts_of_inputs (model_of m).inputs ≡ (120 ∷ [], word 4) ∷ (121 ∷ [], word 4) ∷ []) }
+{
+    let terms = multiplier_terms(alloc)?;
+    let mut multiply = instruction(alloc, "MUL", TermId(5), TermId(4))?;
+    multiply.child = Some(ChildId(0));
+    let mut shift = instruction(alloc, "STEP", decode, TermId(19))?;
+    shift.updates.push(Update {
+        state: NameId(3),
+        term: TermId(21),
+    })?;
+    let child = Child {
+        around: None,
+        first: NameId(3),
+        initial_values: vec![in alloc; Some(Value::Number(0))]?,
+        valid: BELOW_4,
+        steps,
+        instructions: vec![in alloc; shift]?,
+    };
+    let parts = Parts {
+        terms,
+        initial_values: vec![in alloc; None]?,
+        inputs: 2,
+        valid: TermId(5),
+        instructions: vec![in alloc; multiply]?,
+        children: vec![in alloc; child]?,
+    };
+    match IlaModel::new(alloc, String::from_str(alloc, "multiplier")?, parts)? {
+        Some(model) => Ok(model),
+        None => Err("ill sorted".into()),
+    }
+}
+
+fn product(alloc: Global, steps: u32, decode: TermId, x: u8, y: u8) -> Result<Seen, Fail>
+    requires x { x < 16 }
+    requires y { y < 16 }
+{
+    let model = multiplier(alloc, steps, decode)?;
+    let state = State::new(vec![in alloc; Value::Number(77)]?);
+    let factors = vec![in alloc; Value::Number(u128::from(x)), Value::Number(u128::from(y))]?;
+    let stepped = step(alloc, &model, &state, &Inputs::new(factors))?;
+    Ok(seen_in(&stepped))
+}
+
+#[test]
+fn multipliers(rt: HostRuntime) -> Result<(), Fail> {
+    let alloc = rt.alloc();
+    assert_eq!(rt; product(alloc, 4, BELOW_4, 3, 5)?, Seen::Next(0, 15));
+    assert_eq!(rt; product(alloc, 4096, BELOW_4, 15, 15)?, Seen::Next(0, 225));
+    assert_eq!(rt; product(alloc, 3, BELOW_4, 3, 5)?, Seen::ChildTooLong(1));
+    assert_eq!(rt; product(alloc, 4, BELOW_2, 3, 5)?, Seen::ChildStuck(1, 2));
     Ok(())
 }

@@ -4,7 +4,8 @@ ghost use Rattle.std.specs.Prelude.{◌≡◌, ◌++◌, IfOk, OnOk, IsTrue, map
 ghost use Rattle.wb_meaning.specs.Term.{is_sort};
 ghost use Rattle.wb_terms.specs.Sort.{as_sort};
 ghost use Rattle.wb_terms.specs.Environment.{as_value};
-ghost use Rattle.ila_child.specs.Values.{zero_of};
+ghost use Rattle.ila_model.specs.Meaning.{zero_of};
+ghost use Rattle.ila_child.specs.Values.{beginning};
 
 use std::alloc::Global;
 use wb_terms::{NoMemory, Sort, Value};
@@ -42,5 +43,20 @@ pub(crate) fn zero_of(alloc: Global, sort: Sort) -> Result<Value, NoMemory>
             let words = vec![in alloc; 0u128; 1usize << address_width]?;
             Ok(Value::Words(words))
         }
+    }
+}
+
+/// The value with which a state of this sort begins: the stated one, if any, else the zero of the sort.
+pub(crate) fn begun(
+    alloc: Global,
+    sort: Sort,
+    initial: &Option<Value>,
+) -> Result<Value, NoMemory>
+    requires { IsTrue (is_sort (as_sort sort)) }
+    ensures { IfOk result (λ value. as_value value ≡ beginning (as_sort sort) initial.now) }
+{
+    match initial {
+        Some(value) => copy_of(value),
+        None => zero_of(alloc, sort),
     }
 }

@@ -1,5 +1,5 @@
 -- The model that the parts of a model stand for: the trees of its terms under the names of its states and inputs, and its child programs.
-use Rattle.std.specs.Prelude.{ℕ, zero, suc, ◌^◌, List, [], ◌∷◌, map, length, drop, replicate, Option, Some, None, option_map}
+use Rattle.std.specs.Prelude.{ℕ, zero, suc, ◌^◌, false, List, [], ◌∷◌, map, length, drop, replicate, Option, Some, None, option_map}
 use Rattle.std.specs.String.{string_bytes}
 use Rattle.wb_meaning.specs.Value as meaning
 use Rattle.wb_meaning.specs.Value.{Name, Sort, truth, word, memory, truth_value, number, words, Entries}

@@ -1,5 +1,5 @@
 -- When the parts of a model are well sorted: its declared names, its conditions and updates over their store of terms, and its children.
-use Rattle.std.specs.Prelude.{ℕ, zero, suc, ◌+◌, Bool, true, false, ◌&&◌, ◌||◌, ◌==◌, nat_le, nat_lt, List, [], ◌∷◌, length, drop, Option, Some, None, is_none, slice_index_or}
+use Rattle.std.specs.Prelude.{ℕ, zero, suc, ◌+◌, ◌<◌, ⊤, Bool, true, false, ◌&&◌, ◌||◌, ◌==◌, nat_le, nat_lt, List, [], ◌∷◌, length, drop, Option, Some, None, is_none, slice_index_or}
 use Rattle.wb_meaning.specs.Value.{Sort, truth, memory, Entries, entry_of, is_of_sort}
 use Rattle.wb_meaning.specs.Term.{same_sort, sort_of}
 use Rattle.wb_terms.specs.declared.values.Value.{Value}
@@ -107,6 +107,10 @@ is_link cs at from (Some i) = nat_le from i.0 && (nat_lt i.0 (length cs) && same
 abbrev pub behind : ℕ → Option ChildId → ℕ
 behind from None = from
 behind from (Some i) = suc i.0
+
+abbrev pub IsChildBelow : ℕ → Option ChildId → Type 0
+IsChildBelow n None = ⊤
+IsChildBelow n (Some i) = i.0 < n
 
 -- Each instruction of a machine is well sorted, and their children stand in ascending order: so none is run by two of them.
 abbrev pub are_instructions : Parts → Option ℕ → (from : ℕ) → List Instruction → Bool

@@ -10,3 +10,4 @@ mod tests;
 
 pub use model::IlaModel;
 pub use parts::{Child, ChildId, Instruction, Parts, Update};
+pub use scopes::Scope;

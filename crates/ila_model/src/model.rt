@@ -110,6 +110,7 @@ impl IlaModel {
         requires { length self.now.parts.initial_values.items + place < length self.now.parts.terms.names }
         ensures { result.0 ≡ length self.now.parts.initial_values.items + place }
     {
+        let _names = self.parts.terms.name_count();
         NameId(self.parts.initial_values.len() + place)
     }
 }

@@ -13,7 +13,7 @@ pub(crate) const NESTING: usize = 3;
 
 /// Where a name or a term may be read.
 #[derive(Clone, Copy)]
-pub(crate) enum Scope {
+pub enum Scope {
     /// In the top and in every child.
     Anywhere,
     /// In this child and in those inside it.
@@ -120,11 +120,16 @@ fn push_scopes(scopes: &mut Vec<Scope>, scope: Scope, count: usize) -> Result<()
     Ok(())
 }
 
-/// The scope of each name of the table, of which the first are those of the top.
-fn name_scopes(alloc: Global, tops: usize, children: &[Child]) -> Result<Vec<Scope>, NoMemory>
+/// The scope of each of so many names, of which the first are those of the top.
+fn name_scopes(
+    alloc: Global,
+    total: usize,
+    tops: usize,
+    children: &[Child],
+) -> Result<Vec<Scope>, NoMemory>
     ensures { IfOk result (λ scopes. scopes.items ≡ name_scopes tops children.now) }
 {
-    let mut scopes = Vec::new(alloc);
+    let mut scopes = Vec::with_capacity(alloc, total)?;
     push_scopes(&mut scopes, Scope::Anywhere, tops)?;
     for (place, child) in children.iter().enumerate() {
         push_scopes(&mut scopes, Scope::Within(place), child.initial_values.len())?;
@@ -138,8 +143,9 @@ pub(crate) fn scopes_of(alloc: Global, parts: &Parts) -> Result<Scopes, NoMemory
     requires declared { are_declarations parts.now ≡ true }
     ensures { IfOk result (AreScopes parts.now) }
 {
+    let total = parts.terms.name_count() as usize;
     let tops = parts.initial_values.len() + parts.inputs;
-    let names = name_scopes(alloc, tops, &parts.children)?;
+    let names = name_scopes(alloc, total, tops, &parts.children)?;
     let terms = term_scopes(alloc, parts, &names)?;
     Ok(Scopes { names, terms })
 }

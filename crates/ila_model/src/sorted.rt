@@ -1,10 +1,10 @@
 //! What it takes for the parts of a model to be well sorted: its declarations, its conditions and updates over their store.
 
-ghost use Rattle.std.specs.Prelude.{◌≡◌, ◌<◌, ◌≤◌, ◌^◌, length, drop, IsTrue};
+ghost use Rattle.std.specs.Prelude.{◌≡◌, ◌≤◌, true, length, drop, IsTrue};
 ghost use Rattle.wb_meaning.specs.Term.{is_sort};
 ghost use Rattle.wb_terms.specs.Sort.{as_sort};
 ghost use Rattle.ila_model.specs.Scope.{AreScopes};
-ghost use Rattle.ila_model.specs.Sorted.{are_states, is_initial, are_inputs, is_input_sort, are_placed, is_term_of, is_read_at, is_condition, is_state_at, are_updates, is_instruction, is_link, same_place, behind, are_instructions, is_machine, is_child, are_children, are_declarations};
+ghost use Rattle.ila_model.specs.Sorted.{are_distinct, are_states, is_initial, are_inputs, is_input_sort, are_placed, is_term_of, is_read_at, is_condition, is_state_at, are_updates, is_instruction, is_link, same_place, behind, IsChildBelow, are_instructions, is_machine, is_child, are_children, are_declarations};
 
 use crate::parts::{Child, ChildId, Instruction, Parts, Update};
 use crate::scopes::{Scopes, around, is_child_nested, may_read};
@@ -13,7 +13,8 @@ use wb_terms::{NameId, Sort, TermId, Terms, Value};
 
 /// Whether the table has the states, the inputs and the private states, and nothing else.
 pub(crate) fn are_declarations(parts: &Parts) -> bool
-    ensures { result ≡ are_declarations parts.now }
+    ensures declared { result ≡ are_declarations parts.now }
+    ensures distinct { are_distinct parts.now.terms.names ≡ true }
 {
     let names = parts.terms.name_count() as usize;
     let states = parts.initial_values.len();
@@ -95,7 +96,10 @@ fn are_placed(children: &[Child], from: usize, total: usize) -> bool
     let mut next = from;
     for child in children {
         let privates = child.initial_values.len();
-        if child.first.0 != next || total - next < privates {
+        if child.first.0 != next {
+            return false;
+        }
+        if total - next < privates {
             return false;
         }
         next += privates;
@@ -200,9 +204,9 @@ fn is_link(children: &[Child], at: Option<usize>, from: usize, child: Option<Chi
     }
 }
 
-/// The child behind that of an instruction, if any, else the given one.
-fn behind(from: usize, child: Option<ChildId>) -> usize
-    requires { behind from child < 2 ^ 64 }
+/// The child behind that of an instruction, one of so many, if any, else the given one.
+fn behind(from: usize, child: Option<ChildId>, count: usize) -> usize
+    requires { IsChildBelow count child }
     ensures { result ≡ behind from child }
 {
     match child {
@@ -229,7 +233,7 @@ fn are_instructions(
         if !is_link(&parts.children, at, next, instruction.child) {
             return false;
         }
-        next = behind(next, instruction.child);
+        next = behind(next, instruction.child, parts.children.len());
     }
     true
 }

@@ -9,62 +9,100 @@ const CNT: NameId = NameId(0);
 
 const OP: NameId = NameId(1);
 
+const STEP: NameId = NameId(2);
+
 const IS_ONE: TermId = TermId(3);
 
 const MORE: TermId = TermId(5);
 
 const SMALL: TermId = TermId(2);
 
-const UNPUT: TermId = TermId(6);
+const UNPUT: TermId = TermId(8);
 
-/// The store of a counter of 8 bits, with an input op of one bit.
+const IS_PRIVATE: TermId = TermId(7);
+
+/// The store of a counter of 8 bits, with an input op of one bit and a child's private state of one bit.
 fn store(alloc: Global) -> Result<Terms, PutStop> {
-    let (Ok(mut terms), Ok(cnt), Ok(op)) = (
+    let (Ok(mut terms), Ok(cnt), Ok(op), Ok(step)) = (
         Terms::new(alloc),
         String::from_str(alloc, "cnt"),
         String::from_str(alloc, "op"),
+        String::from_str(alloc, "step"),
     ) else {
         return Err(PutStop::NoMemory);
     };
     let cnt = terms.declare(cnt, Sort::Word(8))?;
     let op = terms.declare(op, Sort::Word(1))?;
+    let step = terms.declare(step, Sort::Word(1))?;
     terms.put(Node::Name(cnt))?;
     terms.put(Node::Name(op))?;
     terms.put(Node::Const(1, 1))?;
     terms.put(Node::Eq(TermId(1), SMALL))?;
     terms.put(Node::Const(8, 1))?;
     terms.put(Node::Add(TermId(0), TermId(4)))?;
+    terms.put(Node::Name(step))?;
+    terms.put(Node::Eq(TermId(6), SMALL))?;
     Ok(terms)
 }
 
-/// A model with one instruction over the counter's store, if its parts are well sorted.
-fn model(
-    alloc: Global,
-    initial: Value,
+/// What a row of the table below changes of a counter whose instruction INC has a child program.
+#[derive(Clone, Copy)]
+struct Row {
+    initial: u128,
     valid: TermId,
-    decode: TermId,
-    updates: &[Update],
-) -> Result<Option<IlaModel>, Fail> {
-    let terms = store(alloc)?;
+    update: Update,
+    around: Option<ChildId>,
+    begins: Option<u128>,
+    steps: u32,
+    child_valid: TermId,
+}
+
+const INCREMENT: Update = Update {
+    state: CNT,
+    term: MORE,
+};
+
+const GOOD: Row = Row {
+    initial: 0,
+    valid: IS_ONE,
+    update: INCREMENT,
+    around: None,
+    begins: Some(0),
+    steps: 4096,
+    child_valid: IS_PRIVATE,
+};
+
+/// The model of a row, if its parts are well sorted.
+fn model(alloc: Global, row: &Row) -> Result<Option<IlaModel>, Fail> {
     let instruction = Instruction {
         name: String::from_str(alloc, "INC")?,
-        decode,
-        updates: updates.to_vec(alloc)?,
+        decode: IS_ONE,
+        updates: vec![in alloc; row.update]?,
+        child: Some(ChildId(0)),
+    };
+    let child = Child {
+        around: row.around,
+        first: STEP,
+        initial_values: vec![in alloc; row.begins.map(Value::Number)]?,
+        valid: row.child_valid,
+        steps: row.steps,
+        instructions: Vec::new(alloc),
+    };
+    let parts = Parts {
+        terms: store(alloc)?,
+        initial_values: vec![in alloc; Some(Value::Number(row.initial))]?,
+        inputs: 1,
+        valid: row.valid,
+        instructions: vec![in alloc; instruction]?,
+        children: vec![in alloc; child]?,
     };
     let name = String::from_str(alloc, "counter")?;
-    let initial_values = vec![in alloc; Some(initial)]?;
-    let instructions = vec![in alloc; instruction]?;
-    Ok(IlaModel::new(name, terms, initial_values, valid, instructions))
+    Ok(IlaModel::new(alloc, name, parts)?)
 }
 
 #[test]
 fn counter(rt: HostRuntime) -> Result<(), Fail> {
-    let alloc = rt.alloc();
-    let more = Update {
-        state: CNT,
-        term: MORE,
-    };
-    let counter = model(alloc, Value::Number(0), IS_ONE, IS_ONE, &[more])?.ok_or("ill sorted")?;
+    let counter = model(rt.alloc(), &GOOD)?.ok_or("ill sorted")?;
     assert_eq!(rt; counter.state_count(), 1);
     assert_eq!(rt; counter.state_name(0), "cnt");
     assert_eq!(rt; counter.state_sort(0), Sort::Word(8));
@@ -76,29 +114,27 @@ fn counter(rt: HostRuntime) -> Result<(), Fail> {
 }
 
 #[test]
-fn ill_sorted(rt: HostRuntime) -> Result<(), Fail> {
-    let alloc = rt.alloc();
-    let more = Update {
-        state: CNT,
-        term: MORE,
-    };
-    let of_input = Update {
-        state: OP,
-        term: SMALL,
-    };
-    let too_small = Update {
-        state: CNT,
-        term: SMALL,
-    };
-    let number = Value::Number;
-    assert!(rt; model(alloc, number(255), IS_ONE, IS_ONE, &[])?.is_some());
-    assert!(rt; model(alloc, number(256), IS_ONE, IS_ONE, &[])?.is_none());
-    assert!(rt; model(alloc, Value::Truth(true), IS_ONE, IS_ONE, &[])?.is_none());
-    assert!(rt; model(alloc, number(0), MORE, IS_ONE, &[])?.is_none());
-    assert!(rt; model(alloc, number(0), IS_ONE, SMALL, &[])?.is_none());
-    assert!(rt; model(alloc, number(0), IS_ONE, UNPUT, &[])?.is_none());
-    assert!(rt; model(alloc, number(0), IS_ONE, IS_ONE, &[of_input])?.is_none());
-    assert!(rt; model(alloc, number(0), IS_ONE, IS_ONE, &[too_small])?.is_none());
-    assert!(rt; model(alloc, number(0), IS_ONE, IS_ONE, &[more, more])?.is_none());
+fn sorts(rt: HostRuntime) -> Result<(), Fail> {
+    let update = |state, term| Update { state, term };
+    let rows = [
+        (GOOD, true),
+        (Row { initial: 255, ..GOOD }, true),
+        (Row { initial: 256, ..GOOD }, false),
+        (Row { valid: MORE, ..GOOD }, false),
+        (Row { valid: UNPUT, ..GOOD }, false),
+        (Row { valid: IS_PRIVATE, ..GOOD }, false),
+        (Row { update: update(OP, SMALL), ..GOOD }, false),
+        (Row { update: update(STEP, SMALL), ..GOOD }, false),
+        (Row { update: update(CNT, SMALL), ..GOOD }, false),
+        (Row { around: Some(ChildId(0)), ..GOOD }, false),
+        (Row { begins: None, ..GOOD }, false),
+        (Row { begins: Some(2), ..GOOD }, false),
+        (Row { steps: 0, ..GOOD }, false),
+        (Row { steps: 4097, ..GOOD }, false),
+        (Row { child_valid: MORE, ..GOOD }, false),
+    ];
+    for (row, good) in rows {
+        assert_eq!(rt; model(rt.alloc(), &row)?.is_some(), good);
+    }
     Ok(())
 }

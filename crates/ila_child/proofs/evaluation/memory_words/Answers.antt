@@ -30,4 +30,4 @@ returns-clause-words c =
     let some : 0 < c.args.count = some_words o c.args.count c.requires.memory in
     let sorted = c.loop-address.invariant.sorted (omega arith) in
     let long : length (as_words x) ≡ c.args.count = length-as_words x o c.args.count c.requires.memory sorted in
-    c.loop-address.invariant.words ∙ take_all c.loop-address.address (as_words x) (omega arith)
+    c.loop-address.invariant.values ∙ take_all c.loop-address.address (as_words x) (omega arith)

@@ -7,7 +7,6 @@ use Rattle.ila_child.proofs.evaluation.memory_words.Given as goal
 
 abbrev pub invariant-loop-address : goal.invariant-loop-address
 invariant-loop-address l = record {
-  room : l.scratch ≡ l.initial.scratch;
-  words : l.words.items ≡ take l.address (as_words (value_of l.terms l.env l.id.0));
+  values : l.values.items ≡ take l.address (as_words (value_of l.terms l.env l.id.0));
   sorted : 0 < l.address → HasSortOf (value_of l.terms l.env l.id.0) (sort_of (tree l.terms l.id.0));
 }

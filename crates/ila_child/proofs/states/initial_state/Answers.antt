@@ -5,8 +5,8 @@ use Rattle.wb_meaning.specs.Model.{states_of, value_or}
 use Rattle.wb_terms.specs.Sort.{as_sort}
 use Rattle.wb_terms.specs.Environment.{as_value, AreOfSorts}
 use Rattle.ila_model.specs.Model.{model_of}
-use Rattle.ila_model.proofs.Declarations.{parts}
-use Rattle.ila_child.specs.Values.{zero_of}
+use Rattle.ila_model.proofs.Declarations.{sorted}
+use Rattle.ila_model.specs.Meaning.{zero_of}
 use Rattle.ila_child.specs.State.{initial_values, sorts_of_states}
 use Rattle.ila_child.proofs.Initial.{initial-stated, initial-zero, initial_sorts}
 use Rattle.ila_child.proofs.states.initial_state.Goals as goal
@@ -39,5 +39,5 @@ returns-clause-sorted c =
     let ss = states_of (model_of m).top in
     let all = initial_values ss in
     let same = c.loop-place.invariant ∙ take_all c.loop-place.place all (omega (arith, length-map ss (λ s. value_or s.init (zero_of s.sort)), c.state_count-place-end.ensures.states, c.loop-place-test.false)) in
-    let sorted = initial_sorts m.terms.names m.initial_values.items (parts m.terms m.initial_values.items m.valid.0 m.instructions.items m.well_sorted).declared in
+    let sorted = initial_sorts m.parts.terms.names m.parts.initial_values.items (sorted m.parts m.well_sorted).declared.states in
     subst (λ xs. AreOfSorts (sorts_of_states ss) xs) (sym same) sorted

@@ -1,0 +1,78 @@
+use Rattle.std.proofs.Common.{◌≡◌, ◌∙◌, length, get_or, Some, None, true, refl, sym, ap, subst}
+use Rattle.std.proofs.lemmas.Bool.{and_parts}
+use Rattle.wb_terms.specs.Environment.{valuation, values_of}
+use Rattle.ila_model.specs.declared.parts.Instruction.{Instruction}
+use Rattle.ila_model.specs.Sorted.{is_condition, are_instructions}
+use Rattle.ila_model.proofs.Declarations.{sorted}
+use Rattle.ila_child.specs.declared.decoding.Decoded.TheVariants.{Several}
+use Rattle.ila_child.specs.Decoding.{decodes, IsFound, IsOnlyFound, AreDecoded}
+use Rattle.ila_child.specs.Updating.{with_updates, are_updates_of}
+use Rattle.ila_child.specs.Running.{seen}
+use Rattle.ila_child.proofs.Updates.{are_updates-of}
+use Rattle.ila_child.proofs.Machines.{holds_same, decodes_same, are_conditions-from, sorted_at, none_stuck, several_stuck, one_taken}
+use Rattle.ila_child.proofs.Programs.{low_enough}
+use Rattle.ila_child.proofs.running.take.Goals as goal
+
+pub returns-then-not-holds-clause-taken : goal.returns-then-not-holds-clause-taken
+returns-then-not-holds-clause-taken c =
+    let p = c.args.model.now.parts in
+    let d = c.requires.deep in
+    let m = and_parts (is_condition p c.args.at c.args.valid.0) _ c.requires.machine in
+    (refl, sym (holds_same p c.args.at d.depth c.args.env.now c.args.valid.0 d.has (low_enough d.depth d.low) m.0) ∙ sym c.holds.ensures ∙ c.if-not-holds.true)
+
+pub find_decoded-requires-clause-conditions : goal.find_decoded-requires-clause-conditions
+find_decoded-requires-clause-conditions c =
+    let p = c.args.model.now.parts in
+    let m = and_parts (is_condition p c.args.at c.args.valid.0) _ c.requires.machine in
+    are_conditions-from p c.args.at 0 c.args.instructions.now m.1
+
+pub update-requires-clause-updates : goal.update-requires-clause-updates
+update-requires-clause-updates c =
+    let p = c.args.model.now.parts in
+    let m = and_parts (is_condition p c.args.at c.args.valid.0) _ c.requires.machine in
+    let i = c.index-instructions-place.result in
+    let at_place = sorted_at p c.args.at 0 c.args.instructions.now c.in-One.place i m.1 c.in-One.ensures.0 in
+    let same : c.deref.result.now ≡ (get_or c.args.instructions.now c.in-One.place i).updates.items =
+    c.deref.ensures.value ∙ ap (λ (x : Instruction). x.updates.items) c.index-instructions-place.is in
+    subst (λ us. are_updates_of p.terms 0 us ≡ true) (sym same) (are_updates-of p c.args.at 0 (get_or c.args.instructions.now c.in-One.place i).updates.items at_place.updates)
+
+pub returns-in_ok-update-in-One-clause-taken : goal.returns-in_ok-update-in-One-clause-taken
+returns-in_ok-update-in-One-clause-taken c =
+    let p = c.args.model.now.parts in
+    let e = c.args.env.now in
+    let is = c.args.instructions.now in
+    let d = c.requires.deep in
+    let low = low_enough d.depth d.low in
+    let m = and_parts (is_condition p c.args.at c.args.valid.0) _ c.requires.machine in
+    let i = c.index-instructions-place.result in
+    let found = subst (λ t. IsOnlyFound t (length is) c.in-One.place) (decodes_same p c.args.at d.depth e is d.has low m.1) c.in-One.ensures in
+    let made = c.in_ok-update-in-One.ensures.values ∙ ap (λ us. with_updates p.terms (valuation p.terms e) us (values_of e)) c.deref.ensures.value in (
+      sym (holds_same p c.args.at d.depth e c.args.valid.0 d.has low m.0) ∙ sym c.holds.ensures ∙ c.if-not-holds.false,
+      one_taken p (sorted p c.args.model.now.well_sorted) c.args.at d.depth is c.in-One.place i e c.update.new.env d.has low m.1 c.index-instructions-place.is found c.requires.fits made,
+    )
+
+pub returns-in-Nothing-clause-taken : goal.returns-in-Nothing-clause-taken
+returns-in-Nothing-clause-taken c =
+    let p = c.args.model.now.parts in
+    let e = c.args.env.now in
+    let is = c.args.instructions.now in
+    let d = c.requires.deep in
+    let low = low_enough d.depth d.low in
+    let m = and_parts (is_condition p c.args.at c.args.valid.0) _ c.requires.machine in
+    let found = subst (λ t. IsFound t (length is) None) (decodes_same p c.args.at d.depth e is d.has low m.1) c.in-Nothing.ensures in (
+      sym (holds_same p c.args.at d.depth e c.args.valid.0 d.has low m.0) ∙ sym c.holds.ensures ∙ c.if-not-holds.false,
+      λ inner depth step. none_stuck p.terms inner (seen p c.args.at e) depth step is found,
+    )
+
+pub returns-in-Several-clause-taken : goal.returns-in-Several-clause-taken
+returns-in-Several-clause-taken c =
+    let p = c.args.model.now.parts in
+    let e = c.args.env.now in
+    let is = c.args.instructions.now in
+    let d = c.requires.deep in
+    let low = low_enough d.depth d.low in
+    let m = and_parts (is_condition p c.args.at c.args.valid.0) _ c.requires.machine in
+    let found = subst (λ t. AreDecoded t (length is) (Several c.in-Several.field-0 c.in-Several.field-1)) (decodes_same p c.args.at d.depth e is d.has low m.1) c.in-Several.ensures in (
+      sym (holds_same p c.args.at d.depth e c.args.valid.0 d.has low m.0) ∙ sym c.holds.ensures ∙ c.if-not-holds.false,
+      λ inner depth step. several_stuck p.terms inner (seen p c.args.at e) depth step is c.in-Several.field-0 c.in-Several.field-1 found,
+    )

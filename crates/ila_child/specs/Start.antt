@@ -1,0 +1,47 @@
+-- The environment in which a step begins, and what the instruction that starts does.
+use Rattle.std.specs.Prelude.{ℕ, ◌+◌, ◌<◌, ◌≡◌, ◌++◌, List, [], map, length, drop, Option, Some, slice_get}
+use Rattle.wb_meaning.specs.Value as meaning
+use Rattle.wb_meaning.specs.Value.{Sort, Entries, Valuation, HasSort}
+use Rattle.wb_meaning.specs.Model as pure
+use Rattle.wb_meaning.specs.Instruction.{DoesInstruction, InstructionTrouble, Trouble, stuck, too_long}
+use Rattle.wb_terms.specs.declared.values.Env.{Env}
+use Rattle.wb_terms.specs.Environment.{values_of}
+use Rattle.ila_model.specs.declared.parts.Instruction.{Instruction}
+use Rattle.ila_model.specs.declared.parts.Parts.{Parts}
+use Rattle.ila_model.specs.Scope.{nesting}
+use Rattle.ila_model.specs.Sorted.{name_at, sort_at}
+use Rattle.ila_model.specs.Meaning.{zero_of, instruction_of, program_of}
+use Rattle.ila_child.specs.declared.stepping.Stepped.{Stepped}
+use Rattle.ila_child.specs.declared.stepping.Stepped.TheVariants.{Next, NotValid, NoInstruction, Several, ChildStuck, ChildTooLong}
+use Rattle.ila_child.specs.Updating.{value_at}
+
+abbrev pub zeros_of : Entries Sort → List meaning.Value
+zeros_of = map (λ n. zero_of n.1)
+
+-- The values of the states, those of the inputs, and zeros.
+abbrev pub IsEnvironment : Entries Sort → (q w : List meaning.Value) → Env → Type 0
+IsEnvironment ns q w e = values_of e ≡ (q ++ w) ++ zeros_of (drop (length (q ++ w)) ns)
+
+-- The states have the values of a point.
+pub record HasStates (p : Parts) (xs : List meaning.Value) (after : Valuation) : Type 0 where
+  pub count : length xs ≡ length p.initial_values.items
+  pub value : (k : ℕ) → k < length xs → value_at xs k ≡ after (name_at p.terms.names k)
+  pub sorted : (k : ℕ) → k < length xs → HasSort (value_at xs k) (sort_at p.terms.names k)
+
+-- The instruction of the code at a place, as an instruction of the model.
+abbrev pub started : Parts → Instruction → pure.Instruction
+started p i = instruction_of p.terms (program_of p.terms p.children.items nesting) i
+
+abbrev pub IsLed : Parts → Valuation → ℕ → List meaning.Value → Type 0
+IsLed p v k xs = (i : Instruction) × (after : Valuation) × (slice_get p.instructions.items k ≡ Some i) × DoesInstruction (started p i) v after × HasStates p xs after
+
+abbrev pub IsTroubledAt : Parts → Valuation → ℕ → Trouble → Type 0
+IsTroubledAt p v k t = (i : Instruction) × (slice_get p.instructions.items k ≡ Some i) × InstructionTrouble (started p i) v 1 t
+
+abbrev pub IsStart : Parts → Valuation → ℕ → Stepped → Type 0
+IsStart p v k (Next j r) = (j ≡ k) × IsLed p v k r
+IsStart p v k NotValid = ⊥
+IsStart p v k NoInstruction = ⊥
+IsStart p v k (Several i j) = ⊥
+IsStart p v k (ChildStuck d s) = IsTroubledAt p v k (stuck d s)
+IsStart p v k (ChildTooLong d) = IsTroubledAt p v k (too_long d)

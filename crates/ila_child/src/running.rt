@@ -1,0 +1,112 @@
+//! Steps of a machine, and child programs run to their end.
+
+ghost use Rattle.std.specs.Prelude.{◌≡◌, ◌≤◌, true, length, IfOk, OnOk};
+ghost use Rattle.wb_terms.specs.Environment.{Fits};
+ghost use Rattle.ila_model.specs.Sorted.{is_machine};
+ghost use Rattle.ila_child.specs.Running.{HasDepth, IsDeep, IsLinked, IsTaken, IsRun};
+
+use crate::decoding::{Decoded, find_decoded};
+use crate::evaluation::holds;
+use crate::updating::{begin, update};
+use ila_model::{ChildId, IlaModel, Instruction};
+use std::alloc::Global;
+use wb_terms::{Env, Evaluated, NoMemory, TermId};
+
+/// How a child program fails to end. The outermost child has depth 1; steps count from 0 at each entry of their child.
+#[derive(Clone, Copy, Debug)]
+pub(crate) enum Trouble {
+    /// At this step of the child at this depth not exactly one decode condition holds.
+    Stuck(u32, u32),
+    /// After its limit of steps the valid condition of the child at this depth still holds.
+    TooLong(u32),
+}
+
+/// What a machine does at an environment.
+pub(crate) enum Taken {
+    /// Its valid condition does not hold.
+    NotValid,
+    /// Not exactly one instruction decodes.
+    Stuck,
+    /// One instruction decodes, its updates are made, and this child of it, if any, is to be run.
+    One(Option<ChildId>),
+}
+
+/// Takes one step of the machine at a place, but for a child program.
+fn take(
+    alloc: Global,
+    model: &IlaModel,
+    at: Option<usize>,
+    valid: TermId,
+    instructions: &[Instruction],
+    env: &mut Env,
+    words: &mut Evaluated,
+) -> Result<Taken, NoMemory>
+    requires deep { IsDeep model.now.parts.children.items at }
+    requires machine { is_machine model.now.parts at valid.0 instructions.now ≡ true }
+    requires room { length model.now.parts.terms.nodes ≤ length words.old }
+    requires fits { Fits model.now.parts.terms env.old }
+    ensures taken { IfOk result (IsTaken model.now.parts at valid.0 instructions.now env.old env.new) }
+    ensures fits { OnOk result (Fits model.now.parts.terms env.new) }
+    ensures room { OnOk result (length words.new ≡ length words.old) }
+{
+    let terms = &model.parts.terms;
+    words.evaluate(terms, env);
+    if !holds(terms, env, words, valid) {
+        return Ok(Taken::NotValid);
+    }
+    match find_decoded(terms, env, words, instructions) {
+        Decoded::One(place) => {
+            let instruction = &instructions[place];
+            update(alloc, terms, env, words, &instruction.updates)?;
+            Ok(Taken::One(instruction.child))
+        }
+        Decoded::Nothing => Ok(Taken::Stuck),
+        Decoded::Several(_, _) => Ok(Taken::Stuck),
+    }
+}
+
+/// Runs the program of an instruction of the machine at a place, if it has one, to its end: the private states begin anew,
+/// and steps are taken until the valid condition fails. The place has the given depth, 0 for the top.
+pub(crate) fn run_program(
+    alloc: Global,
+    model: &IlaModel,
+    at: Option<usize>,
+    depth: u32,
+    program: Option<ChildId>,
+    env: &mut Env,
+    words: &mut Evaluated,
+) -> Result<Option<Trouble>, NoMemory>
+    requires depth { HasDepth model.now.parts.children.items depth at }
+    requires linked { IsLinked model.now.parts.children.items at program }
+    requires room { length model.now.parts.terms.nodes ≤ length words.old }
+    requires fits { Fits model.now.parts.terms env.old }
+    ensures run { IfOk result (IsRun model.now.parts at depth program env.old env.new) }
+    ensures fits { OnOk result (Fits model.now.parts.terms env.new) }
+    ensures room { OnOk result (length words.new ≡ length words.old) }
+{
+    let Some(id) = program else {
+        return Ok(None);
+    };
+    let child = &model.parts.children[id.0];
+    let inside = Some(id.0);
+    let terms = &model.parts.terms;
+    begin(alloc, terms, env, child.first.0, &child.initial_values)?;
+    for step in 0..child.steps {
+        match take(alloc, model, inside, child.valid, &child.instructions, env, words)? {
+            Taken::NotValid => return Ok(None),
+            Taken::Stuck => return Ok(Some(Trouble::Stuck(depth + 1, step))),
+            Taken::One(inner) => {
+                match run_program(alloc, model, inside, depth + 1, inner, env, words)? {
+                    None => {}
+                    Some(trouble) => return Ok(Some(trouble)),
+                }
+            }
+        }
+    }
+    words.evaluate(terms, env);
+    if holds(terms, env, words, child.valid) {
+        Ok(Some(Trouble::TooLong(depth + 1)))
+    } else {
+        Ok(None)
+    }
+}
