@@ -290,7 +290,7 @@ unfolding AreToChoose AreChosen
 choose_start g t f m us e names ks ss k s r =
     ((λ j. subst (IsChosen g.names g names us us j) (sym (ap (λ es. find es j) e)) (λ h. refl)), r)
 
-stand_moved : (g h : Graph) (from : ℕ) (ks : List ℕ) (ss : List StateDeclaration) → h.names ≡ g.names → StandAt g from ks ss → StandAt h from ks ss
+pub stand_moved : (g h : Graph) (from : ℕ) (ks : List ℕ) (ss : List StateDeclaration) → h.names ≡ g.names → StandAt g from ks ss → StandAt h from ks ss
 stand_moved g h from [] [] e s = tt
 stand_moved g h from [] (x ∷ ss) e s = absurd s
 stand_moved g h from (k ∷ ks) [] e s = absurd s

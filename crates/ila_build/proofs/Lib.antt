@@ -5,3 +5,4 @@ mod Sorting
 mod Definitions
 mod Declared
 mod Chosen
+mod InstructionLemmas

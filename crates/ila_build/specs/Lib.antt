@@ -2,3 +2,4 @@ pub mod Standing
 pub mod Knowing
 pub mod Declaring
 pub mod Updating
+pub mod Building

@@ -3,11 +3,14 @@
 
 mod declaring;
 mod defining;
+mod instructions;
 mod nodes;
 mod putting;
+mod seen;
 mod table;
 mod updating;
 
 pub use declaring::{declare_inputs, declare_states, initial_values};
 pub use defining::put_definitions;
+pub use instructions::put_instructions;
 pub use putting::put_term;

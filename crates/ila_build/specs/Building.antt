@@ -1,0 +1,64 @@
+-- When a machine of the code's model has the terms of a written one.
+use Rattle.std.specs.Prelude.{ℕ, zero, suc, ◌<◌, ◌≡◌, true, List, [], ◌∷◌, map, length, ⊤, Option, Some, None, Result, Ok, Err, slice_index_or}
+use Rattle.std.specs.Borrow.{Bor}
+use Rattle.std.specs.BTreeMap.{BTreeMap}
+use Rattle.std.specs.String.{string_bytes}
+use Rattle.wb_meaning.specs.Value.{Name, Entries}
+use Rattle.wb_meaning.specs.Model.{StateDeclaration}
+use Rattle.wb_meaning.specs.ModelFile.Written.{WrittenTerm, WrittenInstruction, instruction, WrittenInstructions, no_instructions, and_then}
+use Rattle.wb_meaning.specs.ModelFile.Scope.{Visible, Placed, placed, of_condition, term_of, placed_updates}
+use Rattle.wb_meaning.specs.ModelFile.Meaning.{updates_of}
+use Rattle.wb_terms.specs.declared.nodes.TermId.{TermId}
+use Rattle.wb_terms.specs.Graph.{Graph, tree}
+use Rattle.ila_model.specs.declared.parts.Update.{Update}
+use Rattle.ila_model.specs.declared.parts.Instruction.{Instruction}
+use Rattle.ila_model.specs.declared.parts.ChildId.{ChildId}
+use Rattle.ila_build.specs.Knowing.{Knows, are_right}
+use Rattle.ila_build.specs.Updating.{StandAt, AreUpdates}
+
+-- the parts of an instruction as it is written
+abbrev pub called_in : WrittenInstruction → Name
+called_in (instruction called decode update program) = called
+
+abbrev pub decode_in : WrittenInstruction → WrittenTerm
+decode_in (instruction called decode update program) = decode
+
+abbrev pub update_in : WrittenInstruction → Entries WrittenTerm
+update_in (instruction called decode update program) = update
+
+abbrev pub pair_of : Update → ℕ × TermId
+pair_of u = (u.state.0, u.term)
+
+-- the id of the child of the instruction at a place, if it has one
+abbrev pub link_at : List (Option ChildId) → ℕ → Option ChildId
+link_at ls k = slice_index_or ls k None
+
+-- the terms of an instruction itself, with where they stand
+abbrev pub own_terms : Entries Visible → List StateDeclaration → WrittenInstruction → List Placed
+own_terms names ss i = placed names (decode_in i) of_condition ∷ placed_updates names ss (update_in i)
+
+-- No rule refuses the instructions' own terms.
+abbrev pub AreOwnRight : Entries Visible → List StateDeclaration → WrittenInstructions → Type 0
+AreOwnRight names ss no_instructions = ⊤
+AreOwnRight names ss (and_then i is) = (are_right (own_terms names ss i) ≡ true) × AreOwnRight names ss is
+
+-- The instruction has the name and the terms of the written one, and this child.
+abbrev pub IsInstruction : Graph → Entries Visible → List StateDeclaration → Option ChildId → WrittenInstruction → Instruction → Type 0
+IsInstruction g names ss link i x =
+    (string_bytes x.name ≡ called_in i) × (x.decode.0 < length g.nodes) × (tree g x.decode.0 ≡ term_of names (decode_in i))
+    × AreUpdates g (map pair_of x.updates.items) (updates_of names ss (update_in i)) × (x.child ≡ link)
+
+abbrev pub AreInstructions : Graph → Entries Visible → List StateDeclaration → List (Option ChildId) → (from : ℕ) → WrittenInstructions → List Instruction → Type 0
+AreInstructions g names ss links k no_instructions [] = ⊤
+AreInstructions g names ss links k no_instructions (x ∷ xs) = ⊥
+AreInstructions g names ss links k (and_then i is) [] = ⊥
+AreInstructions g names ss links k (and_then i is) (x ∷ xs) = IsInstruction g names ss (link_at links k) i x × AreInstructions g names ss links (suc k) is xs
+
+-- An instruction was put: where no rule refuses its terms, it is the written one.
+unfoldable pub IsInstructionPut : Graph → BTreeMap (Bor (List ℕ)) TermId → Option TermId → Graph → Option ChildId → WrittenInstruction → Instruction → Type 0
+IsInstructionPut g t f h link i x = (names : Entries Visible) (ks : List ℕ) (ss : List StateDeclaration)
+    → Knows g t f names → StandAt g 0 ks ss → are_right (own_terms names ss i) ≡ true → IsInstruction h names ss link i x
+
+unfoldable pub AreInstructionsPut : Graph → BTreeMap (Bor (List ℕ)) TermId → Option TermId → Graph → List (Option ChildId) → WrittenInstructions → List Instruction → Type 0
+AreInstructionsPut g t f h links is xs = (names : Entries Visible) (ks : List ℕ) (ss : List StateDeclaration)
+    → Knows g t f names → StandAt g 0 ks ss → AreOwnRight names ss is → AreInstructions h names ss links 0 is xs
