@@ -105,7 +105,7 @@ right_put g h t f names e p r k right put =
 
 -- ---- one name more
 
-more_names : (names : Entries Visible) (m : Name) (w : Visible) (n : Name) (v : Visible) (P : Option TermId → Type 0) (x y : Option TermId) (b : Bool) → cond b (Some w) (entry_of names n) ≡ Some v → (w ≡ v → P x) → (entry_of names n ≡ Some v → P y) → P (cond b x y)
+pub more_names : (names : Entries Visible) (m : Name) (w : Visible) (n : Name) (v : Visible) (P : Option TermId → Type 0) (x y : Option TermId) (b : Bool) → cond b (Some w) (entry_of names n) ≡ Some v → (w ≡ v → P x) → (entry_of names n ≡ Some v → P y) → P (cond b x y)
 more_names names m w n v P x y true e p q = p cc
 more_names names m w n v P x y false e p q = q e
 
@@ -116,7 +116,7 @@ unfolding Knows
 knows_more g h t u names m w id b k s r n v e =
     subst (StandsFor h v) (sym (r n)) (more_names names m w n v (StandsFor h v) (Some id) (under_name t n) (same_name m n) e (λ x. subst (λ z. StandsFor h z (Some id)) x s) (λ x. stands_grown g h v (under_name t n) b (k n v x)))
 
-is_in_more : (h : Graph) (b : Bool) (x y : Option TermId) → IsIn h x → IsIn h y → IsIn h (cond b x y)
+pub is_in_more : (h : Graph) (b : Bool) (x y : Option TermId) → IsIn h x → IsIn h y → IsIn h (cond b x y)
 is_in_more h true x y i j = i
 is_in_more h false x y i j = j
 
@@ -127,7 +127,7 @@ are_in_more h t u m id i w r n = subst (IsIn h) (sym (r n)) (is_in_more h (same_
 
 -- ---- a definition
 
-first_right : (p : Placed) (ps : List Placed) → are_right (p ∷ ps) ≡ true → (is_right p ≡ true) × (are_right ps ≡ true)
+pub first_right : (p : Placed) (ps : List Placed) → are_right (p ∷ ps) ≡ true → (is_right p ≡ true) × (are_right ps ≡ true)
 unfolding are_right
 first_right p ps h = and_parts (is_right p) (are_right ps) h
 

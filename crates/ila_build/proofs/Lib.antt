@@ -6,3 +6,4 @@ mod Definitions
 mod Declared
 mod Chosen
 mod InstructionLemmas
+mod MachineLemmas

@@ -5,15 +5,15 @@ use Rattle.std.specs.BTreeMap.{BTreeMap}
 use Rattle.std.specs.String.{string_bytes}
 use Rattle.wb_meaning.specs.Value.{Name, Entries}
 use Rattle.wb_meaning.specs.Model.{StateDeclaration}
-use Rattle.wb_meaning.specs.ModelFile.Written.{WrittenTerm, WrittenInstruction, instruction, WrittenInstructions, no_instructions, and_then}
-use Rattle.wb_meaning.specs.ModelFile.Scope.{Visible, Placed, placed, of_condition, term_of, placed_updates}
+use Rattle.wb_meaning.specs.ModelFile.Written.{WrittenTerm, WrittenInstruction, instruction, WrittenInstructions, no_instructions, and_then, WrittenMachine, machine}
+use Rattle.wb_meaning.specs.ModelFile.Scope.{Visible, Placed, placed, of_condition, term_of, with_definitions, with_fetch, placed_definitions, placed_fetch, placed_updates}
 use Rattle.wb_meaning.specs.ModelFile.Meaning.{updates_of}
 use Rattle.wb_terms.specs.declared.nodes.TermId.{TermId}
 use Rattle.wb_terms.specs.Graph.{Graph, tree}
 use Rattle.ila_model.specs.declared.parts.Update.{Update}
 use Rattle.ila_model.specs.declared.parts.Instruction.{Instruction}
 use Rattle.ila_model.specs.declared.parts.ChildId.{ChildId}
-use Rattle.ila_build.specs.Knowing.{Knows, are_right}
+use Rattle.ila_build.specs.Knowing.{Knows, is_right, are_right}
 use Rattle.ila_build.specs.Updating.{StandAt, AreUpdates}
 
 -- the parts of an instruction as it is written
@@ -62,3 +62,44 @@ IsInstructionPut g t f h link i x = (names : Entries Visible) (ks : List ℕ) (s
 unfoldable pub AreInstructionsPut : Graph → BTreeMap (Bor (List ℕ)) TermId → Option TermId → Graph → List (Option ChildId) → WrittenInstructions → List Instruction → Type 0
 AreInstructionsPut g t f h links is xs = (names : Entries Visible) (ks : List ℕ) (ss : List StateDeclaration)
     → Knows g t f names → StandAt g 0 ks ss → AreOwnRight names ss is → AreInstructions h names ss links 0 is xs
+
+-- ---- machines
+
+abbrev pub definitions_in : WrittenMachine → Entries WrittenTerm
+definitions_in (machine states definitions fetch valid instructions) = definitions
+
+abbrev pub fetch_in : WrittenMachine → Option WrittenTerm
+fetch_in (machine states definitions fetch valid instructions) = fetch
+
+abbrev pub valid_in : WrittenMachine → WrittenTerm
+valid_in (machine states definitions fetch valid instructions) = valid
+
+abbrev pub instructions_in : WrittenMachine → WrittenInstructions
+instructions_in (machine states definitions fetch valid instructions) = instructions
+
+-- what the conditions and updates of a machine see, where these names are visible to its definitions
+abbrev pub names_in : Entries Visible → WrittenMachine → Entries Visible
+names_in names m = with_fetch (with_definitions names (definitions_in m)) (fetch_in m)
+
+-- No rule refuses the machine's own terms: its definitions, its fetch, its conditions and its updates.
+pub record IsMachineRight (names : Entries Visible) (ss : List StateDeclaration) (m : WrittenMachine) : Type 0 where
+  pub definitions : are_right (placed_definitions names (definitions_in m)) ≡ true
+  pub fetch : are_right (placed_fetch (with_definitions names (definitions_in m)) (fetch_in m)) ≡ true
+  pub valid : is_right (placed (names_in names m) (valid_in m) of_condition) ≡ true
+  pub instructions : AreOwnRight (names_in names m) ss (instructions_in m)
+
+-- The machine's fetch was put: where no rule refuses it, it is known besides the other names.
+unfoldable pub IsFetched : Graph → BTreeMap (Bor (List ℕ)) TermId → Graph → Option WrittenTerm → Option TermId → Type 0
+IsFetched g t h w f = (names : Entries Visible) → Knows g t None names → are_right (placed_fetch names w) ≡ true → Knows h t f (with_fetch names w)
+
+-- The valid condition and the instructions are the machine's.
+pub record IsMachine (g : Graph) (names : Entries Visible) (ss : List StateDeclaration) (links : List (Option ChildId)) (m : WrittenMachine) (valid : TermId) (xs : List Instruction) : Type 0 where
+  pub within : valid.0 < length g.nodes
+  pub valid_tree : tree g valid.0 ≡ term_of (names_in names m) (valid_in m)
+  pub instructions : AreInstructions g (names_in names m) ss links 0 (instructions_in m) xs
+
+-- A machine's own terms were put: where no rule refuses them, they are the machine's, and its definitions are known besides.
+unfoldable pub IsMachinePut : Graph → BTreeMap (Bor (List ℕ)) TermId → Graph → BTreeMap (Bor (List ℕ)) TermId → List (Option ChildId) → WrittenMachine → TermId → List Instruction → Type 0
+IsMachinePut g t h u links m valid xs = (names : Entries Visible) (ks : List ℕ) (ss : List StateDeclaration)
+    → Knows g t None names → StandAt g 0 ks ss → IsMachineRight names ss m
+    → Knows h u None (with_definitions names (definitions_in m)) × IsMachine h names ss links m valid xs

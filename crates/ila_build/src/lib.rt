@@ -4,6 +4,7 @@
 mod declaring;
 mod defining;
 mod instructions;
+mod machine;
 mod nodes;
 mod putting;
 mod seen;
@@ -13,4 +14,5 @@ mod updating;
 pub use declaring::{declare_inputs, declare_states, initial_values};
 pub use defining::put_definitions;
 pub use instructions::put_instructions;
+pub use machine::put_machine;
 pub use putting::put_term;
