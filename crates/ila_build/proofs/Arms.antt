@@ -1,17 +1,15 @@
 -- One lemma for each way in which a term with several operands is put: what each call says, in its order, gives what the whole says.
-use Rattle.std.proofs.Common.{◌≡◌, ℕ, ◌<◌, List, length, Bor, Option, Some, None, refl, sym, ap, ◌∙◌, subst, arith}
+use Rattle.std.proofs.Common.{◌≡◌, ℕ, List, Bor, Option, None, sym, ap, ◌∙◌, subst, arith}
 use Rattle.std.specs.Prelude.{Result, Ok, Err}
 use Rattle.std.specs.BTreeMap.{BTreeMap}
 use Rattle.wb_meaning.specs.Value.{Name}
 use Rattle.wb_meaning.specs.Term.{Term, sort_of}
-use Rattle.wb_meaning.specs.ModelFile.Written.{BinaryOperator, WrittenTerm, name, binary}
-use Rattle.wb_meaning.specs.ModelFile.Scope.{binary_term}
+use Rattle.wb_meaning.specs.ModelFile.Written.{WrittenTerm, name}
 use Rattle.wb_terms.specs.declared.nodes.TermId.{TermId}
 use Rattle.wb_terms.specs.declared.store.PutStop.{PutStop}
 use Rattle.wb_terms.specs.Graph.{Graph, tree}
 use Rattle.ila_build.specs.Standing.{IsIn, AreIn, found, seen, seen_by, term_by, IsGrown, IsPut}
-use Rattle.ila_build.proofs.Growing.{onward, more_put, lost_put, seen_by-grown, are_in-grown}
-use Rattle.ila_build.proofs.Refused.{second-none}
+use Rattle.ila_build.proofs.Growing.{onward, more_put, lost_put, seen_by-grown}
 
 pub is_in : (g : Graph) (t : BTreeMap (Bor (List ℕ)) TermId) (f : Option TermId) (n : Name) (o : Option TermId) → AreIn g t f → o ≡ found t f n → IsIn g o
 unfolding AreIn

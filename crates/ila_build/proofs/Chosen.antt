@@ -1,34 +1,31 @@
 -- Updates: what was chosen for each state, listed by ascending states, is what the definition lists by the states' order.
-use Rattle.std.proofs.Common.{◌≡◌, ℕ, zero, suc, ◌+◌, ◌<◌, ◌≤◌, Bool, true, false, cond, not, ◌&&◌, ◌||◌, List, [], ◌∷◌, length, map, Bor, Option, Some, None, inl, inr, refl, sym, ap, ◌∙◌, subst, arith}
-use Rattle.std.specs.Prelude.{Result, Ok, Err, OnOk, is_none, nat_lt, ◌==◌, ◌⊎◌, ⊤}
+use Rattle.std.proofs.Common.{◌≡◌, ℕ, zero, suc, ◌<◌, ◌≤◌, Bool, true, false, cond, not, ◌||◌, List, [], ◌∷◌, length, Bor, Option, Some, None, inl, inr, refl, sym, ap, ◌∙◌, subst, arith}
+use Rattle.std.specs.Prelude.{Ok, is_none, nat_lt, ◌==◌, ◌⊎◌, ⊤}
 use Rattle.std.specs.Ordering.{nat_cmp, is_eq}
-use Rattle.std.specs.declared.cmp.Ordering.{Ordering}
 use Rattle.std.specs.declared.cmp.Ordering.TheVariants.{Less, Equal, Greater}
 use Rattle.std.specs.List.Sorted.{IsStrictlySortedBy}
 use Rattle.std.specs.BTreeMap.{BTreeMap, is_at, IsOrdered}
 use Rattle.std.specs.Map.{lookup, keys_of}
 use Rattle.std.proofs.lemmas.Bool.{false≢true, and_parts, eq-eqb, ne_eqb, eqb-true, ltb-true}
 use Rattle.std.proofs.lemmas.Slice.Eq.{bytes_eq-Decides}
-use Rattle.std.specs.List.{list_all}
 use Rattle.wb_meaning.specs.Value.{Name, Sort, same_name, Entries, entry_of}
 use Rattle.wb_meaning.specs.Term as terms
 use Rattle.wb_meaning.specs.Term.{Term}
 use Rattle.wb_meaning.specs.Model.{StateDeclaration, state_named}
 use Rattle.wb_meaning.specs.Verilog.Hierarchy.{first_of}
 use Rattle.wb_meaning.specs.ModelFile.Written.{WrittenTerm}
-use Rattle.wb_meaning.specs.ModelFile.Scope.{Visible, declared, Place, of_update, Placed, placed, term_of, written_sort, placed_updates}
-use Rattle.wb_meaning.specs.ModelFile.Rules.{uses_unknown_name, updates_no_state, takes_sort, has_fitting_constants}
+use Rattle.wb_meaning.specs.ModelFile.Scope.{Visible, declared, of_update, placed, term_of, placed_updates}
+use Rattle.wb_meaning.specs.ModelFile.Rules.{uses_unknown_name, updates_no_state}
 use Rattle.wb_meaning.specs.ModelFile.Meaning.{with_update, updates_of}
 use Rattle.wb_terms.specs.declared.nodes.NameId.{NameId}
 use Rattle.wb_terms.specs.declared.nodes.TermId.{TermId}
-use Rattle.wb_terms.specs.declared.store.PutStop.{PutStop}
-use Rattle.wb_terms.specs.Graph.{Graph, tree, leaf_at, HasDistinctNames}
+use Rattle.wb_terms.specs.Graph.{Graph, tree, HasDistinctNames}
 use Rattle.ila_build.specs.Standing.{under_name, seen_by, term_by, StandsFor, StandAll, IsTable, IsGrown, IsPut}
 use Rattle.ila_build.specs.Knowing.{Knows, is_right, are_right}
 use Rattle.ila_build.specs.Updating.{entry_at, chosen, IsLeafOf, StandAt, AreUpdates, IsChosen, AreChosen, ChoosesOne, AreUpdated}
 use Rattle.ila_build.proofs.Sorting.{or_parts}
 use Rattle.ila_build.proofs.Growing.{wider}
-use Rattle.ila_build.proofs.Definitions.{knows_grown, right_put, IsTermOf, not_true, none_of}
+use Rattle.ila_build.proofs.Definitions.{knows_grown, right_put, IsTermOf, not_true}
 
 -- ---- places of a table with distinct names
 
@@ -76,8 +73,8 @@ named_at g from (k ∷ ks) (x ∷ ss) n s h = by_test (same_name x.state_name n)
   by_test : (b : Bool) → same_name x.state_name n ≡ b → (is_none (state_named ss n) ≡ false → IsPlaced g ks n) → IsPlaced g (k ∷ ks) n
   by_test true t rest = record { place = k; among = inl refl; within = s.1; sort = x.sort; entry = s.2 ∙ ap (λ m. (m, x.sort)) ((bytes_eq-Decides x.state_name n).0 t) }
   by_test false t rest =
-    let r = rest (ap (λ b. is_none (cond b (Some x) (state_named ss n))) (sym t) ∙ h) in
-    record { place = r.place; among = inr r.among; within = r.within; sort = r.sort; entry = r.entry }
+      let r = rest (ap (λ b. is_none (cond b (Some x) (state_named ss n))) (sym t) ∙ h) in
+      record { place = r.place; among = inr r.among; within = r.within; sort = r.sort; entry = r.entry }
 
 -- ---- what was chosen so far
 
@@ -110,16 +107,16 @@ one_chosen ns g h names us rest n e i k id (Some x) d b w q v t c = (c.0, omega 
 one_chosen ns g h names us rest n e i k id None d b w q v t c = by_test (k == i) refl where
   by_test : (z : Bool) → (k == i) ≡ z → IsChosen ns h names us rest k (first_of None (cond z (Some id) None))
   by_test true z =
-    let same : k ≡ i = eqb-true k i z in
-    let there : (entry_at ns k).0 ≡ n = ap (λ j. (entry_at ns j).0) same ∙ q in
-    let test : same_name n (entry_at ns k).0 ≡ true = (bytes_eq-Decides n (entry_at ns k).0).1 (sym there) in
-    (omega (arith, same, w), v, (e, c (omega (arith, same, w)) ∙ ap (λ b. cond b (Some e) (entry_of rest (entry_at ns k).0)) test, t))
+      let same : k ≡ i = eqb-true k i z in
+      let there : (entry_at ns k).0 ≡ n = ap (λ j. (entry_at ns j).0) same ∙ q in
+      let test : same_name n (entry_at ns k).0 ≡ true = (bytes_eq-Decides n (entry_at ns k).0).1 (sym there) in
+      (omega (arith, same, w), v, (e, c (omega (arith, same, w)) ∙ ap (λ b. cond b (Some e) (entry_of rest (entry_at ns k).0)) test, t))
   by_test false z = λ j. c j ∙ ap (λ b. cond b (Some e) (entry_of rest (entry_at ns k).0)) (other j (same_name n (entry_at ns k).0) refl) where
     other : k < length ns → (b : Bool) → same_name n (entry_at ns k).0 ≡ b → b ≡ false
     other j false y = refl
     other j true y =
-      let same : k ≡ i = places_same ns k i d j w (sym ((bytes_eq-Decides n (entry_at ns k).0).0 y) ∙ sym q) in
-      absurd (false≢true (sym z ∙ eq-eqb k i same))
+        let same : k ≡ i = places_same ns k i d j w (sym ((bytes_eq-Decides n (entry_at ns k).0).0 y) ∙ sym q) in
+        absurd (false≢true (sym z ∙ eq-eqb k i same))
 
 pub more_chosen : (g h : Graph) (t : BTreeMap (Bor (List ℕ)) TermId) (f : Option TermId) (names : Entries Visible) (ks : List ℕ) (ss : List StateDeclaration) (us rest : Entries WrittenTerm) (n : Name) (e : WrittenTerm) (i : NameId) (id : TermId) (m w : BTreeMap ℕ TermId)
     → HasDistinctNames g.names → IsTable g t → Knows g t f names → StandAt g 0 ks ss → is_right (placed names e (of_update n (state_named ss n))) ≡ true
@@ -214,20 +211,23 @@ listed at (k ∷ ks) es from a b f m = by_pick (λ xs p q r. listed at ks xs (su
     later : IsAmong e.0 (k ∷ ks) → suc k ≤ e.0
     later (inl q) = absurd (some_none (sym (find_here e es e.0 refl) ∙ (f e.0 a.0 ∙ (ap at q ∙ o))))
     later (inr i) = among_from ks (suc k) e.0 b.1 i
+
   behind : (j : ℕ) (id : TermId) → suc k ≤ j → at j ≡ Some id → IsAmong j ks
   behind j id h o = rest (m j id (omega (arith, h, b.0)) o) where
     rest : IsAmong j (k ∷ ks) → IsAmong j ks
     rest (inl q) = absurd (omega (arith, h, q))
     rest (inr i) = i
+
   first : (es : List (ℕ × TermId)) (t : TermId) → Ascends from es → ((j : ℕ) → from ≤ j → find es j ≡ at j) → at k ≡ Some t → ((es : List (ℕ × TermId)) → Ascends (suc k) es → ((j : ℕ) → suc k ≤ j → find es j ≡ at j) → es ≡ picks at ks) → es ≡ (k, t) ∷ picks at ks
   first [] t a f o go = absurd (some_none (sym o ∙ sym (f k b.0)))
   first (e ∷ es) t a f o go = here (m e.0 e.1 a.0 (sym (f e.0 a.0) ∙ find_here e es e.0 refl)) where
     here : IsAmong e.0 (k ∷ ks) → e ∷ es ≡ (k, t) ∷ picks at ks
     here (inl q) =
-      let v : Some e.1 ≡ Some t = sym (find_here e es k (sym q)) ∙ (f k b.0 ∙ o) in
-      let w : e.1 ≡ t = cc in
-      ap (λ x. (x, e.1) ∷ es) q ∙ (ap (λ x. (k, x) ∷ es) w ∙ ap (λ x. (k, t) ∷ x) (go es (subst (λ x. Ascends (suc x) es) q a.1) (λ j h. sym (find_there e es j (λ z. omega (arith, h, z, q))) ∙ f j (omega (arith, h, b.0)))))
+        let v : Some e.1 ≡ Some t = sym (find_here e es k (sym q)) ∙ (f k b.0 ∙ o) in
+        let w : e.1 ≡ t = cc in
+        ap (λ x. (x, e.1) ∷ es) q ∙ (ap (λ x. (k, x) ∷ es) w ∙ ap (λ x. (k, t) ∷ x) (go es (subst (λ x. Ascends (suc x) es) q a.1) (λ j h. sym (find_there e es j (λ z. omega (arith, h, z, q))) ∙ f j (omega (arith, h, b.0)))))
     here (inr i) = absurd (some_none (sym o ∙ (sym (f k b.0) ∙ find_low (e ∷ es) (suc k) k (among_from ks (suc k) e.0 b.1 i, a.1) (omega arith))))
+
   by_pick : ((xs : List (ℕ × TermId)) → Ascends (suc k) xs → ((j : ℕ) → suc k ≤ j → find xs j ≡ at j) → ((j : ℕ) (id : TermId) → suc k ≤ j → at j ≡ Some id → IsAmong j ks) → xs ≡ picks at ks) → (o : Option TermId) → at k ≡ o → es ≡ picked o k (picks at ks)
   by_pick go None o = go es (none_low es a f o) (λ j h. f j (omega (arith, h, b.0))) behind
   by_pick go (Some t) o = first es t a f o (λ xs p q. go xs p q behind)
@@ -241,9 +241,9 @@ rule_of names ss (u ∷ us) n e r h = by_test (same_name u.0 n) refl (λ k. rule
   by_test : (b : Bool) → same_name u.0 n ≡ b → (entry_of us n ≡ Some e → is_none (state_named ss n) ≡ false) → is_none (state_named ss n) ≡ false
   by_test false k rest = rest (ap (λ b. cond b (Some u.1) (entry_of us n)) (sym k) ∙ h)
   by_test true k rest =
-    let a = and_parts (is_right (placed names u.1 (of_update u.0 (state_named ss u.0)))) (are_right (placed_updates names ss us)) r in
-    let b = and_parts (not (uses_unknown_name names u.1 || updates_no_state (of_update u.0 (state_named ss u.0)))) _ a.0 in
-    ap (λ x. is_none (state_named ss x)) (sym ((bytes_eq-Decides u.0 n).0 k)) ∙ (or_parts (uses_unknown_name names u.1) (is_none (state_named ss u.0)) (not_true _ b.0)).1
+      let a = and_parts (is_right (placed names u.1 (of_update u.0 (state_named ss u.0)))) (are_right (placed_updates names ss us)) r in
+      let b = and_parts (not (uses_unknown_name names u.1 || updates_no_state (of_update u.0 (state_named ss u.0)))) _ a.0 in
+      ap (λ x. is_none (state_named ss x)) (sym ((bytes_eq-Decides u.0 n).0 k)) ∙ (or_parts (uses_unknown_name names u.1) (is_none (state_named ss u.0)) (not_true _ b.0)).1
 
 ascending_of : (g : Graph) (from : ℕ) (ks : List ℕ) (ss : List StateDeclaration) → StandAt g from ks ss → Ascending from ks
 ascending_of g from [] ss s = tt
@@ -302,10 +302,11 @@ pub choose_turn : (g h k : Graph) (t : BTreeMap (Bor (List ℕ)) TermId) (f : Op
 unfolding AreToChoose ChoosesOne are_right
 choose_turn g h k t f m w u rest us b a one names ks ss knows s r =
     let at = a names ks ss knows s r in
-    let parts = and_parts (is_right (placed names u.1 (of_update u.0 (state_named ss u.0)))) (are_right (placed_updates names ss rest)) at.1 in
-    (subst (λ ns. AreChosen ns k names us rest w) b.names
-      (one names ks ss us rest (knows_grown g h t f names (wider b) knows) (stand_moved g h 0 ks ss b.names s) parts.0 (subst (λ ns. AreChosen ns h names us (u ∷ rest) m) (sym b.names) at.0)),
-     parts.1)
+    let parts = and_parts (is_right (placed names u.1 (of_update u.0 (state_named ss u.0)))) (are_right (placed_updates names ss rest)) at.1 in (
+      subst (λ ns. AreChosen ns k names us rest w) b.names
+          (one names ks ss us rest (knows_grown g h t f names (wider b) knows) (stand_moved g h 0 ks ss b.names s) parts.0 (subst (λ ns. AreChosen ns h names us (u ∷ rest) m) (sym b.names) at.0)),
+      parts.1,
+    )
 
 pub choose_end : (g h : Graph) (t : BTreeMap (Bor (List ℕ)) TermId) (f : Option TermId) (m : BTreeMap ℕ TermId) (us : Entries WrittenTerm)
     → HasDistinctNames g.names → IsGrown g h → IsOrdered nat_cmp m → AreToChoose g t f h m [] us → AreUpdated g t f h m.entries us

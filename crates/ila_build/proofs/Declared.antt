@@ -1,8 +1,10 @@
 -- A declared name stands for itself, and the names before it stay as they were.
-use Rattle.std.proofs.Common.{◌≡◌, ℕ, ◌+◌, ◌<◌, ◌≤◌, Bool, true, false, cond, List, [], ◌∷◌, ◌++◌, length, drop, get_or, map, Bor, Option, Some, None, refl, sym, ap, ◌∙◌, subst, arith, length-append, append_assoc}
-use Rattle.std.specs.Prelude.{⊤}
+use Rattle.std.proofs.Common.{◌≡◌, ℕ, ◌+◌, Bool, true, false, cond, List, [], ◌∷◌, ◌++◌, length, Bor, Option, Some, None, refl, sym, ap, ◌∙◌, subst, arith, length-append, append_assoc}
 use Rattle.std.proofs.Math.Seq.{get_or-append_seam}
-use Rattle.std.specs.BTreeMap.{BTreeMap}
+use Rattle.std.specs.BTreeMap.{BTreeMap, is_at}
+use Rattle.std.specs.Map.{lookup}
+use Rattle.std.specs.Ordering.{nat_cmp}
+use Rattle.std.specs.Cmp.Lexicographic.{slice_cmp}
 use Rattle.std.proofs.lemmas.Slice.Eq.{bytes_eq-Decides}
 use Rattle.wb_meaning.specs.Value.{Name, Sort, same_name, Entries, entry_of}
 use Rattle.wb_meaning.specs.Term as terms
@@ -12,10 +14,10 @@ use Rattle.wb_terms.specs.declared.nodes.NameId.{NameId}
 use Rattle.wb_terms.specs.declared.nodes.TermId.{TermId}
 use Rattle.wb_terms.specs.declared.nodes.Node.{Node}
 use Rattle.wb_terms.specs.declared.nodes.Node.TheVariants.{Name as NameNode}
-use Rattle.wb_terms.specs.Graph.{Graph, tree, tree_at, leaf_at, trees_of, tree_of_node, with_name, with_node}
-use Rattle.ila_build.specs.Standing.{under_name, StandsFor, StandAll, IsTable, IsKept, IsWider, AreIn}
+use Rattle.wb_terms.specs.Graph.{Graph, tree_at, leaf_at, trees_of, tree_of_node, with_name, with_node}
+use Rattle.ila_build.specs.Standing.{IsIn, under_name, StandsFor, StandAll, IsTable, IsKept, IsWider, AreIn}
 use Rattle.ila_build.proofs.Growing.{by_node, new_tree, wider, widen, are_in-wider}
-use Rattle.ila_build.proofs.Definitions.{stands_grown, stands_kept, are_in_more, kept}
+use Rattle.ila_build.proofs.Definitions.{stands_grown, stands_kept, are_in_more}
 
 no_stand : (g : Graph) (v : Visible) (o : Option TermId) → o ≡ None → StandsFor g v o → ⊥
 no_stand g v None e s = s
@@ -50,7 +52,7 @@ stands_new : (g m h : Graph) (n : Name) (s : Sort) (i : NameId) (id : TermId) �
 stands_new g m h n s i id e j f us k =
     let l : length h.nodes ≡ length m.nodes + 1 = ap (λ (f : Graph). length f.nodes) f ∙ length-append m.nodes (NameNode i ∷ []) in
     let leaf : leaf_at m.names i.0 ≡ terms.name n s =
-      ap (λ (f : Graph). leaf_at f.names i.0) e ∙ (ap (leaf_at (g.names ++ (n, s) ∷ [])) j ∙ ap (λ (x : Name × Sort). terms.name x.0 x.1) (get_or-append_seam g.names (n, s) [] _)) in
+    ap (λ (f : Graph). leaf_at f.names i.0) e ∙ (ap (leaf_at (g.names ++ (n, s) ∷ [])) j ∙ ap (λ (x : Name × Sort). terms.name x.0 x.1) (get_or-append_seam g.names (n, s) [] _)) in
     (omega (arith, l, k), new_tree m h (tree_of_node m (NameNode i)) id.0 k us ∙ leaf, refl)
 
 all_kept : (g h : Graph) (t u : BTreeMap (Bor (List ℕ)) TermId) (ns : Entries Sort) → IsWider g h → IsKept t u → StandAll g t ns → StandAll h u ns
@@ -73,9 +75,10 @@ table_declared g m h t u n s i id a keep e ts j f us k r =
     let b : IsWider g h = wide_declared g m h n s (NameNode i) (tree_of_node m (NameNode i)) e ts f us in
     let new : StandsFor h (declared n s) (Some id) = stands_new g m h n s i id e j f us k in
     let it : under_name u n ≡ Some id = r n ∙ ap (λ x. cond x (Some id) (under_name t n)) ((bytes_eq-Decides n n).1 refl) in
-    let names : h.names ≡ g.names ++ (n, s) ∷ [] = ap (λ (f : Graph). f.names) f ∙ ap (λ (f : Graph). f.names) e in
-    (are_in_more h t u n id (are_in-wider g h t None b a.0) new.0 r,
-     subst (StandAll h u) (sym names) (all_more h u g.names n s (all_kept g h t u g.names b keep a.1) (subst (StandsFor h (declared n s)) (sym it) new)))
+    let names : h.names ≡ g.names ++ (n, s) ∷ [] = ap (λ (f : Graph). f.names) f ∙ ap (λ (f : Graph). f.names) e in (
+      are_in_more h t u n id (are_in-wider g h t None b a.0) new.0 r,
+      subst (StandAll h u) (sym names) (all_more h u g.names n s (all_kept g h t u g.names b keep a.1) (subst (StandsFor h (declared n s)) (sym it) new)),
+    )
 
 -- after puts alone the table is as good
 pub table_grown : (g h : Graph) (t u : BTreeMap (Bor (List ℕ)) TermId) → IsWider g h → h.names ≡ g.names → IsKept t u → AreIn h u None → IsTable g t → IsTable h u
@@ -88,3 +91,13 @@ names_turn old now x rest all e h = ap (λ ns. ns ++ rest) e ∙ (append_assoc o
 pub in_table : (g : Graph) (t : BTreeMap (Bor (List ℕ)) TermId) → IsTable g t → AreIn g t None
 unfolding IsTable
 in_table g t s = s.0
+
+nothing_in : (g : Graph) (o : Option TermId) → o ≡ None → IsIn g o
+nothing_in g None e = tt
+nothing_in g (Some id) e = cc
+
+-- a store without names, and a table without entries
+pub table_empty : (g : Graph) (t : BTreeMap (Bor (List ℕ)) TermId) → g.names ≡ [] → t.entries ≡ [] → IsTable g t
+unfolding IsTable AreIn
+table_empty g t e f =
+    ((λ n. nothing_in g (under_name t n) (ap (λ es. lookup (is_at (λ k. slice_cmp nat_cmp n k.now)) es) f)), subst (StandAll g t) (sym e) tt)

@@ -2,23 +2,21 @@
 use Rattle.std.proofs.Common.{◌≡◌, ◌<◌, Bool, true, false, cond, not, ◌&&◌, ◌||◌, ℕ, zero, suc, ◌+◌, ◌≤◌, drop-cons, List, [], ◌∷◌, length, drop, get_or, map, Bor, Option, Some, None, refl, sym, ap, ◌∙◌, subst, arith}
 use Rattle.std.specs.Prelude.{Result, Ok, Err, OnOk, is_ok, is_some, ⊤}
 use Rattle.std.specs.BTreeMap.{BTreeMap}
-use Rattle.std.specs.List.{list_all}
 use Rattle.std.proofs.lemmas.Bool.{false≢true, and_parts}
 use Rattle.wb_meaning.specs.Value.{Name, Sort, same_name, Entries, entry_of}
-use Rattle.wb_meaning.specs.Term.{Term, sort_of}
+use Rattle.wb_meaning.specs.Term.{sort_of}
 use Rattle.wb_meaning.specs.ModelFile.Written.{WrittenTerm}
 use Rattle.wb_meaning.specs.ModelFile.Scope.{Visible, Place, of_definition, Placed, placed, defined, term_of, written_sort, placed_definitions, with_definitions}
-use Rattle.wb_meaning.specs.ModelFile.Rules.{uses_unknown_name, updates_no_state, takes_sort, has_fitting_constants}
+use Rattle.wb_meaning.specs.ModelFile.Rules.{uses_unknown_name, updates_no_state, takes_sort}
 use Rattle.wb_terms.specs.declared.nodes.TermId.{TermId}
 use Rattle.wb_terms.specs.declared.store.PutStop.{PutStop}
 use Rattle.wb_terms.specs.declared.store.PutStop.TheVariants.{BadSort, NoMemory}
 use Rattle.wb_terms.specs.Graph.{Graph, tree}
-use Rattle.std.proofs.lemmas.Cmp.{nat_list_eq_equiv}
 use Rattle.std.proofs.lemmas.Slice.Eq.{bytes_eq-Decides}
 use Rattle.wb_meaning.specs.ModelFile.Keys.{is_among}
-use Rattle.ila_build.specs.Standing.{IsFresh, IsKept, under_name, found, seen, seen_by, StandsFor, IsIn, AreIn, StandAll, IsTable, term_by, IsGrown, IsWider, IsPut}
-use Rattle.ila_build.specs.Knowing.{Knows, is_right, are_right, IsDone, AreDefined, defined_names}
-use Rattle.ila_build.proofs.Growing.{onward, same, wider, widen, are_in-grown}
+use Rattle.ila_build.specs.Standing.{IsFresh, IsKept, under_name, found, seen, seen_by, StandsFor, IsIn, AreIn, term_by, IsWider, IsPut}
+use Rattle.ila_build.specs.Knowing.{Knows, is_right, are_right, AreDefined, defined_names}
+use Rattle.ila_build.proofs.Growing.{wider}
 use Rattle.ila_build.proofs.Sorting.{AreSorted, sort_is, term_is, or_parts}
 
 -- ---- lists and results
@@ -98,10 +96,10 @@ right_put g h t f names e p r k right put =
     let same_term : term_by (seen_by g t f) e ≡ term_of names e = term_is (seen_by g t f) names e (seen_names g t f names k) u.0 in
     let same_sort : sort_of (term_of names e) ≡ written_sort names e = sort_is names e (sorted_of g t f names k) u.0 b.1 in
     by_result r put same_term same_sort b.0 where
-  by_result : (r : Result TermId PutStop) → IsPut g h r (term_by (seen_by g t f) e) → term_by (seen_by g t f) e ≡ term_of names e → sort_of (term_of names e) ≡ written_sort names e → takes_sort p (written_sort names e) ≡ true → IsRight h names e r
-  by_result (Ok id) put a s b = record { within = put.1; tree = put.2 ∙ a; sort = s }
-  by_result (Err BadSort) put a s b = no_sort p (written_sort names e) (sym s ∙ (ap sort_of (sym a) ∙ put.1)) b
-  by_result (Err NoMemory) put a s b = tt
+      by_result : (r : Result TermId PutStop) → IsPut g h r (term_by (seen_by g t f) e) → term_by (seen_by g t f) e ≡ term_of names e → sort_of (term_of names e) ≡ written_sort names e → takes_sort p (written_sort names e) ≡ true → IsRight h names e r
+      by_result (Ok id) put a s b = record { within = put.1; tree = put.2 ∙ a; sort = s }
+      by_result (Err BadSort) put a s b = no_sort p (written_sort names e) (sym s ∙ (ap sort_of (sym a) ∙ put.1)) b
+      by_result (Err NoMemory) put a s b = tt
 
 -- ---- one name more
 

@@ -1,6 +1,6 @@
 -- Instructions: what was put stays as it is while the store grows, and one instruction after another makes the list.
-use Rattle.std.proofs.Common.{◌≡◌, ℕ, zero, suc, ◌+◌, ◌<◌, ◌≤◌, Bool, true, false, List, [], ◌∷◌, ◌++◌, length, map, drop, Bor, Option, Some, None, refl, sym, ap, ◌∙◌, subst, arith, append_assoc, length-append}
-use Rattle.std.specs.Prelude.{Result, Ok, Err, ⊤}
+use Rattle.std.proofs.Common.{◌≡◌, ℕ, suc, ◌<◌, true, List, [], ◌∷◌, ◌++◌, length, map, Bor, Option, sym, ap, ◌∙◌, subst, arith, append_assoc, length-append}
+use Rattle.std.specs.Prelude.{Ok}
 use Rattle.std.proofs.Math.ListN.{get_or-append}
 use Rattle.std.proofs.lemmas.List.{append-nil}
 use Rattle.std.specs.BTreeMap.{BTreeMap}
@@ -9,18 +9,17 @@ use Rattle.std.proofs.lemmas.Bool.{and_parts}
 use Rattle.wb_meaning.specs.Value.{Name, Sort, Entries}
 use Rattle.wb_meaning.specs.Term.{Term}
 use Rattle.wb_meaning.specs.Model.{StateDeclaration}
-use Rattle.wb_meaning.specs.ModelFile.Written.{WrittenTerm, WrittenInstruction, instruction, WrittenInstructions, no_instructions, and_then, WrittenChild}
+use Rattle.wb_meaning.specs.ModelFile.Written.{WrittenTerm, WrittenInstruction, WrittenInstructions, no_instructions, and_then}
 use Rattle.wb_meaning.specs.ModelFile.Scope.{Visible, placed, of_condition, term_of, placed_updates}
 use Rattle.wb_meaning.specs.ModelFile.Meaning.{updates_of}
 use Rattle.wb_terms.specs.declared.nodes.TermId.{TermId}
-use Rattle.wb_terms.specs.declared.store.PutStop.{PutStop}
 use Rattle.wb_terms.specs.Graph.{Graph, tree}
 use Rattle.ila_model.specs.declared.parts.Instruction.{Instruction}
 use Rattle.ila_model.specs.declared.parts.ChildId.{ChildId}
 use Rattle.ila_build.specs.Standing.{seen_by, term_by, IsGrown, IsWider, IsPut}
 use Rattle.ila_build.specs.Knowing.{Knows, is_right, are_right}
 use Rattle.ila_build.specs.Updating.{entry_at, StandAt, AreUpdates, AreUpdated}
-use Rattle.ila_build.specs.Building.{called_in, decode_in, update_in, pair_of, link_at, own_terms, AreOwnRight, IsInstruction, AreInstructions, IsInstructionPut, AreInstructionsPut}
+use Rattle.ila_build.specs.Building.{called_in, decode_in, update_in, pair_of, link_at, AreOwnRight, IsInstruction, AreInstructions, IsInstructionPut, AreInstructionsPut}
 use Rattle.ila_build.proofs.Growing.{wider, widen, wide_same}
 use Rattle.ila_build.proofs.Definitions.{right_put, IsTermOf, knows_grown}
 use Rattle.ila_build.proofs.Chosen.{stand_moved}
@@ -64,7 +63,7 @@ instruction_put g m h t f link w d us id pairs x e1 e2 put b ups en ed eu el nam
     let ups' = subst (λ v. are_right (placed_updates names ss v) ≡ true → AreUpdates h pairs (updates_of names ss v)) e2 (ups names ks ss (knows_grown g m t f names (wider put.0) k) (stand_moved g m 0 ks ss put.0.names s)) in
     let it : IsTermOf m id names d' = right_put g m t f names d' of_condition (Ok id) k parts.0 put' in
     let there : (x.decode.0 < length h.nodes) × (tree h x.decode.0 ≡ term_of names d') =
-      subst (λ (i : TermId). (i.0 < length h.nodes) × (tree h i.0 ≡ term_of names d')) (sym ed) (omega (arith, it.within, b.longer), b.trees id.0 it.within ∙ it.tree) in
+    subst (λ (i : TermId). (i.0 < length h.nodes) × (tree h i.0 ≡ term_of names d')) (sym ed) (omega (arith, it.within, b.longer), b.trees id.0 it.within ∙ it.tree) in
     (en, there.0, there.1, subst (λ ps. AreUpdates h ps (updates_of names ss us')) (sym eu) (ups' parts.1), el)
 
 -- ---- the loop: the instructions that are left, put into any later store, complete the list
@@ -83,10 +82,12 @@ pub put_turn : (g h m : Graph) (t : BTreeMap (Bor (List ℕ)) TermId) (f : Optio
 unfolding AreToPut IsInstructionPut
 put_turn g h m t f links put now i link w rest all x e el b c a one names ks ss k s r =
     let at = a names ks ss k s r in
-    let it : IsInstruction m names ss (link_at links i) w x = subst (λ l. IsInstruction m names ss l w x) el (one names ks ss (knows_grown g h t f names (wider b) k) (stand_moved g h 0 ks ss b.names s) at.0.0) in
-    (at.0.1, λ n ys d z.
-      subst (AreInstructions n names ss links 0 all) (sym (ap (λ xs. xs ++ ys) e ∙ append_assoc put (x ∷ []) ys))
-      (at.1 n (x ∷ ys) (widen (wider c) d) (instruction_wider m n names ss (link_at links i) w x d it, z)))
+    let it : IsInstruction m names ss (link_at links i) w x = subst (λ l. IsInstruction m names ss l w x) el (one names ks ss (knows_grown g h t f names (wider b) k) (stand_moved g h 0 ks ss b.names s) at.0.0) in (
+      at.0.1,
+      λ n ys d z.
+          subst (AreInstructions n names ss links 0 all) (sym (ap (λ xs. xs ++ ys) e ∙ append_assoc put (x ∷ []) ys))
+          (at.1 n (x ∷ ys) (widen (wider c) d) (instruction_wider m n names ss (link_at links i) w x d it, z)),
+    )
 
 pub put_end : (g h : Graph) (t : BTreeMap (Bor (List ℕ)) TermId) (f : Option TermId) (links : List (Option ChildId)) (put : List Instruction) (i : ℕ) (all : WrittenInstructions) → AreToPut g t f h links put i no_instructions all → AreInstructionsPut g t f h links all put
 unfolding AreToPut AreInstructionsPut

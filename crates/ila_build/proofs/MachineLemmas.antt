@@ -1,22 +1,18 @@
 -- Machines: a fetch that was put is known besides the other names, and one part after another makes the machine.
-use Rattle.std.proofs.Common.{◌≡◌, ℕ, ◌<◌, ◌≤◌, Bool, true, false, cond, List, [], ◌∷◌, length, Bor, Option, Some, None, refl, sym, ap, ◌∙◌, subst, arith}
-use Rattle.std.specs.Prelude.{Result, Ok, Err, ⊤, codes}
+use Rattle.std.proofs.Common.{◌≡◌, ℕ, ◌<◌, true, List, [], length, Bor, Option, Some, None, ◌∙◌, subst, arith}
+use Rattle.std.specs.Prelude.{Ok, codes}
 use Rattle.std.specs.BTreeMap.{BTreeMap}
-use Rattle.std.proofs.lemmas.Bool.{and_parts}
-use Rattle.wb_meaning.specs.Value.{Name, same_name, Entries, entry_of}
-use Rattle.wb_meaning.specs.Model.{StateDeclaration}
+use Rattle.wb_meaning.specs.Value.{same_name, Entries}
 use Rattle.wb_meaning.specs.ModelFile.Written.{WrittenTerm, WrittenInstructions, WrittenMachine}
-use Rattle.wb_meaning.specs.ModelFile.Scope.{Visible, defined, placed, of_fetch, of_condition, term_of, with_definitions, with_fetch, placed_definitions, placed_fetch}
+use Rattle.wb_meaning.specs.ModelFile.Scope.{defined, placed, of_fetch, of_condition, with_definitions, with_fetch, placed_definitions, placed_fetch}
 use Rattle.wb_terms.specs.declared.nodes.TermId.{TermId}
-use Rattle.wb_terms.specs.declared.store.PutStop.{PutStop}
-use Rattle.wb_terms.specs.Graph.{Graph, tree}
+use Rattle.wb_terms.specs.Graph.{Graph}
 use Rattle.ila_model.specs.declared.parts.Instruction.{Instruction}
 use Rattle.ila_model.specs.declared.parts.ChildId.{ChildId}
-use Rattle.ila_build.specs.Standing.{under_name, found, IsIn, AreIn, StandsFor, seen_by, term_by, IsGrown, IsWider, IsPut, IsKept, IsTable}
-use Rattle.ila_build.specs.Knowing.{Knows, is_right, are_right, IsDone, AreDefined}
-use Rattle.ila_build.specs.Updating.{StandAt}
-use Rattle.ila_build.specs.Building.{AreOwnRight, AreInstructions, AreInstructionsPut, definitions_in, fetch_in, valid_in, instructions_in, names_in, IsMachineRight, IsFetched, IsMachine, IsMachinePut}
-use Rattle.ila_build.proofs.Growing.{onward, wider, are_in-grown}
+use Rattle.ila_build.specs.Standing.{under_name, IsIn, AreIn, StandsFor, seen_by, term_by, IsGrown, IsPut}
+use Rattle.ila_build.specs.Knowing.{Knows, are_right, AreDefined}
+use Rattle.ila_build.specs.Building.{AreOwnRight, AreInstructions, AreInstructionsPut, definitions_in, fetch_in, valid_in, instructions_in, names_in, IsFetched, IsMachinePut}
+use Rattle.ila_build.proofs.Growing.{onward, wider}
 use Rattle.ila_build.proofs.Definitions.{right_put, IsTermOf, stands_grown, knows_grown, more_names, is_in_more, first_right}
 use Rattle.ila_build.proofs.Chosen.{stand_moved}
 
@@ -49,6 +45,7 @@ machine_put g g1 g2 g3 h t u links m ds fw v is f valid xs ed ef ev ei b1 def b2
     let k2 : Knows g2 u f (names_in names m) = subst (λ x. are_right (placed_fetch inner x) ≡ true → Knows g2 u f (with_fetch inner x)) ef (fetched inner k1) r.fetch in
     let it : IsTermOf g3 valid (names_in names m) (valid_in m) = right_put g2 g3 u f (names_in names m) (valid_in m) of_condition (Ok valid) k2 r.valid (subst (λ x. IsPut g2 g3 (Ok valid) (term_by (seen_by g2 u f) x)) ev put) in
     let b3 : IsGrown g g3 = onward b1 (onward b2 put.0) in
-    let list = subst (λ x. AreOwnRight (names_in names m) ss x → AreInstructions h (names_in names m) ss links 0 x xs) ei (all (names_in names m) ks ss (knows_grown g2 g3 u f (names_in names m) (wider put.0) k2) (stand_moved g g3 0 ks ss b3.names s)) r.instructions in
-    (knows_grown g1 h u None inner (wider (onward b2 (onward put.0 b4))) k1,
-     record { within = omega (arith, it.within, b4.longer); valid_tree = b4.trees valid.0 it.within ∙ it.tree; instructions = list })
+    let list = subst (λ x. AreOwnRight (names_in names m) ss x → AreInstructions h (names_in names m) ss links 0 x xs) ei (all (names_in names m) ks ss (knows_grown g2 g3 u f (names_in names m) (wider put.0) k2) (stand_moved g g3 0 ks ss b3.names s)) r.instructions in (
+      knows_grown g1 h u None inner (wider (onward b2 (onward put.0 b4))) k1,
+      record { within = omega (arith, it.within, b4.longer); valid_tree = b4.trees valid.0 it.within ∙ it.tree; instructions = list },
+    )

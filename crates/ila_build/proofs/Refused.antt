@@ -1,5 +1,5 @@
 -- A term has no sort where one of its operands has none.
-use Rattle.std.proofs.Common.{◌≡◌, ℕ, ◌<◌, ◌≤◌, Bool, true, false, cond, Option, Some, None, refl, sym, ap, ◌∙◌, arith}
+use Rattle.std.proofs.Common.{◌≡◌, ℕ, Option, Some, None, refl, ap, ◌∙◌}
 use Rattle.wb_meaning.specs.Value.{Sort, truth, word, memory}
 use Rattle.wb_meaning.specs.Term as terms
 use Rattle.wb_meaning.specs.Term.{Term, sort_of, bits_sort, word_sort, same_bits_sort, same_word_sort, compared, concat_sort, load_sort, extract_sort, extended_sort, ite_sort, store_sort}

@@ -1,8 +1,8 @@
 -- The sort of a written term is that of the term that it stands for, and names that stand for the same give the same term.
-use Rattle.std.proofs.Common.{◌≡◌, ℕ, ◌+◌, ◌<◌, ◌≤◌, ◌^◌, Bool, true, false, cond, ◌&&◌, ◌||◌, List, [], ◌∷◌, Option, Some, None, refl, sym, ap, ◌∙◌, arith}
-use Rattle.std.specs.Prelude.{nat_lt, is_none, option_and_then, ⊤}
+use Rattle.std.proofs.Common.{◌≡◌, Bool, true, false, ◌&&◌, ◌||◌, Option, Some, None, refl, sym, ap, ◌∙◌}
+use Rattle.std.specs.Prelude.{is_none, option_and_then}
 use Rattle.std.proofs.lemmas.Bool.{false≢true, and_parts}
-use Rattle.wb_meaning.specs.Value.{Name, Sort, word, Entries, entry_of, same_name}
+use Rattle.wb_meaning.specs.Value.{Name, word, Entries, entry_of}
 use Rattle.wb_meaning.specs.Term as terms
 use Rattle.wb_meaning.specs.Term.{Term, is_width, some_if, sort_of, extract_sort, ite_sort, store_sort, extended_sort}
 use Rattle.wb_meaning.specs.ModelFile.Written.{WrittenTerm, name, constant_truth, const, unary, binary, extract, widen, ite, store}

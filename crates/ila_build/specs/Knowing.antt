@@ -1,17 +1,16 @@
 -- What the visible names of a machine stand for is in the store of terms, and stays so as definitions are put.
-use Rattle.std.specs.Prelude.{ℕ, ◌<◌, ◌≡◌, Bool, true, not, ◌&&◌, List, [], ◌∷◌, map, length, ⊤, Option, Some, None, Result, Ok, Err}
+use Rattle.std.specs.Prelude.{ℕ, ◌≡◌, Bool, true, not, ◌&&◌, List, map, ⊤, Option, Some, None, Result, Ok, Err}
 use Rattle.std.specs.Borrow.{Bor}
 use Rattle.std.specs.BTreeMap.{BTreeMap}
 use Rattle.std.specs.List.{list_all}
 use Rattle.wb_meaning.specs.Value.{Name, Entries, entry_of}
-use Rattle.wb_meaning.specs.Term.{sort_of}
 use Rattle.wb_meaning.specs.ModelFile.Written.{WrittenTerm}
-use Rattle.wb_meaning.specs.ModelFile.Scope.{Visible, Placed, term_of, written_sort, placed_definitions, with_definitions}
+use Rattle.wb_meaning.specs.ModelFile.Scope.{Visible, Placed, written_sort, placed_definitions, with_definitions}
 use Rattle.wb_meaning.specs.ModelFile.Rules.{is_unknown_at, takes_sort, has_fitting_constants}
 use Rattle.wb_terms.specs.declared.nodes.TermId.{TermId}
 use Rattle.wb_terms.specs.declared.store.PutStop.{PutStop}
 use Rattle.wb_terms.specs.declared.store.PutStop.TheVariants.{BadSort, NoMemory}
-use Rattle.wb_terms.specs.Graph.{Graph, tree}
+use Rattle.wb_terms.specs.Graph.{Graph}
 use Rattle.ila_build.specs.Standing.{found, IsFresh, StandsFor}
 
 -- Each visible name stands for its term, which is in the store and has the sort of the name.

@@ -127,7 +127,10 @@ fn initial_value(initial: Option<WrittenValue>) -> Option<Value>
 }
 
 /// The initial values that states state, in their order.
-pub fn initial_values(alloc: Global, states: &[WrittenState]) -> Result<Vec<Option<Value>>, NoMemory>
+pub fn initial_values(
+    alloc: Global,
+    states: &[WrittenState],
+) -> Result<Vec<Option<Value>>, NoMemory>
     ensures { IfOk result (λ values. map (option_map as_value) values.items ≡ map (λ s. s.init) (map state_view states.now)) }
 {
     let mut values = Vec::new(alloc);

@@ -3,16 +3,20 @@
 
 mod declaring;
 mod defining;
+mod empty;
 mod instructions;
 mod machine;
 mod nodes;
 mod putting;
 mod seen;
 mod table;
+#[cfg(test)]
+mod tests;
 mod updating;
 
 pub use declaring::{declare_inputs, declare_states, initial_values};
 pub use defining::put_definitions;
+pub use empty::empty_table;
 pub use instructions::put_instructions;
 pub use machine::put_machine;
 pub use putting::put_term;

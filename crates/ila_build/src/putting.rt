@@ -11,10 +11,7 @@ use std::collections::BTreeMap;
 use wb_terms::{Node, PutStop, TermId, Terms};
 
 /// What the table says of a name.
-pub(crate) fn under_name<'v>(
-    known: &BTreeMap<&'v [u8], TermId>,
-    name: &'v str,
-) -> Option<TermId>
+pub(crate) fn under_name<'v>(known: &BTreeMap<&'v [u8], TermId>, name: &'v str) -> Option<TermId>
     ensures { result ≡ under_name known.now name.now }
 {
     known.get(&name.as_bytes()).copied()

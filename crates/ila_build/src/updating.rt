@@ -15,7 +15,11 @@ use std::collections::BTreeMap;
 use wb_terms::{NameId, NoMemory, Node, PutStop, TermId, Terms};
 
 /// The declared name that a name stands for, if it stands for one.
-fn declared_id<'v>(terms: &Terms, known: &BTreeMap<&'v [u8], TermId>, name: &'v str) -> Option<NameId>
+fn declared_id<'v>(
+    terms: &Terms,
+    known: &BTreeMap<&'v [u8], TermId>,
+    name: &'v str,
+) -> Option<NameId>
     requires { AreIn terms.now known.now None }
     ensures { IfSome result (λ i. IsLeafOf terms.now i (under_name known.now name.now)) }
 {
@@ -71,7 +75,10 @@ fn put_update<'v>(
 }
 
 /// The chosen updates, by ascending states.
-fn chosen_updates(alloc: Global, table: &BTreeMap<usize, TermId>) -> Result<Vec<(usize, TermId)>, NoMemory>
+fn chosen_updates(
+    alloc: Global,
+    table: &BTreeMap<usize, TermId>,
+) -> Result<Vec<(usize, TermId)>, NoMemory>
     ensures updates { IfOk result (λ updates. updates.items ≡ table.now.entries) }
     ensures ordered { IsOrdered nat_cmp table.now }
 {

@@ -1,4 +1,4 @@
-use Rattle.std.proofs.Common.{◌≡◌, ◌<◌, ◌+◌, ◌∷◌, ◌++◌, length, drop, get_or, map, ap, sym, ◌∙◌, arith, refl}
+use Rattle.std.proofs.Common.{◌<◌, ◌+◌, ◌++◌, length, drop, map, ap, sym, ◌∙◌, arith, refl}
 use Rattle.ila_file.specs.View.{input_view}
 use Rattle.ila_build.specs.Declaring.{input_entry}
 use Rattle.ila_build.proofs.Growing.{wide_same, widen}
@@ -14,8 +14,9 @@ loop-input-preserved c =
     let xs = c.args.inputs.now in
     let i = c.loop-input.input-index in
     let h : i < length xs = omega arith in
-    let cut = ap (map input_entry) (rest_cut_at input_view xs i _ h) in
-    (widen c.loop-input.invariant.0 c.in_ok-declare.ensures.wider,
-     names_turn c.loop-input.terms.names c.declare.new.terms.names _ (map input_entry (map input_view (drop (i + 1) xs))) _ c.in_ok-declare.ensures.names (ap (λ ns. c.loop-input.terms.names ++ ns) (sym cut) ∙ c.loop-input.invariant.1),
-     kept_onward c.args.known.now c.loop-input.known c.declare.new.known c.loop-input.invariant.2 c.in_ok-declare.ensures.kept,
-     c.in_ok-declare.ensures.table)
+    let cut = ap (map input_entry) (rest_cut_at input_view xs i _ h) in (
+      widen c.loop-input.invariant.0 c.in_ok-declare.ensures.wider,
+      names_turn c.loop-input.terms.names c.declare.new.terms.names _ (map input_entry (map input_view (drop (i + 1) xs))) _ c.in_ok-declare.ensures.names (ap (λ ns. c.loop-input.terms.names ++ ns) (sym cut) ∙ c.loop-input.invariant.1),
+      kept_onward c.args.known.now c.loop-input.known c.declare.new.known c.loop-input.invariant.2 c.in_ok-declare.ensures.kept,
+      c.in_ok-declare.ensures.table,
+    )

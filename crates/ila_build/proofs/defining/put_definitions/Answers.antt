@@ -1,7 +1,6 @@
-use Rattle.std.proofs.Common.{◌≡◌, ◌<◌, ◌≤◌, ◌+◌, [], ◌∷◌, length, drop, map, subst, arith}
+use Rattle.std.proofs.Common.{◌<◌, ◌≤◌, ◌+◌, length, drop, map, subst, arith}
 use Rattle.std.proofs.lemmas.Result.{err_from_is_err_and}
 use Rattle.ila_file.specs.View.{definition_view}
-use Rattle.ila_build.specs.Standing.{IsGrown}
 use Rattle.ila_build.proofs.Growing.{same, onward}
 use Rattle.ila_build.proofs.Definitions.{AreReached, kept_same, kept_onward, rest_cut, rest_end, reached_start, reached_turn, reached_end, reached_lost}
 use Rattle.ila_build.proofs.defining.put_definitions.Goals as goal

@@ -1,7 +1,5 @@
-use Rattle.std.proofs.Common.{◌≡◌, ◌∙◌, map, None, ap, sym, subst, refl}
-use Rattle.ila_file.specs.View.{instruction_view, term_view, update_view, updates_view, held_child_view}
-use Rattle.wb_meaning.specs.ModelFile.Written.{instruction}
-use Rattle.ila_build.specs.Updating.{AreUpdated}
+use Rattle.std.proofs.Common.{◌∙◌, map, None, refl}
+use Rattle.ila_file.specs.View.{instruction_view, term_view, update_view}
 use Rattle.ila_build.proofs.Growing.{wider, are_in-grown}
 use Rattle.ila_build.proofs.Definitions.{kept_same}
 use Rattle.ila_build.proofs.Declared.{in_table, table_grown}

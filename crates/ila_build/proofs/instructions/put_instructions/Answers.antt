@@ -1,4 +1,4 @@
-use Rattle.std.proofs.Common.{◌≡◌, ◌<◌, ◌≤◌, ◌+◌, ◌++◌, ◌∙◌, suc, [], ◌∷◌, length, drop, map, None, not, ap, sym, subst, arith, ℕ}
+use Rattle.std.proofs.Common.{◌≡◌, ◌<◌, ◌≤◌, ◌+◌, ◌∙◌, suc, length, drop, None, not, ap, sym, subst, arith}
 use Rattle.ila_file.specs.View.{instruction_view, instructions_view, instructions_from}
 use Rattle.ila_build.proofs.Growing.{same, onward, wider, are_in-grown}
 use Rattle.ila_build.proofs.Definitions.{kept_same, rest_cut, rest_end}
@@ -30,10 +30,11 @@ loop-place-preserved c =
     let one : suc i ≡ i + 1 = omega arith in
     let all = instructions_view is in
     let rest = instructions_view (drop (i + 1) is) in
-    let at = subst (λ rest. AreToPut c.args.terms.now c.args.known.now c.args.fetch c.loop-place.terms c.args.links.now c.loop-place.put.items i rest all) (ap instructions_from (rest_cut instruction_view is i w h c.index-instructions-place.is)) c.loop-place.invariant.1 in
-    (onward c.loop-place.invariant.0 c.in_ok-one.ensures.grown,
-     subst (λ k. AreToPut c.args.terms.now c.args.known.now c.args.fetch c.put_instruction.new.terms c.args.links.now c.push.new.self.items k rest all) one
-     (put_turn c.args.terms.now c.loop-place.terms c.put_instruction.new.terms c.args.known.now c.args.fetch c.args.links.now c.loop-place.put.items c.push.new.self.items i c.link_at-link.result (instruction_view w) rest all c.in_ok-one.one pushed c.link_at-link.ensures c.loop-place.invariant.0 c.in_ok-one.ensures.grown at c.in_ok-one.ensures.put))
+    let at = subst (λ rest. AreToPut c.args.terms.now c.args.known.now c.args.fetch c.loop-place.terms c.args.links.now c.loop-place.put.items i rest all) (ap instructions_from (rest_cut instruction_view is i w h c.index-instructions-place.is)) c.loop-place.invariant.1 in (
+      onward c.loop-place.invariant.0 c.in_ok-one.ensures.grown,
+      subst (λ k. AreToPut c.args.terms.now c.args.known.now c.args.fetch c.put_instruction.new.terms c.args.links.now c.push.new.self.items k rest all) one
+          (put_turn c.args.terms.now c.loop-place.terms c.put_instruction.new.terms c.args.known.now c.args.fetch c.args.links.now c.loop-place.put.items c.push.new.self.items i c.link_at-link.result (instruction_view w) rest all c.in_ok-one.one pushed c.link_at-link.ensures c.loop-place.invariant.0 c.in_ok-one.ensures.grown at c.in_ok-one.ensures.put),
+    )
 
 pub returns-clause-put : goal.returns-clause-put
 returns-clause-put c =

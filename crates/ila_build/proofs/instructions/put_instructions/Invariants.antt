@@ -1,4 +1,4 @@
-use Rattle.std.proofs.Common.{map, drop}
+use Rattle.std.proofs.Common.{drop}
 use Rattle.ila_file.specs.View.{instructions_view}
 use Rattle.ila_build.specs.Standing.{IsGrown}
 use Rattle.ila_build.proofs.InstructionLemmas.{AreToPut}

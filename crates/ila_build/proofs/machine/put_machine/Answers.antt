@@ -1,7 +1,6 @@
-use Rattle.std.proofs.Common.{map, None, ap, sym, subst}
+use Rattle.std.proofs.Common.{map, None}
 use Rattle.ila_file.specs.View.{definition_view, fetch_view, term_view, instructions_view, machine_view}
 use Rattle.ila_build.proofs.Growing.{onward, wider, are_in-grown}
-use Rattle.ila_build.proofs.Definitions.{kept_same}
 use Rattle.ila_build.proofs.Declared.{in_table, table_grown}
 use Rattle.ila_build.proofs.MachineLemmas.{machine_put}
 use Rattle.ila_build.proofs.machine.put_machine.Goals as goal

@@ -1,12 +1,11 @@
-use Rattle.std.proofs.Common.{rules, ◌≡◌, ◌<◌, length, ◌∙◌, ap, sym, subst, arith}
-use Rattle.std.specs.Prelude.{Ok, Err}
+use Rattle.std.proofs.Common.{rules, ap, subst}
+use Rattle.std.specs.Prelude.{Ok}
 use Rattle.std.proofs.lemmas.Result.{err_from_is_err_and}
 use Rattle.wb_meaning.specs.Term as terms
 use Rattle.wb_meaning.specs.ModelFile.Scope.{binary_term}
-use Rattle.wb_terms.specs.Graph.{tree}
 use Rattle.ila_file.specs.View.{term_view, binary_view}
 use Rattle.ila_file.specs.declared.written.WrittenTerm.{the_lemmas}
-use Rattle.ila_build.specs.Standing.{AreIn, IsIn, IsPut, found, seen, seen_by, term_by}
+use Rattle.ila_build.specs.Standing.{IsPut, seen_by, term_by}
 use Rattle.ila_build.proofs.Growing.{onward, are_in-grown}
 use Rattle.ila_build.proofs.Refused.{second-none, ite-second, ite-third, store-second, store-third}
 use Rattle.ila_build.proofs.Arms.{is_in, name-done, later, lost_later, two-done, three-done}

@@ -1,5 +1,4 @@
-use Rattle.std.proofs.Common.{◌≡◌, ◌∙◌, not, ap, sym, subst}
-use Rattle.ila_build.specs.Updating.{IsLeafOf}
+use Rattle.std.proofs.Common.{◌∙◌, not, ap}
 use Rattle.ila_file.specs.View.{update_view}
 use Rattle.ila_build.proofs.Definitions.{on_ok}
 use Rattle.ila_build.proofs.Declared.{in_table}

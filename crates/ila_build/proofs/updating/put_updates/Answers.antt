@@ -1,4 +1,4 @@
-use Rattle.std.proofs.Common.{◌≡◌, ◌<◌, ◌≤◌, ◌+◌, [], ◌∷◌, length, drop, map, None, ap, sym, subst, arith}
+use Rattle.std.proofs.Common.{◌<◌, ◌≤◌, ◌+◌, length, drop, map, None, sym, subst, arith}
 use Rattle.ila_file.specs.View.{update_view}
 use Rattle.ila_build.specs.Updating.{AreUpdated}
 use Rattle.ila_build.proofs.Growing.{same, onward, wider, are_in-grown}
@@ -25,9 +25,10 @@ loop-update-preserved c =
     let u = c.update-item.result in
     let h : i < length us = omega arith in
     let all = map update_view us in
-    let at = subst (λ rest. AreToChoose c.args.terms.now c.args.known.now c.args.fetch c.loop-update.terms c.loop-update.table rest all) (rest_cut update_view us i u h c.update-item.is) c.loop-update.invariant.1 in
-    (onward c.loop-update.invariant.0 c.in_ok-put_update.ensures.grown,
-     choose_turn c.args.terms.now c.loop-update.terms c.put_update.new.terms c.args.known.now c.args.fetch c.loop-update.table c.put_update.new.table (update_view u) (map update_view (drop (i + 1) us)) all c.loop-update.invariant.0 at c.in_ok-put_update.ensures.chosen)
+    let at = subst (λ rest. AreToChoose c.args.terms.now c.args.known.now c.args.fetch c.loop-update.terms c.loop-update.table rest all) (rest_cut update_view us i u h c.update-item.is) c.loop-update.invariant.1 in (
+      onward c.loop-update.invariant.0 c.in_ok-put_update.ensures.grown,
+      choose_turn c.args.terms.now c.loop-update.terms c.put_update.new.terms c.args.known.now c.args.fetch c.loop-update.table c.put_update.new.table (update_view u) (map update_view (drop (i + 1) us)) all c.loop-update.invariant.0 at c.in_ok-put_update.ensures.chosen,
+    )
 
 pub returns-clause-updates : goal.returns-clause-updates
 returns-clause-updates c =
