@@ -7,3 +7,4 @@ mod Declared
 mod Chosen
 mod InstructionLemmas
 mod MachineLemmas
+mod ChildLemmas

@@ -1,18 +1,20 @@
 -- When a machine of the code's model has the terms of a written one.
-use Rattle.std.specs.Prelude.{ℕ, suc, ◌<◌, ◌≡◌, true, List, [], ◌∷◌, map, length, ⊤, Option, None, slice_index_or}
+use Rattle.std.specs.Prelude.{ℕ, suc, ◌<◌, ◌≡◌, true, List, drop, ◌++◌, [], ◌∷◌, map, length, ⊤, Option, None, slice_index_or}
 use Rattle.std.specs.Borrow.{Bor}
 use Rattle.std.specs.BTreeMap.{BTreeMap}
 use Rattle.std.specs.String.{string_bytes}
 use Rattle.wb_meaning.specs.Value.{Name, Entries}
 use Rattle.wb_meaning.specs.Model.{StateDeclaration}
-use Rattle.wb_meaning.specs.ModelFile.Written.{WrittenTerm, WrittenInstruction, instruction, WrittenInstructions, no_instructions, and_then, WrittenMachine, machine}
-use Rattle.wb_meaning.specs.ModelFile.Scope.{Visible, Placed, placed, of_condition, term_of, with_definitions, with_fetch, placed_definitions, placed_fetch, placed_updates}
+use Rattle.wb_meaning.specs.ModelFile.Written.{WrittenTerm, WrittenInstruction, instruction, WrittenInstructions, no_instructions, and_then, WrittenMachine, machine, states_in}
+use Rattle.wb_meaning.specs.ModelFile.Scope.{Visible, Placed, placed, of_condition, term_of, with_states, with_definitions, with_fetch, placed_definitions, placed_fetch, placed_updates}
 use Rattle.wb_meaning.specs.ModelFile.Meaning.{updates_of}
 use Rattle.wb_terms.specs.declared.nodes.TermId.{TermId}
 use Rattle.wb_terms.specs.Graph.{Graph, tree}
 use Rattle.ila_model.specs.declared.parts.Update.{Update}
 use Rattle.ila_model.specs.declared.parts.Instruction.{Instruction}
 use Rattle.ila_model.specs.declared.parts.ChildId.{ChildId}
+use Rattle.ila_model.specs.declared.parts.Child.{Child}
+use Rattle.ila_model.specs.Meaning.{private_states}
 use Rattle.ila_build.specs.Knowing.{Knows, is_right, are_right}
 use Rattle.ila_build.specs.Updating.{StandAt, AreUpdates}
 
@@ -66,16 +68,16 @@ AreInstructionsPut g t f h links is xs = (names : Entries Visible) (ks : List �
 -- ---- machines
 
 abbrev pub definitions_in : WrittenMachine → Entries WrittenTerm
-definitions_in (machine states definitions fetch valid instructions) = definitions
+definitions_in (machine ss ds f v is) = ds
 
 abbrev pub fetch_in : WrittenMachine → Option WrittenTerm
-fetch_in (machine states definitions fetch valid instructions) = fetch
+fetch_in (machine ss ds f v is) = f
 
 abbrev pub valid_in : WrittenMachine → WrittenTerm
-valid_in (machine states definitions fetch valid instructions) = valid
+valid_in (machine ss ds f v is) = v
 
 abbrev pub instructions_in : WrittenMachine → WrittenInstructions
-instructions_in (machine states definitions fetch valid instructions) = instructions
+instructions_in (machine ss ds f v is) = is
 
 -- what the conditions and updates of a machine see, where these names are visible to its definitions
 abbrev pub names_in : Entries Visible → WrittenMachine → Entries Visible
@@ -103,3 +105,16 @@ unfoldable pub IsMachinePut : Graph → BTreeMap (Bor (List ℕ)) TermId → Gra
 IsMachinePut g t h u links m valid xs = (names : Entries Visible) (ks : List ℕ) (ss : List StateDeclaration)
     → Knows g t None names → StandAt g 0 ks ss → IsMachineRight names ss m
     → Knows h u None (with_definitions names (definitions_in m)) × IsMachine h names ss links m valid xs
+
+-- What is known inside a child program: its names, the places of its states and of those around it, and its machine.
+pub record IsInside (g : Graph) (t : BTreeMap (Bor (List ℕ)) TermId) (links : List (Option ChildId)) (m : WrittenMachine) (c : Child) (names : Entries Visible) (ss : List StateDeclaration) : Type 0 where
+  pub known : Knows g t None (with_definitions names (definitions_in m))
+  pub places : List ℕ
+  pub states : StandAt g 0 places ss
+  pub machine : IsMachine g names ss links m c.valid c.instructions.items
+
+-- A child program was put: its private states are the machine's, and where no rule refuses its own terms, they are too.
+unfoldable pub IsChildPut : Graph → BTreeMap (Bor (List ℕ)) TermId → Graph → BTreeMap (Bor (List ℕ)) TermId → List (Option ChildId) → WrittenMachine → Child → Type 0
+IsChildPut g t h u links m c = (private_states (drop c.first.0 h.names) c.initial_values.items ≡ states_in m)
+    × ((names : Entries Visible) (ks : List ℕ) (ss : List StateDeclaration) → Knows g t None names → StandAt g 0 ks ss
+    → IsMachineRight (with_states names (states_in m)) (ss ++ states_in m) m → IsInside h u links m c (with_states names (states_in m)) (ss ++ states_in m))

@@ -1,6 +1,7 @@
 //! The code's model of a model file as it is written: its terms in a store, shared and never copied.
 #![tactic(auto)]
 
+mod child;
 mod declaring;
 mod defining;
 mod empty;
@@ -14,6 +15,7 @@ mod table;
 mod tests;
 mod updating;
 
+pub use child::put_child;
 pub use declaring::{declare_inputs, declare_states, initial_values};
 pub use defining::put_definitions;
 pub use empty::empty_table;

@@ -1,10 +1,13 @@
 //! The parts of machines and instructions as they are written, as their views have them.
 
 ghost use Rattle.std.specs.Prelude.{◌≡◌, map};
-ghost use Rattle.ila_file.specs.View.{definition_view, fetch_view, instruction_view, instructions_view, machine_view, term_view, update_view};
+ghost use Rattle.wb_meaning.specs.ModelFile.Written.{states_in};
+ghost use Rattle.ila_file.specs.View.{definition_view, fetch_view, instruction_view, instructions_view, machine_view, state_view, term_view, update_view};
 ghost use Rattle.ila_build.specs.Building.{called_in, decode_in, definitions_in, fetch_in, instructions_in, update_in, valid_in};
 
-use ila_file::{Definition, WrittenInstruction, WrittenMachine, WrittenTerm, WrittenUpdate};
+use ila_file::{
+    Definition, WrittenInstruction, WrittenMachine, WrittenState, WrittenTerm, WrittenUpdate,
+};
 
 /// The instruction's name.
 pub(crate) fn name_of<'v>(written: &WrittenInstruction<'v>) -> &'v str
@@ -55,4 +58,11 @@ pub(crate) fn instructions_of<'w, 'v>(
     ensures { instructions_view result.now ≡ instructions_in (machine_view written.now) }
 {
     &written.instructions
+}
+
+/// The machine's states.
+pub(crate) fn states_of<'w, 'v>(written: &'w WrittenMachine<'v>) -> &'w [WrittenState<'v>]
+    ensures { map state_view result.now ≡ states_in (machine_view written.now) }
+{
+    &written.states
 }
