@@ -8,3 +8,4 @@ mod Chosen
 mod InstructionLemmas
 mod MachineLemmas
 mod ChildLemmas
+mod ProgramLemmas
