@@ -18,7 +18,7 @@ use Rattle.wb_terms.specs.Graph.{Graph}
 use Rattle.wb_meaning.specs.ModelFile.Written.{WrittenMachine, states_in}
 use Rattle.ila_model.specs.declared.parts.Child.{Child}
 use Rattle.ila_model.specs.declared.parts.ChildId.{ChildId}
-use Rattle.ila_model.specs.Meaning.{private_states, zero_of}
+use Rattle.ila_model.specs.Meaning.{private_states, privates_of, zero_of}
 use Rattle.ila_build.specs.Standing.{under_name, StandsFor, StandAll, IsTable, IsKept, IsGrown, IsWider}
 use Rattle.ila_build.specs.Knowing.{Knows}
 use Rattle.ila_build.specs.Updating.{entry_at, StandAt}
@@ -84,25 +84,30 @@ kept_init None z h = absurd (false≢true h)
 kept_init (Some x) z h = refl
 
 -- Private states that all state an initial value are read back from the table and their values.
-privates_read : (ss : List StateDeclaration) (is : List (Option Value)) → map (option_map as_value) is ≡ map (λ s. s.init) ss → list_all (λ s. is_some s.init) ss ≡ true → private_states (map state_entry ss) is ≡ ss
-privates_read [] is e h = refl
-privates_read (s ∷ ss) [] e h = cc
-privates_read (s ∷ ss) (i ∷ is) e h =
+privates_read : (ss : List StateDeclaration) (more : Entries Sort) (is : List (Option Value)) → map (option_map as_value) is ≡ map (λ s. s.init) ss → list_all (λ s. is_some s.init) ss ≡ true → private_states (map state_entry ss ++ more) is ≡ ss
+privates_read [] [] [] e h = refl
+privates_read [] (m ∷ more) [] e h = refl
+privates_read [] more (i ∷ is) e h = cc
+privates_read (s ∷ ss) more [] e h = cc
+privates_read (s ∷ ss) more (i ∷ is) e h =
     let first : option_map as_value i ≡ s.init = cc in
     let behind : map (option_map as_value) is ≡ map (λ x. x.init) ss = cc in
     let parts = and_parts (is_some s.init) (list_all (λ x. is_some x.init) ss) h in
     let init : Some (value_or (option_map as_value i) (zero_of s.sort)) ≡ s.init = kept_init (option_map as_value i) (zero_of s.sort) (ap is_some first ∙ parts.0) ∙ first in
-    ap (λ x. (record { state_name = s.state_name; sort = s.sort; init = x }) ∷ private_states (map state_entry ss) is) init ∙ ap (λ r. s ∷ r) (privates_read ss is behind parts.1)
+    ap (λ x. (record { state_name = s.state_name; sort = s.sort; init = x }) ∷ private_states (map state_entry ss ++ more) is) init ∙ ap (λ r. s ∷ r) (privates_read ss more is behind parts.1)
 
 drop_front : (xs ys : Entries Sort) → drop (length xs) (xs ++ ys) ≡ ys
 drop_front [] ys = refl
 drop_front (x ∷ xs) ys = drop_front xs ys
 
-pub privates_put : (g h : Graph) (ss : List StateDeclaration) (is : List (Option Value)) (first : ℕ) → first ≡ length g.names → h.names ≡ g.names ++ map state_entry ss
-    → map (option_map as_value) is ≡ map (λ s. s.init) ss → list_all (λ s. is_some s.init) ss ≡ true → private_states (drop first h.names) is ≡ ss
-privates_put g h ss is first f e v a =
-    ap (λ ns. private_states (drop first ns) is) e ∙ (ap (λ k. private_states (drop k (g.names ++ map state_entry ss)) is) f
-    ∙ (ap (λ ns. private_states ns is) (drop_front g.names (map state_entry ss)) ∙ privates_read ss is v a))
+pub privates_put : (g h : Graph) (ss : List StateDeclaration) (c : Child) → c.first.0 ≡ length g.names → h.names ≡ g.names ++ map state_entry ss
+    → map (option_map as_value) c.initial_values.items ≡ map (λ s. s.init) ss → list_all (λ s. is_some s.init) ss ≡ true → (k : Graph) → IsWider h k → privates_of k c ≡ ss
+privates_put g h ss c f e v a k b =
+    let is = c.initial_values.items in
+    let own = map state_entry ss in
+    let names : k.names ≡ g.names ++ (own ++ b.more) = b.names ∙ (ap (λ ns. ns ++ b.more) e ∙ append_assoc g.names own b.more) in
+    ap (λ ns. private_states (drop c.first.0 ns) is) names ∙ (ap (λ j. private_states (drop j (g.names ++ (own ++ b.more))) is) f
+    ∙ (ap (λ ns. private_states ns is) (drop_front g.names (own ++ b.more)) ∙ privates_read ss b.more is v a))
 
 -- the states are declared, and then the machine's own terms are put
 pub child_put : (g m h : Graph) (t r u : BTreeMap (Bor (List ℕ)) TermId) (links : List (Option ChildId)) (w : WrittenMachine) (ss : List StateDeclaration) (c : Child)
@@ -112,7 +117,7 @@ pub child_put : (g m h : Graph) (t r u : BTreeMap (Bor (List ℕ)) TermId) (link
 unfolding IsChildPut IsMachinePut
 child_put g m h t r u links w ss c e wide ns keep table grown put first values all =
     let ns' = grown.names ∙ ns in (
-      privates_put g h ss c.initial_values.items c.first.0 first ns' values all ∙ e,
+      λ n b. privates_put g h ss c first ns' values all n b ∙ e,
       subst (λ own. (names : Entries Visible) (ks : List ℕ) (os : List StateDeclaration) → Knows g t None names → StandAt g 0 ks os → IsMachineRight (with_states names own) (os ++ own) w → IsInside h u links w c (with_states names own) (os ++ own)) e
           (λ names ks os k s right.
           let ks' = ks ++ places_from (length g.names) ss in

@@ -9,3 +9,4 @@ mod InstructionLemmas
 mod MachineLemmas
 mod ChildLemmas
 mod ProgramLemmas
+mod InsideLemmas

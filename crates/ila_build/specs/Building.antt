@@ -1,5 +1,5 @@
 -- When a machine of the code's model has the terms of a written one.
-use Rattle.std.specs.Prelude.{ℕ, suc, ◌<◌, ◌≡◌, true, List, drop, ◌++◌, [], ◌∷◌, map, length, ⊤, Option, None, slice_index_or}
+use Rattle.std.specs.Prelude.{ℕ, suc, ◌<◌, ◌≡◌, true, List, ◌++◌, [], ◌∷◌, map, length, ⊤, Option, None, slice_index_or}
 use Rattle.std.specs.Borrow.{Bor}
 use Rattle.std.specs.BTreeMap.{BTreeMap}
 use Rattle.std.specs.String.{string_bytes}
@@ -14,7 +14,8 @@ use Rattle.ila_model.specs.declared.parts.Update.{Update}
 use Rattle.ila_model.specs.declared.parts.Instruction.{Instruction}
 use Rattle.ila_model.specs.declared.parts.ChildId.{ChildId}
 use Rattle.ila_model.specs.declared.parts.Child.{Child}
-use Rattle.ila_model.specs.Meaning.{private_states}
+use Rattle.ila_model.specs.Meaning.{privates_of}
+use Rattle.ila_build.specs.Standing.{IsWider}
 use Rattle.ila_build.specs.Knowing.{Knows, is_right, are_right}
 use Rattle.ila_build.specs.Updating.{StandAt, AreUpdates}
 
@@ -113,8 +114,8 @@ pub record IsInside (g : Graph) (t : BTreeMap (Bor (List ℕ)) TermId) (links : 
   pub states : StandAt g 0 places ss
   pub machine : IsMachine g names ss links m c.valid c.instructions.items
 
--- A child program was put: its private states are the machine's, and where no rule refuses its own terms, they are too.
+-- A child program was put: in any wider store its private states are the machine's, and where no rule refuses its own terms, they are too.
 unfoldable pub IsChildPut : Graph → BTreeMap (Bor (List ℕ)) TermId → Graph → BTreeMap (Bor (List ℕ)) TermId → List (Option ChildId) → WrittenMachine → Child → Type 0
-IsChildPut g t h u links m c = (private_states (drop c.first.0 h.names) c.initial_values.items ≡ states_in m)
+IsChildPut g t h u links m c = ((k : Graph) → IsWider h k → privates_of k c ≡ states_in m)
     × ((names : Entries Visible) (ks : List ℕ) (ss : List StateDeclaration) → Knows g t None names → StandAt g 0 ks ss
     → IsMachineRight (with_states names (states_in m)) (ss ++ states_in m) m → IsInside h u links m c (with_states names (states_in m)) (ss ++ states_in m))

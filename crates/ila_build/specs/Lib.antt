@@ -3,3 +3,4 @@ pub mod Knowing
 pub mod Declaring
 pub mod Updating
 pub mod Building
+pub mod Inside

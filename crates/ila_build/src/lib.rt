@@ -2,9 +2,11 @@
 #![tactic(auto)]
 
 mod child;
+mod counting;
 mod declaring;
 mod defining;
 mod empty;
+mod inside;
 mod instructions;
 mod machine;
 mod nodes;
@@ -19,6 +21,7 @@ pub use child::put_child;
 pub use declaring::{declare_inputs, declare_states, initial_values};
 pub use defining::put_definitions;
 pub use empty::empty_table;
+pub use inside::put_children;
 pub use instructions::put_instructions;
 pub use machine::put_machine;
 pub use putting::put_term;
