@@ -1,5 +1,5 @@
 -- Child programs inside one another: what no rule refuses in a machine, and each child's id read as the child that it stands for.
-use Rattle.std.proofs.Common.{◌≡◌, ℕ, zero, suc, ◌+◌, ◌<◌, ◌≤◌, true, List, [], ◌∷◌, ◌++◌, length, Bor, Option, Some, None, refl, sym, ap, ◌∙◌, subst, arith, length-append, append_assoc}
+use Rattle.std.proofs.Common.{◌≡◌, ℕ, zero, suc, ◌+◌, ◌≤◌, max, true, List, [], ◌∷◌, ◌++◌, length, Bor, Option, Some, None, refl, sym, ap, ◌∙◌, subst, arith, length-append, append_assoc}
 use Rattle.std.proofs.lemmas.Bool.{and_parts}
 use Rattle.std.proofs.lemmas.List.{append-nil}
 use Rattle.std.proofs.Math.Seq.{get_or-append_seam}
@@ -98,6 +98,9 @@ more_onward {cs} {ds} {es} {m} {n} a b = record {
   count = omega (arith, a.count, b.count);
 }
 
+more_by : {cs ds : List Child} {m n : ℕ} → m ≡ n → HasMore cs m ds → HasMore cs n ds
+more_by {cs} {ds} e a = subst (λ n. HasMore cs n ds) e a
+
 pub stands_later : (g h : Graph) (cs ds : List Child) (n : ℕ) (scope : Scope) (link : Option ChildId) (p : WrittenChild) → IsWider g h → HasMore cs n ds → StandsForChild g cs scope link p → StandsForChild h ds scope link p
 stands_later g h cs ds n scope link p b m s k behind l wide d =
     let list : ds ++ behind ≡ cs ++ (m.more ++ behind) = ap (λ xs. xs ++ behind) m.list ∙ append_assoc cs m.more behind in
@@ -159,7 +162,7 @@ pub program_put : (g h m : Graph) (t r u : BTreeMap (Bor (List ℕ)) TermId) (li
 program_put g h m t r u links cs mid ds (machine ss es f v is) steps c wide keep es' put em el inside =
     let w = machine ss es f v is in
     let one : HasMore cs 1 mid = record { more = c ∷ []; list = em; count = omega (arith, ap length em, length-append cs (c ∷ [])) } in
-    let all : HasMore cs (1 + length (machines_below is)) ds = more_onward one inside.longer in
+    let all : HasMore cs (suc (length (machines_below is))) ds = more_by (omega arith) (more_onward one inside.longer) in
     record {
       wider = widen wide inside.wider;
       kept = kept_onward t r u keep inside.kept;

@@ -9,4 +9,5 @@ mod InstructionLemmas
 mod MachineLemmas
 mod ChildLemmas
 mod ProgramLemmas
+mod WrittenParts
 mod InsideLemmas
