@@ -1,0 +1,13 @@
+mod Growing
+mod Refused
+mod Arms
+mod Sorting
+mod Definitions
+mod Declared
+mod Chosen
+mod InstructionLemmas
+mod MachineLemmas
+mod ChildLemmas
+mod ProgramLemmas
+mod WrittenParts
+mod InsideLemmas

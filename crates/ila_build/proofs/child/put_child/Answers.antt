@@ -1,0 +1,14 @@
+use Rattle.std.proofs.Common.{◌∙◌, map, sym}
+use Rattle.ila_file.specs.View.{machine_view, state_view}
+use Rattle.ila_build.proofs.Definitions.{kept_onward}
+use Rattle.ila_build.proofs.ChildLemmas.{child_put}
+use Rattle.ila_build.proofs.child.put_child.Goals as goal
+
+pub returns-clause-kept : goal.returns-clause-kept
+returns-clause-kept c = kept_onward c.args.known.now c.declare_states.new.known c.put_machine.new.known c.in_ok-declare_states.ensures.kept c.in_ok-valid.ensures.kept
+
+pub returns-clause-put : goal.returns-clause-put
+returns-clause-put c =
+    child_put c.args.terms.now c.declare_states.new.terms c.put_machine.new.terms c.args.known.now c.declare_states.new.known c.put_machine.new.known c.args.links.now (machine_view c.args.machine.now) (map state_view c.states_of-states.result.now) _
+    c.states_of-states.ensures c.in_ok-declare_states.ensures.wider c.in_ok-declare_states.ensures.names c.in_ok-declare_states.ensures.kept c.in_ok-declare_states.ensures.table c.in_ok-valid.ensures.grown c.in_ok-valid.ensures.put
+    c.name_count.ensures.names c.in-Ok.ensures (sym c.have_values.ensures ∙ c.if-not-have_values.false)

@@ -1,0 +1,8 @@
+use Rattle.std.proofs.Common.{drop}
+use Rattle.ila_file.specs.View.{instructions_view}
+use Rattle.ila_build.proofs.InsideLemmas.{AreToPutInside}
+use Rattle.ila_build.proofs.inside.+inside.Given as goal
+
+abbrev pub invariant-put_children-loop-instruction : goal.invariant-put_children-loop-instruction
+invariant-put_children-loop-instruction l =
+    AreToPutInside l.initial.terms l.initial.known l.initial.children.items l.terms l.known l.children.items (instructions_view (drop l.instruction-index l.instruction-items)) (instructions_view l.instruction-items)

@@ -1,0 +1,8 @@
+use Rattle.std.proofs.Common.{drop}
+use Rattle.ila_file.specs.View.{instructions_view}
+use Rattle.ila_build.specs.Standing.{IsGrown}
+use Rattle.ila_build.proofs.InstructionLemmas.{AreToPut}
+use Rattle.ila_build.proofs.instructions.put_instructions.Given as goal
+
+abbrev pub invariant-loop-place : goal.invariant-loop-place
+invariant-loop-place l = IsGrown l.fn.terms l.terms × AreToPut l.fn.terms l.known l.fetch l.terms l.links l.put.items l.place (instructions_view (drop l.place l.instructions)) (instructions_view l.instructions)

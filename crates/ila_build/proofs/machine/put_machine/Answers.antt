@@ -1,0 +1,33 @@
+use Rattle.std.proofs.Common.{map, None}
+use Rattle.ila_file.specs.View.{definition_view, fetch_view, term_view, instructions_view, machine_view}
+use Rattle.ila_build.proofs.Growing.{onward, wider, are_in-grown}
+use Rattle.ila_build.proofs.Declared.{in_table, table_grown}
+use Rattle.ila_build.proofs.MachineLemmas.{machine_put}
+use Rattle.ila_build.proofs.machine.put_machine.Goals as goal
+
+pub put_definitions-requires : goal.put_definitions-requires
+put_definitions-requires c = in_table c.args.terms.now c.args.known.now c.requires
+
+pub put_instructions-requires-clause-table : goal.put_instructions-requires-clause-table
+put_instructions-requires-clause-table c =
+    let one = c.in_ok-put_definitions.ensures.grown in
+    let two = onward c.in_ok-fetch.ensures.grown c.in_ok-valid.ensures.0 in
+    let all = onward one two in
+    table_grown c.args.terms.now c.put_term.new.terms c.args.known.now c.put_definitions.new.known (wider all) all.names c.in_ok-put_definitions.ensures.kept (are_in-grown c.put_definitions.new.terms c.put_term.new.terms c.put_definitions.new.known None two c.in_ok-put_definitions.ensures.in_store) c.requires
+
+pub put_instructions-requires-clause-in_store : goal.put_instructions-requires-clause-in_store
+put_instructions-requires-clause-in_store c = are_in-grown c.put_fetch.new.terms c.put_term.new.terms c.put_definitions.new.known c.in_ok-fetch.fetch c.in_ok-valid.ensures.0 c.in_ok-fetch.ensures.in_store
+
+pub returns-clause-table : goal.returns-clause-table
+returns-clause-table c =
+    let one = c.in_ok-put_definitions.ensures.grown in
+    let two = onward c.in_ok-fetch.ensures.grown (onward c.in_ok-valid.ensures.0 c.in_ok-instructions.ensures.grown) in
+    let all = onward one two in
+    table_grown c.args.terms.now c.put_instructions.new.terms c.args.known.now c.put_definitions.new.known (wider all) all.names c.in_ok-put_definitions.ensures.kept (are_in-grown c.put_definitions.new.terms c.put_instructions.new.terms c.put_definitions.new.known None two c.in_ok-put_definitions.ensures.in_store) c.requires
+
+pub returns-clause-put : goal.returns-clause-put
+returns-clause-put c =
+    machine_put c.args.terms.now c.put_definitions.new.terms c.put_fetch.new.terms c.put_term.new.terms c.put_instructions.new.terms c.args.known.now c.put_definitions.new.known c.args.links.now (machine_view c.args.machine.now)
+    (map definition_view c.definitions_of.result.now) (fetch_view c.fetch_of.result.now) (term_view c.valid_of.result.now) (instructions_view c.instructions_of.result.now) c.in_ok-fetch.fetch c.in_ok-valid.valid c.in_ok-instructions.instructions.items
+    c.definitions_of.ensures c.fetch_of.ensures c.valid_of.ensures c.instructions_of.ensures
+    c.in_ok-put_definitions.ensures.grown c.in_ok-put_definitions.ensures.defined c.in_ok-fetch.ensures.grown c.in_ok-fetch.ensures.fetched c.in_ok-valid.ensures c.in_ok-instructions.ensures.grown c.in_ok-instructions.ensures.put

@@ -1,0 +1,6 @@
+pub mod Standing
+pub mod Knowing
+pub mod Declaring
+pub mod Updating
+pub mod Building
+pub mod Inside

@@ -1,0 +1,86 @@
+//! The child programs of a machine, and those inside them, in the order of the file.
+
+ghost use Rattle.std.specs.Prelude.{◌≡◌, OnOk};
+ghost use Rattle.ila_file.specs.View.{child_view, instruction_view, machine_view};
+ghost use Rattle.ila_build.specs.Standing.{IsTable};
+ghost use Rattle.ila_build.specs.Building.{instructions_in};
+ghost use Rattle.ila_build.specs.Inside.{AreChildrenPut, IsProgramPut, program_in};
+
+use crate::child::put_child;
+use crate::counting::links_of;
+use ila_file::{WrittenChild, WrittenInstruction, WrittenMachine};
+use ila_model::{Child, ChildId};
+use std::alloc::Global;
+use std::collections::BTreeMap;
+use wb_terms::{PutStop, TermId, Terms};
+
+/// Appends the child programs of a machine's instructions, and those inside them. They are run from the child with this id,
+/// or from the top.
+#[cycle(inside)]
+pub fn put_children<'v>(
+    alloc: Global,
+    terms: &mut Terms,
+    known: &mut BTreeMap<&'v [u8], TermId>,
+    children: &mut Vec<Child>,
+    machine: &WrittenMachine<'v>,
+    around: Option<ChildId>,
+) -> Result<(), PutStop>
+    requires { IsTable terms.old known.old }
+    ensures { OnOk result (AreChildrenPut terms.old known.old children.old.items terms.new known.new children.new.items (instructions_in (machine_view machine.now))) }
+{
+    for instruction in machine.instructions.iter() {
+        put_child_of(alloc, terms, known, children, instruction, around)?;
+    }
+    Ok(())
+}
+
+/// Appends the child program of an instruction, if it has one, and those inside it.
+#[cycle(inside)]
+fn put_child_of<'v>(
+    alloc: Global,
+    terms: &mut Terms,
+    known: &mut BTreeMap<&'v [u8], TermId>,
+    children: &mut Vec<Child>,
+    instruction: &WrittenInstruction<'v>,
+    around: Option<ChildId>,
+) -> Result<(), PutStop>
+    requires { IsTable terms.old known.old }
+    ensures { OnOk result (IsProgramPut terms.old known.old children.old.items terms.new known.new children.new.items (program_in (instruction_view instruction.now))) }
+{
+    match &instruction.child {
+        Some(child) => {
+            put_program(alloc, terms, known, children, child, around)?;
+            Ok(())
+        }
+        None => Ok(()),
+    }
+}
+
+/// Appends a child program and those inside it.
+#[cycle(inside)]
+fn put_program<'v>(
+    alloc: Global,
+    terms: &mut Terms,
+    known: &mut BTreeMap<&'v [u8], TermId>,
+    children: &mut Vec<Child>,
+    child: &WrittenChild<'v>,
+    around: Option<ChildId>,
+) -> Result<(), PutStop>
+    requires { IsTable terms.old known.old }
+    ensures { OnOk result (IsProgramPut terms.old known.old children.old.items terms.new known.new children.new.items (child_view child.now)) }
+{
+    let id = children.len();
+    let Some(next) = id.checked_add(1) else {
+        return Err(PutStop::NoMemory);
+    };
+    let machine = &child.machine;
+    let Ok(links) = links_of(alloc, machine, next) else {
+        return Err(PutStop::NoMemory);
+    };
+    let own = put_child(alloc, terms, known, child.steps, machine, around, &links)?;
+    if children.push(own).is_err() {
+        return Err(PutStop::NoMemory);
+    }
+    put_children(alloc, terms, known, children, machine, Some(ChildId(id)))?;
+    Ok(())
+}
