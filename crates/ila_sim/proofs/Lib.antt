@@ -1,0 +1,4 @@
+mod Digits
+mod Words
+mod Last
+mod UnderNames

@@ -1,0 +1,4 @@
+pub mod Cuts
+pub mod Names
+pub mod Places
+pub mod Sets
