@@ -2,3 +2,5 @@ mod Digits
 mod Words
 mod Last
 mod UnderNames
+mod Found
+mod Apart

@@ -175,9 +175,12 @@ other_last (b ∷ []) (suc k) d h e = absurd (omega (arith, h))
 other_last (a ∷ b ∷ bs) zero d h e = absurd (omega (arith, h))
 other_last (a ∷ b ∷ bs) (suc k) d h e = ap (λ xs. a ∷ xs) (other_last (b ∷ bs) k d (omega (arith, h)) e)
 
+is_some_count : (n : ℕ) → (suc n == 0) ≡ false
+is_some_count n = grind (arith, nat_tests)
+
 pub is_empty : (xs : List ℕ) (t : Bool) → t ≡ (length xs == 0) → t ≡ true → xs ≡ []
 is_empty [] t e h = refl
-is_empty (x ∷ xs) t e h = absurd (false≢true (sym (e) ∙ h))
+is_empty (x ∷ xs) t e h = absurd (false≢true (sym (e ∙ is_some_count (length xs)) ∙ h))
 
 pub is_full : (xs : List ℕ) (t : Bool) → t ≡ (length xs == 0) → t ≡ false → 1 ≤ length xs
 is_full [] t e h = absurd (false≢true (sym h ∙ e))

@@ -1,6 +1,6 @@
 //! Names found by a table.
 
-ghost use Rattle.std.specs.Prelude.{◌≡◌, ℕ, List, IfOk, cond, Some, None, map, true, IsTrue};
+ghost use Rattle.std.specs.Prelude.{◌≡◌, ◌<◌, ℕ, List, length, IfOk, IfSome, cond, Some, None, map, true, IsTrue};
 ghost use Rattle.wb_meaning.specs.Value.{same_name};
 ghost use Rattle.wb_meaning.specs.Verilog.Hierarchy.{first_of};
 ghost use Rattle.ila_sim.specs.Names.{settable_of, are_apart};
@@ -63,7 +63,8 @@ impl<'a> Index<'a> {
 
 /// The place of a name.
 pub(crate) fn place_of<'a>(index: &Index<'a>, name: &'a [u8]) -> Option<usize>
-    ensures { result ≡ place_from 0 (map settable_of index.now.settables.now) name.now }
+    ensures place { result ≡ place_from 0 (map settable_of index.now.settables.now) name.now }
+    ensures within { IfSome result (λ k. k < length index.now.settables.now) }
 {
     index.table.get(&name).copied()
 }

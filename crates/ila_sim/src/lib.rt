@@ -3,10 +3,15 @@
 
 mod cuts;
 mod index;
+mod line;
 mod names;
 mod numbers;
+mod script;
+mod set;
 mod sets;
+mod stop;
 
 pub use names::{Kind, Settable};
-pub use sets::Set;
+pub use script::Script;
+pub use set::Set;
 pub use wb_terms::NoMemory;

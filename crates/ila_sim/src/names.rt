@@ -1,6 +1,7 @@
 //! What a script may set.
 
-ghost use Rattle.ila_sim.specs.Names.{IsNarrow};
+ghost use Rattle.std.specs.Prelude.{◌≤◌, ◌^◌};
+ghost use Rattle.ila_sim.specs.Kinds.{width_of, end_of};
 
 /// Which values fit, and which words there are.
 #[derive(Clone, Copy, PartialEq, Eq, Debug)]
@@ -18,5 +19,6 @@ pub enum Kind {
 pub struct Settable {
     pub name: Vec<u8>,
     pub kind: Kind,
-    pub ghost narrow: { IsNarrow kind },
+    pub ghost narrow: { width_of kind ≤ 128 },
+    pub ghost near: { end_of kind ≤ 2 ^ 64 },
 }

@@ -1,31 +1,27 @@
 //! Settings of words to values.
 
-ghost use Rattle.std.specs.Prelude.{◌≡◌, ℕ, ◌<◌, ◌^◌, ◌-◌, ◌*◌, ◌+◌, Option, Some, None, option_map, IfOk, IfSome, map, length};
-ghost use Rattle.wb_meaning.specs.Script.{at_last, before_bracket, word_at_address, word_named, fitting, set_named, set_in, settable_named, are_distinct_sets};
+ghost use Rattle.std.specs.Prelude.{◌≡◌, ℕ, ◌<◌, ◌≤◌, ◌^◌, ◌-◌, ◌*◌, ◌+◌, Option, Some, None, option_map, IfOk, IfSome, map, length, IsTrue};
+ghost use Rattle.wb_meaning.specs.Script.{at_last, before_bracket, word_at_address, word_named, fitting, set_of, set_named, set_in, sets_in, all_sets, words_of, settable_named, are_distinct_sets};
 ghost use Rattle.ila_sim.specs.Cuts.{below, cut_at};
-ghost use Rattle.ila_sim.specs.Names.{IsNarrow, addresses_of, fits_of, settable_of};
-ghost use Rattle.ila_sim.specs.Sets.{set_called, set_at, key_of, are_distinct_numbers};
+ghost use Rattle.ila_sim.specs.Kinds.{width_of, addresses_of, fits_of};
+ghost use Rattle.ila_sim.specs.Names.{settable_of};
+ghost use Rattle.ila_sim.specs.Reading.{IsReading};
+ghost use Rattle.ila_sim.specs.Sets.{are_within, set_called, set_at, key_of, are_distinct_numbers};
 
 use crate::cuts::last_place;
 use crate::index::{Index, place_of};
 use crate::names::{Kind, Settable};
 use crate::numbers::number_in;
+use crate::set::Set;
+use crate::cuts::next_word;
+use crate::stop::Stop;
 use std::alloc::{AllocError, Global};
 use std::collections::BTreeSet;
 use wb_bits::mask;
 
-/// One word set to a value: of a name by its place in the list of its kind, and of a memory by the word's number from its least
-/// address; another name has the word 0 alone.
-#[derive(Clone, Copy, PartialEq, Eq, Debug)]
-pub struct Set {
-    pub place: usize,
-    pub word: u64,
-    pub value: u128,
-}
-
 /// Whether a value fits a word of this kind.
 fn fits(kind: Kind, value: u128) -> bool
-    requires { IsNarrow kind }
+    requires { width_of kind ≤ 128 }
     ensures { (word : ℕ) → result ≡ fits_of kind word value }
 {
     match kind {
@@ -127,4 +123,60 @@ fn are_distinct(alloc: Global, sets: &[Set]) -> Result<bool, AllocError>
         }
     }
     Ok(true)
+}
+
+/// What stands before `=`, set to a value: `name`, or `memory[address]`.
+fn set_of<'a>(index: &Index<'a>, left: &'a [u8], value: Option<u128>) -> Option<Set>
+    ensures set { option_map (set_at (map settable_of index.now.settables.now)) result ≡ set_of (map settable_of index.now.settables.now) left.now (at_last 91 left.now) value }
+    ensures place { IfSome result (λ s. s.place < length index.now.settables.now) }
+{
+    match last_place(left, b'[') {
+        None => set_named(index, left, None, value),
+        Some(open) => {
+            let address = before_bracket(&left[open + 1..]);
+            set_named(index, &left[..open], Some(address), value)
+        }
+    }
+}
+
+/// A word `name=value` or `memory[address]=value`.
+fn set_in<'a>(index: &Index<'a>, text: &'a [u8]) -> Option<Set>
+    ensures set { option_map (set_at (map settable_of index.now.settables.now)) result ≡ set_in (map settable_of index.now.settables.now) text.now }
+    ensures place { IfSome result (λ s. s.place < length index.now.settables.now) }
+{
+    match last_place(text, b'=') {
+        None => None,
+        Some(equals) => set_of(index, &text[..equals], number_in(&text[equals + 1..])),
+    }
+}
+
+/// The settings of a line's words.
+fn all_sets<'a>(alloc: Global, index: &Index<'a>, line: &'a [u8]) -> Result<Vec<Set>, Stop>
+    ensures sets { IsReading (λ s. map (set_at (map settable_of index.now.settables.now)) s.items) result (all_sets (map settable_of index.now.settables.now) (words_of line.now)) }
+    ensures places { IfOk result (λ s. IsTrue (are_within (length index.now.settables.now) s.items)) }
+{
+    let mut sets = Vec::new(alloc);
+    let mut rest = line;
+    while let Some((word, next)) = next_word(rest) {
+        let set = set_in(index, word).ok_or(Stop::Refused)?;
+        sets.push(set)?;
+        rest = next;
+    }
+    Ok(sets)
+}
+
+/// The settings of a line's words, no word of a name set twice.
+pub(crate) fn sets_in<'a>(
+    alloc: Global,
+    index: &Index<'a>,
+    line: &'a [u8],
+) -> Result<Vec<Set>, Stop>
+    ensures sets { IsReading (λ s. map (set_at (map settable_of index.now.settables.now)) s.items) result (sets_in (map settable_of index.now.settables.now) (words_of line.now)) }
+    ensures places { IfOk result (λ s. IsTrue (are_within (length index.now.settables.now) s.items)) }
+{
+    let sets = all_sets(alloc, index, line)?;
+    if !are_distinct(alloc, &sets)? {
+        return Err(Stop::Refused);
+    }
+    Ok(sets)
 }
