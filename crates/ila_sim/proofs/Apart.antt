@@ -6,7 +6,7 @@ use Rattle.std.proofs.lemmas.Bool.Decides.{nat_tests}
 use Rattle.std.proofs.lemmas.Bool.{false≢true}
 use Rattle.std.proofs.lemmas.Slice.Eq.{bytes_eq-Decides}
 use Rattle.std.proofs.Math.Nat.{mul-le-mul_right}
-use Rattle.std.proofs.Math.Seq.{length-map}
+use Rattle.std.proofs.lemmas.List.{length-map}
 use Rattle.wb_meaning.specs.Term.{some_if}
 use Rattle.ila_sim.specs.declared.names.Settable.{Settable}
 use Rattle.wb_meaning.specs.Value.{Name, same_name}
@@ -79,7 +79,7 @@ are_other : (x y : ℕ) → (x == y) ≡ false → x ≢ y
 are_other x y e = grind (arith, nat_tests)
 
 apart_by : (i k x y : ℕ) → i ≢ k → (i < k → x < y) → (k < i → y < x) → x ≢ y
-apart_by i k x y n f g = λ e. split (nat_lt i k) refl where
+apart_by i k x y n f g e = split (nat_lt i k) refl where
   less : (a b : ℕ) → nat_lt a b ≡ true → a < b
   less a b h = grind (arith, nat_tests)
   more : (a b : ℕ) → nat_lt a b ≡ false → a ≢ b → b < a
@@ -113,14 +113,20 @@ is_less a b h = grind (arith, nat_tests)
 any_same : (ss : List meaning.Settable) (s : Set) (sets : List Set) → are_apart ss ≡ true → s.place < length ss → are_within (length ss) sets ≡ true
     → list_any (λ m. key_of s == m) (map key_of sets) ≡ list_any (is_same_word (set_at ss s)) (map (set_at ss) sets)
 any_same ss s [] a h g = refl
-any_same ss s (t ∷ sets) a h g = rw (word_same ss s t a h (is_less _ _ (left_part _ _ g)), any_same ss s sets a h (right_part _ _ g)) refl
+any_same ss s (t ∷ sets) a h g =
+    let here : t.place < length ss = is_less t.place (length ss) (left_part (nat_lt t.place (length ss)) (are_within (length ss) sets) g) in
+    let rest : are_within (length ss) sets ≡ true = right_part (nat_lt t.place (length ss)) (are_within (length ss) sets) g in
+    rw (word_same ss s t a h here, any_same ss s sets a h rest) refl
 
 all_same : (ss : List meaning.Settable) (sets : List Set) → are_apart ss ≡ true → are_within (length ss) sets ≡ true → are_distinct_numbers (map key_of sets) ≡ are_distinct_sets (map (set_at ss) sets)
 all_same ss [] a g = refl
-all_same ss (s ∷ sets) a g = rw (any_same ss s sets a (is_less _ _ (left_part _ _ g)) (right_part _ _ g), all_same ss sets a (right_part _ _ g)) refl
+all_same ss (s ∷ sets) a g =
+    let here : s.place < length ss = is_less s.place (length ss) (left_part (nat_lt s.place (length ss)) (are_within (length ss) sets) g) in
+    let rest : are_within (length ss) sets ≡ true = right_part (nat_lt s.place (length ss)) (are_within (length ss) sets) g in
+    rw (any_same ss s sets a here rest, all_same ss sets a rest) refl
 
 pub distinct_found : (es : List Settable) (sets : List Set) (o : Option (List meaning.Set)) (b : Bool) → o ≡ Some (map (set_at (map settable_of es)) sets) → b ≡ are_distinct_numbers (map key_of sets)
     → are_apart (map settable_of es) ≡ true → are_within (length es) sets ≡ true → if_distinct o ≡ some_if b (map (set_at (map settable_of es)) sets)
 distinct_found es sets o b e f a g =
-    let within : are_within (length (map settable_of es)) sets ≡ true = subst (λ n. are_within n sets ≡ true) (sym (length-map settable_of es)) g in
+    let within : are_within (length (map settable_of es)) sets ≡ true = subst (λ n. are_within n sets ≡ true) (sym (length-map es settable_of)) g in
     ap if_distinct e ∙ ap (λ t. some_if t (map (set_at (map settable_of es)) sets)) (sym (f ∙ all_same (map settable_of es) sets a within))

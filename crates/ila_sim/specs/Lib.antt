@@ -6,3 +6,4 @@ pub mod Sets
 pub mod Reading
 pub mod Lines
 pub mod Scripts
+pub mod Settables

@@ -6,12 +6,15 @@ mod index;
 mod line;
 mod names;
 mod numbers;
+mod reading;
 mod script;
 mod set;
 mod sets;
+mod settables;
 mod stop;
 
 pub use names::{Kind, Settable};
 pub use script::Script;
 pub use set::Set;
+pub use settables::Names;
 pub use wb_terms::NoMemory;

@@ -1,11 +1,13 @@
 //! Scripts, read line by line.
 
-ghost use Rattle.std.specs.Prelude.{◌≡◌, map};
+ghost use Rattle.std.specs.Prelude.{◌≡◌, map, length, IsTrue, IfOk};
+ghost use Rattle.std.specs.List.{list_all};
 ghost use Rattle.wb_meaning.specs.Script.{line_in, inputs_in, script_in, without_skipped, lines_of};
 ghost use Rattle.ila_sim.specs.Cuts.{lines_left};
 ghost use Rattle.ila_sim.specs.Reading.{IsReading};
-ghost use Rattle.ila_sim.specs.Lines.{found_view, line_view, sets_view, input_of};
-ghost use Rattle.ila_sim.specs.Scripts.{script_view};
+ghost use Rattle.ila_sim.specs.Lines.{found_view, line_view, sets_view, input_of, is_line_within};
+ghost use Rattle.ila_sim.specs.Sets.{are_within};
+ghost use Rattle.ila_sim.specs.Scripts.{script_view, is_script_within};
 
 use crate::cuts::{has_return, next_kept, next_word};
 use crate::line::{Found, Line};
@@ -23,7 +25,8 @@ pub struct Script {
 
 /// A line that is not skipped.
 fn line_in<'a>(alloc: Global, names: &Found<'a>, line: &'a [u8]) -> Result<Line, Stop>
-    ensures { IsReading (line_view (found_view names.now)) result (line_in (found_view names.now) line.now) }
+    ensures line { IsReading (line_view (found_view names.now)) result (line_in (found_view names.now) line.now) }
+    ensures places { IfOk result (λ l. IsTrue (is_line_within (found_view names.now) l)) }
 {
     if has_return(line) {
         return Err(Stop::Refused);
@@ -31,11 +34,11 @@ fn line_in<'a>(alloc: Global, names: &Found<'a>, line: &'a [u8]) -> Result<Line,
     match next_word(line) {
         None => Err(Stop::Refused),
         Some((word, rest)) => {
-            if word == b"state" {
+            if word == b"state".as_slice() {
                 let sets = sets_in(alloc, &names.states, rest)?;
                 return Ok(Line::State(sets));
             }
-            if word == b"in" {
+            if word == b"in".as_slice() {
                 let sets = sets_in(alloc, &names.inputs, rest)?;
                 return Ok(Line::Input(sets));
             }
@@ -46,7 +49,8 @@ fn line_in<'a>(alloc: Global, names: &Found<'a>, line: &'a [u8]) -> Result<Line,
 
 /// A line that sets inputs.
 fn input_in<'a>(alloc: Global, names: &Found<'a>, line: &'a [u8]) -> Result<Vec<Set>, Stop>
-    ensures { IsReading (λ s. sets_view (found_view names.now).inputs s.items) result (input_of (line_in (found_view names.now) line.now)) }
+    ensures sets { IsReading (λ s. sets_view (found_view names.now).inputs s.items) result (input_of (line_in (found_view names.now) line.now)) }
+    ensures places { IfOk result (λ s. IsTrue (are_within (length (found_view names.now).inputs) s.items)) }
 {
     match line_in(alloc, names, line)? {
         Line::Input(sets) => Ok(sets),
@@ -60,7 +64,8 @@ fn inputs_in<'a>(
     names: &Found<'a>,
     left: Option<&'a [u8]>,
 ) -> Result<Vec<Vec<Set>>, Stop>
-    ensures { IsReading (λ v. map (λ s. sets_view (found_view names.now).inputs s.items) v.items) result (inputs_in (found_view names.now) (without_skipped (lines_left left.entry))) }
+    ensures inputs { IsReading (λ v. map (λ s. sets_view (found_view names.now).inputs s.items) v.items) result (inputs_in (found_view names.now) (without_skipped (lines_left left.entry))) }
+    ensures places { IfOk result (λ v. IsTrue (list_all (λ s. are_within (length (found_view names.now).inputs) s.items) v.items)) }
 {
     let mut inputs = Vec::new(alloc);
     let mut rest = left;
@@ -78,7 +83,8 @@ pub(crate) fn script_in<'a>(
     names: &Found<'a>,
     text: &'a [u8],
 ) -> Result<Script, Stop>
-    ensures { IsReading (script_view (found_view names.now)) result (script_in (found_view names.now) (without_skipped (lines_of text.now))) }
+    ensures script { IsReading (script_view (found_view names.now)) result (script_in (found_view names.now) (without_skipped (lines_of text.now))) }
+    ensures places { IfOk result (λ s. IsTrue (is_script_within (found_view names.now) s)) }
 {
     match next_kept(Some(text)) {
         None => Ok(Script {
