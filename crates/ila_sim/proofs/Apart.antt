@@ -28,11 +28,11 @@ same_both m n h = subst (λ x. same_name x m ≡ true) ((bytes_eq-Decides m n).0
 turned : (m n : Name) → same_name m n ≡ same_name n m
 turned m n = by_value (same_name m n) (same_name n m) (same_both m n) (same_both n m)
 
-left_part : (a b : Bool) → (a && b) ≡ true → a ≡ true
+pub left_part : (a b : Bool) → (a && b) ≡ true → a ≡ true
 left_part true b e = refl
 left_part false b e = e
 
-right_part : (a b : Bool) → (a && b) ≡ true → b ≡ true
+pub right_part : (a b : Bool) → (a && b) ≡ true → b ≡ true
 right_part true b e = e
 right_part false b e = absurd (false≢true e)
 
@@ -54,7 +54,7 @@ suc_apart k = grind (arith, nat_tests)
 suc_same : (i k : ℕ) → (suc i == suc k) ≡ (i == k)
 suc_same i k = grind (arith, nat_tests)
 
-same_place : (ss : List meaning.Settable) (i k : ℕ) → are_apart ss ≡ true → i < length ss → k < length ss → same_name (called_at ss i) (called_at ss k) ≡ (i == k)
+pub same_place : (ss : List meaning.Settable) (i k : ℕ) → are_apart ss ≡ true → i < length ss → k < length ss → same_name (called_at ss i) (called_at ss k) ≡ (i == k)
 same_place [] i k a h g = absurd (omega arith)
 same_place (s ∷ ss) zero zero a h g = (bytes_eq-Decides s.called s.called).1 refl
 same_place (s ∷ ss) zero (suc k) a h g = turned s.called (called_at ss k) ∙ (absent ss s.called k (left_part _ _ a) (omega arith) ∙ sym (zero_apart k))
@@ -66,10 +66,10 @@ lower m i k w v h g =
     let step : suc i * m ≤ k * m = mul-le-mul_right m h in
     omega (arith, step, g)
 
-test_same : (x y : ℕ) → x ≡ y → (x == y) ≡ true
+pub test_same : (x y : ℕ) → x ≡ y → (x == y) ≡ true
 test_same x y e = grind (arith, nat_tests)
 
-test_apart : (x y : ℕ) → x ≢ y → (x == y) ≡ false
+pub test_apart : (x y : ℕ) → x ≢ y → (x == y) ≡ false
 test_apart x y e = grind (arith, nat_tests)
 
 are_same : (x y : ℕ) → (x == y) ≡ true → x ≡ y
@@ -107,7 +107,7 @@ word_same ss s t a h g =
     key_same (2 ^ 64) s.place t.place s.word t.word s.small t.small
     ∙ ap (λ b. b && (s.word == t.word)) (sym (same_place ss s.place t.place a h g))
 
-is_less : (a b : ℕ) → nat_lt a b ≡ true → a < b
+pub is_less : (a b : ℕ) → nat_lt a b ≡ true → a < b
 is_less a b h = grind (arith, nat_tests)
 
 any_same : (ss : List meaning.Settable) (s : Set) (sets : List Set) → are_apart ss ≡ true → s.place < length ss → are_within (length ss) sets ≡ true

@@ -4,3 +4,5 @@ mod Last
 mod UnderNames
 mod Found
 mod Apart
+mod Encoded
+mod Marked

@@ -7,3 +7,4 @@ pub mod Reading
 pub mod Lines
 pub mod Scripts
 pub mod Settables
+pub mod Marks

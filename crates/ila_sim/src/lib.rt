@@ -4,6 +4,7 @@
 mod cuts;
 mod index;
 mod line;
+mod missing;
 mod names;
 mod numbers;
 mod reading;
