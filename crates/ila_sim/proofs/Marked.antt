@@ -87,11 +87,10 @@ all_marked ss j (t ∷ ts) sets a g e =
     rw (one, all_marked ss (suc j) ts sets a g d.rest) refl
 
 -- all places are marked where every name is set
-pub every_name : (es : List Settable) (sets : List Set) → are_apart (map settable_of es) ≡ true → are_within (length es) sets ≡ true
+pub every_name : (es : List Settable) (sets : List Set) → are_apart (map settable_of es) ≡ true → are_within (length (map settable_of es)) sets ≡ true
     → list_all (λ b. b) (marks_of (replicate (length es) false) sets) ≡ list_all (sets_name (sets_view (map settable_of es) sets)) (map settable_of es)
 every_name es sets a g =
     let count : length (map settable_of es) ≡ length es = length-map es settable_of in
-    let within : are_within (length (map settable_of es)) sets ≡ true = subst (λ n. are_within n sets ≡ true) (sym count) g in
     ap (λ n. list_all (λ b. b) (marks_of (replicate n false) sets)) (sym count)
     ∙ (ap (list_all (λ b. b)) (marks_are (replicate (length (map settable_of es)) false) sets)
-    ∙ all_marked (map settable_of es) 0 (map settable_of es) sets a within refl)
+    ∙ all_marked (map settable_of es) 0 (map settable_of es) sets a g refl)

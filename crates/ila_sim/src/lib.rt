@@ -8,6 +8,7 @@ mod missing;
 mod names;
 mod numbers;
 mod reading;
+mod refusal;
 mod script;
 mod set;
 mod sets;
@@ -15,6 +16,8 @@ mod settables;
 mod stop;
 
 pub use names::{Kind, Settable};
+pub use reading::read_script;
+pub use refusal::{ScriptKind, ScriptStop};
 pub use script::Script;
 pub use set::Set;
 pub use settables::Names;

@@ -24,14 +24,20 @@ fn marks(alloc: Global, count: usize, sets: &[Set]) -> Result<Vec<bool>, AllocEr
     Ok(marks)
 }
 
+fn are_all_true(marks: &[bool]) -> bool
+    ensures { result ≡ list_all (λ b. b) marks.now }
+{
+    marks.iter().all(|mark| *mark)
+}
+
 /// Whether a line sets every input.
 fn sets_all(alloc: Global, inputs: &[Settable], sets: &[Set]) -> Result<bool, AllocError>
     requires apart { IsTrue (are_apart (map settable_of inputs.now)) }
-    requires places { IsTrue (are_within (length inputs.now) sets.now) }
+    requires places { IsTrue (are_within (length (map settable_of inputs.now)) sets.now) }
     ensures { IfOk result (λ b. b ≡ list_all (sets_name (sets_view (map settable_of inputs.now) sets.now)) (map settable_of inputs.now)) }
 {
     let marks = marks(alloc, inputs.len(), sets)?;
-    Ok(marks.iter().all(|mark| *mark))
+    Ok(are_all_true(&marks))
 }
 
 /// Whether each line sets every input.
@@ -41,7 +47,7 @@ pub(crate) fn all_set(
     lines: &[Vec<Set>],
 ) -> Result<bool, AllocError>
     requires apart { IsTrue (are_apart (map settable_of inputs.now)) }
-    requires places { IsTrue (list_all (λ s. are_within (length inputs.now) s.items) lines.now) }
+    requires places { IsTrue (list_all (λ s. are_within (length (map settable_of inputs.now)) s.items) lines.now) }
     ensures { IfOk result (λ b. b ≡ list_all (λ ss. list_all (sets_name ss) (map settable_of inputs.now)) (map (λ s. sets_view (map settable_of inputs.now) s.items) lines.now)) }
 {
     for line in lines {

@@ -7,7 +7,7 @@ ghost use Rattle.ila_sim.specs.Cuts.{lines_left};
 ghost use Rattle.ila_sim.specs.Reading.{IsReading};
 ghost use Rattle.ila_sim.specs.Lines.{found_view, line_view, sets_view, input_of, is_line_within};
 ghost use Rattle.ila_sim.specs.Sets.{are_within};
-ghost use Rattle.ila_sim.specs.Scripts.{script_view, is_script_within};
+ghost use Rattle.ila_sim.specs.Scripts.{script_view, IsScriptWithin};
 
 use crate::cuts::{has_return, next_kept, next_word};
 use crate::line::{Found, Line};
@@ -84,7 +84,7 @@ pub(crate) fn script_in<'a>(
     text: &'a [u8],
 ) -> Result<Script, Stop>
     ensures script { IsReading (script_view (found_view names.now)) result (script_in (found_view names.now) (without_skipped (lines_of text.now))) }
-    ensures places { IfOk result (λ s. IsTrue (is_script_within (found_view names.now) s)) }
+    ensures places { IfOk result (λ s. IsScriptWithin (found_view names.now) s) }
 {
     match next_kept(Some(text)) {
         None => Ok(Script {

@@ -10,5 +10,5 @@ abbrev pub invariant-loop-line : goal.invariant-loop-line
 invariant-loop-line l = record {
   read : list_all (λ ss. list_all (sets_name ss) (map settable_of l.inputs)) (map (λ s. sets_view (map settable_of l.inputs) s.items) l.lines)
       ≡ list_all (λ ss. list_all (sets_name ss) (map settable_of l.inputs)) (map (λ s. sets_view (map settable_of l.inputs) s.items) (drop l.line-index l.lines));
-  places : IsTrue (list_all (λ s. are_within (length l.inputs) s.items) (drop l.line-index l.lines));
+  places : IsTrue (list_all (λ s. are_within (length (map settable_of l.inputs)) s.items) (drop l.line-index l.lines));
 }
