@@ -82,8 +82,10 @@ apart_by : (i k x y : ℕ) → i ≢ k → (i < k → x < y) → (k < i → y < 
 apart_by i k x y n f g e = split (nat_lt i k) refl where
   less : (a b : ℕ) → nat_lt a b ≡ true → a < b
   less a b h = grind (arith, nat_tests)
+
   more : (a b : ℕ) → nat_lt a b ≡ false → a ≢ b → b < a
   more a b h m = grind (arith, nat_tests)
+
   split : (t : Bool) → nat_lt i k ≡ t → ⊥
   split true h = omega (arith, f (less i k h), e)
   split false h = omega (arith, g (more i k h n), e)

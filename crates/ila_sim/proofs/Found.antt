@@ -30,11 +30,15 @@ IsFound es n j (Some k) = (m : ℕ) × (k ≡ j + m) × IsAt es n m
 found_next : (e : Settable) (es : List Settable) (n : Name) (j : ℕ) (o : Option ℕ) → same_name e.name.items n ≡ false → IsFound es n (suc j) o → IsFound (e ∷ es) n j o
 unfolding IsFound
 found_next e es n j None h f = rw h f
-found_next e es n j (Some k) h f = (suc f.0, omega (arith, f.1), record {
-  within = omega (arith, f.2.within);
-  found = λ d. rw h (f.2.found d);
-  called = λ d. f.2.called d;
-})
+found_next e es n j (Some k) h f = (
+  suc f.0,
+  omega (arith, f.1),
+  record {
+    within = omega (arith, f.2.within);
+    found = λ d. rw h (f.2.found d);
+    called = λ d. f.2.called d;
+  },
+)
 
 found_now : (e : Settable) (es : List Settable) (n : Name) (j : ℕ) → same_name e.name.items n ≡ true → IsFound (e ∷ es) n j (Some j)
 unfolding IsFound
@@ -94,6 +98,7 @@ outside least count limit a true e h = refl
 outside least count limit a false e h = sym (past_end least count a (at_least a limit e h)) where
   at_least : (x y : ℕ) → nat_lt x y ≡ false → least + count ≤ y → least + count ≤ x
   at_least x y g h' = grind (arith, nat_tests)
+
   past_end : (l n x : ℕ) → l + n ≤ x → word_at_address (l, n) x ≡ None
   past_end l n x g = grind (arith, nat_tests)
 

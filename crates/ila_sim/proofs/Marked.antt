@@ -83,7 +83,7 @@ all_marked ss j [] sets a g e = refl
 all_marked ss j (t ∷ ts) sets a g e =
     let d : IsDropped ss j t ts = dropped ss j t ts e in
     let one : is_marked sets j ≡ sets_name (map (set_at ss) sets) t =
-        marked_name ss j sets a d.within g ∙ ap (λ n. list_any (λ u. same_name u.called n) (map (set_at ss) sets)) d.called in
+    marked_name ss j sets a d.within g ∙ ap (λ n. list_any (λ u. same_name u.called n) (map (set_at ss) sets)) d.called in
     rw (one, all_marked ss (suc j) ts sets a g d.rest) refl
 
 -- all places are marked where every name is set

@@ -40,7 +40,6 @@ first_added {X} old new k v u absent q =
       | false ↦ λ e. sym (first_none (under_name old q))
     ]) refl
 
-
 -- ---- numbers that stand once
 
 same_at : (k q : ℕ) → is_at (nat_cmp k) q ≡ (k == q)

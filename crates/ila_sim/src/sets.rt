@@ -8,12 +8,11 @@ ghost use Rattle.ila_sim.specs.Names.{settable_of};
 ghost use Rattle.ila_sim.specs.Reading.{IsReading};
 ghost use Rattle.ila_sim.specs.Sets.{are_within, set_called, set_at, key_of, are_distinct_numbers};
 
-use crate::cuts::last_place;
+use crate::cuts::{last_place, next_word};
 use crate::index::{Index, place_of};
 use crate::names::{Kind, Settable};
 use crate::numbers::number_in;
 use crate::set::Set;
-use crate::cuts::next_word;
 use crate::stop::Stop;
 use std::alloc::{AllocError, Global};
 use std::collections::BTreeSet;
