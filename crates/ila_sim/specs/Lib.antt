@@ -1,0 +1,10 @@
+pub mod Cuts
+pub mod Kinds
+pub mod Names
+pub mod Places
+pub mod Sets
+pub mod Reading
+pub mod Lines
+pub mod Scripts
+pub mod Settables
+pub mod Marks

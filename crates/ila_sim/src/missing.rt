@@ -1,0 +1,59 @@
+//! Whether each input line sets every input.
+
+ghost use Rattle.std.specs.Prelude.{◌≡◌, false, IfOk, IsTrue, length, map, replicate};
+ghost use Rattle.std.specs.List.{list_all};
+ghost use Rattle.wb_meaning.specs.Script.{sets_name};
+ghost use Rattle.ila_sim.specs.Lines.{sets_view};
+ghost use Rattle.ila_sim.specs.Marks.{marks_of};
+ghost use Rattle.ila_sim.specs.Names.{settable_of, are_apart};
+ghost use Rattle.ila_sim.specs.Sets.{are_within};
+
+use crate::names::Settable;
+use crate::set::Set;
+use std::alloc::{AllocError, Global};
+
+/// A mark for each place that is set.
+fn marks(alloc: Global, count: usize, sets: &[Set]) -> Result<Vec<bool>, AllocError>
+    requires { IsTrue (are_within count sets.now) }
+    ensures { IfOk result (λ v. v.items ≡ marks_of (replicate count false) sets.now) }
+{
+    let mut marks = vec![in alloc; false; count]?;
+    for set in sets {
+        marks[set.place] = true;
+    }
+    Ok(marks)
+}
+
+fn are_all_true(marks: &[bool]) -> bool
+    ensures { result ≡ list_all (λ b. b) marks.now }
+{
+    marks.iter().all(|mark| *mark)
+}
+
+/// Whether a line sets every input.
+fn sets_all(alloc: Global, inputs: &[Settable], sets: &[Set]) -> Result<bool, AllocError>
+    requires apart { IsTrue (are_apart (map settable_of inputs.now)) }
+    requires places { IsTrue (are_within (length (map settable_of inputs.now)) sets.now) }
+    ensures { IfOk result (λ b. b ≡ list_all (sets_name (sets_view (map settable_of inputs.now) sets.now)) (map settable_of inputs.now)) }
+{
+    let marks = marks(alloc, inputs.len(), sets)?;
+    Ok(are_all_true(&marks))
+}
+
+/// Whether each line sets every input.
+pub(crate) fn all_set(
+    alloc: Global,
+    inputs: &[Settable],
+    lines: &[Vec<Set>],
+) -> Result<bool, AllocError>
+    requires apart { IsTrue (are_apart (map settable_of inputs.now)) }
+    requires places { IsTrue (list_all (λ s. are_within (length (map settable_of inputs.now)) s.items) lines.now) }
+    ensures { IfOk result (λ b. b ≡ list_all (λ ss. list_all (sets_name ss) (map settable_of inputs.now)) (map (λ s. sets_view (map settable_of inputs.now) s.items) lines.now)) }
+{
+    for line in lines {
+        if !sets_all(alloc, inputs, line)? {
+            return Ok(false);
+        }
+    }
+    Ok(true)
+}
