@@ -14,6 +14,8 @@ mod set;
 mod sets;
 mod settables;
 mod stop;
+#[cfg(test)]
+mod tests;
 
 pub use names::{Kind, Settable};
 pub use reading::read_script;
