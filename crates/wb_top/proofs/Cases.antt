@@ -78,7 +78,7 @@ refused_by_rule contents o rule text is refusal = subst (λ r. IsRefused content
 
 -- ---- lengths
 
-fits_alone : (a b c : Bool) → (a && (b && c)) ≡ true → (a ≡ true) × (b ≡ true) × (c ≡ true)
+fits_alone : (a b c : Bool) → (a && b && c) ≡ true → (a ≡ true) × (b ≡ true) × (c ≡ true)
 fits_alone true true true h = (refl, refl, refl)
 fits_alone true true false h = absurd (true≢false (sym h))
 fits_alone true false c h = absurd (true≢false (sym h))
@@ -98,7 +98,7 @@ each_fits m p d h =
 
 pub case_fits : (m p d : List ℕ) (f : First) → IsCaseOf m p d f → all_fit m p d ≡ true
 unfolding all_fit
-case_fits m p d f case = λ i. is_at_most _ _ case.model_fits i && (is_at_most _ _ case.map_fits i && is_at_most _ _ case.design_fits i)
+case_fits m p d f case = λ i. is_at_most _ _ case.model_fits i && is_at_most _ _ case.map_fits i && is_at_most _ _ case.design_fits i
 
 -- files of which one is too long are no case, and no rule is asked
 pub too_long_no_case : (m p d : List ℕ) → all_fit m p d ≡ false → (f : First) → ¬ IsCaseOf m p d f

@@ -1,3 +1,5 @@
 pub mod Cases
+pub mod Joined
+pub mod Lines
 pub mod Told
 pub mod Decides

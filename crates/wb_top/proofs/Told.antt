@@ -64,7 +64,7 @@ start_fits_as_all m = fits_as_start most_bytes _ m (length-take (most_bytes + 1)
 
 starts_fit : (m p d : List ℕ) → all_fit (take (most_bytes + 1) m) (take (most_bytes + 1) p) (take (most_bytes + 1) d) ≡ all_fit m p d
 unfolding all_fit
-starts_fit m p d = λ i. start_fits_as_all m i && (start_fits_as_all p i && start_fits_as_all d i)
+starts_fit m p d = λ i. start_fits_as_all m i && start_fits_as_all p i && start_fits_as_all d i
 
 same_if_fit : (m p d : List ℕ) (b : Bool) → all_fit m p d ≡ b
     → cond b (broken_by (take (most_bytes + 1) m)) None ≡ cond b (broken_by m) None

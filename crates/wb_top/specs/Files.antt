@@ -18,7 +18,7 @@ has_fitting_length bytes = nat_le (length bytes) most_bytes
 
 -- no file is too long
 unfoldable pub all_fit : (model_bytes map_bytes design_bytes : List ℕ) → Bool
-all_fit m p d = has_fitting_length m && (has_fitting_length p && has_fitting_length d)
+all_fit m p d = has_fitting_length m && has_fitting_length p && has_fitting_length d
 
 -- the first rule that a model file breaks
 unfoldable pub broken_by : List ℕ → Option ModelRule

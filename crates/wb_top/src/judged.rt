@@ -1,11 +1,11 @@
 //! Whether three files are a case of the first profile, and which rule refuses the model file.
 
-ghost use Rattle.std.specs.Prelude.{◌≡◌, ◌∷◌, [], true, None, IfOk, IfSome, IfNone, is_none};
+ghost use Rattle.std.specs.Prelude.{◌≡◌, ◌≤◌, length, IfOk, IfSome, IfNone};
 ghost use Rattle.first_text.specs.Tree.{FirstModule as PureModule};
 ghost use Rattle.first_text.specs.Spelling.{IsFirstText};
 ghost use Rattle.first_text.specs.View.{first_module_of};
-ghost use Rattle.wb_top.specs.Files.{has_fitting_length, all_fit, refusing_rule};
-ghost use Rattle.wb_top.specs.Judged.{IsJudged};
+ghost use Rattle.wb_top.specs.Files.{most_bytes, has_fitting_length, all_fit};
+ghost use Rattle.wb_top.specs.Judged.{IsJudged, IsInProfile};
 
 use crate::stop::NoMemory;
 use first_accept::accept;
@@ -50,8 +50,8 @@ pub(crate) fn judge(
 ) -> Result<Judged, NoMemory>
     ensures { IfOk result (IsJudged model.now map.now design.now) }
 {
-    if let Some(place) = too_long(model, map, design) {
-        return Ok(Judged::Outside(place));
+    if !all_fit(model, map, design) {
+        return Ok(Judged::Outside(too_long(model, map)));
     }
     match model_refusal(alloc, model)? {
         Some(refusal) => Ok(Judged::Refused(refusal)),
@@ -59,20 +59,12 @@ pub(crate) fn judge(
     }
 }
 
-/// The first file that is too long.
-fn too_long(model: &[u8], map: &[u8], design: &[u8]) -> Option<Place>
-    ensures { is_none result ≡ all_fit model.now map.now design.now }
+/// Whether no file is too long.
+#[tactic(auto, unfolding(crate::specs::Files::all_fit))]
+fn all_fit(model: &[u8], map: &[u8], design: &[u8]) -> bool
+    ensures { result ≡ all_fit model.now map.now design.now }
 {
-    if !fits(model) {
-        return Some(Place::Model);
-    }
-    if !fits(map) {
-        return Some(Place::Map);
-    }
-    if !fits(design) {
-        return Some(Place::Design);
-    }
-    None
+    fits(model) && fits(map) && fits(design)
 }
 
 /// Whether a file is no longer than files may be.
@@ -82,11 +74,23 @@ fn fits(bytes: &[u8]) -> bool
     bytes.len() as u64 <= MOST_BYTES
 }
 
+/// The first of three files, of which one is too long, that is.
+fn too_long(model: &[u8], map: &[u8]) -> Place {
+    if !fits(model) {
+        Place::Model
+    } else if !fits(map) {
+        Place::Map
+    } else {
+        Place::Design
+    }
+}
+
 /// Judges the bytes of files of which none is too long, and whose model file breaks no rule.
 fn in_profile(alloc: Global, model: &[u8], map: &[u8], design: &[u8]) -> Result<Judged, NoMemory>
-    requires fit { all_fit model.now map.now design.now ≡ true }
-    requires unbroken { refusing_rule (model.now ∷ map.now ∷ design.now ∷ []) ≡ None }
-    ensures { IfOk result (IsJudged model.now map.now design.now) }
+    requires model_fits { length model.now ≤ most_bytes }
+    requires map_fits { length map.now ≤ most_bytes }
+    requires design_fits { length design.now ≤ most_bytes }
+    ensures { IfOk result (IsInProfile model.now map.now design.now) }
 {
     let Some(model) = read_model(alloc, model)? else {
         return Ok(Judged::Outside(Place::Model));

@@ -1,6 +1,6 @@
 //! The texts that a call writes beside reports.
 
-ghost use Rattle.std.specs.Prelude.{◌≡◌, IfOk};
+ghost use Rattle.std.specs.Prelude.{◌≡◌, ◌++◌, ◌∷◌, [], codes, IfOk};
 ghost use Rattle.ila_rules.specs.Rule.{rule_view, rule_name};
 ghost use Rattle.wb_top.specs.Texts.{usage_text, IsRefusalBy, IsRefusal};
 
@@ -20,10 +20,17 @@ pub(crate) fn usage(alloc: Global) -> Result<Vec<u8>, NoMemory>
 pub(crate) fn refusal_by(alloc: Global, broken: &ModelRefusal) -> Result<Vec<u8>, NoMemory>
     ensures { IfOk result (λ text. IsRefusalBy (rule_name (rule_view broken.now.rule)) text.items) }
 {
+    refusal_text_by(alloc, broken.rule.name().as_bytes(), broken.note.as_bytes())
+}
+
+/// The text of a refusal by the rule of this name, with this note.
+fn refusal_text_by(alloc: Global, rule: &[u8], note: &[u8]) -> Result<Vec<u8>, NoMemory>
+    ensures { IfOk result (λ text. text.items ≡ codes "refused " ++ (rule.now ++ 10 ∷ (codes "note " ++ (note.now ++ 10 ∷ [])))) }
+{
     let mut text = Vec::from_slice(alloc, b"refused ")?;
-    text.extend_from_slice(broken.rule.name().as_bytes())?;
+    text.extend_from_slice(rule)?;
     text.extend_from_slice(b"\nnote ")?;
-    text.extend_from_slice(broken.note.as_bytes())?;
+    text.extend_from_slice(note)?;
     text.extend_from_slice(b"\n")?;
     Ok(text)
 }
