@@ -11,7 +11,8 @@ no_line_feed b h = grind (arith, nat_tests, h)
 both : (a b : Bool) → IsTrue (a && b) → IsTrue a × IsTrue b
 both true true h = (h, h)
 both true false h = absurd h
-both false b h = absurd h
+both false true h = absurd h
+both false false h = absurd h
 
 one_line : (text : List ℕ) → IsTrue (list_all is_printable text) → list_all (λ b. not (b == 10)) text ≡ true
 one_line [] h = refl
