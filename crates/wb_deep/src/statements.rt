@@ -6,8 +6,8 @@ ghost use Rattle.wb_deep.specs.Small.{IsSmallStatement};
 use crate::expressions::number;
 use std::alloc::{AllocError, Global};
 use std::test::Fail;
-use v_syntax::scope::{Scope, Value, Values};
 use v_statement::statement::run;
+use v_syntax::scope::{Scope, Value, Values};
 use v_syntax::tree::{Arm, Selects, Statement, Target};
 
 /// How many arms stand before the last one.

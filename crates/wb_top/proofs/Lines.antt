@@ -1,6 +1,7 @@
 -- Notes of model files are notes of refusals.
 use Rattle.std.proofs.Common.{◌≡◌, ◌≤◌, ◌&&◌, ◌==◌, ℕ, Bool, true, false, not, nat_le, List, [], ◌∷◌, length, IsTrue, refl, arith}
 use Rattle.std.specs.List.{list_all}
+use Rattle.std.proofs.lemmas.Bool.{false≢true}
 use Rattle.std.proofs.lemmas.Bool.Decides.{nat_tests}
 use Rattle.ila_file.specs.Notes.{is_printable}
 use Rattle.wb_top.specs.Texts.{IsNote}
@@ -9,10 +10,8 @@ no_line_feed : (b : ℕ) → IsTrue (is_printable b) → not (b == 10) ≡ true
 no_line_feed b h = grind (arith, nat_tests, h)
 
 both : (a b : Bool) → IsTrue (a && b) → IsTrue a × IsTrue b
-both true true h = (h, h)
-both true false h = absurd h
-both false true h = absurd h
-both false false h = absurd h
+both true b h = (refl, h)
+both false b h = absurd (false≢true h)
 
 one_line : (text : List ℕ) → IsTrue (list_all is_printable text) → list_all (λ b. not (b == 10)) text ≡ true
 one_line [] h = refl
@@ -21,4 +20,4 @@ one_line (b ∷ bs) h =
     λ i. no_line_feed b each.0 i && one_line bs each.1 i
 
 pub is_note : (text : List ℕ) → length text ≤ 80 → IsTrue (list_all is_printable text) → IsNote text
-is_note text short printable = record { short = short; one_line = rw (one_line text printable) tt }
+is_note text short printable = record { short = short; one_line = one_line text printable }
