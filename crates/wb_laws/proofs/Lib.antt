@@ -6,3 +6,5 @@ pub mod Numbers
 pub mod ValueSorts
 pub mod Widths
 pub mod Settled
+pub mod OneOutcome
+pub mod Outcomes

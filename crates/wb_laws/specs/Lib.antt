@@ -3,3 +3,4 @@ pub mod Runs
 pub mod Terms
 pub mod Widths
 pub mod Settled
+pub mod Simulations

@@ -2,6 +2,7 @@
 ghost use Rattle.wb_laws.specs.Instructions.{InstructionWithoutChildIsItsUpdate};
 ghost use Rattle.wb_laws.specs.Runs.{RunShorterThanTheResetRefines, PrefixRefines, IdleCycleHasOneCount, IdleCycleHasOneState};
 ghost use Rattle.wb_laws.specs.Settled.{SettledValueFitsItsWidth};
+ghost use Rattle.wb_laws.specs.Simulations.{OutcomeIsUnique, SimulationIsUnique, SimulationIsARun};
 ghost use Rattle.wb_laws.specs.Terms.{TermFitsItsSort};
 ghost use Rattle.wb_laws.specs.Widths.{ValueFitsItsWidth, ValueFitsItsContext};
 
@@ -44,4 +45,15 @@ pub fn a_value_fits_its_width()
 /// In a settled valuation of a design the value of each expression is a number of its width, where the text's numbers are.
 pub fn a_settled_value_fits_its_width()
     ensures { SettledValueFitsItsWidth }
+{}
+
+/// At a state under inputs a model has one outcome: the causes of the outcomes exclude each other.
+pub fn an_outcome_is_unique()
+    ensures { OutcomeIsUnique }
+{}
+
+/// A script has one simulation, and its states are those of a run of the model.
+pub fn a_simulation_is_one_run()
+    ensures one { SimulationIsUnique }
+    ensures run { SimulationIsARun }
 {}
