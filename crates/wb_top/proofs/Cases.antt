@@ -21,11 +21,11 @@ use Rattle.wb_first.specs.View.{first_of}
 use Rattle.wb_meaning.specs.ModelFile.Meaning.{ModelRule, reading_of}
 use Rattle.ila_rules.specs.Rule.{rule_name}
 use Rattle.ila_json.specs.Reading.{refusal_in}
-use Rattle.wb_top.specs.Files.{most_bytes, has_fitting_length, all_fit, broken_by, refusing_rule, IsCaseOf}
+use Rattle.wb_top.specs.Files.{broken_by, refusing_rule, IsCaseOf}
 use Rattle.wb_top.specs.Texts.{IsRefusalBy, IsRefusal}
-use Rattle.wb_top.specs.Outcome.{IsAnswer, IsRefused, IsReported}
+use Rattle.wb_top.specs.Outcome.{IsChecked, IsRefused, IsReported}
 use Rattle.wb_top.specs.declared.status.Status.{Status}
-use Rattle.wb_top.specs.declared.status.Status.TheVariants.{Done, Failed, Usage, Refused, ReadFault, WriteFault, NoMemory}
+use Rattle.wb_top.specs.declared.status.Status.TheVariants.{Done, Failed, Usage, Refused, ReadFault, WriteFault, NoMemory, Limit}
 
 some_same : {A : Type 0} (x y : A) → ◌≡◌ {A = Option A} (Some x) (Some y) → x ≡ y
 some_same x y h = ap (λ o. value_or x o) h
@@ -58,7 +58,7 @@ not_accepted m p d model map design is_model is_map is_design one refused f case
 
 -- a report of a case answers the check of its files
 pub answered : (m p d : List ℕ) (f : First) (status : Status) (text : List ℕ) → IsCaseOf m p d f → refusing_rule (m ∷ p ∷ d ∷ []) ≡ None
-    → IsReported f status text → IsAnswer (m ∷ p ∷ d ∷ []) status text
+    → IsReported f status text → IsChecked (m ∷ p ∷ d ∷ []) status text
 answered m p d f Done text case unbroken reported = (f, case, reported, unbroken)
 answered m p d f Failed text case unbroken reported = (f, case, reported, unbroken)
 answered m p d f Usage text case unbroken reported = absurd reported
@@ -66,6 +66,7 @@ answered m p d f Refused text case unbroken reported = absurd reported
 answered m p d f ReadFault text case unbroken reported = absurd reported
 answered m p d f WriteFault text case unbroken reported = absurd reported
 answered m p d f NoMemory text case unbroken reported = absurd reported
+answered m p d f Limit text case unbroken reported = absurd reported
 
 -- a refusal for no rule, and one by a rule
 pub refused_by_none : (m p d : List ℕ) (o : Option ModelRule) (text : List ℕ) → o ≡ None → ((f : First) → ¬ IsCaseOf m p d f)
@@ -76,37 +77,6 @@ pub refused_by_rule : (contents : List (List ℕ)) (o : Option ModelRule) (rule 
     → IsRefusalBy (rule_name rule) text → IsRefused contents o text
 refused_by_rule contents o rule text is refusal = subst (λ r. IsRefused contents r text) (sym is) refusal
 
--- ---- lengths
-
-fits_alone : (a b c : Bool) → (a && b && c) ≡ true → (a ≡ true) × (b ≡ true) × (c ≡ true)
-fits_alone true true true h = (refl, refl, refl)
-fits_alone true true false h = absurd (true≢false (sym h))
-fits_alone true false c h = absurd (true≢false (sym h))
-fits_alone false b c h = absurd (true≢false (sym h))
-
-at_most : (n k : ℕ) → nat_le n k ≡ true → n ≤ k
-at_most n k h = grind (arith, nat_tests, h)
-
-is_at_most : (n k : ℕ) → n ≤ k → nat_le n k ≡ true
-is_at_most n k h = grind (arith, nat_tests, h)
-
-pub each_fits : (m p d : List ℕ) → all_fit m p d ≡ true → (length m ≤ most_bytes) × (length p ≤ most_bytes) × (length d ≤ most_bytes)
-unfolding all_fit
-each_fits m p d h =
-    let each = fits_alone (has_fitting_length m) (has_fitting_length p) (has_fitting_length d) h in
-    (at_most _ _ each.0, at_most _ _ each.1, at_most _ _ each.2)
-
-pub case_fits : (m p d : List ℕ) (f : First) → IsCaseOf m p d f → all_fit m p d ≡ true
-unfolding all_fit
-case_fits m p d f case = λ i. is_at_most _ _ case.model_fits i && is_at_most _ _ case.map_fits i && is_at_most _ _ case.design_fits i
-
--- files of which one is too long are no case, and no rule is asked
-pub too_long_no_case : (m p d : List ℕ) → all_fit m p d ≡ false → (f : First) → ¬ IsCaseOf m p d f
-too_long_no_case m p d long f case = true≢false (sym (case_fits m p d f case) ∙ long)
-
-pub too_long_no_rule : (m p d : List ℕ) → all_fit m p d ≡ false → refusing_rule (m ∷ p ∷ d ∷ []) ≡ None
-too_long_no_rule m p d long = ap (λ b. cond b (broken_by m) None) long
-
-pub rule_of_model : (m p d : List ℕ) (o : Option ModelRule) → all_fit m p d ≡ true → o ≡ refusal_in (reading_of m) → refusing_rule (m ∷ p ∷ d ∷ []) ≡ o
+pub rule_of_model : (m p d : List ℕ) (o : Option ModelRule) → o ≡ refusal_in (reading_of m) → refusing_rule (m ∷ p ∷ d ∷ []) ≡ o
 unfolding broken_by
-rule_of_model m p d o fit is = ap (λ b. cond b (broken_by m) None) fit ∙ sym is
+rule_of_model m p d o is = sym is

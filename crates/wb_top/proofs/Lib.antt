@@ -3,3 +3,4 @@ pub mod Joined
 pub mod Lines
 pub mod Told
 pub mod Decides
+pub mod Headline

@@ -1,99 +1,72 @@
 -- From the first bytes that are read to the bytes that are held.
-use Rattle.std.proofs.Common.{◌≡◌, ◌<◌, ◌≤◌, ◌+◌, ◌-◌, ◌^◌, ◌&&◌, ℕ, Bool, cond, nat_le, min, List, [], ◌∷◌, ◌++◌, take, map, length, refl, ap, sym, ◌∙◌, subst, arith, Some, None, true, false, append-nil}
+use Rattle.std.proofs.Common.{◌≡◌, ◌<◌, ◌≤◌, ◌+◌, ◌-◌, ◌^◌, ◌&&◌, ℕ, Bool, cond, suc, nat_le, min, List, [], ◌∷◌, ◌++◌, take, map, length, refl, ap, sym, ◌∙◌, subst, arith, Some, None, true, false, append-nil}
 use Rattle.std.proofs.lemmas.List.{take_all, length-take}
 use Rattle.std.proofs.Math.Seq.{take-length}
 use Rattle.std.specs.declared.option.Option.{Option}
 use Rattle.std.specs.Option.{option_map}
 use Rattle.wb_meaning.specs.Value.{Name}
 use Rattle.wb_outside.specs.Outside.{with_appended, GrewByPrefix, AreStartsOf}
-use Rattle.wb_first.specs.Names.{First}
-use Rattle.wb_top.specs.Words.{Check, check_of, names_in}
+use Rattle.wb_meaning.specs.Term.{some_if}
+use Rattle.wb_top.specs.declared.verb.Verb.{Verb}
+use Rattle.wb_top.specs.declared.verb.Verb.TheVariants.{Check, Simulate}
+use Rattle.wb_top.specs.Words.{Command, command_of, file_count}
 use Rattle.std.proofs.lemmas.Bool.Decides.{nat_tests}
-use Rattle.wb_meaning.specs.ModelFile.Meaning.{ModelRule}
-use Rattle.wb_top.specs.Files.{most_bytes, has_fitting_length, all_fit, broken_by, refusing_rule, IsCaseOf, IsCase, AreHeld}
-use Rattle.wb_top.proofs.Cases.{each_fits}
+use Rattle.wb_top.specs.Files.{most_bytes, has_fitting_length, first_long, AreHeld}
+use Rattle.wb_top.specs.Simulated.{Pair, runs, refused, pair_of, IsSimulated, AreSimulated}
 use Rattle.wb_top.specs.Asked.{wanted_names, AskedAll, AskedSome}
-use Rattle.wb_top.specs.Outcome.{IsReported, IsRefused, IsAnswer, IsChecked, IsOutcome}
+use Rattle.wb_top.specs.Outcome.{IsEnd, IsWithin, IsAnswer, IsAnswered, IsOutcome}
 use Rattle.wb_top.specs.declared.status.Status.{Status}
-use Rattle.wb_top.specs.declared.status.Status.TheVariants.{Done, Failed, Usage, Refused, ReadFault, WriteFault, NoMemory}
+use Rattle.wb_top.specs.declared.status.Status.TheVariants.{Done, Failed, Usage, Refused, ReadFault, WriteFault, NoMemory, Limit}
 
 -- the first bytes of a file that is no longer than the limit are all
 whole : (n : ℕ) (bytes : List ℕ) → length bytes ≤ n → take (n + 1) bytes ≡ bytes
 whole n bytes fits = take_all (n + 1) bytes (omega (arith, fits))
 
-start_fits : (n : ℕ) (bytes : List ℕ) → length (take (n + 1) bytes) ≤ n → length bytes ≤ n
-start_fits n bytes fits =
-    let is : length (take (n + 1) bytes) ≡ min (n + 1) (length bytes) = length-take (n + 1) bytes in
-    omega (arith, fits, is)
+none_is_none : (k : ℕ) → ◌≡◌ {A = Option ℕ} (Some k) None → ⊥
+none_is_none k h = subst is_some h tt
+  where
+    is_some : Option ℕ → Type 0
+    is_some None = ⊥
+    is_some (Some x) = Unit {0}
 
 abbrev starts : List (List ℕ) → List (List ℕ)
 starts contents = map (take (most_bytes + 1)) contents
-
--- Where the first bytes are a case all bytes are, and the other way round.
-same_case : (m p d : List ℕ) (f : First) → length m ≤ most_bytes → length p ≤ most_bytes → length d ≤ most_bytes
-    → starts (m ∷ p ∷ d ∷ []) ≡ m ∷ p ∷ d ∷ []
-same_case m p d f fits_m fits_p fits_d i =
-    whole most_bytes m fits_m i ∷ whole most_bytes p fits_p i ∷ whole most_bytes d fits_d i ∷ []
-
-pub case_of_starts : (contents : List (List ℕ)) (f : First) → IsCase (starts contents) f → IsCase contents f
-case_of_starts [] f case = case
-case_of_starts (m ∷ []) f case = case
-case_of_starts (m ∷ p ∷ []) f case = case
-case_of_starts (m ∷ p ∷ d ∷ []) f case =
-    let same : starts (m ∷ p ∷ d ∷ []) ≡ m ∷ p ∷ d ∷ [] =
-    same_case m p d f (start_fits most_bytes m case.model_fits) (start_fits most_bytes p case.map_fits) (start_fits most_bytes d case.design_fits) in
-    subst (λ contents. IsCase contents f) same case
-case_of_starts (m ∷ p ∷ d ∷ x ∷ xs) f case = case
-
-pub starts_of_case : (contents : List (List ℕ)) (f : First) → IsCase contents f → IsCase (starts contents) f
-starts_of_case [] f case = case
-starts_of_case (m ∷ []) f case = case
-starts_of_case (m ∷ p ∷ []) f case = case
-starts_of_case (m ∷ p ∷ d ∷ []) f case =
-    let same : starts (m ∷ p ∷ d ∷ []) ≡ m ∷ p ∷ d ∷ [] = same_case m p d f case.model_fits case.map_fits case.design_fits in
-    subst (λ contents. IsCase contents f) (sym same) case
-starts_of_case (m ∷ p ∷ d ∷ x ∷ xs) f case = case
-
--- ---- the rule that refuses them
 
 fits_as_start : (n l : ℕ) (m : List ℕ) → l ≡ min (n + 1) (length m) → nat_le l n ≡ nat_le (length m) n
 fits_as_start n l m is = grind (arith, nat_tests, is)
 
 start_fits_as_all : (m : List ℕ) → has_fitting_length (take (most_bytes + 1) m) ≡ has_fitting_length m
+unfolding has_fitting_length
 start_fits_as_all m = fits_as_start most_bytes _ m (length-take (most_bytes + 1) m)
 
-starts_fit : (m p d : List ℕ) → all_fit (take (most_bytes + 1) m) (take (most_bytes + 1) p) (take (most_bytes + 1) d) ≡ all_fit m p d
-unfolding all_fit
-starts_fit m p d = λ i. start_fits_as_all m i && start_fits_as_all p i && start_fits_as_all d i
+-- the first bytes are too long where all bytes are
+first_long_of_starts : (k : ℕ) (contents : List (List ℕ)) → first_long k (starts contents) ≡ first_long k contents
+first_long_of_starts k [] = refl
+first_long_of_starts k (m ∷ ms) = λ i. cond (start_fits_as_all m i) (first_long_of_starts (suc k) ms i) (Some k)
 
-same_if_fit : (m p d : List ℕ) (b : Bool) → all_fit m p d ≡ b
-    → cond b (broken_by (take (most_bytes + 1) m)) None ≡ cond b (broken_by m) None
-same_if_fit m p d true fit = ap broken_by (whole most_bytes m (each_fits m p d fit).0)
-same_if_fit m p d false fit = refl
+at_most : (m : List ℕ) → has_fitting_length m ≡ true → length m ≤ most_bytes
+unfolding has_fitting_length
+at_most m h = grind (arith, nat_tests, h)
 
--- the first bytes are refused by the rule that refuses all bytes
-pub rule_of_starts : (contents : List (List ℕ)) → refusing_rule (starts contents) ≡ refusing_rule contents
-rule_of_starts [] = refl
-rule_of_starts (m ∷ []) = refl
-rule_of_starts (m ∷ p ∷ []) = refl
-rule_of_starts (m ∷ p ∷ d ∷ []) =
-    ap (λ b. cond b (broken_by (take (most_bytes + 1) m)) None) (starts_fit m p d) ∙ same_if_fit m p d (all_fit m p d) refl
-rule_of_starts (m ∷ p ∷ d ∷ x ∷ xs) = refl
+one_fits : (k : ℕ) (m : List ℕ) (ms : List (List ℕ)) (b : Bool) → has_fitting_length m ≡ b → (first_long (suc k) ms ≡ None → starts ms ≡ ms)
+    → cond b (first_long (suc k) ms) (Some k) ≡ None → starts (m ∷ ms) ≡ m ∷ ms
+one_fits k m ms true fit others rest = λ i. whole most_bytes m (at_most m fit) i ∷ others rest i
+one_fits k m ms false fit others long = absurd (none_is_none k long)
 
-refused_at : (contents : List (List ℕ)) (o : Option ModelRule) (text : List ℕ) → IsRefused (starts contents) o text → IsRefused contents o text
-refused_at contents None text refused = (λ f case. refused.0 f (starts_of_case contents f case), refused.1)
-refused_at contents (Some rule) text refused = refused
+-- Where no file is too long the first bytes are all.
+starts_if_fit : (k : ℕ) (contents : List (List ℕ)) → first_long k contents ≡ None → starts contents ≡ contents
+starts_if_fit k [] h = refl
+starts_if_fit k (m ∷ ms) h = one_fits k m ms (has_fitting_length m) refl (λ rest. starts_if_fit (suc k) ms rest) h
 
 -- so an answer on the first bytes is one on all bytes
-pub answer_of_starts : (contents : List (List ℕ)) (status : Status) (text : List ℕ) → IsAnswer (starts contents) status text
-    → IsAnswer contents status text
-answer_of_starts contents Done text answer = (answer.0, case_of_starts contents answer.0 answer.1, answer.2, sym (rule_of_starts contents) ∙ answer.3)
-answer_of_starts contents Failed text answer = (answer.0, case_of_starts contents answer.0 answer.1, answer.2, sym (rule_of_starts contents) ∙ answer.3)
-answer_of_starts contents Refused text answer = subst (λ o. IsRefused contents o text) (rule_of_starts contents) (refused_at contents _ text answer)
-answer_of_starts contents Usage text answer = absurd answer.2
-answer_of_starts contents ReadFault text answer = absurd answer.2
-answer_of_starts contents WriteFault text answer = absurd answer.2
-answer_of_starts contents NoMemory text answer = absurd answer.2
+pub answer_of_starts : (verb : Verb) (contents : List (List ℕ)) (status : Status) (text : List ℕ) → IsAnswer verb (starts contents) status text
+    → IsAnswer verb contents status text
+answer_of_starts verb contents status text answer =
+    within (first_long 0 contents) refl (subst (λ o. IsWithin o verb (starts contents) status text) (first_long_of_starts 0 contents) answer)
+  where
+    within : (o : Option ℕ) → first_long 0 contents ≡ o → IsWithin o verb (starts contents) status text → IsWithin o verb contents status text
+    within None is ended = subst (λ bytes. IsEnd verb bytes status text) (starts_if_fit 0 contents is) ended
+    within (Some k) is long = long
 
 -- a file that begins so
 record Begun (n : ℕ) (file : Option (List ℕ)) (start : List ℕ) : Type 0 where
@@ -159,83 +132,126 @@ all_begun n files (name ∷ names) (x ∷ xs) h =
     }
 
 -- An answer on what was read is one on what is held.
-record HeldAnswer (held : Option (Name → Option (List ℕ))) (names : List Name) (status : Status) (text : List ℕ) : Type 0 where
+record HeldAnswer (held : Option (Name → Option (List ℕ))) (verb : Verb) (names : List Name) (status : Status) (text : List ℕ) : Type 0 where
   contents : List (List ℕ)
   are_held : AreHeld held names contents
-  is_answer : IsAnswer contents status text
+  is_answer : IsAnswer verb contents status text
 
-held_answer : (held : Option (Name → Option (List ℕ))) (names : List Name) (contents : List (List ℕ)) (status : Status) (text : List ℕ)
-    → AreStartsOf held names most_bytes contents → IsAnswer contents status text → HeldAnswer held names status text
-held_answer None names contents status text begun answer = record { contents = contents; are_held = tt; is_answer = answer }
-held_answer (Some files) names contents status text read answer =
+held_answer : (held : Option (Name → Option (List ℕ))) (verb : Verb) (names : List Name) (contents : List (List ℕ)) (status : Status) (text : List ℕ)
+    → AreStartsOf held names most_bytes contents → IsAnswer verb contents status text → HeldAnswer held verb names status text
+held_answer None verb names contents status text begun answer = record { contents = contents; are_held = tt; is_answer = answer }
+held_answer (Some files) verb names contents status text read answer =
     let all : AllBegun (most_bytes + 1) files names contents = all_begun (most_bytes + 1) files names contents read in
     record {
       contents = all.all_bytes;
       are_held = all.are_files;
-      is_answer = answer_of_starts all.all_bytes status text (subst (λ bs. IsAnswer bs status text) all.are_starts answer);
+      is_answer = answer_of_starts verb all.all_bytes status text (subst (λ bs. IsAnswer verb bs status text) all.are_starts answer);
     }
 
--- an answer on files has no status but these
-checked_outcome : (held : Option (Name → Option (List ℕ))) (words : List Name) (status : Status) (text : List ℕ)
-    → IsChecked held words status text → IsOutcome held words status text
-checked_outcome held words Done text checked = checked
-checked_outcome held words Failed text checked = checked
-checked_outcome held words Usage text checked = absurd checked.4.2
-checked_outcome held words Refused text checked = checked
-checked_outcome held words ReadFault text checked = checked
-checked_outcome held words WriteFault text checked = checked
-checked_outcome held words NoMemory text checked = checked
-
--- The outcome of a check.
-pub outcome_of_answer : (held : Option (Name → Option (List ℕ))) (words : List Name) (c : Check) (names : List Name)
-    (contents : List (List ℕ)) (status : Status) (text : List ℕ)
-    → check_of words ≡ Some c → names ≡ names_in c
-    → AreStartsOf held names most_bytes contents → IsAnswer contents status text → IsOutcome held words status text
-outcome_of_answer held words c names contents status text is_check are_names read answer =
-    let all : HeldAnswer held (names_in c) status text =
-    held_answer held (names_in c) contents status text (subst (λ ns. AreStartsOf held ns most_bytes contents) are_names read) answer in
-    checked_outcome held words status text (c, is_check, all.contents, all.are_held, all.is_answer)
-
--- The words ask for a check of these names.
-pub record AsksFor (words : List Name) (names : List Name) : Type 0 where
-  pub check : Check
-  pub is_check : check_of words ≡ Some check
-  pub are_names : names ≡ names_in check
-
-asks_option : (o : Option Check) (names : List Name) → ◌≡◌ {A = Option (List Name)} (Some names) (option_map names_in o)
-    → (c : Check) × (o ≡ Some c) × (names ≡ names_in c)
-asks_option None names h = absurd (no_check h)
+usage_is_no_limit : ◌≡◌ {A = Status} Usage Limit → ⊥
+usage_is_no_limit h = subst is_usage h tt
   where
-    no_check : ◌≡◌ {A = Option (List Name)} (Some names) None → ⊥
-    no_check e = subst is_some e tt
+    is_usage : Status → Type 0
+    is_usage Usage = Unit {0}
+    is_usage _ = ⊥
+
+no_pair_is_usage : (pair : Pair) (text : List ℕ) → IsSimulated pair Usage text → ⊥
+no_pair_is_usage (runs m s) text h = h
+no_pair_is_usage (refused kind) text h = h
+
+no_simulation_is_usage : (contents : List (List ℕ)) (text : List ℕ) → AreSimulated contents Usage text → ⊥
+no_simulation_is_usage [] text h = h
+no_simulation_is_usage (m ∷ []) text h = h
+no_simulation_is_usage (m ∷ s ∷ []) text h = no_pair_is_usage (pair_of m s) text h
+no_simulation_is_usage (m ∷ s ∷ x ∷ xs) text h = h
+
+no_end_is_usage : (o : Option ℕ) (verb : Verb) (contents : List (List ℕ)) (text : List ℕ) → IsWithin o verb contents Usage text → ⊥
+no_end_is_usage (Some k) verb contents text h = usage_is_no_limit h.0
+no_end_is_usage None Check contents text h = h.2
+no_end_is_usage None Simulate contents text h = no_simulation_is_usage contents text h
+
+-- an answer on files is never about the words
+answered_outcome : (held : Option (Name → Option (List ℕ))) (words : List Name) (status : Status) (text : List ℕ)
+    → IsAnswered held words status text → IsOutcome held words status text
+answered_outcome held words Done text answered = answered
+answered_outcome held words Failed text answered = answered
+answered_outcome held words Usage text answered = absurd (no_end_is_usage (first_long 0 answered.2) answered.0.verb answered.2 text answered.4)
+answered_outcome held words Refused text answered = answered
+answered_outcome held words ReadFault text answered = answered
+answered_outcome held words WriteFault text answered = answered
+answered_outcome held words NoMemory text answered = answered
+answered_outcome held words Limit text answered = answered
+
+-- The words ask for this command on these files.
+pub record AsksFor (words : List Name) (verb : Verb) (names : List Name) : Type 0 where
+  pub command : Command
+  pub is_command : command_of words ≡ Some command
+  pub is_verb : verb ≡ command.verb
+  pub are_names : names ≡ command.files
+
+-- The outcome of a command.
+pub outcome_of_answer : (held : Option (Name → Option (List ℕ))) (words : List Name) (verb : Verb) (names : List Name)
+    (contents : List (List ℕ)) (status : Status) (text : List ℕ) → AsksFor words verb names
+    → AreStartsOf held names most_bytes contents → IsAnswer verb contents status text → IsOutcome held words status text
+outcome_of_answer held words verb names contents status text asks read answer =
+    let all : HeldAnswer held asks.command.verb asks.command.files status text =
+    held_answer held asks.command.verb asks.command.files contents status text (subst (λ ns. AreStartsOf held ns most_bytes contents) asks.are_names read)
+    (subst (λ v. IsAnswer v contents status text) asks.is_verb answer) in
+    answered_outcome held words status text (asks.command, asks.is_command, all.contents, all.are_held, all.is_answer)
+
+asks_option : (o : Option Command) (c : Command) → ◌≡◌ {A = Option Command} (Some c) o → o ≡ Some c
+asks_option o c h = sym h
+
+pub asks_for : (words : List Name) (c : Command) → ◌≡◌ {A = Option Command} (Some c) (command_of words) → AsksFor words c.verb c.files
+asks_for words c h = record { command = c; is_command = asks_option (command_of words) c h; is_verb = refl; are_names = refl }
+
+no_command : {c : Command} → ◌≡◌ {A = Option Command} None (Some c) → ⊥
+no_command h = subst is_none h tt
+  where
+    is_none : Option Command → Type 0
+    is_none None = Unit {0}
+    is_none (Some x) = ⊥
+
+-- as many files as the command reads
+counted : (b : Bool) (verb : Verb) (files : List Name) → length files ≡ file_count verb → (c : Command)
+    → some_if b (record { verb = verb; files = files }) ≡ Some c → length c.files ≡ file_count c.verb
+counted true verb files count c is = subst (λ c. length c.files ≡ file_count c.verb) (some_same _ _ is) count
+  where
+    some_same : (x y : Command) → ◌≡◌ {A = Option Command} (Some x) (Some y) → x ≡ y
+    some_same x y h = ap (λ o. value_or x o) h
       where
-        is_some : Option (List Name) → Type 0
-        is_some None = ⊥
-        is_some (Some x) = Unit {0}
-asks_option (Some c) names h = (c, refl, ap (value_or names) h)
-  where
-    value_or : List Name → Option (List Name) → List Name
-    value_or z None = z
-    value_or z (Some w) = w
+        value_or : Command → Option Command → Command
+        value_or z None = z
+        value_or z (Some w) = w
+counted false verb files count c is = absurd (no_command is)
 
-pub asks_for : (words names : List Name) → ◌≡◌ {A = Option (List Name)} (Some names) (option_map names_in (check_of words)) → AsksFor words names
-asks_for words names h =
-    let found = asks_option (check_of words) names h in
-    record { check = found.0; is_check = found.1; are_names = found.2 }
+pub files_counted : (words : List Name) (c : Command) → command_of words ≡ Some c → length c.files ≡ file_count c.verb
+files_counted [] c is = absurd (no_command is)
+files_counted (a ∷ []) c is = absurd (no_command is)
+files_counted (a ∷ b ∷ []) c is = absurd (no_command is)
+files_counted (a ∷ b ∷ d ∷ []) c is = absurd (no_command is)
+files_counted (a ∷ b ∷ d ∷ e ∷ []) c is = absurd (no_command is)
+files_counted (a ∷ b ∷ d ∷ e ∷ f ∷ []) c is = absurd (no_command is)
+files_counted (a ∷ b ∷ d ∷ e ∷ f ∷ g ∷ []) c is = counted _ Simulate _ refl c is
+files_counted (a ∷ b ∷ d ∷ e ∷ f ∷ g ∷ h ∷ []) c is = counted _ Check _ refl c is
+files_counted (a ∷ b ∷ d ∷ e ∷ f ∷ g ∷ h ∷ x ∷ xs) c is = absurd (no_command is)
 
-pub three_names : (words names : List Name) → AsksFor words names → length names ≡ 3
-three_names words names asks = ap length asks.are_names
-
-pub wanted_by : (words names : List Name) → AsksFor words names → wanted_names (check_of words) ≡ names
-wanted_by words names asks = ap wanted_names asks.is_check ∙ sym asks.are_names
+pub wanted_by : (words : List Name) (verb : Verb) (names : List Name) → AsksFor words verb names → wanted_names (command_of words) ≡ names
+wanted_by words verb names asks = ap wanted_names asks.is_command ∙ sym asks.are_names
 
 -- all names were asked for
-pub asked_all : (words names : List Name) (before after : Option (List Name)) → AsksFor words names
-    → after ≡ with_appended before names → AskedAll (check_of words) before after
-asked_all words names before after asks asked = asked ∙ ap (with_appended before) (sym (wanted_by words names asks))
+pub asked_all : (words : List Name) (verb : Verb) (names : List Name) (before after : Option (List Name)) → AsksFor words verb names
+    → after ≡ with_appended before names → AskedAll (command_of words) before after
+asked_all words verb names before after asks asked = asked ∙ ap (with_appended before) (sym (wanted_by words verb names asks))
 
-pub asked_prefix : (words names : List Name) (before after : Option (List Name)) → AsksFor words names
-    → after ≡ with_appended before names → AskedSome (check_of words) before after
-asked_prefix words names before after asks asked =
-    let all : AskedAll (check_of words) before after = asked_all words names before after asks asked in
-    (length (wanted_names (check_of words)), all ∙ ap (with_appended before) (sym (take-length (wanted_names (check_of words)))))
+pub some_of_all : (command : Option Command) (before after : Option (List Name)) → AskedAll command before after → AskedSome command before after
+some_of_all command before after all = (length (wanted_names command), all ∙ ap (with_appended before) (sym (take-length (wanted_names command))))
+
+pub asked_some : (words : List Name) (verb : Verb) (names : List Name) (before after : Option (List Name)) → AsksFor words verb names
+    → GrewByPrefix before after names → AskedSome (command_of words) before after
+asked_some words verb names before after asks grew = subst (GrewByPrefix before after) (sym (wanted_by words verb names asks)) grew
+
+pub asked_prefix : (words : List Name) (verb : Verb) (names : List Name) (before after : Option (List Name)) → AsksFor words verb names
+    → after ≡ with_appended before names → AskedSome (command_of words) before after
+asked_prefix words verb names before after asks asked =
+    some_of_all (command_of words) before after (asked_all words verb names before after asks asked)

@@ -1,5 +1,5 @@
 -- Which model, map and module the bytes of three files stand for in the first profile.
-use Rattle.std.specs.Prelude.{◌≡◌, ◌≤◌, ◌&&◌, ℕ, Bool, cond, nat_le, List, [], ◌∷◌, length, map, Option, Some, None, IfSome, IsTrue}
+use Rattle.std.specs.Prelude.{◌≡◌, ℕ, suc, Bool, cond, nat_le, List, [], ◌∷◌, length, map, Option, Some, None, IfSome, IsTrue}
 use Rattle.wb_meaning.specs.Value.{Name}
 use Rattle.wb_meaning.specs.ModelFile.Meaning.{ModelRule, reading_of}
 use Rattle.ila_json.specs.Reading.{refusal_in}
@@ -13,27 +13,25 @@ use Rattle.wb_first.specs.Accepted.{is_accepted}
 abbrev pub most_bytes : ℕ
 most_bytes = 4194304
 
-abbrev pub has_fitting_length : List ℕ → Bool
+unfoldable pub has_fitting_length : List ℕ → Bool
 has_fitting_length bytes = nat_le (length bytes) most_bytes
 
--- no file is too long
-unfoldable pub all_fit : (model_bytes map_bytes design_bytes : List ℕ) → Bool
-all_fit m p d = has_fitting_length m && has_fitting_length p && has_fitting_length d
+-- the number of the first file that is too long, where they are numbered from k on
+abbrev pub first_long : (k : ℕ) → List (List ℕ) → Option ℕ
+first_long k [] = None
+first_long k (bytes ∷ files) = cond (has_fitting_length bytes) (first_long (suc k) files) (Some k)
 
 -- the first rule that a model file breaks
 unfoldable pub broken_by : List ℕ → Option ModelRule
 broken_by m = refusal_in (reading_of m)
 
--- The first rule that the model file breaks, where no file is too long.
+-- of the three files of a check
 abbrev pub refusing_rule : List (List ℕ) → Option ModelRule
-refusing_rule (m ∷ p ∷ d ∷ []) = cond (all_fit m p d) (broken_by m) None
+refusing_rule (m ∷ p ∷ d ∷ []) = broken_by m
 refusing_rule _ = None
 
 -- The bytes stand for this model, this map and this module, which the profile accepts together.
 pub record IsCaseOf (model_bytes map_bytes design_bytes : List ℕ) (f : First) : Type 0 where
-  pub model_fits : length model_bytes ≤ most_bytes
-  pub map_fits : length map_bytes ≤ most_bytes
-  pub design_fits : length design_bytes ≤ most_bytes
   pub is_model : model_of_bytes model_bytes ≡ Some f.model
   pub is_map : map_of_bytes map_bytes ≡ Some f.map
   pub is_design : IsFirstText design_bytes f.design

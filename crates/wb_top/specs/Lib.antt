@@ -1,6 +1,8 @@
 pub mod Words
+pub mod Wanted
 pub mod Files
 pub mod Texts
+pub mod Simulated
 pub mod Outcome
 pub mod StatusNumber
 pub mod Stops

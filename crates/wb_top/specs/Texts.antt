@@ -1,9 +1,13 @@
 -- The texts that a call writes beside reports.
-use Rattle.std.specs.Prelude.{◌≡◌, ◌≤◌, ℕ, Bool, false, not, ◌==◌, List, [], ◌∷◌, ◌++◌, length, codes, IsTrue}
+use Rattle.std.specs.Prelude.{◌≡◌, ◌≤◌, ℕ, Bool, false, not, ◌==◌, List, [], ◌∷◌, ◌++◌, length, codes, decimal, IsTrue}
 use Rattle.std.specs.List.{list_all}
 
 abbrev pub usage_text : List ℕ
 usage_text = codes "usage" ++ 10 ∷ []
+
+-- a file is too long: its number in the order of reading, from 0
+abbrev pub limit_text : ℕ → List ℕ
+limit_text k = codes "limit length " ++ (decimal k ++ 10 ∷ [])
 
 -- a note is one line of at most 80 bytes
 pub record IsNote (text : List ℕ) : Type 0 where

@@ -1,13 +1,18 @@
-//! The answer to a check of files that were read.
+//! The answer to a command on files that were read.
 
 ghost use Rattle.std.specs.Prelude.{◌≡◌, ◌∷◌, [], IfOk, map, length};
 ghost use Rattle.wb_first.specs.CaseView.{case_of};
-ghost use Rattle.wb_top.specs.Outcome.{IsAnswer, IsReported};
+ghost use Rattle.wb_top.specs.Files.{first_long};
+ghost use Rattle.wb_top.specs.Words.{file_count};
+ghost use Rattle.wb_top.specs.Outcome.{IsAnswer, IsEnd, IsChecked, IsReported};
 
 use crate::judged::{Judged, judge};
+use crate::length::first_long;
+use crate::simulation::simulated;
 use crate::status::Status;
 use crate::stop::NoMemory;
-use crate::texts::{refusal, refusal_by};
+use crate::texts::{limit, refusal, refusal_by};
+use crate::verb::Verb;
 use first_report::check;
 use std::alloc::Global;
 use wb_first::FirstCase;
@@ -19,19 +24,46 @@ pub(crate) struct Outcome {
     pub(crate) text: Vec<u8>,
 }
 
-/// The answer to a check of a model file, a map file and a Verilog file, in this order.
-pub(crate) fn answer(alloc: Global, contents: &[Vec<u8>]) -> Result<Outcome, NoMemory>
-    requires { length contents.now ≡ 3 }
-    ensures { IfOk result (λ o. IsAnswer (map (λ bytes. bytes.items) contents.now) o.status o.text.items) }
+/// The answer to a command on the contents of its files, in the order in which they were read. Of a file that is too long the
+/// first bytes past the limit are enough.
+pub(crate) fn answer(alloc: Global, verb: Verb, contents: &[Vec<u8>]) -> Result<Outcome, NoMemory>
+    requires { length contents.now ≡ file_count verb }
+    ensures { IfOk result (λ o. IsAnswer verb (map (λ bytes. bytes.items) contents.now) o.status o.text.items) }
 {
-    match contents {
-        [model, map, design] => answer_of(alloc, model, map, design),
-        _ => unreachable!(),
+    match first_long(contents) {
+        Some(number) => {
+            let text = limit(alloc, number)?;
+            Ok(Outcome {
+                status: Status::Limit,
+                text,
+            })
+        }
+        None => {
+            let outcome = ended(alloc, verb, contents)?;
+            Ok(outcome)
+        }
     }
 }
 
-fn answer_of(alloc: Global, model: &[u8], map: &[u8], design: &[u8]) -> Result<Outcome, NoMemory>
-    ensures { IfOk result (λ o. IsAnswer (model.now ∷ map.now ∷ design.now ∷ []) o.status o.text.items) }
+/// The answer to a command on files of which none is too long.
+fn ended(alloc: Global, verb: Verb, contents: &[Vec<u8>]) -> Result<Outcome, NoMemory>
+    requires { length contents.now ≡ file_count verb }
+    ensures { IfOk result (λ o. IsEnd verb (map (λ bytes. bytes.items) contents.now) o.status o.text.items) }
+{
+    match verb {
+        Verb::Check => match contents {
+            [model, map, design] => checked(alloc, model, map, design),
+            _ => unreachable!(),
+        },
+        Verb::Simulate => match contents {
+            [model, script] => simulated(alloc, model, script),
+            _ => unreachable!(),
+        },
+    }
+}
+
+fn checked(alloc: Global, model: &[u8], map: &[u8], design: &[u8]) -> Result<Outcome, NoMemory>
+    ensures { IfOk result (λ o. IsChecked (model.now ∷ map.now ∷ design.now ∷ []) o.status o.text.items) }
 {
     match judge(alloc, model, map, design)? {
         Judged::Case(case) => {

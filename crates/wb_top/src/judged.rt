@@ -1,10 +1,9 @@
 //! Whether three files are a case of the first profile, and which rule refuses the model file.
 
-ghost use Rattle.std.specs.Prelude.{◌≡◌, ◌≤◌, length, IfOk, IfSome, IfNone};
+ghost use Rattle.std.specs.Prelude.{◌≡◌, IfOk, IfSome, IfNone};
 ghost use Rattle.first_text.specs.Tree.{FirstModule as PureModule};
 ghost use Rattle.first_text.specs.Spelling.{IsFirstText};
 ghost use Rattle.first_text.specs.View.{first_module_of};
-ghost use Rattle.wb_top.specs.Files.{most_bytes, has_fitting_length, all_fit};
 ghost use Rattle.wb_top.specs.Judged.{IsJudged, IsInProfile};
 
 use crate::stop::NoMemory;
@@ -15,9 +14,6 @@ use ila_json::model_refusal;
 use ila_rules::ModelRefusal;
 use std::alloc::{AllocError, Global};
 use wb_first::FirstCase;
-
-/// How many bytes a file has at most.
-pub(crate) const MOST_BYTES: u64 = 4_194_304;
 
 /// Where files leave the profile.
 #[derive(Clone, Copy, PartialEq, Eq, Debug)]
@@ -50,46 +46,14 @@ pub(crate) fn judge(
 ) -> Result<Judged, NoMemory>
     ensures { IfOk result (IsJudged model.now map.now design.now) }
 {
-    if !all_fit(model, map, design) {
-        return Ok(Judged::Outside(too_long(model, map)));
-    }
     match model_refusal(alloc, model)? {
         Some(refusal) => Ok(Judged::Refused(refusal)),
         None => in_profile(alloc, model, map, design),
     }
 }
 
-/// Whether no file is too long.
-#[tactic(auto, unfolding(crate::specs::Files::all_fit))]
-fn all_fit(model: &[u8], map: &[u8], design: &[u8]) -> bool
-    ensures { result ≡ all_fit model.now map.now design.now }
-{
-    fits(model) && fits(map) && fits(design)
-}
-
-/// Whether a file is no longer than files may be.
-fn fits(bytes: &[u8]) -> bool
-    ensures { result ≡ has_fitting_length bytes.now }
-{
-    bytes.len() as u64 <= MOST_BYTES
-}
-
-/// The first of three files, of which one is too long, that is.
-fn too_long(model: &[u8], map: &[u8]) -> Place {
-    if !fits(model) {
-        Place::Model
-    } else if !fits(map) {
-        Place::Map
-    } else {
-        Place::Design
-    }
-}
-
-/// Judges the bytes of files of which none is too long, and whose model file breaks no rule.
+/// Judges the bytes of files whose model file breaks no rule.
 fn in_profile(alloc: Global, model: &[u8], map: &[u8], design: &[u8]) -> Result<Judged, NoMemory>
-    requires model_fits { length model.now ≤ most_bytes }
-    requires map_fits { length map.now ≤ most_bytes }
-    requires design_fits { length design.now ≤ most_bytes }
     ensures { IfOk result (IsInProfile model.now map.now design.now) }
 {
     let Some(model) = read_model(alloc, model)? else {

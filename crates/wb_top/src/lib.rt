@@ -4,11 +4,15 @@
 mod answer;
 mod judged;
 pub mod laws;
+mod length;
 mod outcome;
+mod simulation;
 mod status;
 mod stop;
 mod texts;
 mod top;
+mod verb;
+mod wanted;
 mod words;
 
 pub use status::{Ended, Status};

@@ -3,15 +3,15 @@
 ghost use Rattle.std.specs.Prelude.{◌≡◌, ◌≢◌, ◌≤◌, IfOk, OnOk, OnErr, IsErrOf, IsSome, map, string_bytes};
 ghost use Rattle.wb_outside.specs.Outside.{Rose, with_appended, GrewByPrefix};
 ghost use Rattle.wb_top.specs.Outcome.{IsOutcome};
-ghost use Rattle.wb_top.specs.Words.{check_of};
+ghost use Rattle.wb_top.specs.Words.{command_of};
 ghost use Rattle.wb_top.specs.Asked.{AskedAll, AskedSome};
 
 use crate::answer::{Outcome, answer};
-use crate::judged::MOST_BYTES;
+use crate::length::MOST_BYTES;
 use crate::status::Status;
 use crate::stop::{NoMemory, Stop};
 use crate::texts::usage;
-use crate::words::names_of_check;
+use crate::words::wanted;
 use std::alloc::Global;
 use wb_outside::{Shelf, Sink, read_all};
 
@@ -27,16 +27,16 @@ pub(crate) fn outcome<S: Shelf>(
 ) -> Result<Outcome, Stop>
     ensures keeps { S.holds shelf.new ≡ S.holds shelf.old }
     ensures outcome { IfOk result (λ o. IsOutcome (S.holds shelf.old) (map string_bytes words.now) o.status o.text.items) }
-    ensures ok_asked { OnOk result (AskedAll (check_of (map string_bytes words.now)) (S.asked shelf.old) (S.asked shelf.new)) }
-    ensures err_asked { OnErr result (AskedSome (check_of (map string_bytes words.now)) (S.asked shelf.old) (S.asked shelf.new)) }
+    ensures ok_asked { OnOk result (AskedAll (command_of (map string_bytes words.now)) (S.asked shelf.old) (S.asked shelf.new)) }
+    ensures err_asked { OnErr result (AskedSome (command_of (map string_bytes words.now)) (S.asked shelf.old) (S.asked shelf.new)) }
     ensures never_falls { S.faults shelf.old ≤ S.faults shelf.new }
     ensures failed_rose { IsErrOf result Stop.ReadFault → Rose (S.faults shelf.old) (S.faults shelf.new) }
-    ensures failed_check { IsErrOf result Stop.ReadFault → IsSome (check_of (map string_bytes words.now)) }
+    ensures failed_command { IsErrOf result Stop.ReadFault → IsSome (command_of (map string_bytes words.now)) }
 {
-    match names_of_check(alloc, words)? {
-        Some(names) => {
-            let contents = read_all(shelf, alloc, &names, MOST_BYTES)?;
-            let outcome = answer(alloc, &contents)?;
+    match wanted(alloc, words)? {
+        Some(wanted) => {
+            let contents = read_all(shelf, alloc, &wanted.files, MOST_BYTES)?;
+            let outcome = answer(alloc, wanted.verb, &contents)?;
             Ok(outcome)
         }
         None => {

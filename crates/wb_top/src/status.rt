@@ -17,6 +17,8 @@ pub enum Status {
     WriteFault,
     /// Memory could not be found. Nothing was written.
     NoMemory,
+    /// A file is longer than files may be.
+    Limit,
 }
 
 impl Status {
@@ -35,6 +37,7 @@ impl Status {
             Status::ReadFault => 5,
             Status::WriteFault => 6,
             Status::NoMemory => 7,
+            Status::Limit => 8,
         }
     }
 }

@@ -2,6 +2,7 @@
 
 mod counter;
 mod faults;
+mod simulation;
 mod variants;
 
 use super::*;

@@ -2,11 +2,14 @@
 
 ghost use Rattle.std.specs.Prelude.{◌≡◌, ◌++◌, ◌∷◌, [], codes, IfOk};
 ghost use Rattle.ila_rules.specs.Rule.{rule_view, rule_name};
-ghost use Rattle.wb_top.specs.Texts.{usage_text, IsRefusalBy, IsRefusal};
+ghost use Rattle.ila_sim.specs.Scripts.{name_of_kind};
+ghost use Rattle.wb_top.specs.Texts.{usage_text, limit_text, IsRefusalBy, IsRefusal};
 
 use crate::judged::Place;
 use crate::stop::NoMemory;
 use ila_rules::ModelRefusal;
+use ila_sim::ScriptRefusal;
+use itoa::Buffer;
 use std::alloc::Global;
 
 /// The text for words that ask for nothing that the program does.
@@ -31,6 +34,31 @@ fn refusal_text_by(alloc: Global, rule: &[u8], note: &[u8]) -> Result<Vec<u8>, N
     text.extend_from_slice(rule)?;
     text.extend_from_slice(b"\nnote ")?;
     text.extend_from_slice(note)?;
+    text.extend_from_slice(b"\n")?;
+    Ok(text)
+}
+
+/// The text for a script that is refused.
+pub(crate) fn refusal_of_script(
+    alloc: Global,
+    refusal: &ScriptRefusal,
+) -> Result<Vec<u8>, NoMemory>
+    ensures { IfOk result (λ text. IsRefusalBy (name_of_kind refusal.now.kind) text.items) }
+{
+    refusal_text_by(
+        alloc,
+        refusal.kind.name().as_bytes(),
+        refusal.note.as_bytes(),
+    )
+}
+
+/// The text for a file that is too long, by its number in the order of reading, from 0.
+pub(crate) fn limit(alloc: Global, number: usize) -> Result<Vec<u8>, NoMemory>
+    ensures { IfOk result (λ text. text.items ≡ limit_text number) }
+{
+    let mut text = Vec::from_slice(alloc, b"limit length ")?;
+    let mut buffer = Buffer::new();
+    text.extend_from_slice(buffer.format(number as u64).as_bytes())?;
     text.extend_from_slice(b"\n")?;
     Ok(text)
 }

@@ -3,8 +3,8 @@
 ghost use Rattle.std.specs.Prelude.{◌≡◌, ◌≤◌, ◌≢◌, IsSome, map, string_bytes};
 ghost use Rattle.wb_outside.specs.Outside.{Rose};
 ghost use Rattle.wb_top.specs.Asked.{AskedAll, AskedSome};
-ghost use Rattle.wb_top.specs.Outcome.{Headline, Wrote, WrotePrefix};
-ghost use Rattle.wb_top.specs.Words.{check_of};
+ghost use Rattle.wb_top.specs.Outcome.{AskForCheck, Headline, Wrote, WrotePrefix};
+ghost use Rattle.wb_top.specs.Words.{command_of};
 
 use crate::outcome::{outcome, written};
 use crate::status::{Ended, Status};
@@ -14,7 +14,8 @@ use wb_outside::{Shelf, Sink};
 
 /// Does what the words ask for: reads the files that they name from the shelf, and writes the outcome's text by one write.
 ///
-/// The words are `PROGRAM check --model MODEL --map MAP VERILOG`; all others end with `Usage`.
+/// The words are `PROGRAM check --model MODEL --map MAP VERILOG` or `PROGRAM simulate --model MODEL --script SCRIPT`; all others end
+/// with `Usage`.
 pub fn workbench<S: Shelf, K: Sink>(
     alloc: Global,
     words: &[String],
@@ -23,19 +24,21 @@ pub fn workbench<S: Shelf, K: Sink>(
 ) -> Ended
     // The headline: where a check ends with `Done`, every run of the design, of any length and from any first registers, that is
     // from reset and has one command in flight refines the model.
-    ensures headline { result.status ≡ Status.Done → Headline (S.holds shelf.old) (map string_bytes words.now) }
+    ensures headline { AskForCheck (map string_bytes words.now) → result.status ≡ Status.Done → Headline (S.holds shelf.old) (map string_bytes words.now) }
 
-    // What was written, and why: a report, each of whose lines is true, or the text of a refusal.
+    // What was written, and why: a report, each of whose lines is true; what the model does under the script, line by line; or the
+    // text of a refusal or of a limit.
     ensures done { result.status ≡ Status.Done → Wrote (S.holds shelf.old) (map string_bytes words.now) Status.Done (K.written out.old) (K.written out.new) }
     ensures failed { result.status ≡ Status.Failed → Wrote (S.holds shelf.old) (map string_bytes words.now) Status.Failed (K.written out.old) (K.written out.new) }
     ensures usage { result.status ≡ Status.Usage → Wrote (S.holds shelf.old) (map string_bytes words.now) Status.Usage (K.written out.old) (K.written out.new) }
     ensures refused { result.status ≡ Status.Refused → Wrote (S.holds shelf.old) (map string_bytes words.now) Status.Refused (K.written out.old) (K.written out.new) }
+    ensures limit { result.status ≡ Status.Limit → Wrote (S.holds shelf.old) (map string_bytes words.now) Status.Limit (K.written out.old) (K.written out.new) }
     ensures write_fault { result.status ≡ Status.WriteFault → WrotePrefix (S.holds shelf.old) (map string_bytes words.now) (K.written out.old) (K.written out.new) }
     ensures read_fault { result.status ≡ Status.ReadFault → K.written out.new ≡ K.written out.old }
     ensures no_memory { result.status ≡ Status.NoMemory → K.written out.new ≡ K.written out.old }
 
     // Faults come from outside alone.
-    ensures read_check { result.status ≡ Status.ReadFault → IsSome (check_of (map string_bytes words.now)) }
+    ensures read_command { result.status ≡ Status.ReadFault → IsSome (command_of (map string_bytes words.now)) }
     ensures shelf_rose { result.status ≡ Status.ReadFault → Rose (S.faults shelf.old) (S.faults shelf.new) }
     ensures sink_rose { result.status ≡ Status.WriteFault → Rose (K.faults out.old) (K.faults out.new) }
     ensures shelf_never_falls { S.faults shelf.old ≤ S.faults shelf.new }
@@ -43,9 +46,9 @@ pub fn workbench<S: Shelf, K: Sink>(
 
     // Which files were asked for.
     ensures keeps { S.holds shelf.new ≡ S.holds shelf.old }
-    ensures asked { AskedSome (check_of (map string_bytes words.now)) (S.asked shelf.old) (S.asked shelf.new) }
+    ensures asked { AskedSome (command_of (map string_bytes words.now)) (S.asked shelf.old) (S.asked shelf.new) }
     ensures asked_all { result.status ≢ Status.ReadFault → result.status ≢ Status.NoMemory →
-        AskedAll (check_of (map string_bytes words.now)) (S.asked shelf.old) (S.asked shelf.new) }
+        AskedAll (command_of (map string_bytes words.now)) (S.asked shelf.old) (S.asked shelf.new) }
 {
     match outcome(alloc, words, shelf) {
         Ok(outcome) => {

@@ -9,7 +9,7 @@ use wb_outside::MemSink;
 #[test]
 fn other_words_are_usage(rt: HostRuntime) -> Result<(), Fail> {
     let alloc = rt.alloc();
-    let rows: [&[&str]; 14] = [
+    let rows: [&[&str]; 20] = [
         &[],
         &["wb"],
         &["wb", "check"],
@@ -24,6 +24,12 @@ fn other_words_are_usage(rt: HostRuntime) -> Result<(), Fail> {
         &["wb", "check", "--model", "m", "--map", "--", "v"],
         &["wb", "check", "--model", "m", "--map", "p", "-"],
         &["wb", "check", "--models", "m", "--map", "p", "v"],
+        &["wb", "simulate", "--model", "m"],
+        &["wb", "simulate", "--model", "m", "--map", "s"],
+        &["wb", "simulate", "--script", "s", "--model", "m"],
+        &["wb", "simulate", "--model", "-", "--script", "s"],
+        &["wb", "simulate", "--model", "m", "--script", "--s"],
+        &["wb", "check", "--model", "m", "--script", "s"],
     ];
     for (index, words) in rows.into_iter().enumerate() {
         let mut shelf = shelf_of(
@@ -102,36 +108,54 @@ fn a_write_that_fails_leaves_a_prefix(rt: HostRuntime) -> Result<(), Fail> {
 }
 
 #[test]
-fn a_file_that_is_too_long_is_not_accepted(rt: HostRuntime) -> Result<(), Fail> {
+fn a_file_that_is_too_long_is_a_limit(rt: HostRuntime) -> Result<(), Fail> {
     let alloc = rt.alloc();
     let blanks = vec![in alloc; b' '; 4_194_305]?;
-    let rows: [(&[u8], &[u8], &[u8], &str); 3] = [
+    let fitting = &blanks[1..];
+    let rows: [(&[u8], &[u8], &[u8], Status, &str); 5] = [
         (
             &blanks,
-            MAP.as_bytes(),
+            &blanks,
+            &blanks,
+            Status::Limit,
+            "limit length 0\n",
+        ),
+        (
+            b"",
+            &blanks,
             DESIGN.as_bytes(),
-            "refused N1 NotYet\nnote the model file\n",
+            Status::Limit,
+            "limit length 1\n",
         ),
         (
             MODEL.as_bytes(),
+            MAP.as_bytes(),
             &blanks,
-            DESIGN.as_bytes(),
-            "refused N1 NotYet\nnote the map file\n",
+            Status::Limit,
+            "limit length 2\n",
         ),
         (
             MODEL.as_bytes(),
             MAP.as_bytes(),
-            &blanks,
+            fitting,
+            Status::Refused,
             "refused N1 NotYet\nnote the Verilog file\n",
         ),
+        (
+            MODEL.as_bytes(),
+            fitting,
+            DESIGN.as_bytes(),
+            Status::Refused,
+            "refused N1 NotYet\nnote the map file\n",
+        ),
     ];
-    for (model, map, design, text) in rows {
+    for (index, (model, map, design, status, text)) in rows.into_iter().enumerate() {
         let mut shelf = shelf_of(alloc, model, map, design, &[])?;
         let mut sink = MemSink::new(alloc, ROOM, Vec::new(alloc))?;
         let words = owned(alloc, &CHECK)?;
         let ended = workbench(alloc, &words, &mut shelf, &mut sink);
-        assert_eq!(rt; ended.status, Status::Refused, "{text}");
-        assert_eq!(rt; sink.bytes(), text.as_bytes(), "{text}");
+        assert_eq!(rt; ended.status, status, "row {index}");
+        assert_eq!(rt; sink.bytes(), text.as_bytes(), "row {index}");
     }
     Ok(())
 }

@@ -1,37 +1,47 @@
 use Rattle.std.proofs.Common.{◌≡◌, ◌∙◌, ap, sym, subst, List, map, length, string_bytes, String, Global, Some, option_map, Ok, Err, OnErr}
 use Rattle.std.proofs.lemmas.List.{length-map}
-use Rattle.wb_top.specs.Words.{check_of, names_in}
+use Rattle.wb_top.specs.Words.{command_of, file_count}
+use Rattle.wb_top.specs.Wanted.{command_view}
 use Rattle.wb_top.specs.Asked.{AskedSome}
-use Rattle.wb_top.proofs.Told.{AsksFor, asks_for, three_names, asked_all, asked_prefix, outcome_of_answer}
+use Rattle.wb_top.proofs.Told.{AsksFor, asks_for, files_counted, asked_all, asked_some, asked_prefix, outcome_of_answer}
 use Rattle.wb_top.proofs.outcome.outcome.Goals as goal
 
 pub answer-requires : goal.answer-requires
 answer-requires g c =
-    let found = rw c.in-Some.is at c.in_ok-names.ensures in
-    let asks : AsksFor (map string_bytes c.args.words.now) (map string_bytes c.in-Some.names.items) = asks_for _ _ found in
-    let named : length c.in-Some.names.items ≡ 3 = sym (length-map c.in-Some.names.items string_bytes) ∙ three_names _ _ asks in
+    let found = rw c.in-Some.is at c.in_ok-wanted.ensures in
+    let counted = files_counted (map string_bytes c.args.words.now) (command_view c.in-Some.wanted) (sym found) in
+    let named : length c.in-Some.wanted.files.items ≡ file_count c.in-Some.wanted.verb = sym (length-map c.in-Some.wanted.files.items string_bytes) ∙ counted in
     ap length c.deref-in-Some.ensures.value ∙ c.in_ok-contents-in-Some.ensures.count ∙ ap length c.deref.ensures.value ∙ named
 
 pub returns-in_err-outcome-in-Some-clause-err_asked : goal.returns-in_err-outcome-in-Some-clause-err_asked
 returns-in_err-outcome-in-Some-clause-err_asked g c =
-    let found = rw c.in-Some.is at c.in_ok-names.ensures in
-    let asks : AsksFor (map string_bytes c.args.words.now) (map string_bytes c.in-Some.names.items) = asks_for _ _ found in
+    let found = rw c.in-Some.is at c.in_ok-wanted.ensures in
+    let asks : AsksFor (map string_bytes c.args.words.now) c.in-Some.wanted.verb (map string_bytes c.in-Some.wanted.files.items) = asks_for _ (command_view c.in-Some.wanted) found in
     let asked = rw c.deref.ensures.value at c.in_ok-contents-in-Some.ensures.ok_asked in
-    elim c.from_residual-in_err-outcome-in-Some.result as (λ r. OnErr r (AskedSome (check_of (map string_bytes c.args.words.now))
+    elim c.from_residual-in_err-outcome-in-Some.result as (λ r. OnErr r (AskedSome (command_of (map string_bytes c.args.words.now))
     (g.S.Shelf.asked c.args.shelf.now) (g.S.Shelf.asked c.read_all.new.shelf)))
-    [ Ok _ ↦ tt | Err _ ↦ asked_prefix _ _ _ _ asks asked ]
+    [ Ok _ ↦ tt | Err _ ↦ asked_prefix _ _ _ _ _ asks asked ]
 
 pub returns-in_ok-outcome-in-Some-clause-outcome : goal.returns-in_ok-outcome-in-Some-clause-outcome
 returns-in_ok-outcome-in-Some-clause-outcome g c =
-    let found = rw c.in-Some.is at c.in_ok-names.ensures in
-    let asks : AsksFor (map string_bytes c.args.words.now) (map string_bytes c.in-Some.names.items) = asks_for _ _ found in
+    let found = rw c.in-Some.is at c.in_ok-wanted.ensures in
+    let asks : AsksFor (map string_bytes c.args.words.now) c.in-Some.wanted.verb (map string_bytes c.in-Some.wanted.files.items) = asks_for _ (command_view c.in-Some.wanted) found in
     let read = rw c.deref.ensures.value at c.in_ok-contents-in-Some.ensures.first_bytes in
     let answer = rw c.deref-in-Some.ensures.value at c.in_ok-outcome-in-Some.ensures in
-    outcome_of_answer (g.S.Shelf.holds c.args.shelf.now) (map string_bytes c.args.words.now) asks.check (map string_bytes c.in-Some.names.items) _ c.in_ok-outcome-in-Some.outcome.status c.in_ok-outcome-in-Some.outcome.text.items asks.is_check asks.are_names read answer
+    outcome_of_answer (g.S.Shelf.holds c.args.shelf.now) (map string_bytes c.args.words.now) c.in-Some.wanted.verb (map string_bytes c.in-Some.wanted.files.items) _ c.in_ok-outcome-in-Some.outcome.status c.in_ok-outcome-in-Some.outcome.text.items asks read answer
 
 pub returns-in_ok-outcome-in-Some-clause-ok_asked : goal.returns-in_ok-outcome-in-Some-clause-ok_asked
 returns-in_ok-outcome-in-Some-clause-ok_asked g c =
-    let found = rw c.in-Some.is at c.in_ok-names.ensures in
-    let asks : AsksFor (map string_bytes c.args.words.now) (map string_bytes c.in-Some.names.items) = asks_for _ _ found in
+    let found = rw c.in-Some.is at c.in_ok-wanted.ensures in
+    let asks : AsksFor (map string_bytes c.args.words.now) c.in-Some.wanted.verb (map string_bytes c.in-Some.wanted.files.items) = asks_for _ (command_view c.in-Some.wanted) found in
     let asked = rw c.deref.ensures.value at c.in_ok-contents-in-Some.ensures.ok_asked in
-    asked_all _ _ _ _ asks asked
+    asked_all _ _ _ _ _ asks asked
+
+pub returns-in_err-contents-in-Some-clause-err_asked : goal.returns-in_err-contents-in-Some-clause-err_asked
+returns-in_err-contents-in-Some-clause-err_asked g c =
+    let found = rw c.in-Some.is at c.in_ok-wanted.ensures in
+    let asks : AsksFor (map string_bytes c.args.words.now) c.in-Some.wanted.verb (map string_bytes c.in-Some.wanted.files.items) = asks_for _ (command_view c.in-Some.wanted) found in
+    let asked = rw c.deref.ensures.value at c.in_err-contents-in-Some.ensures.err_asked in
+    elim c.from_residual-in_err-contents-in-Some.result as (λ r. OnErr r (AskedSome (command_of (map string_bytes c.args.words.now))
+    (g.S.Shelf.asked c.args.shelf.now) (g.S.Shelf.asked c.read_all.new.shelf)))
+    [ Ok _ ↦ tt | Err _ ↦ asked_some _ _ _ _ _ asks asked ]

@@ -1,5 +1,5 @@
 use Rattle.wb_top.proofs.Cases.{answered}
-use Rattle.wb_top.proofs.answer.answer_of.Goals as goal
+use Rattle.wb_top.proofs.answer.checked.Goals as goal
 
 pub returns-in_ok-outcome-in-Case : goal.returns-in_ok-outcome-in-Case
 returns-in_ok-outcome-in-Case c =
