@@ -9,15 +9,15 @@ use Rattle.ila_sim.specs.declared.refusal.ScriptKind.TheVariants.{BadLine, Missi
 use Rattle.ila_sim.specs.declared.refusal.ScriptStop.{ScriptStop}
 use Rattle.ila_sim.specs.declared.refusal.ScriptStop.TheVariants.{Refused, NoMemory}
 use Rattle.ila_sim.specs.Lines.{sets_view}
-use Rattle.ila_sim.specs.Sets.{are_within}
+use Rattle.ila_sim.specs.Sets.{are_right}
 
 -- The script, whose settings are of these names.
 abbrev pub script_view : Settables → Script → meaning.Script
 script_view n s = record { state = sets_view n.states s.state.items; inputs = map (λ ss. sets_view n.inputs ss.items) s.inputs.items }
 
--- The places in the script are those of names.
+-- The settings of the script are of these names: of words that they have, to values that fit.
 abbrev pub IsScriptWithin : Settables → Script → Type 0
-IsScriptWithin n s = IsTrue (are_within (length n.states) s.state.items) × IsTrue (list_all (λ ss. are_within (length n.inputs) ss.items) s.inputs.items)
+IsScriptWithin n s = IsTrue (are_right n.states s.state.items) × IsTrue (list_all (λ ss. are_right n.inputs ss.items) s.inputs.items)
 
 -- what is answered about a script, beside its reading
 abbrev pub IsAnswered : Settables → Result Script ScriptStop → ScriptReading → Type 0
