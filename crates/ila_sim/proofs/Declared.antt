@@ -32,10 +32,10 @@ lacks_same (e ∷ ns) n =
     ap (λ m. is_none (cond (same_name m n) (Some (settable e.0 e.1)) (settable_named (settables_by ns) n))) (named_as e.0 e.1)
     ∙ shown (same_name e.0 n) (lacks_same ns n)
   where
-  shown : (t : Bool) → is_none (settable_named (settables_by ns) n) ≡ is_none (entry_of ns n)
-      → is_none (cond t (Some (settable e.0 e.1)) (settable_named (settables_by ns) n)) ≡ is_none (cond t (Some e.1) (entry_of ns n))
-  shown true h = refl
-  shown false h = h
+    shown : (t : Bool) → is_none (settable_named (settables_by ns) n) ≡ is_none (entry_of ns n)
+        → is_none (cond t (Some (settable e.0 e.1)) (settable_named (settables_by ns) n)) ≡ is_none (cond t (Some e.1) (entry_of ns n))
+    shown true h = refl
+    shown false h = h
 
 pub apart_from : (ns : Entries Sort) → are_distinct ns ≡ true → are_apart (settables_by ns) ≡ true
 apart_from [] h = refl

@@ -10,3 +10,4 @@ pub mod Settables
 pub mod Marks
 pub mod Outcomes
 pub mod Texts
+pub mod Whole

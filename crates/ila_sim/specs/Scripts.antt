@@ -19,12 +19,20 @@ script_view n s = record { state = sets_view n.states s.state.items; inputs = ma
 abbrev pub IsScriptWithin : Settables → Script → Type 0
 IsScriptWithin n s = IsTrue (are_right n.states s.state.items) × IsTrue (list_all (λ ss. are_right n.inputs ss.items) s.inputs.items)
 
+abbrev pub IsRefused : ScriptKind → ScriptReading → Type 0
+IsRefused BadLine r = r ≡ bad_line
+IsRefused MissingInput r = r ≡ missing_input
+
 -- what is answered about a script, beside its reading
 abbrev pub IsAnswered : Settables → Result Script ScriptStop → ScriptReading → Type 0
 IsAnswered n (Ok s) r = r ≡ is_script (script_view n s)
-IsAnswered n (Err (Refused BadLine)) r = r ≡ bad_line
-IsAnswered n (Err (Refused MissingInput)) r = r ≡ missing_input
+IsAnswered n (Err (Refused refusal)) r = IsRefused refusal.kind r
 IsAnswered n (Err NoMemory) r = ⊤
+
+-- a refusal of this kind, or want of memory
+abbrev pub IsStopOf : ScriptKind → ScriptStop → Type 0
+IsStopOf kind (Refused refusal) = refusal.kind ≡ kind
+IsStopOf kind NoMemory = ⊤
 
 abbrev pub name_of_kind : ScriptKind → List ℕ
 name_of_kind BadLine = codes "S1 BadLine"

@@ -17,11 +17,7 @@ use std::alloc::Global;
 use wb_terms::{NoMemory, Value};
 
 /// The state in which a script begins: initial values, where none are stated zeros, and then what is set.
-pub(crate) fn first_state(
-    alloc: Global,
-    model: &IlaModel,
-    sets: &[Set],
-) -> Result<State, NoMemory>
+pub(crate) fn first_state(alloc: Global, model: &IlaModel, sets: &[Set]) -> Result<State, NoMemory>
     requires { IsTrue (are_right (settables_of (model_of model.now)).states sets.now) }
     ensures values { IfOk result (λ q. state_valuation (model_of model.now) q ≡ with_sets (initial_state (model_of model.now)) (sets_view (settables_of (model_of model.now)).states sets.now)) }
     ensures sorted { IfOk result (IsStateOf (model_of model.now)) }
@@ -44,11 +40,7 @@ fn zeros(alloc: Global, model: &IlaModel) -> Result<Vec<Value>, NoMemory>
 }
 
 /// The inputs that a line gives.
-pub(crate) fn line_inputs(
-    alloc: Global,
-    model: &IlaModel,
-    sets: &[Set],
-) -> Result<Inputs, NoMemory>
+pub(crate) fn line_inputs(alloc: Global, model: &IlaModel, sets: &[Set]) -> Result<Inputs, NoMemory>
     requires { IsTrue (are_right (settables_of (model_of model.now)).inputs sets.now) }
     ensures values { IfOk result (λ w. input_valuation (model_of model.now) w ≡ inputs_of (model_of model.now) (sets_view (settables_of (model_of model.now)).inputs sets.now)) }
     ensures sorted { IfOk result (AreInputsOf (model_of model.now)) }

@@ -21,12 +21,7 @@ use std::alloc::Global;
 use wb_terms::NoMemory;
 
 /// What the model does in a state under the inputs of a line.
-fn answer(
-    alloc: Global,
-    model: &IlaModel,
-    state: &State,
-    sets: &[Set],
-) -> Result<Stepped, NoMemory>
+fn answer(alloc: Global, model: &IlaModel, state: &State, sets: &[Set]) -> Result<Stepped, NoMemory>
     requires state { IsStateOf (model_of model.now) state.now }
     requires sets { IsTrue (are_right (settables_of (model_of model.now)).inputs sets.now) }
     ensures outcome { IfOk result (λ a. IsOutcome (model_of model.now) (state_valuation (model_of model.now) state.now) (inputs_of (model_of model.now) (sets_view (settables_of (model_of model.now)).inputs sets.now)) (outcome_view (model_of model.now) a)) }
@@ -59,11 +54,7 @@ fn copied_behind(alloc: Global, state: State, answer: &Stepped) -> Result<State,
 
 /// What the model does, line by line of the script. It begins in its initial values, zeros where none are stated, and the
 /// settings of the script's state line; where a step leads to no next state the state stays.
-pub fn simulate(
-    alloc: Global,
-    model: &IlaModel,
-    script: &Script,
-) -> Result<Vec<Stepped>, NoMemory>
+pub fn simulate(alloc: Global, model: &IlaModel, script: &Script) -> Result<Vec<Stepped>, NoMemory>
     requires { IsScriptWithin (settables_of (model_of model.now)) script.now }
     ensures { IfOk result (λ v. IsSimulation (model_of model.now) (script_view (settables_of (model_of model.now)) script.now) (map (outcome_view (model_of model.now)) v.items)) }
 {
@@ -78,11 +69,7 @@ pub fn simulate(
 }
 
 /// The text of such a run. No more than one state is kept at a time.
-pub fn simulated_text(
-    alloc: Global,
-    model: &IlaModel,
-    script: &Script,
-) -> Result<Vec<u8>, NoMemory>
+pub fn simulated_text(alloc: Global, model: &IlaModel, script: &Script) -> Result<Vec<u8>, NoMemory>
     requires { IsScriptWithin (settables_of (model_of model.now)) script.now }
     ensures { IfOk result (λ v. IsTold (model_of model.now) (script_view (settables_of (model_of model.now)) script.now) v.items) }
 {

@@ -108,7 +108,7 @@ fn set_named<'a>(
 }
 
 /// One number for the place and the word.
-fn key_of(set: &Set) -> u128
+pub(crate) fn key_of(set: &Set) -> u128
     ensures { result ≡ key_of set.now }
 {
     set.place as u128 * 18446744073709551616 + u128::from(set.word)
@@ -142,7 +142,7 @@ fn set_of<'a>(index: &Index<'a>, left: &'a [u8], value: Option<u128>) -> Option<
 }
 
 /// A word `name=value` or `memory[address]=value`.
-fn set_in<'a>(index: &Index<'a>, text: &'a [u8]) -> Option<Set>
+pub(crate) fn set_in<'a>(index: &Index<'a>, text: &'a [u8]) -> Option<Set>
     ensures set { option_map (set_at (map settable_of index.now.settables.now)) result ≡ set_in (map settable_of index.now.settables.now) text.now }
     ensures right { IfSome result (λ s. IsTrue (is_right (map settable_of index.now.settables.now) s)) }
 {

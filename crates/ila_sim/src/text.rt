@@ -37,12 +37,7 @@ fn append_number(out: &mut Vec<u8>, name: &str, number: u128) -> Result<(), NoMe
 }
 
 /// Appends ` m[5]=7`.
-fn append_address(
-    out: &mut Vec<u8>,
-    name: &str,
-    address: usize,
-    word: u128,
-) -> Result<(), NoMemory>
+fn append_address(out: &mut Vec<u8>, name: &str, address: usize, word: u128) -> Result<(), NoMemory>
     ensures { OnOk result (out.new.items ≡ out.old.items ++ address_text name.now address word) }
 {
     out.push(b' ')?;
@@ -55,12 +50,7 @@ fn append_address(
 }
 
 /// Appends a word of a memory that is not 0.
-fn append_word(
-    out: &mut Vec<u8>,
-    name: &str,
-    address: usize,
-    word: u128,
-) -> Result<(), NoMemory>
+fn append_word(out: &mut Vec<u8>, name: &str, address: usize, word: u128) -> Result<(), NoMemory>
     ensures { OnOk result (out.new.items ≡ out.old.items ++ word_text name.now address word) }
 {
     if word == 0 {
@@ -116,11 +106,7 @@ fn append_value_at(
 }
 
 /// Appends the values of all states.
-fn append_states(
-    out: &mut Vec<u8>,
-    model: &IlaModel,
-    values: &[Value],
-) -> Result<(), NoMemory>
+fn append_states(out: &mut Vec<u8>, model: &IlaModel, values: &[Value]) -> Result<(), NoMemory>
     ensures { OnOk result (out.new.items ≡ out.old.items ++ values_text (states_of (model_of model.now).top) (map as_value values.now)) }
 {
     for place in 0..model.state_count() {
