@@ -1,5 +1,5 @@
 -- Settings of different words have different numbers.
-use Rattle.std.proofs.Common.{Vec, Global, ◌≡◌, ℕ, zero, suc, ◌+◌, ◌*◌, ◌^◌, ◌<◌, ◌≤◌, ◌≢◌, Bool, true, false, cond, not, ◌&&◌, nat_lt, List, [], ◌∷◌, map, length, Option, Some, None, arith, refl, ap, sym, subst, ◌∙◌, IsTrue}
+use Rattle.std.proofs.Common.{Vec, Global, ◌≡◌, ℕ, zero, suc, ◌+◌, ◌*◌, ◌^◌, ◌<◌, ◌≤◌, ◌≢◌, Bool, true, false, cond, ◌&&◌, nat_lt, List, [], ◌∷◌, map, length, Option, Some, arith, refl, ap, sym, subst, ◌∙◌}
 use Rattle.std.specs.Prelude.{is_none, ◌==◌}
 use Rattle.std.specs.List.{list_any, list_all}
 use Rattle.std.proofs.lemmas.Bool.Decides.{nat_tests}
@@ -14,7 +14,7 @@ use Rattle.wb_meaning.specs.Script.{settable_named, is_same_word, are_distinct_s
 use Rattle.ila_sim.specs.declared.set.Set.{Set}
 use Rattle.ila_sim.specs.Names.{are_apart, settable_of}
 use Rattle.ila_sim.specs.Places.{called_at}
-use Rattle.ila_sim.specs.Sets.{set_at, key_of, are_distinct_numbers, are_within, is_right, are_right, suits, suits_at}
+use Rattle.ila_sim.specs.Sets.{set_at, key_of, are_distinct_numbers, are_within, is_right, are_right, suits_at}
 
 by_value : (a b : Bool) → (a ≡ true → b ≡ true) → (b ≡ true → a ≡ true) → a ≡ b
 by_value true b f g = sym (f refl)

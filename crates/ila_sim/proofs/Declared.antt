@@ -1,11 +1,11 @@
 -- Lemmas on the names of a model: they are apart, and stand at their places.
-use Rattle.std.proofs.Common.{◌≡◌, ℕ, zero, suc, ◌+◌, ◌<◌, Bool, true, false, cond, List, [], ◌∷◌, ◌++◌, map, length, take, drop, Option, Some, None, option_map, slice_get, is_none, refl, sym, ap, ◌∙◌, subst, arith, add-one, get_or, ◌≤◌}
+use Rattle.std.proofs.Common.{◌≡◌, ℕ, zero, suc, ◌+◌, ◌<◌, Bool, true, false, cond, List, [], ◌∷◌, ◌++◌, map, length, take, drop, Option, Some, option_map, slice_get, is_none, refl, sym, ap, ◌∙◌, subst, arith, add-one, get_or, ◌≤◌}
 use Rattle.std.proofs.lemmas.Bool.{and_from, and_parts}
 use Rattle.std.specs.String.{string_bytes}
 use Rattle.wb_meaning.specs.Value.{Name, same_name, Sort, truth, word, memory, Entries, entry_of}
 use Rattle.wb_meaning.specs.Model.{StateDeclaration, InputDeclaration, Model, states_of, instructions_in, instruction_list, instruction_name}
 use Rattle.wb_meaning.specs.Model as pure
-use Rattle.wb_meaning.specs.Script.{Settable, settable, settable_named, settables_of}
+use Rattle.wb_meaning.specs.Script.{settable, settable_named, settables_of}
 use Rattle.wb_meaning.specs.Simulation.{name_or_none}
 use Rattle.wb_terms.specs.Graph.{Graph}
 use Rattle.ila_model.specs.declared.parts.Instruction.{Instruction}

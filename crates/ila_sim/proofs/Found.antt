@@ -1,5 +1,5 @@
 -- Names found by their places, and numbers that are too large to fit.
-use Rattle.std.proofs.Common.{◌≡◌, ℕ, zero, suc, ◌+◌, ◌^◌, ◌<◌, ◌≤◌, Bool, true, false, cond, nat_lt, List, [], ◌∷◌, ◌++◌, map, length, get_or, Option, Some, None, arith, refl, ap, sym, subst, ◌∙◌, ◌&&◌, take, drop}
+use Rattle.std.proofs.Common.{◌≡◌, ℕ, zero, suc, ◌+◌, ◌^◌, ◌<◌, ◌≤◌, Bool, true, false, cond, nat_lt, List, [], ◌∷◌, map, length, get_or, Option, Some, None, arith, refl, ap, sym, subst, ◌∙◌, take, drop}
 use Rattle.std.specs.Prelude.{option_map, IfSome, IsTrue}
 use Rattle.std.proofs.lemmas.Bool.Decides.{nat_tests}
 use Rattle.std.proofs.Math.Nat.{pow-le-pow_right}
@@ -16,7 +16,6 @@ use Rattle.ila_sim.specs.Sets.{set_at, set_called, suits, suits_at, is_right}
 use Rattle.ila_sim.specs.Kinds.{addresses_of, fits_of, width_of, end_of}
 use Rattle.ila_sim.specs.Names.{settable_of}
 use Rattle.ila_sim.specs.Places.{place_from, called_at}
-use Rattle.ila_sim.specs.Reading.{onto}
 
 pub record IsAt (es : List Settable) (n : Name) (m : ℕ) : Type 0 where
   pub within : m < length es

@@ -1,12 +1,11 @@
 -- Lemmas on what settings make of values: values of the same sorts, and what they mean under their names.
-use Rattle.std.proofs.Common.{◌≡◌, ℕ, zero, suc, ◌+◌, ◌^◌, ◌<◌, Bool, true, false, cond, ◌&&◌, List, [], ◌∷◌, map, length, get_or, set, Option, Some, None, option_map, slice_get, refl, sym, ap, ◌∙◌, subst, arith}
+use Rattle.std.proofs.Common.{◌≡◌, ℕ, zero, suc, ◌^◌, ◌<◌, Bool, true, false, cond, List, [], ◌∷◌, map, length, get_or, set, Option, Some, None, option_map, slice_get, refl, sym, ap, ◌∙◌, subst, arith}
 use Rattle.std.specs.Prelude.{◌==◌, nat_lt}
 use Rattle.std.proofs.Math.Path.{fun_ext}
 use Rattle.std.proofs.lemmas.Bool.{and_from, and_parts, false≢true}
 use Rattle.std.proofs.lemmas.List.{length-set}
-use Rattle.wb_meaning.specs.Value.{Name, same_name, Sort, truth, word, memory, Value, truth_value, number, words, all_below, is_of_sort, Entries, entry_of, value_or_zero, Valuation, valuation_of, with_value}
+use Rattle.wb_meaning.specs.Value.{Name, same_name, Sort, truth, word, memory, Value, truth_value, number, words, all_below, is_of_sort, Entries, entry_of, value_or_zero, valuation_of, with_value}
 use Rattle.wb_meaning.specs.Model.{StateDeclaration, InputDeclaration, Model, states_of, state_named, value_or}
-use Rattle.wb_meaning.specs.Script as meaning
 use Rattle.wb_meaning.specs.Script.{Settable, settable, settables_of, zero_value, with_word, with_sets, initial_or_zero, first_value, initial_state, zero_input, inputs_of}
 use Rattle.wb_terms.specs.declared.values.Value as code
 use Rattle.wb_terms.specs.Environment.{as_value, AreOfSorts, named}
@@ -19,7 +18,7 @@ use Rattle.ila_sim.specs.Lines.{sets_view}
 use Rattle.ila_sim.specs.Names.{are_apart}
 use Rattle.ila_sim.specs.Places.{called_at}
 use Rattle.ila_sim.specs.Outcomes.{with_set, with_all, zero_values, settables_by}
-use Rattle.ila_sim.specs.Sets.{set_at, is_word_of, suits, suits_at, is_right, are_right}
+use Rattle.ila_sim.specs.Sets.{suits, suits_at, is_right, are_right}
 use Rattle.ila_sim.proofs.Apart.{absent, turned, left_part, right_part}
 use Rattle.ila_sim.proofs.Declared.{named_as, states_by, inputs_by}
 

@@ -1,5 +1,5 @@
 -- Lemmas on the text of states and on texts put together.
-use Rattle.std.proofs.Common.{◌≡◌, ℕ, zero, suc, ◌+◌, ◌<◌, Bool, true, false, List, [], ◌∷◌, ◌++◌, map, length, get_or, drop, Option, Some, None, option_map, slice_get, refl, sym, ap, ◌∙◌, subst, arith, append_assoc, add-one, ◌≤◌}
+use Rattle.std.proofs.Common.{◌≡◌, ℕ, zero, suc, ◌+◌, ◌<◌, true, List, [], ◌∷◌, ◌++◌, length, get_or, drop, Some, option_map, slice_get, refl, sym, ap, ◌∙◌, subst, arith, append_assoc, add-one, ◌≤◌}
 use Rattle.std.proofs.lemmas.List.{drop_all}
 use Rattle.wb_meaning.specs.Value.{Name, Value, number, Valuation}
 use Rattle.wb_meaning.specs.Model.{StateDeclaration, Model, states_of}

@@ -1,5 +1,5 @@
 -- What the code's lines stand for.
-use Rattle.std.specs.Prelude.{Bool, length, List, map, Option, Some, None}
+use Rattle.std.specs.Prelude.{Bool, List, map, Option, Some, None}
 use Rattle.wb_meaning.specs.Script as meaning
 use Rattle.wb_meaning.specs.Script.{Settables, state_line, input_line}
 use Rattle.ila_sim.specs.declared.line.Line.{Line}

@@ -1,5 +1,5 @@
 -- What the code's names that a script may set stand for.
-use Rattle.std.specs.Prelude.{ℕ, Bool, true, ◌&&◌, List, [], ◌∷◌, is_none}
+use Rattle.std.specs.Prelude.{Bool, true, ◌&&◌, List, [], ◌∷◌, is_none}
 use Rattle.wb_meaning.specs.Script as meaning
 use Rattle.wb_meaning.specs.Script.{settable_named}
 use Rattle.wb_meaning.specs.Value.{Name}

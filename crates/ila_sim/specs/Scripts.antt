@@ -1,5 +1,5 @@
 -- What the code's scripts stand for.
-use Rattle.std.specs.Prelude.{ℕ, ◌≡◌, ⊤, IsTrue, List, length, map, codes, Result, Ok, Err}
+use Rattle.std.specs.Prelude.{ℕ, ◌≡◌, ⊤, IsTrue, List, map, codes, Result, Ok, Err}
 use Rattle.std.specs.List.{list_all}
 use Rattle.wb_meaning.specs.Script as meaning
 use Rattle.wb_meaning.specs.Script.{Settables, ScriptReading, is_script, bad_line, missing_input}

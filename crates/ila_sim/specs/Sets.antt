@@ -1,5 +1,5 @@
 -- What the code's settings stand for.
-use Rattle.std.specs.Prelude.{ℕ, zero, suc, ◌^◌, ◌*◌, ◌+◌, ◌<◌, ◌≡◌, ◌==◌, nat_lt, true, false, Bool, not, ◌&&◌, List, [], ◌∷◌, Option, Some, None, slice_get}
+use Rattle.std.specs.Prelude.{ℕ, zero, suc, ◌^◌, ◌*◌, ◌+◌, ◌==◌, nat_lt, true, false, Bool, not, ◌&&◌, List, [], ◌∷◌, Option, Some, None}
 use Rattle.std.specs.List.{list_any, list_all}
 use Rattle.wb_meaning.specs.Value.{Name}
 use Rattle.wb_meaning.specs.Script as meaning

@@ -2,7 +2,6 @@
 use Rattle.std.specs.Prelude.{◌≡◌}
 use Rattle.wb_meaning.specs.Model.{Model}
 use Rattle.wb_meaning.specs.Script.{ScriptReading, is_script, bad_line, missing_input}
-use Rattle.ila_sim.specs.declared.refusal.ScriptKind.{ScriptKind}
 use Rattle.ila_sim.specs.declared.refusal.ScriptKind.TheVariants.{BadLine, MissingInput}
 use Rattle.ila_sim.specs.declared.whole.Simulation.{Simulation}
 use Rattle.ila_sim.specs.declared.whole.Simulation.TheVariants.{Text, Refused}

@@ -1,9 +1,8 @@
-use Rattle.std.proofs.Common.{◌≡◌, map, sym, ap, ◌∙◌, subst}
+use Rattle.std.proofs.Common.{map, sym, ap, ◌∙◌, subst}
 use Rattle.std.specs.String.{string_bytes}
 use Rattle.wb_terms.specs.Environment.{as_value}
 use Rattle.ila_child.specs.State.{IsStateOf, state_valuation}
 use Rattle.ila_model.specs.Model.{model_of}
-use Rattle.ila_sim.specs.Outcomes.{with_all}
 use Rattle.ila_sim.proofs.Declared.{states_apart}
 use Rattle.ila_sim.proofs.Made.{state_sorted, state_meant}
 use Rattle.ila_sim.proofs.beginning.first_state.Goals as goal

@@ -1,8 +1,8 @@
-use Rattle.std.proofs.Common.{◌≡◌, map, sym, ap, ◌∙◌, subst}
+use Rattle.std.proofs.Common.{sym, ap, ◌∙◌, subst}
 use Rattle.std.specs.String.{string_bytes}
 use Rattle.ila_child.specs.State.{AreInputsOf, input_valuation}
 use Rattle.ila_model.specs.Model.{model_of}
-use Rattle.ila_sim.specs.Outcomes.{with_all, zero_values}
+use Rattle.ila_sim.specs.Outcomes.{with_all}
 use Rattle.ila_sim.proofs.Declared.{inputs_apart}
 use Rattle.ila_sim.proofs.Made.{inputs_sorted, inputs_meant}
 use Rattle.ila_sim.proofs.beginning.line_inputs.Goals as goal

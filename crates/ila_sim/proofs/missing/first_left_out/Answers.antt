@@ -1,4 +1,4 @@
-use Rattle.std.proofs.Common.{◌≡◌, map, length, true, subst}
+use Rattle.std.proofs.Common.{◌≡◌, map, true, subst}
 use Rattle.std.proofs.lemmas.List.{length-map}
 use Rattle.ila_sim.specs.Names.{settable_of}
 use Rattle.ila_sim.specs.Sets.{are_within}

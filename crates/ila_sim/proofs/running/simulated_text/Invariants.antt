@@ -1,4 +1,4 @@
-use Rattle.std.proofs.Common.{◌≡◌, suc, IsTrue, List, ◌++◌, map, drop}
+use Rattle.std.proofs.Common.{suc, IsTrue, List, ◌++◌, drop}
 use Rattle.std.specs.List.{list_all}
 use Rattle.wb_meaning.specs.Script.{settables_of, first_state}
 use Rattle.wb_meaning.specs.Simulation.{Outcome, AreOutcomes, outcome_lines}

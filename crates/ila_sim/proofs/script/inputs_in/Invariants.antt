@@ -1,4 +1,4 @@
-use Rattle.std.proofs.Common.{◌≡◌, IsTrue, length, map}
+use Rattle.std.proofs.Common.{◌≡◌, IsTrue, map}
 use Rattle.std.specs.List.{list_all}
 use Rattle.wb_meaning.specs.Script.{inputs_in, without_skipped}
 use Rattle.ila_sim.specs.Cuts.{lines_left, room_left}

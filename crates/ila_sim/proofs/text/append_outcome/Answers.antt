@@ -1,12 +1,10 @@
-use Rattle.std.proofs.Common.{◌≡◌, ◌++◌, map, sym, ap, ◌∙◌, subst}
+use Rattle.std.proofs.Common.{◌≡◌, ◌++◌, sym, ap, ◌∙◌, subst}
 use Rattle.std.specs.Prelude.{OnOk}
 use Rattle.std.specs.String.{string_bytes}
-use Rattle.wb_meaning.specs.Model.{states_of}
 use Rattle.wb_meaning.specs.Simulation.{name_of_instruction, outcome_text}
-use Rattle.wb_terms.specs.Environment.{as_value}
 use Rattle.ila_child.specs.declared.stepping.Stepped.{Stepped}
 use Rattle.ila_model.specs.Model.{model_of}
-use Rattle.ila_sim.specs.Outcomes.{outcome_view, values_text}
+use Rattle.ila_sim.specs.Outcomes.{outcome_view}
 use Rattle.ila_sim.specs.Texts.{next_text}
 use Rattle.ila_sim.proofs.Declared.{states_apart}
 use Rattle.ila_sim.proofs.Told.{states_told}

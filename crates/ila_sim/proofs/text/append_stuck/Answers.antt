@@ -1,4 +1,4 @@
-use Rattle.std.proofs.Common.{◌++◌, [], ◌∷◌}
+use Rattle.std.proofs.Common.{[], ◌∷◌}
 use Rattle.std.specs.Prelude.{codes, decimal}
 use Rattle.ila_sim.proofs.Told.{four_parts}
 use Rattle.ila_sim.proofs.text.append_stuck.Goals as goal
