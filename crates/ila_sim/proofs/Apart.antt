@@ -1,12 +1,11 @@
 -- Settings of different words have different numbers.
-use Rattle.std.proofs.Common.{◌≡◌, ℕ, zero, suc, ◌+◌, ◌*◌, ◌^◌, ◌<◌, ◌≤◌, ◌≢◌, Bool, true, false, cond, not, ◌&&◌, nat_lt, List, [], ◌∷◌, map, length, Option, Some, None, arith, refl, ap, sym, subst, ◌∙◌, IsTrue}
+use Rattle.std.proofs.Common.{Vec, Global, ◌≡◌, ℕ, zero, suc, ◌+◌, ◌*◌, ◌^◌, ◌<◌, ◌≤◌, ◌≢◌, Bool, true, false, cond, ◌&&◌, nat_lt, List, [], ◌∷◌, map, length, Option, Some, arith, refl, ap, sym, subst, ◌∙◌}
 use Rattle.std.specs.Prelude.{is_none, ◌==◌}
 use Rattle.std.specs.List.{list_any, list_all}
 use Rattle.std.proofs.lemmas.Bool.Decides.{nat_tests}
 use Rattle.std.proofs.lemmas.Bool.{false≢true}
 use Rattle.std.proofs.lemmas.Slice.Eq.{bytes_eq-Decides}
 use Rattle.std.proofs.Math.Nat.{mul-le-mul_right}
-use Rattle.std.proofs.lemmas.List.{length-map}
 use Rattle.wb_meaning.specs.Term.{some_if}
 use Rattle.ila_sim.specs.declared.names.Settable.{Settable}
 use Rattle.wb_meaning.specs.Value.{Name, same_name}
@@ -15,7 +14,7 @@ use Rattle.wb_meaning.specs.Script.{settable_named, is_same_word, are_distinct_s
 use Rattle.ila_sim.specs.declared.set.Set.{Set}
 use Rattle.ila_sim.specs.Names.{are_apart, settable_of}
 use Rattle.ila_sim.specs.Places.{called_at}
-use Rattle.ila_sim.specs.Sets.{set_at, key_of, are_distinct_numbers, are_within}
+use Rattle.ila_sim.specs.Sets.{set_at, key_of, are_distinct_numbers, are_within, is_right, are_right, suits_at}
 
 by_value : (a b : Bool) → (a ≡ true → b ≡ true) → (b ≡ true → a ≡ true) → a ≡ b
 by_value true b f g = sym (f refl)
@@ -25,7 +24,7 @@ by_value false false f g = refl
 same_both : (m n : Name) → same_name m n ≡ true → same_name n m ≡ true
 same_both m n h = subst (λ x. same_name x m ≡ true) ((bytes_eq-Decides m n).0 h) ((bytes_eq-Decides m m).1 refl)
 
-turned : (m n : Name) → same_name m n ≡ same_name n m
+pub turned : (m n : Name) → same_name m n ≡ same_name n m
 turned m n = by_value (same_name m n) (same_name n m) (same_both m n) (same_both n m)
 
 pub left_part : (a b : Bool) → (a && b) ≡ true → a ≡ true
@@ -36,7 +35,7 @@ pub right_part : (a b : Bool) → (a && b) ≡ true → b ≡ true
 right_part true b e = e
 right_part false b e = absurd (false≢true e)
 
-absent : (ss : List meaning.Settable) (n : Name) (k : ℕ) → is_none (settable_named ss n) ≡ true → k < length ss → same_name (called_at ss k) n ≡ false
+pub absent : (ss : List meaning.Settable) (n : Name) (k : ℕ) → is_none (settable_named ss n) ≡ true → k < length ss → same_name (called_at ss k) n ≡ false
 absent [] n k e h = absurd (omega arith)
 absent (s ∷ ss) n k e h = shown (same_name s.called n) refl e k h (absent ss n) where
   shown : (t : Bool) → same_name s.called n ≡ t → is_none (cond t (Some s) (settable_named ss n)) ≡ true → (j : ℕ) → j < suc (length ss)
@@ -104,6 +103,22 @@ key_by m i k w v false u a b h g = test_apart _ _ (apart_by i k (i * m + w) (k *
 key_same : (m i k w v : ℕ) → w < m → v < m → (i * m + w == k * m + v) ≡ ((i == k) && (w == v))
 key_same m i k w v h g = key_by m i k w v (i == k) (w == v) refl refl h g
 
+suits_within : (ss : List meaning.Settable) (k : ℕ) (s : Set) → suits_at ss k s ≡ true → k < length ss
+suits_within [] k s h = absurd (false≢true h)
+suits_within (t ∷ ss) zero s h = omega arith
+suits_within (t ∷ ss) (suc k) s h = omega (arith, suits_within ss k s h)
+
+less_is : (a b : ℕ) → a < b → nat_lt a b ≡ true
+less_is a b h = grind (arith, nat_tests)
+
+-- what is set right is within the names
+pub within_from : (ss : List meaning.Settable) (sets : List Set) → are_right ss sets ≡ true → are_within (length ss) sets ≡ true
+within_from ss [] h = refl
+within_from ss (s ∷ sets) h =
+    let here : nat_lt s.place (length ss) ≡ true = less_is s.place (length ss) (suits_within ss s.place s (left_part (is_right ss s) (are_right ss sets) h)) in
+    let rest : are_within (length ss) sets ≡ true = within_from ss sets (right_part (is_right ss s) (are_right ss sets) h) in
+    rw (here, rest) refl
+
 word_same : (ss : List meaning.Settable) (s t : Set) → are_apart ss ≡ true → s.place < length ss → t.place < length ss → (key_of s == key_of t) ≡ is_same_word (set_at ss s) (set_at ss t)
 word_same ss s t a h g =
     key_same (2 ^ 64) s.place t.place s.word t.word s.small t.small
@@ -128,7 +143,15 @@ all_same ss (s ∷ sets) a g =
     rw (any_same ss s sets a here rest, all_same ss sets a rest) refl
 
 pub distinct_found : (es : List Settable) (sets : List Set) (o : Option (List meaning.Set)) (b : Bool) → o ≡ Some (map (set_at (map settable_of es)) sets) → b ≡ are_distinct_numbers (map key_of sets)
-    → are_apart (map settable_of es) ≡ true → are_within (length es) sets ≡ true → if_distinct o ≡ some_if b (map (set_at (map settable_of es)) sets)
+    → are_apart (map settable_of es) ≡ true → are_right (map settable_of es) sets ≡ true → if_distinct o ≡ some_if b (map (set_at (map settable_of es)) sets)
 distinct_found es sets o b e f a g =
-    let within : are_within (length (map settable_of es)) sets ≡ true = subst (λ n. are_within n sets ≡ true) (sym (length-map es settable_of)) g in
+    let within : are_within (length (map settable_of es)) sets ≡ true = within_from (map settable_of es) sets g in
     ap if_distinct e ∙ ap (λ t. some_if t (map (set_at (map settable_of es)) sets)) (sym (f ∙ all_same (map settable_of es) sets a within))
+
+pub lines_within : (ss : List meaning.Settable) (lines : List (Vec Set Global)) → list_all (λ (l : Vec Set Global). are_right ss l.items) lines ≡ true
+    → list_all (λ (l : Vec Set Global). are_within (length ss) l.items) lines ≡ true
+lines_within ss [] h = refl
+lines_within ss (l ∷ lines) h =
+    let here = within_from ss l.items (left_part (are_right ss l.items) (list_all (λ (k : Vec Set Global). are_right ss k.items) lines) h) in
+    let rest = lines_within ss lines (right_part (are_right ss l.items) (list_all (λ (k : Vec Set Global). are_right ss k.items) lines) h) in
+    rw (here, rest) refl

@@ -1,8 +1,7 @@
 -- A number past a limit stays past it, whatever digits follow.
-use Rattle.std.proofs.Common.{◌≡◌, ℕ, suc, ◌+◌, ◌*◌, ◌-◌, ◌≤◌, ◌<◌, List, [], ◌∷◌, length, drop, get_or, Option, Some, None, true, false, nat_lt, cond, arith, refl, subst}
+use Rattle.std.proofs.Common.{◌≡◌, ℕ, suc, ◌+◌, ◌*◌, ◌-◌, ◌≤◌, ◌<◌, List, [], ◌∷◌, length, drop, get_or, Some, None, arith, refl, subst}
 use Rattle.std.proofs.lemmas.Bool.Decides.{nat_tests}
 use Rattle.std.proofs.Math.Seq.{drop-cons}
-use Rattle.wb_meaning.specs.Term.{some_if}
 use Rattle.wb_meaning.specs.Script.{with_decimal_digits, with_either_digits, either_digit_value}
 use Rattle.ila_sim.specs.Cuts.{below}
 

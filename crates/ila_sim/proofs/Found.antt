@@ -1,6 +1,6 @@
 -- Names found by their places, and numbers that are too large to fit.
-use Rattle.std.proofs.Common.{◌≡◌, ℕ, zero, suc, ◌+◌, ◌^◌, ◌<◌, ◌≤◌, Bool, true, false, cond, nat_lt, List, [], ◌∷◌, ◌++◌, map, length, get_or, Option, Some, None, arith, refl, ap, sym, subst, ◌∙◌, ◌&&◌, take, drop}
-use Rattle.std.specs.Prelude.{option_map, IfSome}
+use Rattle.std.proofs.Common.{◌≡◌, ℕ, zero, suc, ◌+◌, ◌^◌, ◌<◌, ◌≤◌, Bool, true, false, cond, nat_lt, List, [], ◌∷◌, map, length, get_or, Option, Some, None, arith, refl, ap, sym, subst, ◌∙◌, take, drop}
+use Rattle.std.specs.Prelude.{option_map, IfSome, IsTrue}
 use Rattle.std.proofs.lemmas.Bool.Decides.{nat_tests}
 use Rattle.std.proofs.Math.Nat.{pow-le-pow_right}
 use Rattle.wb_meaning.specs.Value.{Name, same_name}
@@ -12,11 +12,10 @@ use Rattle.ila_sim.specs.declared.names.Kind.TheVariants.{Truth, Word, Memory}
 use Rattle.ila_sim.specs.declared.names.Settable.{Settable}
 use Rattle.ila_sim.specs.Cuts.{below, cut_at}
 use Rattle.ila_sim.specs.declared.set.Set.{Set}
-use Rattle.ila_sim.specs.Sets.{set_at, set_called}
+use Rattle.ila_sim.specs.Sets.{set_at, set_called, suits, suits_at, is_right}
 use Rattle.ila_sim.specs.Kinds.{addresses_of, fits_of, width_of, end_of}
 use Rattle.ila_sim.specs.Names.{settable_of}
 use Rattle.ila_sim.specs.Places.{place_from, called_at}
-use Rattle.ila_sim.specs.Reading.{onto}
 
 pub record IsAt (es : List Settable) (n : Name) (m : ℕ) : Type 0 where
   pub within : m < length es
@@ -140,9 +139,15 @@ set_there es n k d a x (Some s) at e p =
     ∙ (ap (λ m. Some (set_called m s)) (at.called d)
     ∙ (e ∙ sym (ap (λ o. set_named o a x) (at.found d))))
 
-pub place_there : (k n : ℕ) (r : Option Set) → k < n → IfSome r (λ s. s.place ≡ k) → IfSome r (λ s. s.place < n)
-place_there k n None h p = tt
-place_there k n (Some s) h p = omega (arith, p, h)
+suits_there : (es : List Settable) (k : ℕ) (d : Settable) (s : Set) → k < length es → suits (settable_of (get_or es k d)) s ≡ true → suits_at (map settable_of es) k s ≡ true
+suits_there [] k d s h g = absurd (omega arith)
+suits_there (e ∷ es) zero d s h g = g
+suits_there (e ∷ es) (suc k) d s h g = suits_there es k d s (omega arith) g
+
+pub right_there : (es : List Settable) (k : ℕ) (d : Settable) (r : Option Set) → k < length es → IfSome r (λ s. s.place ≡ k)
+    → IfSome r (λ s. IsTrue (suits (settable_of (get_or es k d)) s)) → IfSome r (λ s. IsTrue (is_right (map settable_of es) s))
+right_there es k d None h p g = tt
+right_there es k d (Some s) h p g = subst (λ i. suits_at (map settable_of es) i s ≡ true) (sym p) (suits_there es k d s h g)
 
 pub set_of_there : (es : List Settable) (left right : List ℕ) (k : ℕ) (a x : Option ℕ) (r : Option meaning.Set) → at_last 91 left ≡ Some (cut_at left k) → right ≡ drop (suc k) left
     → a ≡ below (2 ^ 128) (before_bracket (at_last 93 right)) → r ≡ set_named (settable_named (map settable_of es) (take k left)) (Some a) x

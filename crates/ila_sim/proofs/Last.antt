@@ -1,10 +1,10 @@
 -- The last byte of a kind in a text.
-use Rattle.std.proofs.Common.{◌≡◌, ℕ, zero, suc, ◌+◌, ◌<◌, ◌≤◌, List, [], ◌∷◌, length, take, drop, get_or, Option, Some, None, true, false, cond, Bool, arith, refl, ap, sym, ◌∙◌}
-use Rattle.std.specs.Prelude.{option_map, ◌==◌}
+use Rattle.std.proofs.Common.{◌≡◌, ℕ, zero, suc, ◌+◌, ◌<◌, ◌≤◌, List, [], ◌∷◌, length, take, drop, get_or, Some, None, true, false, arith, refl}
+use Rattle.std.specs.Prelude.{◌==◌}
 use Rattle.std.proofs.Math.Seq.{drop-cons}
 use Rattle.std.proofs.lemmas.List.{length-drop}
 use Rattle.std.proofs.lemmas.Bool.Decides.{nat_tests}
-use Rattle.wb_meaning.specs.Script.{at_last, or_here, before_bracket}
+use Rattle.wb_meaning.specs.Script.{at_last, before_bracket}
 use Rattle.ila_sim.specs.Cuts.{cut_at, below}
 
 pub is_last : (c : ℕ) (xs : List ℕ) (k d : ℕ) → k < length xs → (get_or xs k d == c) ≡ true → at_last c (drop (suc k) xs) ≡ None → at_last c xs ≡ Some (cut_at xs k)

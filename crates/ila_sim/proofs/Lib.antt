@@ -6,3 +6,7 @@ mod Found
 mod Apart
 mod Encoded
 mod Marked
+mod Declared
+mod Made
+mod Told
+mod Steps

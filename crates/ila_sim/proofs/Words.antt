@@ -1,12 +1,11 @@
 -- The first word and the first line of a text.
-use Rattle.std.proofs.Common.{◌≡◌, ℕ, zero, suc, ◌<◌, ◌≤◌, ◌-◌, ◌+◌, List, [], ◌∷◌, ◌++◌, length, take, drop, get_or, Option, Some, None, true, false, cond, not, Bool, arith, refl, ap, sym, ◌∙◌, nat_eq, ◌≢◌, ◌&&◌}
+use Rattle.std.proofs.Common.{◌≡◌, ℕ, zero, suc, ◌<◌, ◌≤◌, ◌-◌, List, [], ◌∷◌, length, take, drop, get_or, true, false, cond, Bool, arith, refl, ap, sym, ◌∙◌, ◌≢◌, ◌&&◌}
 use Rattle.std.proofs.lemmas.Bool.{false≢true}
 use Rattle.std.proofs.lemmas.Bool.Decides.{nat_tests}
-use Rattle.std.specs.Prelude.{option_map, ◌==◌}
-use Rattle.std.proofs.Math.Seq.{drop-cons}
+use Rattle.std.specs.Prelude.{◌==◌}
 use Rattle.std.proofs.lemmas.List.{take_all, length-drop}
-use Rattle.wb_meaning.specs.Script.{is_blank, is_return, is_line_feed, words_of, lines_of, without_returns, pieces_at, with_byte, without_empty, at_last, or_here}
-use Rattle.ila_sim.specs.Cuts.{length_before, after_blanks, cut_at, without_last_return}
+use Rattle.wb_meaning.specs.Script.{is_blank, is_return, is_line_feed, words_of, lines_of, without_returns, pieces_at, with_byte, without_empty}
+use Rattle.ila_sim.specs.Cuts.{length_before, after_blanks, without_last_return}
 
 words_front : (b : ℕ) (bs : List ℕ) (t : Bool) → is_blank b ≡ t → words_of bs ≡ words_of (after_blanks bs) → words_of (b ∷ bs) ≡ words_of (cond t (after_blanks bs) (b ∷ bs))
 words_front b bs true e h = rw e h

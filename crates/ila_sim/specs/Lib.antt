@@ -8,3 +8,6 @@ pub mod Lines
 pub mod Scripts
 pub mod Settables
 pub mod Marks
+pub mod Outcomes
+pub mod Texts
+pub mod Whole

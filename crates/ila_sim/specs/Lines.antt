@@ -1,5 +1,5 @@
 -- What the code's lines stand for.
-use Rattle.std.specs.Prelude.{Bool, length, List, map, Option, Some, None}
+use Rattle.std.specs.Prelude.{Bool, List, map, Option, Some, None}
 use Rattle.wb_meaning.specs.Script as meaning
 use Rattle.wb_meaning.specs.Script.{Settables, state_line, input_line}
 use Rattle.ila_sim.specs.declared.line.Line.{Line}
@@ -7,7 +7,7 @@ use Rattle.ila_sim.specs.declared.line.Line.TheVariants.{State, Input}
 use Rattle.ila_sim.specs.declared.line.Found.{Found}
 use Rattle.ila_sim.specs.declared.set.Set.{Set}
 use Rattle.ila_sim.specs.Names.{settable_of}
-use Rattle.ila_sim.specs.Sets.{set_at, are_within}
+use Rattle.ila_sim.specs.Sets.{set_at, are_right}
 
 abbrev pub found_view : Found → Settables
 found_view n = record { states = map settable_of n.states.settables.now; inputs = map settable_of n.inputs.settables.now }
@@ -25,7 +25,7 @@ input_of (Some (input_line ss)) = Some ss
 input_of (Some (state_line ss)) = None
 input_of None = None
 
--- The places in the line are those of names.
+-- The settings of the line are of these names.
 abbrev pub is_line_within : Settables → Line → Bool
-is_line_within n (State s) = are_within (length n.states) s.items
-is_line_within n (Input s) = are_within (length n.inputs) s.items
+is_line_within n (State s) = are_right n.states s.items
+is_line_within n (Input s) = are_right n.inputs s.items

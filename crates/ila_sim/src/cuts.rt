@@ -85,7 +85,7 @@ pub(crate) fn next_word(line: &[u8]) -> Option<(&[u8], &[u8])>
 }
 
 /// Whether a line says nothing: it is empty, or a comment.
-fn is_skipped(line: &[u8]) -> bool
+pub(crate) fn is_skipped(line: &[u8]) -> bool
     ensures { result ≡ is_skipped line.now }
 {
     match line {
@@ -111,7 +111,7 @@ fn without_last_return(line: &[u8]) -> &[u8]
 }
 
 /// The first line of a text, and what stands behind it, if there is a further line.
-fn next_line(text: &[u8]) -> (&[u8], Option<&[u8]>)
+pub(crate) fn next_line(text: &[u8]) -> (&[u8], Option<&[u8]>)
     ensures lines { lines_of text.now ≡ result.0.now ∷ lines_left result.1 }
     ensures shorter { room_left result.1 ≤ length text.now }
 {

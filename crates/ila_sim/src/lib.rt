@@ -1,14 +1,22 @@
 //! Scripts for a model.
 #![tactic(auto)]
 
+mod beginning;
 mod cuts;
 mod index;
 mod line;
 mod missing;
+#[cfg(test)]
+mod models;
 mod names;
+mod naming;
 mod numbers;
+mod place;
 mod reading;
 mod refusal;
+#[cfg(test)]
+mod run_tests;
+mod running;
 mod script;
 mod set;
 mod sets;
@@ -16,11 +24,19 @@ mod settables;
 mod stop;
 #[cfg(test)]
 mod tests;
+mod text;
+mod values;
+mod whole;
 
+pub use ila_file::Note;
 pub use names::{Kind, Settable};
+pub use naming::names_of;
 pub use reading::read_script;
-pub use refusal::{ScriptKind, ScriptStop};
+pub use refusal::{ScriptKind, ScriptRefusal, ScriptStop};
+pub use running::{simulate, simulated_text};
 pub use script::Script;
 pub use set::Set;
 pub use settables::Names;
+pub use text::simulation_text;
 pub use wb_terms::NoMemory;
+pub use whole::{Simulation, simulated};

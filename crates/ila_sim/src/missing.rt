@@ -6,7 +6,7 @@ ghost use Rattle.wb_meaning.specs.Script.{sets_name};
 ghost use Rattle.ila_sim.specs.Lines.{sets_view};
 ghost use Rattle.ila_sim.specs.Marks.{marks_of};
 ghost use Rattle.ila_sim.specs.Names.{settable_of, are_apart};
-ghost use Rattle.ila_sim.specs.Sets.{are_within};
+ghost use Rattle.ila_sim.specs.Sets.{are_within, are_right};
 
 use crate::names::Settable;
 use crate::set::Set;
@@ -38,6 +38,18 @@ fn sets_all(alloc: Global, inputs: &[Settable], sets: &[Set]) -> Result<bool, Al
 {
     let marks = marks(alloc, inputs.len(), sets)?;
     Ok(are_all_true(&marks))
+}
+
+/// The place of the first input that a line does not set.
+pub(crate) fn first_left_out(
+    alloc: Global,
+    inputs: &[Settable],
+    sets: &[Set],
+) -> Result<Option<usize>, AllocError>
+    requires { IsTrue (are_right (map settable_of inputs.now) sets.now) }
+{
+    let marks = marks(alloc, inputs.len(), sets)?;
+    Ok(marks.iter().position(|mark| !*mark))
 }
 
 /// Whether each line sets every input.

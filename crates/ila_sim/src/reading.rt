@@ -4,20 +4,21 @@ ghost use Rattle.std.specs.Prelude.{◌≡◌, None, Some, cond, codes, IfOk};
 ghost use Rattle.std.specs.Str.{is_utf8};
 ghost use Rattle.wb_meaning.specs.Script.{reading_from, script_reading, script_in, without_skipped, lines_of};
 ghost use Rattle.ila_sim.specs.Reading.{IsReading};
-ghost use Rattle.ila_sim.specs.Scripts.{script_view, IsScriptWithin, IsAnswered};
+ghost use Rattle.ila_sim.specs.Scripts.{script_view, IsScriptWithin, IsAnswered, IsStopOf};
 ghost use Rattle.ila_sim.specs.Settables.{settables_view};
 
 use crate::index::Index;
 use crate::line::Found;
 use crate::missing::all_set;
-use crate::refusal::{ScriptKind, ScriptStop};
+use crate::place::note_of;
+use crate::refusal::{ScriptKind, ScriptRefusal, ScriptStop};
 use crate::script::{Script, script_in};
 use crate::settables::Names;
 use crate::stop::Stop;
 use std::alloc::Global;
 
 /// Whether the bytes are UTF-8.
-fn is_utf8(bytes: &[u8]) -> bool
+pub(crate) fn is_utf8(bytes: &[u8]) -> bool
     ensures { result ≡ is_utf8 bytes.now }
 {
     match std::str::from_utf8(bytes) {
@@ -41,31 +42,49 @@ fn lines_in<'a>(alloc: Global, names: &'a Names, bytes: &'a [u8]) -> Result<Scri
     Ok(script)
 }
 
+/// A refusal with the note that leads to its place.
+fn refused<'a>(alloc: Global, names: &'a Names, bytes: &'a [u8], kind: ScriptKind) -> ScriptStop
+    ensures { IsStopOf kind result }
+{
+    match note_of(alloc, bytes, names, kind) {
+        Ok(note) => ScriptStop::Refused(ScriptRefusal { kind, note }),
+        Err(_) => ScriptStop::NoMemory,
+    }
+}
+
 /// The script, where each of its input lines sets every input.
-fn if_complete(alloc: Global, names: &Names, script: Script) -> Result<Script, ScriptStop>
+fn if_complete<'a>(
+    alloc: Global,
+    names: &'a Names,
+    bytes: &'a [u8],
+    script: Script,
+) -> Result<Script, ScriptStop>
     requires { IsScriptWithin (settables_view names.now) script }
-    ensures { IsAnswered (settables_view names.now) result (reading_from (settables_view names.now) (Some (script_view (settables_view names.now) script))) }
+    ensures answer { IsAnswered (settables_view names.now) result (reading_from (settables_view names.now) (Some (script_view (settables_view names.now) script))) }
+    ensures right { IfOk result (IsScriptWithin (settables_view names.now)) }
 {
     match all_set(alloc, &names.inputs, &script.inputs) {
         Err(_) => Err(ScriptStop::NoMemory),
         Ok(true) => Ok(script),
-        Ok(false) => Err(ScriptStop::Refused(ScriptKind::MissingInput)),
+        Ok(false) => Err(refused(alloc, names, bytes, ScriptKind::MissingInput)),
     }
 }
 
-/// Reads a script. A bad line is answered before an input that is left out.
+/// Reads a script. A bad line is answered before an input that is left out. What a script sets are words of the names, to
+/// values that fit.
 pub fn read_script<'a>(
     alloc: Global,
     bytes: &'a [u8],
     names: &'a Names,
 ) -> Result<Script, ScriptStop>
-    ensures { IsAnswered (settables_view names.now) result (script_reading (settables_view names.now) bytes.now) }
+    ensures answer { IsAnswered (settables_view names.now) result (script_reading (settables_view names.now) bytes.now) }
+    ensures right { IfOk result (IsScriptWithin (settables_view names.now)) }
 {
     match lines_in(alloc, names, bytes) {
         Err(Stop::Memory) => Err(ScriptStop::NoMemory),
-        Err(Stop::Refused) => Err(ScriptStop::Refused(ScriptKind::BadLine)),
+        Err(Stop::Refused) => Err(refused(alloc, names, bytes, ScriptKind::BadLine)),
         Ok(script) => {
-            let answer = if_complete(alloc, names, script)?;
+            let answer = if_complete(alloc, names, bytes, script)?;
             Ok(answer)
         }
     }

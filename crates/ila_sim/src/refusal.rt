@@ -1,5 +1,7 @@
 //! Why a text is no script.
 
+use ila_file::Note;
+
 /// What is wrong with a text.
 #[derive(Clone, Copy, PartialEq, Eq, Debug)]
 pub enum ScriptKind {
@@ -9,11 +11,19 @@ pub enum ScriptKind {
     MissingInput,
 }
 
+/// A text that is no script.
+#[derive(Drop)]
+pub struct ScriptRefusal {
+    pub kind: ScriptKind,
+    /// The line, counted from 1, and the word that is wrong, or the input that is left out.
+    pub note: Note,
+}
+
 /// Why a text gives no script.
-#[derive(Clone, Copy, PartialEq, Eq, Debug)]
+#[derive(Drop)]
 pub enum ScriptStop {
     /// It is none.
-    Refused(ScriptKind),
+    Refused(ScriptRefusal),
     /// Memory is wanting, which says nothing of the text.
     NoMemory,
 }

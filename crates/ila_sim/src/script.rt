@@ -6,7 +6,7 @@ ghost use Rattle.wb_meaning.specs.Script.{line_in, inputs_in, script_in, without
 ghost use Rattle.ila_sim.specs.Cuts.{lines_left};
 ghost use Rattle.ila_sim.specs.Reading.{IsReading};
 ghost use Rattle.ila_sim.specs.Lines.{found_view, line_view, sets_view, input_of, is_line_within};
-ghost use Rattle.ila_sim.specs.Sets.{are_within};
+ghost use Rattle.ila_sim.specs.Sets.{are_right};
 ghost use Rattle.ila_sim.specs.Scripts.{script_view, IsScriptWithin};
 
 use crate::cuts::{has_return, next_kept, next_word};
@@ -50,7 +50,7 @@ fn line_in<'a>(alloc: Global, names: &Found<'a>, line: &'a [u8]) -> Result<Line,
 /// A line that sets inputs.
 fn input_in<'a>(alloc: Global, names: &Found<'a>, line: &'a [u8]) -> Result<Vec<Set>, Stop>
     ensures sets { IsReading (λ s. sets_view (found_view names.now).inputs s.items) result (input_of (line_in (found_view names.now) line.now)) }
-    ensures places { IfOk result (λ s. IsTrue (are_within (length (found_view names.now).inputs) s.items)) }
+    ensures places { IfOk result (λ s. IsTrue (are_right (found_view names.now).inputs s.items)) }
 {
     match line_in(alloc, names, line)? {
         Line::Input(sets) => Ok(sets),
@@ -65,7 +65,7 @@ fn inputs_in<'a>(
     left: Option<&'a [u8]>,
 ) -> Result<Vec<Vec<Set>>, Stop>
     ensures inputs { IsReading (λ v. map (λ s. sets_view (found_view names.now).inputs s.items) v.items) result (inputs_in (found_view names.now) (without_skipped (lines_left left.entry))) }
-    ensures places { IfOk result (λ v. IsTrue (list_all (λ s. are_within (length (found_view names.now).inputs) s.items) v.items)) }
+    ensures places { IfOk result (λ v. IsTrue (list_all (λ s. are_right (found_view names.now).inputs s.items) v.items)) }
 {
     let mut inputs = Vec::new(alloc);
     let mut rest = left;

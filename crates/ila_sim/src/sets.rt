@@ -6,7 +6,7 @@ ghost use Rattle.ila_sim.specs.Cuts.{below, cut_at};
 ghost use Rattle.ila_sim.specs.Kinds.{width_of, addresses_of, fits_of};
 ghost use Rattle.ila_sim.specs.Names.{settable_of};
 ghost use Rattle.ila_sim.specs.Reading.{IsReading};
-ghost use Rattle.ila_sim.specs.Sets.{are_within, set_called, set_at, key_of, are_distinct_numbers};
+ghost use Rattle.ila_sim.specs.Sets.{is_word_of, suits, is_right, are_right, set_called, set_at, key_of, are_distinct_numbers};
 
 use crate::cuts::{last_place, next_word};
 use crate::index::{Index, place_of};
@@ -32,7 +32,8 @@ fn fits(kind: Kind, value: u128) -> bool
 
 /// The number of the word at an address of a memory.
 fn word_at_address(least: u64, count: u64, address: u128) -> Option<u64>
-    ensures { result ≡ word_at_address (least, count) address }
+    ensures word { result ≡ word_at_address (least, count) address }
+    ensures within { IfSome result (λ k. k < count) }
 {
     let least = u128::from(least);
     if least <= address && address < least + u128::from(count) {
@@ -44,7 +45,8 @@ fn word_at_address(least: u64, count: u64, address: u128) -> Option<u64>
 
 /// The number of the word that is named: by an address for a memory, by none for another name.
 fn word_named(kind: Kind, address: Option<Option<u128>>) -> Option<u64>
-    ensures { result ≡ word_named (addresses_of kind) address }
+    ensures word { result ≡ word_named (addresses_of kind) address }
+    ensures within { IfSome result (λ k. IsTrue (is_word_of (addresses_of kind) k)) }
 {
     match (kind, address) {
         (Kind::Memory(least, count, _), Some(Some(address))) => {
@@ -64,6 +66,7 @@ fn fitting(
 ) -> Option<Set>
     ensures set { option_map (set_called settable.now.name.items) result ≡ fitting (settable_of settable.now) (word_named (addresses_of settable.now.kind) address) value }
     ensures place { IfSome result (λ s. s.place ≡ place) }
+    ensures right { IfSome result (λ s. IsTrue (suits (settable_of settable.now) s)) }
 {
     let word = word_named(settable.kind, address)?;
     let value = value?;
@@ -96,7 +99,7 @@ fn set_named<'a>(
     value: Option<u128>,
 ) -> Option<Set>
     ensures set { option_map (set_at (map settable_of index.now.settables.now)) result ≡ set_named (settable_named (map settable_of index.now.settables.now) name.now) address value }
-    ensures place { IfSome result (λ s. s.place < length index.now.settables.now) }
+    ensures right { IfSome result (λ s. IsTrue (is_right (map settable_of index.now.settables.now) s)) }
 {
     match place_of(index, name) {
         Some(place) => fitting(&index.settables[place], place, address, value),
@@ -105,7 +108,7 @@ fn set_named<'a>(
 }
 
 /// One number for the place and the word.
-fn key_of(set: &Set) -> u128
+pub(crate) fn key_of(set: &Set) -> u128
     ensures { result ≡ key_of set.now }
 {
     set.place as u128 * 18446744073709551616 + u128::from(set.word)
@@ -127,7 +130,7 @@ fn are_distinct(alloc: Global, sets: &[Set]) -> Result<bool, AllocError>
 /// What stands before `=`, set to a value: `name`, or `memory[address]`.
 fn set_of<'a>(index: &Index<'a>, left: &'a [u8], value: Option<u128>) -> Option<Set>
     ensures set { option_map (set_at (map settable_of index.now.settables.now)) result ≡ set_of (map settable_of index.now.settables.now) left.now (at_last 91 left.now) value }
-    ensures place { IfSome result (λ s. s.place < length index.now.settables.now) }
+    ensures right { IfSome result (λ s. IsTrue (is_right (map settable_of index.now.settables.now) s)) }
 {
     match last_place(left, b'[') {
         None => set_named(index, left, None, value),
@@ -139,9 +142,9 @@ fn set_of<'a>(index: &Index<'a>, left: &'a [u8], value: Option<u128>) -> Option<
 }
 
 /// A word `name=value` or `memory[address]=value`.
-fn set_in<'a>(index: &Index<'a>, text: &'a [u8]) -> Option<Set>
+pub(crate) fn set_in<'a>(index: &Index<'a>, text: &'a [u8]) -> Option<Set>
     ensures set { option_map (set_at (map settable_of index.now.settables.now)) result ≡ set_in (map settable_of index.now.settables.now) text.now }
-    ensures place { IfSome result (λ s. s.place < length index.now.settables.now) }
+    ensures right { IfSome result (λ s. IsTrue (is_right (map settable_of index.now.settables.now) s)) }
 {
     match last_place(text, b'=') {
         None => None,
@@ -152,7 +155,7 @@ fn set_in<'a>(index: &Index<'a>, text: &'a [u8]) -> Option<Set>
 /// The settings of a line's words.
 fn all_sets<'a>(alloc: Global, index: &Index<'a>, line: &'a [u8]) -> Result<Vec<Set>, Stop>
     ensures sets { IsReading (λ s. map (set_at (map settable_of index.now.settables.now)) s.items) result (all_sets (map settable_of index.now.settables.now) (words_of line.now)) }
-    ensures places { IfOk result (λ s. IsTrue (are_within (length index.now.settables.now) s.items)) }
+    ensures right { IfOk result (λ s. IsTrue (are_right (map settable_of index.now.settables.now) s.items)) }
 {
     let mut sets = Vec::new(alloc);
     let mut rest = line;
@@ -171,7 +174,7 @@ pub(crate) fn sets_in<'a>(
     line: &'a [u8],
 ) -> Result<Vec<Set>, Stop>
     ensures sets { IsReading (λ s. map (set_at (map settable_of index.now.settables.now)) s.items) result (sets_in (map settable_of index.now.settables.now) (words_of line.now)) }
-    ensures places { IfOk result (λ s. IsTrue (are_within (length index.now.settables.now) s.items)) }
+    ensures right { IfOk result (λ s. IsTrue (are_right (map settable_of index.now.settables.now) s.items)) }
 {
     let sets = all_sets(alloc, index, line)?;
     if !are_distinct(alloc, &sets)? {

@@ -37,7 +37,7 @@ fn names(alloc: Global) -> Result<Names, AllocError> {
 fn answer(alloc: Global, names: &Names, text: &[u8]) -> &'static str {
     match read_script(alloc, text, names) {
         Ok(_) => "a script",
-        Err(ScriptStop::Refused(kind)) => kind.name(),
+        Err(ScriptStop::Refused(refusal)) => refusal.kind.name(),
         Err(ScriptStop::NoMemory) => "no memory",
     }
 }

@@ -1,5 +1,4 @@
-use Rattle.std.proofs.Common.{◌≡◌, ◌∷◌, ◌-◌, ◌<◌, sym, arith, None, drop, suc, subst}
-use Rattle.std.proofs.lemmas.Bool.Decides.{nat_tests}
+use Rattle.std.proofs.Common.{◌≡◌, ◌-◌, sym, arith, None, drop, suc, subst}
 use Rattle.wb_meaning.specs.Script.{at_last}
 use Rattle.ila_sim.proofs.Last.{is_last, same_byte}
 use Rattle.ila_sim.proofs.cuts.last_place.Goals as goal

@@ -1,5 +1,4 @@
-use Rattle.std.proofs.Common.{◌+◌, sym, arith, ◌∙◌, ap, ◌∷◌, add-one}
-use Rattle.wb_meaning.specs.Script.{lines_of}
+use Rattle.std.proofs.Common.{◌+◌, sym, arith, ◌∙◌, add-one}
 use Rattle.ila_sim.proofs.Words.{one_line, further_line, from_there}
 use Rattle.ila_sim.proofs.cuts.next_line.Goals as goal
 

@@ -1,7 +1,4 @@
-use Rattle.std.proofs.Common.{◌≡◌, ◌≤◌, ◌+◌, sym, arith, ◌∙◌, length, drop}
-use Rattle.wb_meaning.specs.Script.{is_blank}
-use Rattle.ila_sim.specs.Cuts.{length_before}
-use Rattle.ila_sim.proofs.Words.{next_words, no_words, word_is_long, from_there, after_shorter, rest_shorter, is_empty, is_full}
+use Rattle.ila_sim.proofs.Words.{next_words, no_words, from_there, rest_shorter, is_empty, is_full}
 use Rattle.ila_sim.proofs.cuts.next_word.Goals as goal
 
 pub returns-then-is_empty-clause-words : goal.returns-then-is_empty-clause-words

@@ -1,4 +1,4 @@
-use Rattle.std.proofs.Common.{◌^◌, ◌∙◌, sym, arith}
+use Rattle.std.proofs.Common.{◌^◌, sym, arith}
 use Rattle.ila_sim.proofs.Digits.{lost_letters}
 use Rattle.ila_sim.proofs.numbers.hexadecimal_value.Goals as goal
 

@@ -1,4 +1,4 @@
-use Rattle.std.proofs.Common.{◌^◌, sym, arith}
+use Rattle.std.proofs.Common.{◌^◌}
 use Rattle.ila_sim.proofs.Last.{not_at_end}
 use Rattle.ila_sim.proofs.sets.before_bracket.Goals as goal
 

@@ -1,0 +1,16 @@
+use Rattle.std.proofs.Common.{◌++◌, [], ◌∷◌, map, sym, ap, ◌∙◌}
+use Rattle.std.proofs.lemmas.List.{map-append}
+use Rattle.wb_meaning.specs.Script.{settables_of}
+use Rattle.ila_model.specs.Model.{model_of}
+use Rattle.ila_sim.specs.Names.{settable_of}
+use Rattle.ila_sim.proofs.Declared.{taken_more}
+use Rattle.ila_sim.proofs.naming.inputs.Goals as goal
+
+pub loop-place-preserved : goal.loop-place-preserved
+loop-place-preserved c =
+    let all = (settables_of (model_of c.args.model.now)).inputs in
+    let one = c.in_ok-input_at.field-0 in
+    ap (map settable_of) c.in_ok-push.ensures.items
+    ∙ (map-append settable_of c.loop-place.inputs.items (one ∷ [])
+    ∙ (ap (λ xs. xs ++ settable_of one ∷ []) c.loop-place.invariant
+    ∙ sym (taken_more all c.loop-place.place (settable_of one) c.in_ok-input_at.ensures)))

@@ -1,0 +1,8 @@
+use Rattle.std.proofs.Common.{◌≡◌, map, take}
+use Rattle.wb_meaning.specs.Script.{settables_of}
+use Rattle.ila_model.specs.Model.{model_of}
+use Rattle.ila_sim.specs.Names.{settable_of}
+use Rattle.ila_sim.proofs.naming.inputs.Given as goal
+
+abbrev pub invariant-loop-place : goal.invariant-loop-place
+invariant-loop-place l = map settable_of l.inputs.items ≡ take l.place (settables_of (model_of l.model)).inputs

@@ -1,0 +1,18 @@
+use Rattle.std.proofs.Common.{IsTrue, List, ◌++◌, map, drop}
+use Rattle.std.specs.List.{list_all}
+use Rattle.wb_meaning.specs.Script.{settables_of, first_state}
+use Rattle.wb_meaning.specs.Simulation.{Outcome, AreOutcomes}
+use Rattle.ila_child.specs.State.{IsStateOf, state_valuation}
+use Rattle.ila_model.specs.Model.{model_of}
+use Rattle.ila_sim.specs.Outcomes.{outcome_view, inputs_from}
+use Rattle.ila_sim.specs.Scripts.{script_view}
+use Rattle.ila_sim.specs.Sets.{are_right}
+use Rattle.ila_sim.proofs.running.simulate.Given as goal
+
+abbrev pub invariant-loop-sets : goal.invariant-loop-sets
+invariant-loop-sets l = record {
+  state : IsStateOf (model_of l.model) l.state;
+  right : IsTrue (list_all (λ ss. are_right (settables_of (model_of l.model)).inputs ss.items) (drop l.sets-index l.sets-items));
+  runs : (os : List Outcome) → AreOutcomes (model_of l.model) (state_valuation (model_of l.model) l.state) (inputs_from (model_of l.model) (drop l.sets-index l.sets-items)) os
+      → AreOutcomes (model_of l.model) (first_state (model_of l.model) (script_view (settables_of (model_of l.model)) l.script)) (inputs_from (model_of l.model) l.script.inputs.items) (map (outcome_view (model_of l.model)) l.answers.items ++ os);
+}

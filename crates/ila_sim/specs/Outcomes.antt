@@ -1,0 +1,65 @@
+-- What settings make of values, and what the answers of the code's steps stand for.
+use Rattle.std.specs.Prelude.{ℕ, ◌≡◌, ⊤, Vec, List, [], ◌∷◌, ◌++◌, map, slice_set, slice_index_or}
+use Rattle.std.specs.Global.{Global}
+use Rattle.wb_meaning.specs.Value.{Sort, Value, number, Entries, Valuation}
+use Rattle.wb_meaning.specs.Model.{StateDeclaration, InputDeclaration, Model}
+use Rattle.wb_meaning.specs.Instruction.{stuck, too_long}
+use Rattle.wb_meaning.specs.Script.{Settable, settable, settables_of, Script, zero_value, with_word, inputs_of}
+use Rattle.wb_meaning.specs.Simulation.{Outcome, next, not_valid, no_instruction, several, trouble, AreOutcomes, IsSimulation, state_text, simulation_text}
+use Rattle.ila_child.specs.State.{IsStateOf, state_valuation}
+use Rattle.ila_child.specs.declared.stepping.Stepped.{Stepped}
+use Rattle.ila_child.specs.declared.stepping.Stepped.TheVariants.{Next, NotValid, NoInstruction, Several, ChildStuck, ChildTooLong}
+use Rattle.ila_sim.specs.declared.set.Set.{Set}
+use Rattle.ila_sim.specs.Lines.{sets_view}
+
+-- The values, one word of one of them set.
+abbrev pub with_set : List Value → Set → List Value
+with_set xs s = slice_set xs s.place (with_word (slice_index_or xs s.place (number 0)) s.word s.value)
+
+abbrev pub with_all : List Value → List Set → List Value
+with_all xs [] = xs
+with_all xs (s ∷ ss) = with_all (with_set xs s) ss
+
+-- names of these sorts as a script sets them
+abbrev pub settables_by : Entries Sort → List Settable
+settables_by = map (λ e. settable e.0 e.1)
+
+abbrev pub zero_values : List InputDeclaration → List Value
+zero_values = map (λ i. zero_value i.sort)
+
+-- What the answer of a step stands for.
+abbrev pub outcome_view : Model → Stepped → Outcome
+outcome_view m (Next j r) = next j (state_valuation m r)
+outcome_view m NotValid = not_valid
+outcome_view m NoInstruction = no_instruction
+outcome_view m (Several j k) = several j k
+outcome_view m (ChildStuck d s) = trouble (stuck d s)
+outcome_view m (ChildTooLong d) = trouble (too_long d)
+
+-- the values of the states behind a step
+abbrev pub values_after : List Value → Stepped → List Value
+values_after q (Next j r) = r
+values_after q _ = q
+
+-- A state that a step leads to is one of the model.
+abbrev pub IsWell : Model → Stepped → Type 0
+IsWell m (Next j r) = IsStateOf m r
+IsWell m _ = ⊤
+
+-- The text tells a run of the model from the state under these inputs.
+abbrev pub IsToldFrom : Model → Valuation → List Valuation → List ℕ → Type 0
+IsToldFrom m q ws text = (os : List Outcome) × AreOutcomes m q ws os × (text ≡ simulation_text m os)
+
+-- The text tells what the model does under the script.
+abbrev pub IsTold : Model → Script → List ℕ → Type 0
+IsTold m script text = (os : List Outcome) × IsSimulation m script os × (text ≡ simulation_text m os)
+
+-- the inputs that lines give, one after the other
+abbrev pub inputs_from : Model → List (Vec Set Global) → List Valuation
+inputs_from m lines = map (inputs_of m) (map (λ ss. sets_view (settables_of m).inputs ss.items) lines)
+
+-- the text of states with these values; a state without one is shown as 0
+abbrev pub values_text : List StateDeclaration → List Value → List ℕ
+values_text [] xs = []
+values_text (s ∷ ss) [] = state_text s.state_name (number 0) ++ values_text ss []
+values_text (s ∷ ss) (x ∷ xs) = state_text s.state_name x ++ values_text ss xs
