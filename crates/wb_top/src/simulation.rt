@@ -11,7 +11,7 @@ use crate::stop::NoMemory;
 use crate::texts::{refusal_by, refusal_of_script};
 use ila_json::{ModelStop, read_model};
 use ila_model::IlaModel;
-use ila_sim::Simulated;
+use ila_sim::Simulation;
 use std::alloc::{AllocError, Global};
 
 /// The answer to a simulation of a model file under a script.
@@ -39,12 +39,12 @@ pub(crate) fn simulated(alloc: Global, model: &[u8], script: &[u8]) -> Result<Ou
 fn run(alloc: Global, model: &IlaModel, script: &[u8]) -> Result<Outcome, NoMemory>
     ensures { IfOk result (λ o. IsSimulated (with_script (model_of model.now) (script_reading (settables_of (model_of model.now)) script.now)) o.status o.text.items) }
 {
-    match ila_sim::simulation(alloc, model, script)? {
-        Simulated::Text(text) => Ok(Outcome {
+    match ila_sim::simulated(alloc, model, script)? {
+        Simulation::Text(text) => Ok(Outcome {
             status: Status::Done,
             text,
         }),
-        Simulated::Refused(refusal) => {
+        Simulation::Refused(refusal) => {
             let text = refusal_of_script(alloc, &refusal)?;
             Ok(Outcome {
                 status: Status::Refused,
