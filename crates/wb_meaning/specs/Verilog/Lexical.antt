@@ -54,10 +54,10 @@ blank_length is_macro (b ∷ bs) = cond (is_blank_before is_macro b bs) (suc (bl
 abbrev pub line_length : List ℕ → ℕ
 line_length text = run_length (λ b. not (is_line_feed b)) text
 
--- up to and with the first b that c follows
-unfoldable pub closing_length : (b c : ℕ) → List ℕ → Option ℕ
-closing_length b c [] = None
-closing_length b c (x ∷ xs) = cond (x == b && begins_with (λ y. y == c) xs) (Some 2) (option_map suc (closing_length b c xs))
+-- Up to and with the first b that c follows; whether the byte in front of the text is such a b.
+unfoldable pub closing_length : (b c : ℕ) → (behind_b : Bool) → List ℕ → Option ℕ
+closing_length b c behind_b [] = None
+closing_length b c behind_b (x ∷ xs) = cond (behind_b && x == c) (Some 1) (option_map suc (closing_length b c (x == b) xs))
 
 -- Up to and with the quote that ends a string; a backslash takes the byte behind it along (3.6). A string ends on its line.
 unfoldable pub string_length : (escaped : Bool) → List ℕ → Option ℕ
@@ -88,16 +88,16 @@ pub data Piece : Type 0 where
   -- the use of a macro
   use_of : Name → Piece
 
--- The piece at the front and its length in bytes, where something begins so.
+-- The piece at the front, and how many bytes behind its first belong to it; where something begins so.
 abbrev pub Front : Type 0
 Front = Option (Piece × ℕ)
 
--- the piece with so many more bytes in front
+-- with so many more bytes in front
 abbrev pub behind : ℕ → Front → Front
 behind n (Some f) = Some (f.0, n + f.1)
 behind n None = None
 
--- a piece of that length, where it has one
+-- a piece with so many bytes behind its first, where it has an end
 abbrev pub if_closed : Piece → Option ℕ → Front
 if_closed p (Some n) = Some (p, n)
 if_closed p None = None
@@ -158,17 +158,16 @@ mark_of_one b =
     cond (b == 60) (Some less) (
     cond (b == 62) (Some greater) None)))))))))))))))))))))))))
 
--- that mark, of so many bytes, or else the shorter one
+-- that mark, with so many bytes behind its first, or else the shorter one
 abbrev pub longest : Option Mark → ℕ → Front → Front
 longest (Some m) n shorter = Some (token (mark m), n)
 longest None n shorter = shorter
 
--- the longest mark that stands here
-unfoldable pub mark_at : List ℕ → Front
-mark_at [] = None
-mark_at (b ∷ []) = longest (mark_of_one b) 1 None
-mark_at (b ∷ c ∷ []) = longest (mark_of_two b c) 2 (longest (mark_of_one b) 1 None)
-mark_at (b ∷ c ∷ d ∷ more) = longest (mark_of_three b c d) 3 (longest (mark_of_two b c) 2 (longest (mark_of_one b) 1 None))
+-- the longest mark that begins with a byte, by what stands behind it
+unfoldable pub mark_at : ℕ → List ℕ → Front
+mark_at b [] = longest (mark_of_one b) 0 None
+mark_at b (c ∷ []) = longest (mark_of_two b c) 1 (longest (mark_of_one b) 0 None)
+mark_at b (c ∷ d ∷ bs) = longest (mark_of_three b c d) 2 (longest (mark_of_two b c) 1 (longest (mark_of_one b) 0 None))
 
 -- reserved (annex B), and no word of the grammar
 abbrev pub is_left_out : Name → Bool
@@ -178,36 +177,43 @@ unfoldable pub word_piece : Name → Piece
 word_piece w = cond (is_left_out w) left_out (token (word w))
 
 -- an identifier or a reserved word (3.7)
-unfoldable pub word_at : List ℕ → Piece × ℕ
-word_at text = (word_piece (take (run_length is_word_byte text) text), run_length is_word_byte text)
+unfoldable pub word_at : ℕ → List ℕ → Front
+word_at b bs = Some (word_piece (b ∷ take (run_length is_word_byte bs) bs), run_length is_word_byte bs)
 
--- the point and the digits of a real number (3.5.2): 0 where none stand here
-unfoldable pub fraction_length : List ℕ → ℕ
-fraction_length [] = 0
-fraction_length (b ∷ bs) = cond (b == 46 && begins_with is_digit bs) (suc (run_length is_decimal_byte bs)) 0
+-- the point and the digits of a real number (3.5.2)
+unfoldable pub fraction_length : List ℕ → Option ℕ
+fraction_length [] = None
+fraction_length (b ∷ bs) = cond (b == 46 && begins_with is_digit bs) (Some (suc (run_length is_decimal_byte bs))) None
 
--- digits, perhaps behind a sign: 0 where none stand here
-unfoldable pub signed_length : List ℕ → ℕ
-signed_length [] = 0
-signed_length (b ∷ bs) =
-    cond (is_digit b) (run_length is_decimal_byte (b ∷ bs)) (
-    cond ((b == 43 || b == 45) && begins_with is_digit bs) (suc (run_length is_decimal_byte bs)) 0)
+-- digits, perhaps behind a sign
+unfoldable pub signed_length : List ℕ → Option ℕ
+signed_length [] = None
+signed_length (b ∷ bs) = cond (is_digit b || (b == 43 || b == 45) && begins_with is_digit bs) (Some (suc (run_length is_decimal_byte bs))) None
 
--- the exponent of a real number: 0 where none stands here
-unfoldable pub exponent_length : List ℕ → ℕ
-exponent_length [] = 0
-exponent_length (b ∷ bs) = cond ((b == 101 || b == 69) && nat_lt 0 (signed_length bs)) (suc (signed_length bs)) 0
+-- the exponent of a real number
+unfoldable pub exponent_length : List ℕ → Option ℕ
+exponent_length [] = None
+exponent_length (b ∷ bs) = cond (b == 101 || b == 69) (option_map suc (signed_length bs)) None
 
--- how many bytes behind the digits belong to a real number
-unfoldable pub real_length : List ℕ → ℕ
-real_length text = fraction_length text + exponent_length (drop (fraction_length text) text)
+abbrev pub or_zero : Option ℕ → ℕ
+or_zero (Some n) = n
+or_zero None = 0
+
+abbrev pub real_from : List ℕ → Option ℕ → Option ℕ
+real_from text (Some n) = Some (n + or_zero (exponent_length (drop n text)))
+real_from text None = exponent_length text
+
+-- what makes digits in front of it a real number: a fraction, an exponent, or both
+unfoldable pub real_length : List ℕ → Option ℕ
+real_length text = real_from text (fraction_length text)
+
+abbrev pub number_of : ℕ → List ℕ → (digits : ℕ) → Option ℕ → Front
+number_of b bs n (Some k) = Some (left_out, n + k)
+number_of b bs n None = Some (token (decimal (b ∷ take n bs)), n)
 
 -- a plain decimal (3.5.1), or a real number
-unfoldable pub number_at : List ℕ → Piece × ℕ
-number_at text =
-    cond (nat_lt 0 (real_length (drop (run_length is_decimal_byte text) text)))
-        (left_out, run_length is_decimal_byte text + real_length (drop (run_length is_decimal_byte text) text))
-        (token (decimal (take (run_length is_decimal_byte text) text)), run_length is_decimal_byte text)
+unfoldable pub number_at : ℕ → List ℕ → Front
+number_at b bs = number_of b bs (run_length is_decimal_byte bs) (real_length (drop (run_length is_decimal_byte bs) bs))
 
 -- b, o, d or h, in either case
 abbrev pub is_base : ℕ → Bool
@@ -257,75 +263,71 @@ unfoldable pub behind_quote : (is_macro : Bool) → List ℕ → Option ℕ
 behind_quote is_macro [] = None
 behind_quote is_macro (b ∷ bs) = cond (b == 115 || b == 83) (option_map suc (base_length is_macro bs)) (base_length is_macro (b ∷ bs))
 
-abbrev pub based_piece : List ℕ → Option ℕ → Front
-based_piece text (Some n) = Some (token (based (take (suc n) text)), suc n)
-based_piece text None = None
+abbrev pub based_of : ℕ → List ℕ → Option ℕ → Front
+based_of b bs (Some n) = Some (token (based (b ∷ take n bs)), n)
+based_of b bs None = None
 
--- a based number without its size (3.5.1), from its quote on
-unfoldable pub based_at : (is_macro : Bool) → List ℕ → Front
-based_at is_macro text = based_piece text (behind_quote is_macro (drop 1 text))
+-- a based number without its size (3.5.1), by its quote and what stands behind
+unfoldable pub based_at : (is_macro : Bool) → ℕ → List ℕ → Front
+based_at is_macro b bs = based_of b bs (behind_quote is_macro bs)
 
--- $signed, $unsigned, and other names with $ (3.7.3)
-abbrev pub system_piece : Name → Piece
+unfoldable pub system_piece : Name → Piece
 system_piece w = cond (same_name w (codes "$signed") || same_name w (codes "$unsigned")) (token (system w)) left_out
 
-unfoldable pub system_at : List ℕ → Front
-system_at text =
-    cond (nat_lt 1 (run_length is_word_byte text))
-        (Some (system_piece (take (run_length is_word_byte text) text), run_length is_word_byte text)) None
+-- $signed, $unsigned, and other names with $ (3.7.3)
+unfoldable pub system_at : ℕ → List ℕ → Front
+system_at b bs =
+    cond (begins_with is_word_byte bs) (Some (system_piece (b ∷ take (run_length is_word_byte bs) bs), run_length is_word_byte bs)) None
 
 -- an escaped identifier (3.7.1), behind its backslash
 unfoldable pub escaped_at : List ℕ → Front
-escaped_at text = cond (nat_lt 0 (run_length is_graphic text)) (Some (left_out, suc (run_length is_graphic text))) None
+escaped_at bs = cond (begins_with is_graphic bs) (Some (left_out, run_length is_graphic bs)) None
 
--- a comment or an operator, behind a slash (3.3)
+-- a comment (3.3) or an operator, behind a slash
 unfoldable pub slash_at : List ℕ → Front
-slash_at [] = Some (token (mark slash), 1)
+slash_at [] = Some (token (mark slash), 0)
 slash_at (b ∷ bs) =
-    cond (b == 47) (Some (nothing, 2 + line_length bs)) (
-    cond (b == 42) (behind 2 (if_closed nothing (closing_length 42 47 bs)))
-    (Some (token (mark slash), 1)))
+    cond (b == 47) (Some (nothing, suc (line_length bs))) (
+    cond (b == 42) (if_closed nothing (option_map suc (closing_length 42 47 false bs)))
+    (Some (token (mark slash), 0)))
 
--- behind (* stands ) past blanks: no attribute, but the events of all that is read
+-- Behind (* and blanks stands ): no attribute.
 unfoldable pub is_star_alone : (is_macro : Bool) → List ℕ → Bool
 is_star_alone is_macro text = begins_with (λ b. b == 41) (drop (blank_length is_macro text) text)
 
--- an attribute (3.8) or a bracket, behind a bracket
+-- an attribute (3.8), or a bracket alone, behind the bracket
 unfoldable pub bracket_at : (is_macro : Bool) → List ℕ → Front
-bracket_at is_macro [] = Some (token (mark left_parenthesis), 1)
+bracket_at is_macro [] = Some (token (mark left_parenthesis), 0)
 bracket_at is_macro (b ∷ bs) =
-    cond (b == 42 && not (is_star_alone is_macro bs)) (behind 2 (if_closed nothing (closing_length 42 41 bs)))
-    (Some (token (mark left_parenthesis), 1))
+    cond (b == 42 && not (is_star_alone is_macro bs)) (if_closed nothing (option_map suc (closing_length 42 41 false bs)))
+    (Some (token (mark left_parenthesis), 0))
 
 -- ---- text that is not read as tokens: the text of a definition, and what a conditional leaves out
 
--- a backslash takes the byte behind it along, or the line's end
+-- What a backslash takes along: the byte behind it, or the line's end.
 unfoldable pub escape_length : List ℕ → ℕ
-escape_length [] = 1
-escape_length (b ∷ bs) = cond (b == 13 && begins_with is_line_feed bs) 3 2
+escape_length [] = 0
+escape_length (b ∷ bs) = cond (b == 13 && begins_with is_line_feed bs) 2 1
 
-abbrev pub string_or_quote : Option ℕ → ℕ
-string_or_quote (Some n) = suc n
-string_or_quote None = 1
-
--- What is passed over as one: a comment /* */, a string that is closed on its line, a backslash with what it takes along, or one byte.
+-- What is passed over with a byte, as one: a comment /* */, a string that is closed on its line, what a backslash takes along.
+-- The length of it behind that byte; a comment has an end.
 unfoldable pub passed_length : ℕ → List ℕ → Option ℕ
 passed_length b bs =
-    cond (b == 47 && begins_with (λ c. c == 42) bs) (option_map (λ n. 2 + n) (closing_length 42 47 (drop 1 bs))) (
-    cond (b == 34) (Some (string_or_quote (string_length false bs))) (
-    cond (b == 92) (Some (escape_length bs)) (Some 1)))
+    cond (b == 47 && begins_with (λ c. c == 42) bs) (option_map suc (closing_length 42 47 false (drop 1 bs))) (
+    cond (b == 34) (Some (or_zero (string_length false bs))) (
+    cond (b == 92) (Some (escape_length bs)) (Some 0)))
 
 -- the line's end or a comment // ends the text of a definition
 abbrev pub ends_definition : ℕ → List ℕ → Bool
 ends_definition b bs = b == 10 || b == 47 && begins_with (λ c. c == 47) bs
 
--- The length of a definition's text (19.3.1), behind so many bytes of it that are passed over. A comment in it has an end.
+-- The length of a definition's text (19.3.1), behind so many bytes of it that are passed over.
 unfoldable pub definition_length : ℕ → List ℕ → Option ℕ
 definition_length n [] = Some 0
 definition_length (suc n) (b ∷ bs) = option_map suc (definition_length n bs)
 definition_length zero (b ∷ bs) =
     cond (ends_definition b bs) (Some 0)
-    (option_and_then (λ n. option_map suc (definition_length (n - 1) bs)) (passed_length b bs))
+    (option_and_then (λ n. option_map suc (definition_length n bs)) (passed_length b bs))
 
 -- ---- directives (19)
 
@@ -338,9 +340,9 @@ name_behind text =
         None
 
 -- a directive with a name: without one it is written wrongly
-abbrev pub named : (Name → Piece) → Option (Name × ℕ) → Piece × ℕ
-named f (Some n) = (f n.0, n.1)
-named f None = (misdirected, 0)
+abbrev pub named : (Name → Piece) → Option (Name × ℕ) → Front
+named f (Some n) = Some (f n.0, n.1)
+named f None = Some (misdirected, 0)
 
 -- A definition: a bracket directly behind its name would begin arguments.
 abbrev pub definition_of : Name → List ℕ → Option ℕ → Front
@@ -354,14 +356,14 @@ definition_from text None = Some (misdirected, 0)
 unfoldable pub definition_at : List ℕ → Front
 definition_at text = definition_from text (name_behind text)
 
--- the directives of conditionals (19.4): a word of theirs, and what stands behind it
-unfoldable pub conditional_at : Name → List ℕ → Front
-conditional_at w text =
-    cond (same_name w (codes "ifdef")) (Some (named (if_defined true) (name_behind text))) (
-    cond (same_name w (codes "ifndef")) (Some (named (if_defined false) (name_behind text))) (
-    cond (same_name w (codes "elsif")) (Some (named else_if (name_behind text))) (
+-- the directives of conditionals (19.4), by their word and what stands behind it
+unfoldable pub conditional_at : Name → List ℕ → (other : Front) → Front
+conditional_at w text other =
+    cond (same_name w (codes "ifdef")) (named (if_defined true) (name_behind text)) (
+    cond (same_name w (codes "ifndef")) (named (if_defined false) (name_behind text)) (
+    cond (same_name w (codes "elsif")) (named else_if (name_behind text)) (
     cond (same_name w (codes "else")) (Some (otherwise, 0)) (
-    cond (same_name w (codes "endif")) (Some (end_if, 0)) None))))
+    cond (same_name w (codes "endif")) (Some (end_if, 0)) other))))
 
 -- the directives that mean nothing for the subset: their lines are passed over
 abbrev pub is_line_word : Name → Bool
@@ -373,50 +375,45 @@ is_line_word w =
 unfoldable pub directive_from : Name → List ℕ → Front
 directive_from w text =
     cond (same_name w (codes "define")) (definition_at text) (
-    cond (same_name w (codes "undef")) (Some (named undefine (name_behind text))) (
+    cond (same_name w (codes "undef")) (named undefine (name_behind text)) (
     cond (is_line_word w) (Some (nothing, line_length text)) (Some (use_of w, 0))))
 
-abbrev pub or_else : Front → Front → Front
-or_else (Some f) other = Some f
-or_else None other = other
+-- behind a backquote, by the word and what stands behind it
+abbrev pub directive_of : Name → List ℕ → Front
+directive_of w text = conditional_at w text (directive_from w text)
 
--- behind a backquote, where a letter or _ follows
 unfoldable pub directive_at : List ℕ → Front
 directive_at text =
     cond (begins_with is_letter text)
-        (behind (suc (run_length is_word_byte text))
-            (or_else (conditional_at (take (run_length is_word_byte text) text) (drop (run_length is_word_byte text) text))
-                     (directive_from (take (run_length is_word_byte text) text) (drop (run_length is_word_byte text) text))))
+        (behind (run_length is_word_byte text) (directive_of (take (run_length is_word_byte text) text) (drop (run_length is_word_byte text) text)))
         None
 
 -- the same in text that a conditional leaves out, where the directives of conditionals alone count
 unfoldable pub conditional_behind : List ℕ → Front
 conditional_behind text =
-    behind (suc (run_length is_word_byte text))
-        (or_else (conditional_at (take (run_length is_word_byte text) text) (drop (run_length is_word_byte text) text)) (Some (nothing, 0)))
+    behind (run_length is_word_byte text)
+        (conditional_at (take (run_length is_word_byte text) text) (drop (run_length is_word_byte text) text) (Some (nothing, 0)))
 
--- ---- the front of a text
+-- ---- the front of a text: its first byte and what stands behind it
 
--- the front of a text that is read, the text of a macro or a file
-unfoldable pub read_at : (is_macro : Bool) → List ℕ → Front
-read_at is_macro [] = None
-read_at is_macro (b ∷ bs) =
-    cond (is_blank_before is_macro b bs) (Some (nothing, blank_length is_macro (b ∷ bs))) (
-    cond (is_letter b) (Some (word_at (b ∷ bs))) (
-    cond (is_digit b) (Some (number_at (b ∷ bs))) (
-    cond (b == 39) (based_at is_macro (b ∷ bs)) (
-    cond (b == 34) (behind 1 (if_closed left_out (string_length false bs))) (
-    cond (b == 36) (system_at (b ∷ bs)) (
+-- of a text that is read, the text of a macro or a file
+unfoldable pub read_at : (is_macro : Bool) → ℕ → List ℕ → Front
+read_at is_macro b bs =
+    cond (is_blank_before is_macro b bs) (Some (nothing, blank_length is_macro bs)) (
+    cond (is_letter b) (word_at b bs) (
+    cond (is_digit b) (number_at b bs) (
+    cond (b == 39) (based_at is_macro b bs) (
+    cond (b == 34) (if_closed left_out (string_length false bs)) (
+    cond (b == 36) (system_at b bs) (
     cond (b == 92) (escaped_at bs) (
     cond (b == 96) (directive_at bs) (
     cond (b == 47) (slash_at bs) (
     cond (b == 40) (bracket_at is_macro bs) (
-    mark_at (b ∷ bs)))))))))))
+    mark_at b bs))))))))))
 
--- the front of a text that a conditional leaves out
-unfoldable pub left_out_at : List ℕ → Front
-left_out_at [] = None
-left_out_at (b ∷ bs) =
+-- of a text that a conditional leaves out
+unfoldable pub left_out_at : ℕ → List ℕ → Front
+left_out_at b bs =
     cond (b == 96) (conditional_behind bs) (
-    cond (b == 47 && begins_with (λ c. c == 47) bs) (Some (nothing, suc (line_length bs)))
+    cond (b == 47 && begins_with (λ c. c == 47) bs) (Some (nothing, line_length bs))
     (if_closed nothing (passed_length b bs)))

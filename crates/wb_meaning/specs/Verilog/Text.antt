@@ -148,10 +148,10 @@ with_piece read (use_of n) r = with_text_of read (r.macros n) r
 
 -- ---- texts and files
 
-unfoldable pub front_at : (is_macro : Bool) → Reading → List ℕ → Front
-front_at is_macro r text = cond (leaves_out r.conditionals) (left_out_at text) (read_at is_macro text)
+unfoldable pub front_at : (is_macro : Bool) → Reading → ℕ → List ℕ → Front
+front_at is_macro r b bs = cond (leaves_out r.conditionals) (left_out_at b bs) (read_at is_macro b bs)
 
--- a piece, and more behind its length
+-- a piece, and what stands behind it
 abbrev pub piece_then : (List ℕ → Reading → Outcome) → Front → Reading → (ℕ → Reading → Outcome) → Outcome
 piece_then read (Some f) r more = then (with_piece read f.0 r) (more f.1)
 piece_then read None r more = Err bad_token
@@ -161,7 +161,7 @@ piece_then read None r more = Err bad_token
 unfoldable pub text_from : (is_macro : Bool) → (List ℕ → Reading → Outcome) → ℕ → List ℕ → Reading → Outcome
 text_from is_macro read n [] r = Ok r
 text_from is_macro read (suc n) (b ∷ bs) r = text_from is_macro read n bs r
-text_from is_macro read zero (b ∷ bs) r = piece_then read (front_at is_macro r (b ∷ bs)) r (λ n s. text_from is_macro read (n - 1) bs s)
+text_from is_macro read zero (b ∷ bs) r = piece_then read (front_at is_macro r b bs) r (λ n s. text_from is_macro read n bs s)
 
 -- the text of a macro, with so many levels left for uses
 unfoldable pub macro_read : (levels : ℕ) → List ℕ → Reading → Outcome
