@@ -1,14 +1,20 @@
 //! Verilog text to tokens.
 #![tactic(auto)]
 
+mod conditional;
 mod directive;
 mod front;
 mod mark;
 mod number;
 mod piece;
+mod reading;
 mod run;
 mod scan;
+mod state;
+mod stop;
+mod table;
 mod token;
 mod words;
 
-pub use token::Mark;
+pub use stop::LexKind;
+pub use token::{Mark, Token, TokenKind};

@@ -109,3 +109,16 @@ pub enum TokenKind {
     /// An operator or a mark.
     Mark(Mark),
 }
+
+/// A token of a file.
+#[derive(Clone, Copy)]
+pub struct Token<'s> {
+    /// What it is.
+    pub kind: TokenKind,
+    /// Its text, a slice of its file.
+    pub text: &'s [u8],
+    /// The number of its file, from 0.
+    pub file: u32,
+    /// Where it begins in its file, in bytes.
+    pub start: u32,
+}
