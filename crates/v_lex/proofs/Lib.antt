@@ -1,3 +1,4 @@
 pub mod Texts
 pub mod Macros
 pub mod Turns
+pub mod Stacks

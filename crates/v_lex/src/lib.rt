@@ -3,9 +3,12 @@
 
 mod conditional;
 mod directive;
+mod files;
 mod front;
 mod mark;
+mod nesting;
 mod number;
+mod opening;
 mod piece;
 mod reading;
 mod run;

@@ -78,7 +78,7 @@ fn moved_back(place: Place, text: &[u8]) -> Place {
 
 impl<'s> Reader<'s> {
     /// Notes a wrong directive.
-    fn misdirect(&mut self, place: Place)
+    pub(crate) fn misdirect(&mut self, place: Place)
         ensures { reading_of self.new ≡ with_bad_directive (reading_of self.old) }
     {
         if self.misdirected.is_none() {
