@@ -2,3 +2,5 @@ pub mod Texts
 pub mod Macros
 pub mod Turns
 pub mod Stacks
+pub mod Shown
+pub mod Encoded

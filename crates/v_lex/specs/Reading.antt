@@ -1,5 +1,6 @@
 -- What the state of the reading stands for.
-use Rattle.std.specs.Prelude.{◌≡◌, ℕ, Bool, List, [], ◌∷◌, map, reverse, Option, Some, None, Result, Ok, Err, is_some, option_map, ⊤}
+use Rattle.std.specs.Prelude.{◌≡◌, ℕ, Bool, List, [], ◌∷◌, map, reverse, Option, Some, None, Result, Ok, Err, is_some, option_map, ⊤, Vec}
+use Rattle.std.specs.Global.{Global}
 use Rattle.std.specs.Borrow.{Bor}
 use Rattle.std.specs.Ordering.{nat_cmp}
 use Rattle.std.specs.Cmp.Lexicographic.{slice_cmp}
@@ -105,3 +106,9 @@ abbrev pub IsFront : Result (Option (Piece × Span)) Stop → Option (Option (pi
 IsFront (Ok f) o = o ≡ Some (option_map span_front f)
 IsFront (Err (Refused k p)) o = (o ≡ None) × (refusal_of k ≡ texts.bad_token)
 IsFront (Err Memory) o = ⊤
+
+-- The call is refused as the definition says, or gives these tokens, unless memory runs out.
+abbrev pub IsRead : Result (Vec Token Global) Stop → Result (List pure.Token) texts.Refusal → Type 0
+IsRead (Ok v) o = o ≡ Ok (tokens_of v.items)
+IsRead (Err (Refused k p)) o = o ≡ Err (refusal_of k)
+IsRead (Err Memory) o = ⊤

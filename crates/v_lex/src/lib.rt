@@ -1,12 +1,14 @@
 //! Verilog text to tokens.
 #![tactic(auto)]
 
+mod answer;
 mod conditional;
 mod directive;
 mod files;
 mod front;
 mod mark;
 mod nesting;
+mod note;
 mod number;
 mod opening;
 mod piece;
@@ -19,5 +21,7 @@ mod table;
 mod token;
 mod words;
 
-pub use stop::LexKind;
+pub use answer::tokens;
+pub use note::Note;
+pub use stop::{LexKind, LexRefusal, LexStop};
 pub use token::{Mark, Token, TokenKind};

@@ -3,6 +3,7 @@
 ghost use Rattle.std.specs.Prelude.{◌≡◌};
 ghost use Rattle.v_lex.specs.declared.stop.Stop.TheVariants.{Memory};
 
+use crate::note::Note;
 use std::alloc::{AllocError, AllocFailed};
 
 /// The kinds of refusals, in the order in which they are answered.
@@ -51,5 +52,39 @@ impl<T: Drop> From<AllocFailed<T>> for Stop {
 
     fn from(_e: AllocFailed<T>) -> Stop {
         Stop::Memory
+    }
+}
+
+/// Why files are refused.
+#[derive(Drop)]
+pub struct LexRefusal {
+    /// The first kind, in the order of the kinds, that the files have anywhere.
+    pub kind: LexKind,
+    /// Where it stands: `file 0 line 3 column 7: ` and the word there. Files are counted from 0, lines and columns from 1.
+    pub note: Note,
+}
+
+/// Why there are no tokens.
+#[derive(Drop)]
+pub enum LexStop {
+    /// The files are refused.
+    Refused(LexRefusal),
+    /// There was not enough memory.
+    NoMemory,
+}
+
+/// There was not enough memory.
+#[derive(Clone, Copy, PartialEq, Eq, Debug)]
+pub(crate) struct NoMemory;
+
+impl From<AllocError> for NoMemory {
+    fn from(_e: AllocError) -> NoMemory {
+        NoMemory
+    }
+}
+
+impl<T: Drop> From<AllocFailed<T>> for NoMemory {
+    fn from(_e: AllocFailed<T>) -> NoMemory {
+        NoMemory
     }
 }
