@@ -4,3 +4,4 @@ pub mod Turns
 pub mod Stacks
 pub mod Shown
 pub mod Encoded
+pub mod Answered

@@ -5,7 +5,7 @@ ghost use Rattle.std.specs.List.{list_all};
 ghost use Rattle.std.specs.Str.{is_utf8};
 ghost use Rattle.wb_meaning.specs.Verilog.Text.{judged, tokens_in};
 ghost use Rattle.v_lex.specs.Reading.{reading_of, IsRead};
-ghost use Rattle.v_lex.specs.Answer.{IsAnswer};
+ghost use Rattle.v_lex.specs.Answer.{IsAnswer, IsOfKind};
 
 use crate::nesting::too_deep;
 use crate::note::Note;
@@ -111,7 +111,9 @@ fn note(alloc: Global, files: &[Vec<u8>], place: Place) -> Result<Note, NoMemory
     Note::new(alloc, &text)
 }
 
-fn refusal(alloc: Global, files: &[Vec<u8>], kind: LexKind, place: Place) -> LexStop {
+fn refusal(alloc: Global, files: &[Vec<u8>], kind: LexKind, place: Place) -> LexStop
+    ensures { IsOfKind kind result }
+{
     match note(alloc, files, place) {
         Ok(note) => LexStop::Refused(LexRefusal { kind, note }),
         Err(_) => LexStop::NoMemory,
