@@ -43,10 +43,7 @@ fn broken_text(files: &[Vec<u8>]) -> Option<Place>
 {
     for (number, file) in files.iter().enumerate() {
         if !is_utf8(file) {
-            return Some(broken_place(
-                u32::try_from(number).unwrap_or(u32::MAX),
-                file,
-            ));
+            return Some(broken_place(u32::try_from(number).unwrap_or(u32::MAX), file));
         }
     }
     None

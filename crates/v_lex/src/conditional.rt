@@ -55,7 +55,11 @@ pub(crate) fn first_branch(is_left_out: bool, holds: bool) -> Branch
     if is_left_out {
         return Branch::Passed;
     }
-    if holds { Branch::Taken } else { Branch::Waiting }
+    if holds {
+        Branch::Taken
+    } else {
+        Branch::Waiting
+    }
 }
 
 pub(crate) fn next_branch(branch: Branch, holds: bool) -> Branch

@@ -6,7 +6,7 @@ ghost use Rattle.wb_meaning.specs.Verilog.Lexical.{Front, name_behind, named, un
 ghost use Rattle.v_lex.specs.View.{rest_after, front_of, after, or_front, name_after};
 
 use crate::piece::Piece;
-use crate::run::{Run, taken_before, behind, split_run};
+use crate::run::{Run, behind, split_run, taken_before};
 use crate::scan::{begins_with_byte, behind_closing, behind_string};
 use crate::words::begins_with_letter;
 

@@ -63,7 +63,6 @@ impl<'s> Reader<'s> {
         ensures { reading_of self.new ≡ opened (reading_of self.old) }
     {
         self.conditionals.clear();
-        self.is_behind_zero = false;
     }
 
     #[tactic(auto, unfolding(wb_meaning::specs::Verilog::Text::closed))]

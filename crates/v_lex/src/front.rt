@@ -8,7 +8,7 @@ use crate::directive::{behind_passed, directive, left_out_directive};
 use crate::mark::{double, single, triple};
 use crate::number::{based, number};
 use crate::piece::Piece;
-use crate::run::{Run, taken_before, behind, behind_blanks, is_blank_before, split_run};
+use crate::run::{Run, behind, behind_blanks, is_blank_before, split_run, taken_before};
 use crate::scan::{begins_with_byte, behind_closing, behind_string};
 use crate::token::{Mark, TokenKind};
 use crate::words::{escaped, system, word};
@@ -18,7 +18,10 @@ fn short_mark<'t>(byte: u8, text: &'t [u8], more: &'t [u8]) -> Option<(Piece<'t>
     ensures { option_map front_of result ≡ after more.now (longest (mark_of_one byte) 0 None) }
 {
     match single(byte) {
-        Some(mark) => Some((Piece::Token(TokenKind::Mark(mark), taken_before(text, more)), more)),
+        Some(mark) => Some((
+            Piece::Token(TokenKind::Mark(mark), taken_before(text, more)),
+            more,
+        )),
         None => None,
     }
 }
@@ -34,7 +37,10 @@ fn middle_mark<'t>(
     match double(byte, next) {
         Some(mark) => {
             let rest = behind(more, 1);
-            Some((Piece::Token(TokenKind::Mark(mark), taken_before(text, rest)), rest))
+            Some((
+                Piece::Token(TokenKind::Mark(mark), taken_before(text, rest)),
+                rest,
+            ))
         }
         None => short_mark(byte, text, more),
     }
@@ -52,7 +58,10 @@ fn long_mark<'t>(
     match triple(byte, next, third) {
         Some(mark) => {
             let rest = behind(more, 2);
-            Some((Piece::Token(TokenKind::Mark(mark), taken_before(text, rest)), rest))
+            Some((
+                Piece::Token(TokenKind::Mark(mark), taken_before(text, rest)),
+                rest,
+            ))
         }
         None => middle_mark(byte, next, text, more),
     }
@@ -104,7 +113,10 @@ fn is_star_alone(is_macro: bool, text: &[u8]) -> bool
 fn bracket<'t>(is_macro: bool, text: &'t [u8], more: &'t [u8]) -> Option<(Piece<'t>, &'t [u8])>
     ensures { option_map front_of result ≡ after more.now (bracket_at is_macro more.now) }
 {
-    let alone = Piece::Token(TokenKind::Mark(Mark::LeftParenthesis), taken_before(text, more));
+    let alone = Piece::Token(
+        TokenKind::Mark(Mark::LeftParenthesis),
+        taken_before(text, more),
+    );
     let Some((first, attribute)) = more.split_first() else {
         return Some((alone, more));
     };

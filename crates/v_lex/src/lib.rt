@@ -25,3 +25,6 @@ pub use answer::tokens;
 pub use note::Note;
 pub use stop::{LexKind, LexRefusal, LexStop};
 pub use token::{Mark, Token, TokenKind};
+
+#[cfg(test)]
+mod tests;

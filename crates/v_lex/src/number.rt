@@ -7,7 +7,7 @@ ghost use Rattle.wb_meaning.specs.Verilog.Lexical.{fraction_length, signed_lengt
 ghost use Rattle.v_lex.specs.View.{rest_after, front_of, at_front};
 
 use crate::piece::Piece;
-use crate::run::{Run, taken_before, behind_blanks, is_decimal_base, split_run};
+use crate::run::{Run, behind_blanks, is_decimal_base, split_run, taken_before};
 use crate::token::TokenKind;
 use wb_names::is_digit;
 
@@ -87,7 +87,10 @@ pub(crate) fn number(text: &[u8]) -> Option<(Piece<'_>, &[u8])>
     let (_, rest) = split_run(Run::Decimal, more);
     match behind_real(rest) {
         Some(behind) => Some((Piece::LeftOut, behind)),
-        None => Some((Piece::Token(TokenKind::Decimal, taken_before(text, rest)), rest)),
+        None => Some((
+            Piece::Token(TokenKind::Decimal, taken_before(text, rest)),
+            rest,
+        )),
     }
 }
 
@@ -212,7 +215,10 @@ pub(crate) fn based(is_macro: bool, text: &[u8]) -> Option<(Piece<'_>, &[u8])>
         return None;
     };
     match behind_quote(is_macro, more) {
-        Some(rest) => Some((Piece::Token(TokenKind::Based, taken_before(text, rest)), rest)),
+        Some(rest) => Some((
+            Piece::Token(TokenKind::Based, taken_before(text, rest)),
+            rest,
+        )),
         None => None,
     }
 }

@@ -9,7 +9,7 @@ ghost use Rattle.wb_meaning.specs.Verilog.Lexical.{is_word_byte, is_graphic, is_
 ghost use Rattle.v_lex.specs.View.{piece_of, front_of, after, at_front};
 
 use crate::piece::Piece;
-use crate::run::{Run, taken_before, is_graphic, is_word_byte, split_run};
+use crate::run::{Run, is_graphic, is_word_byte, split_run, taken_before};
 use crate::token::TokenKind;
 use wb_names::{is_letter, is_reserved_word};
 

@@ -26,7 +26,7 @@ pub record Reading : Type 0 where
   -- the open conditionals of this file, the innermost first
   pub conditionals : List Conditional
   pub tokens : List Token
-  -- the token before, in this file, is a plain decimal of value 0
+  -- the token before is a plain decimal of value 0
   pub behind_zero : Bool
   -- the bytes of the macros' texts, counted at each use
   pub used : ℕ
@@ -175,7 +175,7 @@ without_byte_order_mark bytes = bytes
 
 -- Each file is read by itself, and macros carry over.
 unfoldable pub opened : Reading → Reading
-opened r = record { macros = r.macros; conditionals = []; tokens = r.tokens; behind_zero = false; used = r.used; has_bad_directive = r.has_bad_directive; has_left_out = r.has_left_out }
+opened r = record { macros = r.macros; conditionals = []; tokens = r.tokens; behind_zero = r.behind_zero; used = r.used; has_bad_directive = r.has_bad_directive; has_left_out = r.has_left_out }
 
 -- at the end of a file no conditional is open
 abbrev pub closed_from : List Conditional → Reading → Reading

@@ -25,16 +25,16 @@ pub read_text-returns-in_default : goal.read_text-returns-in_default
 read_text-returns-in_default t c =
     c.loop-piece.invariant
     ∙ read_over c.args.is_macro (macro_read c.args.levels) c.loop-piece.rest.text.now (reading_of c.loop-piece.self)
-      (c.in_ok-piece.ensures ∙ ap (λ x. Some (option_map span_front x)) c.in_default.is)
+    (c.in_ok-piece.ensures ∙ ap (λ x. Some (option_map span_front x)) c.in_default.is)
 
 pub read_text-returns-in_err-taken : goal.read_text-returns-in_err-taken
 read_text-returns-in_err-taken t c =
     let p = err_from_is_err_and c.from_residual-in_err-taken.result c.from_residual-in_err-taken.ensures.1 in
     rw (p.1, p.2) (bad_piece ⊤ ⊤ c.in_err-taken.field-0.0 _ _ (reading_of c.loop-piece.self) c.args.is_macro (macro_read c.args.levels) c.loop-piece.rest.text.now _ _ _
-      (c.in_ok-piece.ensures ∙ ap (λ x. Some (option_map span_front x)) c.in-Some.is) c.in_err-taken.ensures c.loop-piece.invariant)
+    (c.in_ok-piece.ensures ∙ ap (λ x. Some (option_map span_front x)) c.in-Some.is) c.in_err-taken.ensures c.loop-piece.invariant)
 
 pub read_text-loop-piece-preserved : goal.read_text-loop-piece-preserved
 read_text-loop-piece-preserved t c =
     c.loop-piece.invariant
     ∙ read_on c.args.is_macro (macro_read c.args.levels) c.loop-piece.rest.text.now c.in-Some.behind.text.now _ (reading_of c.loop-piece.self) (reading_of c.taken.new.self)
-      (c.in_ok-piece.ensures ∙ ap (λ x. Some (option_map span_front x)) c.in-Some.is) c.in_ok-taken.ensures
+    (c.in_ok-piece.ensures ∙ ap (λ x. Some (option_map span_front x)) c.in-Some.is) c.in_ok-taken.ensures
