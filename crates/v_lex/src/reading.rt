@@ -192,15 +192,19 @@ impl<'s> Reader<'s> {
         }
     }
 
+    fn undefined(&mut self, place: Place) -> Result<Option<Span<'s>>, Stop>
+        ensures { (read : List ℕ → Reading → Outcome) → IsTaken read result (reading_of self.new) (with_text_of read None (reading_of self.old)) }
+    {
+        self.misdirect(place);
+        Ok(None)
+    }
+
     fn use_macro(&mut self, name: &'s [u8], place: Place) -> Result<Option<Span<'s>>, Stop>
         ensures { (read : List ℕ → Reading → Outcome) → IsTaken read result (reading_of self.new) (with_text_of read ((reading_of self.old).macros name.now) (reading_of self.old)) }
     {
         match macro_text(&self.macros, name) {
             Some(text) => self.count_use(text, place),
-            None => {
-                self.misdirect(place);
-                Ok(None)
-            }
+            None => self.undefined(place),
         }
     }
 

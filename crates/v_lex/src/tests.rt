@@ -345,7 +345,7 @@ fn doubled_macros(rt: HostRuntime) -> Result<(), Fail> {
 /// A macro in terms of the one before.
 fn chained(alloc: Global, count: u32) -> Result<Vec<u8>, AllocError> {
     let mut text = file(alloc, b"`define a1 x\n".as_slice())?;
-    for number in 2..count + 1 {
+    for number in 2..=count {
         let before = number - 1;
         let line = format!(in alloc; "`define a{number} `a{before}\n")?;
         text.extend_from_slice(line.as_bytes())?;
