@@ -259,7 +259,7 @@ const LARGE: [ManyRow; 16] = [
     ("`ifdef A\n", 466_033, "", "V3"),
     ("`define A x\n", 349_525, "`A", ""),
     ("`define A x\n`A", 299_593, "", ""),
-    ("`ifdef A \"", 1, "`endif", "V3"),
+    ("`ifdef A \"", 1, "`endif", ""),
     ("a?", 2_097_152, "", "V5"),
     ("a+", 2_097_152, "", ""),
     ("if;", 1_398_101, "", ""),
@@ -330,7 +330,7 @@ fn doubled(alloc: Global, first: &str, count: u32) -> Result<Vec<u8>, AllocError
 fn doubled_macros(rt: HostRuntime) -> Result<(), Fail> {
     let rows = [
         ("x", 5, ""),
-        ("x", 23, "V3"),
+        ("x", 23, ""),
         ("x", 24, "V3"),
         ("", 40, "V3"),
         ("x", 64, "V3"),
