@@ -6,3 +6,6 @@ pub mod Register
 pub mod Hierarchy
 pub mod Settled
 pub mod Next
+pub mod Token
+pub mod Lexical
+pub mod Text

@@ -1,5 +1,5 @@
 -- What three files stand for, from what their readers give.
-use Rattle.std.proofs.Common.{◌≡◌, ◌≤◌, ◌&&◌, ℕ, Bool, true, false, cond, nat_le, List, [], ◌∷◌, length, Some, None, option_map, is_some, refl, ap, sym, ◌∙◌, subst, IsTrue, true≢false, arith}
+use Rattle.std.proofs.Common.{Result, Ok, Err, ◌≡◌, ◌≤◌, ◌&&◌, ℕ, Bool, true, false, cond, nat_le, List, [], ◌∷◌, length, Some, None, option_map, is_some, refl, ap, sym, ◌∙◌, subst, IsTrue, true≢false, arith}
 use Rattle.std.proofs.lemmas.Bool.Decides.{nat_tests}
 use Rattle.std.specs.declared.option.Option.{Option}
 use Rattle.std.proofs.Common.{IfOk, OnOk}
@@ -21,7 +21,9 @@ use Rattle.wb_first.specs.View.{first_of}
 use Rattle.wb_meaning.specs.ModelFile.Meaning.{ModelRule, reading_of}
 use Rattle.ila_rules.specs.Rule.{rule_name}
 use Rattle.ila_json.specs.Reading.{refusal_in}
-use Rattle.wb_top.specs.Files.{broken_by, refusing_rule, IsCaseOf}
+use Rattle.wb_meaning.specs.Verilog.Token.{Token}
+use Rattle.wb_meaning.specs.Verilog.Text.{Refusal, tokens_in}
+use Rattle.wb_top.specs.Files.{kind_of_text, first_kind, refused_by, refusing_kind, IsCaseOf}
 use Rattle.wb_top.specs.Texts.{IsRefusalBy, IsRefusal}
 use Rattle.wb_top.specs.Outcome.{IsChecked, IsRefused, IsReported}
 use Rattle.wb_top.specs.declared.status.Status.{Status}
@@ -57,7 +59,7 @@ not_accepted m p d model map design is_model is_map is_design one refused f case
         pick false = Unit {0}
 
 -- a report of a case answers the check of its files
-pub answered : (m p d : List ℕ) (f : First) (status : Status) (text : List ℕ) → IsCaseOf m p d f → refusing_rule (m ∷ p ∷ d ∷ []) ≡ None
+pub answered : (m p d : List ℕ) (f : First) (status : Status) (text : List ℕ) → IsCaseOf m p d f → refusing_kind (m ∷ p ∷ d ∷ []) ≡ None
     → IsReported f status text → IsChecked (m ∷ p ∷ d ∷ []) status text
 answered m p d f Done text case unbroken reported = (f, case, reported, unbroken)
 answered m p d f Failed text case unbroken reported = (f, case, reported, unbroken)
@@ -68,15 +70,21 @@ answered m p d f WriteFault text case unbroken reported = absurd reported
 answered m p d f NoMemory text case unbroken reported = absurd reported
 answered m p d f Limit text case unbroken reported = absurd reported
 
--- a refusal for no rule, and one by a rule
-pub refused_by_none : (m p d : List ℕ) (o : Option ModelRule) (text : List ℕ) → o ≡ None → ((f : First) → ¬ IsCaseOf m p d f)
+-- a refusal for no kind, and one by a kind
+pub refused_by_none : (m p d : List ℕ) (o : Option (List ℕ)) (text : List ℕ) → o ≡ None → ((f : First) → ¬ IsCaseOf m p d f)
     → IsRefusal text → IsRefused (m ∷ p ∷ d ∷ []) o text
 refused_by_none m p d o text is no_case refusal = subst (λ r. IsRefused (m ∷ p ∷ d ∷ []) r text) (sym is) (no_case, refusal)
 
-pub refused_by_rule : (contents : List (List ℕ)) (o : Option ModelRule) (rule : ModelRule) (text : List ℕ) → o ≡ Some rule
-    → IsRefusalBy (rule_name rule) text → IsRefused contents o text
-refused_by_rule contents o rule text is refusal = subst (λ r. IsRefused contents r text) (sym is) refusal
+pub refused_by_kind : (contents : List (List ℕ)) (o : Option (List ℕ)) (kind : List ℕ) (text : List ℕ) → o ≡ Some kind
+    → IsRefusalBy kind text → IsRefused contents o text
+refused_by_kind contents o kind text is refusal = subst (λ r. IsRefused contents r text) (sym is) refusal
 
-pub rule_of_model : (m p d : List ℕ) (o : Option ModelRule) → o ≡ refusal_in (reading_of m) → refusing_rule (m ∷ p ∷ d ∷ []) ≡ o
-unfolding broken_by
-rule_of_model m p d o is = sym is
+-- the kind that refuses: of the model file, of the Verilog file, none
+pub kind_of_model : (m p d : List ℕ) (rule : ModelRule) → ◌≡◌ {A = Option ModelRule} (Some rule) (refusal_in (reading_of m)) → refusing_kind (m ∷ p ∷ d ∷ []) ≡ Some (rule_name rule)
+unfolding refused_by
+kind_of_model m p d rule is = ap (λ o. first_kind o (kind_of_text (tokens_in (d ∷ [])))) (sym is)
+
+pub kind_of_design : (m p d : List ℕ) (o : Result (List Token) Refusal) → refusal_in (reading_of m) ≡ None → tokens_in (d ∷ []) ≡ o
+    → refusing_kind (m ∷ p ∷ d ∷ []) ≡ kind_of_text o
+unfolding refused_by
+kind_of_design m p d o unbroken is = ap (λ r. first_kind r (kind_of_text (tokens_in (d ∷ [])))) unbroken ∙ ap kind_of_text is

@@ -8,9 +8,7 @@ use Rattle.wb_first.specs.Names.{First, setting_of}
 use Rattle.wb_top.specs.declared.verb.Verb.{Verb}
 use Rattle.wb_top.specs.declared.verb.Verb.TheVariants.{Check, Simulate}
 use Rattle.wb_top.specs.Words.{Command, command_of}
-use Rattle.wb_meaning.specs.ModelFile.Meaning.{ModelRule}
-use Rattle.ila_rules.specs.Rule.{rule_name}
-use Rattle.wb_top.specs.Files.{first_long, refusing_rule, IsCase, AreHeld}
+use Rattle.wb_top.specs.Files.{first_long, refusing_kind, IsCase, AreHeld}
 use Rattle.wb_top.specs.Simulated.{AreSimulated}
 use Rattle.wb_top.specs.Texts.{usage_text, limit_text, IsRefusalBy, IsRefusal}
 use Rattle.wb_top.specs.declared.status.Status.{Status}
@@ -22,15 +20,16 @@ IsReported f Done text = IsReport (setting_of f) text false × EveryRunRefines (
 IsReported f Failed text = IsReport (setting_of f) text true
 IsReported f _ text = ⊥
 
--- Refused: by the first rule that the model file breaks; where it breaks none, the files stand for no case of the profile.
-abbrev pub IsRefused : List (List ℕ) → Option ModelRule → List ℕ → Type 0
-IsRefused contents (Some rule) text = IsRefusalBy (rule_name rule) text
+-- Refused: by the first kind that refuses the model file or the Verilog file; where none does, the files stand for no case of the
+-- profile.
+abbrev pub IsRefused : List (List ℕ) → Option (List ℕ) → List ℕ → Type 0
+IsRefused contents (Some kind) text = IsRefusalBy kind text
 IsRefused contents None text = ((f : First) → ¬ IsCase contents f) × IsRefusal text
 
 -- A check of these files, and its text.
 abbrev pub IsChecked : List (List ℕ) → Status → List ℕ → Type 0
-IsChecked contents Refused text = IsRefused contents (refusing_rule contents) text
-IsChecked contents status text = (f : First) × IsCase contents f × IsReported f status text × (refusing_rule contents ≡ None)
+IsChecked contents Refused text = IsRefused contents (refusing_kind contents) text
+IsChecked contents status text = (f : First) × IsCase contents f × IsReported f status text × (refusing_kind contents ≡ None)
 
 -- what a command ends with on files of which none is too long
 abbrev pub IsEnd : Verb → List (List ℕ) → Status → List ℕ → Type 0

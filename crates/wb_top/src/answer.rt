@@ -11,7 +11,7 @@ use crate::length::first_long;
 use crate::simulation::simulated;
 use crate::status::Status;
 use crate::stop::NoMemory;
-use crate::texts::{limit, refusal, refusal_by};
+use crate::texts::{limit, refusal, refusal_by, refusal_of_text};
 use crate::verb::Verb;
 use first_report::check;
 use std::alloc::Global;
@@ -62,8 +62,13 @@ fn ended(alloc: Global, verb: Verb, contents: &[Vec<u8>]) -> Result<Outcome, NoM
     }
 }
 
-fn checked(alloc: Global, model: &[u8], map: &[u8], design: &[u8]) -> Result<Outcome, NoMemory>
-    ensures { IfOk result (λ o. IsChecked (model.now ∷ map.now ∷ design.now ∷ []) o.status o.text.items) }
+fn checked(
+    alloc: Global,
+    model: &[u8],
+    map: &[u8],
+    design: &Vec<u8>,
+) -> Result<Outcome, NoMemory>
+    ensures { IfOk result (λ o. IsChecked (model.now ∷ map.now ∷ design.now.items ∷ []) o.status o.text.items) }
 {
     match judge(alloc, model, map, design)? {
         Judged::Case(case) => {
@@ -79,6 +84,13 @@ fn checked(alloc: Global, model: &[u8], map: &[u8], design: &[u8]) -> Result<Out
         }
         Judged::Refused(broken) => {
             let text = refusal_by(alloc, &broken)?;
+            Ok(Outcome {
+                status: Status::Refused,
+                text,
+            })
+        }
+        Judged::RefusedText(broken) => {
+            let text = refusal_of_text(alloc, &broken)?;
             Ok(Outcome {
                 status: Status::Refused,
                 text,

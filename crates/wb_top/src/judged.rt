@@ -1,9 +1,11 @@
-//! Whether three files are a case of the first profile, and which rule refuses the model file.
+//! Whether three files are a case of the first profile, and which kind refuses the model file or the Verilog file.
 
-ghost use Rattle.std.specs.Prelude.{◌≡◌, IfOk, IfSome, IfNone};
+ghost use Rattle.std.specs.Prelude.{◌≡◌, None, IfOk, IfSome, IfNone};
+ghost use Rattle.wb_meaning.specs.ModelFile.Meaning.{reading_of};
 ghost use Rattle.first_text.specs.Tree.{FirstModule as PureModule};
 ghost use Rattle.first_text.specs.Spelling.{IsFirstText};
 ghost use Rattle.first_text.specs.View.{first_module_of};
+ghost use Rattle.ila_json.specs.Reading.{refusal_in};
 ghost use Rattle.wb_top.specs.Judged.{IsJudged, IsInProfile};
 
 use crate::stop::NoMemory;
@@ -13,6 +15,8 @@ use first_text::{FirstModule, one_tree, read_text};
 use ila_json::model_refusal;
 use ila_rules::ModelRefusal;
 use std::alloc::{AllocError, Global};
+use std::slice;
+use v_lex::{LexRefusal, LexStop, tokens};
 use wb_first::FirstCase;
 
 /// Where files leave the profile.
@@ -35,6 +39,8 @@ pub(crate) enum Judged {
     Outside(Place),
     /// The model file breaks a rule.
     Refused(ModelRefusal),
+    /// The Verilog file's text is refused.
+    RefusedText(LexRefusal),
 }
 
 /// Judges the bytes of a model file, a map file and a Verilog file.
@@ -42,17 +48,34 @@ pub(crate) fn judge(
     alloc: Global,
     model: &[u8],
     map: &[u8],
-    design: &[u8],
+    design: &Vec<u8>,
 ) -> Result<Judged, NoMemory>
-    ensures { IfOk result (IsJudged model.now map.now design.now) }
+    ensures { IfOk result (IsJudged model.now map.now design.now.items) }
 {
     match model_refusal(alloc, model)? {
         Some(refusal) => Ok(Judged::Refused(refusal)),
-        None => in_profile(alloc, model, map, design),
+        None => of_text(alloc, model, map, design),
     }
 }
 
 /// Judges the bytes of files whose model file breaks no rule.
+fn of_text(
+    alloc: Global,
+    model: &[u8],
+    map: &[u8],
+    design: &Vec<u8>,
+) -> Result<Judged, NoMemory>
+    requires { refusal_in (reading_of model.now) ≡ None }
+    ensures { IfOk result (IsJudged model.now map.now design.now.items) }
+{
+    match tokens(alloc, slice::from_ref(design)) {
+        Ok(_) => in_profile(alloc, model, map, design),
+        Err(LexStop::Refused(refusal)) => Ok(Judged::RefusedText(refusal)),
+        Err(LexStop::NoMemory) => Err(AllocError),
+    }
+}
+
+/// Judges the bytes of files whose model file breaks no rule, and whose Verilog file has tokens.
 fn in_profile(alloc: Global, model: &[u8], map: &[u8], design: &[u8]) -> Result<Judged, NoMemory>
     ensures { IfOk result (IsInProfile model.now map.now design.now) }
 {

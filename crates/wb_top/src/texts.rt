@@ -3,6 +3,8 @@
 ghost use Rattle.std.specs.Prelude.{◌≡◌, ◌++◌, ◌∷◌, [], codes, IfOk};
 ghost use Rattle.ila_rules.specs.Rule.{rule_view, rule_name};
 ghost use Rattle.ila_sim.specs.Scripts.{name_of_kind};
+ghost use Rattle.v_lex.specs.Reading.{refusal_of};
+ghost use Rattle.wb_top.specs.Files.{text_kind};
 ghost use Rattle.wb_top.specs.Texts.{usage_text, limit_text, IsRefusalBy, IsRefusal};
 
 use crate::judged::Place;
@@ -11,6 +13,7 @@ use ila_rules::ModelRefusal;
 use ila_sim::ScriptRefusal;
 use itoa::Buffer;
 use std::alloc::Global;
+use v_lex::{LexKind, LexRefusal};
 
 /// The text for words that ask for nothing that the program does.
 pub(crate) fn usage(alloc: Global) -> Result<Vec<u8>, NoMemory>
@@ -50,6 +53,30 @@ pub(crate) fn refusal_of_script(
         refusal.kind.name().as_bytes(),
         refusal.note.as_bytes(),
     )
+}
+
+/// The text for a Verilog file whose text is refused.
+pub(crate) fn refusal_of_text(alloc: Global, broken: &LexRefusal) -> Result<Vec<u8>, NoMemory>
+    ensures { IfOk result (λ text. IsRefusalBy (text_kind (refusal_of broken.now.kind)) text.items) }
+{
+    refusal_text_by(
+        alloc,
+        text_kind(broken.kind).as_bytes(),
+        broken.note.as_bytes(),
+    )
+}
+
+/// The name of a kind by which Verilog texts are refused.
+fn text_kind(kind: LexKind) -> &'static str
+    ensures { result.now ≡ text_kind (refusal_of kind) }
+{
+    match kind {
+        LexKind::NotText => "V1 NotText",
+        LexKind::BadToken => "V2 BadToken",
+        LexKind::BadDirective => "V3 BadDirective",
+        LexKind::Unsupported => "V4 Unsupported",
+        LexKind::TooDeep => "V5 TooDeep",
+    }
 }
 
 /// The text for a file that is too long, by its number in the order of reading, from 0.

@@ -1,0 +1,7 @@
+pub mod Texts
+pub mod Macros
+pub mod Turns
+pub mod Stacks
+pub mod Shown
+pub mod Encoded
+pub mod Answered

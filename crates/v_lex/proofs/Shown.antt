@@ -1,0 +1,16 @@
+-- What a note shows of a text is printable.
+use Rattle.std.proofs.Common.{◌≡◌, ℕ, ◌≤◌, Bool, true, false, cond, List, [], ◌∷◌, map, take, length, refl, arith}
+use Rattle.std.proofs.lemmas.List.{length-map, length-take}
+use Rattle.std.specs.List.{list_all}
+use Rattle.v_lex.specs.Notes.{shown, is_printable}
+
+printable_if : (b : ℕ) (t : Bool) → is_printable b ≡ t → is_printable (cond t b 63) ≡ true
+printable_if b true e = e
+printable_if b false e = refl
+
+pub all_printable : (bs : List ℕ) → list_all is_printable (map shown bs) ≡ true
+all_printable [] = refl
+all_printable (b ∷ bs) = rw (printable_if b _ refl, all_printable bs) refl
+
+pub few : (n : ℕ) (bs : List ℕ) → length (map shown (take n bs)) ≤ n
+few n bs = omega (arith, length-map (take n bs) shown, length-take n bs)

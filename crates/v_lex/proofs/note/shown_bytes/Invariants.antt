@@ -1,0 +1,6 @@
+use Rattle.std.proofs.Common.{◌≡◌, map, take}
+use Rattle.v_lex.specs.Notes.{shown}
+use Rattle.v_lex.proofs.note.shown_bytes.Given as goal
+
+abbrev pub invariant-loop-byte : goal.invariant-loop-byte
+invariant-loop-byte l = l.kept.items ≡ map shown (take l.byte-index l.text)

@@ -1,0 +1,5 @@
+pub mod View
+pub mod Reading
+pub mod Nesting
+pub mod Notes
+pub mod Answer

@@ -1,0 +1,130 @@
+//! The tokens of files, or why they are refused.
+
+ghost use Rattle.std.specs.Prelude.{◌≡◌, map, not, is_some};
+ghost use Rattle.std.specs.List.{list_all};
+ghost use Rattle.std.specs.Str.{is_utf8};
+ghost use Rattle.wb_meaning.specs.Verilog.Text.{judged, tokens_in};
+ghost use Rattle.v_lex.specs.Reading.{reading_of, IsRead};
+ghost use Rattle.v_lex.specs.Answer.{IsAnswer, IsOfKind};
+
+use crate::nesting::too_deep;
+use crate::note::Note;
+use crate::run::{Run, behind, first_bytes, split_run};
+use crate::state::Reader;
+use crate::stop::{LexKind, LexRefusal, LexStop, NoMemory, Place, Stop};
+use crate::token::Token;
+use std::alloc::Global;
+
+/// Whether the bytes are UTF-8.
+fn is_utf8(bytes: &[u8]) -> bool
+    ensures { result ≡ is_utf8 bytes.now }
+{
+    match std::str::from_utf8(bytes) {
+        Ok(_) => true,
+        Err(_) => false,
+    }
+}
+
+/// The first byte that is not UTF-8.
+fn broken_place(number: u32, bytes: &[u8]) -> Place {
+    let start = match std::str::from_utf8(bytes) {
+        Ok(_) => 0,
+        Err(error) => error.valid_up_to(),
+    };
+    Place {
+        file: number,
+        start: u32::try_from(start).unwrap_or(u32::MAX),
+    }
+}
+
+/// Where a file is not UTF-8.
+fn broken_text(files: &[Vec<u8>]) -> Option<Place>
+    ensures { is_some result ≡ not (list_all is_utf8 (map (λ f. f.items) files.now)) }
+{
+    for (number, file) in files.iter().enumerate() {
+        if !is_utf8(file) {
+            return Some(broken_place(u32::try_from(number).unwrap_or(u32::MAX), file));
+        }
+    }
+    None
+}
+
+#[tactic(auto, unfolding(wb_meaning::specs::Verilog::Text::judged))]
+fn judge<'s>(alloc: Global, reader: Reader<'s>) -> Result<Vec<Token<'s>>, Stop>
+    ensures { IsRead result (judged (reading_of reader.entry)) }
+{
+    if let Some(place) = reader.misdirected {
+        return Err(Stop::Refused(LexKind::BadDirective, place));
+    }
+    if let Some(place) = reader.left_out {
+        return Err(Stop::Refused(LexKind::Unsupported, place));
+    }
+    if let Some(place) = too_deep(alloc, &reader.tokens)? {
+        return Err(Stop::Refused(LexKind::TooDeep, place));
+    }
+    Ok(reader.tokens)
+}
+
+#[tactic(auto, unfolding(wb_meaning::specs::Verilog::Text::tokens_in))]
+fn read<'s>(alloc: Global, files: &'s [Vec<u8>]) -> Result<Vec<Token<'s>>, Stop>
+    ensures { IsRead result (tokens_in (map (λ f. f.items) files.now)) }
+{
+    if let Some(place) = broken_text(files) {
+        return Err(Stop::Refused(LexKind::NotText, place));
+    }
+    let mut reader = Reader::new(alloc);
+    reader.read_files(files)?;
+    judge(alloc, reader)
+}
+
+/// The line and the column behind some bytes of a file, both from 1.
+fn line_and_column(bytes: &[u8]) -> (usize, usize) {
+    let mut line: usize = 1;
+    let mut column: usize = 1;
+    for byte in bytes {
+        if *byte == b'\n' {
+            line = line.saturating_add(1);
+            column = 1;
+        } else {
+            column = column.saturating_add(1);
+        }
+    }
+    (line, column)
+}
+
+fn note(alloc: Global, files: &[Vec<u8>], place: Place) -> Result<Note, NoMemory> {
+    let number = place.file;
+    let start = usize::try_from(place.start).unwrap_or(0);
+    let bytes: &[u8] = match files.get(usize::try_from(number).unwrap_or(0)) {
+        Some(file) => file,
+        None => b"".as_slice(),
+    };
+    let (line, column) = line_and_column(first_bytes(bytes, start));
+    let (word, _) = split_run(Run::Graphic, behind(bytes, start));
+    let mut text = Vec::new(alloc);
+    let head = format!(in alloc; "file {number} line {line} column {column}: ")?;
+    text.extend_from_slice(head.as_bytes())?;
+    text.extend_from_slice(first_bytes(word, 80))?;
+    Note::new(alloc, &text)
+}
+
+fn refusal(alloc: Global, files: &[Vec<u8>], kind: LexKind, place: Place) -> LexStop
+    ensures { IsOfKind kind result }
+{
+    match note(alloc, files, place) {
+        Ok(note) => LexStop::Refused(LexRefusal { kind, note }),
+        Err(_) => LexStop::NoMemory,
+    }
+}
+
+/// The tokens of the files in order (1364-2005, clauses 3 and 19): macros carry over from file to file. Of several broken rules the
+/// first in the order of the kinds is answered, wherever it stands.
+pub fn tokens<'s>(alloc: Global, files: &'s [Vec<u8>]) -> Result<Vec<Token<'s>>, LexStop>
+    ensures { IsAnswer result (tokens_in (map (λ f. f.items) files.now)) }
+{
+    match read(alloc, files) {
+        Ok(tokens) => Ok(tokens),
+        Err(Stop::Memory) => Err(LexStop::NoMemory),
+        Err(Stop::Refused(kind, place)) => Err(refusal(alloc, files, kind, place)),
+    }
+}

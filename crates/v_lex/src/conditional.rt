@@ -1,0 +1,78 @@
+//! The open conditionals.
+
+ghost use Rattle.std.specs.Prelude.{◌≡◌, ◌∷◌, IfOk, option_map, not};
+ghost use Rattle.wb_meaning.specs.Verilog.Text.{is_taken, leaves_out, first_branch, next_branch, is_defined};
+ghost use Rattle.v_lex.specs.Reading.{branch_of, conditional_of, conditionals_of, first_in, without_first};
+
+use crate::state::{Branch, Conditional};
+use std::alloc::AllocError;
+
+/// The innermost conditional.
+pub(crate) fn innermost(open: &[Conditional]) -> Option<Conditional>
+    ensures { option_map conditional_of result ≡ first_in (conditionals_of open.now) }
+{
+    match open.last() {
+        Some(conditional) => Some(*conditional),
+        None => None,
+    }
+}
+
+pub(crate) fn enter(open: &mut Vec<Conditional>, conditional: Conditional) -> Result<(), AllocError>
+    ensures { IfOk result (λ _. conditionals_of open.new.items ≡ conditional_of conditional ∷ conditionals_of open.old.items) }
+{
+    open.push(conditional)?;
+    Ok(())
+}
+
+pub(crate) fn leave(open: &mut Vec<Conditional>)
+    ensures { conditionals_of open.new.items ≡ without_first (conditionals_of open.old.items) }
+{
+    open.pop();
+}
+
+fn is_taken(branch: Branch) -> bool
+    ensures { result ≡ is_taken (branch_of branch) }
+{
+    match branch {
+        Branch::Taken => true,
+        _ => false,
+    }
+}
+
+/// Whether the text here is left out.
+pub(crate) fn leaves_out(open: &[Conditional]) -> bool
+    ensures { result ≡ leaves_out (conditionals_of open.now) }
+{
+    match innermost(open) {
+        Some(conditional) => !is_taken(conditional.branch),
+        None => false,
+    }
+}
+
+pub(crate) fn first_branch(is_left_out: bool, holds: bool) -> Branch
+    ensures { branch_of result ≡ first_branch is_left_out holds }
+{
+    if is_left_out {
+        return Branch::Passed;
+    }
+    if holds {
+        Branch::Taken
+    } else {
+        Branch::Waiting
+    }
+}
+
+pub(crate) fn next_branch(branch: Branch, holds: bool) -> Branch
+    ensures { branch_of result ≡ next_branch (branch_of branch) holds }
+{
+    match branch {
+        Branch::Waiting => {
+            if holds {
+                Branch::Taken
+            } else {
+                Branch::Waiting
+            }
+        }
+        _ => Branch::Passed,
+    }
+}

@@ -1,0 +1,96 @@
+//! Reading files one after the other.
+
+ghost use Rattle.std.specs.Prelude.{◌≡◌, map};
+ghost use Rattle.wb_meaning.specs.Verilog.Text.{first_reading, without_byte_order_mark, opened, closed, file_read, files_read, text_from, macro_read};
+ghost use Rattle.v_lex.specs.Reading.{reading_of, IsOutcome};
+
+use crate::conditional::innermost;
+use crate::state::{Reader, Span};
+use crate::stop::{Place, Stop};
+use std::alloc::Global;
+use std::collections::BTreeMap;
+
+#[tactic(auto, unfolding(wb_meaning::specs::Verilog::Text::without_byte_order_mark))]
+fn without_byte_order_mark(bytes: &[u8]) -> &[u8]
+    ensures { result.now ≡ without_byte_order_mark bytes.now }
+{
+    match bytes {
+        [239, 187, 191, ..] => &bytes[3..],
+        _ => bytes,
+    }
+}
+
+/// The text of a file without the byte order mark that may stand at its front.
+fn file_span(number: u32, bytes: &[u8]) -> Span<'_>
+    ensures { result.text.now ≡ without_byte_order_mark bytes.now }
+{
+    let text = without_byte_order_mark(bytes);
+    let start = if text.len() < bytes.len() { 3 } else { 0 };
+    Span {
+        text,
+        place: Place {
+            file: number,
+            start,
+        },
+    }
+}
+
+/// Where a file ends.
+fn end_of(number: u32, bytes: &[u8]) -> Place {
+    Place {
+        file: number,
+        start: u32::try_from(bytes.len()).unwrap_or(u32::MAX),
+    }
+}
+
+impl<'s> Reader<'s> {
+    pub(crate) fn new(alloc: Global) -> Reader<'s>
+        ensures { reading_of result ≡ first_reading }
+    {
+        Reader {
+            macros: BTreeMap::new(alloc),
+            conditionals: Vec::new(alloc),
+            tokens: Vec::new(alloc),
+            is_behind_zero: false,
+            used: 0,
+            misdirected: None,
+            left_out: None,
+        }
+    }
+
+    #[tactic(auto, unfolding(wb_meaning::specs::Verilog::Text::opened))]
+    fn begin_file(&mut self)
+        ensures { reading_of self.new ≡ opened (reading_of self.old) }
+    {
+        self.conditionals.clear();
+    }
+
+    #[tactic(auto, unfolding(wb_meaning::specs::Verilog::Text::closed))]
+    fn end_file(&mut self, place: Place)
+        ensures { reading_of self.new ≡ closed (reading_of self.old) }
+    {
+        if innermost(&self.conditionals).is_some() {
+            self.misdirect(place);
+        }
+    }
+
+    #[tactic(auto, unfolding(wb_meaning::specs::Verilog::Text::file_read))]
+    fn read_file(&mut self, number: u32, bytes: &'s [u8]) -> Result<(), Stop>
+        ensures { IsOutcome result (reading_of self.new) (file_read bytes.now (reading_of self.old)) }
+    {
+        self.begin_file();
+        self.read_text(64, false, file_span(number, bytes))?;
+        self.end_file(end_of(number, bytes));
+        Ok(())
+    }
+
+    #[tactic(auto, unfolding(wb_meaning::specs::Verilog::Text::files_read))]
+    pub(crate) fn read_files(&mut self, files: &'s [Vec<u8>]) -> Result<(), Stop>
+        ensures { IsOutcome result (reading_of self.new) (files_read (map (λ f. f.items) files.now) (reading_of self.old)) }
+    {
+        for (number, file) in files.iter().enumerate() {
+            self.read_file(u32::try_from(number).unwrap_or(u32::MAX), file)?;
+        }
+        Ok(())
+    }
+}

@@ -1,0 +1,189 @@
+//! The front of a text.
+
+ghost use Rattle.std.specs.Prelude.{◌≡◌, false, None, option_map};
+ghost use Rattle.wb_meaning.specs.Verilog.Lexical.{left_out, mark_of_one, mark_of_two, mark_of_three, longest, mark_at, slash_at, is_star_alone, bracket_at, string_length, if_closed, read_at, left_out_at};
+ghost use Rattle.v_lex.specs.View.{front_of, after, at_front};
+
+use crate::directive::{behind_passed, directive, left_out_directive};
+use crate::mark::{double, single, triple};
+use crate::number::{based, number};
+use crate::piece::Piece;
+use crate::run::{Run, behind, behind_blanks, is_blank_before, split_run, taken_before};
+use crate::scan::{begins_with_byte, behind_closing, behind_string};
+use crate::token::{Mark, TokenKind};
+use crate::words::{escaped, system, word};
+use wb_names::{is_digit, is_letter};
+
+fn short_mark<'t>(byte: u8, text: &'t [u8], more: &'t [u8]) -> Option<(Piece<'t>, &'t [u8])>
+    ensures { option_map front_of result ≡ after more.now (longest (mark_of_one byte) 0 None) }
+{
+    match single(byte) {
+        Some(mark) => Some((
+            Piece::Token(TokenKind::Mark(mark), taken_before(text, more)),
+            more,
+        )),
+        None => None,
+    }
+}
+
+fn middle_mark<'t>(
+    byte: u8,
+    next: u8,
+    text: &'t [u8],
+    more: &'t [u8],
+) -> Option<(Piece<'t>, &'t [u8])>
+    ensures { option_map front_of result ≡ after more.now (longest (mark_of_two byte next) 1 (longest (mark_of_one byte) 0 None)) }
+{
+    match double(byte, next) {
+        Some(mark) => {
+            let rest = behind(more, 1);
+            Some((
+                Piece::Token(TokenKind::Mark(mark), taken_before(text, rest)),
+                rest,
+            ))
+        }
+        None => short_mark(byte, text, more),
+    }
+}
+
+fn long_mark<'t>(
+    byte: u8,
+    next: u8,
+    third: u8,
+    text: &'t [u8],
+    more: &'t [u8],
+) -> Option<(Piece<'t>, &'t [u8])>
+    ensures { option_map front_of result ≡ after more.now (longest (mark_of_three byte next third) 2 (longest (mark_of_two byte next) 1 (longest (mark_of_one byte) 0 None))) }
+{
+    match triple(byte, next, third) {
+        Some(mark) => {
+            let rest = behind(more, 2);
+            Some((
+                Piece::Token(TokenKind::Mark(mark), taken_before(text, rest)),
+                rest,
+            ))
+        }
+        None => middle_mark(byte, next, text, more),
+    }
+}
+
+/// The longest mark at the front.
+#[tactic(auto, unfolding(wb_meaning::specs::Verilog::Lexical::mark_at))]
+fn mark(text: &[u8]) -> Option<(Piece<'_>, &[u8])>
+    ensures { option_map front_of result ≡ at_front mark_at text.now }
+{
+    match text {
+        [] => None,
+        [byte] => short_mark(*byte, text, &text[1..]),
+        [byte, next] => middle_mark(*byte, *next, text, &text[1..]),
+        [byte, next, third, ..] => long_mark(*byte, *next, *third, text, &text[1..]),
+    }
+}
+
+/// A comment or an operator, by what stands behind its slash.
+#[tactic(auto, unfolding(wb_meaning::specs::Verilog::Lexical::slash_at))]
+fn slash<'t>(text: &'t [u8], more: &'t [u8]) -> Option<(Piece<'t>, &'t [u8])>
+    ensures { option_map front_of result ≡ after more.now (slash_at more.now) }
+{
+    let alone = Piece::Token(TokenKind::Mark(Mark::Slash), taken_before(text, more));
+    let Some((first, comment)) = more.split_first() else {
+        return Some((alone, more));
+    };
+    if *first == b'/' {
+        return Some((Piece::Nothing, split_run(Run::Line, comment).1));
+    }
+    if *first == b'*' {
+        return match behind_closing(b'*', b'/', comment) {
+            Some(rest) => Some((Piece::Nothing, rest)),
+            None => None,
+        };
+    }
+    Some((alone, more))
+}
+
+#[tactic(auto, unfolding(wb_meaning::specs::Verilog::Lexical::is_star_alone))]
+fn is_star_alone(is_macro: bool, text: &[u8]) -> bool
+    ensures { result ≡ is_star_alone is_macro text.now }
+{
+    begins_with_byte(behind_blanks(is_macro, text), b')')
+}
+
+/// An attribute or a bracket, by what stands behind the bracket.
+#[tactic(auto, unfolding(wb_meaning::specs::Verilog::Lexical::bracket_at))]
+fn bracket<'t>(is_macro: bool, text: &'t [u8], more: &'t [u8]) -> Option<(Piece<'t>, &'t [u8])>
+    ensures { option_map front_of result ≡ after more.now (bracket_at is_macro more.now) }
+{
+    let alone = Piece::Token(
+        TokenKind::Mark(Mark::LeftParenthesis),
+        taken_before(text, more),
+    );
+    let Some((first, attribute)) = more.split_first() else {
+        return Some((alone, more));
+    };
+    if *first == b'*' && !is_star_alone(is_macro, attribute) {
+        return match behind_closing(b'*', b')', attribute) {
+            Some(rest) => Some((Piece::Nothing, rest)),
+            None => None,
+        };
+    }
+    Some((alone, more))
+}
+
+/// A string, by what stands behind the quote that begins it.
+fn string(more: &[u8]) -> Option<(Piece<'_>, &[u8])>
+    ensures { option_map front_of result ≡ after more.now (if_closed left_out (string_length false more.now)) }
+{
+    match behind_string(more) {
+        Some(rest) => Some((Piece::LeftOut, rest)),
+        None => None,
+    }
+}
+
+/// The front of a text that is read, the text of a macro or a file.
+#[tactic(auto, unfolding(wb_meaning::specs::Verilog::Lexical::read_at))]
+pub(crate) fn read_front(is_macro: bool, text: &[u8]) -> Option<(Piece<'_>, &[u8])>
+    ensures { option_map front_of result ≡ at_front (read_at is_macro) text.now }
+{
+    let Some((first, more)) = text.split_first() else {
+        return None;
+    };
+    if is_blank_before(is_macro, *first, more) {
+        return Some((Piece::Nothing, behind_blanks(is_macro, more)));
+    }
+    if is_letter(*first) {
+        return word(text);
+    }
+    if is_digit(*first) {
+        return number(text);
+    }
+    match *first {
+        b'\'' => based(is_macro, text),
+        b'"' => string(more),
+        b'$' => system(text),
+        b'\\' => escaped(more),
+        b'`' => directive(more),
+        b'/' => slash(text, more),
+        b'(' => bracket(is_macro, text, more),
+        _ => mark(text),
+    }
+}
+
+/// The front of a text that a conditional leaves out.
+#[tactic(auto, unfolding(wb_meaning::specs::Verilog::Lexical::left_out_at))]
+pub(crate) fn left_out_front(text: &[u8]) -> Option<(Piece<'_>, &[u8])>
+    ensures { option_map front_of result ≡ at_front left_out_at text.now }
+{
+    let Some((first, more)) = text.split_first() else {
+        return None;
+    };
+    if *first == b'`' {
+        return left_out_directive(more);
+    }
+    if *first == b'/' && begins_with_byte(more, b'/') {
+        return Some((Piece::Nothing, split_run(Run::Line, more).1));
+    }
+    match behind_passed(*first, more) {
+        Some(rest) => Some((Piece::Nothing, rest)),
+        None => None,
+    }
+}

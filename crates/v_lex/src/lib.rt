@@ -1,0 +1,30 @@
+//! Verilog text to tokens.
+#![tactic(auto)]
+
+mod answer;
+mod conditional;
+mod directive;
+mod files;
+mod front;
+mod mark;
+mod nesting;
+mod note;
+mod number;
+mod opening;
+mod piece;
+mod reading;
+mod run;
+mod scan;
+mod state;
+mod stop;
+mod table;
+mod token;
+mod words;
+
+pub use answer::tokens;
+pub use note::Note;
+pub use stop::{LexKind, LexRefusal, LexStop};
+pub use token::{Mark, Token, TokenKind};
+
+#[cfg(test)]
+mod tests;

@@ -1,0 +1,344 @@
+//! Reading piece by piece.
+
+ghost use Rattle.std.specs.Prelude.{◌≡◌, ◌==◌, ◌||◌, ◌+◌, nat_le, cond, ℕ, List, Some, None, option_map};
+ghost use Rattle.std.specs.List.{list_all};
+ghost use Rattle.wb_meaning.specs.Verilog.Text.{most_used, Reading, Outcome, with_bad_directive, with_left_out, with_macro, with_token, is_zero, is_based, is_defined, begun, continued, ended, with_text_of, with_piece, front_at, text_from, macro_read};
+ghost use Rattle.v_lex.specs.View.{token_of_kind, piece_of, front_of, at_front};
+ghost use Rattle.v_lex.specs.Reading.{token_of, reading_of, IsOutcome, Leaves, IsTaken, IsFront, front_in};
+
+use crate::conditional::{enter, first_branch, innermost, leave, leaves_out, next_branch};
+use crate::front::{left_out_front, read_front};
+use crate::piece::Piece;
+use crate::state::{Conditional, Reader, Span};
+use crate::stop::{LexKind, Place, Stop};
+use crate::table::{macro_text, set_macro};
+use crate::token::{Token, TokenKind};
+
+/// The most tokens of all files.
+const MOST_TOKENS: usize = 4_194_304;
+
+/// The most bytes of macros' texts, counted at each use.
+const MOST_USED: usize = 67_108_864;
+
+fn is_zero_text(text: &[u8]) -> bool
+    ensures { result ≡ list_all (λ b. b == 48 || b == 95) text.now }
+{
+    text.iter().all(|byte| *byte == b'0' || *byte == b'_')
+}
+
+fn is_zero(kind: TokenKind, text: &[u8]) -> bool
+    ensures { result ≡ is_zero (token_of_kind kind text.now) }
+{
+    match kind {
+        TokenKind::Decimal => is_zero_text(text),
+        _ => false,
+    }
+}
+
+fn is_based(kind: TokenKind, text: &[u8]) -> bool
+    ensures { result ≡ is_based (token_of_kind kind text.now) }
+{
+    match kind {
+        TokenKind::Based => true,
+        _ => false,
+    }
+}
+
+/// The bytes of uses with those of one more, up to the most that there may be.
+#[tactic(auto, unfolding(wb_meaning::specs::Verilog::Text::most_used))]
+fn total_used(used: usize, more: usize) -> Option<usize>
+    ensures { result ≡ cond (nat_le (used + more) most_used) (Some (used + more)) None }
+{
+    let total = used.saturating_add(more);
+    if total <= MOST_USED {
+        Some(total)
+    } else {
+        None
+    }
+}
+
+fn moved(place: Place, from: &[u8], to: &[u8]) -> Place {
+    let passed = from.len().saturating_sub(to.len());
+    Place {
+        file: place.file,
+        start: place
+            .start
+            .wrapping_add(u32::try_from(passed).unwrap_or(u32::MAX)),
+    }
+}
+
+fn moved_back(place: Place, text: &[u8]) -> Place {
+    Place {
+        file: place.file,
+        start: place
+            .start
+            .wrapping_sub(u32::try_from(text.len()).unwrap_or(u32::MAX)),
+    }
+}
+
+impl<'s> Reader<'s> {
+    /// Notes a wrong directive.
+    pub(crate) fn misdirect(&mut self, place: Place)
+        ensures { reading_of self.new ≡ with_bad_directive (reading_of self.old) }
+    {
+        if self.misdirected.is_none() {
+            self.misdirected = Some(place);
+        }
+    }
+
+    /// Notes what the subset leaves out.
+    fn leave_out(&mut self, place: Place)
+        ensures { reading_of self.new ≡ with_left_out (reading_of self.old) }
+    {
+        self.is_behind_zero = false;
+        if self.left_out.is_none() {
+            self.left_out = Some(place);
+        }
+    }
+
+    #[tactic(auto, unfolding(wb_meaning::specs::Verilog::Text::with_token, wb_meaning::specs::Verilog::Text::most_tokens))]
+    fn push(&mut self, token: Token<'s>) -> Result<(), Stop>
+        ensures { IsOutcome result (reading_of self.new) (with_token (token_of token.entry) (reading_of self.old)) }
+    {
+        let place = Place {
+            file: token.file,
+            start: token.start,
+        };
+        if self.is_behind_zero && is_based(token.kind, token.text) {
+            return Err(Stop::Refused(LexKind::BadToken, place));
+        }
+        if self.tokens.len() >= MOST_TOKENS {
+            return Err(Stop::Refused(LexKind::BadDirective, place));
+        }
+        self.is_behind_zero = is_zero(token.kind, token.text);
+        self.tokens.push(token)?;
+        Ok(())
+    }
+
+    fn define(&mut self, name: &'s [u8], text: Option<Span<'s>>) -> Result<(), Stop>
+        ensures { Leaves result (reading_of self.new) (with_macro name.now (option_map (λ s. s.text.now) text.entry) (reading_of self.old)) }
+    {
+        set_macro(&mut self.macros, name, text)?;
+        Ok(())
+    }
+
+    fn is_defined(&self, name: &'s [u8]) -> bool
+        ensures { result ≡ is_defined ((reading_of self.now).macros name.now) }
+    {
+        match macro_text(&self.macros, name) {
+            Some(_) => true,
+            None => false,
+        }
+    }
+
+    #[tactic(auto, unfolding(wb_meaning::specs::Verilog::Text::begun))]
+    fn begin(&mut self, holds: bool) -> Result<(), Stop>
+        ensures { Leaves result (reading_of self.new) (begun holds (reading_of self.old)) }
+    {
+        let branch = first_branch(leaves_out(&self.conditionals), holds);
+        enter(
+            &mut self.conditionals,
+            Conditional {
+                branch,
+                has_else: false,
+            },
+        )?;
+        Ok(())
+    }
+
+    #[tactic(auto, unfolding(wb_meaning::specs::Verilog::Text::continued))]
+    fn go_on(&mut self, is_last: bool, holds: bool, place: Place) -> Result<(), Stop>
+        ensures { Leaves result (reading_of self.new) (continued is_last holds (reading_of self.old)) }
+    {
+        let Some(conditional) = innermost(&self.conditionals) else {
+            self.misdirect(place);
+            return Ok(());
+        };
+        if conditional.has_else {
+            self.misdirect(place);
+            return Ok(());
+        }
+        leave(&mut self.conditionals);
+        let branch = next_branch(conditional.branch, holds);
+        enter(
+            &mut self.conditionals,
+            Conditional {
+                branch,
+                has_else: is_last,
+            },
+        )?;
+        Ok(())
+    }
+
+    #[tactic(auto, unfolding(wb_meaning::specs::Verilog::Text::ended))]
+    fn end(&mut self, place: Place)
+        ensures { reading_of self.new ≡ ended (reading_of self.old) }
+    {
+        match innermost(&self.conditionals) {
+            Some(_) => leave(&mut self.conditionals),
+            None => self.misdirect(place),
+        }
+    }
+
+    fn count_use(&mut self, text: Span<'s>, place: Place) -> Result<Option<Span<'s>>, Stop>
+        ensures { (read : List ℕ → Reading → Outcome) → IsTaken read result (reading_of self.new) (with_text_of read (Some text.entry.text.now) (reading_of self.old)) }
+    {
+        match total_used(self.used, text.text.len()) {
+            Some(used) => {
+                self.used = used;
+                Ok(Some(text))
+            }
+            None => Err(Stop::Refused(LexKind::BadDirective, place)),
+        }
+    }
+
+    fn undefined(&mut self, place: Place) -> Result<Option<Span<'s>>, Stop>
+        ensures { (read : List ℕ → Reading → Outcome) → IsTaken read result (reading_of self.new) (with_text_of read None (reading_of self.old)) }
+    {
+        self.misdirect(place);
+        Ok(None)
+    }
+
+    fn use_macro(&mut self, name: &'s [u8], place: Place) -> Result<Option<Span<'s>>, Stop>
+        ensures { (read : List ℕ → Reading → Outcome) → IsTaken read result (reading_of self.new) (with_text_of read ((reading_of self.old).macros name.now) (reading_of self.old)) }
+    {
+        match macro_text(&self.macros, name) {
+            Some(text) => self.count_use(text, place),
+            None => self.undefined(place),
+        }
+    }
+
+    /// Takes a piece; hands out the text of a macro that is used.
+    #[tactic(auto, unfolding(wb_meaning::specs::Verilog::Text::with_piece))]
+    fn take(
+        &mut self,
+        piece: Piece<'s>,
+        here: Place,
+        behind: Place,
+    ) -> Result<Option<Span<'s>>, Stop>
+        ensures { (read : List ℕ → Reading → Outcome) → IsTaken read result (reading_of self.new) (with_piece read (piece_of piece.entry) (reading_of self.old)) }
+    {
+        match piece {
+            Piece::Nothing => Ok(None),
+            Piece::Token(kind, text) => {
+                self.push(Token {
+                    kind,
+                    text,
+                    file: here.file,
+                    start: here.start,
+                })?;
+                Ok(None)
+            }
+            Piece::LeftOut => {
+                self.leave_out(here);
+                Ok(None)
+            }
+            Piece::Misdirected => {
+                self.misdirect(here);
+                Ok(None)
+            }
+            Piece::Define(name, text) => {
+                let place = moved_back(behind, text);
+                self.define(name, Some(Span { text, place }))?;
+                Ok(None)
+            }
+            Piece::Undefine(name) => {
+                self.define(name, None)?;
+                Ok(None)
+            }
+            Piece::IfDefined(is_wanted, name) => {
+                let holds = self.is_defined(name) == is_wanted;
+                self.begin(holds)?;
+                Ok(None)
+            }
+            Piece::ElseIf(name) => {
+                let holds = self.is_defined(name);
+                self.go_on(false, holds, here)?;
+                Ok(None)
+            }
+            Piece::Otherwise => {
+                self.go_on(true, true, here)?;
+                Ok(None)
+            }
+            Piece::EndIf => {
+                self.end(here);
+                Ok(None)
+            }
+            Piece::Use(name) => self.use_macro(name, here),
+        }
+    }
+
+    #[tactic(auto, unfolding(wb_meaning::specs::Verilog::Text::front_at))]
+    fn pieces_front(&self, is_macro: bool, text: &'s [u8]) -> Option<(Piece<'s>, &'s [u8])>
+        ensures { option_map front_of result ≡ at_front (front_at is_macro (reading_of self.now)) text.now }
+    {
+        if leaves_out(&self.conditionals) {
+            left_out_front(text)
+        } else {
+            read_front(is_macro, text)
+        }
+    }
+
+    fn front(&self, is_macro: bool, text: Span<'s>) -> Result<Option<(Piece<'s>, Span<'s>)>, Stop>
+        ensures { IsFront result (front_in is_macro (reading_of self.now) text.entry.text.now) }
+    {
+        if text.text.is_empty() {
+            return Ok(None);
+        }
+        match self.pieces_front(is_macro, text.text) {
+            Some((piece, rest)) => {
+                let place = moved(text.place, text.text, rest);
+                Ok(Some((piece, Span { text: rest, place })))
+            }
+            None => Err(Stop::Refused(LexKind::BadToken, text.place)),
+        }
+    }
+
+    #[cycle(read)]
+    fn taken(
+        &mut self,
+        levels: u32,
+        piece: Piece<'s>,
+        here: Place,
+        behind: Place,
+    ) -> Result<(), Stop>
+        ensures { IsOutcome result (reading_of self.new) (with_piece (macro_read levels) (piece_of piece.entry) (reading_of self.old)) }
+    {
+        match self.take(piece, here, behind)? {
+            Some(text) => self.read_macro(levels, text, here),
+            None => Ok(()),
+        }
+    }
+
+    /// Reads the text of a macro, with so many levels left for uses.
+    #[cycle(read)]
+    fn read_macro(&mut self, levels: u32, text: Span<'s>, place: Place) -> Result<(), Stop>
+        ensures { IsOutcome result (reading_of self.new) (macro_read levels text.entry.text.now (reading_of self.old)) }
+    {
+        if levels == 0 {
+            self.misdirect(place);
+            return Ok(());
+        }
+        self.read_text(levels - 1, true, text)
+    }
+
+    /// Reads a text, with so many levels left for uses of macros.
+    #[cycle(read)]
+    pub(crate) fn read_text(
+        &mut self,
+        levels: u32,
+        is_macro: bool,
+        text: Span<'s>,
+    ) -> Result<(), Stop>
+        ensures { IsOutcome result (reading_of self.new) (text_from is_macro (macro_read levels) 0 text.entry.text.now (reading_of self.old)) }
+    {
+        let mut rest = text;
+        loop {
+            let Some((piece, behind)) = self.front(is_macro, rest)? else {
+                return Ok(());
+            };
+            self.taken(levels, piece, rest.place, behind.place)?;
+            rest = behind;
+        }
+    }
+}

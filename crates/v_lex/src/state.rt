@@ -1,0 +1,53 @@
+//! What is known behind a part of the files.
+
+use crate::stop::Place;
+use crate::token::Token;
+use std::collections::BTreeMap;
+
+/// A part of a file and where it begins.
+#[derive(Clone, Copy)]
+pub(crate) struct Span<'s> {
+    /// The bytes.
+    pub text: &'s [u8],
+    /// Where they begin.
+    pub place: Place,
+}
+
+/// What becomes of a conditional's text.
+#[derive(Clone, Copy)]
+pub(crate) enum Branch {
+    /// It is read.
+    Taken,
+    /// No branch was read yet.
+    Waiting,
+    /// A branch was read, or none is to be read.
+    Passed,
+}
+
+/// An open conditional.
+#[derive(Clone, Copy)]
+pub(crate) struct Conditional {
+    /// What becomes of its text.
+    pub branch: Branch,
+    /// Whether its last branch has begun.
+    pub has_else: bool,
+}
+
+/// What is known behind a part of the files.
+#[derive(Drop)]
+pub(crate) struct Reader<'s> {
+    /// The macros' texts; none where a name is not defined any more.
+    pub macros: BTreeMap<&'s [u8], Option<Span<'s>>>,
+    /// The open conditionals, the innermost last.
+    pub conditionals: Vec<Conditional>,
+    /// The tokens so far.
+    pub tokens: Vec<Token<'s>>,
+    /// Whether the token before is a plain decimal of value 0.
+    pub is_behind_zero: bool,
+    /// The bytes of the macros' texts, counted at each use.
+    pub used: usize,
+    /// The first wrong directive.
+    pub misdirected: Option<Place>,
+    /// The first construct that the subset leaves out.
+    pub left_out: Option<Place>,
+}

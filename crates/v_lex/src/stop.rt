@@ -1,0 +1,90 @@
+//! Why reading stops.
+
+ghost use Rattle.std.specs.Prelude.{◌≡◌};
+ghost use Rattle.v_lex.specs.declared.stop.Stop.TheVariants.{Memory};
+
+use crate::note::Note;
+use std::alloc::{AllocError, AllocFailed};
+
+/// The kinds of refusals, in the order in which they are answered.
+#[derive(Clone, Copy, PartialEq, Eq, Debug)]
+pub enum LexKind {
+    /// V1: a file is not UTF-8.
+    NotText,
+    /// V2: a character that begins no token; a comment, string or attribute without end; a size 0; wrong digits.
+    BadToken,
+    /// V3: a wrong directive, an undefined macro, conditionals that do not match, or a limit of expansion that is passed.
+    BadDirective,
+    /// V4: a word, string, real number, escaped identifier or `$` name that the subset leaves out.
+    Unsupported,
+    /// V5: more than 200 constructs are open.
+    TooDeep,
+}
+
+/// A place in the files.
+#[derive(Clone, Copy, PartialEq, Eq, Debug)]
+pub(crate) struct Place {
+    /// The number of the file, from 0.
+    pub file: u32,
+    /// The byte in it.
+    pub start: u32,
+}
+
+/// Why reading stops.
+#[derive(Clone, Copy, PartialEq, Eq, Debug)]
+pub(crate) enum Stop {
+    /// There was not enough memory.
+    Memory,
+    /// The files are refused.
+    Refused(LexKind, Place),
+}
+
+impl From<AllocError> for Stop {
+    ghost from_gives = { λ _ e. e ≡ Memory };
+
+    fn from(_e: AllocError) -> Stop {
+        Stop::Memory
+    }
+}
+
+impl<T: Drop> From<AllocFailed<T>> for Stop {
+    ghost from_gives = { λ _ e. e ≡ Memory };
+
+    fn from(_e: AllocFailed<T>) -> Stop {
+        Stop::Memory
+    }
+}
+
+/// Why files are refused.
+#[derive(Drop)]
+pub struct LexRefusal {
+    /// The first kind, in the order of the kinds, that the files have anywhere.
+    pub kind: LexKind,
+    /// Where it stands: `file 0 line 3 column 7: ` and the word there. Files are counted from 0, lines and columns from 1.
+    pub note: Note,
+}
+
+/// Why there are no tokens.
+#[derive(Drop)]
+pub enum LexStop {
+    /// The files are refused.
+    Refused(LexRefusal),
+    /// There was not enough memory.
+    NoMemory,
+}
+
+/// There was not enough memory.
+#[derive(Clone, Copy, PartialEq, Eq, Debug)]
+pub(crate) struct NoMemory;
+
+impl From<AllocError> for NoMemory {
+    fn from(_e: AllocError) -> NoMemory {
+        NoMemory
+    }
+}
+
+impl<T: Drop> From<AllocFailed<T>> for NoMemory {
+    fn from(_e: AllocFailed<T>) -> NoMemory {
+        NoMemory
+    }
+}
