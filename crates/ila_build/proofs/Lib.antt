@@ -1,13 +1,13 @@
-mod Growing
-mod Refused
-mod Arms
-mod Sorting
-mod Definitions
-mod Declared
-mod Chosen
-mod InstructionLemmas
-mod MachineLemmas
-mod ChildLemmas
-mod ProgramLemmas
-mod WrittenParts
-mod InsideLemmas
+pub mod Growing
+pub mod Refused
+pub mod Arms
+pub mod Sorting
+pub mod Definitions
+pub mod Declared
+pub mod Chosen
+pub mod InstructionLemmas
+pub mod MachineLemmas
+pub mod ChildLemmas
+pub mod ProgramLemmas
+pub mod WrittenParts
+pub mod InsideLemmas

@@ -1,6 +1,6 @@
 //! An empty store, and a table without names.
 
-ghost use Rattle.std.specs.Prelude.{IfOk};
+ghost use Rattle.std.specs.Prelude.{◌≡◌, [], IfOk};
 ghost use Rattle.ila_build.specs.Standing.{IsTable};
 
 use std::alloc::Global;
@@ -9,7 +9,8 @@ use wb_terms::{NoMemory, TermId, Terms};
 
 /// An empty store with a table without names.
 pub fn empty_table<'v>(alloc: Global) -> Result<(Terms, BTreeMap<&'v [u8], TermId>), NoMemory>
-    ensures { IfOk result (λ p. IsTable p.0 p.1) }
+    ensures names { IfOk result (λ p. p.0.names ≡ []) }
+    ensures table { IfOk result (λ p. IsTable p.0 p.1) }
 {
     let terms = Terms::new(alloc)?;
     let known = BTreeMap::new(alloc);

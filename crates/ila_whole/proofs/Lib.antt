@@ -1,0 +1,2 @@
+mod Unbroken
+mod Reading
