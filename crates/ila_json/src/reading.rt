@@ -65,10 +65,13 @@ fn read_written<'v>(alloc: Global, value: &'v Value) -> Result<WrittenModel<'v>,
     ensures { IsWritten result (of_shape (view value.now) (model_in (view value.now))) }
 {
     match read_shape(alloc, value) {
-        Ok(written) => match with_known_keys(alloc, value, &written)? {
-            Some(refusal) => Err(ModelStop::Refused(refusal)),
-            None => Ok(written),
-        },
+        Ok(written) => {
+            let found = with_known_keys(alloc, value, &written)?;
+            match found {
+                Some(refusal) => Err(ModelStop::Refused(refusal)),
+                None => Ok(written),
+            }
+        }
         Err(ShapeStop::Refused(note)) => Err(ModelStop::Refused(refused(ModelRule::BadShape, note))),
         Err(ShapeStop::NoMemory) => Err(ModelStop::NoMemory),
     }

@@ -1,2 +1,3 @@
-mod Unbroken
-mod Reading
+pub mod Unbroken
+pub mod Reading
+pub mod Places
