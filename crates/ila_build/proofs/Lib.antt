@@ -3,6 +3,7 @@ pub mod Refused
 pub mod Arms
 pub mod Sorting
 pub mod Definitions
+pub mod Fresh
 pub mod Declared
 pub mod Chosen
 pub mod InstructionLemmas
