@@ -12,13 +12,13 @@ use Rattle.wb_terms.specs.declared.nodes.TermId.{TermId}
 use Rattle.wb_terms.specs.declared.store.PutStop.{PutStop}
 use Rattle.wb_terms.specs.declared.store.PutStop.TheVariants.{BadSort, NoMemory}
 use Rattle.ila_build.specs.Standing.{IsFresh, under_name}
-use Rattle.ila_build.specs.Refusing.{IsUnrefused, IsBesides, entry_names, are_sorts}
+use Rattle.ila_build.specs.Refusing.{IsNoRefusal, IsBesides, entry_names, are_sorts}
 use Rattle.ila_build.proofs.Sorting.{or_parts}
 
 -- what is refused is refused under more
-pub unrefused_by : (T U Q R : Type 0) (s : PutStop) → (R → Q) → IsUnrefused {T = T} (Err s) Q → IsUnrefused {T = U} (Err s) R
-unrefused_by T U Q R BadSort f n = λ r. n (f r)
-unrefused_by T U Q R NoMemory f n = tt
+pub unrefused_by : (Q R : Type 0) (s : PutStop) → (R → Q) → IsNoRefusal s Q → IsNoRefusal s R
+unrefused_by Q R BadSort f n = λ r. n (f r)
+unrefused_by Q R NoMemory f n = tt
 
 -- ---- lists of names
 
@@ -114,6 +114,6 @@ sorts_item {e} rest now all cut a h = (first_sort e rest (subst (λ es. are_sort
 
 pub declare_lost : {e : Name × Sort} (t u : BTreeMap (Bor (List ℕ)) TermId) (rest now all : Entries Sort) (s : PutStop)
     → now ≡ e ∷ rest → IsBringing t u (entry_names now) (entry_names all) → (are_sorts all ≡ true → are_sorts now ≡ true)
-    → IsUnrefused {T = ⊤} (Err s) ((under_name u e.0 ≡ None) × (is_sort e.1 ≡ true)) → IsUnrefused {T = ⊤} (Err s) (IsFresh t (entry_names all) × (are_sorts all ≡ true))
+    → IsNoRefusal s ((under_name u e.0 ≡ None) × (is_sort e.1 ≡ true)) → IsNoRefusal s (IsFresh t (entry_names all) × (are_sorts all ≡ true))
 declare_lost {e} t u rest now all s cut a b n =
-    unrefused_by ⊤ ⊤ _ (IsFresh t (entry_names all) × (are_sorts all ≡ true)) s (λ q. ((subst (λ es. IsFresh u (entry_names es)) cut (a.fresh q.0)).0, (first_sort e rest (subst (λ es. are_sorts es ≡ true) cut (b q.1))).0)) n
+    unrefused_by _ (IsFresh t (entry_names all) × (are_sorts all ≡ true)) s (λ q. ((subst (λ es. IsFresh u (entry_names es)) cut (a.fresh q.0)).0, (first_sort e rest (subst (λ es. are_sorts es ≡ true) cut (b q.1))).0)) n

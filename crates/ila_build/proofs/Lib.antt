@@ -8,7 +8,9 @@ pub mod Declared
 pub mod Chosen
 pub mod InstructionLemmas
 pub mod MachineLemmas
+pub mod Unrefused
 pub mod ChildLemmas
 pub mod ProgramLemmas
 pub mod WrittenParts
 pub mod InsideLemmas
+pub mod ChildDue

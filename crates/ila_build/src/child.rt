@@ -5,6 +5,8 @@ ghost use Rattle.std.specs.List.{list_all};
 ghost use Rattle.ila_file.specs.View.{machine_view, state_view};
 ghost use Rattle.ila_build.specs.Standing.{IsKept, IsTable, IsWider};
 ghost use Rattle.ila_build.specs.Building.{IsChildPut};
+ghost use Rattle.ila_build.specs.Refusing.{IsBesides, IsChildDue, IsUnrefused};
+ghost use Rattle.wb_meaning.specs.ModelFile.Names.{data_names};
 
 use crate::declaring::{declare_states, initial_values};
 use crate::machine::put_machine;
@@ -45,6 +47,8 @@ pub fn put_child<'v>(
     ensures steps { IfOk result (λ c. c.steps ≡ steps) }
     ensures around { IfOk result (λ c. c.around ≡ around) }
     ensures put { IfOk result (λ c. IsChildPut terms.old known.old terms.new known.new links.now (machine_view machine.now) c) }
+    ensures besides { OnOk result (IsBesides known.old known.new (data_names (machine_view machine.now))) }
+    ensures unrefused { IsUnrefused result (IsChildDue terms.old known.old steps (machine_view machine.now)) }
 {
     let states = states_of(machine);
     if steps > 4096 || !have_values(states) {
