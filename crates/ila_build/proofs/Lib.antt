@@ -14,3 +14,4 @@ pub mod ProgramLemmas
 pub mod WrittenParts
 pub mod InsideLemmas
 pub mod ChildDue
+pub mod LayoutLemmas

@@ -5,3 +5,4 @@ pub mod Updating
 pub mod Building
 pub mod Inside
 pub mod Refusing
+pub mod Layout

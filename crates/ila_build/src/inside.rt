@@ -5,6 +5,7 @@ ghost use Rattle.ila_file.specs.View.{child_view, instruction_view, machine_view
 ghost use Rattle.ila_build.specs.Standing.{IsTable};
 ghost use Rattle.ila_build.specs.Building.{instructions_in};
 ghost use Rattle.ila_build.specs.Inside.{AreChildrenPut, IsProgramPut, program_in};
+ghost use Rattle.ila_build.specs.Layout.{AreLaidPut, IsLaidPut};
 ghost use Rattle.ila_build.specs.Refusing.{AreBelowDue, IsBesides, IsProgramDue, IsUnrefused, names_below, names_of_child};
 
 use crate::child::put_child;
@@ -28,6 +29,7 @@ pub fn put_children<'v>(
 ) -> Result<(), PutStop>
     requires { IsTable terms.old known.old }
     ensures put { OnOk result (AreChildrenPut terms.old known.old children.old.items terms.new known.new children.new.items (instructions_in (machine_view machine.now))) }
+    ensures laid { OnOk result (AreLaidPut terms.old known.old children.old.items terms.new children.new.items around (instructions_in (machine_view machine.now))) }
     ensures besides { OnOk result (IsBesides known.old known.new (names_below (instructions_in (machine_view machine.now)))) }
     ensures unrefused { IsUnrefused result (AreBelowDue terms.old known.old (instructions_in (machine_view machine.now))) }
 {
@@ -49,6 +51,7 @@ fn put_child_of<'v>(
 ) -> Result<(), PutStop>
     requires { IsTable terms.old known.old }
     ensures put { OnOk result (IsProgramPut terms.old known.old children.old.items terms.new known.new children.new.items (program_in (instruction_view instruction.now))) }
+    ensures laid { OnOk result (IsLaidPut terms.old known.old children.old.items terms.new children.new.items around (program_in (instruction_view instruction.now))) }
     ensures besides { OnOk result (IsBesides known.old known.new (names_of_child (program_in (instruction_view instruction.now)))) }
     ensures unrefused { IsUnrefused result (IsProgramDue terms.old known.old (program_in (instruction_view instruction.now))) }
 {
@@ -73,6 +76,7 @@ fn put_program<'v>(
 ) -> Result<(), PutStop>
     requires { IsTable terms.old known.old }
     ensures put { OnOk result (IsProgramPut terms.old known.old children.old.items terms.new known.new children.new.items (child_view child.now)) }
+    ensures laid { OnOk result (IsLaidPut terms.old known.old children.old.items terms.new children.new.items around (child_view child.now)) }
     ensures besides { OnOk result (IsBesides known.old known.new (names_of_child (child_view child.now))) }
     ensures unrefused { IsUnrefused result (IsProgramDue terms.old known.old (child_view child.now)) }
 {
