@@ -29,7 +29,7 @@ state_names : (ss : List StateDeclaration) → entry_names (map state_entry ss) 
 state_names [] = refl
 state_names (s ∷ ss) = ap (λ ns. s.state_name ∷ ns) (state_names ss)
 
-data_names_are : (m : WrittenMachine) → data_names m ≡ entry_names (map state_entry (states_in m)) ++ defined_names (definitions_in m)
+pub data_names_are : (m : WrittenMachine) → data_names m ≡ entry_names (map state_entry (states_in m)) ++ defined_names (definitions_in m)
 data_names_are (machine ss ds f v is) = ap (λ ns. ns ++ defined_names ds) (sym (state_names ss))
 
 pub joined-append : (xs ys : List WrittenMachine) → joined (map data_names (xs ++ ys)) ≡ joined (map data_names xs) ++ joined (map data_names ys)

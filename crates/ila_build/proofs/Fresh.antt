@@ -33,11 +33,11 @@ pub fresh_front : (t : BTreeMap (Bor (List ℕ)) TermId) (ns ms : List Name) →
 fresh_front t [] ms f = tt
 fresh_front t (n ∷ ns) ms f = (f.0, (or_parts (is_among n ns) (is_among n ms) (sym (among-append n ns ms) ∙ f.1)).0, fresh_front t ns ms f.2)
 
-fresh_rest : (t : BTreeMap (Bor (List ℕ)) TermId) (ns ms : List Name) → IsFresh t (ns ++ ms) → IsFresh t ms
+pub fresh_rest : (t : BTreeMap (Bor (List ℕ)) TermId) (ns ms : List Name) → IsFresh t (ns ++ ms) → IsFresh t ms
 fresh_rest t [] ms f = f
 fresh_rest t (n ∷ ns) ms f = fresh_rest t ns ms f.2
 
-apart : (t : BTreeMap (Bor (List ℕ)) TermId) (ns ms : List Name) (q : Name) → IsFresh t (ns ++ ms) → is_among q ms ≡ true → is_among q ns ≡ false
+pub apart : (t : BTreeMap (Bor (List ℕ)) TermId) (ns ms : List Name) (q : Name) → IsFresh t (ns ++ ms) → is_among q ms ≡ true → is_among q ns ≡ false
 apart t [] ms q f h = refl
 apart t (n ∷ ns) ms q f h = by_test (same_name q n) refl (apart t ns ms q f.2 h) where
   by_test : (b : Bool) → same_name q n ≡ b → is_among q ns ≡ false → (b || is_among q ns) ≡ false
@@ -53,7 +53,7 @@ or_true : (a b : Bool) → b ≡ true → (a || b) ≡ true
 or_true true b h = refl
 or_true false b h = h
 
-fresh_moved : (t u : BTreeMap (Bor (List ℕ)) TermId) (ns : List Name) → IsFresh t ns → ((q : Name) → is_among q ns ≡ true → under_name u q ≡ under_name t q) → IsFresh u ns
+pub fresh_moved : (t u : BTreeMap (Bor (List ℕ)) TermId) (ns : List Name) → IsFresh t ns → ((q : Name) → is_among q ns ≡ true → under_name u q ≡ under_name t q) → IsFresh u ns
 fresh_moved t u [] f a = tt
 fresh_moved t u (n ∷ ns) f a =
     (a n (ap (λ b. b || is_among n ns) (same_self n)) ∙ f.0, f.1, fresh_moved t u ns f.2 (λ q h. a q (or_true (same_name q n) (is_among q ns) h)))

@@ -4,8 +4,8 @@ use Rattle.std.specs.List.{list_all, list_any}
 use Rattle.std.proofs.lemmas.Bool.{false≢true, and_parts, ltb-false}
 use Rattle.wb_meaning.specs.ModelFile.Written.{WrittenModel}
 use Rattle.wb_meaning.specs.ModelFile.Scope.{Placed, written_sort, all_terms}
-use Rattle.wb_meaning.specs.ModelFile.Rules.{has_bad_name, has_duplicate_name, has_unknown_name, has_bad_width, has_bad_sort, has_bad_number, has_memory_copy, has_too_deep_child, has_fitting_initial_values, has_fitting_constants, is_unknown_at, takes_sort, depth_of}
-use Rattle.wb_meaning.specs.ModelFile.Meaning.{ModelRule, BadName, DuplicateName, UnknownName, BadWidth, BadSort, BadNumber, MemoryCopy, TooDeepChild, broken_rule}
+use Rattle.wb_meaning.specs.ModelFile.Rules.{has_bad_name, has_duplicate_name, has_unknown_name, has_bad_width, has_bad_sort, has_bad_number, has_memory_copy, has_too_deep_child, has_bad_steps, has_fitting_initial_values, has_fitting_constants, is_unknown_at, takes_sort, depth_of}
+use Rattle.wb_meaning.specs.ModelFile.Meaning.{ModelRule, BadName, DuplicateName, UnknownName, BadWidth, BadSort, BadNumber, MemoryCopy, TooDeepChild, BadSteps, broken_rule}
 use Rattle.ila_build.specs.Knowing.{is_right, are_right}
 use Rattle.ila_build.proofs.Sorting.{or_parts}
 
@@ -13,7 +13,7 @@ unbroken_first : (b : Bool) (x : ModelRule) (r : Option ModelRule) → cond b (S
 unbroken_first true x r h = cc
 unbroken_first false x r h = (refl, h)
 
-not_false : (b : Bool) → not b ≡ false → b ≡ true
+pub not_false : (b : Bool) → not b ≡ false → b ≡ true
 not_false true h = refl
 not_false false h = absurd (false≢true (sym h))
 
@@ -23,6 +23,9 @@ pub record IsUnbroken (m : WrittenModel) : Type 0 where
   pub sorted : has_bad_sort m ≡ false
   pub fitting : has_bad_number m ≡ false
   pub depth : has_too_deep_child m ≡ false
+  pub apart : has_duplicate_name m ≡ false
+  pub widths : has_bad_width m ≡ false
+  pub steps : has_bad_steps m ≡ false
 
 pub unbroken : (m : WrittenModel) → broken_rule m ≡ None → IsUnbroken m
 unbroken m h =
@@ -34,7 +37,8 @@ unbroken m h =
     let f = unbroken_first (has_bad_number m) BadNumber _ e.1 in
     let g = unbroken_first (has_memory_copy m) MemoryCopy _ f.1 in
     let k = unbroken_first (has_too_deep_child m) TooDeepChild _ g.1 in
-    record { known = c.0; sorted = e.0; fitting = f.0; depth = k.0 }
+    let l = unbroken_first (has_bad_steps m) BadSteps _ k.1 in
+    record { known = c.0; sorted = e.0; fitting = f.0; depth = k.0; apart = b.0; widths = d.0; steps = l.0 }
 
 three : (a b c : Bool) → a ≡ false → b ≡ true → c ≡ true → (not a && (b && c)) ≡ true
 three true b c p q r = absurd (false≢true (sym p))
