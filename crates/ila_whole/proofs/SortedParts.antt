@@ -1,6 +1,7 @@
 -- The parts that were put of a model that no rule refuses are well sorted.
 use Rattle.std.proofs.Common.{◌≡◌, ℕ, List, [], ◌∷◌, ◌++◌, length, map, Bor, Option, Some, None, option_map, refl, sym, ap, ◌∙◌, subst, arith, append_assoc}
-use Rattle.std.specs.Prelude.{true}
+use Rattle.std.specs.Prelude.{true, false, is_some, IfSome}
+use Rattle.std.proofs.lemmas.Bool.{false≢true}
 use Rattle.std.specs.BTreeMap.{BTreeMap}
 use Rattle.wb_meaning.specs.Value.{Sort, Entries}
 use Rattle.wb_meaning.specs.Model.{InputDeclaration}
@@ -11,6 +12,7 @@ use Rattle.wb_terms.specs.Environment.{as_value}
 use Rattle.wb_terms.specs.Graph.{Graph, HasDistinctNames}
 use Rattle.ila_model.specs.declared.parts.ChildId.{ChildId}
 use Rattle.ila_model.specs.declared.parts.Parts.{Parts}
+use Rattle.ila_model.specs.declared.model.IlaModel.{IlaModel}
 use Rattle.ila_model.specs.Sorted.{are_placed, is_well_sorted}
 use Rattle.ila_build.specs.Standing.{IsTable, IsGrown}
 use Rattle.ila_build.specs.Declaring.{state_entry, input_entry}
@@ -20,7 +22,7 @@ use Rattle.ila_build.specs.Layout.{AreLaidPut, AreLaid}
 use Rattle.ila_build.proofs.Chosen.{stand_moved}
 use Rattle.ila_build.proofs.ChildLemmas.{places_from}
 use Rattle.ila_build.proofs.InsideLemmas.{machine_right, machine_wider, stand_wider}
-use Rattle.ila_whole.specs.Whole.{AreSortedParts}
+use Rattle.ila_whole.specs.Whole.{AreSortedParts, IsFit}
 use Rattle.ila_whole.proofs.Reading.{knows_top, stand_top}
 use Rattle.ila_whole.proofs.Top.{IsWhole, IsSound, well_sorted}
 use Rattle.ila_whole.proofs.Sound.{sound}
@@ -65,3 +67,11 @@ pub parts_sorted : (g h : Graph) (t u v : BTreeMap (Bor (List ℕ)) TermId) (lin
 unfolding AreSortedParts
 parts_sorted g h t u v links m p table names grown put el inside laid count inits distinct fit =
     sorted_from g h t u v links m.inputs m.top p (sound m fit.0 fit.1) table names grown put el inside laid count inits distinct
+
+-- a model of sorted parts is there
+pub never_none : (m : WrittenModel) (p : Parts) (o : Option IlaModel) → AreSortedParts m p → IsFit m → is_some o ≡ is_well_sorted p → o ≡ None → ⊥
+unfolding AreSortedParts
+never_none m p o a fit e n = false≢true (sym (ap is_some n) ∙ (e ∙ a fit))
+
+pub of_some : (o : Option IlaModel) (m : IlaModel) (P : IlaModel → Type 0) → IfSome o P → o ≡ Some m → P m
+of_some o m P h e = subst (λ x. IfSome x P) e h
