@@ -1,5 +1,5 @@
 -- What the calls answer of a model file, beside its reading.
-use Rattle.std.specs.Prelude.{◌≡◌, ⊤, Option, Some, None, option_map, Result, Ok, Err}
+use Rattle.std.specs.Prelude.{◌≡◌, true, ⊤, Option, Some, None, option_map, Result, Ok, Err}
 use Rattle.serde_json.specs.Data.{Data}
 use Rattle.wb_meaning.specs.ModelFile.Meaning as meaning
 use Rattle.wb_meaning.specs.ModelFile.Meaning.{ModelReading, stands_for, refused_by, ModelRule, broken_rule, of_document}
@@ -9,6 +9,7 @@ use Rattle.ila_rules.specs.Rule.{rule_view}
 use Rattle.ila_rules.specs.declared.rule.ModelRefusal.{ModelRefusal}
 use Rattle.ila_model.specs.declared.model.IlaModel.{IlaModel}
 use Rattle.ila_model.specs.Model.{model_of}
+use Rattle.ila_whole.specs.Shaped.{is_shaped}
 use Rattle.ila_json.specs.declared.stop.ModelStop.{ModelStop}
 use Rattle.ila_json.specs.declared.stop.ModelStop.TheVariants.{Refused, NoMemory}
 
@@ -33,7 +34,7 @@ IsDocument view (Err s) d = IsStoppedBy s (of_document d)
 
 -- the written model, which no rule refuses, or the refusal
 abbrev pub IsWritten : Result WrittenModel ModelStop → ModelReading → Type 0
-IsWritten (Ok w) reading = (reading ≡ stands_for (meaning.model_of (model_view w))) × (broken_rule (model_view w) ≡ None)
+IsWritten (Ok w) reading = (reading ≡ stands_for (meaning.model_of (model_view w))) × (broken_rule (model_view w) ≡ None) × (is_shaped (model_view w) ≡ true)
 IsWritten (Err s) reading = IsStoppedBy s reading
 
 -- no rule refuses, or the refusal
@@ -41,8 +42,7 @@ abbrev pub IsJudged : Result ⊤ ModelStop → ModelReading → Type 0
 IsJudged (Ok u) reading = refusal_in reading ≡ None
 IsJudged (Err s) reading = IsStoppedBy s reading
 
--- The model that the bytes stand for, or the refusal. (None says that they stand for a model that the code did not build.)
-abbrev pub IsModelRead : Result (Option IlaModel) ModelStop → ModelReading → Type 0
-IsModelRead (Ok (Some m)) reading = reading ≡ stands_for (model_of m)
-IsModelRead (Ok None) reading = refusal_in reading ≡ None
+-- the model that the bytes stand for, or the refusal
+abbrev pub IsModelRead : Result IlaModel ModelStop → ModelReading → Type 0
+IsModelRead (Ok m) reading = reading ≡ stands_for (model_of m)
 IsModelRead (Err s) reading = IsStoppedBy s reading

@@ -19,7 +19,7 @@ use std::alloc::{AllocError, Global};
 
 /// The model that the bytes of a model file stand for, or the first rule, in the order in which they are judged, that refuses
 /// them, with its place.
-pub fn read_model(alloc: Global, bytes: &[u8]) -> Result<Option<IlaModel>, ModelStop>
+pub fn read_model(alloc: Global, bytes: &[u8]) -> Result<IlaModel, ModelStop>
     ensures { IsModelRead result (reading_of bytes.now) }
 {
     let value = read_document(alloc, bytes)?;

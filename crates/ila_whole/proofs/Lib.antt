@@ -9,3 +9,4 @@ pub mod Sound
 pub mod FreshTop
 pub mod Refusals
 pub mod SortedParts
+pub mod ShapeOf
