@@ -27,11 +27,11 @@ use Rattle.ila_build.specs.Declaring.{state_entry}
 use Rattle.ila_build.proofs.Definitions.{knows_kept}
 use Rattle.ila_build.proofs.Chosen.{stand_moved}
 
-all_behind : (g : Graph) (t : BTreeMap (Bor (List ℕ)) TermId) (ns ms : Entries Sort) → StandAll g t (ns ++ ms) → StandAll g t ms
+pub all_behind : (g : Graph) (t : BTreeMap (Bor (List ℕ)) TermId) (ns ms : Entries Sort) → StandAll g t (ns ++ ms) → StandAll g t ms
 all_behind g t [] ms a = a
 all_behind g t (n ∷ ns) ms a = all_behind g t ns ms a.1
 
-with_name : (g : Graph) (t : BTreeMap (Bor (List ℕ)) TermId) (names : Entries Visible) (m : Name) (w : Visible) → Knows g t None names → StandsFor g w (under_name t m) → Knows g t None ((m, w) ∷ names)
+pub with_name : (g : Graph) (t : BTreeMap (Bor (List ℕ)) TermId) (names : Entries Visible) (m : Name) (w : Visible) → Knows g t None names → StandsFor g w (under_name t m) → Knows g t None ((m, w) ∷ names)
 unfolding Knows
 with_name g t names m w k s n v e = by_test (same_name m n) refl e where
   by_test : (b : Bool) → same_name m n ≡ b → cond b (Some w) (entry_of names n) ≡ Some v → StandsFor g v (under_name t n)
@@ -96,7 +96,7 @@ privates_read (s ∷ ss) more (i ∷ is) e h =
     let init : Some (value_or (option_map as_value i) (zero_of s.sort)) ≡ s.init = kept_init (option_map as_value i) (zero_of s.sort) (ap is_some first ∙ parts.0) ∙ first in
     ap (λ x. (record { state_name = s.state_name; sort = s.sort; init = x }) ∷ private_states (map state_entry ss ++ more) is) init ∙ ap (λ r. s ∷ r) (privates_read ss more is behind parts.1)
 
-drop_front : (xs ys : Entries Sort) → drop (length xs) (xs ++ ys) ≡ ys
+pub drop_front : (xs ys : Entries Sort) → drop (length xs) (xs ++ ys) ≡ ys
 drop_front [] ys = refl
 drop_front (x ∷ xs) ys = drop_front xs ys
 

@@ -79,7 +79,7 @@ stand_wider g h from (k ∷ ks) (x ∷ ss) b s =
     let size : length h.names ≡ length g.names + length b.more = ap length b.names ∙ length-append g.names b.more in
     (s.0, omega (arith, s.1, size), ap (λ ns. entry_at ns k) b.names ∙ (get_or-append g.names b.more _ k s.1 ∙ s.2), stand_wider g h (suc k) ks ss b s.3)
 
-machine_wider : (g h : Graph) (names : Entries Visible) (ss : List StateDeclaration) (links : List (Option ChildId)) (m : WrittenMachine) (v : TermId) (xs : List Instruction) → IsWider g h → IsMachine g names ss links m v xs → IsMachine h names ss links m v xs
+pub machine_wider : (g h : Graph) (names : Entries Visible) (ss : List StateDeclaration) (links : List (Option ChildId)) (m : WrittenMachine) (v : TermId) (xs : List Instruction) → IsWider g h → IsMachine g names ss links m v xs → IsMachine h names ss links m v xs
 machine_wider g h names ss links m v xs b a = record {
   within = omega (arith, a.within, b.longer);
   valid_tree = b.trees v.0 a.within ∙ a.valid_tree;
@@ -119,7 +119,7 @@ rest_deep : (a b l : ℕ) → max a b ≤ l → b ≤ l
 rest_deep a b l h = omega (arith, h)
 
 -- the ids of the instructions' children, in front of which others may stand, are linked
-linked : (g h : Graph) (cs behind : List Child) (scope : Scope) (l k : ℕ) (before : List (Option ChildId)) (is : WrittenInstructions)
+pub linked : (g h : Graph) (cs behind : List Child) (scope : Scope) (l k : ℕ) (before : List (Option ChildId)) (is : WrittenInstructions)
     → IsWider g h → depth_below is ≤ l → StandForChildren g cs scope k is → AreLinked (program_of h (cs ++ behind) l) scope (before ++ links_from k is) (length before) is
 linked g h cs behind scope l k before no_instructions b d s = tt
 linked g h cs behind scope l k before (and_then (instruction n e u p) is) b d s =

@@ -1,13 +1,17 @@
-mod Growing
-mod Refused
-mod Arms
-mod Sorting
-mod Definitions
-mod Declared
-mod Chosen
-mod InstructionLemmas
-mod MachineLemmas
-mod ChildLemmas
-mod ProgramLemmas
-mod WrittenParts
-mod InsideLemmas
+pub mod Growing
+pub mod Refused
+pub mod Arms
+pub mod Sorting
+pub mod Definitions
+pub mod Fresh
+pub mod Declared
+pub mod Chosen
+pub mod InstructionLemmas
+pub mod MachineLemmas
+pub mod Unrefused
+pub mod ChildLemmas
+pub mod ProgramLemmas
+pub mod WrittenParts
+pub mod InsideLemmas
+pub mod ChildDue
+pub mod LayoutLemmas

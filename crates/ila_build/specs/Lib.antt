@@ -4,3 +4,5 @@ pub mod Declaring
 pub mod Updating
 pub mod Building
 pub mod Inside
+pub mod Refusing
+pub mod Layout

@@ -1,10 +1,15 @@
 //! Child programs: their private states are declared, and then their own terms are put.
 
-ghost use Rattle.std.specs.Prelude.{◌≡◌, map, is_some, IfOk, OnOk};
+ghost use Rattle.std.specs.Prelude.{◌≡◌, ◌++◌, length, map, option_map, is_some, IfOk, OnOk};
 ghost use Rattle.std.specs.List.{list_all};
 ghost use Rattle.ila_file.specs.View.{machine_view, state_view};
 ghost use Rattle.ila_build.specs.Standing.{IsKept, IsTable, IsWider};
 ghost use Rattle.ila_build.specs.Building.{IsChildPut};
+ghost use Rattle.ila_build.specs.Refusing.{IsBesides, IsChildDue, IsUnrefused};
+ghost use Rattle.ila_build.specs.Declaring.{state_entry};
+ghost use Rattle.wb_meaning.specs.ModelFile.Names.{data_names};
+ghost use Rattle.wb_meaning.specs.ModelFile.Written.{states_in};
+ghost use Rattle.wb_terms.specs.Environment.{as_value};
 
 use crate::declaring::{declare_states, initial_values};
 use crate::machine::put_machine;
@@ -44,7 +49,12 @@ pub fn put_child<'v>(
     ensures table { OnOk result (IsTable terms.new known.new) }
     ensures steps { IfOk result (λ c. c.steps ≡ steps) }
     ensures around { IfOk result (λ c. c.around ≡ around) }
+    ensures first { IfOk result (λ c. c.first.0 ≡ length terms.old.names) }
+    ensures names { OnOk result (terms.new.names ≡ terms.old.names ++ map state_entry (states_in (machine_view machine.now))) }
+    ensures values { IfOk result (λ c. map (option_map as_value) c.initial_values.items ≡ map (λ s. s.init) (states_in (machine_view machine.now))) }
     ensures put { IfOk result (λ c. IsChildPut terms.old known.old terms.new known.new links.now (machine_view machine.now) c) }
+    ensures besides { OnOk result (IsBesides known.old known.new (data_names (machine_view machine.now))) }
+    ensures unrefused { IsUnrefused result (IsChildDue terms.old known.old steps (machine_view machine.now)) }
 {
     let states = states_of(machine);
     if steps > 4096 || !have_values(states) {

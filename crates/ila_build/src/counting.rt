@@ -69,7 +69,7 @@ fn link_of(instruction: &WrittenInstruction, place: usize) -> Option<ChildId>
 }
 
 /// The ids of the children of a machine's instructions, where these stand from a place on.
-pub(crate) fn links_of(
+pub fn links_of(
     alloc: Global,
     machine: &WrittenMachine,
     first: usize,

@@ -1,12 +1,13 @@
 //! Names are declared in a store, and stand for themselves.
 
-ghost use Rattle.std.specs.Prelude.{◌≡◌, ◌++◌, [], ◌∷◌, false, map, None, IfOk, IfSome, OnOk, option_map};
+ghost use Rattle.std.specs.Prelude.{◌≡◌, ◌++◌, [], ◌∷◌, true, false, map, None, IfOk, IfSome, OnOk, option_map};
 ghost use Rattle.wb_meaning.specs.Term.{is_sort};
 ghost use Rattle.wb_terms.specs.Sort.{as_sort};
 ghost use Rattle.wb_terms.specs.Environment.{as_value};
 ghost use Rattle.ila_file.specs.View.{sort_view, value_view, state_view, input_view, initial_view};
-ghost use Rattle.ila_build.specs.Standing.{IsKept, IsTable, IsWider};
+ghost use Rattle.ila_build.specs.Standing.{IsFresh, IsKept, IsTable, IsWider, under_name};
 ghost use Rattle.ila_build.specs.Declaring.{state_entry, input_entry};
+ghost use Rattle.ila_build.specs.Refusing.{IsBesides, IsUnrefused, are_sorts, entry_names};
 
 use crate::putting::under_name;
 use crate::table::remember;
@@ -50,6 +51,8 @@ fn declare<'v>(
     ensures names { OnOk result (terms.new.names ≡ terms.old.names ++ (name.now, sort_view sort) ∷ []) }
     ensures kept { OnOk result (IsKept known.old known.new) }
     ensures table { OnOk result (IsTable terms.new known.new) }
+    ensures besides { OnOk result (IsBesides known.old known.new (name.now ∷ [])) }
+    ensures unrefused { IsUnrefused result ((under_name known.old name.now ≡ None) × (is_sort (sort_view sort) ≡ true)) }
 {
     if under_name(known, name).is_some() {
         return Err(PutStop::BadSort);
@@ -80,6 +83,8 @@ pub fn declare_states<'v>(
     ensures names { OnOk result (terms.new.names ≡ terms.old.names ++ map state_entry (map state_view states.now)) }
     ensures kept { OnOk result (IsKept known.old known.new) }
     ensures table { OnOk result (IsTable terms.new known.new) }
+    ensures besides { OnOk result (IsBesides known.old known.new (entry_names (map state_entry (map state_view states.now)))) }
+    ensures unrefused { IsUnrefused result (IsFresh known.old (entry_names (map state_entry (map state_view states.now))) × (are_sorts (map state_entry (map state_view states.now)) ≡ true)) }
 {
     for state in states {
         declare(alloc, terms, known, state.name, state.sort)?;
@@ -99,6 +104,8 @@ pub fn declare_inputs<'v>(
     ensures names { OnOk result (terms.new.names ≡ terms.old.names ++ map input_entry (map input_view inputs.now)) }
     ensures kept { OnOk result (IsKept known.old known.new) }
     ensures table { OnOk result (IsTable terms.new known.new) }
+    ensures besides { OnOk result (IsBesides known.old known.new (entry_names (map input_entry (map input_view inputs.now)))) }
+    ensures unrefused { IsUnrefused result (IsFresh known.old (entry_names (map input_entry (map input_view inputs.now))) × (are_sorts (map input_entry (map input_view inputs.now)) ≡ true)) }
 {
     for input in inputs {
         declare(alloc, terms, known, input.name, input.sort)?;

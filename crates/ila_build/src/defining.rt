@@ -4,7 +4,8 @@ ghost use Rattle.std.specs.Prelude.{◌≡◌, ℕ, List, [], ◌∷◌, false, 
 ghost use Rattle.wb_meaning.specs.Value.{same_name};
 ghost use Rattle.ila_file.specs.View.{definition_view};
 ghost use Rattle.ila_build.specs.Standing.{AreIn, IsGrown, IsKept, under_name};
-ghost use Rattle.ila_build.specs.Knowing.{AreDefined};
+ghost use Rattle.ila_build.specs.Knowing.{AreDefined, defined_names};
+ghost use Rattle.ila_build.specs.Refusing.{IsBesides};
 
 use crate::putting::{put_term, under_name};
 use crate::table::remember;
@@ -45,6 +46,7 @@ pub fn put_definitions<'v>(
     ensures grown { OnOk result (IsGrown terms.old terms.new) }
     ensures in_store { OnOk result (AreIn terms.new known.new None) }
     ensures kept { OnOk result (IsKept known.old known.new) }
+    ensures besides { OnOk result (IsBesides known.old known.new (defined_names (map definition_view definitions.now))) }
     ensures defined { AreDefined terms.old known.old terms.new known.new result (map definition_view definitions.now) }
 {
     for definition in definitions {

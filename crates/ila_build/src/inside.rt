@@ -5,6 +5,8 @@ ghost use Rattle.ila_file.specs.View.{child_view, instruction_view, machine_view
 ghost use Rattle.ila_build.specs.Standing.{IsTable};
 ghost use Rattle.ila_build.specs.Building.{instructions_in};
 ghost use Rattle.ila_build.specs.Inside.{AreChildrenPut, IsProgramPut, program_in};
+ghost use Rattle.ila_build.specs.Layout.{AreLaidPut, IsLaidPut};
+ghost use Rattle.ila_build.specs.Refusing.{AreBelowDue, IsBesides, IsProgramDue, IsUnrefused, names_below, names_of_child};
 
 use crate::child::put_child;
 use crate::counting::links_of;
@@ -26,7 +28,10 @@ pub fn put_children<'v>(
     around: Option<ChildId>,
 ) -> Result<(), PutStop>
     requires { IsTable terms.old known.old }
-    ensures { OnOk result (AreChildrenPut terms.old known.old children.old.items terms.new known.new children.new.items (instructions_in (machine_view machine.now))) }
+    ensures put { OnOk result (AreChildrenPut terms.old known.old children.old.items terms.new known.new children.new.items (instructions_in (machine_view machine.now))) }
+    ensures laid { OnOk result (AreLaidPut terms.old known.old children.old.items terms.new children.new.items around (instructions_in (machine_view machine.now))) }
+    ensures besides { OnOk result (IsBesides known.old known.new (names_below (instructions_in (machine_view machine.now)))) }
+    ensures unrefused { IsUnrefused result (AreBelowDue terms.old known.old (instructions_in (machine_view machine.now))) }
 {
     for instruction in machine.instructions.iter() {
         put_child_of(alloc, terms, known, children, instruction, around)?;
@@ -45,7 +50,10 @@ fn put_child_of<'v>(
     around: Option<ChildId>,
 ) -> Result<(), PutStop>
     requires { IsTable terms.old known.old }
-    ensures { OnOk result (IsProgramPut terms.old known.old children.old.items terms.new known.new children.new.items (program_in (instruction_view instruction.now))) }
+    ensures put { OnOk result (IsProgramPut terms.old known.old children.old.items terms.new known.new children.new.items (program_in (instruction_view instruction.now))) }
+    ensures laid { OnOk result (IsLaidPut terms.old known.old children.old.items terms.new children.new.items around (program_in (instruction_view instruction.now))) }
+    ensures besides { OnOk result (IsBesides known.old known.new (names_of_child (program_in (instruction_view instruction.now)))) }
+    ensures unrefused { IsUnrefused result (IsProgramDue terms.old known.old (program_in (instruction_view instruction.now))) }
 {
     match &instruction.child {
         Some(child) => {
@@ -67,7 +75,10 @@ fn put_program<'v>(
     around: Option<ChildId>,
 ) -> Result<(), PutStop>
     requires { IsTable terms.old known.old }
-    ensures { OnOk result (IsProgramPut terms.old known.old children.old.items terms.new known.new children.new.items (child_view child.now)) }
+    ensures put { OnOk result (IsProgramPut terms.old known.old children.old.items terms.new known.new children.new.items (child_view child.now)) }
+    ensures laid { OnOk result (IsLaidPut terms.old known.old children.old.items terms.new children.new.items around (child_view child.now)) }
+    ensures besides { OnOk result (IsBesides known.old known.new (names_of_child (child_view child.now))) }
+    ensures unrefused { IsUnrefused result (IsProgramDue terms.old known.old (child_view child.now)) }
 {
     let id = children.len();
     let Some(next) = id.checked_add(1) else {

@@ -1,9 +1,11 @@
 //! The instructions of a machine: their conditions and updates are put into the store.
 
-ghost use Rattle.std.specs.Prelude.{◌≡◌, map, IfOk, OnOk};
+ghost use Rattle.std.specs.Prelude.{◌≡◌, true, map, IfOk, OnOk};
 ghost use Rattle.ila_file.specs.View.{instruction_view, instructions_view};
 ghost use Rattle.ila_build.specs.Standing.{AreIn, IsGrown, IsTable};
-ghost use Rattle.ila_build.specs.Building.{AreInstructionsPut, IsInstructionPut, link_at, pair_of};
+ghost use Rattle.ila_build.specs.Building.{AreInstructionsPut, AreOwnRight, IsInstructionPut, link_at, own_terms, pair_of};
+ghost use Rattle.ila_build.specs.Knowing.{are_right};
+ghost use Rattle.ila_build.specs.Refusing.{IsDue, IsUnrefused};
 
 use crate::putting::put_term;
 use crate::seen::{decode_of, name_of, updates_of};
@@ -52,6 +54,7 @@ fn put_instruction<'v>(
     requires in_store { AreIn terms.old known.now fetch }
     ensures grown { OnOk result (IsGrown terms.old terms.new) }
     ensures put { IfOk result (λ x. IsInstructionPut terms.old known.now fetch terms.new link (instruction_view instruction.now) x) }
+    ensures unrefused { IsUnrefused result (IsDue terms.old known.now fetch (λ names ss. are_right (own_terms names ss (instruction_view instruction.now)) ≡ true)) }
 {
     let Ok(name) = String::from_str(alloc, name_of(instruction)) else {
         return Err(PutStop::NoMemory);
@@ -82,6 +85,7 @@ pub fn put_instructions<'v>(
     requires in_store { AreIn terms.old known.now fetch }
     ensures grown { OnOk result (IsGrown terms.old terms.new) }
     ensures put { IfOk result (λ xs. AreInstructionsPut terms.old known.now fetch terms.new links.now (instructions_view instructions.now) xs.items) }
+    ensures unrefused { IsUnrefused result (IsDue terms.old known.now fetch (λ names ss. AreOwnRight names ss (instructions_view instructions.now))) }
 {
     let mut put = Vec::new(alloc);
     for (place, instruction) in instructions.iter().enumerate() {

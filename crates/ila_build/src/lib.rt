@@ -18,6 +18,7 @@ mod tests;
 mod updating;
 
 pub use child::put_child;
+pub use counting::links_of;
 pub use declaring::{declare_inputs, declare_states, initial_values};
 pub use defining::put_definitions;
 pub use empty::empty_table;
@@ -25,3 +26,4 @@ pub use inside::put_children;
 pub use instructions::put_instructions;
 pub use machine::put_machine;
 pub use putting::put_term;
+pub use seen::states_of;

@@ -1,9 +1,12 @@
 //! The terms of a machine: its definitions, its fetch, its valid condition, and its instructions.
 
-ghost use Rattle.std.specs.Prelude.{◌≡◌, None, IfOk, OnOk};
+ghost use Rattle.std.specs.Prelude.{◌≡◌, true, None, IfOk, OnOk};
 ghost use Rattle.ila_file.specs.View.{fetch_view, machine_view};
 ghost use Rattle.ila_build.specs.Standing.{AreIn, IsGrown, IsKept, IsTable};
-ghost use Rattle.ila_build.specs.Building.{IsFetched, IsMachinePut};
+ghost use Rattle.ila_build.specs.Building.{IsFetched, IsMachinePut, definitions_in};
+ghost use Rattle.ila_build.specs.Knowing.{are_right, defined_names};
+ghost use Rattle.ila_build.specs.Refusing.{IsBesides, IsDue, IsMachineDue, IsUnrefused};
+ghost use Rattle.wb_meaning.specs.ModelFile.Scope.{placed_fetch};
 
 use crate::defining::put_definitions;
 use crate::instructions::put_instructions;
@@ -25,6 +28,7 @@ fn put_fetch<'v>(
     ensures grown { OnOk result (IsGrown terms.old terms.new) }
     ensures in_store { IfOk result (λ f. AreIn terms.new known.now f) }
     ensures fetched { IfOk result (λ f. IsFetched terms.old known.now terms.new (fetch_view fetch.now) f) }
+    ensures unrefused { IsUnrefused result (IsDue terms.old known.now None (λ names ss. are_right (placed_fetch names (fetch_view fetch.now)) ≡ true)) }
 {
     match fetch {
         Some(term) => {
@@ -49,6 +53,8 @@ pub fn put_machine<'v>(
     ensures kept { OnOk result (IsKept known.old known.new) }
     ensures table { OnOk result (IsTable terms.new known.new) }
     ensures put { IfOk result (λ p. IsMachinePut terms.old known.old terms.new known.new links.now (machine_view machine.now) p.0 p.1.items) }
+    ensures besides { OnOk result (IsBesides known.old known.new (defined_names (definitions_in (machine_view machine.now)))) }
+    ensures unrefused { IsUnrefused result (IsMachineDue terms.old known.old (machine_view machine.now)) }
 {
     put_definitions(terms, known, definitions_of(machine))?;
     let fetch = put_fetch(terms, known, fetch_of(machine))?;

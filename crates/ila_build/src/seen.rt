@@ -61,7 +61,7 @@ pub(crate) fn instructions_of<'w, 'v>(
 }
 
 /// The machine's states.
-pub(crate) fn states_of<'w, 'v>(written: &'w WrittenMachine<'v>) -> &'w [WrittenState<'v>]
+pub fn states_of<'w, 'v>(written: &'w WrittenMachine<'v>) -> &'w [WrittenState<'v>]
     ensures { map state_view result.now ≡ states_in (machine_view written.now) }
 {
     &written.states

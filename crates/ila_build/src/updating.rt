@@ -1,11 +1,16 @@
 //! The updates of an instruction: their terms are put, and they are ordered by their states.
 
-ghost use Rattle.std.specs.Prelude.{◌≡◌, ◌<◌, ◌==◌, ℕ, cond, length, map, None, Some, IfOk, IfSome, OnOk};
+ghost use Rattle.std.specs.Prelude.{◌≡◌, ◌<◌, ◌==◌, ℕ, true, false, cond, length, map, None, Some, IfOk, IfSome, OnOk};
 ghost use Rattle.std.specs.Ordering.{nat_cmp};
 ghost use Rattle.std.specs.BTreeMap.{IsOrdered};
 ghost use Rattle.wb_meaning.specs.Verilog.Hierarchy.{first_of};
 ghost use Rattle.ila_file.specs.View.{update_view};
-ghost use Rattle.ila_build.specs.Standing.{AreIn, IsGrown, IsTable, under_name};
+ghost use Rattle.wb_terms.specs.Graph.{tree};
+ghost use Rattle.wb_meaning.specs.Model.{state_named};
+ghost use Rattle.wb_meaning.specs.ModelFile.Scope.{of_update, placed, placed_updates};
+ghost use Rattle.ila_build.specs.Standing.{AreIn, IsGrown, IsTable, seen, under_name};
+ghost use Rattle.ila_build.specs.Knowing.{are_right, is_right};
+ghost use Rattle.ila_build.specs.Refusing.{IsDue, IsUnrefused, is_leaf};
 ghost use Rattle.ila_build.specs.Updating.{AreUpdated, ChoosesOne, IsLeafOf, chosen};
 
 use crate::putting::{put_term, under_name};
@@ -21,7 +26,8 @@ fn declared_id<'v>(
     name: &'v str,
 ) -> Option<NameId>
     requires { AreIn terms.now known.now None }
-    ensures { IfSome result (λ i. IsLeafOf terms.now i (under_name known.now name.now)) }
+    ensures leaf { IfSome result (λ i. IsLeafOf terms.now i (under_name known.now name.now)) }
+    ensures none { result ≡ None → is_leaf (seen terms.now (under_name known.now name.now)) ≡ false }
 {
     match under_name(known, name) {
         Some(term) => name_of(terms, term),
@@ -32,7 +38,8 @@ fn declared_id<'v>(
 /// The declared name that a term is, if it is one.
 fn name_of(terms: &Terms, term: TermId) -> Option<NameId>
     requires { term.0 < length terms.now.nodes }
-    ensures { IfSome result (λ i. IsLeafOf terms.now i (Some term)) }
+    ensures leaf { IfSome result (λ i. IsLeafOf terms.now i (Some term)) }
+    ensures none { result ≡ None → is_leaf (tree terms.now term.0) ≡ false }
 {
     match *terms.node(term) {
         Node::Name(id) => Some(id),
@@ -62,6 +69,7 @@ fn put_update<'v>(
     requires in_store { AreIn terms.old known.now fetch }
     ensures grown { OnOk result (IsGrown terms.old terms.new) }
     ensures chosen { OnOk result (ChoosesOne terms.old known.now fetch terms.new table.old table.new (update_view update.now)) }
+    ensures unrefused { IsUnrefused result (IsDue terms.old known.now fetch (λ names ss. is_right (placed names (update_view update.now).1 (of_update (update_view update.now).0 (state_named ss (update_view update.now).0))) ≡ true)) }
 {
     let _names = terms.name_count();
     let Some(state) = declared_id(terms, known, update.state) else {
@@ -101,6 +109,7 @@ pub(crate) fn put_updates<'v>(
     requires in_store { AreIn terms.old known.now fetch }
     ensures grown { OnOk result (IsGrown terms.old terms.new) }
     ensures updates { IfOk result (λ us. AreUpdated terms.old known.now fetch terms.new us.items (map update_view updates.now)) }
+    ensures unrefused { IsUnrefused result (IsDue terms.old known.now fetch (λ names ss. are_right (placed_updates names ss (map update_view updates.now)) ≡ true)) }
 {
     let _names = terms.name_count();
     let mut table = BTreeMap::new(alloc);

@@ -1,8 +1,17 @@
--- The rule by which a model file's reading refuses it.
-use Rattle.std.specs.Prelude.{◌≡◌, Option, Some, None, option_map}
-use Rattle.wb_meaning.specs.ModelFile.Meaning.{ModelReading, stands_for, refused_by, ModelRule}
+-- What the calls answer of a model file, beside its reading.
+use Rattle.std.specs.Prelude.{◌≡◌, true, ⊤, Option, Some, None, option_map, Result, Ok, Err}
+use Rattle.serde_json.specs.Data.{Data}
+use Rattle.wb_meaning.specs.ModelFile.Meaning as meaning
+use Rattle.wb_meaning.specs.ModelFile.Meaning.{ModelReading, stands_for, refused_by, ModelRule, broken_rule, of_document}
+use Rattle.ila_file.specs.declared.written.WrittenModel.{WrittenModel}
+use Rattle.ila_file.specs.View.{model_view}
 use Rattle.ila_rules.specs.Rule.{rule_view}
 use Rattle.ila_rules.specs.declared.rule.ModelRefusal.{ModelRefusal}
+use Rattle.ila_model.specs.declared.model.IlaModel.{IlaModel}
+use Rattle.ila_model.specs.Model.{model_of}
+use Rattle.ila_whole.specs.Shaped.{is_shaped}
+use Rattle.ila_json.specs.declared.stop.ModelStop.{ModelStop}
+use Rattle.ila_json.specs.declared.stop.ModelStop.TheVariants.{Refused, NoMemory}
 
 -- None where the bytes stand for a model.
 abbrev pub refusal_in : ModelReading → Option ModelRule
@@ -12,3 +21,28 @@ refusal_in (refused_by rule) = Some rule
 -- what the code found is the refusal of the reading
 abbrev pub IsRefusalIn : Option ModelRefusal → ModelReading → Type 0
 IsRefusalIn found reading = option_map (λ r. rule_view r.rule) found ≡ refusal_in reading
+
+-- The reading is the refusal at which a call stopped, unless that was for want of memory.
+abbrev pub IsStoppedBy : ModelStop → ModelReading → Type 0
+IsStoppedBy (Refused r) reading = reading ≡ refused_by (rule_view r.rule)
+IsStoppedBy NoMemory reading = ⊤
+
+-- the data of the bytes, by a view of it, or the refusal of bytes that have none
+abbrev pub IsDocument : {T : Type 0} → (T → Data) → Result T ModelStop → Option Data → Type 0
+IsDocument view (Ok x) d = d ≡ Some (view x)
+IsDocument view (Err s) d = IsStoppedBy s (of_document d)
+
+-- the written model, which no rule refuses, or the refusal
+abbrev pub IsWritten : Result WrittenModel ModelStop → ModelReading → Type 0
+IsWritten (Ok w) reading = (reading ≡ stands_for (meaning.model_of (model_view w))) × (broken_rule (model_view w) ≡ None) × (is_shaped (model_view w) ≡ true)
+IsWritten (Err s) reading = IsStoppedBy s reading
+
+-- no rule refuses, or the refusal
+abbrev pub IsJudged : Result ⊤ ModelStop → ModelReading → Type 0
+IsJudged (Ok u) reading = refusal_in reading ≡ None
+IsJudged (Err s) reading = IsStoppedBy s reading
+
+-- the model that the bytes stand for, or the refusal
+abbrev pub IsModelRead : Result IlaModel ModelStop → ModelReading → Type 0
+IsModelRead (Ok m) reading = reading ≡ stands_for (model_of m)
+IsModelRead (Err s) reading = IsStoppedBy s reading

@@ -1,9 +1,11 @@
-//! Model files by their bytes: the first rule that refuses each.
+//! Model files by their bytes: the model of each, or the first rule that refuses it.
 #![tactic(auto)]
 
 mod reading;
+mod stop;
 
-pub use reading::model_refusal;
+pub use reading::{model_refusal, read_model};
+pub use stop::ModelStop;
 
 #[cfg(test)]
 mod tests;

@@ -2,38 +2,78 @@
 
 ghost use Rattle.std.specs.Prelude.{◌≡◌, IfOk};
 ghost use Rattle.serde_json.specs.View.{view};
-ghost use Rattle.wb_meaning.specs.ModelFile.Shape.{model_in};
+ghost use Rattle.wb_meaning.specs.ModelFile.Shape.{document, model_in};
 ghost use Rattle.wb_meaning.specs.ModelFile.Meaning as meaning;
 ghost use Rattle.wb_meaning.specs.ModelFile.Meaning.{reading_of, of_shape, with_known_keys, judged, broken_rule, refused_by};
 ghost use Rattle.ila_file.specs.View.{model_view};
 ghost use Rattle.ila_rules.specs.Rule.{rule_view};
-ghost use Rattle.ila_json.specs.Reading.{IsRefusalIn};
+ghost use Rattle.ila_json.specs.Reading.{IsDocument, IsJudged, IsModelRead, IsRefusalIn, IsStoppedBy, IsWritten};
 
+use crate::ModelStop;
 use ila_file::{NoMemory, Note, ShapeStop, WrittenModel, read_shape, unknown_key};
+use ila_model::IlaModel;
 use ila_rules::{ModelRefusal, ModelRule, broken_rule};
+use ila_whole::whole_model;
 use serde_json::{Error, Value};
 use std::alloc::{AllocError, Global};
+
+/// The model that the bytes of a model file stand for, or the first rule, in the order in which they are judged, that refuses
+/// them, with its place.
+pub fn read_model(alloc: Global, bytes: &[u8]) -> Result<IlaModel, ModelStop>
+    ensures { IsModelRead result (reading_of bytes.now) }
+{
+    let value = read_document(alloc, bytes)?;
+    let written = read_written(alloc, &value)?;
+    let model = whole_model(alloc, &written)?;
+    Ok(model)
+}
 
 /// The first rule, in the order in which they are judged, that refuses the bytes of a model file, with its place; none exactly
 /// where the bytes stand for a model.
 pub fn model_refusal(alloc: Global, bytes: &[u8]) -> Result<Option<ModelRefusal>, NoMemory>
     ensures { IfOk result (λ found. IsRefusalIn found (reading_of bytes.now)) }
 {
-    match Value::from_slice(alloc, bytes) {
-        Ok(value) => of_data(alloc, &value),
-        Err(error) if error.is_memory() => Err(AllocError),
-        Err(error) => no_document(alloc, &error),
+    match judge_bytes(alloc, bytes) {
+        Ok(()) => Ok(None),
+        Err(ModelStop::Refused(refusal)) => Ok(Some(refusal)),
+        Err(ModelStop::NoMemory) => Err(AllocError),
     }
 }
 
-/// The refusal of the data of a file.
-fn of_data(alloc: Global, value: &Value) -> Result<Option<ModelRefusal>, NoMemory>
-    ensures { IfOk result (λ found. IsRefusalIn found (of_shape (view value.now) (model_in (view value.now)))) }
+/// Judges the bytes of a model file.
+fn judge_bytes(alloc: Global, bytes: &[u8]) -> Result<(), ModelStop>
+    ensures { IsJudged result (reading_of bytes.now) }
+{
+    let value = read_document(alloc, bytes)?;
+    read_written(alloc, &value)?;
+    Ok(())
+}
+
+/// The data of a file's bytes.
+fn read_document(alloc: Global, bytes: &[u8]) -> Result<Value, ModelStop>
+    ensures { IsDocument view result (document bytes.now) }
+{
+    match Value::from_slice(alloc, bytes) {
+        Ok(value) => Ok(value),
+        Err(error) if error.is_memory() => Err(ModelStop::NoMemory),
+        Err(error) => Err(no_document(alloc, &error)),
+    }
+}
+
+/// The written model of a file's data, where no rule refuses it.
+fn read_written<'v>(alloc: Global, value: &'v Value) -> Result<WrittenModel<'v>, ModelStop>
+    ensures { IsWritten result (of_shape (view value.now) (model_in (view value.now))) }
 {
     match read_shape(alloc, value) {
-        Ok(written) => with_known_keys(alloc, value, &written),
-        Err(ShapeStop::Refused(note)) => Ok(Some(refused(ModelRule::BadShape, note))),
-        Err(ShapeStop::NoMemory) => Err(AllocError),
+        Ok(written) => {
+            let found = with_known_keys(alloc, value, &written)?;
+            match found {
+                Some(refusal) => Err(ModelStop::Refused(refusal)),
+                None => Ok(written),
+            }
+        }
+        Err(ShapeStop::Refused(note)) => Err(ModelStop::Refused(refused(ModelRule::BadShape, note))),
+        Err(ShapeStop::NoMemory) => Err(ModelStop::NoMemory),
     }
 }
 
@@ -67,11 +107,13 @@ fn refused(rule: ModelRule, note: Note) -> ModelRefusal
 
 /// The refusal of bytes that are no JSON document, with the line and the column (from 1 on) at which the reader stopped, where
 /// it knows them.
-fn no_document(alloc: Global, error: &Error) -> Result<Option<ModelRefusal>, NoMemory>
-    ensures { IfOk result (λ found. IsRefusalIn found (refused_by meaning.BadJson)) }
+fn no_document(alloc: Global, error: &Error) -> ModelStop
+    ensures { IsStoppedBy result (refused_by meaning.BadJson) }
 {
-    let note = json_note(alloc, error)?;
-    Ok(Some(refused(ModelRule::BadJson, note)))
+    match json_note(alloc, error) {
+        Ok(note) => ModelStop::Refused(refused(ModelRule::BadJson, note)),
+        Err(_) => ModelStop::NoMemory,
+    }
 }
 
 fn json_note(alloc: Global, error: &Error) -> Result<Note, NoMemory> {

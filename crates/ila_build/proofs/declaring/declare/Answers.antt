@@ -6,7 +6,8 @@ use Rattle.wb_terms.specs.declared.nodes.Node.TheVariants.{Name as NameNode}
 use Rattle.wb_terms.specs.Graph.{tree_of_node}
 use Rattle.wb_terms.specs.Sort.{as_sort}
 use Rattle.ila_build.specs.Standing.{under_name}
-use Rattle.ila_build.proofs.Definitions.{on_ok, kept, none_of}
+use Rattle.ila_build.proofs.Definitions.{on_ok, kept, none_of, aside}
+use Rattle.ila_build.proofs.Fresh.{besides_one}
 use Rattle.ila_build.proofs.Declared.{absent, wide_declared, table_declared}
 use Rattle.ila_build.proofs.declaring.declare.Goals as goal
 
@@ -33,3 +34,9 @@ returns-clause-table c =
     table_declared c.args.terms.now c.declare.new.self c.put.new.self c.args.known.now c.remember.new.known (string_bytes c.in-Ok.text) (as_sort c.in-Some.sort) c.in_ok-id.id c.in_ok-term.term
     c.requires keep c.in_ok-id.ensures.ok c.in_ok-id.ensures.trees c.in_ok-id.ensures.id c.in_ok-term.ensures.ok c.in_ok-term.ensures.trees c.in_ok-term.ensures.id
     (subst (λ n. (q : List ℕ) → under_name c.remember.new.known q ≡ cond (same_name n q) (Some c.in_ok-term.term) (under_name c.args.known.now q)) (sym c.in-Ok.ensures.ok) new)
+
+pub returns-clause-besides : goal.returns-clause-besides
+returns-clause-besides c =
+    let ok = c.is_err.ensures.negation ∙ ap not c.if-is_err.false in
+    let new = on_ok c.remember.result _ ok c.remember.ensures in
+    besides_one c.args.known.now c.remember.new.known c.args.name.now (aside c.args.known.now c.remember.new.known c.args.name.now c.in_ok-term.term new)

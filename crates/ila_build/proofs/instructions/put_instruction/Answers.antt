@@ -1,9 +1,19 @@
-use Rattle.std.proofs.Common.{◌∙◌, map, None, refl}
+use Rattle.std.proofs.Common.{◌≡◌, ◌∙◌, true, map, None, refl, sym, subst}
 use Rattle.ila_file.specs.View.{instruction_view, term_view, update_view}
+use Rattle.std.specs.Prelude.{Err}
 use Rattle.ila_build.proofs.Growing.{wider, are_in-grown}
 use Rattle.ila_build.proofs.Definitions.{kept_same}
 use Rattle.ila_build.proofs.Declared.{in_table, table_grown}
 use Rattle.ila_build.proofs.InstructionLemmas.{instruction_put}
+use Rattle.std.proofs.lemmas.Result.{err_from_is_err_and}
+use Rattle.wb_meaning.specs.ModelFile.Scope.{of_condition, placed, placed_updates}
+use Rattle.ila_build.specs.Standing.{IsPut, seen_by, term_by}
+use Rattle.ila_build.specs.Knowing.{are_right}
+use Rattle.ila_build.specs.Building.{decode_in, update_in, own_terms}
+use Rattle.ila_build.specs.Refusing.{IsNoRefusal, IsDue}
+use Rattle.ila_build.proofs.Definitions.{first_right}
+use Rattle.ila_build.proofs.Fresh.{unrefused_by}
+use Rattle.ila_build.proofs.Unrefused.{term_lost, due_grown}
 use Rattle.ila_build.proofs.instructions.put_instruction.Goals as goal
 
 pub put_updates-requires-clause-table : goal.put_updates-requires-clause-table
@@ -18,3 +28,20 @@ pub returns-clause-put : goal.returns-clause-put
 returns-clause-put c =
     instruction_put c.args.terms.now c.put_term.new.terms c.put_updates.new.terms c.args.known.now c.args.fetch c.args.link (instruction_view c.args.instruction.now) (term_view c.decode_of.result.now) (map update_view c.updates_of.result.now) c.in_ok-decode.decode c.in_ok-pairs.pairs.items _
     c.decode_of.ensures c.updates_of.ensures c.in_ok-decode.ensures c.in_ok-pairs.ensures.grown c.in_ok-pairs.ensures.updates (c.in-Ok.ensures.ok ∙ c.name_of.ensures) refl (c.in-Ok-as_updates.ensures ∙ c.deref.ensures.value) refl
+
+pub returns-in_err-decode-clause-unrefused : goal.returns-in_err-decode-clause-unrefused
+returns-in_err-decode-clause-unrefused c =
+    let p = err_from_is_err_and c.from_residual.result c.from_residual.ensures.1 in
+    let w = instruction_view c.args.instruction.now in
+    rw (p.1, p.2) (term_lost c.args.terms.now c.put_term.new.terms c.args.known.now c.args.fetch (decode_in w) (λ ss. of_condition) (λ names ss. are_right (own_terms names ss w) ≡ true) c.in_err-decode.field-0.0
+    (λ names ss r. (first_right (placed names (decode_in w) of_condition) (placed_updates names ss (update_in w)) r).0)
+    (subst (λ e. IsPut c.args.terms.now c.put_term.new.terms (Err c.in_err-decode.field-0.0) (term_by (seen_by c.args.terms.now c.args.known.now c.args.fetch) e)) c.decode_of.ensures c.in_err-decode.ensures))
+
+pub returns-in_err-pairs-clause-unrefused : goal.returns-in_err-pairs-clause-unrefused
+returns-in_err-pairs-clause-unrefused c =
+    let p = err_from_is_err_and c.from_residual-in_err-pairs.result c.from_residual-in_err-pairs.ensures.1 in
+    let w = instruction_view c.args.instruction.now in
+    let lost = subst (λ us. IsNoRefusal c.in_err-pairs.field-0.0 (IsDue c.put_term.new.terms c.args.known.now c.args.fetch (λ names ss. are_right (placed_updates names ss us) ≡ true))) c.updates_of.ensures c.in_err-pairs.ensures.unrefused in
+    rw (p.1, p.2) (unrefused_by _ (IsDue c.args.terms.now c.args.known.now c.args.fetch (λ names ss. are_right (own_terms names ss w) ≡ true)) c.in_err-pairs.field-0.0
+    (due_grown c.args.terms.now c.put_term.new.terms c.args.known.now c.args.fetch (λ names ss. are_right (own_terms names ss w) ≡ true) (λ names ss. are_right (placed_updates names ss (update_in w)) ≡ true) c.in_ok-decode.ensures.0
+    (λ names ss r. (first_right (placed names (decode_in w) of_condition) (placed_updates names ss (update_in w)) r).1)) lost)

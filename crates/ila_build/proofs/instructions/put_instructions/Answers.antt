@@ -4,6 +4,8 @@ use Rattle.ila_build.proofs.Growing.{same, onward, wider, are_in-grown}
 use Rattle.ila_build.proofs.Definitions.{kept_same, rest_cut, rest_end}
 use Rattle.ila_build.proofs.Declared.{in_table, table_grown}
 use Rattle.ila_build.proofs.InstructionLemmas.{AreToPut, put_start, put_turn, put_end}
+use Rattle.std.proofs.lemmas.Result.{err_from_is_err_and}
+use Rattle.ila_build.proofs.Unrefused.{instructions_lost}
 use Rattle.ila_build.proofs.instructions.put_instructions.Goals as goal
 
 pub loop-place-init : goal.loop-place-init
@@ -44,3 +46,13 @@ returns-clause-put c =
     let all = instructions_view is in
     put_end c.args.terms.now c.loop-place.terms c.args.known.now c.args.fetch c.args.links.now c.loop-place.put.items i all
     (subst (λ rest. AreToPut c.args.terms.now c.args.known.now c.args.fetch c.loop-place.terms c.args.links.now c.loop-place.put.items i rest all) (ap instructions_from (rest_end instruction_view is i h)) c.loop-place.invariant.1)
+
+pub returns-in_err-one-clause-unrefused : goal.returns-in_err-one-clause-unrefused
+returns-in_err-one-clause-unrefused c =
+    let p = err_from_is_err_and c.from_residual.result c.from_residual.ensures.1 in
+    let is = c.args.instructions.now in
+    let i = c.loop-place.place in
+    let w = c.index-instructions-place.result in
+    let h : i < length is = omega arith in
+    rw (p.1, p.2) (instructions_lost c.args.terms.now c.loop-place.terms c.args.known.now c.args.fetch c.args.links.now c.loop-place.put.items i (instruction_view w) (instructions_view (drop i is)) (instructions_view (drop (i + 1) is)) (instructions_view is) c.in_err-one.field-0.0
+    (ap instructions_from (rest_cut instruction_view is i w h c.index-instructions-place.is)) c.loop-place.invariant.0 c.loop-place.invariant.1 c.in_err-one.ensures.unrefused)

@@ -1,8 +1,12 @@
-use Rattle.std.proofs.Common.{map, None}
+use Rattle.std.proofs.Common.{◌≡◌, map, None, subst}
 use Rattle.ila_file.specs.View.{definition_view, fetch_view, term_view, instructions_view, machine_view}
 use Rattle.ila_build.proofs.Growing.{onward, wider, are_in-grown}
 use Rattle.ila_build.proofs.Declared.{in_table, table_grown}
 use Rattle.ila_build.proofs.MachineLemmas.{machine_put}
+use Rattle.std.proofs.lemmas.Result.{err_from_is_err_and}
+use Rattle.ila_build.specs.Knowing.{defined_names}
+use Rattle.ila_build.specs.Refusing.{IsBesides}
+use Rattle.ila_build.proofs.Unrefused.{definitions_lost, fetch_lost, valid_lost, own_lost}
 use Rattle.ila_build.proofs.machine.put_machine.Goals as goal
 
 pub put_definitions-requires : goal.put_definitions-requires
@@ -31,3 +35,29 @@ returns-clause-put c =
     (map definition_view c.definitions_of.result.now) (fetch_view c.fetch_of.result.now) (term_view c.valid_of.result.now) (instructions_view c.instructions_of.result.now) c.in_ok-fetch.fetch c.in_ok-valid.valid c.in_ok-instructions.instructions.items
     c.definitions_of.ensures c.fetch_of.ensures c.valid_of.ensures c.instructions_of.ensures
     c.in_ok-put_definitions.ensures.grown c.in_ok-put_definitions.ensures.defined c.in_ok-fetch.ensures.grown c.in_ok-fetch.ensures.fetched c.in_ok-valid.ensures c.in_ok-instructions.ensures.grown c.in_ok-instructions.ensures.put
+
+pub returns-clause-besides : goal.returns-clause-besides
+returns-clause-besides c = subst (λ ds. IsBesides c.args.known.now c.put_definitions.new.known (defined_names ds)) c.definitions_of.ensures c.in_ok-put_definitions.ensures.besides
+
+pub returns-in_err-put_definitions-clause-unrefused : goal.returns-in_err-put_definitions-clause-unrefused
+returns-in_err-put_definitions-clause-unrefused c =
+    let p = err_from_is_err_and c.from_residual.result c.from_residual.ensures.1 in
+    rw (p.1, p.2) (definitions_lost c.args.terms.now c.put_definitions.new.terms c.args.known.now c.put_definitions.new.known (map definition_view c.definitions_of.result.now) (machine_view c.args.machine.now) c.in_err-put_definitions.field-0.0 c.definitions_of.ensures c.in_err-put_definitions.ensures.defined)
+
+pub returns-in_err-fetch-clause-unrefused : goal.returns-in_err-fetch-clause-unrefused
+returns-in_err-fetch-clause-unrefused c =
+    let p = err_from_is_err_and c.from_residual-in_err-fetch.result c.from_residual-in_err-fetch.ensures.1 in
+    rw (p.1, p.2) (fetch_lost c.args.terms.now c.put_definitions.new.terms c.args.known.now c.put_definitions.new.known (map definition_view c.definitions_of.result.now) (fetch_view c.fetch_of.result.now) (machine_view c.args.machine.now) c.in_err-fetch.field-0.0
+    c.definitions_of.ensures c.fetch_of.ensures c.in_ok-put_definitions.ensures.grown c.in_ok-put_definitions.ensures.defined c.in_err-fetch.ensures.unrefused)
+
+pub returns-in_err-valid-clause-unrefused : goal.returns-in_err-valid-clause-unrefused
+returns-in_err-valid-clause-unrefused c =
+    let p = err_from_is_err_and c.from_residual-in_err-valid.result c.from_residual-in_err-valid.ensures.1 in
+    rw (p.1, p.2) (valid_lost c.args.terms.now c.put_definitions.new.terms c.put_fetch.new.terms c.put_term.new.terms c.args.known.now c.put_definitions.new.known (map definition_view c.definitions_of.result.now) (fetch_view c.fetch_of.result.now) (term_view c.valid_of.result.now) c.in_ok-fetch.fetch (machine_view c.args.machine.now) c.in_err-valid.field-0.0
+    c.definitions_of.ensures c.fetch_of.ensures c.valid_of.ensures c.in_ok-put_definitions.ensures.grown c.in_ok-put_definitions.ensures.defined c.in_ok-fetch.ensures.grown c.in_ok-fetch.ensures.fetched c.in_err-valid.ensures)
+
+pub returns-in_err-instructions-clause-unrefused : goal.returns-in_err-instructions-clause-unrefused
+returns-in_err-instructions-clause-unrefused c =
+    let p = err_from_is_err_and c.from_residual-in_err-instructions.result c.from_residual-in_err-instructions.ensures.1 in
+    rw (p.1, p.2) (own_lost c.args.terms.now c.put_definitions.new.terms c.put_fetch.new.terms c.put_term.new.terms c.args.known.now c.put_definitions.new.known (map definition_view c.definitions_of.result.now) (fetch_view c.fetch_of.result.now) (instructions_view c.instructions_of.result.now) c.in_ok-fetch.fetch (machine_view c.args.machine.now) c.in_err-instructions.field-0.0
+    c.definitions_of.ensures c.fetch_of.ensures c.instructions_of.ensures c.in_ok-put_definitions.ensures.grown c.in_ok-put_definitions.ensures.defined c.in_ok-fetch.ensures.grown c.in_ok-fetch.ensures.fetched c.in_ok-valid.ensures.0 c.in_err-instructions.ensures.unrefused)

@@ -5,6 +5,8 @@ use Rattle.ila_build.proofs.Growing.{same, onward, wider, are_in-grown}
 use Rattle.ila_build.proofs.Definitions.{kept_same, rest_cut, rest_end}
 use Rattle.ila_build.proofs.Declared.{in_table, table_grown}
 use Rattle.ila_build.proofs.Chosen.{AreToChoose, choose_start, choose_turn, choose_end}
+use Rattle.std.proofs.lemmas.Result.{err_from_is_err_and}
+use Rattle.ila_build.proofs.Unrefused.{updates_lost}
 use Rattle.ila_build.proofs.updating.put_updates.Goals as goal
 
 pub loop-update-init : goal.loop-update-init
@@ -39,3 +41,13 @@ returns-clause-updates c =
     let at = subst (λ rest. AreToChoose c.args.terms.now c.args.known.now c.args.fetch c.loop-update.terms c.loop-update.table rest all) (rest_end update_view us i h) c.loop-update.invariant.1 in
     subst (λ es. AreUpdated c.args.terms.now c.args.known.now c.args.fetch c.loop-update.terms es all) (sym c.in-Ok.ensures.updates)
     (choose_end c.args.terms.now c.loop-update.terms c.args.known.now c.args.fetch c.loop-update.table all c.name_count-names.ensures.distinct c.loop-update.invariant.0 c.in-Ok.ensures.ordered at)
+
+pub returns-in_err-put_update-clause-unrefused : goal.returns-in_err-put_update-clause-unrefused
+returns-in_err-put_update-clause-unrefused c =
+    let p = err_from_is_err_and c.from_residual.result c.from_residual.ensures.1 in
+    let us = c.args.updates.now in
+    let i = c.loop-update.update-index in
+    let u = c.update-item.result in
+    let h : i < length us = omega arith in
+    rw (p.1, p.2) (updates_lost c.args.terms.now c.loop-update.terms c.args.known.now c.args.fetch c.loop-update.table (update_view u) (map update_view (drop i us)) (map update_view (drop (i + 1) us)) (map update_view us) c.in_err-put_update.field-0.0
+    (rest_cut update_view us i u h c.update-item.is) c.loop-update.invariant.0 c.loop-update.invariant.1 c.in_err-put_update.ensures.unrefused)

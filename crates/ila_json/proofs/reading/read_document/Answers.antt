@@ -1,24 +1,21 @@
-use Rattle.std.proofs.Common.{◌≡◌, List, ℕ, Bool, true, false, cond, Some, None, refl, sym, ◌∙◌, subst, true≢false, IsUtf8, IfOk}
+use Rattle.std.proofs.Common.{◌≡◌, List, ℕ, Bool, true, false, cond, Some, None, refl, sym, ◌∙◌, subst, true≢false, IsUtf8}
 use Rattle.std.specs.Str.{is_utf8}
 use Rattle.std.proofs.lemmas.Str.{is_utf8-from_IsUtf8, IsUtf8-from_is_utf8}
 use Rattle.serde_json.specs.Read.{read}
-use Rattle.serde_json.specs.View.{view}
 use Rattle.wb_meaning.specs.ModelFile.Shape.{document}
 use Rattle.wb_meaning.specs.ModelFile.Meaning.{of_document}
-use Rattle.ila_json.specs.Reading.{IsRefusalIn}
-use Rattle.ila_json.proofs.reading.model_refusal.Goals as goal
+use Rattle.ila_json.specs.Reading.{IsStoppedBy}
+use Rattle.ila_json.proofs.reading.read_document.Goals as goal
 
 refused : (bytes : List ℕ) (u : Bool) → is_utf8 bytes ≡ u → (IsUtf8 bytes → read bytes ≡ None) → cond u (read bytes) None ≡ None
 refused bytes true e h = h (IsUtf8-from_is_utf8 bytes e)
 refused bytes false e h = refl
 
 pub returns-in-Ok : goal.returns-in-Ok
-returns-in-Ok c =
-    let found : document c.args.bytes.now ≡ Some (view c.in-Ok.value) = rw (is_utf8-from_IsUtf8 c.args.bytes.now c.in-Ok.ensures.ok.0) c.in-Ok.ensures.ok.1 in
-    subst (λ d. IfOk c.of_data.result (λ o. IsRefusalIn o (of_document d))) (sym found) c.of_data.ensures
+returns-in-Ok c = rw (is_utf8-from_IsUtf8 c.args.bytes.now c.in-Ok.ensures.ok.0) c.in-Ok.ensures.ok.1
 
 pub returns-in-Err-2 : goal.returns-in-Err-2
 returns-in-Err-2 c =
     let none : document c.args.bytes.now ≡ None =
     refused c.args.bytes.now _ refl (c.in-Err.ensures.err (λ m. true≢false (sym (c.is_memory.ensures.1 m) ∙ c.if-is_memory.false))) in
-    subst (λ d. IfOk c.no_document.result (λ o. IsRefusalIn o (of_document d))) (sym none) c.no_document.ensures
+    subst (λ d. IsStoppedBy c.no_document.result (of_document d)) (sym none) c.no_document.ensures

@@ -1,0 +1,16 @@
+use Rattle.std.proofs.Common.{◌≡◌, ◌∙◌}
+use Rattle.std.specs.String.{string_bytes}
+use Rattle.ila_file.specs.View.{model_view}
+use Rattle.ila_model.specs.Meaning.{model_from}
+use Rattle.ila_model.specs.Model.{model_of}
+use Rattle.ila_whole.proofs.Reading.{parts_model}
+use Rattle.ila_whole.proofs.SortedParts.{never_none, of_some}
+use Rattle.ila_whole.proofs.whole.whole_model.Goals as goal
+
+pub unreachable-requires : goal.unreachable-requires
+unreachable-requires c = never_none (model_view c.args.written.now) c.in-Ok.parts c.in_ok-model-in-Ok.field-0 c.in-Ok.ensures.sorted (c.requires.unbroken, c.requires.shaped) c.in_ok-model-in-Ok.ensures.well_sorted c.in-None.is
+
+pub returns-in-Some : goal.returns-in-Some
+returns-in-Some c =
+    of_some c.in_ok-model-in-Ok.field-0 c.in-Some.model (λ m. model_of m ≡ model_from (string_bytes c.in_ok-name.name) c.in-Ok.parts) c.in_ok-model-in-Ok.ensures.model c.in-Some.is
+    ∙ parts_model (model_view c.args.written.now) c.in-Ok.parts _ c.in-Ok.ensures.parts c.requires.unbroken c.in_ok-name.ensures.ok
