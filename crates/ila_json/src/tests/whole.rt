@@ -82,9 +82,13 @@ fn first_number(model: &IlaModel) -> Option<u128> {
 
 #[test]
 fn first_initial_value(rt: HostRuntime) -> Result<(), Fail> {
-    match read_model(rt.alloc(), machine::MACHINE.as_bytes()) {
-        Ok(model) if first_number(&model) == Some(31) => Ok(()),
-        _ => Err("the machine's p begins with another value".into()),
+    let Ok(model) = read_model(rt.alloc(), machine::MACHINE.as_bytes()) else {
+        return Err("the machine is no model".into());
+    };
+    if first_number(&model) == Some(31) {
+        Ok(())
+    } else {
+        Err("the machine's p begins with another value".into())
     }
 }
 
