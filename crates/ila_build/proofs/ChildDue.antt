@@ -1,23 +1,21 @@
 -- Child programs that are right in some scope, with new names, are not refused.
-use Rattle.std.proofs.Common.{◌≡◌, ℕ, true, List, [], ◌∷◌, ◌++◌, map, length, Bor, Option, None, refl, sym, ap, ◌∙◌, subst, arith, append_assoc}
+use Rattle.std.proofs.Common.{◌≡◌, ℕ, true, List, [], ◌∷◌, ◌++◌, map, length, Bor, Option, refl, sym, ap, ◌∙◌, subst, arith, append_assoc}
 use Rattle.std.specs.BTreeMap.{BTreeMap}
-use Rattle.wb_meaning.specs.Value.{Name, Entries}
 use Rattle.wb_meaning.specs.Model.{StateDeclaration}
-use Rattle.wb_meaning.specs.ModelFile.Written.{WrittenInstruction, instruction, WrittenInstructions, no_instructions, and_then, WrittenMachine, machine, WrittenChild, no_child, child, states_in, machines_below, machines_of_child}
+use Rattle.wb_meaning.specs.ModelFile.Written.{WrittenInstruction, instruction, WrittenInstructions, and_then, WrittenMachine, machine, WrittenChild, no_child, child, states_in, machines_below, machines_of_child}
 use Rattle.wb_meaning.specs.ModelFile.Names.{data_names, joined}
-use Rattle.wb_meaning.specs.ModelFile.Scope.{Visible, Scope, with_states, with_definitions, with_fetch, terms_below, terms_of_child}
+use Rattle.wb_meaning.specs.ModelFile.Scope.{Scope, with_states, with_definitions, with_fetch, terms_below}
 use Rattle.wb_terms.specs.declared.nodes.TermId.{TermId}
 use Rattle.wb_terms.specs.declared.store.PutStop.{PutStop}
 use Rattle.wb_terms.specs.Graph.{Graph}
 use Rattle.ila_model.specs.declared.parts.Child.{Child}
 use Rattle.ila_model.specs.declared.parts.ChildId.{ChildId}
 use Rattle.ila_build.specs.Standing.{IsFresh, IsTable, IsKept, IsWider}
-use Rattle.ila_build.specs.Knowing.{Knows, are_right, defined_names}
-use Rattle.ila_build.specs.Updating.{StandAt}
+use Rattle.ila_build.specs.Knowing.{are_right, defined_names}
 use Rattle.ila_build.specs.Declaring.{state_entry}
 use Rattle.ila_build.specs.Building.{IsMachineRight, IsInside, IsChildPut, definitions_in, instructions_in}
 use Rattle.ila_build.specs.Inside.{program_in}
-use Rattle.ila_build.specs.Refusing.{IsNoRefusal, IsBesides, IsDue, IsMachineDue, IsChildDue, AreBelowDue, IsProgramDue, AreFitBelow, IsFitOf, IsFitChild, IsFitMachine, entry_names, are_sorts, names_below, names_of_child}
+use Rattle.ila_build.specs.Refusing.{IsNoRefusal, IsBesides, IsMachineDue, IsChildDue, AreBelowDue, IsProgramDue, AreFitBelow, IsFitChild, entry_names, are_sorts, names_below, names_of_child}
 use Rattle.ila_build.proofs.Definitions.{knows_kept}
 use Rattle.ila_build.proofs.Fresh.{unrefused_by, fresh_front, fresh_behind, besides_onward, IsBringing, bring_turn}
 use Rattle.ila_build.proofs.ChildLemmas.{knows_states, declared_last, places_from, stand_more}

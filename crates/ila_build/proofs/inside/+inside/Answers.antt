@@ -1,6 +1,6 @@
-use Rattle.std.proofs.Common.{rules, ◌≡◌, ◌+◌, ◌<◌, ◌≤◌, ◌∙◌, suc, Some, not, length, drop, ap, sym, subst, arith}
-use Rattle.wb_meaning.specs.ModelFile.Written.{no_child, child}
-use Rattle.ila_file.specs.View.{child_view, instruction_view, instructions_view, instructions_from, machine_view}
+use Rattle.std.proofs.Common.{◌≡◌, ◌+◌, ◌<◌, ◌≤◌, ◌∙◌, suc, Some, not, length, drop, ap, sym, subst, arith}
+use Rattle.wb_meaning.specs.ModelFile.Written.{no_child}
+use Rattle.ila_file.specs.View.{instruction_view, instructions_view, instructions_from, machine_view}
 use Rattle.ila_file.specs.declared.written.WrittenChild.{out-WrittenChild}
 use Rattle.ila_build.specs.Building.{instructions_in, IsChildPut}
 use Rattle.ila_build.specs.Inside.{AreChildrenPut, IsProgramPut, program_in, links_from}
