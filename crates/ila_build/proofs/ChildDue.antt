@@ -1,23 +1,21 @@
 -- Child programs that are right in some scope, with new names, are not refused.
-use Rattle.std.proofs.Common.{◌≡◌, ℕ, true, List, [], ◌∷◌, ◌++◌, map, length, Bor, Option, None, refl, sym, ap, ◌∙◌, subst, arith, append_assoc}
+use Rattle.std.proofs.Common.{◌≡◌, ℕ, true, List, [], ◌∷◌, ◌++◌, map, length, Bor, Option, refl, sym, ap, ◌∙◌, subst, arith, append_assoc}
 use Rattle.std.specs.BTreeMap.{BTreeMap}
-use Rattle.wb_meaning.specs.Value.{Name, Entries}
 use Rattle.wb_meaning.specs.Model.{StateDeclaration}
-use Rattle.wb_meaning.specs.ModelFile.Written.{WrittenInstruction, instruction, WrittenInstructions, no_instructions, and_then, WrittenMachine, machine, WrittenChild, no_child, child, states_in, machines_below, machines_of_child}
+use Rattle.wb_meaning.specs.ModelFile.Written.{WrittenInstruction, instruction, WrittenInstructions, and_then, WrittenMachine, machine, WrittenChild, no_child, child, states_in, machines_below, machines_of_child}
 use Rattle.wb_meaning.specs.ModelFile.Names.{data_names, joined}
-use Rattle.wb_meaning.specs.ModelFile.Scope.{Visible, Scope, with_states, with_definitions, with_fetch, terms_below, terms_of_child}
+use Rattle.wb_meaning.specs.ModelFile.Scope.{Scope, with_states, with_definitions, with_fetch, terms_below}
 use Rattle.wb_terms.specs.declared.nodes.TermId.{TermId}
 use Rattle.wb_terms.specs.declared.store.PutStop.{PutStop}
 use Rattle.wb_terms.specs.Graph.{Graph}
 use Rattle.ila_model.specs.declared.parts.Child.{Child}
 use Rattle.ila_model.specs.declared.parts.ChildId.{ChildId}
 use Rattle.ila_build.specs.Standing.{IsFresh, IsTable, IsKept, IsWider}
-use Rattle.ila_build.specs.Knowing.{Knows, are_right, defined_names}
-use Rattle.ila_build.specs.Updating.{StandAt}
+use Rattle.ila_build.specs.Knowing.{are_right, defined_names}
 use Rattle.ila_build.specs.Declaring.{state_entry}
 use Rattle.ila_build.specs.Building.{IsMachineRight, IsInside, IsChildPut, definitions_in, instructions_in}
 use Rattle.ila_build.specs.Inside.{program_in}
-use Rattle.ila_build.specs.Refusing.{IsNoRefusal, IsBesides, IsDue, IsMachineDue, IsChildDue, AreBelowDue, IsProgramDue, AreFitBelow, IsFitOf, IsFitChild, IsFitMachine, entry_names, are_sorts, names_below, names_of_child}
+use Rattle.ila_build.specs.Refusing.{IsNoRefusal, IsBesides, IsMachineDue, IsChildDue, AreBelowDue, IsProgramDue, AreFitBelow, IsFitChild, entry_names, are_sorts, names_below, names_of_child}
 use Rattle.ila_build.proofs.Definitions.{knows_kept}
 use Rattle.ila_build.proofs.Fresh.{unrefused_by, fresh_front, fresh_behind, besides_onward, IsBringing, bring_turn}
 use Rattle.ila_build.proofs.ChildLemmas.{knows_states, declared_last, places_from, stand_more}
@@ -106,20 +104,20 @@ unfolding IsChildPut
 below_lost g h t r links steps (machine ss ds f v is) c s put besides n =
     unrefused_by _ (IsProgramDue g t (child steps (machine ss ds f v is))) s
     (λ d.
-        let parts = machine_right (record { names = d.due.names; states = d.due.states }) ss ds f v is d.due.is_right in
-        let it : IsInside h r links (machine ss ds f v is) c (with_states d.due.names ss) (d.due.states ++ ss) = put.1 d.due.names d.due.places d.due.states d.due.knows d.due.stand parts.0 in
-        record {
-          due = record {
-            names = with_definitions (with_states d.due.names ss) ds;
-            places = it.places;
-            states = d.due.states ++ ss;
-            knows = it.known;
-            stand = it.states;
-            is_right = (with_fetch (with_definitions (with_states d.due.names ss) ds) f, parts.1);
-          };
-          fresh = fresh_behind t r (data_names (machine ss ds f v is)) (names_below is) d.fresh besides;
-          fit = d.fit.1;
-        }) n
+    let parts = machine_right (record { names = d.due.names; states = d.due.states }) ss ds f v is d.due.is_right in
+    let it : IsInside h r links (machine ss ds f v is) c (with_states d.due.names ss) (d.due.states ++ ss) = put.1 d.due.names d.due.places d.due.states d.due.knows d.due.stand parts.0 in
+    record {
+      due = record {
+        names = with_definitions (with_states d.due.names ss) ds;
+        places = it.places;
+        states = d.due.states ++ ss;
+        knows = it.known;
+        stand = it.states;
+        is_right = (with_fetch (with_definitions (with_states d.due.names ss) ds) f, parts.1);
+      };
+      fresh = fresh_behind t r (data_names (machine ss ds f v is)) (names_below is) d.fresh besides;
+      fit = d.fit.1;
+    }) n
 
 pub no_names : (t : BTreeMap (Bor (List ℕ)) TermId) (p : WrittenChild) → p ≡ no_child → IsBesides t t (names_of_child p)
 unfolding IsBesides
@@ -140,17 +138,17 @@ pub child_lost : (g h : Graph) (t u : BTreeMap (Bor (List ℕ)) TermId) (cs ds :
 child_lost g h t u cs ds i now rest all s cut a b c n =
     unrefused_by _ (AreBelowDue g t all) s
     (λ d.
-        let scope : Scope = record { names = d.due.names; states = d.due.states } in
-        let at = a.stand scope d.due.places d.due.is_right.0 d.due.knows d.due.stand d.due.is_right.1 in
-        record {
-          due = record {
-            names = d.due.names;
-            places = d.due.places;
-            states = d.due.states;
-            knows = knows_kept g h t u d.due.names a.wider a.kept d.due.knows;
-            stand = stand_wider g h 0 d.due.places d.due.states a.wider d.due.stand;
-            is_right = (next_right scope d.due.is_right.0 i rest (subst (λ is. are_right (terms_below scope d.due.is_right.0 is) ≡ true) cut at.0)).0;
-          };
-          fresh = fresh_front u (names_of_child (program_in i)) (names_below rest) (subst (IsFresh u) (ap names_below cut ∙ first_names i rest) (b.fresh d.fresh));
-          fit = (first_fit i rest (subst AreFitBelow cut (c d.fit))).0;
-        }) n
+    let scope : Scope = record { names = d.due.names; states = d.due.states } in
+    let at = a.stand scope d.due.places d.due.is_right.0 d.due.knows d.due.stand d.due.is_right.1 in
+    record {
+      due = record {
+        names = d.due.names;
+        places = d.due.places;
+        states = d.due.states;
+        knows = knows_kept g h t u d.due.names a.wider a.kept d.due.knows;
+        stand = stand_wider g h 0 d.due.places d.due.states a.wider d.due.stand;
+        is_right = (next_right scope d.due.is_right.0 i rest (subst (λ is. are_right (terms_below scope d.due.is_right.0 is) ≡ true) cut at.0)).0;
+      };
+      fresh = fresh_front u (names_of_child (program_in i)) (names_below rest) (subst (IsFresh u) (ap names_below cut ∙ first_names i rest) (b.fresh d.fresh));
+      fit = (first_fit i rest (subst AreFitBelow cut (c d.fit))).0;
+    }) n

@@ -1,12 +1,11 @@
 -- Names that are new to a table stay so while others are put, and a call with new names is not refused for one that is there.
-use Rattle.std.proofs.Common.{◌≡◌, ℕ, Bool, true, false, cond, ◌||◌, List, [], ◌∷◌, ◌++◌, Bor, Option, Some, None, refl, sym, ap, ◌∙◌, subst}
-use Rattle.std.specs.Prelude.{is_some, Result, Ok, Err, ⊤}
+use Rattle.std.proofs.Common.{◌≡◌, ℕ, Bool, true, false, ◌||◌, List, [], ◌∷◌, ◌++◌, Bor, Option, None, refl, sym, ap, ◌∙◌, subst}
+use Rattle.std.specs.Prelude.{is_some}
 use Rattle.std.specs.BTreeMap.{BTreeMap}
 use Rattle.std.proofs.lemmas.Bool.{false≢true, and_parts}
 use Rattle.std.proofs.lemmas.Slice.Eq.{bytes_eq-Decides}
 use Rattle.wb_meaning.specs.Value.{Name, Sort, same_name, Entries}
-use Rattle.wb_meaning.specs.Term.{is_sort, sort_of}
-use Rattle.wb_meaning.specs.Term as terms
+use Rattle.wb_meaning.specs.Term.{is_sort}
 use Rattle.wb_meaning.specs.ModelFile.Keys.{is_among}
 use Rattle.wb_terms.specs.declared.nodes.TermId.{TermId}
 use Rattle.wb_terms.specs.declared.store.PutStop.{PutStop}

@@ -1,6 +1,5 @@
 -- Child programs inside one another: what no rule refuses in a machine, and each child's id read as the child that it stands for.
 use Rattle.std.proofs.Common.{◌≡◌, ℕ, zero, suc, ◌+◌, ◌≤◌, max, true, List, [], ◌∷◌, ◌++◌, length, Bor, Option, Some, None, refl, sym, ap, ◌∙◌, subst, arith, length-append, append_assoc}
-use Rattle.std.proofs.lemmas.Bool.{and_parts}
 use Rattle.std.proofs.lemmas.List.{append-nil}
 use Rattle.std.proofs.Math.Seq.{get_or-append_seam}
 use Rattle.std.proofs.Math.ListN.{get_or-append}
@@ -8,7 +7,7 @@ use Rattle.std.specs.BTreeMap.{BTreeMap}
 use Rattle.wb_meaning.specs.Value.{Entries}
 use Rattle.wb_meaning.specs.Model as pure
 use Rattle.wb_meaning.specs.Model.{StateDeclaration}
-use Rattle.wb_meaning.specs.ModelFile.Written.{WrittenTerm, WrittenInstruction, instruction, WrittenInstructions, no_instructions, and_then, WrittenMachine, machine, WrittenChild, no_child, child, states_in, machines_below, machines_of_instruction, machines_of_child}
+use Rattle.wb_meaning.specs.ModelFile.Written.{WrittenTerm, WrittenInstruction, instruction, WrittenInstructions, no_instructions, and_then, WrittenMachine, machine, WrittenChild, no_child, child, machines_below, machines_of_child}
 use Rattle.wb_meaning.specs.ModelFile.Scope.{Visible, Scope, Placed, placed, of_condition, with_states, with_definitions, with_fetch, scope_within, placed_definitions, placed_fetch, placed_updates, terms_in, terms_below, terms_of_instruction, terms_of_child}
 use Rattle.wb_meaning.specs.ModelFile.Rules.{depth_below, depth_of_child}
 use Rattle.wb_meaning.specs.ModelFile.Meaning as file
@@ -21,7 +20,7 @@ use Rattle.ila_model.specs.Meaning.{machine_of, program_at, program_of}
 use Rattle.ila_build.specs.Standing.{IsWider, IsKept, IsTable}
 use Rattle.ila_build.specs.Knowing.{Knows, is_right, are_right}
 use Rattle.ila_build.specs.Updating.{entry_at, StandAt}
-use Rattle.ila_build.specs.Building.{link_at, decode_in, update_in, instructions_in, names_in, own_terms, AreOwnRight, IsMachineRight, IsMachine, IsInside, IsChildPut}
+use Rattle.ila_build.specs.Building.{instructions_in, names_in, AreOwnRight, IsMachineRight, IsMachine, IsInside, IsChildPut}
 use Rattle.ila_build.specs.Inside.{program_in, link_from, links_from, HasMore, StandsForChild, StandForChildren, IsProgramPut, AreChildrenPut}
 use Rattle.ila_build.proofs.Growing.{widen, wide_same}
 use Rattle.ila_build.proofs.Definitions.{first_right, knows_kept, kept_same, kept_onward}

@@ -1,5 +1,5 @@
 -- Child programs lie where they were put, also in wider stores, and one behind another.
-use Rattle.std.proofs.Common.{◌≡◌, ℕ, suc, ◌+◌, Bool, true, ◌&&◌, List, [], ◌∷◌, ◌++◌, map, length, Bor, Option, Some, None, option_map, refl, sym, ap, ◌∙◌, subst, arith, append_assoc, length-append}
+use Rattle.std.proofs.Common.{◌≡◌, ℕ, suc, ◌+◌, true, List, [], ◌∷◌, ◌++◌, map, length, Bor, Option, Some, None, option_map, refl, sym, ap, ◌∙◌, subst, arith, append_assoc, length-append}
 use Rattle.std.specs.Prelude.{◌==◌}
 use Rattle.std.proofs.lemmas.List.{append-nil}
 use Rattle.std.proofs.lemmas.Bool.{and_parts, eq-eqb, eqb-true}
@@ -8,7 +8,7 @@ use Rattle.wb_meaning.specs.Value.{Sort, Entries}
 use Rattle.wb_meaning.specs.Model.{StateDeclaration}
 use Rattle.wb_terms.specs.declared.values.Value.{Value}
 use Rattle.wb_meaning.specs.ModelFile.Written.{WrittenInstruction, instruction, WrittenInstructions, no_instructions, and_then, WrittenMachine, machine, WrittenChild, no_child, child, states_in, machines_of_instruction, machines_of_child}
-use Rattle.wb_meaning.specs.ModelFile.Scope.{Visible, Scope, with_states, with_fetch, with_definitions, scope_within, terms_below, terms_of_child}
+use Rattle.wb_meaning.specs.ModelFile.Scope.{Visible, Scope, with_states, with_fetch, with_definitions, scope_within, terms_below}
 use Rattle.wb_terms.specs.declared.nodes.TermId.{TermId}
 use Rattle.wb_terms.specs.Environment.{as_value}
 use Rattle.wb_terms.specs.Graph.{Graph}
@@ -20,7 +20,7 @@ use Rattle.ila_build.specs.Knowing.{Knows, are_right}
 use Rattle.ila_build.specs.Updating.{StandAt}
 use Rattle.ila_build.specs.Declaring.{state_entry}
 use Rattle.ila_build.specs.Building.{IsMachine, IsInside, IsChildPut, instructions_in}
-use Rattle.ila_build.specs.Inside.{links_from, program_in, IsProgramPut, AreChildrenPut}
+use Rattle.ila_build.specs.Inside.{links_from, program_in, IsProgramPut}
 use Rattle.ila_build.specs.Layout.{IsDeclaredAt, IsLaid, AreLaid, IsLaidOf, IsLaidChild, AreLaidIn, AreLaidPut, IsLaidPut}
 use Rattle.ila_build.proofs.Growing.{widen, wide_same}
 use Rattle.ila_build.proofs.Definitions.{knows_kept}

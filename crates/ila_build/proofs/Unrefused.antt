@@ -1,13 +1,12 @@
 -- Calls whose terms are right in some scope are not refused.
-use Rattle.std.proofs.Common.{◌≡◌, ℕ, Bool, true, false, not, ◌||◌, List, [], ◌∷◌, Bor, Option, Some, None, refl, sym, ap, ◌∙◌, subst}
-use Rattle.std.specs.Prelude.{is_none, Result, Ok, Err, ⊤}
+use Rattle.std.proofs.Common.{◌≡◌, ℕ, true, false, not, ◌||◌, List, ◌∷◌, Bor, Option, Some, None, refl, sym, ap, ◌∙◌, subst}
+use Rattle.std.specs.Prelude.{is_none, Ok, Err}
 use Rattle.std.specs.BTreeMap.{BTreeMap}
 use Rattle.std.proofs.lemmas.Bool.{false≢true, and_parts}
 use Rattle.wb_meaning.specs.Value.{Name, Sort, Entries}
-use Rattle.wb_meaning.specs.Term as terms
 use Rattle.wb_meaning.specs.Model.{StateDeclaration, state_named}
-use Rattle.wb_meaning.specs.ModelFile.Written.{WrittenTerm, WrittenInstruction, WrittenInstructions, no_instructions, and_then, WrittenMachine}
-use Rattle.wb_meaning.specs.ModelFile.Scope.{Visible, Place, of_fetch, of_condition, of_update, placed, declared, with_definitions, with_fetch, placed_definitions, placed_fetch, placed_updates}
+use Rattle.wb_meaning.specs.ModelFile.Written.{WrittenTerm, WrittenInstruction, WrittenInstructions, and_then, WrittenMachine}
+use Rattle.wb_meaning.specs.ModelFile.Scope.{Visible, Place, of_condition, of_update, placed, declared, with_definitions, with_fetch, placed_definitions, placed_fetch, placed_updates}
 use Rattle.wb_meaning.specs.ModelFile.Rules.{uses_unknown_name, updates_no_state}
 use Rattle.wb_terms.specs.declared.nodes.TermId.{TermId}
 use Rattle.wb_terms.specs.declared.store.PutStop.{PutStop}
@@ -17,10 +16,9 @@ use Rattle.ila_model.specs.declared.parts.Instruction.{Instruction}
 use Rattle.ila_model.specs.declared.parts.ChildId.{ChildId}
 use Rattle.ila_build.specs.Standing.{IsFresh, IsTable, IsGrown, IsPut, StandsFor, under_name, seen, seen_by, term_by}
 use Rattle.ila_build.specs.Knowing.{Knows, is_right, are_right, AreDefined, defined_names}
-use Rattle.ila_build.specs.Updating.{StandAt}
-use Rattle.ila_build.specs.Building.{AreOwnRight, IsMachineRight, IsFetched, own_terms, decode_in, update_in, definitions_in, fetch_in, valid_in, instructions_in, names_in}
+use Rattle.ila_build.specs.Building.{AreOwnRight, IsMachineRight, IsFetched, own_terms, definitions_in, fetch_in, valid_in, instructions_in, names_in}
 use Rattle.ila_build.specs.Refusing.{IsNoRefusal, IsDue, IsMachineDue, is_leaf}
-use Rattle.ila_build.proofs.Growing.{same, onward, wider}
+use Rattle.ila_build.proofs.Growing.{same, wider}
 use Rattle.ila_build.proofs.Sorting.{or_parts}
 use Rattle.ila_build.proofs.Definitions.{right_put, knows_grown, first_right, not_true}
 use Rattle.ila_build.proofs.Chosen.{AreToChoose, named_at, stand_at, stand_moved}

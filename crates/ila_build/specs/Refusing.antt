@@ -8,7 +8,7 @@ use Rattle.wb_meaning.specs.Term.{Term, name, is_sort}
 use Rattle.wb_meaning.specs.Model.{StateDeclaration}
 use Rattle.wb_meaning.specs.ModelFile.Written.{WrittenInstruction, instruction, WrittenInstructions, no_instructions, and_then, WrittenMachine, machine, WrittenChild, no_child, child, states_in, machines_below, machines_of_child}
 use Rattle.wb_meaning.specs.ModelFile.Names.{data_names, joined}
-use Rattle.wb_meaning.specs.ModelFile.Scope.{Visible, Scope, with_states, terms_below, terms_of_child}
+use Rattle.wb_meaning.specs.ModelFile.Scope.{Visible, with_states, terms_below, terms_of_child}
 use Rattle.wb_meaning.specs.ModelFile.Keys.{is_among}
 use Rattle.wb_terms.specs.declared.nodes.TermId.{TermId}
 use Rattle.wb_terms.specs.declared.store.PutStop.{PutStop}

@@ -72,7 +72,10 @@ fn read_written<'v>(alloc: Global, value: &'v Value) -> Result<WrittenModel<'v>,
                 None => Ok(written),
             }
         }
-        Err(ShapeStop::Refused(note)) => Err(ModelStop::Refused(refused(ModelRule::BadShape, note))),
+        Err(ShapeStop::Refused(note)) => {
+            let refusal = refused(ModelRule::BadShape, note);
+            Err(ModelStop::Refused(refusal))
+        }
         Err(ShapeStop::NoMemory) => Err(ModelStop::NoMemory),
     }
 }

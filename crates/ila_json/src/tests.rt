@@ -4,6 +4,7 @@ mod counter;
 mod examples;
 mod machine;
 mod pairs;
+mod whole;
 
 use crate::model_refusal;
 use ila_file::NoMemory;

@@ -123,21 +123,25 @@ or_second false b h = h
 -- private states, at their place
 pub states_inside : (p : Parts) (at : Option ℕ) (s : places.Scope) (ss : List StateDeclaration) → may_read p.children.items at s ≡ true → AreHomed p s (tops p) (length p.terms.names) (map state_entry ss) → AreStatesAt p at ss
 states_inside p at s [] r h = tt
-states_inside p at s (x ∷ ss) r h =
-    ((λ k w n.
+states_inside p at s (x ∷ ss) r h = (
+  (λ k w n.
       and_from (nat_lt k (length p.terms.names)) _ (within k (length p.terms.names) w)
       (and_from (nat_lt k (length p.initial_values.items) || nat_le (tops p) k) _ (or_second (nat_lt k (length p.initial_values.items)) (nat_le (tops p) k) (at_most (tops p) k (h.1 k w n).0))
-      (ap (λ m. may_read p.children.items at (home p m)) n ∙ (ap (may_read p.children.items at) h.0 ∙ r)))), states_inside p at s ss r h.2)
+      (ap (λ m. may_read p.children.items at (home p m)) n ∙ (ap (may_read p.children.items at) h.0 ∙ r)))),
+  states_inside p at s ss r h.2,
+)
 
 -- what may be updated around a child may be updated in it
 pub states_around : (p : Parts) (k : ℕ) (at : Option ℕ) (ss : List StateDeclaration) → around p.children.items k ≡ at → is_child_nested p.children.items k ≡ true → AreStatesAt p at ss → AreStatesAt p (Some k) ss
 states_around p k at [] e n a = tt
-states_around p k at (x ∷ ss) e n a =
-    ((λ j w q.
-        let x = and_parts (nat_lt j (length p.terms.names)) _ (a.0 j w q) in
-        let y = and_parts (nat_lt j (length p.initial_values.items) || nat_le (tops p) j) _ x.1 in
-        and_from (nat_lt j (length p.terms.names)) _ x.0 (and_from (nat_lt j (length p.initial_values.items) || nat_le (tops p) j) _ y.0
-        (read_inside p.children.items k at (home p (name_at p.terms.names j)) e n y.1))), states_around p k at ss e n a.1)
+states_around p k at (x ∷ ss) e n a = (
+  (λ j w q.
+      let x = and_parts (nat_lt j (length p.terms.names)) _ (a.0 j w q) in
+      let y = and_parts (nat_lt j (length p.initial_values.items) || nat_le (tops p) j) _ x.1 in
+      and_from (nat_lt j (length p.terms.names)) _ x.0 (and_from (nat_lt j (length p.initial_values.items) || nat_le (tops p) j) _ y.0
+      (read_inside p.children.items k at (home p (name_at p.terms.names j)) e n y.1))),
+  states_around p k at ss e n a.1,
+)
 
 pub states_append : (p : Parts) (at : Option ℕ) (xs ys : List StateDeclaration) → AreStatesAt p at xs → AreStatesAt p at ys → AreStatesAt p at (xs ++ ys)
 states_append p at [] ys a b = b
@@ -265,7 +269,7 @@ mutual
       let nest' : is_nested cs (suc level) (Some k) ≡ true = subst (λ o. is_nested cs level o ≡ true) (sym there) nest in
       let nested : is_child_nested cs k ≡ true = nested_child cs (suc level) k (omega (arith, deep)) nest' in
       let homed = subst (λ j. AreHomed p (Within j) (tops p) (length p.terms.names) (map state_entry ss)) l
-          (child_homed p (map state_entry ss) own.declared.before own.declared.behind before c (ys ++ behind) t list own.declared.table own.declared.length_before (as_many ss c.initial_values.items own.values)) in
+      (child_homed p (map state_entry ss) own.declared.before own.declared.behind before c (ys ++ behind) t list own.declared.table own.declared.length_before (as_many ss c.initial_values.items own.values)) in
       let parts = machine_right scope ss ds f v is right in
       let here = known_states p (Some k) (Within k) (tops p) (length p.terms.names) scope.names ss (read_own cs k) homed (known_around p k (place_of at) scope.names there nested known) in
       let inside = known_definitions p (Some k) (with_states scope.names ss) ds here parts.0.definitions in

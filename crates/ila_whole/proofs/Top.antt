@@ -72,11 +72,13 @@ or_first false b h = absurd (false≢true h)
 -- the states of the top, at their places
 states_top : (p : Parts) (high : ℕ) (ss : List StateDeclaration) → high ≤ length p.initial_values.items → AreHomed p Anywhere 0 high (map state_entry ss) → AreStatesAt p None ss
 states_top p high [] b h = tt
-states_top p high (x ∷ ss) b h =
-    ((λ k w n.
+states_top p high (x ∷ ss) b h = (
+  (λ k w n.
       and_from (nat_lt k (length p.terms.names)) _ (within k (length p.terms.names) w)
       (and_from (nat_lt k (length p.initial_values.items) || nat_le (tops p) k) _ (or_first (nat_lt k (length p.initial_values.items)) (nat_le (tops p) k) (within k (length p.initial_values.items) (omega (arith, b, (h.1 k w n).1))))
-      (ap (λ m. may_read p.children.items None (home p m)) n ∙ ap (may_read p.children.items None) h.0))), states_top p high ss b h.2)
+      (ap (λ m. may_read p.children.items None (home p m)) n ∙ ap (may_read p.children.items None) h.0))),
+  states_top p high ss b h.2,
+)
 
 replicate_append : (a b : ℕ) (s : places.Scope) → replicate (a + b) s ≡ replicate a s ++ replicate b s
 replicate_append zero b s = ap (λ n. replicate n s) none where

@@ -54,14 +54,7 @@ pub(crate) fn put_parts(alloc: Global, written: &WrittenModel<'_>) -> Result<Par
     };
     let (valid, instructions) = put_machine(alloc, &mut terms, &mut known, machine, &links)?;
     let mut children = Vec::new(alloc);
-    put_children(
-        alloc,
-        &mut terms,
-        &mut known,
-        &mut children,
-        machine,
-        None,
-    )?;
+    put_children(alloc, &mut terms, &mut known, &mut children, machine, None)?;
     let _names = terms.name_count();
     let Ok(initial_values) = initial_values(alloc, states_of(machine)) else {
         return Err(PutStop::NoMemory);

@@ -20,3 +20,21 @@ pub(super) const MODELS: [(&str, &str); 6] = [
     (machine::MACHINE, MODEL),
     (pairs::TURNED, MODEL),
 ];
+
+/// Models with the names of their states, inputs and instructions, and then those of each child program's instructions.
+pub(super) const NAMED: [(&str, &str); 5] = [
+    (counter::COUNTER, "counter: cnt | op | INC CLR"),
+    (MULTIPLIER, "mul: p | x y | MUL + STEP"),
+    (
+        DMA,
+        "dma: mem src dst len | op address data | WRITE SET_SRC SET_DST SET_LEN COPY + WORD",
+    ),
+    (
+        SIMON,
+        "simon32_64: x y k3 k2 k1 k0 | load text key | LOAD ENCRYPT + ROUND",
+    ),
+    (
+        machine::MACHINE,
+        "machine: p m n t | x y | RUN SKIP + STEP + LAST",
+    ),
+];

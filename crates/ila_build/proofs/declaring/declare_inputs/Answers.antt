@@ -1,4 +1,4 @@
-use Rattle.std.proofs.Common.{◌≡◌, ◌<◌, ◌≤◌, ◌+◌, ◌++◌, true, [], ◌∷◌, length, drop, map, ap, sym, ◌∙◌, subst, arith, refl}
+use Rattle.std.proofs.Common.{◌<◌, ◌≤◌, ◌+◌, ◌++◌, length, drop, map, ap, sym, ◌∙◌, subst, arith, refl}
 use Rattle.ila_file.specs.View.{input_view}
 use Rattle.ila_build.specs.Declaring.{input_entry}
 use Rattle.ila_build.proofs.Growing.{wide_same, widen}

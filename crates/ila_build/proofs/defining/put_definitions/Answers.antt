@@ -28,9 +28,13 @@ loop-definition-preserved c =
     let d = c.definition-item.result in
     let h : i < length ds = omega arith in
     let all = map definition_view ds in
-    let at = subst (λ rest. AreReached c.args.terms.now c.args.known.now c.loop-definition.terms c.loop-definition.known rest all) (rest_cut definition_view ds i d h c.definition-item.is) c.loop-definition.invariant.3 in
-    (onward c.loop-definition.invariant.0 c.in_ok-put_definition.ensures.grown, c.in_ok-put_definition.ensures.in_store, kept_onward c.args.known.now c.loop-definition.known c.put_definition.new.known c.loop-definition.invariant.2 c.in_ok-put_definition.ensures.kept, reached_turn c.args.terms.now c.loop-definition.terms c.put_definition.new.terms c.args.known.now c.loop-definition.known c.put_definition.new.known (definition_view d) (map definition_view (drop (i + 1) ds)) all at c.in_ok-put_definition.ensures.defined c.in_ok-put_definition.ensures.aside,
-    bring_turn c.args.known.now c.loop-definition.known c.put_definition.new.known ((definition_view d).0 ∷ []) (defined_names (map definition_view (drop (i + 1) ds))) (defined_names all) (subst (λ rest. IsBringing c.args.known.now c.loop-definition.known (defined_names rest) (defined_names all)) (rest_cut definition_view ds i d h c.definition-item.is) c.loop-definition.invariant.4) (besides_one c.loop-definition.known c.put_definition.new.known (definition_view d).0 c.in_ok-put_definition.ensures.aside))
+    let at = subst (λ rest. AreReached c.args.terms.now c.args.known.now c.loop-definition.terms c.loop-definition.known rest all) (rest_cut definition_view ds i d h c.definition-item.is) c.loop-definition.invariant.3 in (
+      onward c.loop-definition.invariant.0 c.in_ok-put_definition.ensures.grown,
+      c.in_ok-put_definition.ensures.in_store,
+      kept_onward c.args.known.now c.loop-definition.known c.put_definition.new.known c.loop-definition.invariant.2 c.in_ok-put_definition.ensures.kept,
+      reached_turn c.args.terms.now c.loop-definition.terms c.put_definition.new.terms c.args.known.now c.loop-definition.known c.put_definition.new.known (definition_view d) (map definition_view (drop (i + 1) ds)) all at c.in_ok-put_definition.ensures.defined c.in_ok-put_definition.ensures.aside,
+      bring_turn c.args.known.now c.loop-definition.known c.put_definition.new.known ((definition_view d).0 ∷ []) (defined_names (map definition_view (drop (i + 1) ds))) (defined_names all) (subst (λ rest. IsBringing c.args.known.now c.loop-definition.known (defined_names rest) (defined_names all)) (rest_cut definition_view ds i d h c.definition-item.is) c.loop-definition.invariant.4) (besides_one c.loop-definition.known c.put_definition.new.known (definition_view d).0 c.in_ok-put_definition.ensures.aside),
+    )
 
 pub returns-clause-defined : goal.returns-clause-defined
 returns-clause-defined c =

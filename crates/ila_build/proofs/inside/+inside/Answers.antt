@@ -1,6 +1,6 @@
-use Rattle.std.proofs.Common.{rules, ◌≡◌, ◌+◌, ◌<◌, ◌≤◌, ◌∙◌, suc, Some, not, length, drop, ap, sym, subst, arith}
-use Rattle.wb_meaning.specs.ModelFile.Written.{no_child, child}
-use Rattle.ila_file.specs.View.{child_view, instruction_view, instructions_view, instructions_from, machine_view}
+use Rattle.std.proofs.Common.{◌≡◌, ◌+◌, ◌<◌, ◌≤◌, ◌∙◌, suc, Some, not, length, drop, ap, sym, subst, arith}
+use Rattle.wb_meaning.specs.ModelFile.Written.{no_child}
+use Rattle.ila_file.specs.View.{instruction_view, instructions_view, instructions_from, machine_view}
 use Rattle.ila_file.specs.declared.written.WrittenChild.{out-WrittenChild}
 use Rattle.ila_build.specs.Building.{instructions_in, IsChildPut}
 use Rattle.ila_build.specs.Inside.{AreChildrenPut, IsProgramPut, program_in, links_from}
@@ -35,9 +35,9 @@ put_children-loop-instruction-preserved t c =
     let rest = instructions_view (drop (i + 1) is) in
     let cut = ap instructions_from (rest_cut instruction_view is i w h c.instruction-item.is) in (
       inside_turn c.args.terms.now c.loop-instruction.terms c.put_child_of.new.terms c.args.known.now c.loop-instruction.known c.put_child_of.new.known
-      c.args.children.now.items c.loop-instruction.children.items c.put_child_of.new.children.items (instruction_view w) rest all
-      (subst (λ r. AreToPutInside c.args.terms.now c.args.known.now c.args.children.now.items c.loop-instruction.terms c.loop-instruction.known c.loop-instruction.children.items r all) (ap instructions_from (rest_cut instruction_view is i w h c.instruction-item.is)) c.loop-instruction.invariant.0)
-      c.in_ok-put_child_of.ensures.put,
+          c.args.children.now.items c.loop-instruction.children.items c.put_child_of.new.children.items (instruction_view w) rest all
+          (subst (λ r. AreToPutInside c.args.terms.now c.args.known.now c.args.children.now.items c.loop-instruction.terms c.loop-instruction.known c.loop-instruction.children.items r all) (ap instructions_from (rest_cut instruction_view is i w h c.instruction-item.is)) c.loop-instruction.invariant.0)
+          c.in_ok-put_child_of.ensures.put,
       below_turn c.args.known.now c.loop-instruction.known c.put_child_of.new.known (instruction_view w) (instructions_view (drop i is)) rest all cut c.loop-instruction.invariant.1 c.in_ok-put_child_of.ensures.besides,
       fit_turn (instruction_view w) (instructions_view (drop i is)) rest all cut c.loop-instruction.invariant.2,
       lay_turn c.args.terms.now c.loop-instruction.terms c.put_child_of.new.terms c.args.known.now c.loop-instruction.known c.put_child_of.new.known c.args.children.now.items c.loop-instruction.children.items c.put_child_of.new.children.items c.args.around

@@ -1,4 +1,4 @@
-use Rattle.std.proofs.Common.{◌≡◌, ◌∙◌, true, map, None, refl, sym, subst}
+use Rattle.std.proofs.Common.{◌≡◌, ◌∙◌, true, map, None, refl, subst}
 use Rattle.ila_file.specs.View.{instruction_view, term_view, update_view}
 use Rattle.std.specs.Prelude.{Err}
 use Rattle.ila_build.proofs.Growing.{wider, are_in-grown}

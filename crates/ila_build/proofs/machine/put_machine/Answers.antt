@@ -1,4 +1,4 @@
-use Rattle.std.proofs.Common.{◌≡◌, map, None, subst}
+use Rattle.std.proofs.Common.{map, None, subst}
 use Rattle.ila_file.specs.View.{definition_view, fetch_view, term_view, instructions_view, machine_view}
 use Rattle.ila_build.proofs.Growing.{onward, wider, are_in-grown}
 use Rattle.ila_build.proofs.Declared.{in_table, table_grown}

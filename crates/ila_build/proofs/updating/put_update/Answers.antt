@@ -4,7 +4,6 @@ use Rattle.ila_build.proofs.Definitions.{on_ok}
 use Rattle.ila_build.proofs.Declared.{in_table}
 use Rattle.ila_build.proofs.Chosen.{one_updated}
 use Rattle.std.proofs.lemmas.Result.{err_from_is_err_and}
-use Rattle.ila_file.specs.View.{term_view}
 use Rattle.wb_meaning.specs.Model.{state_named}
 use Rattle.wb_meaning.specs.ModelFile.Scope.{of_update, placed}
 use Rattle.ila_build.specs.Knowing.{is_right}
