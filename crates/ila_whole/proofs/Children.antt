@@ -1,14 +1,12 @@
 -- The child programs of a model that no rule refuses are well sorted.
-use Rattle.std.proofs.Common.{◌≡◌, ℕ, zero, suc, ◌+◌, ◌<◌, ◌≤◌, max, Bool, true, false, not, ◌&&◌, ◌||◌, List, [], ◌∷◌, ◌++◌, length, map, drop, Option, Some, None, option_map, refl, sym, ap, ◌∙◌, subst, arith, append_assoc, length-append}
-use Rattle.std.specs.Prelude.{◌==◌, nat_le, nat_lt, ⊤, is_some, is_none}
+use Rattle.std.proofs.Common.{◌≡◌, ℕ, zero, suc, ◌+◌, ◌≤◌, max, Bool, true, false, not, ◌&&◌, ◌||◌, List, [], ◌∷◌, ◌++◌, length, map, drop, Option, Some, None, option_map, refl, sym, ap, ◌∙◌, subst, arith, append_assoc, length-append}
+use Rattle.std.specs.Prelude.{nat_le, nat_lt, ⊤, is_some}
 use Rattle.std.specs.List.{list_all}
-use Rattle.std.proofs.lemmas.Bool.{false≢true, and_parts, and_from, eqb-true, eq-eqb, leb-true, leb-false}
-use Rattle.std.proofs.lemmas.List.{append-nil}
+use Rattle.std.proofs.lemmas.Bool.{false≢true, and_parts, and_from, eq-eqb, leb-true, leb-false}
 use Rattle.wb_meaning.specs.Value as meaning
 use Rattle.wb_meaning.specs.Value.{Name, Sort, truth, word, memory, Entries, is_of_sort}
-use Rattle.wb_meaning.specs.Term.{is_sort}
 use Rattle.wb_meaning.specs.Model.{StateDeclaration}
-use Rattle.wb_meaning.specs.ModelFile.Written.{WrittenInstruction, instruction, WrittenInstructions, no_instructions, and_then, WrittenMachine, machine, WrittenChild, no_child, child, states_in, machines_below, machines_of_instruction, machines_of_child}
+use Rattle.wb_meaning.specs.ModelFile.Written.{WrittenInstruction, instruction, WrittenInstructions, no_instructions, and_then, WrittenMachine, machine, WrittenChild, no_child, child, machines_below, machines_of_child}
 use Rattle.wb_meaning.specs.ModelFile.Scope.{Visible, Scope, with_states, with_definitions, with_fetch, scope_within, terms_below, terms_of_child}
 use Rattle.wb_meaning.specs.ModelFile.Rules.{is_memory_sort, has_state_widths, has_fitting_initial_values, fits_sort, depth_below, depth_of_child, have_step_limits, child_has_step_limits}
 use Rattle.wb_terms.specs.declared.values.Value.{Value}
@@ -18,15 +16,13 @@ use Rattle.ila_model.specs.declared.parts.ChildId.{ChildId}
 use Rattle.ila_model.specs.declared.parts.Child.{Child}
 use Rattle.ila_model.specs.declared.parts.Parts.{Parts}
 use Rattle.ila_model.specs.declared.scopes.Scope as places
-use Rattle.ila_model.specs.declared.scopes.Scope.TheVariants.{Anywhere, Within}
+use Rattle.ila_model.specs.declared.scopes.Scope.TheVariants.{Within}
 use Rattle.ila_model.specs.Scope.{nesting, around, is_nested, is_child_nested, may_read, home, tops}
-use Rattle.ila_model.specs.Sorted.{is_private_initial, are_states, name_at, is_state_at, same_place, is_link, is_limit, is_child, is_machine, are_children}
+use Rattle.ila_model.specs.Sorted.{is_private_initial, are_states, name_at, same_place, is_link, is_limit, is_child, is_machine, are_children}
 use Rattle.ila_build.specs.Knowing.{are_right}
 use Rattle.ila_build.specs.Declaring.{state_entry}
-use Rattle.ila_build.specs.Updating.{StandAt}
-use Rattle.ila_build.specs.Building.{instructions_in, definitions_in}
-use Rattle.ila_build.specs.Inside.{program_in, link_from}
-use Rattle.ila_build.specs.Layout.{IsDeclaredAt, IsLaid, AreLaid, IsLaidOf, IsLaidChild, AreLaidIn}
+use Rattle.ila_build.specs.Inside.{link_from}
+use Rattle.ila_build.specs.Layout.{AreLaid, IsLaidChild}
 use Rattle.ila_build.proofs.ChildLemmas.{drop_front}
 use Rattle.ila_build.proofs.InsideLemmas.{machine_right, next_right}
 use Rattle.ila_whole.specs.Shaped.{is_private_state, has_private_states}

@@ -1,5 +1,5 @@
 -- The names of a file without duplicates are new to a table without names, and stay so as those before them are declared.
-use Rattle.std.proofs.Common.{◌≡◌, ℕ, Bool, true, false, ◌||◌, List, [], ◌∷◌, ◌++◌, map, Bor, Option, None, refl, sym, ap, ◌∙◌, subst, append_assoc}
+use Rattle.std.proofs.Common.{◌≡◌, ℕ, Bool, true, false, ◌||◌, List, [], ◌∷◌, ◌++◌, map, Bor, None, refl, sym, ap, ◌∙◌, subst, append_assoc}
 use Rattle.std.specs.BTreeMap.{BTreeMap}
 use Rattle.std.proofs.lemmas.Bool.{false≢true}
 use Rattle.wb_meaning.specs.Value.{Name}

@@ -3,7 +3,6 @@ use Rattle.std.proofs.Common.{◌≡◌, ℕ, zero, suc, Bool, true, false, cond
 use Rattle.std.specs.Prelude.{◌==◌, ◌⊎◌}
 use Rattle.std.proofs.lemmas.Bool.{false≢true, eqb-true, eq-eqb}
 use Rattle.wb_meaning.specs.Value.{Name, Entries, entry_of}
-use Rattle.wb_meaning.specs.Term as terms
 use Rattle.wb_meaning.specs.Term.{Term}
 use Rattle.wb_meaning.specs.ModelFile.Written.{UnaryOperator, not, neg, BinaryOperator, and, or, xor, add, sub, mul, shl, lshr, ashr, eq, ult, ule, slt, sle, concat, load, Widening, zext, sext, WrittenTerm, name, constant_truth, const, unary, binary, extract, widen, ite, store}
 use Rattle.wb_meaning.specs.ModelFile.Scope.{Visible, unary_term, binary_term, widened_term, term_named, term_of}

@@ -1,5 +1,5 @@
 -- The parts of a written model, read as the model that they stand for.
-use Rattle.std.proofs.Common.{◌≡◌, ℕ, ◌≤◌, true, List, [], ◌∷◌, ◌++◌, length, map, drop, Bor, Option, Some, None, option_map, refl, sym, ap, ◌∙◌, subst, arith, append_assoc}
+use Rattle.std.proofs.Common.{◌≡◌, ℕ, ◌≤◌, true, List, [], ◌∷◌, ◌++◌, length, map, drop, Bor, Option, None, option_map, refl, sym, ap, ◌∙◌, subst, arith, append_assoc}
 use Rattle.std.proofs.lemmas.List.{append-nil}
 use Rattle.std.specs.BTreeMap.{BTreeMap}
 use Rattle.wb_meaning.specs.Value.{Name, Sort, Entries}
@@ -24,7 +24,7 @@ use Rattle.ila_build.specs.Standing.{IsGrown, IsWider, IsTable, StandAll}
 use Rattle.ila_build.specs.Knowing.{Knows, are_right}
 use Rattle.ila_build.specs.Updating.{StandAt}
 use Rattle.ila_build.specs.Declaring.{state_entry, input_entry}
-use Rattle.ila_build.specs.Building.{definitions_in, instructions_in, IsMachine, IsMachinePut}
+use Rattle.ila_build.specs.Building.{instructions_in, IsMachine, IsMachinePut}
 use Rattle.ila_build.specs.Inside.{links_from, StandForChildren, AreChildrenPut}
 use Rattle.ila_build.proofs.Growing.{wide_same}
 use Rattle.ila_build.proofs.Chosen.{stand_moved}

@@ -1,5 +1,5 @@
 -- No put of a written model's parts is refused where no rule refuses the model.
-use Rattle.std.proofs.Common.{◌≡◌, ℕ, true, false, List, [], ◌∷◌, ◌++◌, map, Bor, Option, None, sym, ap, subst, refl}
+use Rattle.std.proofs.Common.{◌≡◌, ℕ, true, false, List, [], ◌++◌, map, Bor, Option, None, sym, subst}
 use Rattle.std.specs.BTreeMap.{BTreeMap}
 use Rattle.wb_meaning.specs.Model.{StateDeclaration, InputDeclaration}
 use Rattle.wb_meaning.specs.ModelFile.Written.{WrittenMachine, machine, WrittenModel, states_in}

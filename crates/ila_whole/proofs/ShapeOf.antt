@@ -1,14 +1,14 @@
 -- Data that has the shape of a model file has it in the declarations too.
-use Rattle.std.proofs.Common.{◌≡◌, ℕ, Bool, true, false, cond, not, ◌&&◌, ◌||◌, List, [], ◌∷◌, ◌++◌, Option, Some, None, option_map, refl, sym, ap, ◌∙◌, subst}
-use Rattle.std.specs.Prelude.{IfSome, is_some, is_none, option_and_then, codes}
+use Rattle.std.proofs.Common.{◌≡◌, ℕ, Bool, true, false, cond, not, ◌&&◌, ◌||◌, List, [], ◌∷◌, ◌++◌, Option, Some, None, option_map, refl, ap, subst}
+use Rattle.std.specs.Prelude.{IfSome, is_none, option_and_then, codes}
 use Rattle.std.specs.List.{list_all}
-use Rattle.std.proofs.lemmas.Bool.{false≢true, and_from, and_parts}
+use Rattle.std.proofs.lemmas.Bool.{and_from, and_parts}
 use Rattle.serde_json.specs.Data.{Data, null, boolean, number, string, array, object, Items, no_items, item, Members, no_members, member}
 use Rattle.serde_json.specs.Find.{get_member, as_bool, as_array, as_object, as_str}
 use Rattle.wb_meaning.specs.Value as meaning
 use Rattle.wb_meaning.specs.Value.{Name, same_name, Sort, truth, word, memory, Entries}
 use Rattle.wb_meaning.specs.Model.{StateDeclaration, InputDeclaration}
-use Rattle.wb_meaning.specs.ModelFile.Written.{WrittenTerm, WrittenInstruction, instruction, WrittenInstructions, no_instructions, and_then, WrittenMachine, machine, WrittenChild, no_child, child, WrittenModel, states_in, machines_below, machines_of_instruction, machines_of_child}
+use Rattle.wb_meaning.specs.ModelFile.Written.{WrittenTerm, WrittenInstruction, WrittenInstructions, WrittenMachine, machine, WrittenChild, WrittenModel, states_in, machines_below, machines_of_instruction, machines_of_child}
 use Rattle.wb_meaning.specs.ModelFile.Rules.{is_memory_sort}
 use Rattle.wb_meaning.specs.ModelFile.Shape.{required, sort_in, with_first, all_in, list_in, number_in, initial_in, private_initial_in, with_initial, state_from, declaration_in, state_in, private_state_in, input_from, input_in, instruction_from, with_instruction, machine_from, machine_in, child_from, instruction_in, child_under, child_in, instructions_under, instructions_in, all_instructions, model_from, model_in}
 use Rattle.ila_whole.specs.Shaped.{is_top_state, is_private_state, is_plain_input, has_private_states, machines_inside, is_shaped}

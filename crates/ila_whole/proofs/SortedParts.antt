@@ -1,9 +1,8 @@
 -- The parts that were put of a model that no rule refuses are well sorted.
-use Rattle.std.proofs.Common.{◌≡◌, ℕ, List, [], ◌∷◌, ◌++◌, length, map, Bor, Option, Some, None, option_map, refl, sym, ap, ◌∙◌, subst, arith, append_assoc}
-use Rattle.std.specs.Prelude.{true, false, is_some, IfSome}
+use Rattle.std.proofs.Common.{◌≡◌, ℕ, List, [], ◌++◌, length, map, Bor, Option, Some, None, option_map, sym, ap, ◌∙◌, subst, append_assoc}
+use Rattle.std.specs.Prelude.{true, is_some, IfSome}
 use Rattle.std.proofs.lemmas.Bool.{false≢true}
 use Rattle.std.specs.BTreeMap.{BTreeMap}
-use Rattle.wb_meaning.specs.Value.{Sort, Entries}
 use Rattle.wb_meaning.specs.Model.{InputDeclaration}
 use Rattle.wb_meaning.specs.ModelFile.Written.{WrittenMachine, machine, WrittenModel, states_in}
 use Rattle.wb_meaning.specs.ModelFile.Scope.{Scope, with_inputs, with_states, with_definitions, with_fetch, scope_within}
@@ -24,7 +23,7 @@ use Rattle.ila_build.proofs.ChildLemmas.{places_from}
 use Rattle.ila_build.proofs.InsideLemmas.{machine_right, machine_wider, stand_wider}
 use Rattle.ila_whole.specs.Whole.{AreSortedParts, IsFit}
 use Rattle.ila_whole.proofs.Reading.{knows_top, stand_top}
-use Rattle.ila_whole.proofs.Top.{IsWhole, IsSound, well_sorted}
+use Rattle.ila_whole.proofs.Top.{IsSound, well_sorted}
 use Rattle.ila_whole.proofs.Sound.{sound}
 
 sorted_from : (g h : Graph) (t u v : BTreeMap (Bor (List ℕ)) TermId) (links : List (Option ChildId)) (ins : List InputDeclaration) (w : WrittenMachine) (p : Parts)

@@ -1,25 +1,24 @@
 -- What the rules and the shape say of a model, part by part.
-use Rattle.std.proofs.Common.{◌≡◌, ℕ, ◌≤◌, Bool, true, false, not, ◌&&◌, ◌||◌, List, [], ◌∷◌, ◌++◌, map, Option, None, refl, sym, ap, ◌∙◌, subst}
-use Rattle.std.specs.Prelude.{nat_le, is_some}
+use Rattle.std.proofs.Common.{◌≡◌, true, false, not, List, [], ◌∷◌, ◌++◌, map, None, refl, ap, ◌∙◌}
+use Rattle.std.specs.Prelude.{is_some}
 use Rattle.std.specs.List.{list_all}
-use Rattle.std.proofs.lemmas.Bool.{false≢true, and_parts, and_from, leb-true}
-use Rattle.wb_meaning.specs.Value.{Name}
+use Rattle.std.proofs.lemmas.Bool.{and_parts, and_from, leb-true}
 use Rattle.wb_meaning.specs.Term.{is_sort}
 use Rattle.wb_meaning.specs.Model.{StateDeclaration, InputDeclaration}
-use Rattle.wb_meaning.specs.ModelFile.Written.{WrittenInstruction, instruction, WrittenInstructions, no_instructions, and_then, WrittenMachine, machine, WrittenChild, no_child, child, WrittenModel, states_in, machines_in}
+use Rattle.wb_meaning.specs.ModelFile.Written.{instruction, WrittenInstructions, no_instructions, and_then, WrittenMachine, machine, WrittenChild, no_child, child, WrittenModel, states_in, machines_in}
 use Rattle.wb_meaning.specs.ModelFile.Names.{data_names, joined, all_data_names, all_instruction_names, has_twice}
 use Rattle.wb_meaning.specs.ModelFile.Scope.{Placed, all_terms}
-use Rattle.wb_meaning.specs.ModelFile.Rules.{is_memory_sort, has_state_widths, has_widths, has_fitting_initial_values, has_fitting_constants}
+use Rattle.wb_meaning.specs.ModelFile.Rules.{is_memory_sort, has_state_widths, has_fitting_initial_values, has_fitting_constants}
 use Rattle.wb_meaning.specs.ModelFile.Meaning.{broken_rule}
 use Rattle.ila_build.specs.Knowing.{defined_names}
 use Rattle.ila_build.specs.Declaring.{state_entry, input_entry}
 use Rattle.ila_build.specs.Building.{definitions_in, instructions_in}
-use Rattle.ila_build.specs.Refusing.{AreFitBelow, IsFitOf, IsFitChild, IsFitMachine, are_sorts, entry_names, names_below}
+use Rattle.ila_build.specs.Refusing.{AreFitBelow, IsFitChild, are_sorts, entry_names, names_below}
 use Rattle.ila_build.proofs.Sorting.{or_parts}
 use Rattle.ila_build.proofs.ChildDue.{data_names_are}
 use Rattle.ila_whole.specs.Shaped.{is_top_state, is_private_state, is_plain_input, has_private_states, machines_inside, is_shaped}
 use Rattle.ila_whole.proofs.Unbroken.{unbroken, not_false, all_right, not_too_deep}
-use Rattle.ila_whole.proofs.Children.{AreGood, IsGoodOf, IsGoodChild, AreGoodIn, are_good}
+use Rattle.ila_whole.proofs.Children.{AreGood, IsGoodChild, are_good}
 use Rattle.ila_whole.proofs.Top.{IsSound}
 
 pub sound : (m : WrittenModel) → broken_rule m ≡ None → is_shaped m ≡ true → IsSound m.inputs m.top

@@ -1,5 +1,5 @@
 -- The parts of a model that no rule refuses are well sorted.
-use Rattle.std.proofs.Common.{◌≡◌, ℕ, zero, suc, ◌+◌, ◌<◌, ◌≤◌, Bool, true, false, not, ◌&&◌, ◌||◌, List, [], ◌∷◌, ◌++◌, length, map, drop, replicate, Option, Some, None, option_map, refl, sym, ap, ◌∙◌, subst, arith, append_assoc, length-append}
+use Rattle.std.proofs.Common.{◌≡◌, ℕ, zero, suc, ◌+◌, ◌≤◌, Bool, true, false, not, ◌||◌, List, [], ◌∷◌, ◌++◌, length, map, drop, replicate, Option, Some, None, option_map, refl, sym, ap, ◌∙◌, subst, arith, append_assoc, length-append}
 use Rattle.std.specs.Prelude.{nat_le, nat_lt, is_none}
 use Rattle.std.specs.List.{list_all}
 use Rattle.std.proofs.lemmas.Bool.{false≢true, and_parts, and_from}
@@ -7,10 +7,9 @@ use Rattle.std.proofs.lemmas.List.{append-nil}
 use Rattle.wb_meaning.specs.Value as meaning
 use Rattle.wb_meaning.specs.Value.{Sort, truth, word, memory, Entries}
 use Rattle.wb_meaning.specs.Model.{StateDeclaration, InputDeclaration}
-use Rattle.wb_meaning.specs.ModelFile.Written.{WrittenInstructions, WrittenMachine, machine, WrittenModel, states_in, machines_in, machines_below}
+use Rattle.wb_meaning.specs.ModelFile.Written.{WrittenMachine, machine, states_in, machines_in}
 use Rattle.wb_meaning.specs.ModelFile.Scope.{Scope, with_inputs, with_states, with_definitions, with_fetch, scope_within, terms_in}
 use Rattle.wb_meaning.specs.ModelFile.Rules.{is_memory_sort, has_state_widths, has_fitting_initial_values, fits_sort, depth_of, depth_below, has_step_limits}
-use Rattle.wb_meaning.specs.ModelFile.Meaning.{broken_rule}
 use Rattle.wb_terms.specs.declared.values.Value.{Value}
 use Rattle.wb_terms.specs.Environment.{as_value}
 use Rattle.wb_terms.specs.Graph.{HasDistinctNames}
@@ -18,7 +17,7 @@ use Rattle.ila_model.specs.declared.parts.Parts.{Parts}
 use Rattle.ila_model.specs.declared.scopes.Scope as places
 use Rattle.ila_model.specs.declared.scopes.Scope.TheVariants.{Anywhere}
 use Rattle.ila_model.specs.Scope.{private_scopes, name_scopes, may_read, home, tops}
-use Rattle.ila_model.specs.Sorted.{is_top_initial, are_states, is_input_sort, are_inputs, are_placed, name_at, is_state_at, is_machine, are_children, are_declarations, is_well_sorted}
+use Rattle.ila_model.specs.Sorted.{is_top_initial, are_states, is_input_sort, are_inputs, are_placed, is_machine, are_children, are_declarations, is_well_sorted}
 use Rattle.ila_model.proofs.Declarations.{are_distinct-from}
 use Rattle.ila_build.specs.Knowing.{are_right}
 use Rattle.ila_build.specs.Declaring.{state_entry, input_entry}
@@ -28,9 +27,9 @@ use Rattle.ila_build.specs.Inside.{links_from}
 use Rattle.ila_build.specs.Layout.{AreLaid}
 use Rattle.ila_build.proofs.ChildLemmas.{drop_front}
 use Rattle.ila_build.proofs.InsideLemmas.{machine_right}
-use Rattle.ila_whole.specs.Shaped.{is_top_state, is_plain_input, has_private_states, machines_inside, is_shaped}
+use Rattle.ila_whole.specs.Shaped.{is_top_state, is_plain_input, has_private_states, machines_inside}
 use Rattle.ila_whole.proofs.Homes.{IsTabled, AreHomed, are_homed, top_homed, homed_front, homed_rest}
-use Rattle.ila_whole.proofs.WellSorted.{AreKnownAt, none_known, known_states, known_inputs, known_definitions, AreStatesAt, machine_at, within}
+use Rattle.ila_whole.proofs.WellSorted.{none_known, known_states, known_inputs, known_definitions, AreStatesAt, machine_at, within}
 use Rattle.ila_whole.proofs.Children.{AreGood, are_good, as_many, linked_at, children_at}
 
 -- ---- declarations

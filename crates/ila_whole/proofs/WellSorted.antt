@@ -1,17 +1,16 @@
 -- The terms, updates and instructions of a machine that no rule refuses are well sorted at their place.
-use Rattle.std.proofs.Common.{◌≡◌, ℕ, zero, suc, ◌+◌, ◌<◌, ◌≤◌, Bool, true, false, cond, not, ◌&&◌, ◌||◌, List, [], ◌∷◌, ◌++◌, length, map, Option, Some, None, refl, sym, ap, ◌∙◌, subst, arith, append_assoc, length-append}
-use Rattle.std.specs.Prelude.{◌==◌, nat_le, nat_lt, ⊤, is_none, slice_index_or, codes}
+use Rattle.std.proofs.Common.{◌≡◌, ℕ, suc, ◌+◌, ◌<◌, ◌≤◌, Bool, true, false, cond, not, ◌||◌, List, [], ◌∷◌, ◌++◌, length, map, Option, Some, None, refl, sym, ap, ◌∙◌, subst, arith, append_assoc, length-append}
+use Rattle.std.specs.Prelude.{◌==◌, nat_le, nat_lt, ⊤, codes}
 use Rattle.std.proofs.lemmas.Bool.Decides.{nat_tests}
 use Rattle.std.proofs.lemmas.Bool.{false≢true, and_parts, and_from, eqb-true, eq-eqb, leb-true}
 use Rattle.std.proofs.Math.Seq.{get_or-append_seam}
 use Rattle.std.proofs.lemmas.Slice.Eq.{bytes_eq-Decides}
 use Rattle.wb_meaning.specs.Value.{Name, same_name, Sort, truth, word, memory, Entries, entry_of}
-use Rattle.wb_meaning.specs.Term as terms
-use Rattle.wb_meaning.specs.Term.{Term, same_sort, sort_of}
+use Rattle.wb_meaning.specs.Term.{same_sort, sort_of}
 use Rattle.wb_meaning.specs.Model.{StateDeclaration, InputDeclaration, state_named}
-use Rattle.wb_meaning.specs.ModelFile.Written.{WrittenTerm, WrittenInstruction, instruction, WrittenInstructions, no_instructions, and_then, WrittenMachine, machine, WrittenChild, no_child, child, machines_of_instruction, machines_of_child}
+use Rattle.wb_meaning.specs.ModelFile.Written.{WrittenTerm, WrittenInstruction, instruction, WrittenInstructions, no_instructions, and_then, WrittenMachine, machine, WrittenChild, no_child, child, machines_of_instruction}
 use Rattle.wb_meaning.specs.ModelFile.Scope.{Visible, Place, of_definition, of_fetch, of_condition, of_update, placed, declared, defined, term_of, written_sort, with_inputs, with_states, with_definitions, with_fetch, placed_definitions, placed_fetch, placed_updates}
-use Rattle.wb_meaning.specs.ModelFile.Rules.{uses_unknown_name, updates_no_state, takes_sort, has_fitting_constants}
+use Rattle.wb_meaning.specs.ModelFile.Rules.{uses_unknown_name, updates_no_state, takes_sort}
 use Rattle.wb_meaning.specs.ModelFile.Meaning.{with_update, updates_of}
 use Rattle.wb_terms.specs.declared.nodes.TermId.{TermId}
 use Rattle.wb_terms.specs.Graph.{Graph, tree, HasDistinctNames}
@@ -21,8 +20,8 @@ use Rattle.ila_model.specs.declared.parts.ChildId.{ChildId}
 use Rattle.ila_model.specs.declared.parts.Child.{Child}
 use Rattle.ila_model.specs.declared.parts.Parts.{Parts}
 use Rattle.ila_model.specs.declared.scopes.Scope.{Scope}
-use Rattle.ila_model.specs.Scope.{around, may_read, home, tops, scope_of, term_scope}
-use Rattle.ila_model.specs.Sorted.{has_sort, is_term_of, is_read_at, is_condition, sort_at, name_at, is_state_at, are_updates, is_instruction, same_place, is_link, behind, are_instructions, is_machine}
+use Rattle.ila_model.specs.Scope.{may_read, home, scope_of, term_scope}
+use Rattle.ila_model.specs.Sorted.{has_sort, is_term_of, is_read_at, is_condition, sort_at, name_at, is_state_at, are_updates, is_instruction, is_link, behind, are_instructions, is_machine}
 use Rattle.ila_build.specs.Knowing.{is_right, are_right}
 use Rattle.ila_build.specs.Declaring.{state_entry, input_entry}
 use Rattle.ila_build.specs.Updating.{entry_at, StandAt, AreUpdates}

@@ -1,7 +1,7 @@
-use Rattle.std.proofs.Common.{◌≡◌, ◌∙◌, map, None, arith, ap, subst}
+use Rattle.std.proofs.Common.{◌∙◌, map, None, arith, ap, subst}
 use Rattle.std.proofs.lemmas.List.{length-map}
 use Rattle.std.proofs.lemmas.Result.{err_from_is_err_and}
-use Rattle.ila_file.specs.View.{input_view, machine_view, model_view}
+use Rattle.ila_file.specs.View.{input_view, model_view}
 use Rattle.ila_build.specs.Building.{instructions_in}
 use Rattle.ila_build.specs.Inside.{AreChildrenPut}
 use Rattle.ila_build.specs.Layout.{AreLaidPut}
