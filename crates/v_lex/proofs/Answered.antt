@@ -1,9 +1,7 @@
 -- Answers by their kind.
-use Rattle.std.proofs.Common.{◌≡◌, List, Result, Ok, Err, Vec, sym, ap, ◌∙◌}
-use Rattle.std.specs.Global.{Global}
+use Rattle.std.proofs.Common.{◌≡◌, List, Result, Err, sym, ap, ◌∙◌}
 use Rattle.wb_meaning.specs.Verilog.Token as pure
 use Rattle.wb_meaning.specs.Verilog.Text as texts
-use Rattle.v_lex.specs.declared.token.Token.{Token}
 use Rattle.v_lex.specs.declared.stop.LexKind.{LexKind}
 use Rattle.v_lex.specs.declared.stop.LexStop.{LexStop}
 use Rattle.v_lex.specs.declared.stop.LexStop.TheVariants.{Refused, NoMemory}

@@ -1,6 +1,6 @@
 -- Parts of a text by what stands behind them.
-use Rattle.std.proofs.Common.{◌≡◌, ℕ, suc, ◌+◌, ◌-◌, ◌≤◌, min, List, [], ◌∷◌, length, take, drop, Option, Some, None, refl, sym, ap, ◌∙◌, subst, arith}
-use Rattle.std.specs.Prelude.{option_map, option_and_then, cond, Bool, true, false, ◌<◌, zero}
+use Rattle.std.proofs.Common.{◌≡◌, ℕ, suc, ◌+◌, ◌-◌, min, List, [], ◌∷◌, length, take, drop, Option, Some, None, refl, sym, ap, ◌∙◌, arith}
+use Rattle.std.specs.Prelude.{option_map, option_and_then, cond, Bool, true, false, zero}
 use Rattle.std.proofs.lemmas.List.{length-drop, take_min, drop-drop}
 use Rattle.wb_meaning.specs.ModelFile.Names.{begins_with, is_letter}
 use Rattle.wb_meaning.specs.Verilog.Token.{decimal}

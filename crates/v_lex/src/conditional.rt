@@ -8,26 +8,29 @@ use crate::state::{Branch, Conditional};
 use std::alloc::AllocError;
 
 /// The innermost conditional.
-pub(crate) fn innermost(open: &[Conditional]) -> Option<Conditional>
-    ensures { option_map conditional_of result ≡ first_in (conditionals_of open.now) }
+pub(crate) fn innermost(stack: &[Conditional]) -> Option<Conditional>
+    ensures { option_map conditional_of result ≡ first_in (conditionals_of stack.now) }
 {
-    match open.last() {
+    match stack.last() {
         Some(conditional) => Some(*conditional),
         None => None,
     }
 }
 
-pub(crate) fn enter(open: &mut Vec<Conditional>, conditional: Conditional) -> Result<(), AllocError>
-    ensures { IfOk result (λ _. conditionals_of open.new.items ≡ conditional_of conditional ∷ conditionals_of open.old.items) }
+pub(crate) fn enter(
+    stack: &mut Vec<Conditional>,
+    conditional: Conditional,
+) -> Result<(), AllocError>
+    ensures { IfOk result (λ _. conditionals_of stack.new.items ≡ conditional_of conditional ∷ conditionals_of stack.old.items) }
 {
-    open.push(conditional)?;
+    stack.push(conditional)?;
     Ok(())
 }
 
-pub(crate) fn leave(open: &mut Vec<Conditional>)
-    ensures { conditionals_of open.new.items ≡ without_first (conditionals_of open.old.items) }
+pub(crate) fn leave(stack: &mut Vec<Conditional>)
+    ensures { conditionals_of stack.new.items ≡ without_first (conditionals_of stack.old.items) }
 {
-    open.pop();
+    stack.pop();
 }
 
 fn is_taken(branch: Branch) -> bool
@@ -40,10 +43,10 @@ fn is_taken(branch: Branch) -> bool
 }
 
 /// Whether the text here is left out.
-pub(crate) fn leaves_out(open: &[Conditional]) -> bool
-    ensures { result ≡ leaves_out (conditionals_of open.now) }
+pub(crate) fn leaves_out(stack: &[Conditional]) -> bool
+    ensures { result ≡ leaves_out (conditionals_of stack.now) }
 {
-    match innermost(open) {
+    match innermost(stack) {
         Some(conditional) => !is_taken(conditional.branch),
         None => false,
     }

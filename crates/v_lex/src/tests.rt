@@ -1,6 +1,6 @@
 //! Texts with their tokens or the kind of their refusal.
 
-use crate::{LexKind, LexStop, Mark, TokenKind, tokens};
+use crate::{LexKind, LexStop, Mark, Token, TokenKind, tokens};
 use std::alloc::{AllocError, Global};
 use std::process::Abort;
 use std::test::Fail;
@@ -372,4 +372,13 @@ fn nested_uses(rt: HostRuntime) -> Result<(), Fail> {
 #[test]
 fn nesting(rt: HostRuntime) -> Result<(), Fail> {
     check_many(&rt, rt.alloc(), &MANY)
+}
+
+/// The bytes of a token.
+const TOKEN_SIZE: usize = std::mem::size_of::<Token<'static>>();
+
+#[test]
+fn token_size(rt: HostRuntime) -> Result<(), Fail> {
+    assert!(rt; TOKEN_SIZE <= 32, "{}", TOKEN_SIZE);
+    Ok(())
 }

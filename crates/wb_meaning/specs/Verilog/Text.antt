@@ -1,9 +1,9 @@
 -- The tokens of Verilog files: macros, conditionals, and what is refused (IEEE 1364-2005, clause 19).
-use Rattle.std.specs.Prelude.{ℕ, zero, suc, ◌+◌, ◌-◌, Bool, true, false, cond, not, ◌&&◌, ◌||◌, ◌==◌, nat_le, nat_lt, List, [], ◌∷◌, ◌++◌, length, drop, Option, Some, None, Result, Ok, Err, codes}
+use Rattle.std.specs.Prelude.{ℕ, zero, suc, ◌+◌, Bool, true, false, cond, not, ◌&&◌, ◌||◌, ◌==◌, nat_le, nat_lt, List, [], ◌∷◌, ◌++◌, length, Option, Some, None, Result, Ok, Err, codes}
 use Rattle.std.specs.List.{list_all}
 use Rattle.std.specs.Str.{is_utf8}
 use Rattle.wb_meaning.specs.Value.{Name, same_name}
-use Rattle.wb_meaning.specs.Verilog.Token.{Mark, left_parenthesis, right_parenthesis, left_bracket, right_bracket, left_brace, right_brace, semicolon, colon, question, Token, word, system, decimal, based, mark}
+use Rattle.wb_meaning.specs.Verilog.Token.{Mark, left_parenthesis, right_parenthesis, left_bracket, right_bracket, left_brace, right_brace, semicolon, colon, question, Token, word, decimal, based, mark}
 use Rattle.wb_meaning.specs.Verilog.Lexical.{Piece, nothing, token, left_out, misdirected, define, undefine, if_defined, else_if, otherwise, end_if, use_of, Front, read_at, left_out_at}
 
 -- ---- what is known behind a part of the text

@@ -1,4 +1,4 @@
-use Rattle.std.proofs.Common.{◌≡◌, ℕ, List, Some, ap, ◌∙◌}
+use Rattle.std.proofs.Common.{ℕ, List, Some, ap, ◌∙◌}
 use Rattle.wb_meaning.specs.Verilog.Token.{decimal}
 use Rattle.wb_meaning.specs.Verilog.Lexical.{token, real_length}
 use Rattle.v_lex.proofs.Texts.{no_rest, plain_number}

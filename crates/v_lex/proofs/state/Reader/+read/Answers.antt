@@ -1,4 +1,4 @@
-use Rattle.std.proofs.Common.{◌≡◌, ℕ, List, Some, Option, Ok, arith, sym, ap, ◌∙◌, subst}
+use Rattle.std.proofs.Common.{ℕ, Some, Ok, arith, sym, ap, ◌∙◌, subst}
 use Rattle.std.specs.Prelude.{option_map, ⊤}
 use Rattle.std.proofs.lemmas.Result.{err_from_is_err_and}
 use Rattle.wb_meaning.specs.Verilog.Text.{Reading, Outcome, macro_read}
