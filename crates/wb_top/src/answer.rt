@@ -62,12 +62,7 @@ fn ended(alloc: Global, verb: Verb, contents: &[Vec<u8>]) -> Result<Outcome, NoM
     }
 }
 
-fn checked(
-    alloc: Global,
-    model: &[u8],
-    map: &[u8],
-    design: &Vec<u8>,
-) -> Result<Outcome, NoMemory>
+fn checked(alloc: Global, model: &[u8], map: &[u8], design: &Vec<u8>) -> Result<Outcome, NoMemory>
     ensures { IfOk result (λ o. IsChecked (model.now ∷ map.now ∷ design.now.items ∷ []) o.status o.text.items) }
 {
     match judge(alloc, model, map, design)? {

@@ -59,12 +59,7 @@ pub(crate) fn judge(
 }
 
 /// Judges the bytes of files whose model file breaks no rule.
-fn of_text(
-    alloc: Global,
-    model: &[u8],
-    map: &[u8],
-    design: &Vec<u8>,
-) -> Result<Judged, NoMemory>
+fn of_text(alloc: Global, model: &[u8], map: &[u8], design: &Vec<u8>) -> Result<Judged, NoMemory>
     requires { refusal_in (reading_of model.now) ≡ None }
     ensures { IfOk result (IsJudged model.now map.now design.now.items) }
 {

@@ -42,10 +42,7 @@ fn refusal_text_by(alloc: Global, rule: &[u8], note: &[u8]) -> Result<Vec<u8>, N
 }
 
 /// The text for a script that is refused.
-pub(crate) fn refusal_of_script(
-    alloc: Global,
-    refusal: &ScriptRefusal,
-) -> Result<Vec<u8>, NoMemory>
+pub(crate) fn refusal_of_script(alloc: Global, refusal: &ScriptRefusal) -> Result<Vec<u8>, NoMemory>
     ensures { IfOk result (λ text. IsRefusalBy (name_of_kind refusal.now.kind) text.items) }
 {
     refusal_text_by(

@@ -113,13 +113,7 @@ fn a_file_that_is_too_long_is_a_limit(rt: HostRuntime) -> Result<(), Fail> {
     let blanks = vec![in alloc; b' '; 4_194_305]?;
     let fitting = &blanks[1..];
     let rows: [(&[u8], &[u8], &[u8], Status, &str); 5] = [
-        (
-            &blanks,
-            &blanks,
-            &blanks,
-            Status::Limit,
-            "limit length 0\n",
-        ),
+        (&blanks, &blanks, &blanks, Status::Limit, "limit length 0\n"),
         (
             b"",
             &blanks,
