@@ -1,0 +1,8 @@
+use Rattle.std.proofs.Common.{◌≡◌, ◌+◌, ◌*◌, ◌-◌, ◌^◌, ◌<◌, Bool, List, length}
+use Rattle.gate_base.specs.Circuit.{Circuit}
+use Rattle.gate_words.specs.Binary.{AreKnown, number_in}
+use Rattle.gate_words.proofs.Constants.{IsConstant}
+use Rattle.gate_words.proofs.lists.constant.Given as goal
+
+abbrev pub invariant-loop-place : goal.invariant-loop-place
+invariant-loop-place l = IsConstant l.fn.number l.width l.place l.rest l.bits.items

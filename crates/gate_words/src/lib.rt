@@ -1,0 +1,11 @@
+//! Circuits for the operators on words: lists of bits, bit 0 first.
+#![tactic(auto)]
+
+mod chains;
+mod lists;
+mod products;
+mod shifts;
+
+pub use chains::{Cell, Chain, chained};
+pub use lists::constant;
+pub use shifts::Direction;
