@@ -1,6 +1,6 @@
 -- A chain, one cell after another.
 use Rattle.std.proofs.Common.{◌≡◌, ◌∙◌, ℕ, ◌<◌, ◌≤◌, ◌+◌, Bool, List, [], ◌∷◌, ◌++◌, length, drop, map, get_or, arith, refl, sym, ap, subst, append_assoc}
-use Rattle.std.proofs.lemmas.List.{drop_more, drop_all, append-nil, map_push}
+use Rattle.std.proofs.lemmas.List.{drop_more, drop_all, append-nil, map_push, length_push}
 use Rattle.std.proofs.lemmas.List.Elements.{All-nil, All-push}
 use Rattle.gate_base.specs.declared.bits.Bit.{Bit}
 use Rattle.gate_base.specs.Circuit.{Circuit, IsKnown, Grows, Follows, bit_value}
@@ -13,6 +13,8 @@ use Rattle.gate_words.proofs.Growing.{same, onward, all_known}
 pub record IsChaining (old now : Circuit) (k : Cell) (carry : Bit) (xs ys bits : List Bit) (next : Bit) (place : ℕ) : Type 0 where
   pub grows : Grows old now
   pub known_bits : AreKnown now bits
+  pub count : length bits ≡ place
+  pub within : place ≤ length xs
   pub known_next : IsKnown now next
   pub so_far : (w : List Bool) → Follows w now
       → values w bits ++ outputs k (bit_value w next) (values w (drop place xs)) (values w (drop place ys)) ≡ outputs k (bit_value w carry) (values w xs) (values w ys)
@@ -23,6 +25,8 @@ pub chain_start : (c : Circuit) (k : Cell) (carry : Bit) (xs ys : List Bit) → 
 chain_start c k carry xs ys h = record {
   grows = same c;
   known_bits = All-nil (IsKnown c);
+  count = refl;
+  within = omega arith;
   known_next = h;
   so_far = λ w f. refl;
   handed = λ w f. refl;
@@ -34,6 +38,8 @@ pub chain_turn : (old now new : Circuit) (k : Cell) (carry : Bit) (xs ys bits mo
 chain_turn old now new k carry xs ys bits more next out after place d h g s e i n = record {
   grows = onward h.grows g;
   known_bits = subst (AreKnown new) (sym e) (All-push (IsKnown new) bits out (all_known bits g h.known_bits) s.known_output);
+  count = ap length e ∙ (length_push bits out ∙ omega (arith, h.count));
+  within = omega (arith, i);
   known_next = s.known_next;
   so_far = λ w f.
       let rest = outputs k (bit_value w after) (values w (drop (place + 1) xs)) (values w (drop (place + 1) ys)) in
@@ -55,6 +61,7 @@ pub chain_end : (old now : Circuit) (k : Cell) (carry : Bit) (xs ys bits : List 
     → IsChaining old now k carry xs ys bits next place → length xs ≤ place → IsChain now k carry xs ys bits next
 chain_end old now k carry xs ys bits next place h i = record {
   known_bits = h.known_bits;
+  width = omega (arith, h.count, h.within, i);
   known_last = h.known_next;
   are_outputs = λ w f.
       sym (append-nil (values w bits))

@@ -1,6 +1,8 @@
 -- Lists of bits as numbers, bit 0 first.
-use Rattle.std.specs.Prelude.{◌≡◌, ℕ, ◌+◌, ◌*◌, ◌^◌, ◌<◌, Bool, cond, List, [], ◌∷◌, map, length, All}
+use Rattle.std.specs.Prelude.{◌≡◌, ℕ, zero, suc, ◌+◌, ◌*◌, ◌^◌, ◌<◌, Bool, cond, List, [], ◌∷◌, map, length, All}
+use Rattle.sat_base.specs.Literal.{positive}
 use Rattle.gate_base.specs.declared.bits.Bit.{Bit}
+use Rattle.gate_base.specs.declared.bits.Bit.TheVariants.{Literal}
 use Rattle.gate_base.specs.Circuit.{Circuit, IsKnown, bit_value, Follows}
 
 -- 1 for a true bit, 0 for a false one
@@ -23,3 +25,8 @@ number_in w bits = number_of (values w bits)
 -- the bits have variables of the circuit
 abbrev pub AreKnown : Circuit → List Bit → Type 0
 AreKnown c bits = All (IsKnown c) bits
+
+-- the positive literals of so many variables from one on
+abbrev pub literals_from : ℕ → ℕ → List Bit
+literals_from first zero = []
+literals_from first (suc n) = Literal (positive first) ∷ literals_from (suc first) n

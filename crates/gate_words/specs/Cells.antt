@@ -1,5 +1,5 @@
 -- Chains: one cell for each place of two words of one width, from bit 0 up, each handing a carry to the next.
-use Rattle.std.specs.Prelude.{◌≡◌, Bool, true, false, not, ◌&&◌, ◌||◌, cond, List, [], ◌∷◌, drop, ℕ}
+use Rattle.std.specs.Prelude.{◌≡◌, Bool, true, false, not, ◌&&◌, ◌||◌, cond, List, [], ◌∷◌, length}
 use Rattle.gate_base.specs.declared.bits.Bit.{Bit}
 use Rattle.gate_base.specs.Circuit.{Circuit, IsKnown, Grows, Follows, bit_value, differ}
 use Rattle.gate_words.specs.declared.chains.Cell.{Cell}
@@ -45,6 +45,7 @@ pub record IsCell (c : Circuit) (k : Cell) (x y carry output next : Bit) : Type 
 -- The bits and the last carry are those of a chain over two words.
 pub record IsChain (c : Circuit) (k : Cell) (carry : Bit) (xs ys bits : List Bit) (last : Bit) : Type 0 where
   pub known_bits : AreKnown c bits
+  pub width : length bits ≡ length xs
   pub known_last : IsKnown c last
   pub are_outputs : (w : List Bool) → Follows w c → values w bits ≡ outputs k (bit_value w carry) (values w xs) (values w ys)
   pub is_last : (w : List Bool) → Follows w c → bit_value w last ≡ last_carry k (bit_value w carry) (values w xs) (values w ys)

@@ -7,5 +7,5 @@ mod products;
 mod shifts;
 
 pub use chains::{Cell, Chain, chained};
-pub use lists::constant;
+pub use lists::{constant, cut, extended, joined, literals, sign_of, single, zeros};
 pub use shifts::Direction;

@@ -1,0 +1,7 @@
+pub mod Names
+pub mod Encodes
+pub mod Layout
+pub mod Blasting
+pub mod Forms
+pub mod Marks
+pub mod Used

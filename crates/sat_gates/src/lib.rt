@@ -1,0 +1,11 @@
+//! Terms of truth sort to formulas in conjunctive normal form, and values of their names from assignments.
+#![tactic(auto)]
+
+mod blasting;
+mod forms;
+mod formulas;
+mod layout;
+mod marks;
+
+pub use formulas::{BitMap, Blasted, blast};
+pub use sat_base::{Assignment, Cnf, NoMemory};
