@@ -2,10 +2,12 @@
 #![tactic(auto)]
 
 mod blasting;
+mod condition;
 mod forms;
 mod formulas;
 mod layout;
 mod marks;
 
+pub use condition::can_blast;
 pub use formulas::{BitMap, Blasted, blast};
 pub use sat_base::{Assignment, Cnf, NoMemory};
