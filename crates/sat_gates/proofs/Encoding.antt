@@ -40,6 +40,7 @@ numbered g root used firsts inputs vars l h = record {
   stands = λ j i.
       let e : is_some (get_or firsts j None) ≡ get_or used j false = ap (λ fs. is_some (get_or fs j None)) l.are_firsts ∙ used_some 0 g.names used j i l.are_used.room in
       (λ s. l.are_used.none_else j (sym e ∙ s), λ s. e ∙ is_marked g root used firsts inputs l j i s);
+  declared = λ n s h. let u = l.are_used.all n s h in (u.0, u.1, u.2);
   end = inputs;
   laid_out = subst (λ n. IsLaidOut 0 g.names firsts n) (sym l.end) (subst (λ fs. IsLaidOut 0 g.names fs (end_of 0 g.names used)) (sym l.are_firsts) (laid_out 0 g.names used l.are_used.room));
   below = h;

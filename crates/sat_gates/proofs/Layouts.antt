@@ -15,9 +15,10 @@ use Rattle.sat_gates.specs.Layout.{bit_count, variables_from, variables_of_sort,
 use Rattle.std.specs.Prelude.{is_some}
 use Rattle.sat_gates.specs.Marks.{IsMarked}
 use Rattle.sat_gates.specs.Used.{entry_at}
+use Rattle.sat_gates.specs.Reading.{FitsBelow}
 
 -- a name is found at its place
-absent : (es : Entries Sort) (m : Name) (j : ℕ) → j < length es → entry_of es m ≡ None → same_name (entry_at es j).0 m ≡ false
+pub absent : (es : Entries Sort) (m : Name) (j : ℕ) → j < length es → entry_of es m ≡ None → same_name (entry_at es j).0 m ≡ false
 absent [] m j i h = absurd (omega (arith, i))
 absent (e ∷ es) m zero i h = not_there (same_name e.0 m) h
   where
@@ -44,10 +45,10 @@ absent (e ∷ es) m (suc j) i h = absent es m j (omega (arith, i)) (rest (same_n
         no_some q = false≢true (ap is_none q)
     rest false k = k
 
-same_itself : (n : Name) → same_name n n ≡ true
+pub same_itself : (n : Name) → same_name n n ≡ true
 same_itself n = (bytes_eq-Decides n n).1 refl
 
-not_same : (n m : Name) → same_name n m ≡ false → same_name m n ≡ false
+pub not_same : (n m : Name) → same_name n m ≡ false → same_name m n ≡ false
 not_same n m e = test (same_name m n) refl
   where
     test : (b : Bool) → same_name m n ≡ b → same_name m n ≡ false
@@ -267,3 +268,39 @@ used_some next [] us j i n = absurd (omega (arith, i))
 used_some next (e ∷ es) [] j i n = absurd (omega (arith, n))
 used_some next (e ∷ es) (u ∷ us) zero i n = some_used next u
 used_some next (e ∷ es) (u ∷ us) (suc j) i n = used_some (next_after next e.1 u) es us j (omega (arith, i)) (omega (arith, n))
+
+-- of any layout
+pub laid_count : (next : ℕ) (es : Entries Sort) (fs : List (Option ℕ)) (end : ℕ) → IsLaidOut next es fs end → length fs ≡ length es
+laid_count next [] [] end h = refl
+laid_count next [] (f ∷ fs) end h = absurd h
+laid_count next (e ∷ es) [] end h = absurd h
+laid_count next (e ∷ es) (None ∷ fs) end h = ap suc (laid_count next es fs end h)
+laid_count next (e ∷ es) (Some f ∷ fs) end h = ap suc (laid_count (next + bit_count e.1) es fs end h.1)
+
+laid_le : (next : ℕ) (es : Entries Sort) (fs : List (Option ℕ)) (end : ℕ) → IsLaidOut next es fs end → next ≤ end
+laid_le next [] [] end h = omega (arith, h)
+laid_le next [] (f ∷ fs) end h = absurd h
+laid_le next (e ∷ es) [] end h = absurd h
+laid_le next (e ∷ es) (None ∷ fs) end h = laid_le next es fs end h
+laid_le next (e ∷ es) (Some f ∷ fs) end h = omega (arith, laid_le (next + bit_count e.1) es fs end h.1)
+
+pub laid_fits : (next : ℕ) (es : Entries Sort) (fs : List (Option ℕ)) (end bound j : ℕ) → IsLaidOut next es fs end → end < bound → j < length es → FitsBelow bound (get_or fs j None) (entry_at es j).1
+laid_fits next [] fs end bound j h b i = absurd (omega (arith, i))
+laid_fits next (e ∷ es) [] end bound j h b i = absurd h
+laid_fits next (e ∷ es) (None ∷ fs) end bound zero h b i = tt
+laid_fits next (e ∷ es) (None ∷ fs) end bound (suc j) h b i = laid_fits next es fs end bound j h b (omega (arith, i))
+laid_fits next (e ∷ es) (Some f ∷ fs) end bound zero h b i = omega (arith, h.0, b, laid_le (next + bit_count e.1) es fs end h.1)
+laid_fits next (e ∷ es) (Some f ∷ fs) end bound (suc j) h b i = laid_fits (next + bit_count e.1) es fs end bound j h.1 b (omega (arith, i))
+
+pub look : (es : Entries Sort) (fs : List (Option ℕ)) (j : ℕ) → HasDistinctNames es → j < length es → length fs ≡ length es
+    → variables_of es fs (entry_at es j).0 ≡ variables_of_sort (entry_at es j).1 (get_or fs j None)
+look [] fs j d i n = absurd (omega (arith, i))
+look (e ∷ es) [] j d i n = absurd (omega (arith, n))
+look (e ∷ es) (f ∷ fs) zero d i n = ap (λ b. cond b (variables_of_sort e.1 f) (variables_of es fs e.0)) (same_itself e.0)
+look (e ∷ es) (f ∷ fs) (suc j) d i n =
+    ap (λ b. cond b (variables_of_sort e.1 f) (variables_of es fs (entry_at es j).0)) (not_same (entry_at es j).0 e.0 (absent es e.0 j (omega (arith, i)) d.0))
+    ∙ look es fs j d.1 (omega (arith, i)) (omega (arith, n))
+
+pub variables_count : (first n : ℕ) → length (variables_from first n) ≡ n
+variables_count first zero = refl
+variables_count first (suc n) = ap suc (variables_count (suc first) n)

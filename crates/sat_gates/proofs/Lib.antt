@@ -6,3 +6,4 @@ pub mod OtherBits
 pub mod AllBits
 pub mod Layouts
 pub mod Encoding
+pub mod ReadingLemmas

@@ -51,6 +51,7 @@ end_of next _ _ = next
 -- The names that stand in a term, and no others, have variables: the first ones, in the order of declaration.
 pub record IsNumbered (es stand : Entries Sort) (firsts : List (Option ℕ)) (vars : ℕ) : Type 0 where
   pub stands : (j : ℕ) → j < length es → IsTrue (is_some (slice_index_or firsts j None)) ↔ Contains stand (slice_index_or es j ([], truth))
+  pub declared : (n : Name) (s : Sort) → Contains stand (n, s) → (j : ℕ) × (j < length es) × (slice_index_or es j ([], truth) ≡ (n, s))
   pub end : ℕ
   pub laid_out : IsLaidOut 0 es firsts end
   pub below : end ≤ vars

@@ -7,7 +7,9 @@ mod forms;
 mod formulas;
 mod layout;
 mod marks;
+mod reading;
 
 pub use condition::can_blast;
 pub use formulas::{BitMap, Blasted, blast};
+pub use reading::read_back;
 pub use sat_base::{Assignment, Cnf, NoMemory};

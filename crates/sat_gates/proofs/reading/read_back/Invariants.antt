@@ -1,0 +1,7 @@
+use Rattle.std.proofs.Common.{◌≡◌, ◌<◌, ℕ, length}
+use Rattle.wb_terms.specs.declared.values.Value.{Value}
+use Rattle.sat_gates.proofs.ReadingLemmas.{AreRead}
+use Rattle.sat_gates.proofs.reading.read_back.Given as goal
+
+abbrev pub invariant-loop-place : goal.invariant-loop-place
+invariant-loop-place l = AreRead l.terms.names l.fn.blasted.map l.assignment l.place l.values.items
