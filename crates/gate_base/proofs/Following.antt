@@ -1,13 +1,12 @@
 -- One gate more: what follows the longer circuit, and that every assignment of the inputs goes on in one way.
-use Rattle.std.proofs.Common.{◌≡◌, ◌∙◌, ℕ, zero, suc, ◌+◌, ◌<◌, ◌≤◌, Bool, true, false, not, cond, ◌&&◌, List, [], ◌∷◌, ◌++◌, length, take, get_or, arith, refl, sym, ap, subst, append_assoc}
-use Rattle.std.proofs.lemmas.List.{get_or-take, take_more, take_all, take-append-le, length-append, length_push, take-take, take_at, get_or_at}
+use Rattle.std.proofs.Common.{◌≡◌, ◌∙◌, ℕ, suc, ◌+◌, ◌<◌, Bool, false, not, cond, ◌&&◌, List, [], ◌∷◌, ◌++◌, length, take, get_or, arith, refl, sym, ap, subst}
+use Rattle.std.proofs.lemmas.List.{get_or-take, take_more, take_all, length-append, take-take, take_at, get_or_at}
 use Rattle.sat_base.specs.declared.literals.Lit.{Lit}
 use Rattle.sat_base.specs.Formula.{variable_value, value}
-use Rattle.gate_base.specs.declared.bits.Bit.{Bit}
-use Rattle.gate_base.specs.declared.bits.Bit.TheVariants.{Constant, Literal}
+use Rattle.gate_base.specs.declared.bits.Bit.TheVariants.{Literal}
 use Rattle.gate_base.specs.declared.bits.Gate.{Gate}
 use Rattle.gate_base.specs.declared.bits.Gate.TheVariants.{And, Xor, Ite}
-use Rattle.gate_base.specs.Circuit.{Circuit, size, differ, gate_value, FollowsFrom, Follows, IsDetermined, Grows, Gives}
+use Rattle.gate_base.specs.Circuit.{Circuit, differ, gate_value, FollowsFrom, IsDetermined, Grows, Gives}
 use Rattle.gate_base.specs.Clauses.{IsGateBelow, AreOrdered}
 
 pub first_follows : (v : ℕ) (w : List Bool) (gs hs : List Gate) → FollowsFrom v w (gs ++ hs) → FollowsFrom v w gs

@@ -1,12 +1,12 @@
 -- The clauses of gates are satisfied by the assignments that follow the gates.
-use Rattle.std.proofs.Common.{◌≡◌, ◌∙◌, ℕ, zero, suc, ◌+◌, ◌<◌, ◌≤◌, Bool, true, false, not, cond, ◌&&◌, ◌||◌, ◌↔◌, List, [], ◌∷◌, ◌++◌, length, get_or, arith, refl, sym, ap, subst, All, Any}
+use Rattle.std.proofs.Common.{◌≡◌, ◌∙◌, ℕ, suc, ◌+◌, ◌<◌, ◌≤◌, Bool, true, false, not, cond, ◌&&◌, ◌||◌, ◌↔◌, List, [], ◌∷◌, ◌++◌, length, get_or, arith, refl, sym, ap, subst, All}
 use Rattle.std.proofs.lemmas.List.Elements.{All-nil, All-cons, All-head, All-tail, All-append}
 use Rattle.std.specs.List.{list_any}
 use Rattle.std.proofs.lemmas.List.Folds.{Any-from_list_any, list_any-from_Any}
 use Rattle.std.proofs.lemmas.Bool.{and_parts, and_from}
 use Rattle.sat_base.specs.declared.literals.Lit.{Lit}
 use Rattle.sat_base.specs.Literal.{negation, positive}
-use Rattle.sat_base.specs.Formula.{Formula, variable_value, value, SatisfiesClause, IsClauseOver}
+use Rattle.sat_base.specs.Formula.{Formula, value, SatisfiesClause, IsClauseOver}
 use Rattle.gate_base.specs.declared.bits.Bit.{Bit}
 use Rattle.gate_base.specs.declared.bits.Bit.TheVariants.{Constant, Literal}
 use Rattle.gate_base.specs.declared.bits.Gate.{Gate}

@@ -1,5 +1,5 @@
 -- The clauses of a gate, and what holds of the gates of every circuit.
-use Rattle.std.specs.Prelude.{ℕ, suc, ◌<◌, Bool, true, false, List, [], ◌∷◌, ◌++◌, ⊤}
+use Rattle.std.specs.Prelude.{ℕ, suc, ◌<◌, true, false, List, [], ◌∷◌, ◌++◌, ⊤}
 use Rattle.sat_base.specs.declared.literals.Lit.{Lit}
 use Rattle.sat_base.specs.Literal.{negation, positive}
 use Rattle.gate_base.specs.declared.bits.Bit.{Bit}

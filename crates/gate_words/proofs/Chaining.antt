@@ -1,12 +1,12 @@
 -- A chain, one cell after another.
-use Rattle.std.proofs.Common.{◌≡◌, ◌∙◌, ℕ, ◌<◌, ◌≤◌, ◌+◌, Bool, List, [], ◌∷◌, ◌++◌, length, drop, map, get_or, arith, refl, sym, ap, subst, append_assoc}
+use Rattle.std.proofs.Common.{◌≡◌, ◌∙◌, ℕ, ◌<◌, ◌≤◌, ◌+◌, Bool, List, [], ◌∷◌, ◌++◌, length, drop, get_or, arith, refl, sym, ap, subst, append_assoc}
 use Rattle.std.proofs.lemmas.List.{drop_more, drop_all, append-nil, map_push, length_push}
 use Rattle.std.proofs.lemmas.List.Elements.{All-nil, All-push}
 use Rattle.gate_base.specs.declared.bits.Bit.{Bit}
 use Rattle.gate_base.specs.Circuit.{Circuit, IsKnown, Grows, Follows, bit_value}
 use Rattle.gate_words.specs.declared.chains.Cell.{Cell}
 use Rattle.gate_words.specs.Binary.{values, AreKnown}
-use Rattle.gate_words.specs.Cells.{cell_output, cell_carry, outputs, last_carry, IsCell, IsChain}
+use Rattle.gate_words.specs.Cells.{cell_output, outputs, last_carry, IsCell, IsChain}
 use Rattle.gate_words.proofs.Growing.{same, onward, all_known}
 
 -- so many places are done

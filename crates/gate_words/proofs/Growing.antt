@@ -1,9 +1,9 @@
 -- What is known of a circuit stays known as it grows.
-use Rattle.std.proofs.Common.{◌≡◌, ◌∙◌, ℕ, ◌<◌, ◌≤◌, Bool, List, arith, refl, sym, ap, All}
+use Rattle.std.proofs.Common.{◌∙◌, ℕ, ◌≤◌, List, arith, refl}
 use Rattle.std.proofs.lemmas.List.Elements.{All-weaker}
 use Rattle.gate_base.specs.declared.bits.Bit.{Bit}
 use Rattle.gate_base.specs.declared.bits.Bit.TheVariants.{Constant, Literal}
-use Rattle.gate_base.specs.Circuit.{Circuit, size, IsKnown, IsBitBelow, Grows, Follows}
+use Rattle.gate_base.specs.Circuit.{Circuit, size, IsKnown, IsBitBelow, Grows}
 use Rattle.gate_words.specs.Binary.{AreKnown}
 
 pub same : (c : Circuit) → Grows c c

@@ -1,9 +1,9 @@
 -- The numbers that lists of bits and chains of cells give.
-use Rattle.std.proofs.Common.{◌≡◌, ◌∙◌, ℕ, zero, suc, ◌+◌, ◌-◌, ◌*◌, ◌/◌, ◌%◌, ◌^◌, ◌<◌, ◌≤◌, ◌↔◌, Bool, true, false, not, cond, ◌&&◌, ◌||◌, List, [], ◌∷◌, ◌++◌, length, take, drop, replicate, map, bit_and, bit_or, bit_xor, eqb, ltb, arith, refl, sym, ap, subst, inl, inr}
-use Rattle.std.proofs.Math.Nat.{pow-succ', mul_comm}
-use Rattle.std.proofs.lemmas.Nat.{pow_pos, pow-add, and_block, or_block, xor_block, mod-mul-add, shr_high, mod_low, pow_below}
-use Rattle.std.proofs.lemmas.Bool.{cases_eq, eq-eqb, ne_eqb, cases_lt, lt-ltb, le-ltb, eqb-true, ltb-true, ltb-false}
-use Rattle.std.proofs.lemmas.List.{take-append-drop, length-take-le, length-drop, length-append, drop_all, take_all}
+use Rattle.std.proofs.Common.{◌≡◌, ◌∙◌, ℕ, zero, suc, ◌+◌, ◌-◌, ◌*◌, ◌/◌, ◌%◌, ◌^◌, ◌<◌, ◌≤◌, Bool, true, false, not, cond, ◌&&◌, ◌||◌, List, [], ◌∷◌, ◌++◌, length, take, drop, replicate, bit_and, bit_or, bit_xor, eqb, ltb, arith, refl, sym, ap, subst, inl, inr}
+use Rattle.std.proofs.Math.Nat.{pow-succ'}
+use Rattle.std.proofs.lemmas.Nat.{and_block, or_block, xor_block, mod-mul-add, shr_high, mod_low, pow_below}
+use Rattle.std.proofs.lemmas.Bool.{cases_eq, eq-eqb, ne_eqb, cases_lt, lt-ltb, le-ltb}
+use Rattle.std.proofs.lemmas.List.{take-append-drop, length-take-le, drop_all}
 use Rattle.gate_base.specs.Circuit.{differ}
 use Rattle.gate_words.specs.declared.chains.Cell.{Cell}
 use Rattle.gate_words.specs.declared.chains.Cell.TheVariants.{Not, And, Or, Xor, Choose, Sum, Difference, Same, Below}

@@ -1,9 +1,9 @@
 -- Lists of bits as numbers, bit 0 first.
-use Rattle.std.specs.Prelude.{◌≡◌, ℕ, zero, suc, ◌+◌, ◌*◌, ◌^◌, ◌<◌, Bool, cond, List, [], ◌∷◌, map, length, All}
+use Rattle.std.specs.Prelude.{ℕ, zero, suc, ◌+◌, ◌*◌, Bool, cond, List, [], ◌∷◌, map, All}
 use Rattle.sat_base.specs.Literal.{positive}
 use Rattle.gate_base.specs.declared.bits.Bit.{Bit}
 use Rattle.gate_base.specs.declared.bits.Bit.TheVariants.{Literal}
-use Rattle.gate_base.specs.Circuit.{Circuit, IsKnown, bit_value, Follows}
+use Rattle.gate_base.specs.Circuit.{Circuit, IsKnown, bit_value}
 
 -- 1 for a true bit, 0 for a false one
 abbrev pub digit : Bool → ℕ

@@ -1,7 +1,7 @@
 -- Chains: one cell for each place of two words of one width, from bit 0 up, each handing a carry to the next.
-use Rattle.std.specs.Prelude.{◌≡◌, Bool, true, false, not, ◌&&◌, ◌||◌, cond, List, [], ◌∷◌, length}
+use Rattle.std.specs.Prelude.{◌≡◌, Bool, false, not, ◌&&◌, ◌||◌, cond, List, [], ◌∷◌, length}
 use Rattle.gate_base.specs.declared.bits.Bit.{Bit}
-use Rattle.gate_base.specs.Circuit.{Circuit, IsKnown, Grows, Follows, bit_value, differ}
+use Rattle.gate_base.specs.Circuit.{Circuit, IsKnown, Follows, bit_value, differ}
 use Rattle.gate_words.specs.declared.chains.Cell.{Cell}
 use Rattle.gate_words.specs.declared.chains.Cell.TheVariants.{Not, And, Or, Xor, Choose, Sum, Difference, Same, Below}
 use Rattle.gate_words.specs.Binary.{values, AreKnown}

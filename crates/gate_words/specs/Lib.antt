@@ -1,3 +1,2 @@
 pub mod Binary
 pub mod Cells
-pub mod Moves

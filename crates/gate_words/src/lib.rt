@@ -3,9 +3,6 @@
 
 mod chains;
 mod lists;
-mod products;
-mod shifts;
 
 pub use chains::{Cell, Chain, chained};
 pub use lists::{constant, cut, extended, joined, literals, sign_of, single, zeros};
-pub use shifts::Direction;

@@ -1,5 +1,3 @@
-use Rattle.std.proofs.Common.{◌≡◌, ◌<◌, ◌≤◌, length, arith}
-use Rattle.gate_words.proofs.Growing.{all_known}
 use Rattle.gate_words.proofs.Chaining.{chain_start, chain_turn, chain_end}
 use Rattle.gate_words.proofs.chains.chained.Goals as goal
 

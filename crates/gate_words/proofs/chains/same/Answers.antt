@@ -1,4 +1,3 @@
-use Rattle.gate_words.proofs.Growing.{known}
 use Rattle.gate_words.proofs.chains.same.Goals as goal
 
 pub and-requires-clause-y : goal.and-requires-clause-y

@@ -1,4 +1,3 @@
-use Rattle.std.proofs.Common.{◌≡◌, ◌<◌}
 use Rattle.gate_words.proofs.Constants.{constant_start, constant_turn, constant_end}
 use Rattle.gate_words.proofs.lists.constant.Goals as goal
 

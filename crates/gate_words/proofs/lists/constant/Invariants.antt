@@ -1,6 +1,3 @@
-use Rattle.std.proofs.Common.{◌≡◌, ◌+◌, ◌*◌, ◌-◌, ◌^◌, ◌<◌, Bool, List, length}
-use Rattle.gate_base.specs.Circuit.{Circuit}
-use Rattle.gate_words.specs.Binary.{AreKnown, number_in}
 use Rattle.gate_words.proofs.Constants.{IsConstant}
 use Rattle.gate_words.proofs.lists.constant.Given as goal
 

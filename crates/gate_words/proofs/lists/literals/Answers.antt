@@ -1,4 +1,4 @@
-use Rattle.std.proofs.Common.{◌≡◌, ◌∙◌, ◌++◌, ◌∷◌, ◌+◌, ◌-◌, ℕ, suc, [], List, arith, sym, ap, subst, append_assoc}
+use Rattle.std.proofs.Common.{◌≡◌, ◌∙◌, ◌++◌, ◌∷◌, ◌+◌, ◌-◌, ℕ, suc, [], List, arith, sym, ap, append_assoc}
 use Rattle.sat_base.specs.Literal.{positive}
 use Rattle.gate_base.specs.declared.bits.Bit.{Bit}
 use Rattle.gate_base.specs.declared.bits.Bit.TheVariants.{Literal}

@@ -1,7 +1,7 @@
-use Rattle.std.proofs.Common.{◌≡◌, ◌<◌, ◌-◌, ℕ, List, length, get_or, false, arith, sym, ap}
+use Rattle.std.proofs.Common.{◌<◌, ◌-◌, length, false, arith, sym}
 use Rattle.std.proofs.lemmas.List.{get_or-map}
 use Rattle.std.proofs.lemmas.List.Elements.{All-get_or}
-use Rattle.std.proofs.lemmas.Bool.{eqb-false, cases_eq}
+use Rattle.std.proofs.lemmas.Bool.{eqb-false}
 use Rattle.gate_base.specs.Circuit.{bit_value, IsKnown}
 use Rattle.gate_words.proofs.lists.sign_of.Goals as goal
 

@@ -1,7 +1,4 @@
-use Rattle.std.proofs.Common.{◌≡◌, ◌∙◌, ◌+◌, ◌++◌, ◌∷◌, [], List, length, arith, subst, sym, ap, refl}
-use Rattle.gate_base.specs.declared.bits.Bit.{Bit}
-use Rattle.gate_base.specs.declared.bits.Bit.TheVariants.{Constant, Literal}
-use Rattle.gate_base.specs.declared.bits.Gate.{Gate}
+use Rattle.std.proofs.Common.{◌+◌, length, arith, subst, sym}
 use Rattle.gate_base.specs.Circuit.{Circuit, size, Grows}
 use Rattle.gate_base.specs.Clauses.{AreOrdered, IsGateBelow}
 use Rattle.gate_base.proofs.Following.{ordered_push, grows_by_gate, gives_gate}

@@ -1,7 +1,7 @@
-use Rattle.std.proofs.Common.{◌≡◌, ◌∙◌, ◌+◌, ◌++◌, ◌↔◌, length, List, Bool, true, arith, subst, sym, ap, refl, All}
+use Rattle.std.proofs.Common.{◌≡◌, ◌∙◌, ◌+◌, length, arith, subst, sym, ap}
 use Rattle.std.proofs.lemmas.Bool.{false≢true}
 use Rattle.gate_base.specs.Circuit.{Circuit, IsDetermined, IsFormulaOf, IsKnown}
-use Rattle.gate_base.specs.Clauses.{clauses_from, clauses_of_bit, AreOrdered}
+use Rattle.gate_base.specs.Clauses.{clauses_from}
 use Rattle.gate_base.proofs.Following.{determined}
 use Rattle.gate_base.specs.contracts.building.Builder.{the_view}
 use Rattle.gate_base.proofs.Satisfying.{formula_of, formula_over}

@@ -1,5 +1,5 @@
 use Rattle.std.proofs.Common.{◌≡◌, ◌∙◌, Bool, true, false, not, ◌&&◌, ◌||◌, ap, refl}
-use Rattle.gate_base.specs.Circuit.{size, bit_value}
+use Rattle.gate_base.specs.Circuit.{bit_value}
 use Rattle.gate_base.proofs.building.Builder.or.Goals as goal
 
 neither : (x y : Bool) → not (not x && not y) ≡ (x || y)

@@ -1,5 +1,5 @@
-use Rattle.std.proofs.Common.{◌≡◌, ◌∙◌, Bool, true, false, not, cond, sym, ap, refl}
-use Rattle.gate_base.specs.Circuit.{size, bit_value, differ}
+use Rattle.std.proofs.Common.{◌≡◌, ◌∙◌, Bool, true, false, sym, ap, refl}
+use Rattle.gate_base.specs.Circuit.{bit_value, differ}
 use Rattle.gate_base.proofs.building.Builder.xor.Goals as goal
 
 turned : (a b : Bool) → differ b a ≡ differ a b

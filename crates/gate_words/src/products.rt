@@ -1,1 +1,0 @@
-//! The product of two words.
