@@ -1,22 +1,21 @@
 -- The formula of the circuit of a term encodes the term.
-use Rattle.std.proofs.Common.{◌≡◌, ◌∙◌, ℕ, zero, suc, ◌+◌, ◌-◌, ◌<◌, ◌≤◌, ◌↔◌, Bool, true, false, List, [], ◌∷◌, ◌++◌, length, map, take, get_or, Option, Some, None, Contains, arith, refl, sym, ap, subst, inl, inr}
-use Rattle.std.proofs.lemmas.List.{get_or-take, ext_get_or, length-take-le, get_or_default}
+use Rattle.std.proofs.Common.{◌≡◌, ◌∙◌, ℕ, ◌+◌, ◌<◌, ◌≤◌, Bool, true, false, List, [], ◌∷◌, ◌++◌, length, map, take, get_or, Option, Some, None, Contains, arith, sym, ap, subst}
+use Rattle.std.proofs.lemmas.List.{get_or-take, ext_get_or, length-take-le}
 use Rattle.std.specs.Prelude.{not as truth_not, is_some}
 use Rattle.std.proofs.lemmas.Bool.{false≢true, not-true, and_parts}
-use Rattle.wb_meaning.specs.Value.{Name, Sort, truth, word, memory, Value, truth_value, number, words, as_truth, Entries, Valuation, HasSort}
+use Rattle.wb_meaning.specs.Value.{Name, Sort, truth, word, memory, truth_value, as_truth, Valuation}
 use Rattle.wb_meaning.specs.Term.{Term, name, constant_truth, const, not, neg, and, or, xor, add, sub, mul, shl, lshr, ashr, eq, ult, ule, slt, sle, concat, extract, zext, sext, ite, load, store, sort_of, val}
 use Rattle.sat_gates.proofs.Using.{of_one, of_two, of_none}
 use Rattle.wb_terms.specs.Graph.{Graph, HasDistinctNames, tree}
-use Rattle.sat_base.specs.Formula.{Formula, variable_value, Satisfies}
+use Rattle.sat_base.specs.Formula.{Formula, variable_value}
 use Rattle.gate_base.specs.declared.bits.Bit.{Bit}
-use Rattle.gate_base.specs.Circuit.{Circuit, size, bit_value, Follows, Grows, IsDetermined, IsFormulaOf}
-use Rattle.gate_words.specs.Binary.{values}
+use Rattle.gate_base.specs.Circuit.{Circuit, size, bit_value, Follows, IsDetermined, IsFormulaOf}
 use Rattle.sat_gates.specs.Names.{names_in, is_blastable}
-use Rattle.sat_gates.specs.Encodes.{Writes, Variables, GivesSorts, RestrictsTo, Falsifies, Encodes}
+use Rattle.sat_gates.specs.Encodes.{Writes, GivesSorts, RestrictsTo, Encodes}
 use Rattle.sat_gates.specs.Layout.{bit_count, variables_from, variables_of, firsts_of, end_of, IsLaidOut, IsNumbered}
 use Rattle.sat_gates.specs.Marks.{IsMarked}
-use Rattle.sat_gates.specs.Used.{entry_at, IsUsed, AreUsed}
-use Rattle.sat_gates.specs.Blasting.{WritesOf, AreBitsOf, HasVariables, AllHaveVariables}
+use Rattle.sat_gates.specs.Used.{entry_at, AreUsed}
+use Rattle.sat_gates.specs.Blasting.{WritesOf, AreBitsOf, AllHaveVariables}
 use Rattle.sat_gates.proofs.Nodes.{truth_written}
 use Rattle.sat_gates.proofs.Layouts.{IsBitSort, WriteAll, HasFrom, bits_of, inputs_for, first_at, lookup, first_is, firsts_count, first_fits, laid_out, used_some, same_place, bits_write, inputs_count, has_from, inputs_read, same_inputs}
 

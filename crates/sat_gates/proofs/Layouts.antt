@@ -1,16 +1,15 @@
 -- Inputs and the values of names, through the layout of the variables.
-use Rattle.std.proofs.Common.{◌≡◌, ◌≢◌, ◌∙◌, ℕ, zero, suc, ◌+◌, ◌-◌, ◌*◌, ◌/◌, ◌%◌, ◌^◌, ◌<◌, ◌≤◌, Bool, true, false, cond, List, [], ◌∷◌, ◌++◌, length, map, take, get_or, Option, Some, None, eqb, IsTrue, Contains, arith, refl, sym, ap, subst, inl, inr}
-use Rattle.std.proofs.lemmas.List.{get_or-take, ext_get_or, length-take-le, length-append, take_all}
+use Rattle.std.proofs.Common.{◌≡◌, ◌∙◌, ℕ, zero, suc, ◌+◌, ◌-◌, ◌/◌, ◌%◌, ◌^◌, ◌<◌, ◌≤◌, Bool, true, false, cond, List, [], ◌∷◌, ◌++◌, length, map, get_or, Option, Some, None, eqb, arith, refl, sym, ap, subst, inl, inr}
+use Rattle.std.proofs.lemmas.List.{length-append}
 use Rattle.std.proofs.lemmas.Bool.{false≢true, cases_eq, cases_lt, eq-eqb, ne_eqb, ltb-true}
 use Rattle.std.proofs.lemmas.Nat.{div-add-mod', mod_below}
 use Rattle.std.proofs.lemmas.Slice.Eq.{bytes_eq-Decides}
 use Rattle.std.proofs.Math.Nat.{pow-succ'}
 use Rattle.wb_meaning.specs.Value.{Name, Sort, truth, word, memory, Value, truth_value, number, words, as_truth, as_number, Entries, Valuation, HasSort, entry_of, same_name}
-use Rattle.wb_meaning.specs.Term.{Term}
 use Rattle.wb_terms.specs.Graph.{HasDistinctNames}
 use Rattle.sat_base.specs.Formula.{variable_value}
 use Rattle.gate_words.specs.Binary.{digit, number_of}
-use Rattle.sat_gates.specs.Encodes.{Writes, RestrictsTo}
+use Rattle.sat_gates.specs.Encodes.{Writes}
 use Rattle.sat_gates.specs.Layout.{bit_count, variables_from, variables_of_sort, variables_of, firsts_of, end_of, next_after, IsLaidOut}
 use Rattle.std.specs.Prelude.{is_some}
 use Rattle.sat_gates.specs.Marks.{IsMarked}

@@ -3,13 +3,13 @@ use Rattle.std.proofs.Common.{◌≡◌, ◌≢◌, ◌∙◌, ℕ, ◌+◌, ◌
 use Rattle.std.specs.Prelude.{slice_get}
 use Rattle.std.proofs.lemmas.List.{get_or-set_same, get_or-set_other, get_or_past, get_or-replicate, length-set, length-replicate}
 use Rattle.std.proofs.lemmas.List.Elements.{Contains-append_left, Contains-append_right}
-use Rattle.std.proofs.lemmas.Option.{slice_get_within, get_or_from_slice_get}
+use Rattle.std.proofs.lemmas.Option.{get_or_from_slice_get}
 use Rattle.std.proofs.lemmas.Bool.{cases_eq, cases_lt, false≢true, and_parts}
-use Rattle.wb_meaning.specs.Value.{Name, Sort, Entries}
+use Rattle.wb_meaning.specs.Value.{Sort, Entries}
 use Rattle.wb_meaning.specs.Term.{Term}
 use Rattle.wb_terms.specs.declared.nodes.Node.{Node}
 use Rattle.wb_terms.specs.declared.nodes.Node.TheVariants.{Name as NameNode, Truth, Const, Not, And, Or, Xor, Neg, Add, Sub, Mul, Shl, Lshr, Ashr, Eq, Ult, Ule, Slt, Sle, Concat, Extract, Zext, Sext, Ite, Load, Store}
-use Rattle.wb_terms.specs.Graph.{Graph, tree, tree_at, tree_of, trees_of, tree_of_node, operands_of, AllBelow, IsOver}
+use Rattle.wb_terms.specs.Graph.{Graph, tree, tree_at, tree_of, trees_of, tree_of_node, operands_of, AllBelow}
 use Rattle.sat_gates.specs.Names.{names_in, is_blastable}
 use Rattle.sat_gates.specs.Marks.{with_marks, IsMarked, AreMarked, IsPart, AreMarks}
 

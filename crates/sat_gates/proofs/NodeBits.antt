@@ -1,30 +1,28 @@
 -- The bits of nodes that are chains.
-use Rattle.std.proofs.Common.{◌≡◌, ◌∙◌, ℕ, suc, ◌+◌, ◌-◌, ◌*◌, ◌^◌, ◌<◌, ◌≤◌, Bool, true, false, not, cond, List, [], ◌∷◌, ◌++◌, length, map, take, drop, replicate, get_or, Option, Some, None, arith, refl, sym, ap, subst, ⊎_elim, inl, inr, All}
+use Rattle.std.proofs.Common.{◌≡◌, ◌∙◌, ℕ, ◌<◌, Bool, false, not, List, [], ◌∷◌, length, get_or, Option, arith, refl, sym, ap, subst, inl, inr}
 use Rattle.std.specs.Prelude.{IsSome, ⊤, Vec}
 use Rattle.std.specs.Global.{Global}
-use Rattle.std.proofs.lemmas.Bool.{false≢true}
-use Rattle.std.proofs.lemmas.List.{length-map, length_push, map-append, length-append, length-replicate}
-use Rattle.std.proofs.lemmas.List.Elements.{All-nil, All-push, All-append, All-replicate}
-use Rattle.wb_meaning.specs.Value.{Sort, truth, word, memory, Value, truth_value, number, words, Entries, Valuation}
-use Rattle.wb_meaning.specs.Term.{Term, sort_of, val, bits_sort, same_bits_sort, same_word_sort, word_sort, compared, some_if, width_of_sort}
+use Rattle.std.proofs.lemmas.List.{length-map}
+use Rattle.std.proofs.lemmas.List.Elements.{All-nil, All-push}
+use Rattle.wb_meaning.specs.Value.{Sort, Entries}
+use Rattle.wb_meaning.specs.Term.{Term, sort_of, val, bits_sort, same_bits_sort, same_word_sort}
 use Rattle.wb_terms.specs.declared.nodes.Node.{Node}
-use Rattle.wb_terms.specs.declared.nodes.Node.TheVariants.{Name as NameNode, Truth, Const, Not, And, Or, Xor, Neg, Add, Sub, Mul, Shl, Lshr, Ashr, Eq, Ult, Ule, Slt, Sle, Concat, Extract, Zext, Sext, Ite, Load, Store}
-use Rattle.wb_terms.specs.Graph.{Graph, tree, tree_at, tree_of, trees_of, tree_of_node, operands_of, names_of}
+use Rattle.wb_terms.specs.declared.nodes.Node.TheVariants.{Not, And, Or, Xor, Add, Sub, Eq, Ult, Ule}
+use Rattle.wb_terms.specs.Graph.{Graph, tree, tree_at, tree_of, operands_of}
 use Rattle.gate_base.specs.declared.bits.Bit.{Bit}
 use Rattle.gate_base.specs.declared.bits.Bit.TheVariants.{Constant}
-use Rattle.gate_base.specs.Circuit.{Circuit, bit_value, Follows, IsKnown, Grows}
-use Rattle.gate_words.specs.declared.chains.Cell.{Cell}
+use Rattle.gate_base.specs.Circuit.{Circuit, bit_value, IsKnown, Grows}
 use Rattle.gate_words.specs.declared.chains.Cell.TheVariants as cell
 use Rattle.gate_words.specs.Binary.{values, AreKnown}
-use Rattle.gate_words.specs.Cells.{outputs, last_carry, IsChain}
+use Rattle.gate_words.specs.Cells.{outputs, IsChain}
 use Rattle.gate_words.proofs.Growing.{all_known}
 use Rattle.sat_gates.specs.declared.forms.Form.{Form}
 use Rattle.sat_gates.specs.declared.forms.Form.TheVariants.{Chain, Last, Other}
 use Rattle.sat_gates.specs.Forms.{form_of}
-use Rattle.sat_gates.specs.Encodes.{Variables, RestrictsTo}
+use Rattle.sat_gates.specs.Encodes.{Variables}
 use Rattle.sat_gates.specs.Layout.{bit_count_of}
-use Rattle.sat_gates.specs.Blasting.{WritesOf, AreBitsOf, HaveBits}
-use Rattle.sat_gates.proofs.Nodes.{AreWords, AreTruths, are_words, are_bits, not_bits, compared_truth, compared_some, writes_add, writes_sub, writes_and, writes_or, writes_xor, writes_not, writes_eq, writes_ult, writes_ule}
+use Rattle.sat_gates.specs.Blasting.{AreBitsOf, HaveBits}
+use Rattle.sat_gates.proofs.Nodes.{AreWords, are_words, are_bits, not_bits, compared_truth, compared_some, writes_add, writes_sub, writes_and, writes_or, writes_xor, writes_not, writes_eq, writes_ult, writes_ule}
 
 pub grown : {c d : Circuit} (t : Term) (m : Variables) (u : Term) (bits : List Bit) → Grows c d → AreBitsOf t m c u bits → AreBitsOf t m d u bits
 grown t m u bits g h = record { known = all_known bits g h.known; width = h.width; value = λ a v f r. h.value a v (g.follows a f) r }

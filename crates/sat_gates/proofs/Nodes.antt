@@ -1,13 +1,13 @@
 -- Bits of operands to bits of terms, form by form.
-use Rattle.std.proofs.Common.{◌≡◌, ◌∙◌, ℕ, suc, ◌+◌, ◌-◌, ◌*◌, ◌/◌, ◌%◌, ◌^◌, ◌<◌, ◌≤◌, Bool, true, false, not, ◌&&◌, ◌||◌, cond, List, [], ◌∷◌, ◌++◌, length, map, take, drop, replicate, get_or, Option, Some, None, eqb, ltb, arith, refl, sym, ap, subst, ◌⊎◌, inl, inr}
+use Rattle.std.proofs.Common.{◌≡◌, ◌∙◌, ℕ, suc, ◌+◌, ◌-◌, ◌*◌, ◌/◌, ◌%◌, ◌^◌, ◌<◌, ◌≤◌, Bool, true, false, not, ◌&&◌, ◌||◌, cond, List, [], ◌∷◌, ◌++◌, length, take, drop, replicate, get_or, Option, Some, None, eqb, ltb, arith, refl, sym, ap, subst, ◌⊎◌, inl, inr}
 use Rattle.std.specs.Prelude.{IsSome, nat_le, nat_lt}
 use Rattle.std.proofs.lemmas.Bool.{false≢true, eqb-true, leb-true, ltb-true, le-leb, lt-leb, cases_eq, and_parts}
 use Rattle.std.proofs.Math.Nat.{pow-succ'}
 use Rattle.std.proofs.lemmas.Nat.{pow-add}
 use Rattle.std.proofs.lemmas.List.{length-append, length-drop, length-take-le, length-replicate, take_all, take_more, nil_from_length}
 use Rattle.wb_meaning.specs.Value.{Sort, truth, word, memory, Value, truth_value, number, words, as_truth, as_number}
-use Rattle.wb_meaning.specs.Term.{some_if, bits_sort, same_bits_sort, word_sort, same_word_sort, compared, concat_sort, extract_sort, extended_sort, ite_sort, same_sort, width_of_sort, complement, conjunction, disjunction, exclusive_or, is_equal}
-use Rattle.wb_meaning.specs.Number.{word_not, word_neg, word_add, word_sub, word_ult, word_ule, word_concat, word_extract, word_zext, word_sext, top_bit}
+use Rattle.wb_meaning.specs.Term.{some_if, bits_sort, same_bits_sort, same_word_sort, compared, concat_sort, extract_sort, extended_sort, ite_sort, same_sort, width_of_sort, complement, conjunction, disjunction, exclusive_or, is_equal}
+use Rattle.wb_meaning.specs.Number.{word_add, word_sub, word_ult, word_ule, word_concat, word_extract, word_zext, word_sext, top_bit}
 use Rattle.gate_base.specs.Circuit.{differ}
 use Rattle.gate_words.specs.declared.chains.Cell.{Cell}
 use Rattle.gate_words.specs.declared.chains.Cell.TheVariants as cell
@@ -15,7 +15,6 @@ use Rattle.gate_words.specs.Binary.{digit, number_of}
 use Rattle.gate_words.specs.Cells.{outputs, last_carry}
 use Rattle.gate_words.proofs.Numbers.{number_below, length-outputs, number-and, number-or, number-xor, number-not, choose_all, number-sum, number-difference, last-below, last-same, number-append, number-drop, number-take, number-zeros, number-ones}
 use Rattle.sat_gates.specs.Encodes.{Writes}
-use Rattle.sat_gates.specs.Layout.{bit_count_of}
 use Rattle.sat_gates.specs.Blasting.{WritesOf}
 
 -- two words of one width

@@ -1,27 +1,27 @@
 -- The bits of nodes that are no chain.
-use Rattle.std.proofs.Common.{◌≡◌, ◌∙◌, ℕ, zero, suc, ◌+◌, ◌-◌, ◌*◌, ◌%◌, ◌^◌, ◌<◌, ◌≤◌, Bool, true, false, cond, List, [], ◌∷◌, ◌++◌, length, map, take, drop, replicate, get_or, Option, Some, None, arith, refl, sym, ap, subst, All}
-use Rattle.std.specs.Prelude.{IsSome, Vec, nat_le}
-use Rattle.std.proofs.lemmas.Bool.{false≢true, le-leb, lt-leb, cases_Bool, le-ltb}
-use Rattle.std.proofs.lemmas.List.{length-map, map-append, length-append, length-replicate, take-map, drop-map, length-take-le, length-drop, get_or-map, take_more, take_all, get_or_past}
+use Rattle.std.proofs.Common.{◌≡◌, ◌∙◌, ℕ, zero, suc, ◌+◌, ◌-◌, ◌%◌, ◌^◌, ◌<◌, ◌≤◌, Bool, true, false, List, [], ◌∷◌, ◌++◌, length, map, take, drop, replicate, get_or, Option, Some, None, arith, refl, sym, ap, subst}
+use Rattle.std.specs.Prelude.{IsSome}
+use Rattle.std.proofs.lemmas.Bool.{false≢true}
+use Rattle.std.proofs.lemmas.List.{length-map, map-append, length-append, length-replicate, take-map, drop-map, length-take-le, length-drop}
 use Rattle.std.proofs.lemmas.List.Elements.{All-nil, All-cons, All-append, All-replicate, All-take, All-drop}
-use Rattle.wb_meaning.specs.Value.{Name, Sort, truth, word, memory, Value, truth_value, number, words, as_number, Entries, Valuation}
-use Rattle.wb_meaning.specs.Term.{Term, name, const, neg, ite, concat, extract, zext, sext, sort_of, val, is_sort, some_if, word_sort, concat_sort, extract_sort, extended_sort, ite_sort, width_of_sort}
-use Rattle.wb_meaning.specs.Number.{word_neg, word_sext, top_bit}
-use Rattle.wb_terms.specs.Graph.{Graph, tree, tree_at, leaf_at}
+use Rattle.wb_meaning.specs.Value.{Sort, truth, word, memory, number, as_number}
+use Rattle.wb_meaning.specs.Term.{Term, const, neg, ite, concat, extract, zext, sext, sort_of, val, is_sort, some_if, word_sort, concat_sort, extract_sort, extended_sort, ite_sort, width_of_sort}
+use Rattle.wb_meaning.specs.Number.{word_neg}
+use Rattle.wb_terms.specs.Graph.{Graph, tree, leaf_at}
 use Rattle.sat_base.specs.Formula.{variable_value}
 use Rattle.sat_base.specs.Literal.{positive}
 use Rattle.gate_base.specs.declared.bits.Bit.{Bit}
 use Rattle.gate_base.specs.declared.bits.Bit.TheVariants.{Constant, Literal}
-use Rattle.gate_base.specs.Circuit.{Circuit, size, Follows, IsKnown, bit_value}
+use Rattle.gate_base.specs.Circuit.{Circuit, size, IsKnown, bit_value}
 use Rattle.gate_words.specs.declared.chains.Cell.TheVariants as cell
-use Rattle.gate_words.specs.Binary.{digit, number_of, number_in, values, AreKnown, literals_from}
-use Rattle.gate_words.specs.Cells.{outputs, IsChain}
-use Rattle.gate_words.proofs.Numbers.{number-difference, number-zeros, number_below}
-use Rattle.sat_gates.specs.Encodes.{Variables, RestrictsTo, Writes}
+use Rattle.gate_words.specs.Binary.{number_of, number_in, values, AreKnown, literals_from}
+use Rattle.gate_words.specs.Cells.{IsChain}
+use Rattle.gate_words.proofs.Numbers.{number-difference, number-zeros}
+use Rattle.sat_gates.specs.Encodes.{Variables, Writes}
 use Rattle.sat_gates.specs.Layout.{bit_count, bit_count_of, variables_from, variables_of}
 use Rattle.sat_gates.specs.Used.{entry_at}
 use Rattle.sat_gates.specs.Blasting.{WritesOf, AreBitsOf, HasVariables, IsNegative}
-use Rattle.sat_gates.proofs.Nodes.{word_written, truth_written, writes_ite, writes_concat, writes_extract, writes_zext, writes_sext, is_choice, IsChoice, are_joined, is_cut, is_wider}
+use Rattle.sat_gates.proofs.Nodes.{word_written, writes_ite, writes_concat, writes_extract, writes_zext, writes_sext, is_choice, are_joined, is_cut, is_wider}
 
 some_is : (b : Bool) (s : Sort) → IsSome (some_if b s) → some_if b s ≡ Some s
 some_is true s h = refl

@@ -1,5 +1,5 @@
 -- What holds of the bits of a term while others are still to come.
-use Rattle.std.specs.Prelude.{◌≡◌, ℕ, ◌+◌, ◌<◌, ◌≤◌, Bool, true, List, [], ◌∷◌, length, ⊤, Option, Some, None, slice_index_or, Contains, Vec}
+use Rattle.std.specs.Prelude.{◌≡◌, ℕ, ◌+◌, ◌<◌, ◌≤◌, Bool, List, [], ◌∷◌, length, ⊤, Option, Some, None, slice_index_or, Contains, Vec}
 use Rattle.std.specs.Global.{Global}
 use Rattle.wb_meaning.specs.Value.{Sort, Value, Valuation}
 use Rattle.wb_meaning.specs.Term.{Term, sort_of, val}

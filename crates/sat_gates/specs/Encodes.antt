@@ -1,6 +1,6 @@
 -- When a formula in conjunctive normal form encodes a term.
-use Rattle.std.specs.Prelude.{◌≡◌, ◌↔◌, ℕ, Bool, false, List, [], ◌∷◌, map, length, Option, Some, None, Contains}
-use Rattle.wb_meaning.specs.Value.{Name, Sort, truth, word, memory, Value, truth_value, number, words, Valuation, HasSort}
+use Rattle.std.specs.Prelude.{◌≡◌, ◌↔◌, ℕ, Bool, false, List, [], ◌∷◌, map, length, Contains}
+use Rattle.wb_meaning.specs.Value.{Name, Sort, truth, word, Value, truth_value, number, Valuation, HasSort}
 use Rattle.wb_meaning.specs.Term.{Term, val}
 use Rattle.sat_base.specs.Formula.{Formula, variable_value, Satisfies}
 use Rattle.gate_words.specs.Binary.{number_of}

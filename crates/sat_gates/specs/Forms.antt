@@ -1,7 +1,7 @@
 -- Which circuit the term of a node becomes.
 use Rattle.std.specs.Prelude.{true, false}
 use Rattle.wb_terms.specs.declared.nodes.Node.{Node}
-use Rattle.wb_terms.specs.declared.nodes.Node.TheVariants.{Name, Truth, Const, Not, And, Or, Xor, Neg, Add, Sub, Mul, Shl, Lshr, Ashr, Eq, Ult, Ule, Slt, Sle, Concat, Extract, Zext, Sext, Ite, Load, Store}
+use Rattle.wb_terms.specs.declared.nodes.Node.TheVariants.{Not, And, Or, Xor, Add, Sub, Eq, Ult, Ule}
 use Rattle.gate_words.specs.declared.chains.Cell.TheVariants as cell
 use Rattle.sat_gates.specs.declared.forms.Form.{Form}
 use Rattle.sat_gates.specs.declared.forms.Form.TheVariants.{Chain, Last, Other}

@@ -1,5 +1,5 @@
 -- Marks on the terms that a term stands on.
-use Rattle.std.specs.Prelude.{◌≡◌, ℕ, ◌+◌, ◌<◌, ◌≤◌, Bool, true, false, List, [], ◌∷◌, length, slice_index_or, slice_set, ⊤, Contains}
+use Rattle.std.specs.Prelude.{◌≡◌, ℕ, ◌+◌, ◌≤◌, Bool, true, false, List, [], ◌∷◌, length, slice_index_or, slice_set, ⊤, Contains}
 use Rattle.wb_meaning.specs.Value.{Name, Sort}
 use Rattle.wb_meaning.specs.Term.{Term}
 use Rattle.wb_terms.specs.declared.nodes.Node.{Node}

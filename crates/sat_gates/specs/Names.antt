@@ -1,6 +1,6 @@
 -- The names that stand in a term, and the terms that become formulas.
-use Rattle.std.specs.Prelude.{Bool, true, false, ◌&&◌, List, [], ◌∷◌, ◌++◌}
-use Rattle.wb_meaning.specs.Value.{Sort, truth, word, memory, Entries}
+use Rattle.std.specs.Prelude.{Bool, true, false, ◌&&◌, [], ◌∷◌, ◌++◌}
+use Rattle.wb_meaning.specs.Value.{Sort, memory, Entries}
 use Rattle.wb_meaning.specs.Term.{Term, name, constant_truth, const, not, neg, and, or, xor, add, sub, mul, shl, lshr, ashr, eq, ult, ule, slt, sle, concat, extract, zext, sext, ite, load, store}
 
 -- the names of a term with their sorts, from left to right, each as often as it stands there

@@ -1,5 +1,5 @@
 -- Values that are read from an assignment.
-use Rattle.std.specs.Prelude.{◌≡◌, ℕ, ◌+◌, ◌<◌, Bool, List, map, ⊤, Option, Some, None}
+use Rattle.std.specs.Prelude.{ℕ, ◌+◌, ◌<◌, Bool, List, map, ⊤, Option, Some, None}
 use Rattle.wb_meaning.specs.Value.{Sort, memory, Value}
 use Rattle.sat_base.specs.Formula.{variable_value}
 use Rattle.sat_gates.specs.Encodes.{Writes}

@@ -1,4 +1,4 @@
-use Rattle.std.proofs.Common.{◌≡◌, ◌∙◌, ◌+◌, length, ap, arith, refl, sym, subst, List}
+use Rattle.std.proofs.Common.{◌≡◌, ◌∙◌, ◌+◌, length, ap, arith, sym, subst, List}
 use Rattle.std.proofs.lemmas.List.{length_push}
 use Rattle.std.proofs.lemmas.Bool.{false≢true}
 use Rattle.wb_meaning.specs.Term.{Term}
@@ -10,7 +10,7 @@ use Rattle.wb_terms.specs.Graph.{tree, operands_of}
 use Rattle.gate_base.specs.declared.bits.Bit.{Bit}
 use Rattle.sat_gates.specs.Layout.{variables_of}
 use Rattle.sat_gates.specs.Blasting.{AreBitsOf, HaveBits}
-use Rattle.sat_gates.proofs.AllBits.{node_variables, node_operands, blasted_push, none_blasted}
+use Rattle.sat_gates.proofs.AllBits.{node_variables, node_operands, blasted_push}
 use Rattle.sat_gates.proofs.blasting.put_all.Goals as goal
 use Rattle.sat_gates.proofs.blasting.put_all.Goals.{then-marks-place+in_ok-word, else-marks-place}
 

@@ -1,6 +1,5 @@
-use Rattle.std.proofs.Common.{◌≡◌, sym, ap, ◌∙◌, subst, ◌∷◌, [], List}
+use Rattle.std.proofs.Common.{sym, ◌∙◌, subst}
 use Rattle.wb_terms.specs.Graph.{tree, trees_of, tree_of_node}
-use Rattle.gate_base.specs.declared.bits.Bit.{Bit}
 use Rattle.sat_gates.specs.Layout.{variables_of}
 use Rattle.sat_gates.specs.Blasting.{AreBitsOf}
 use Rattle.sat_gates.specs.declared.forms.Form.{Form}

@@ -1,4 +1,4 @@
-use Rattle.std.proofs.Common.{◌≡◌, ◌∙◌, sym, ap, subst, Some, None, length, get_or, ◌+◌, ◌-◌, ◌∷◌, [], refl}
+use Rattle.std.proofs.Common.{sym, subst}
 use Rattle.std.specs.Prelude.{IsSome}
 use Rattle.wb_meaning.specs.Term.{sort_of}
 use Rattle.wb_terms.specs.declared.nodes.Node.{Node}

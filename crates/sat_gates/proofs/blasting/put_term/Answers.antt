@@ -1,11 +1,6 @@
-use Rattle.std.proofs.Common.{◌≡◌, ◌∙◌, ◌<◌, ◌∷◌, [], List, ℕ, length, get_or, ap, sym, subst, arith, refl}
-use Rattle.std.specs.Prelude.{Vec}
-use Rattle.std.specs.Global.{Global}
+use Rattle.std.proofs.Common.{◌≡◌, ◌∙◌, ◌<◌, ◌∷◌, [], List, length, get_or, ap, subst, arith, refl}
 use Rattle.wb_terms.specs.Graph.{tree}
 use Rattle.gate_base.specs.declared.bits.Bit.{Bit}
-use Rattle.gate_base.specs.Circuit.{Circuit}
-use Rattle.sat_gates.specs.Encodes.{Variables}
-use Rattle.wb_meaning.specs.Term.{Term}
 use Rattle.sat_gates.specs.Layout.{variables_of, bit_count_of}
 use Rattle.sat_gates.specs.Blasting.{AreBitsOf}
 use Rattle.sat_gates.proofs.NodeBits.{operand_bits}

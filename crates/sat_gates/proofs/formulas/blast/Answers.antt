@@ -1,13 +1,10 @@
-use Rattle.std.proofs.Common.{◌≡◌, ◌∙◌, ◌≤◌, ◌∷◌, [], List, Bool, Option, ℕ, ap, sym, subst, arith, refl, All}
+use Rattle.std.proofs.Common.{◌≡◌, ◌∙◌, ◌≤◌, ◌∷◌, [], ap, sym, subst, arith}
 use Rattle.std.proofs.lemmas.List.Elements.{All-head}
 use Rattle.wb_terms.specs.Graph.{tree}
-use Rattle.sat_base.specs.Formula.{Formula}
-use Rattle.gate_base.specs.declared.bits.Bit.{Bit}
 use Rattle.gate_base.specs.Circuit.{Circuit, size, IsKnown}
-use Rattle.sat_gates.specs.Used.{AreUsed}
 use Rattle.sat_gates.specs.Layout.{variables_of, firsts_of, end_of}
 use Rattle.sat_gates.specs.Blasting.{AreBitsOf, AllHaveVariables}
-use Rattle.sat_gates.proofs.Encoding.{IsLaid, IsBlastedTo, has_variables, encoded, numbered}
+use Rattle.sat_gates.proofs.Encoding.{IsLaid, has_variables, encoded, numbered}
 use Rattle.sat_gates.proofs.formulas.blast.Goals as goal
 
 pub put_term-requires-clause-variables : goal.put_term-requires-clause-variables

@@ -1,6 +1,4 @@
-use Rattle.std.proofs.Common.{◌≡◌, ◌<◌, get_or, true, false, arith, sym, ap, ◌∙◌}
-use Rattle.std.proofs.lemmas.List.{get_or_default}
-use Rattle.sat_gates.proofs.Using.{using_start, using_skip, using_turn, using_end}
+use Rattle.sat_gates.proofs.Using.{using_skip, using_turn, using_end}
 use Rattle.sat_gates.proofs.layout.used_names.Goals as goal
 use Rattle.sat_gates.proofs.layout.used_names.Goals.{then-marks-place, else-marks-place}
 

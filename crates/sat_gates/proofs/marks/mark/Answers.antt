@@ -1,5 +1,4 @@
-use Rattle.sat_gates.proofs.Nodes.{are_words}
-use Rattle.std.proofs.Common.{◌≡◌, ◌≤◌, ◌<◌, ◌+◌, ◌-◌, ℕ, true, false, length, get_or, arith, sym, ap, ◌∙◌, subst, refl}
+use Rattle.std.proofs.Common.{◌≡◌, ◌+◌, ◌-◌, true, false, get_or, arith, sym, ◌∙◌, subst, refl}
 use Rattle.std.proofs.lemmas.List.{get_or_default}
 use Rattle.sat_gates.specs.Marks.{AreMarks}
 use Rattle.sat_gates.proofs.Marking.{marks_start, marks_skip, marks_turn, operands_below}

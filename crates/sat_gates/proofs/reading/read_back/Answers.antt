@@ -1,9 +1,9 @@
-use Rattle.std.proofs.Common.{◌≡◌, ◌∙◌, ◌<◌, ◌≤◌, ◌^◌, length, false, subst, sym, ap, arith, None, get_or}
+use Rattle.std.proofs.Common.{◌≡◌, ◌∙◌, ◌<◌, ◌^◌, length, false, subst, sym, arith}
 use Rattle.wb_terms.specs.declared.values.Value.TheVariants.{Truth}
 use Rattle.sat_gates.specs.Used.{entry_at}
 use Rattle.sat_gates.specs.Reading.{FitsBelow}
 use Rattle.sat_gates.proofs.Layouts.{laid_fits, laid_count}
-use Rattle.sat_gates.proofs.ReadingLemmas.{AreRead, read_none, read_one, are_of_sorts, falsified}
+use Rattle.sat_gates.proofs.ReadingLemmas.{AreRead, read_one, are_of_sorts, falsified}
 use Rattle.sat_gates.proofs.reading.read_back.Goals as goal
 
 pub first-first-requires : goal.first-first-requires

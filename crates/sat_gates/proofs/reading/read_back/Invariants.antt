@@ -1,5 +1,3 @@
-use Rattle.std.proofs.Common.{◌≡◌, ◌<◌, ℕ, length}
-use Rattle.wb_terms.specs.declared.values.Value.{Value}
 use Rattle.sat_gates.proofs.ReadingLemmas.{AreRead}
 use Rattle.sat_gates.proofs.reading.read_back.Given as goal
 

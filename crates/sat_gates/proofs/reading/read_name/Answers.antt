@@ -1,4 +1,3 @@
-use Rattle.std.proofs.Common.{◌≡◌, ◌∙◌, subst, sym, ap}
 use Rattle.sat_gates.proofs.ReadingLemmas.{word_read, no_words}
 use Rattle.sat_gates.proofs.reading.read_name.Goals as goal
 

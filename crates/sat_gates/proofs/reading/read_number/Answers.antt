@@ -1,4 +1,4 @@
-use Rattle.std.proofs.Common.{◌≡◌, ◌∙◌, ◌+◌, ◌-◌, ◌*◌, ◌<◌, ◌≤◌, ◌^◌, Bool, true, false, arith}
+use Rattle.std.proofs.Common.{◌+◌, ◌-◌, ◌≤◌, Bool, true, false, arith}
 use mir.Val.{bool_byte}
 use Rattle.sat_gates.proofs.ReadingLemmas.{read_below}
 use Rattle.sat_gates.proofs.reading.read_number.Goals as goal
