@@ -2,7 +2,6 @@
 
 ghost use Rattle.std.specs.Prelude.{◌≡◌, ◌<◌, IfOk, length};
 
-use sat_base::NoMemory;
 use sat_gates::{blast, can_blast, read_back};
 use sat_solve::{Answer, solve};
 use std::alloc::Global;
