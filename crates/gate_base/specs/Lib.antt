@@ -1,0 +1,2 @@
+pub mod Circuit
+pub mod Clauses

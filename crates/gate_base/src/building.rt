@@ -1,0 +1,179 @@
+//! The builder of a circuit: each call gives a bit with a stated value, and adds a gate only where no constant and no operand is the answer.
+
+ghost use Rattle.std.specs.Prelude.{◌≡◌, ◌+◌, ◌<◌, ◌^◌, ℕ, List, Bool, [], length, not, ◌&&◌, ◌||◌, cond, IfOk, OnErr};
+ghost use Rattle.gate_base.specs.Circuit.{size, bit_value, differ, IsKnown, Grows, Gives, IsDetermined, IsFormulaOf};
+ghost use Rattle.gate_base.specs.Clauses.{IsGateBelow, clauses_from};
+ghost use Rattle.gate_base.specs.Circuit.{gate_value};
+
+use crate::bits::{Bit, Gate};
+use crate::clauses::{push_bit, push_gate};
+use sat_base::{Clause, Cnf, Lit, NoMemory};
+use std::alloc::Global;
+use std::marker::Model;
+
+/// A circuit that grows. Its first variables are inputs, and each gate has a variable behind them. Contracts see the number of the inputs and
+/// the list of the gates.
+#[derive(Drop)]
+pub struct Builder {
+    inputs: u64,
+    gates: Vec<Gate>,
+}
+
+impl Model for Builder {
+    ghost use Rattle.gate_base.specs.Circuit.{Circuit};
+    ghost use Rattle.gate_base.specs.Clauses.{AreOrdered};
+
+    ghost Value = { Circuit };
+
+    ghost view = { λ b. record { inputs = b.inputs; gates = b.gates.items } };
+
+    ghost invariant = { λ b. AreOrdered b.inputs b.gates.items };
+}
+
+impl Builder {
+    /// A circuit with so many inputs and no gate. It takes no memory.
+    pub fn new(alloc: Global, inputs: u64) -> Builder
+        ensures { result ≡ record { inputs = inputs; gates = [] } }
+    {
+        Builder {
+            inputs,
+            gates: Vec::new(alloc),
+        }
+    }
+
+    /// A bit for a new gate.
+    fn add(&mut self, gate: Gate) -> Result<Bit, NoMemory>
+        requires { IsGateBelow (size self.old) gate }
+        ensures bit { IfOk result (λ b. Gives self.new b (λ w. gate_value w gate)) }
+        ensures grows { Grows self.old self.new }
+        ensures err { OnErr result (self.new ≡ self.old) }
+    {
+        let Some(var) = self.inputs.checked_add(self.gates.len() as u64) else {
+            return Err(NoMemory);
+        };
+        self.gates.push(gate)?;
+        Ok(Bit::Literal(Lit {
+            var,
+            negative: false,
+        }))
+    }
+
+    /// Whether both bits are true.
+    pub fn and(&mut self, x: Bit, y: Bit) -> Result<Bit, NoMemory>
+        requires x { IsKnown self.old x }
+        requires y { IsKnown self.old y }
+        ensures bit { IfOk result (λ b. Gives self.new b (λ w. bit_value w x && bit_value w y)) }
+        ensures grows { Grows self.old self.new }
+        ensures err { OnErr result (self.new ≡ self.old) }
+    {
+        match (x, y) {
+            (Bit::Constant(true), other) | (other, Bit::Constant(true)) => Ok(other),
+            (Bit::Constant(false), _) | (_, Bit::Constant(false)) => Ok(Bit::Constant(false)),
+            (Bit::Literal(first), Bit::Literal(second)) => {
+                if first == second {
+                    Ok(x)
+                } else if first == second.negated() {
+                    Ok(Bit::Constant(false))
+                } else {
+                    self.add(Gate::And(first, second))
+                }
+            }
+        }
+    }
+
+    /// Whether a bit is true at least.
+    pub fn or(&mut self, x: Bit, y: Bit) -> Result<Bit, NoMemory>
+        requires x { IsKnown self.old x }
+        requires y { IsKnown self.old y }
+        ensures bit { IfOk result (λ b. Gives self.new b (λ w. bit_value w x || bit_value w y)) }
+        ensures grows { Grows self.old self.new }
+        ensures err { OnErr result (self.new ≡ self.old) }
+    {
+        let neither = self.and(x.negated(), y.negated())?;
+        Ok(neither.negated())
+    }
+
+    /// Whether exactly one of the bits is true.
+    pub fn xor(&mut self, x: Bit, y: Bit) -> Result<Bit, NoMemory>
+        requires x { IsKnown self.old x }
+        requires y { IsKnown self.old y }
+        ensures bit { IfOk result (λ b. Gives self.new b (λ w. differ (bit_value w x) (bit_value w y))) }
+        ensures grows { Grows self.old self.new }
+        ensures err { OnErr result (self.new ≡ self.old) }
+    {
+        match (x, y) {
+            (Bit::Constant(value), _) => Ok(y.negated_if(value)),
+            (_, Bit::Constant(value)) => Ok(x.negated_if(value)),
+            (Bit::Literal(first), Bit::Literal(second)) => {
+                if first == second {
+                    Ok(Bit::Constant(false))
+                } else if first == second.negated() {
+                    Ok(Bit::Constant(true))
+                } else {
+                    self.add(Gate::Xor(first, second))
+                }
+            }
+        }
+    }
+
+    /// The second bit where the first is true, else the third.
+    pub fn ite(&mut self, condition: Bit, x: Bit, y: Bit) -> Result<Bit, NoMemory>
+        requires condition { IsKnown self.old condition }
+        requires x { IsKnown self.old x }
+        requires y { IsKnown self.old y }
+        ensures bit { IfOk result (λ b. Gives self.new b (λ w. cond (bit_value w condition) (bit_value w x) (bit_value w y))) }
+        ensures grows { Grows self.old self.new }
+        ensures err { OnErr result (self.new ≡ self.old) }
+    {
+        match (condition, x, y) {
+            (Bit::Constant(true), _, _) => Ok(x),
+            (Bit::Constant(false), _, _) => Ok(y),
+            (_, Bit::Constant(true), _) => self.or(condition, y),
+            (_, Bit::Constant(false), _) => self.and(condition.negated(), y),
+            (_, _, Bit::Constant(true)) => self.or(condition.negated(), x),
+            (_, _, Bit::Constant(false)) => self.and(condition, x),
+            (Bit::Literal(chosen), Bit::Literal(first), Bit::Literal(second)) => {
+                if first == second {
+                    Ok(x)
+                } else {
+                    self.add(Gate::Ite(chosen, first, second))
+                }
+            }
+        }
+    }
+
+    /// The formula that says what every gate gives, and that a bit is true.
+    pub fn into_cnf(self, alloc: Global, wanted: Bit) -> Result<Cnf, NoMemory>
+        requires { IsKnown self wanted }
+        ensures formula { IfOk result (IsFormulaOf self wanted) }
+        ensures determined { IsDetermined self }
+    {
+        let Some(vars) = self.inputs.checked_add(self.gates.len() as u64) else {
+            return Err(NoMemory);
+        };
+        let mut clauses = gate_clauses(alloc, self.inputs, self.gates.as_slice())?;
+        push_bit(alloc, &mut clauses, wanted)?;
+        match Cnf::new(vars, clauses) {
+            Ok(cnf) => Ok(cnf),
+            Err(_) => unreachable!(),
+        }
+    }
+}
+
+/// The clauses of gates whose variables begin with `first`.
+fn gate_clauses(alloc: Global, first: u64, gates: &[Gate]) -> Result<Vec<Clause>, NoMemory>
+    requires { first + length gates.now < 2 ^ 64 }
+    ensures { IfOk result (λ clauses. clauses.items ≡ clauses_from first gates.now) }
+{
+    let mut clauses = Vec::with_capacity(alloc, gates.len())?;
+    let mut var = first;
+    for gate in gates {
+        let gives = Lit {
+            var,
+            negative: false,
+        };
+        push_gate(alloc, &mut clauses, gives, *gate)?;
+        var += 1;
+    }
+    Ok(clauses)
+}

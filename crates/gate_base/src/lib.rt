@@ -1,0 +1,10 @@
+//! Circuits that grow gate by gate, and the formula in conjunctive normal form that says what they give.
+#![tactic(auto)]
+
+mod bits;
+mod building;
+mod clauses;
+
+pub use bits::{Bit, Gate};
+pub use building::Builder;
+pub use sat_base::{Cnf, Lit, NoMemory};

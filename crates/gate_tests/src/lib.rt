@@ -1,0 +1,5 @@
+//! Tests alone: small terms as formulas, answered by the solver, with the answers that z3 gives.
+#![tactic(auto)]
+
+#[cfg(test)]
+mod claims;

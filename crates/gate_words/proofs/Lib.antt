@@ -1,0 +1,4 @@
+pub mod Growing
+pub mod Chaining
+pub mod Numbers
+pub mod Constants

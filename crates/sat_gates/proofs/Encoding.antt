@@ -1,0 +1,165 @@
+-- The formula of the circuit of a term encodes the term.
+use Rattle.std.proofs.Common.{◌≡◌, ◌∙◌, ℕ, ◌+◌, ◌<◌, ◌≤◌, Bool, true, false, List, [], ◌∷◌, ◌++◌, length, map, take, get_or, Option, Some, None, Contains, arith, sym, ap, subst}
+use Rattle.std.proofs.lemmas.List.{get_or-take, ext_get_or, length-take-le}
+use Rattle.std.specs.Prelude.{not as truth_not, is_some}
+use Rattle.std.proofs.lemmas.Bool.{false≢true, not-true, and_parts}
+use Rattle.wb_meaning.specs.Value.{Name, Sort, truth, word, memory, truth_value, as_truth, Valuation}
+use Rattle.wb_meaning.specs.Term.{Term, name, constant_truth, const, not, neg, and, or, xor, add, sub, mul, shl, lshr, ashr, eq, ult, ule, slt, sle, concat, extract, zext, sext, ite, load, store, sort_of, val}
+use Rattle.sat_gates.proofs.Using.{of_one, of_two, of_none}
+use Rattle.wb_terms.specs.Graph.{Graph, HasDistinctNames, tree}
+use Rattle.sat_base.specs.Formula.{Formula, variable_value}
+use Rattle.gate_base.specs.declared.bits.Bit.{Bit}
+use Rattle.gate_base.specs.Circuit.{Circuit, size, bit_value, Follows, IsDetermined, IsFormulaOf}
+use Rattle.sat_gates.specs.Names.{names_in, is_blastable}
+use Rattle.sat_gates.specs.Encodes.{Writes, GivesSorts, RestrictsTo, Encodes}
+use Rattle.sat_gates.specs.Layout.{bit_count, variables_from, variables_of, firsts_of, end_of, IsLaidOut, IsNumbered}
+use Rattle.sat_gates.specs.Marks.{IsMarked}
+use Rattle.sat_gates.specs.Used.{entry_at, AreUsed}
+use Rattle.sat_gates.specs.Blasting.{WritesOf, AreBitsOf, AllHaveVariables}
+use Rattle.sat_gates.proofs.Nodes.{truth_written}
+use Rattle.sat_gates.proofs.Layouts.{IsBitSort, WriteAll, HasFrom, bits_of, inputs_for, first_at, lookup, first_is, firsts_count, first_fits, laid_out, used_some, same_place, bits_write, inputs_count, has_from, inputs_read, same_inputs}
+
+-- the layout of the names that stand in a term
+pub record IsLaid (g : Graph) (root : ℕ) (used : List Bool) (firsts : List (Option ℕ)) (inputs : ℕ) : Type 0 where
+  pub distinct : HasDistinctNames g.names
+  pub are_used : AreUsed g root used
+  pub are_firsts : firsts ≡ firsts_of 0 g.names used
+  pub end : inputs ≡ end_of 0 g.names used
+
+is_marked : (g : Graph) (root : ℕ) (used : List Bool) (firsts : List (Option ℕ)) (inputs : ℕ) → IsLaid g root used firsts inputs → (j : ℕ) → j < length g.names
+    → Contains (names_in (tree g root)) (entry_at g.names j) → IsMarked used j
+is_marked g root used firsts inputs l j i stands =
+    let e = entry_at g.names j in
+    let u = l.are_used.all e.0 e.1 stands in
+    subst (IsMarked used) (same_place g.names u.0 j l.distinct u.1 i (ap (λ (x : Name × Sort). x.0) u.2)) u.3
+
+pub numbered : (g : Graph) (root : ℕ) (used : List Bool) (firsts : List (Option ℕ)) (inputs vars : ℕ) → IsLaid g root used firsts inputs → inputs ≤ vars
+    → IsNumbered g.names (names_in (tree g root)) firsts vars
+numbered g root used firsts inputs vars l h = record {
+  stands = λ j i.
+      let e : is_some (get_or firsts j None) ≡ get_or used j false = ap (λ fs. is_some (get_or fs j None)) l.are_firsts ∙ used_some 0 g.names used j i l.are_used.room in
+      (λ s. l.are_used.none_else j (sym e ∙ s), λ s. e ∙ is_marked g root used firsts inputs l j i s);
+  declared = λ n s h. let u = l.are_used.all n s h in (u.0, u.1, u.2);
+  end = inputs;
+  laid_out = subst (λ n. IsLaidOut 0 g.names firsts n) (sym l.end) (subst (λ fs. IsLaidOut 0 g.names fs (end_of 0 g.names used)) (sym l.are_firsts) (laid_out 0 g.names used l.are_used.room));
+  below = h;
+}
+
+pub has_variables : (g : Graph) (root : ℕ) (used : List Bool) (firsts : List (Option ℕ)) (inputs : ℕ) → IsLaid g root used firsts inputs → AllHaveVariables g root firsts inputs
+has_variables g root used firsts inputs l j i stands =
+    let e = entry_at g.names j in
+    let m = is_marked g root used firsts inputs l j i stands in
+    let n = l.are_used.room in
+    let vars = ap (λ fs. variables_of g.names fs e.0) l.are_firsts ∙ lookup 0 g.names used j l.distinct i n m in (
+      first_at 0 g.names used j,
+      (let c : j < length firsts = omega (arith, i, ap length l.are_firsts ∙ firsts_count 0 g.names used n) in c),
+      ap (λ fs. get_or fs j None) l.are_firsts ∙ first_is 0 g.names used j i n m,
+      (let f : first_at 0 g.names used j + bit_count e.1 ≤ inputs = omega (arith, first_fits 0 g.names used j i n m, l.end) in f),
+      vars,
+      stands,
+    )
+
+-- the names of a blastable term are no memories
+abbrev BitSort : Name → Sort → Type 0
+BitSort n s = IsBitSort s
+
+pub bit_names : (t : Term) → is_blastable t ≡ true → (n : Name) (s : Sort) → Contains (names_in t) (n, s) → IsBitSort s
+bit_names (name m truth) b n s h = of_one BitSort (m, truth) tt n s h
+bit_names (name m (word w)) b n s h = of_one BitSort (m, word w) tt n s h
+bit_names (name m (memory a d)) b n s h = absurd (false≢true b)
+bit_names (constant_truth c) b n s h = of_none BitSort n s h
+bit_names (const w x) b n s h = of_none BitSort n s h
+bit_names (not x) b n s h = bit_names x b n s h
+bit_names (neg x) b n s h = bit_names x b n s h
+bit_names (and x y) b n s h = let p = and_parts _ _ b in of_two BitSort (names_in x) (names_in y) (bit_names x p.0) (bit_names y p.1) n s h
+bit_names (or x y) b n s h = let p = and_parts _ _ b in of_two BitSort (names_in x) (names_in y) (bit_names x p.0) (bit_names y p.1) n s h
+bit_names (xor x y) b n s h = let p = and_parts _ _ b in of_two BitSort (names_in x) (names_in y) (bit_names x p.0) (bit_names y p.1) n s h
+bit_names (add x y) b n s h = let p = and_parts _ _ b in of_two BitSort (names_in x) (names_in y) (bit_names x p.0) (bit_names y p.1) n s h
+bit_names (sub x y) b n s h = let p = and_parts _ _ b in of_two BitSort (names_in x) (names_in y) (bit_names x p.0) (bit_names y p.1) n s h
+bit_names (eq x y) b n s h = let p = and_parts _ _ b in of_two BitSort (names_in x) (names_in y) (bit_names x p.0) (bit_names y p.1) n s h
+bit_names (ult x y) b n s h = let p = and_parts _ _ b in of_two BitSort (names_in x) (names_in y) (bit_names x p.0) (bit_names y p.1) n s h
+bit_names (ule x y) b n s h = let p = and_parts _ _ b in of_two BitSort (names_in x) (names_in y) (bit_names x p.0) (bit_names y p.1) n s h
+bit_names (concat x y) b n s h = let p = and_parts _ _ b in of_two BitSort (names_in x) (names_in y) (bit_names x p.0) (bit_names y p.1) n s h
+bit_names (mul x y) b n s h = absurd (false≢true b)
+bit_names (shl x y) b n s h = absurd (false≢true b)
+bit_names (lshr x y) b n s h = absurd (false≢true b)
+bit_names (ashr x y) b n s h = absurd (false≢true b)
+bit_names (slt x y) b n s h = absurd (false≢true b)
+bit_names (sle x y) b n s h = absurd (false≢true b)
+bit_names (load x y) b n s h = absurd (false≢true b)
+bit_names (extract i j x) b n s h = bit_names x b n s h
+bit_names (zext w x) b n s h = bit_names x b n s h
+bit_names (sext w x) b n s h = bit_names x b n s h
+bit_names (ite c x y) b n s h = let p = and_parts _ _ b in let q = and_parts _ _ p.1 in of_two BitSort (names_in c) (names_in x ++ names_in y) (bit_names c p.0) (of_two BitSort (names_in x) (names_in y) (bit_names x q.0) (bit_names y q.1)) n s h
+bit_names (store x y z) b n s h = absurd (false≢true b)
+
+-- what is known when the formula stands
+pub record IsBlastedTo (g : Graph) (root : ℕ) (used : List Bool) (firsts : List (Option ℕ)) (c : Circuit) (bit : Bit) (wanted : Bit) (f : Formula) : Type 0 where
+  pub laid : IsLaid g root used firsts c.inputs
+  pub truth_sort : sort_of (tree g root) ≡ Some truth
+  pub blastable : is_blastable (tree g root) ≡ true
+  pub bits : AreBitsOf (tree g root) (variables_of g.names firsts) c (tree g root) (bit ∷ [])
+  pub negated : (w : List Bool) → bit_value w wanted ≡ truth_not (bit_value w bit)
+  pub formula : IsFormulaOf c wanted f
+  pub determined : IsDetermined c
+
+-- an assignment that follows the circuit and restricts to a valuation gives the bit the term's value
+the_bit : (g : Graph) (root : ℕ) (used : List Bool) (firsts : List (Option ℕ)) (c : Circuit) (bit wanted : Bit) (f : Formula) → IsBlastedTo g root used firsts c bit wanted f
+    → (a : List Bool) (v : Valuation) → Follows a c → RestrictsTo (variables_of g.names firsts) a v (tree g root) → val (tree g root) v ≡ truth_value (bit_value a bit)
+the_bit g root used firsts c bit wanted f h a v follows r =
+    let w = subst (λ o. WritesOf o (val (tree g root) v) (bit_value a bit ∷ [])) h.truth_sort (h.bits.value a v follows r) in
+    let p = truth_written (val (tree g root) v) (bit_value a bit ∷ []) w in
+    p.0 ∙ ap truth_value (sym (ap (λ bs. get_or bs 0 false) p.1))
+
+restricts : (g : Graph) (root : ℕ) (used : List Bool) (firsts : List (Option ℕ)) (inputs : ℕ) → IsLaid g root used firsts inputs → is_blastable (tree g root) ≡ true
+    → (a : List Bool) (v : Valuation) → GivesSorts v (tree g root) → HasFrom a 0 (inputs_for v g.names used) → RestrictsTo (variables_of g.names firsts) a v (tree g root)
+restricts g root used firsts inputs l b a v sorts h n s stands =
+    let u = l.are_used.all n s stands in
+    let e = entry_at g.names u.0 in
+    let vars : variables_of g.names firsts e.0 ≡ variables_from (first_at 0 g.names used u.0) (bit_count e.1) = ap (λ fs. variables_of g.names fs e.0) l.are_firsts ∙ lookup 0 g.names used u.0 l.distinct u.1 l.are_used.room u.3 in
+    let read : map (variable_value a) (variables_of g.names firsts e.0) ≡ bits_of e.1 (v e.0) = ap (map (variable_value a)) vars ∙ inputs_read a v 0 g.names used u.0 u.1 l.are_used.room u.3 h in
+    let all : map (variable_value a) (variables_of g.names firsts n) ≡ bits_of s (v n) = subst (λ (x : Name × Sort). map (variable_value a) (variables_of g.names firsts x.0) ≡ bits_of x.1 (v x.0)) u.2 read in
+    subst (λ bs. Writes s (v n) bs) (sym all) (bits_write s (v n) (bit_names (tree g root) b n s stands) (sorts n s stands))
+
+writes_all : (g : Graph) (root : ℕ) (used : List Bool) (firsts : List (Option ℕ)) (inputs : ℕ) → IsLaid g root used firsts inputs
+    → (a : List Bool) (v : Valuation) → RestrictsTo (variables_of g.names firsts) a v (tree g root) → WriteAll a v 0 g.names used
+writes_all g root used firsts inputs l a v r = λ j i m.
+    let e = entry_at g.names j in
+    let vars : variables_of g.names firsts e.0 ≡ variables_from (first_at 0 g.names used j) (bit_count e.1) = ap (λ fs. variables_of g.names fs e.0) l.are_firsts ∙ lookup 0 g.names used j l.distinct i l.are_used.room m in
+    subst (λ xs. Writes e.1 (v e.0) (map (variable_value a) xs)) vars (r e.0 e.1 (l.are_used.none_else j m))
+
+pub encoded : (g : Graph) (root : ℕ) (used : List Bool) (firsts : List (Option ℕ)) (c : Circuit) (bit wanted : Bit) (f : Formula) → IsBlastedTo g root used firsts c bit wanted f
+    → Encodes f (variables_of g.names firsts) (tree g root)
+encoded g root used firsts c bit wanted f h = record {
+  some = λ v sorts. (
+    λ e.
+        let inputs = inputs_for v g.names used in
+        let n : length inputs ≡ c.inputs = omega (arith, inputs_count v 0 g.names used, h.laid.end) in
+        let w = h.determined.some inputs n in
+        let from : HasFrom w.0 0 inputs = has_from w.0 inputs 0 (λ i k.
+        let z : 0 + i ≡ i = omega arith in
+        ap (variable_value w.0) z ∙ (sym (get_or-take c.inputs w.0 i false (omega (arith, k, n))) ∙ ap (λ xs. get_or xs i false) w.2)) in
+        let r = restricts g root used firsts c.inputs h.laid h.blastable w.0 v sorts from in
+        let low : bit_value w.0 bit ≡ false = ap as_truth (sym (the_bit g root used firsts c bit wanted f h w.0 v w.3 r) ∙ e) in (
+          w.0,
+          record {
+            whole = w.1 ∙ sym h.formula.vars;
+            satisfies = (h.formula.satisfied w.0).1 (w.3, h.negated w.0 ∙ ap truth_not low);
+            restricts = r;
+          },
+        ),
+    λ x.
+        let s = (h.formula.satisfied x.0).0 x.1.satisfies in
+        the_bit g root used firsts c bit wanted f h x.0 v s.0 x.1.restricts ∙ ap truth_value (not-true (bit_value x.0 bit) (sym (h.negated x.0) ∙ s.1)),
+  );
+  one = λ v a b p q.
+      let s = (h.formula.satisfied a).0 p.satisfies in
+      let t = (h.formula.satisfied b).0 q.satisfies in
+      let na : length a ≡ size c = p.whole ∙ h.formula.vars in
+      let nb : length b ≡ size c = q.whole ∙ h.formula.vars in
+      let agree = same_inputs a b v 0 g.names used h.laid.are_used.room (writes_all g root used firsts c.inputs h.laid a v p.restricts) (writes_all g root used firsts c.inputs h.laid b v q.restricts) in
+      h.determined.one a b na nb (ext_get_or false (take c.inputs a) (take c.inputs b)
+      (length-take-le c.inputs a (omega (arith, na)) ∙ sym (length-take-le c.inputs b (omega (arith, nb))))
+      (λ i k. let below : i < c.inputs = omega (arith, k, length-take-le c.inputs a (omega (arith, na))) in
+      get_or-take c.inputs a i false below ∙ (agree i (omega arith) (omega (arith, below, h.laid.end)) ∙ sym (get_or-take c.inputs b i false below)))) s.0 t.0;
+}

@@ -1,0 +1,58 @@
+use Rattle.std.proofs.Common.{◌≡◌, ◌∙◌, ◌≤◌, ◌∷◌, [], ap, sym, subst, arith}
+use Rattle.std.proofs.lemmas.List.Elements.{All-head}
+use Rattle.wb_terms.specs.Graph.{tree}
+use Rattle.gate_base.specs.Circuit.{Circuit, size, IsKnown}
+use Rattle.sat_gates.specs.Layout.{variables_of, firsts_of, end_of}
+use Rattle.sat_gates.specs.Blasting.{AreBitsOf, AllHaveVariables}
+use Rattle.sat_gates.proofs.Encoding.{IsLaid, has_variables, encoded, numbered}
+use Rattle.sat_gates.proofs.formulas.blast.Goals as goal
+
+pub put_term-requires-clause-variables : goal.put_term-requires-clause-variables
+put_term-requires-clause-variables c =
+    let g = c.args.terms.now in
+    let id = c.args.id.0 in
+    let used = c.in_ok-used.used.items in
+    let firsts = c.in_ok-layout.layout.firsts.items in
+    let are_firsts : firsts ≡ firsts_of 0 g.names used = c.in_ok-layout.ensures.firsts ∙ ap (firsts_of 0 g.names) c.deref-2.ensures.value in
+    let end : c.in_ok-layout.layout.inputs ≡ end_of 0 g.names used = c.in_ok-layout.ensures.inputs ∙ ap (end_of 0 g.names) c.deref-2.ensures.value in
+    let start : c.new-circuit.result.inputs ≡ c.in_ok-layout.layout.inputs = ap (λ (x : Circuit). x.inputs) c.new-circuit.ensures in
+    let laid : IsLaid g id used firsts c.new-circuit.result.inputs = record { distinct = c.in_ok-used.ensures.distinct; are_used = c.in_ok-used.ensures.used; are_firsts = are_firsts; end = start ∙ end } in
+    subst (λ fs. AllHaveVariables g id fs c.new-circuit.result.inputs) (sym c.deref-4.ensures.value) (has_variables g id used firsts c.new-circuit.result.inputs laid)
+
+pub into_cnf-requires : goal.into_cnf-requires
+into_cnf-requires c = c.negated-wanted.ensures.known (size c.put_term.new.circuit) (All-head (IsKnown c.put_term.new.circuit) c.in_ok-bit.bit [] c.in_ok-bit.ensures.bit.known)
+
+pub returns-clause-encodes : goal.returns-clause-encodes
+returns-clause-encodes c =
+    let g = c.args.terms.now in
+    let id = c.args.id.0 in
+    let used = c.in_ok-used.used.items in
+    let firsts = c.in_ok-layout.layout.firsts.items in
+    let are_firsts : firsts ≡ firsts_of 0 g.names used = c.in_ok-layout.ensures.firsts ∙ ap (firsts_of 0 g.names) c.deref-2.ensures.value in
+    let end : c.in_ok-layout.layout.inputs ≡ end_of 0 g.names used = c.in_ok-layout.ensures.inputs ∙ ap (end_of 0 g.names) c.deref-2.ensures.value in
+    let start : c.new-circuit.result.inputs ≡ c.in_ok-layout.layout.inputs = ap (λ (x : Circuit). x.inputs) c.new-circuit.ensures in
+    let after : c.put_term.new.circuit.inputs ≡ end_of 0 g.names used = c.in_ok-bit.ensures.grows.inputs ∙ (start ∙ end) in
+    let laid : IsLaid g id used firsts c.put_term.new.circuit.inputs = record { distinct = c.in_ok-used.ensures.distinct; are_used = c.in_ok-used.ensures.used; are_firsts = are_firsts; end = after } in
+    encoded g id used firsts c.put_term.new.circuit c.in_ok-bit.bit c.negated-wanted.result c.in_ok-cnf.cnf (record {
+      laid = laid;
+      truth_sort = c.requires.sort;
+      blastable = c.requires.blastable;
+      bits = subst (λ fs. AreBitsOf (tree g id) (variables_of g.names fs) c.put_term.new.circuit (tree g id) (c.in_ok-bit.bit ∷ [])) c.deref-4.ensures.value c.in_ok-bit.ensures.bit;
+      negated = c.negated-wanted.ensures.value;
+      formula = c.in_ok-cnf.ensures.formula;
+      determined = c.in_ok-cnf.ensures.determined;
+    })
+
+pub returns-clause-numbered : goal.returns-clause-numbered
+returns-clause-numbered c =
+    let g = c.args.terms.now in
+    let id = c.args.id.0 in
+    let used = c.in_ok-used.used.items in
+    let firsts = c.in_ok-layout.layout.firsts.items in
+    let are_firsts : firsts ≡ firsts_of 0 g.names used = c.in_ok-layout.ensures.firsts ∙ ap (firsts_of 0 g.names) c.deref-2.ensures.value in
+    let end : c.in_ok-layout.layout.inputs ≡ end_of 0 g.names used = c.in_ok-layout.ensures.inputs ∙ ap (end_of 0 g.names) c.deref-2.ensures.value in
+    let start : c.new-circuit.result.inputs ≡ c.in_ok-layout.layout.inputs = ap (λ (x : Circuit). x.inputs) c.new-circuit.ensures in
+    let after : c.put_term.new.circuit.inputs ≡ end_of 0 g.names used = c.in_ok-bit.ensures.grows.inputs ∙ (start ∙ end) in
+    let laid : IsLaid g id used firsts c.put_term.new.circuit.inputs = record { distinct = c.in_ok-used.ensures.distinct; are_used = c.in_ok-used.ensures.used; are_firsts = are_firsts; end = after } in
+    let fits : c.put_term.new.circuit.inputs ≤ c.in_ok-cnf.cnf.vars = omega (arith, c.in_ok-cnf.ensures.formula.vars) in
+    numbered g id used firsts c.put_term.new.circuit.inputs c.in_ok-cnf.cnf.vars laid fits

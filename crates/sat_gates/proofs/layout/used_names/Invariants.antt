@@ -1,0 +1,5 @@
+use Rattle.sat_gates.proofs.Using.{IsUsing}
+use Rattle.sat_gates.proofs.layout.used_names.Given as goal
+
+abbrev pub invariant-loop-place : goal.invariant-loop-place
+invariant-loop-place l = IsUsing l.terms l.fn.id.0 l.marks l.place l.used.items

@@ -1,0 +1,73 @@
+//! From a term of truth sort to the formula that encodes it.
+
+ghost use Rattle.std.specs.Prelude.{◌≡◌, ◌<◌, ◌≤◌, ◌↔◌, ℕ, length, IfOk, Some, true, Contains, IsSome, None, slice_index_or};
+ghost use Rattle.wb_meaning.specs.Value.{truth};
+ghost use Rattle.wb_meaning.specs.Term.{sort_of};
+ghost use Rattle.wb_terms.specs.Graph.{tree};
+ghost use Rattle.sat_gates.specs.Names.{names_in, is_blastable};
+ghost use Rattle.sat_gates.specs.Encodes.{Encodes};
+ghost use Rattle.sat_gates.specs.Layout.{variables_of, IsNumbered};
+
+use crate::blasting::put_term;
+use crate::layout::{lay_out, used_names};
+use crate::marks::mark;
+use gate_base::Builder;
+use sat_base::{Cnf, NoMemory};
+use std::alloc::Global;
+use std::marker::Model;
+use wb_terms::{NameId, TermId, Terms};
+
+/// The first variables of the bits of declared names, in the order of declaration. A name that does not stand in the term has none.
+#[derive(Drop)]
+pub struct BitMap {
+    firsts: Vec<Option<u64>>,
+}
+
+impl Model for BitMap {
+    ghost use Rattle.std.specs.Prelude.{List, Option, ℕ};
+
+    ghost Value = { List (Option ℕ) };
+
+    ghost view = { λ m. m.firsts.items };
+}
+
+impl BitMap {
+    /// The variable of a name's bit 0, where the name stands in the term. Bit k has the variable k further.
+    pub fn first(&self, name: NameId) -> Option<u64>
+        requires { name.0 < length self.now }
+        ensures { result ≡ slice_index_or self.now name.0 None }
+    {
+        self.firsts[name.0]
+    }
+}
+
+/// A formula, and the variables of the names' bits in it.
+#[derive(Drop)]
+pub struct Blasted {
+    /// Satisfied where the term is false.
+    pub cnf: Cnf,
+    /// The variables of the bits of the names.
+    pub map: BitMap,
+}
+
+/// The formula in conjunctive normal form that is satisfied where a term is false.
+/// The bits of the names of the term have the first variables, in the order of declaration; then there is one variable for each gate.
+pub fn blast(alloc: Global, terms: &Terms, id: TermId) -> Result<Blasted, NoMemory>
+    requires id { id.0 < length terms.now.nodes }
+    requires sort { sort_of (tree terms.now id.0) ≡ Some truth }
+    requires blastable { is_blastable (tree terms.now id.0) ≡ true }
+    ensures encodes { IfOk result (λ b. Encodes b.cnf (variables_of terms.now.names b.map) (tree terms.now id.0)) }
+    ensures numbered { IfOk result (λ b. IsNumbered terms.now.names (names_in (tree terms.now id.0)) b.map b.cnf.vars) }
+{
+    let marks = mark(alloc, terms, id)?;
+    let used = used_names(alloc, terms, id, &marks)?;
+    let layout = lay_out(alloc, terms, &used)?;
+    let mut circuit = Builder::new(alloc, layout.inputs);
+    let bit = put_term(alloc, &mut circuit, terms, id, &marks, &layout.firsts)?;
+    let wanted = bit.negated();
+    let cnf = circuit.into_cnf(alloc, wanted)?;
+    let map = BitMap {
+        firsts: layout.firsts,
+    };
+    Ok(Blasted { cnf, map })
+}

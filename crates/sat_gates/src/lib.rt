@@ -1,0 +1,15 @@
+//! Terms of truth sort to formulas in conjunctive normal form, and values of their names from assignments.
+#![tactic(auto)]
+
+mod blasting;
+mod condition;
+mod forms;
+mod formulas;
+mod layout;
+mod marks;
+mod reading;
+
+pub use condition::can_blast;
+pub use formulas::{BitMap, Blasted, blast};
+pub use reading::read_back;
+pub use sat_base::{Assignment, Cnf, NoMemory};
