@@ -1,0 +1,5 @@
+pub mod Repeat
+pub mod Places
+pub mod Spelled
+pub mod Grow
+pub mod Again

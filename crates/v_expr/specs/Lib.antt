@@ -1,0 +1,3 @@
+pub mod Repeat
+pub mod Reading
+pub mod Ending

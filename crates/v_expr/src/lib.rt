@@ -1,0 +1,2 @@
+//! Expressions, selects and targets of Verilog, read exactly from tokens.
+#![tactic(auto)]
