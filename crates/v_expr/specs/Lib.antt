@@ -1,3 +1,4 @@
 pub mod Repeat
-pub mod Reading
 pub mod Ending
+pub mod Reading
+pub mod View
