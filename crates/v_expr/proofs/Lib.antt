@@ -3,3 +3,4 @@ pub mod Places
 pub mod Spelled
 pub mod Grow
 pub mod Again
+pub mod Digits

@@ -2,3 +2,4 @@ pub mod Repeat
 pub mod Ending
 pub mod Reading
 pub mod View
+pub mod Digits
