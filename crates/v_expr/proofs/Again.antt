@@ -12,7 +12,7 @@ use Rattle.wb_meaning.specs.Verilog.Syntax.{Number, Expression, Expressions, no_
 use Rattle.wb_meaning.specs.Verilog.Spelling.{prefix_of, Operator, operator_of, IsIdentifier, IsNumber, plain, unsized, of_size, IsExpression, tighter, chosen, joined, prefixed, a_number, a_name, bracketed, concatenated, replicated, made_signed, made_unsigned, AreExpressions, last_one, and_more, IsSelect, by_index, by_part, by_part_up, by_part_down, AreSelects, no_select, one_select, two_selects}
 use Rattle.v_expr.specs.Ending.{is_same_mark, IsWithin, Ends, nesting, nesting_of_parts, nesting_of_select, nesting_of_selects}
 use Rattle.v_expr.specs.Repeat.{◌>>=◌, choose, Read, repeated}
-use Rattle.v_expr.specs.Reading.{after_mark, number_at, Reader, as_expressions, next_at, parts_at, expressions_at, copies_at, concatenation_at, braces_at, inside_at, converted_at, conversion_at, second_at, limits_at, select_at, second_select_at, selects_at, named_at, alone_at, prefix_from, prefixed_at, of_level, joins_from, joins_at, linked_at, chain_at, tier_at, conditional_at, expression_at}
+use Rattle.v_expr.specs.Reading.{after_mark, number_at, number_expression_at, more_parts_at, limit_at, Reader, as_expressions, next_at, parts_at, expressions_at, copies_at, concatenation_at, braces_at, inside_at, converted_at, conversion_at, second_at, limits_at, select_at, second_select_at, selects_at, named_at, alone_at, prefix_from, prefixed_at, of_level, joins_from, joins_at, linked_at, chain_at, tier_at, conditional_at, expression_at}
 use Rattle.v_expr.proofs.Repeat.{some_is, Shrinks, Chain, many_of_chain}
 use Rattle.v_expr.proofs.Places.{same_place, mark_again, other_mark}
 use Rattle.v_expr.proofs.Spelled.{Spells, expression_spelled, tier_spelled}
@@ -163,7 +163,7 @@ number_again k _ _ _ (unsized text rest) h = refl
 number_again k _ _ _ (of_size size text rest) h = refl
 
 number_alone : (whole_at : Reader) (n : Number) (text rest : List Token) → IsNumber n text rest → number_at text ≡ Some (n, rest) → alone_at whole_at text ≡ Some (tree.number n, rest)
-unfolding alone_at
+unfolding alone_at number_expression_at
 number_alone whole_at _ _ _ (plain text rest) h = rw h refl
 number_alone whole_at _ _ _ (unsized text rest) h = rw h refl
 number_alone whole_at _ _ _ (of_size size text rest) h = rw h refl
@@ -226,17 +226,17 @@ others_again whole_at spells es text rest p =
 
 concatenated_again : (whole_at : Reader) → Spells whole_at → (es : Expressions) (text rest : List Token) → ArePartsRead whole_at es text rest
     → alone_at whole_at (mark left_brace ∷ text) ≡ Some (tree.concatenation es, rest)
-unfolding alone_at braces_at concatenation_at
+unfolding alone_at braces_at concatenation_at more_parts_at
 concatenated_again whole_at spells es text rest p =
     let now : alone_at whole_at (mark left_brace ∷ text) ≡ Some (tree.concatenation (as_expressions (p.first ∷ p.others)), rest) = rw (p.first_read, p.is_no_count, others_again whole_at spells es text rest p) refl in
     now ∙ ap (λ (xs : Expressions). Some (tree.concatenation xs, rest)) p.are
 
 replicated_again : (whole_at : Reader) → Spells whole_at → (n : Expression) (es : Expressions) (text parts rest : List Token) → whole_at text ≡ Some (n, mark left_brace ∷ parts)
     → ArePartsRead whole_at es parts (mark right_brace ∷ rest) → alone_at whole_at (mark left_brace ∷ text) ≡ Some (tree.replication n es, rest)
-unfolding alone_at braces_at copies_at expressions_at
+unfolding alone_at braces_at copies_at expressions_at more_parts_at
 replicated_again whole_at spells n es text parts rest h p =
     let now : alone_at whole_at (mark left_brace ∷ text) ≡ Some (tree.replication n (as_expressions (p.first ∷ p.others)), rest) =
-        rw (h, mark_again left_brace parts, p.first_read, others_again whole_at spells es parts (mark right_brace ∷ rest) p, mark_again right_brace rest) refl in
+    rw (h, mark_again left_brace parts, p.first_read, others_again whole_at spells es parts (mark right_brace ∷ rest) p, mark_again right_brace rest) refl in
     now ∙ ap (λ (xs : Expressions). Some (tree.replication n xs, rest)) p.are
 
 -- ---- selects
@@ -247,18 +247,18 @@ index_again whole_at e text rest h = rw (h, mark_again right_bracket rest) refl
 
 part_again : (whole_at : Reader) (l r : Expression) (text more rest : List Token) → whole_at text ≡ Some (l, mark colon ∷ more) → whole_at more ≡ Some (r, mark right_bracket ∷ rest)
     → select_at whole_at text ≡ Some (tree.part l r, rest)
-unfolding select_at limits_at second_at
+unfolding select_at limits_at second_at limit_at
 part_again whole_at l r text more rest h g = rw (h, other_mark right_bracket colon more refl, mark_again colon more, g, mark_again right_bracket rest) refl
 
 part_up_again : (whole_at : Reader) (l r : Expression) (text more rest : List Token) → whole_at text ≡ Some (l, mark plus_colon ∷ more) → whole_at more ≡ Some (r, mark right_bracket ∷ rest)
     → select_at whole_at text ≡ Some (tree.part_up l r, rest)
-unfolding select_at limits_at second_at
+unfolding select_at limits_at second_at limit_at
 part_up_again whole_at l r text more rest h g =
     rw (h, other_mark right_bracket plus_colon more refl, other_mark colon plus_colon more refl, mark_again plus_colon more, g, mark_again right_bracket rest) refl
 
 part_down_again : (whole_at : Reader) (l r : Expression) (text more rest : List Token) → whole_at text ≡ Some (l, mark minus_colon ∷ more) → whole_at more ≡ Some (r, mark right_bracket ∷ rest)
     → select_at whole_at text ≡ Some (tree.part_down l r, rest)
-unfolding select_at limits_at second_at
+unfolding select_at limits_at second_at limit_at
 part_down_again whole_at l r text more rest h g =
     rw (h, other_mark right_bracket minus_colon more refl, other_mark colon minus_colon more refl, other_mark plus_colon minus_colon more refl, mark_again minus_colon more, g, mark_again right_bracket rest) refl
 
@@ -366,7 +366,7 @@ chosen_again : (d : ℕ) (c x y : Expression) (text value other rest : List Toke
 unfolding expression_at
 chosen_again d c x y text value other rest at_condition at_value at_other =
     let first : tier_at 11 (expression_at d) text ≡ Some (c, mark question ∷ value) =
-        at_condition.links 10 (omega arith) refl ∙ linked-over 1 (tier_at 10 (expression_at d)) c (mark question ∷ value) (question_no_link value) in
+    at_condition.links 10 (omega arith) refl ∙ linked-over 1 (tier_at 10 (expression_at d)) c (mark question ∷ value) (question_no_link value) in
     let now = conditional-on (expression_at d) (expression_spelled d) text c (mark question ∷ value) value x (mark colon ∷ other) other first (mark_again question value) at_value (mark_again colon other) in
     is_all (now ∙ ap (λ (r : Read Token Expression). r >>= λ z. Some (tree.conditional c x z.0, z.1)) (at_other.all refl))
 
@@ -460,6 +460,12 @@ mutual
 -- What is spelled so, in front of what does not go on with it, is read, where it is no deeper.
 pub expression_again : (d : ℕ) (e : Expression) (text rest : List Token) (s : IsExpression 0 e text rest) → nesting s ≤ d → Ends 0 rest → expression_at (suc d) text ≡ Some (e, rest)
 expression_again d e text rest s deep ends = (again d 0 e text rest s deep ends).all refl
+
+pub none_again : (d : ℕ) (text : List Token) → expression_at (suc d) text ≡ None → (e : Expression) (rest : List Token) (s : IsExpression 0 e text rest) → nesting s ≤ d → Ends 0 rest → ⊥
+none_again d text none e rest s deep ends = is_none (expression_at (suc d) text) (e, rest) none (expression_again d e text rest s deep ends)
+  where
+    is_none : (r : Read Token Expression) (y : Expression × List Token) → r ≡ None → r ≡ Some y → ⊥
+    is_none r y a b = let same : Some y ≡ None = sym b ∙ a in absurd cc
 
 -- Tokens spell at most one expression, and it ends at one place.
 pub one_expression : (e f : Expression) (text rest other : List Token) → IsExpression 0 e text rest → Ends 0 rest → IsExpression 0 f text other → Ends 0 other → (e ≡ f) × (rest ≡ other)

@@ -106,7 +106,7 @@ filled_fits base bits is some le (b ∷ ds) n =
     let d : next + 1 ≤ (n + 1) * 2 ^ c = one_more base bits (filled_where base is b) n le (filled_below base is b some) (is_silent b) in
     let e : (next + 1) * 2 ^ bits_of_digits bits ds ≤ (n + 1) * 2 ^ c * 2 ^ bits_of_digits bits ds = mul-le-mul_right (2 ^ bits_of_digits bits ds) d in
     let f : (n + 1) * 2 ^ c * 2 ^ bits_of_digits bits ds ≡ (n + 1) * 2 ^ (c + bits_of_digits bits ds) =
-        mul_assoc (n + 1) (2 ^ c) (2 ^ bits_of_digits bits ds) ∙ ap (λ (k : ℕ). (n + 1) * k) (sym (pow-add 2 c (bits_of_digits bits ds))) in
+    mul_assoc (n + 1) (2 ^ c) (2 ^ bits_of_digits bits ds) ∙ ap (λ (k : ℕ). (n + 1) * k) (sym (pow-add 2 c (bits_of_digits bits ds))) in
     omega (arith, a, e, f)
 
 pub z_below : (base bits : ℕ) → 1 ≤ base → base ≤ 2 ^ bits → (ds : List ℕ) → digits_from base (filled_where base is_z) 0 ds < 2 ^ bits_of_digits bits ds

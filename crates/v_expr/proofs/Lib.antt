@@ -4,3 +4,4 @@ pub mod Spelled
 pub mod Grow
 pub mod Again
 pub mod Digits
+pub mod Turns

@@ -12,7 +12,7 @@ use Rattle.wb_meaning.specs.Verilog.Syntax as tree
 use Rattle.wb_meaning.specs.Verilog.Syntax.{Number, Expression, Expressions, no_expressions, expression, Select, Selects, whole, one, two}
 use Rattle.wb_meaning.specs.Verilog.Spelling.{plain_number, based_number, decimal_value, prefix_of, Operator, operator_of, IsNumber, plain, unsized, of_size, IsExpression, tighter, chosen, joined, prefixed, a_number, a_name, bracketed, concatenated, replicated, made_signed, made_unsigned, AreExpressions, last_one, and_more, IsSelect, by_index, by_part, by_part_up, by_part_down, AreSelects, no_select, one_select, two_selects}
 use Rattle.v_expr.specs.Repeat.{◌>>=◌, choose, Read, repeated}
-use Rattle.v_expr.specs.Reading.{after_mark, number_at, Reader, as_expressions, next_at, parts_at, expressions_at, copies_at, concatenation_at, braces_at, inside_at, converted_at, conversion_at, second_at, limits_at, select_at, second_select_at, selects_at, named_at, alone_at, prefix_from, prefixed_at, of_level, joins_from, joins_at, links_at, linked_at, chain_at, tier_at, choices_at, conditional_at, expression_at}
+use Rattle.v_expr.specs.Reading.{after_mark, number_at, number_expression_at, more_parts_at, limit_at, Reader, as_expressions, next_at, parts_at, expressions_at, copies_at, concatenation_at, braces_at, inside_at, converted_at, conversion_at, second_at, limits_at, select_at, second_select_at, selects_at, named_at, alone_at, prefix_from, prefixed_at, of_level, joins_from, joins_at, links_at, linked_at, chain_at, tier_at, choices_at, conditional_at, expression_at}
 use Rattle.v_expr.proofs.Repeat.{some_is, Chain, chain_of}
 use Rattle.v_expr.proofs.Places.{mark_spelled}
 
@@ -64,7 +64,7 @@ others_spelled whole_at hyp e text ts y d h =
 
 expressions_spelled : (whole_at : Reader) → Spells whole_at → (ts : List Token) (y : List Expression × List Token) → expressions_at whole_at ts ≡ Some y
     → AreExpressions (as_expressions y.0) ts (mark right_brace ∷ y.1)
-unfolding expressions_at
+unfolding expressions_at more_parts_at
 expressions_spelled whole_at hyp ts y h =
     let x = bound h in
     let o = bound x.2 in
@@ -73,22 +73,23 @@ expressions_spelled whole_at hyp ts y h =
 -- behind the opening brace
 braces_spelled : (whole_at : Reader) → Spells whole_at → (ts : List Token) (y : Expression × List Token) → braces_at whole_at ts ≡ Some y
     → IsExpression 13 y.0 (mark left_brace ∷ ts) y.1
-unfolding braces_at copies_at concatenation_at
+unfolding braces_at copies_at concatenation_at more_parts_at
 braces_spelled whole_at hyp ts y h =
     let x = bound h in
     let d = hyp ts x.0 x.1 in
     either_way x.2
     (λ w.
-        let parts = bound w.2 in
-        let r = bound parts.2 in
-        let all = expressions_spelled whole_at hyp w.0 parts.0 parts.1 in
-        lands (λ e. IsExpression 13 e (mark left_brace ∷ ts)) r.2
-        (replicated x.0.0 (as_expressions parts.0.0) ts w.0 r.0 (behind left_brace w.1 d)
-        (subst (λ rest. AreExpressions (as_expressions parts.0.0) w.0 (mark right_brace ∷ rest)) (mark_spelled right_brace r.1) all)))
+    let parts = bound w.2 in
+    let r = bound parts.2 in
+    let all = expressions_spelled whole_at hyp w.0 parts.0 parts.1 in
+    lands (λ e. IsExpression 13 e (mark left_brace ∷ ts)) r.2
+    (replicated x.0.0 (as_expressions parts.0.0) ts w.0 r.0 (behind left_brace w.1 d)
+    (subst (λ rest. AreExpressions (as_expressions parts.0.0) w.0 (mark right_brace ∷ rest)) (mark_spelled right_brace r.1) all)))
     (λ w.
-        let o = bound w.1 in
-        lands (λ e. IsExpression 13 e (mark left_brace ∷ ts)) o.2
-        (concatenated (as_expressions (x.0.0 ∷ o.0.0)) ts o.0.1 (others_spelled whole_at hyp x.0.0 ts x.0.1 o.0 d o.1)))
+    let parts = bound w.1 in
+    let o = bound parts.1 in
+    let all = lands (λ es rest. AreExpressions (as_expressions es) ts (mark right_brace ∷ rest)) o.2 (others_spelled whole_at hyp x.0.0 ts x.0.1 o.0 d o.1) in
+    lands (λ e. IsExpression 13 e (mark left_brace ∷ ts)) parts.2 (concatenated (as_expressions parts.0.0) ts parts.0.1 all))
 
 inside_spelled : (whole_at : Reader) → Spells whole_at → (ts : List Token) (y : Expression × List Token) → inside_at whole_at ts ≡ Some y → IsExpression 0 y.0 ts (mark right_parenthesis ∷ y.1)
 unfolding inside_at
@@ -132,11 +133,13 @@ Selecting f text = (r : Expression) (ts rest : List Token) → IsExpression 0 r 
 second_spelled : (whole_at : Reader) → Spells whole_at → (f : Expression → Select) (text ts : List Token) (y : Select × List Token)
     → ((r : Expression) (rest : List Token) → IsExpression 0 r ts (mark right_bracket ∷ rest) → IsSelect (f r) text rest)
     → second_at whole_at f ts ≡ Some y → IsSelect y.0 text y.1
-unfolding second_at
+unfolding second_at limit_at
 second_spelled whole_at hyp f text ts y builds h =
-    let x = bound h in
+    let l = bound h in
+    let x = bound l.1 in
     let r = bound x.2 in
-    lands (λ s. IsSelect s text) r.2 (builds x.0.0 r.0 (behind right_bracket r.1 (hyp ts x.0 x.1)))
+    let d = lands (λ e rest. IsExpression 0 e ts (mark right_bracket ∷ rest)) r.2 (behind right_bracket r.1 (hyp ts x.0 x.1)) in
+    lands (λ s. IsSelect s text) l.2 (builds l.0.0 l.0.1 d)
 
 limits_spelled : (whole_at : Reader) → Spells whole_at → (e : Expression) (text ts : List Token) (y : Select × List Token) → IsExpression 0 e text ts
     → limits_at whole_at e ts ≡ Some y → IsSelect y.0 (mark left_bracket ∷ text) y.1
@@ -149,8 +152,8 @@ limits_spelled whole_at hyp e text ts y d h =
     (λ not_part. either_way not_part.1
     (λ w. second_spelled whole_at hyp (tree.part_up e) (mark left_bracket ∷ text) w.0 y (λ r rest a. by_part_up e r text w.0 rest (behind plus_colon w.1 d) a) w.2)
     (λ not_up.
-        let w = bound not_up.1 in
-        second_spelled whole_at hyp (tree.part_down e) (mark left_bracket ∷ text) w.0 y (λ r rest a. by_part_down e r text w.0 rest (behind minus_colon w.1 d) a) w.2)))
+    let w = bound not_up.1 in
+    second_spelled whole_at hyp (tree.part_down e) (mark left_bracket ∷ text) w.0 y (λ r rest a. by_part_down e r text w.0 rest (behind minus_colon w.1 d) a) w.2)))
 
 -- behind the opening bracket
 select_spelled : (whole_at : Reader) → Spells whole_at → (ts inside : List Token) (y : Select × List Token) → after_mark left_bracket ts ≡ Some inside
@@ -166,8 +169,8 @@ unfolding second_select_at
 second_select_spelled whole_at hyp s text ts y d h =
     either_way h
     (λ w.
-        let t = bound w.2 in
-        lands (λ z. AreSelects z text) t.2 (two_selects s t.0.0 text ts t.0.1 d (select_spelled whole_at hyp ts w.0 t.0 w.1 t.1)))
+    let t = bound w.2 in
+    lands (λ z. AreSelects z text) t.2 (two_selects s t.0.0 text ts t.0.1 d (select_spelled whole_at hyp ts w.0 t.0 w.1 t.1)))
     (λ w. lands (λ z. AreSelects z text) w.1 (one_select s text ts d))
 
 pub selects_spelled : (whole_at : Reader) → Spells whole_at → (ts : List Token) (y : Selects × List Token) → selects_at whole_at ts ≡ Some y → AreSelects y.0 ts y.1
@@ -175,8 +178,8 @@ unfolding selects_at
 selects_spelled whole_at hyp ts y h =
     either_way h
     (λ w.
-        let s = bound w.2 in
-        second_select_spelled whole_at hyp s.0.0 ts s.0.1 y (select_spelled whole_at hyp ts w.0 s.0 w.1 s.1) s.2)
+    let s = bound w.2 in
+    second_select_spelled whole_at hyp s.0.0 ts s.0.1 y (select_spelled whole_at hyp ts w.0 s.0 w.1 s.1) s.2)
     (λ w. lands (λ z. AreSelects z ts) w.1 (no_select ts))
 
 named_by : (whole_at : Reader) → Spells whole_at → (n : Name) (ts : List Token) (y : Expression × List Token) (b : Bool) → is_reserved n ≡ b
@@ -192,7 +195,8 @@ named_spelled whole_at hyp n ts y h = named_by whole_at hyp n ts y (is_reserved 
 
 -- ---- expressions
 
-a_number_spelled : (ts : List Token) (y : Expression × List Token) → (number_at ts >>= λ n. Some (tree.number n.0, n.1)) ≡ Some y → IsExpression 13 y.0 ts y.1
+a_number_spelled : (ts : List Token) (y : Expression × List Token) → number_expression_at ts ≡ Some y → IsExpression 13 y.0 ts y.1
+unfolding number_expression_at
 a_number_spelled ts y h =
     let n = bound h in
     lands (λ e. IsExpression 13 e ts) n.2 (a_number n.0.0 ts n.0.1 (number_spelled ts n.0 n.1))
@@ -221,10 +225,10 @@ prefixed_spelled whole_at hyp [] y h = absurd cc
 prefixed_spelled whole_at hyp (t ∷ ts) y h =
     either_way h
     (λ w.
-        let e = bound w.2 in
-        let m = prefix_is t w.0 w.1 in
-        lands (λ a. IsExpression 12 a (t ∷ ts)) e.2
-        (subst (λ u. IsExpression 12 (w.0 e.0.0) (u ∷ ts) e.0.1) (sym m.1) (prefixed m.0 w.0 e.0.0 ts e.0.1 m.2 (prefixed_spelled whole_at hyp ts e.0 e.1))))
+    let e = bound w.2 in
+    let m = prefix_is t w.0 w.1 in
+    lands (λ a. IsExpression 12 a (t ∷ ts)) e.2
+    (subst (λ u. IsExpression 12 (w.0 e.0.0) (u ∷ ts) e.0.1) (sym m.1) (prefixed m.0 w.0 e.0.0 ts e.0.1 m.2 (prefixed_spelled whole_at hyp ts e.0 e.1))))
     (λ w. tighter 12 y.0 (t ∷ ts) y.1 (alone_spelled whole_at hyp (t ∷ ts) y w.1))
 
 -- an operator of a level
@@ -271,8 +275,8 @@ links_spelled k operand_at hyp zero a text ts y d h = absurd cc
 links_spelled k operand_at hyp (suc n) a text ts y d h =
     either_way h
     (λ w.
-        let b = bound w.2 in
-        links_spelled k operand_at hyp n (w.0.0 a b.0.0) text b.0.1 y (link_spelled k text ts w.0 a b.0.0 b.0.1 (joins_spelled k ts w.0 w.1) d (hyp w.0.1 b.0 b.1)) b.2)
+    let b = bound w.2 in
+    links_spelled k operand_at hyp n (w.0.0 a b.0.0) text b.0.1 y (link_spelled k text ts w.0 a b.0.0 b.0.1 (joins_spelled k ts w.0 w.1) d (hyp w.0.1 b.0 b.1)) b.2)
     (λ w. lands (λ e. IsExpression k e text) w.1 d)
 
 chain_spelled : (k : ℕ) (operand_at : Reader) → SpellsAt (suc k) operand_at → SpellsAt k (chain_at k operand_at)
@@ -298,11 +302,11 @@ choices_spelled whole_at hyp (suc n) ts y h =
     let d : IsExpression 1 c.0.0 ts c.0.1 = tier_spelled whole_at hyp 11 (omega arith) ts c.0 c.1 in
     either_way c.2
     (λ w.
-        let x = bound w.2 in
-        let o = bound x.2 in
-        let e = bound o.2 in
-        lands (λ a. IsExpression 0 a ts) e.2
-        (chosen c.0.0 x.0.0 e.0.0 ts w.0 o.0 e.0.1 (behind question w.1 d) (behind colon o.1 (hyp w.0 x.0 x.1)) (choices_spelled whole_at hyp n o.0 e.0 e.1)))
+    let x = bound w.2 in
+    let o = bound x.2 in
+    let e = bound o.2 in
+    lands (λ a. IsExpression 0 a ts) e.2
+    (chosen c.0.0 x.0.0 e.0.0 ts w.0 o.0 e.0.1 (behind question w.1 d) (behind colon o.1 (hyp w.0 x.0 x.1)) (choices_spelled whole_at hyp n o.0 e.0 e.1)))
     (λ w. lands (λ a. IsExpression 0 a ts) w.1 (tighter 0 c.0.0 ts c.0.1 d))
 
 -- What is read is spelled so.

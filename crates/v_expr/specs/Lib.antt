@@ -3,3 +3,4 @@ pub mod Ending
 pub mod Reading
 pub mod View
 pub mod Digits
+pub mod Worked

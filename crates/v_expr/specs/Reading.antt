@@ -43,11 +43,11 @@ next_at whole_at ts = after_mark comma ts >>= whole_at
 unfoldable pub parts_at : Reader → List Token → Read Token (List Expression)
 parts_at whole_at ts = repeated (after_mark right_brace) (next_at whole_at) ts
 
+unfoldable pub more_parts_at : Reader → Expression → List Token → Read Token (List Expression)
+more_parts_at whole_at e ts = parts_at whole_at ts >>= λ others. Some (e ∷ others.0, others.1)
+
 unfoldable pub expressions_at : Reader → List Token → Read Token (List Expression)
-expressions_at whole_at ts = do
-  first ← whole_at ts
-  others ← parts_at whole_at first.1
-  Some (first.0 ∷ others.0, others.1)
+expressions_at whole_at ts = whole_at ts >>= λ first. more_parts_at whole_at first.0 first.1
 
 -- behind the brace behind the count
 unfoldable pub copies_at : Reader → Expression → List Token → Read Token Expression
@@ -58,9 +58,7 @@ copies_at whole_at n ts = do
 
 -- behind the first part
 unfoldable pub concatenation_at : Reader → Expression → List Token → Read Token Expression
-concatenation_at whole_at e ts = do
-  others ← parts_at whole_at ts
-  Some (tree.concatenation (as_expressions (e ∷ others.0)), others.1)
+concatenation_at whole_at e ts = more_parts_at whole_at e ts >>= λ parts. Some (tree.concatenation (as_expressions parts.0), parts.1)
 
 -- behind the opening brace
 unfoldable pub braces_at : Reader → List Token → Read Token Expression
@@ -87,12 +85,15 @@ conversion_at whole_at n ts =
     cond (bytes_eq n (codes "$signed")) (converted_at whole_at tree.as_signed ts) (
     cond (bytes_eq n (codes "$unsigned")) (converted_at whole_at tree.as_unsigned ts) None)
 
--- behind the first expression and the mark of a select
-unfoldable pub second_at : Reader → (Expression → Select) → List Token → Read Token Select
-second_at whole_at f ts = do
+-- behind the first expression and the mark of a select, up to the closing bracket, which is passed
+unfoldable pub limit_at : Reader → List Token → Read Token Expression
+limit_at whole_at ts = do
   e ← whole_at ts
   rest ← after_mark right_bracket e.1
-  Some (f e.0, rest)
+  Some (e.0, rest)
+
+unfoldable pub second_at : Reader → (Expression → Select) → List Token → Read Token Select
+second_at whole_at f ts = limit_at whole_at ts >>= λ e. Some (f e.0, e.1)
 
 -- behind the first expression of a select
 unfoldable pub limits_at : Reader → Expression → List Token → Read Token Select
@@ -124,13 +125,16 @@ named_at whole_at n ts =
 
 -- ---- expressions
 
+unfoldable pub number_expression_at : List Token → Read Token Expression
+number_expression_at ts = number_at ts >>= λ n. Some (tree.number n.0, n.1)
+
 -- what stands alone
 unfoldable pub alone_at : Reader → List Token → Read Token Expression
 alone_at whole_at [] = None
 alone_at whole_at (word n ∷ ts) = named_at whole_at n ts
 alone_at whole_at (system n ∷ ts) = conversion_at whole_at n ts
-alone_at whole_at (decimal text ∷ ts) = number_at (decimal text ∷ ts) >>= λ n. Some (tree.number n.0, n.1)
-alone_at whole_at (based text ∷ ts) = number_at (based text ∷ ts) >>= λ n. Some (tree.number n.0, n.1)
+alone_at whole_at (decimal text ∷ ts) = number_expression_at (decimal text ∷ ts)
+alone_at whole_at (based text ∷ ts) = number_expression_at (based text ∷ ts)
 alone_at whole_at (mark left_parenthesis ∷ ts) = inside_at whole_at ts
 alone_at whole_at (mark left_brace ∷ ts) = braces_at whole_at ts
 alone_at whole_at (mark _ ∷ ts) = None
@@ -138,6 +142,11 @@ alone_at whole_at (mark _ ∷ ts) = None
 abbrev pub prefix_from : Token → Option (Expression → Expression)
 prefix_from (mark m) = prefix_of m
 prefix_from _ = None
+
+-- an operator in front of an operand, and what stands behind it
+abbrev pub prefix_at : List Token → Read Token (Expression → Expression)
+prefix_at [] = None
+prefix_at (t ∷ ts) = prefix_from t >>= λ f. Some (f, ts)
 
 -- operators in front of an operand
 unfoldable pub prefixed_at : Reader → List Token → Read Token Expression
@@ -181,10 +190,10 @@ choices_at whole_at zero ts = None
 choices_at whole_at (suc n) ts = do
   c ← tier_at 11 whole_at ts
   choose (after_mark question c.1) (λ value. do
-      x ← whole_at value
-      other ← after_mark colon x.1
-      y ← choices_at whole_at n other
-      Some (tree.conditional c.0 x.0 y.0, y.1))
+    x ← whole_at value
+    other ← after_mark colon x.1
+    y ← choices_at whole_at n other
+    Some (tree.conditional c.0 x.0 y.0, y.1))
       (Some (c.0, c.1))
 
 -- as many as there can be

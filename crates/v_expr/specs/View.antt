@@ -2,7 +2,10 @@
 use Rattle.std.specs.Prelude.{◌≡◌, ℕ, Bool, true, false, ◌==◌, ◌||◌, List, Option, Some, None, Result, Ok, Err}
 use Rattle.wb_meaning.specs.Verilog.Syntax as pure
 use Rattle.wb_meaning.specs.Verilog.Spelling.{Operator}
-use Rattle.v_syntax.specs.Tree.{combined, tested}
+use Rattle.wb_meaning.specs.Verilog.Token.{Token}
+use Rattle.v_syntax.specs.declared.tree.PrefixOperator.{PrefixOperator}
+use Rattle.v_syntax.specs.Tree.{combined, tested, all_prefixed}
+use Rattle.v_expr.specs.Repeat.{◌>>=◌, Read}
 use Rattle.v_expr.specs.Reading.{of_level}
 use Rattle.v_expr.specs.declared.stop.ExpressionStop.{ExpressionStop}
 use Rattle.v_expr.specs.declared.stop.ExpressionStop.TheVariants.{NoMemory, Refused}
@@ -39,3 +42,7 @@ is_test (Test o) = true
 -- the levels of || && == and <, whose operators make one bit
 abbrev pub is_test_level : ℕ → Bool
 is_test_level k = k == 1 || k == 2 || k == 6 || k == 7
+
+-- the operand that was read, with the operators in front of it
+abbrev pub after_prefixes : List PrefixOperator → Read Token pure.Expression → Read Token pure.Expression
+after_prefixes os r = r >>= λ e. Some (all_prefixed os e.0, e.1)

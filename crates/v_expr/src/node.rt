@@ -15,7 +15,7 @@ pub fn with_links<'s>(
     operand: Expression<'s>,
     links: Vec<BinaryLink<'s>>,
 ) -> Result<Expression<'s>, ExpressionStop>
-    ensures made { IfOk result (λ e. tree_of e ≡ linked links.items (tree_of operand)) }
+    ensures made { IfOk result (λ e. tree_of e ≡ linked links.entry.items (tree_of operand.entry)) }
     ensures memory { IfErr result (λ e. e ≡ NoMemory) }
 {
     if links.is_empty() {
@@ -30,7 +30,7 @@ pub fn with_tests<'s>(
     operand: Expression<'s>,
     links: Vec<TestLink<'s>>,
 ) -> Result<Expression<'s>, ExpressionStop>
-    ensures made { IfOk result (λ e. tree_of e ≡ test_linked links.items (tree_of operand)) }
+    ensures made { IfOk result (λ e. tree_of e ≡ test_linked links.entry.items (tree_of operand.entry)) }
     ensures memory { IfErr result (λ e. e ≡ NoMemory) }
 {
     if links.is_empty() {
@@ -45,7 +45,7 @@ pub fn with_choices<'s>(
     choices: Vec<Choice<'s>>,
     last: Expression<'s>,
 ) -> Result<Expression<'s>, ExpressionStop>
-    ensures made { IfOk result (λ e. tree_of e ≡ chosen choices.items (tree_of last)) }
+    ensures made { IfOk result (λ e. tree_of e ≡ chosen choices.entry.items (tree_of last.entry)) }
     ensures memory { IfErr result (λ e. e ≡ NoMemory) }
 {
     if choices.is_empty() {
@@ -60,7 +60,7 @@ pub fn with_prefixes<'s>(
     operators: Vec<PrefixOperator>,
     operand: Expression<'s>,
 ) -> Result<Expression<'s>, ExpressionStop>
-    ensures made { IfOk result (λ e. tree_of e ≡ all_prefixed operators.items (tree_of operand)) }
+    ensures made { IfOk result (λ e. tree_of e ≡ all_prefixed operators.items (tree_of operand.entry)) }
     ensures memory { IfErr result (λ e. e ≡ NoMemory) }
 {
     if operators.is_empty() {

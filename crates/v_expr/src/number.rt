@@ -65,20 +65,8 @@ fn standing(part: DigitPart, base: u8, byte: u8) -> u8
 {
     match part {
         DigitPart::Value => digit_value(byte),
-        DigitPart::Unknown => {
-            if is_x(byte) {
-                base - 1
-            } else {
-                0
-            }
-        }
-        DigitPart::Wild => {
-            if is_z(byte) {
-                base - 1
-            } else {
-                0
-            }
-        }
+        DigitPart::Unknown => { if is_x(byte) { base - 1 } else { 0 } }
+        DigitPart::Wild => { if is_z(byte) { base - 1 } else { 0 } }
     }
 }
 

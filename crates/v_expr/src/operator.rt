@@ -1,13 +1,17 @@
 //! Operators by their marks.
 
-ghost use Rattle.std.specs.Prelude.{◌≡◌, option_map, ℕ, Some, IfSome, true, false};
+ghost use Rattle.std.specs.Prelude.{◌≡◌, option_map, ℕ, Some, IfSome, IfOk, IfErr, true, false};
 ghost use Rattle.wb_meaning.specs.Verilog.Spelling.{prefix_of, operator_of};
 ghost use Rattle.v_syntax.specs.Tree.{prefixed, combined, tested};
 ghost use Rattle.v_token.specs.View.{mark_of, token_of, tokens_of};
-ghost use Rattle.v_expr.specs.Reading.{prefix_from, joins_from, joins_at};
+ghost use Rattle.v_expr.specs.Reading.{Reader, prefix_from, prefix_at, alone_at, prefixed_at, joins_from, joins_at};
 ghost use Rattle.v_expr.specs.declared.operator.JointOperator.TheVariants.{Binary, Test};
-ghost use Rattle.v_expr.specs.View.{joint_of, joins_found, is_test, is_test_level};
+ghost use Rattle.v_expr.specs.declared.stop.ExpressionStop.TheVariants.{NoMemory};
+ghost use Rattle.v_expr.specs.View.{joint_of, joins_found, after_prefixes, is_test, is_test_level};
 
+use crate::reader::from_here;
+use crate::stop::ExpressionStop;
+use std::alloc::Global;
 use v_syntax::tree::{BinaryOperator, PrefixOperator, TestOperator};
 use v_token::token::{Mark, Token, TokenKind};
 
@@ -183,5 +187,44 @@ pub fn behind_test<'s, 't>(
             Some(operator) => Some((operator, rest)),
             None => None,
         },
+    }
+}
+
+/// Whether the operators of this level make one bit.
+pub fn is_test_level(level: u8) -> bool
+    ensures { result ≡ is_test_level level }
+{
+    level == 1 || level == 2 || level == 6 || level == 7
+}
+
+/// The operator that stands before an operand, and what stands behind it.
+fn behind_prefix<'s, 't>(tokens: &'t [Token<'s>]) -> Option<(PrefixOperator, &'t [Token<'s>])>
+    ensures { option_map (λ x. (λ e. prefixed x.0 e, tokens_of x.1.now)) result ≡ prefix_at (tokens_of tokens.now) }
+{
+    match tokens {
+        [] => None,
+        [token, rest @ ..] => match prefix_of(*token) {
+            Some(operator) => Some((operator, rest)),
+            None => None,
+        },
+    }
+}
+
+/// The operators that stand before an operand, and what stands behind them.
+pub fn prefixes<'s, 't>(
+    alloc: Global,
+    tokens: &'t [Token<'s>],
+) -> Result<(Vec<PrefixOperator>, &'t [Token<'s>]), ExpressionStop>
+    ensures read { IfOk result (λ x. (whole_at : Reader) → prefixed_at whole_at (tokens_of tokens.now) ≡ after_prefixes x.0.items (alone_at whole_at (tokens_of x.1.now))) }
+    ensures memory { IfErr result (λ e. e ≡ NoMemory) }
+{
+    let mut operators = Vec::new(alloc);
+    let mut rest = from_here(tokens)?;
+    loop {
+        let Some((operator, after)) = behind_prefix(rest) else {
+            return Ok((operators, rest));
+        };
+        operators.push(operator)?;
+        rest = after;
     }
 }

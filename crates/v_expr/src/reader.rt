@@ -1,6 +1,6 @@
 //! Single tokens.
 
-ghost use Rattle.std.specs.Prelude.{◌≡◌, option_map};
+ghost use Rattle.std.specs.Prelude.{◌≡◌, option_map, IfOk, IfErr};
 ghost use Rattle.v_token.specs.View.{mark_of, token_of, tokens_of};
 ghost use Rattle.v_expr.specs.Reading.{is_mark, after_mark};
 ghost use Rattle.v_expr.specs.View.{Gives};
@@ -38,11 +38,16 @@ pub fn behind_mark<'s, 't>(tokens: &'t [Token<'s>], mark: Mark) -> Option<&'t [T
 }
 
 /// What stands behind the mark.
-pub fn mark<'s, 't>(
-    tokens: &'t [Token<'s>],
-    mark: Mark,
-) -> Result<&'t [Token<'s>], ExpressionStop>
+pub fn mark<'s, 't>(tokens: &'t [Token<'s>], mark: Mark) -> Result<&'t [Token<'s>], ExpressionStop>
     ensures { Gives (λ r. tokens_of r.now) result (after_mark (mark_of mark) (tokens_of tokens.now)) }
 {
     behind_mark(tokens, mark).ok_or(ExpressionStop::Refused)
+}
+
+/// The tokens themselves: a reading begins here.
+pub fn from_here<'s, 't>(tokens: &'t [Token<'s>]) -> Result<&'t [Token<'s>], ExpressionStop>
+    ensures same { IfOk result (λ r. r.now ≡ tokens.now) }
+    ensures always { IfErr result (λ _. ⊥) }
+{
+    Ok(tokens)
 }
