@@ -1,5 +1,5 @@
 -- Reading tokens from left to right, as the reader does: each function gives what stands at the front, and the rest.
-use Rattle.std.specs.Prelude.{◌≡◌, ℕ, zero, suc, ◌-◌, Bool, false, cond, ◌==◌, List, [], ◌∷◌, length, codes, Option, Some, None}
+use Rattle.std.specs.Prelude.{ℕ, zero, suc, ◌-◌, Bool, false, cond, ◌==◌, List, [], ◌∷◌, length, codes, Option, Some, None}
 use Rattle.std.specs.Str.{bytes_eq}
 use Rattle.wb_meaning.specs.Value.{Name}
 use Rattle.wb_meaning.specs.Words.{is_reserved}

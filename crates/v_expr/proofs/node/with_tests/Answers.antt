@@ -1,4 +1,4 @@
-use Rattle.std.proofs.Common.{◌≡◌, ◌∙◌, ap}
+use Rattle.std.proofs.Common.{◌∙◌, ap}
 use Rattle.v_syntax.specs.Tree.{tree_of}
 use Rattle.v_syntax.specs.Chain.{test_linked}
 use Rattle.v_syntax.proofs.Trees.{tree_of-Test}

@@ -1,5 +1,3 @@
-use Rattle.std.proofs.Common.{◌≡◌, arith}
-use Rattle.wb_meaning.specs.Verilog.Spelling.{bits_of_digits}
 use Rattle.v_expr.proofs.Digits.{mask_below}
 use Rattle.v_expr.proofs.number.above.Goals as goal
 

@@ -1,6 +1,6 @@
-use Rattle.std.proofs.Common.{◌≡◌, ◌%◌, ◌^◌, arith, ap, ◌∙◌, sym}
+use Rattle.std.proofs.Common.{◌%◌, ◌^◌, arith, ap, ◌∙◌, sym}
 use Rattle.v_expr.specs.Digits.{standing}
-use Rattle.v_expr.proofs.Digits.{mod_cuts, mod-mod, digit_turn, digits_over}
+use Rattle.v_expr.proofs.Digits.{mod_cuts, mod-mod, digit_turn}
 use Rattle.v_expr.proofs.number.digits.Goals as goal
 
 pub loop-byte-preserved : goal.loop-byte-preserved

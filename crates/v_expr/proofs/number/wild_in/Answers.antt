@@ -1,4 +1,4 @@
-use Rattle.std.proofs.Common.{◌≡◌, ◌%◌, ◌^◌, ap, ◌∙◌}
+use Rattle.std.proofs.Common.{◌%◌, ◌^◌, ap, ◌∙◌}
 use Rattle.wb_bits.proofs.Powers.{mod-mod_wider}
 use Rattle.v_expr.specs.Digits.{standing}
 use Rattle.v_expr.proofs.number.wild_in.Goals as goal

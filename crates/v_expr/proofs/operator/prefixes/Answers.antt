@@ -1,4 +1,4 @@
-use Rattle.std.proofs.Common.{◌≡◌, ◌∙◌, ap, sym}
+use Rattle.std.proofs.Common.{◌∙◌, ap, sym}
 use Rattle.v_token.specs.View.{tokens_of}
 use Rattle.v_expr.specs.Reading.{prefixed_at}
 use Rattle.v_expr.specs.View.{after_prefixes}
