@@ -9,3 +9,5 @@ pub mod Next
 pub mod Token
 pub mod Lexical
 pub mod Text
+pub mod Spelling
+pub mod Grammar

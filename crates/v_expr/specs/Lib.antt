@@ -1,0 +1,6 @@
+pub mod Repeat
+pub mod Ending
+pub mod Reading
+pub mod View
+pub mod Digits
+pub mod Worked

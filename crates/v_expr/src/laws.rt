@@ -1,0 +1,30 @@
+//! What reading expressions means, as laws without code.
+
+ghost use Rattle.std.specs.Prelude.{◌≡◌, ◌≤◌, ℕ, suc, List, Some, None};
+ghost use Rattle.wb_meaning.specs.Verilog.Syntax.{Expression, Selects};
+ghost use Rattle.wb_meaning.specs.Verilog.Token.{Token};
+ghost use Rattle.wb_meaning.specs.Verilog.Spelling.{IsExpression, AreSelects};
+ghost use Rattle.v_expr.specs.Ending.{Ends, nesting, nesting_of_selects};
+ghost use Rattle.v_expr.specs.Reading.{selects_at, expression_at};
+
+/// What is read is spelled so.
+pub fn what_is_read_is_spelled()
+    ensures expression { (d : ℕ) (text rest : List Token) (e : Expression) → expression_at d text ≡ Some (e, rest) → IsExpression 0 e text rest }
+    ensures selects { (d : ℕ) (text rest : List Token) (s : Selects) → selects_at (expression_at d) text ≡ Some (s, rest) → AreSelects s text rest }
+{}
+
+/// What is spelled so, at most `d` levels deep and in front of what does not go on with it, is read.
+pub fn an_expression_is_read()
+    ensures expression { (d : ℕ) (e : Expression) (text rest : List Token) (s : IsExpression 0 e text rest) → nesting s ≤ d → Ends 0 rest → expression_at (suc d) text ≡ Some (e, rest) }
+    ensures selects { (d k : ℕ) (e : Selects) (text rest : List Token) (s : AreSelects e text rest) → nesting_of_selects s ≤ d → Ends k rest → selects_at (expression_at d) text ≡ Some (e, rest) }
+{}
+
+/// What is refused at `d + 1` levels is spelled by no expression that is at most `d` levels deep.
+pub fn what_is_refused_is_none()
+    ensures { (d : ℕ) (text : List Token) → expression_at (suc d) text ≡ None → (e : Expression) (rest : List Token) (s : IsExpression 0 e text rest) → nesting s ≤ d → Ends 0 rest → ⊥ }
+{}
+
+/// In front of what does not go on with them, tokens spell at most one expression, and it ends at one place.
+pub fn one_expression()
+    ensures { (e f : Expression) (text rest other : List Token) → IsExpression 0 e text rest → Ends 0 rest → IsExpression 0 f text other → Ends 0 other → (e ≡ f) × (rest ≡ other) }
+{}

@@ -1,0 +1,4 @@
+//! Tokens of Verilog text.
+#![tactic(auto)]
+
+pub mod token;
