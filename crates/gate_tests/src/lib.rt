@@ -1,4 +1,4 @@
-//! Tests alone: small terms as formulas, answered by the solver, with the answers that z3 gives.
+//! Tests alone: small terms as formulas, answered by the solver, with the answers that arithmetic gives.
 #![tactic(auto)]
 
 #[cfg(test)]

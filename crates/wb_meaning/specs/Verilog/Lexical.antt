@@ -248,7 +248,7 @@ are_digits_of base text = list_any (is_digit_of base) text && list_all (λ b. is
 abbrev pub if_digits : (base : ℕ) → (text : List ℕ) → (blanks : ℕ) → Option ℕ
 if_digits base text n =
     cond (are_digits_of base (take (run_length (runs_on base) (drop n text)) (drop n text)))
-        (Some (n + run_length (runs_on base) (drop n text))) None
+    (Some (n + run_length (runs_on base) (drop n text))) None
 
 unfoldable pub digits_length : (is_macro : Bool) → (base : ℕ) → List ℕ → Option ℕ
 digits_length is_macro base text = if_digits base text (blank_length is_macro text)
@@ -335,9 +335,11 @@ definition_length zero (b ∷ bs) =
 unfoldable pub name_behind : List ℕ → Option (Name × ℕ)
 name_behind text =
     cond (begins_with is_letter (drop (run_length is_line_blank text) text))
-        (Some (take (run_length is_word_byte (drop (run_length is_line_blank text) text)) (drop (run_length is_line_blank text) text),
-               run_length is_line_blank text + run_length is_word_byte (drop (run_length is_line_blank text) text)))
-        None
+    (Some (
+      take (run_length is_word_byte (drop (run_length is_line_blank text) text)) (drop (run_length is_line_blank text) text),
+      run_length is_line_blank text + run_length is_word_byte (drop (run_length is_line_blank text) text),
+    ))
+    None
 
 -- a directive with a name: without one it is written wrongly
 abbrev pub named : (Name → Piece) → Option (Name × ℕ) → Front
@@ -385,14 +387,14 @@ directive_of w text = conditional_at w text (directive_from w text)
 unfoldable pub directive_at : List ℕ → Front
 directive_at text =
     cond (begins_with is_letter text)
-        (behind (run_length is_word_byte text) (directive_of (take (run_length is_word_byte text) text) (drop (run_length is_word_byte text) text)))
-        None
+    (behind (run_length is_word_byte text) (directive_of (take (run_length is_word_byte text) text) (drop (run_length is_word_byte text) text)))
+    None
 
 -- the same in text that a conditional leaves out, where the directives of conditionals alone count
 unfoldable pub conditional_behind : List ℕ → Front
 conditional_behind text =
     behind (run_length is_word_byte text)
-        (conditional_at (take (run_length is_word_byte text) text) (drop (run_length is_word_byte text) text) (Some (nothing, 0)))
+    (conditional_at (take (run_length is_word_byte text) text) (drop (run_length is_word_byte text) text) (Some (nothing, 0)))
 
 -- ---- the front of a text: its first byte and what stands behind it
 

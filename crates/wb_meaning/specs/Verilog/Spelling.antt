@@ -91,7 +91,7 @@ number_in_base size signed base digits = record {
   value = digits_from base digit_value 0 digits % 2 ^ kept_width (width_of_size size);
   unknown = digits_from base (filled_where base is_x) 0 digits % 2 ^ kept_width (width_of_size size);
   wild = digits_from base (filled_where base is_z) 0 digits % 2 ^ kept_width (width_of_size size)
-       + filled_above (bits_of_base base) (kept_width (width_of_size size)) digits;
+      + filled_above (bits_of_base base) (kept_width (width_of_size size)) digits;
 }
 
 -- from the base on
