@@ -5,3 +5,4 @@ pub mod Grow
 pub mod Again
 pub mod Digits
 pub mod Turns
+pub mod Whole

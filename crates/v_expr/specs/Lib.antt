@@ -4,3 +4,4 @@ pub mod Reading
 pub mod View
 pub mod Digits
 pub mod Worked
+pub mod Whole

@@ -16,7 +16,7 @@ use Rattle.v_expr.specs.declared.operator.Joint.{Joint}
 -- Reading gives nothing, unless memory ran out.
 abbrev pub Fails : {Y : Type 0} → ExpressionStop → Option Y → Type 0
 Fails NoMemory read = Unit {0}
-Fails Refused read = read ≡ None
+Fails (Refused left) read = read ≡ None
 
 -- What a function returned, seen by view, is what reading gives, unless memory ran out.
 abbrev pub Gives : {X Y : Type 0} → (X → Y) → Result X ExpressionStop → Option Y → Type 0

@@ -6,6 +6,7 @@ ghost use Rattle.wb_meaning.specs.Verilog.Token.{Token};
 ghost use Rattle.wb_meaning.specs.Verilog.Spelling.{IsExpression, AreSelects};
 ghost use Rattle.v_expr.specs.Ending.{Ends, nesting, nesting_of_selects};
 ghost use Rattle.v_expr.specs.Reading.{selects_at, expression_at};
+ghost use Rattle.v_expr.specs.Whole.{whole_at, whole_selects_at};
 
 /// What is read is spelled so.
 pub fn what_is_read_is_spelled()
@@ -27,4 +28,16 @@ pub fn what_is_refused_is_none()
 /// In front of what does not go on with them, tokens spell at most one expression, and it ends at one place.
 pub fn one_expression()
     ensures { (e f : Expression) (text rest other : List Token) → IsExpression 0 e text rest → Ends 0 rest → IsExpression 0 f text other → Ends 0 other → (e ≡ f) × (rest ≡ other) }
+{}
+
+/// A whole expression, however deep: what is read is spelled so, and what is spelled so, in front of what does not go on with it, is read.
+pub fn a_whole_expression_is_read()
+    ensures spelled { (text rest : List Token) (e : Expression) → whole_at text ≡ Some (e, rest) → IsExpression 0 e text rest }
+    ensures read { (e : Expression) (text rest : List Token) → IsExpression 0 e text rest → Ends 0 rest → whole_at text ≡ Some (e, rest) }
+{}
+
+/// The selects behind a name likewise.
+pub fn whole_selects_are_read()
+    ensures spelled { (text rest : List Token) (s : Selects) → whole_selects_at text ≡ Some (s, rest) → AreSelects s text rest }
+    ensures read { (k : ℕ) (s : Selects) (text rest : List Token) → AreSelects s text rest → Ends k rest → whole_selects_at text ≡ Some (s, rest) }
 {}

@@ -41,7 +41,7 @@ pub fn behind_mark<'s, 't>(tokens: &'t [Token<'s>], mark: Mark) -> Option<&'t [T
 pub fn mark<'s, 't>(tokens: &'t [Token<'s>], mark: Mark) -> Result<&'t [Token<'s>], ExpressionStop>
     ensures { Gives (λ r. tokens_of r.now) result (after_mark (mark_of mark) (tokens_of tokens.now)) }
 {
-    behind_mark(tokens, mark).ok_or(ExpressionStop::Refused)
+    behind_mark(tokens, mark).ok_or(ExpressionStop::Refused(tokens.len()))
 }
 
 /// The tokens themselves: a reading begins here.

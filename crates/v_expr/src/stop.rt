@@ -10,8 +10,8 @@ use std::alloc::{AllocError, AllocFailed};
 pub enum ExpressionStop {
     /// There was not enough memory.
     NoMemory,
-    /// The tokens do not begin with one, or it is too deep.
-    Refused,
+    /// The tokens do not begin with one: how many of them were left where that was found.
+    Refused(usize),
 }
 
 impl From<AllocError> for ExpressionStop {
