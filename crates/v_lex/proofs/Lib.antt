@@ -5,3 +5,4 @@ pub mod Stacks
 pub mod Shown
 pub mod Encoded
 pub mod Answered
+pub mod Bytes

@@ -3,8 +3,9 @@ use Rattle.std.specs.Prelude.{◌≡◌, List, Result, Ok, Err, ⊤, Vec}
 use Rattle.std.specs.Global.{Global}
 use Rattle.wb_meaning.specs.Verilog.Token as pure
 use Rattle.wb_meaning.specs.Verilog.Text as texts
-use Rattle.v_lex.specs.Reading.{tokens_of, refusal_of}
-use Rattle.v_lex.specs.declared.token.Token.{Token}
+use Rattle.v_token.specs.View.{tokens_of}
+use Rattle.v_token.specs.declared.token.Token.{Token}
+use Rattle.v_lex.specs.Reading.{refusal_of}
 use Rattle.v_lex.specs.declared.stop.LexKind.{LexKind}
 use Rattle.v_lex.specs.declared.stop.LexStop.{LexStop}
 use Rattle.v_lex.specs.declared.stop.LexStop.TheVariants.{Refused, NoMemory}

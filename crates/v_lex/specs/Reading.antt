@@ -9,9 +9,10 @@ use Rattle.wb_meaning.specs.Value.{Name}
 use Rattle.wb_meaning.specs.Verilog.Token as pure
 use Rattle.wb_meaning.specs.Verilog.Text as texts
 use Rattle.wb_meaning.specs.Verilog.Lexical as pieces
-use Rattle.v_lex.specs.View.{token_of_kind, piece_of, after}
+use Rattle.v_token.specs.View.{tokens_of}
+use Rattle.v_token.specs.declared.token.Token.{Token}
+use Rattle.v_lex.specs.View.{piece_of, after}
 use Rattle.v_lex.specs.declared.piece.Piece.{Piece}
-use Rattle.v_lex.specs.declared.token.Token.{Token}
 use Rattle.v_lex.specs.declared.stop.LexKind.{LexKind}
 use Rattle.v_lex.specs.declared.stop.LexKind.TheVariants.{NotText, BadToken, BadDirective, Unsupported, TooDeep}
 use Rattle.v_lex.specs.declared.stop.Stop.{Stop}
@@ -21,12 +22,6 @@ use Rattle.v_lex.specs.declared.state.Branch.{Branch}
 use Rattle.v_lex.specs.declared.state.Branch.TheVariants.{Taken, Waiting, Passed}
 use Rattle.v_lex.specs.declared.state.Conditional.{Conditional}
 use Rattle.v_lex.specs.declared.state.Reader.{Reader}
-
-abbrev pub token_of : Token → pure.Token
-token_of t = token_of_kind t.kind t.text.now
-
-abbrev pub tokens_of : List Token → List pure.Token
-tokens_of ts = map token_of ts
 
 abbrev pub refusal_of : LexKind → texts.Refusal
 refusal_of NotText = texts.not_text

@@ -12,8 +12,8 @@ use crate::note::Note;
 use crate::run::{Run, behind, first_bytes, split_run};
 use crate::state::Reader;
 use crate::stop::{LexKind, LexRefusal, LexStop, NoMemory, Place, Stop};
-use crate::token::Token;
 use std::alloc::Global;
+use v_token::token::Token;
 
 /// Whether the bytes are UTF-8.
 fn is_utf8(bytes: &[u8]) -> bool

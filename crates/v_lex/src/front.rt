@@ -4,14 +4,15 @@ ghost use Rattle.std.specs.Prelude.{◌≡◌, false, None, option_map};
 ghost use Rattle.wb_meaning.specs.Verilog.Lexical.{left_out, mark_of_one, mark_of_two, mark_of_three, longest, mark_at, slash_at, is_star_alone, bracket_at, string_length, if_closed, read_at, left_out_at};
 ghost use Rattle.v_lex.specs.View.{front_of, after, at_front};
 
+use crate::ascii::mark_text;
 use crate::directive::{behind_passed, directive, left_out_directive};
 use crate::mark::{double, single, triple};
 use crate::number::{based, number};
 use crate::piece::Piece;
-use crate::run::{Run, behind, behind_blanks, is_blank_before, split_run, taken_before};
+use crate::run::{Run, behind, behind_blanks, is_blank_before, split_run};
 use crate::scan::{begins_with_byte, behind_closing, behind_string};
-use crate::token::{Mark, TokenKind};
 use crate::words::{escaped, system, word};
+use v_token::token::{Mark, TokenKind};
 use wb_names::{is_digit, is_letter};
 
 fn short_mark<'t>(byte: u8, text: &'t [u8], more: &'t [u8]) -> Option<(Piece<'t>, &'t [u8])>
@@ -19,7 +20,7 @@ fn short_mark<'t>(byte: u8, text: &'t [u8], more: &'t [u8]) -> Option<(Piece<'t>
 {
     match single(byte) {
         Some(mark) => Some((
-            Piece::Token(TokenKind::Mark(mark), taken_before(text, more)),
+            Piece::Token(TokenKind::Mark(mark), mark_text(text, more)),
             more,
         )),
         None => None,
@@ -38,7 +39,7 @@ fn middle_mark<'t>(
         Some(mark) => {
             let rest = behind(more, 1);
             Some((
-                Piece::Token(TokenKind::Mark(mark), taken_before(text, rest)),
+                Piece::Token(TokenKind::Mark(mark), mark_text(text, rest)),
                 rest,
             ))
         }
@@ -59,7 +60,7 @@ fn long_mark<'t>(
         Some(mark) => {
             let rest = behind(more, 2);
             Some((
-                Piece::Token(TokenKind::Mark(mark), taken_before(text, rest)),
+                Piece::Token(TokenKind::Mark(mark), mark_text(text, rest)),
                 rest,
             ))
         }
@@ -85,7 +86,7 @@ fn mark(text: &[u8]) -> Option<(Piece<'_>, &[u8])>
 fn slash<'t>(text: &'t [u8], more: &'t [u8]) -> Option<(Piece<'t>, &'t [u8])>
     ensures { option_map front_of result ≡ after more.now (slash_at more.now) }
 {
-    let alone = Piece::Token(TokenKind::Mark(Mark::Slash), taken_before(text, more));
+    let alone = Piece::Token(TokenKind::Mark(Mark::Slash), mark_text(text, more));
     let Some((first, comment)) = more.split_first() else {
         return Some((alone, more));
     };
@@ -115,7 +116,7 @@ fn bracket<'t>(is_macro: bool, text: &'t [u8], more: &'t [u8]) -> Option<(Piece<
 {
     let alone = Piece::Token(
         TokenKind::Mark(Mark::LeftParenthesis),
-        taken_before(text, more),
+        mark_text(text, more),
     );
     let Some((first, attribute)) = more.split_first() else {
         return Some((alone, more));

@@ -2,6 +2,7 @@
 #![tactic(auto)]
 
 mod answer;
+mod ascii;
 mod conditional;
 mod directive;
 mod files;
@@ -18,13 +19,12 @@ mod scan;
 mod state;
 mod stop;
 mod table;
-mod token;
 mod words;
 
 pub use answer::tokens;
 pub use note::Note;
 pub use stop::{LexKind, LexRefusal, LexStop};
-pub use token::{Mark, Token, TokenKind};
+pub use v_token::token::{Mark, Token, TokenKind};
 
 #[cfg(test)]
 mod tests;

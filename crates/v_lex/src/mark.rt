@@ -2,9 +2,9 @@
 
 ghost use Rattle.std.specs.Prelude.{◌≡◌, option_map};
 ghost use Rattle.wb_meaning.specs.Verilog.Lexical.{mark_of_one, mark_of_two, mark_of_three};
-ghost use Rattle.v_lex.specs.View.{mark_of};
+ghost use Rattle.v_token.specs.View.{mark_of};
 
-use crate::token::Mark;
+use v_token::token::Mark;
 
 #[tactic(auto, unfolding(wb_meaning::specs::Verilog::Lexical::mark_of_one))]
 pub(crate) fn single(byte: u8) -> Option<Mark>

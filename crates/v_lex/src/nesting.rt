@@ -3,14 +3,14 @@
 ghost use Rattle.std.specs.Prelude.{◌≡◌, ◌∷◌, ℕ, [], IfOk, is_some, option_map};
 ghost use Rattle.std.specs.List.{list_any};
 ghost use Rattle.wb_meaning.specs.Verilog.Text.{is_same_opening, or_all, behind_nearest, without_statements, without_choice, step_of_mark, step_of_word, step_of, open_behind, is_too_deep};
-ghost use Rattle.v_lex.specs.View.{mark_of};
-ghost use Rattle.v_lex.specs.Reading.{token_of, tokens_of, first_in, without_first};
+ghost use Rattle.v_token.specs.View.{mark_of, token_of, tokens_of};
+ghost use Rattle.v_lex.specs.Reading.{first_in, without_first};
 ghost use Rattle.v_lex.specs.Nesting.{opening_of, openings_of, step_view};
 
 use crate::opening::{Opening, Step};
 use crate::stop::Place;
-use crate::token::{Mark, Token, TokenKind};
 use std::alloc::{AllocError, Global};
+use v_token::token::{Mark, Token, TokenKind};
 
 /// The most constructs that may be open.
 const MOST_OPEN: usize = 200;
@@ -86,7 +86,7 @@ fn step_of(token: Token<'_>) -> Step
     ensures { step_view result ≡ step_of (token_of token.entry) }
 {
     match token.kind {
-        TokenKind::Word => step_of_word(token.text),
+        TokenKind::Word => step_of_word(token.text.as_bytes()),
         TokenKind::Mark(mark) => step_of_mark(mark),
         _ => Step::Stays,
     }

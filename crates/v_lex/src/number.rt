@@ -1,14 +1,15 @@
 //! Numbers at the front of a text.
 
-ghost use Rattle.std.specs.Prelude.{◌≡◌, ◌==◌, ◌||◌, option_map};
+ghost use Rattle.std.specs.Prelude.{◌≡◌, ◌==◌, ◌||◌, true, option_map};
 ghost use Rattle.std.specs.List.{list_all, list_any};
 ghost use Rattle.wb_meaning.specs.ModelFile.Names.{is_digit, begins_with};
 ghost use Rattle.wb_meaning.specs.Verilog.Lexical.{fraction_length, signed_length, exponent_length, real_length, number_at, is_base, is_unknown_digit, is_hexadecimal_digit, is_digit_of, are_digits_of, digits_length, base_length, behind_quote, based_at};
 ghost use Rattle.v_lex.specs.View.{rest_after, front_of, at_front};
 
+use crate::ascii::ascii_text;
 use crate::piece::Piece;
 use crate::run::{Run, behind_blanks, is_decimal_base, split_run, taken_before};
-use crate::token::TokenKind;
+use v_token::token::TokenKind;
 use wb_names::is_digit;
 
 fn begins_with_digit(text: &[u8]) -> bool
@@ -79,6 +80,7 @@ fn behind_real(text: &[u8]) -> Option<&[u8]>
 /// A plain decimal or a real number, where a digit stands first.
 #[tactic(auto, unfolding(wb_meaning::specs::Verilog::Lexical::number_at))]
 pub(crate) fn number(text: &[u8]) -> Option<(Piece<'_>, &[u8])>
+    requires { begins_with is_digit text.now ≡ true }
     ensures { option_map front_of result ≡ at_front number_at text.now }
 {
     let Some((_, more)) = text.split_first() else {
@@ -88,7 +90,7 @@ pub(crate) fn number(text: &[u8]) -> Option<(Piece<'_>, &[u8])>
     match behind_real(rest) {
         Some(behind) => Some((Piece::LeftOut, behind)),
         None => Some((
-            Piece::Token(TokenKind::Decimal, taken_before(text, rest)),
+            Piece::Token(TokenKind::Decimal, ascii_text(taken_before(text, rest))),
             rest,
         )),
     }
@@ -209,6 +211,7 @@ fn behind_quote(is_macro: bool, text: &[u8]) -> Option<&[u8]>
 /// A based number without its size, where a quote stands first.
 #[tactic(auto, unfolding(wb_meaning::specs::Verilog::Lexical::based_at))]
 pub(crate) fn based(is_macro: bool, text: &[u8]) -> Option<(Piece<'_>, &[u8])>
+    requires { begins_with (λ b. b == 39) text.now ≡ true }
     ensures { option_map front_of result ≡ at_front (based_at is_macro) text.now }
 {
     let Some((_, more)) = text.split_first() else {
@@ -216,7 +219,7 @@ pub(crate) fn based(is_macro: bool, text: &[u8]) -> Option<(Piece<'_>, &[u8])>
     };
     match behind_quote(is_macro, more) {
         Some(rest) => Some((
-            Piece::Token(TokenKind::Based, taken_before(text, rest)),
+            Piece::Token(TokenKind::Based, ascii_text(taken_before(text, rest))),
             rest,
         )),
         None => None,

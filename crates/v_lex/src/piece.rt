@@ -1,6 +1,6 @@
 //! What stands at the front of a text.
 
-use crate::token::TokenKind;
+use v_token::token::TokenKind;
 
 /// A piece of a text.
 #[derive(Clone, Copy)]
@@ -8,7 +8,7 @@ pub(crate) enum Piece<'t> {
     /// Blanks, a comment, an attribute, the line of a directive that means nothing here.
     Nothing,
     /// A token and its text.
-    Token(TokenKind, &'t [u8]),
+    Token(TokenKind, &'t str),
     /// What the subset leaves out.
     LeftOut,
     /// A directive that is written wrongly.

@@ -3,8 +3,9 @@
 ghost use Rattle.std.specs.Prelude.{◌≡◌, ◌==◌, ◌||◌, ◌+◌, nat_le, cond, ℕ, List, Some, None, option_map};
 ghost use Rattle.std.specs.List.{list_all};
 ghost use Rattle.wb_meaning.specs.Verilog.Text.{most_used, Reading, Outcome, with_bad_directive, with_left_out, with_macro, with_token, is_zero, is_based, is_defined, begun, continued, ended, with_text_of, with_piece, front_at, text_from, macro_read};
-ghost use Rattle.v_lex.specs.View.{token_of_kind, piece_of, front_of, at_front};
-ghost use Rattle.v_lex.specs.Reading.{token_of, reading_of, IsOutcome, Leaves, IsTaken, IsFront, front_in};
+ghost use Rattle.v_token.specs.View.{token_of_kind, token_of};
+ghost use Rattle.v_lex.specs.View.{piece_of, front_of, at_front};
+ghost use Rattle.v_lex.specs.Reading.{reading_of, IsOutcome, Leaves, IsTaken, IsFront, front_in};
 
 use crate::conditional::{enter, first_branch, innermost, leave, leaves_out, next_branch};
 use crate::front::{left_out_front, read_front};
@@ -12,7 +13,7 @@ use crate::piece::Piece;
 use crate::state::{Conditional, Reader, Span};
 use crate::stop::{LexKind, Place, Stop};
 use crate::table::{macro_text, set_macro};
-use crate::token::{Token, TokenKind};
+use v_token::token::{Token, TokenKind};
 
 /// The most tokens of all files.
 const MOST_TOKENS: usize = 4_194_304;
@@ -104,13 +105,13 @@ impl<'s> Reader<'s> {
             file: token.file,
             start: token.start,
         };
-        if self.is_behind_zero && is_based(token.kind, token.text) {
+        if self.is_behind_zero && is_based(token.kind, token.text.as_bytes()) {
             return Err(Stop::Refused(LexKind::BadToken, place));
         }
         if self.tokens.len() >= MOST_TOKENS {
             return Err(Stop::Refused(LexKind::BadDirective, place));
         }
-        self.is_behind_zero = is_zero(token.kind, token.text);
+        self.is_behind_zero = is_zero(token.kind, token.text.as_bytes());
         self.tokens.push(token)?;
         Ok(())
     }

@@ -1,8 +1,8 @@
 //! What is known behind a part of the files.
 
 use crate::stop::Place;
-use crate::token::Token;
 use std::collections::BTreeMap;
+use v_token::token::Token;
 
 /// A part of a file and where it begins.
 #[derive(Clone, Copy)]

@@ -40,7 +40,7 @@ fn shown(alloc: Global, files: &[Vec<u8>]) -> Result<Vec<u8>, AllocError> {
                 if !text.is_empty() {
                     text.push(b'|')?;
                 }
-                text.extend_from_slice(token.text)?;
+                text.extend_from_slice(token.text.as_bytes())?;
             }
             Ok(text)
         }

@@ -1,16 +1,18 @@
 //! Words, and names with `$`.
 
-ghost use Rattle.std.specs.Prelude.{◌≡◌, option_map};
+ghost use Rattle.std.specs.Prelude.{◌≡◌, true, option_map};
+ghost use Rattle.std.specs.Char.{is_ascii};
 ghost use Rattle.std.specs.Str.{bytes_eq};
-ghost use Rattle.std.specs.List.{list_any};
+ghost use Rattle.std.specs.List.{list_all, list_any};
 ghost use Rattle.wb_meaning.specs.Words.{grammar_words};
 ghost use Rattle.wb_meaning.specs.ModelFile.Names.{begins_with, is_letter};
 ghost use Rattle.wb_meaning.specs.Verilog.Lexical.{is_word_byte, is_graphic, is_left_out, word_piece, word_at, system_piece, system_at, escaped_at};
 ghost use Rattle.v_lex.specs.View.{piece_of, front_of, after, at_front};
 
+use crate::ascii::ascii_text;
 use crate::piece::Piece;
 use crate::run::{Run, is_graphic, is_word_byte, split_run, taken_before};
-use crate::token::TokenKind;
+use v_token::token::TokenKind;
 use wb_names::{is_letter, is_reserved_word};
 
 /// The words of the grammar.
@@ -59,18 +61,20 @@ fn is_left_out(word: &[u8]) -> bool
 
 #[tactic(auto, unfolding(wb_meaning::specs::Verilog::Lexical::word_piece))]
 fn word_piece(word: &[u8]) -> Piece<'_>
+    requires { list_all is_ascii word.now ≡ true }
     ensures { piece_of result ≡ word_piece word.now }
 {
     if is_left_out(word) {
         Piece::LeftOut
     } else {
-        Piece::Token(TokenKind::Word, word)
+        Piece::Token(TokenKind::Word, ascii_text(word))
     }
 }
 
 /// An identifier or a reserved word, where a letter or `_` stands first.
 #[tactic(auto, unfolding(wb_meaning::specs::Verilog::Lexical::word_at))]
 pub(crate) fn word(text: &[u8]) -> Option<(Piece<'_>, &[u8])>
+    requires { begins_with is_letter text.now ≡ true }
     ensures { option_map front_of result ≡ at_front word_at text.now }
 {
     let Some((_, more)) = text.split_first() else {
@@ -85,7 +89,7 @@ fn system_piece(word: &[u8]) -> Piece<'_>
     ensures { piece_of result ≡ system_piece word.now }
 {
     if word == b"$signed".as_slice() || word == b"$unsigned".as_slice() {
-        Piece::Token(TokenKind::System, word)
+        Piece::Token(TokenKind::System, ascii_text(word))
     } else {
         Piece::LeftOut
     }
