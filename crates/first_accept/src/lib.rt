@@ -122,6 +122,3 @@ pub fn accept(
     }
     Ok(Some(FirstCase { model, map, design }))
 }
-
-#[cfg(test)]
-mod tests;

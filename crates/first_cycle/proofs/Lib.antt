@@ -5,4 +5,3 @@ pub mod Registers
 pub mod Valued
 pub mod Mapping
 pub mod Slicing
-pub mod Samples

@@ -11,6 +11,3 @@ mod widths;
 
 pub use reading::{holds, number};
 pub use values::{Named, NoMemory, Values, after_edge, numbered, value, value_count};
-
-#[cfg(test)]
-mod tests;

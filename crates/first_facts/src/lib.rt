@@ -9,6 +9,3 @@ mod terms;
 
 pub use decided::{is_broken, is_whole_command};
 pub use facts::{Fact, Obligation};
-
-#[cfg(test)]
-mod tests;

@@ -2,11 +2,11 @@
 use Rattle.std.proofs.Common.{◌≡◌, List, [], ◌∷◌, refl, sym, ap, ◌∙◌, map, Vec}
 use Rattle.std.specs.Global.{Global}
 use Rattle.wb_meaning.specs.Value.{Name}
-use Rattle.first_text.specs.Reading.{as_actions}
+use Rattle.first_text.specs.Tree.{as_actions}
 use Rattle.first_text.specs.Tree as pure
 use Rattle.first_text.specs.View.{action_of, actions_of}
 use Rattle.first_text.specs.declared.tree.Action.{Action, Block}
-use Rattle.first_text.proofs.Steps.{action_of-Block}
+use Rattle.first_text.proofs.Blocks.{action_of-Block}
 use Rattle.first_report.specs.Traced.{with_set, with_all_set}
 
 same_actions : (xs : List Action) → as_actions (map action_of xs) ≡ actions_of xs

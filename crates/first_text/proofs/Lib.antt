@@ -1,13 +1,1 @@
-pub mod Repeat
-pub mod Spelled
-pub mod SpelledActions
-pub mod SpelledModules
-pub mod Grow
-pub mod Again
-pub mod AgainModules
-pub mod Turns
-pub mod Runs
-pub mod Tokens
-pub mod Steps
-pub mod TokensAgain
-pub mod Texts
+pub mod Blocks

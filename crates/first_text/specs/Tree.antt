@@ -26,6 +26,11 @@ mutual
     no_actions : Actions
     action : Action → Actions → Actions
 
+-- the statements of a block from a list of them
+abbrev pub as_actions : List Action → Actions
+as_actions [] = no_actions
+as_actions (a ∷ list) = action a (as_actions list)
+
 -- [left:right] by the values of two decimals
 abbrev pub Bounds : Type 0
 Bounds = Option (ℕ × ℕ)

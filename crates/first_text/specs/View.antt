@@ -1,12 +1,7 @@
--- The pure trees and tokens that the code's stand for.
+-- The pure trees that the code's stand for.
 use Rattle.std.specs.Prelude.{List, [], ◌∷◌, map, Option, option_map}
 use Rattle.wb_meaning.specs.Verilog.Syntax as syntax
 use Rattle.first_text.specs.Tree as pure
-use Rattle.first_text.specs.Token as pure_token
-use Rattle.first_text.specs.declared.token.Mark.{Mark}
-use Rattle.first_text.specs.declared.token.Mark.TheVariants.{LeftParenthesis, RightParenthesis, LeftBracket, RightBracket, Comma, Semicolon, Colon, At, Plus, Equals, DoubleEquals, Arrow}
-use Rattle.first_text.specs.declared.token.Token.{Token}
-use Rattle.first_text.specs.declared.token.Token.TheVariants as tokens
 use Rattle.first_text.specs.declared.tree.Direction.{Direction}
 use Rattle.first_text.specs.declared.tree.Direction.TheVariants.{Input, Output}
 use Rattle.first_text.specs.declared.tree.Bounds.{Bounds}
@@ -19,28 +14,6 @@ use Rattle.first_text.specs.declared.tree.Port.{Port}
 use Rattle.first_text.specs.declared.tree.Part.{Part}
 use Rattle.first_text.specs.declared.tree.Part.TheVariants.{Register, Assignment, Clocked}
 use Rattle.first_text.specs.declared.tree.FirstModule.{FirstModule}
-
-abbrev pub mark_of : Mark → pure_token.Mark
-mark_of LeftParenthesis = pure_token.left_parenthesis
-mark_of RightParenthesis = pure_token.right_parenthesis
-mark_of LeftBracket = pure_token.left_bracket
-mark_of RightBracket = pure_token.right_bracket
-mark_of Comma = pure_token.comma
-mark_of Semicolon = pure_token.semicolon
-mark_of Colon = pure_token.colon
-mark_of At = pure_token.at
-mark_of Plus = pure_token.plus
-mark_of Equals = pure_token.equals
-mark_of DoubleEquals = pure_token.double_equals
-mark_of Arrow = pure_token.arrow
-
-abbrev pub token_of : Token → pure_token.Token
-token_of (tokens.Word w) = pure_token.word w.now
-token_of (tokens.Numeral n) = pure_token.numeral n
-token_of (tokens.Mark m) = pure_token.mark (mark_of m)
-
-abbrev pub tokens_of : List Token → List pure_token.Token
-tokens_of ts = map token_of ts
 
 abbrev pub direction_of : Direction → syntax.Direction
 direction_of Input = syntax.input

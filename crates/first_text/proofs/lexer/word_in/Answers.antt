@@ -1,7 +1,0 @@
-use Rattle.first_text.specs.Token.{is_word_byte}
-use Rattle.std.proofs.Common.{arith}
-use Rattle.first_text.proofs.Runs.{run_length-le}
-use Rattle.first_text.proofs.lexer.word_in.Goals as goal
-
-pub split_at-requires : goal.split_at-requires
-split_at-requires c = omega (arith, c.word_length.ensures, run_length-le is_word_byte c.args.text.now)

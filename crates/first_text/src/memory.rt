@@ -1,0 +1,5 @@
+//! Want of memory.
+
+/// There was not enough memory.
+#[derive(Clone, Copy, PartialEq, Eq, Debug)]
+pub struct NoMemory;
