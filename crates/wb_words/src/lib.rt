@@ -1,0 +1,12 @@
+//! The words of a command, read by `clap`.
+#![tactic(auto)]
+
+mod application;
+mod matches;
+mod requests;
+mod stop;
+mod words;
+
+pub use requests::{Check, Request, Simulate};
+pub use stop::WordsStop;
+pub use words::request;

@@ -1,0 +1,94 @@
+//! Requests from what `clap` found.
+
+ghost use Rattle.std.specs.Prelude.{◌≡◌, codes, option_and_then};
+ghost use Rattle.clap.specs.Words.{all_of, first_of, found_of, one_of, rows_of, subcommand_rows_of};
+ghost use Rattle.wb_words.specs.Requests.{budget_in, check_of, request_in, simulate_of};
+ghost use Rattle.wb_words.specs.View.{Answers, check_view, request_view, simulate_view};
+
+use crate::requests::{Check, Request, Simulate};
+use crate::stop::WordsStop;
+use clap::ArgMatches;
+use std::alloc::Global;
+
+/// What the subcommand asks for that was found.
+pub(crate) fn entered<'a>(
+    alloc: Global,
+    matches: &ArgMatches<'a>,
+) -> Result<Request<'a>, WordsStop>
+    ensures { Answers request_view result (option_and_then (λ p. request_in p.0 p.1) (subcommand_rows_of matches.now)) }
+{
+    match matches.subcommand() {
+        Some((name, found)) => named(alloc, name, found),
+        None => Err(WordsStop::Usage),
+    }
+}
+
+fn named<'a>(
+    alloc: Global,
+    name: &str,
+    matches: &ArgMatches<'a>,
+) -> Result<Request<'a>, WordsStop>
+    ensures { Answers request_view result (request_in name.now (rows_of (found_of matches.now))) }
+{
+    if name == "check" {
+        return Ok(Request::Check(check(alloc, matches)?));
+    }
+    if name == "simulate" {
+        return Ok(Request::Simulate(simulate(matches)?));
+    }
+    Err(WordsStop::Usage)
+}
+
+fn check<'a>(alloc: Global, matches: &ArgMatches<'a>) -> Result<Check<'a>, WordsStop>
+    ensures { Answers check_view result (check_of
+        (first_of (codes "model") (rows_of (found_of matches.now)))
+        (first_of (codes "map") (rows_of (found_of matches.now)))
+        (option_and_then budget_in (one_of (codes "budget") (rows_of (found_of matches.now))))
+        (all_of (codes "designs") (rows_of (found_of matches.now)))) }
+{
+    let model = value(matches, "model")?;
+    let map = value(matches, "map")?;
+    let budget = budget(matches).ok_or(WordsStop::Usage)?;
+    let Some(designs) = matches.get_strs("designs") else {
+        return Err(WordsStop::Usage);
+    };
+    let designs = designs.to_vec(alloc)?;
+    Ok(Check {
+        model,
+        map,
+        budget,
+        designs,
+    })
+}
+
+fn simulate<'a>(matches: &ArgMatches<'a>) -> Result<Simulate<'a>, WordsStop>
+    ensures { Answers simulate_view result (simulate_of
+        (first_of (codes "model") (rows_of (found_of matches.now)))
+        (first_of (codes "script") (rows_of (found_of matches.now)))) }
+{
+    let model = value(matches, "model")?;
+    let script = value(matches, "script")?;
+    Ok(Simulate { model, script })
+}
+
+/// The value of an option.
+fn value<'a>(matches: &ArgMatches<'a>, option: &str) -> Result<&'a str, WordsStop>
+    ensures { Answers (λ v. v.now) result (first_of option.now (rows_of (found_of matches.now))) }
+{
+    match matches.get_str(option) {
+        Some(value) => Ok(value),
+        None => Err(WordsStop::Usage),
+    }
+}
+
+/// The number of steps that `--budget` allows.
+fn budget(matches: &ArgMatches<'_>) -> Option<u64>
+    ensures { result ≡ option_and_then budget_in (one_of (codes "budget") (rows_of (found_of matches.now))) }
+{
+    let budget = matches.get_one::<u64>("budget")?;
+    if 1 <= budget && budget <= 1_000_000_000 {
+        Some(budget)
+    } else {
+        None
+    }
+}
