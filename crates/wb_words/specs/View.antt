@@ -1,23 +1,16 @@
 -- Requests as the definitions see them.
 use Rattle.std.specs.Prelude.{◌≡◌, ⊤, map, Option, Some, None, Result, Ok, Err}
 use Rattle.wb_words.specs.Requests as pure
-use Rattle.wb_words.specs.declared.requests.Check.{Check}
-use Rattle.wb_words.specs.declared.requests.Simulate.{Simulate}
 use Rattle.wb_words.specs.declared.requests.Request.{Request}
 use Rattle.wb_words.specs.declared.requests.Request.TheVariants as kind
 use Rattle.wb_words.specs.declared.stop.WordsStop.{WordsStop}
 use Rattle.wb_words.specs.declared.stop.WordsStop.TheVariants.{Usage, NoMemory}
 
-abbrev pub check_view : Check → pure.Request
-check_view c = pure.check c.model.now c.map.now c.budget (map (λ s. s.now) c.designs.items)
-
-abbrev pub simulate_view : Simulate → pure.Request
-simulate_view s = pure.simulate s.model.now s.script.now
-
 -- a request as data
 abbrev pub request_view : Request → pure.Request
-request_view (kind.Check c) = check_view c
-request_view (kind.Simulate s) = simulate_view s
+request_view (kind.Check c) =
+    pure.check c.model.now c.map.now c.budget (map (λ s. s.now) c.designs.items)
+request_view (kind.Simulate s) = pure.simulate s.model.now s.script.now
 
 -- the result is what is asked for, or refuses where nothing is, unless memory ran out
 abbrev pub Answers : {T A : Type 0} → (T → A) → Result T WordsStop → Option A

@@ -1,7 +1,8 @@
 //! The commands that there are, as `clap` takes them.
 
 ghost use Rattle.std.specs.Prelude.{◌≡◌, false, IfOk};
-ghost use Rattle.clap.specs.Words.{app_of, fields_of, rule_of};
+ghost use Rattle.clap.specs.Words.{app_of, rule_of};
+ghost use Rattle.clap.specs.declared.builder.command.Command.TheViews.{out-Command};
 ghost use Rattle.wb_words.specs.Application.{budget_option, check_command, designs_argument, simulate_command, wanted_option, workbench_app};
 
 use clap::{Arg, Command, value_parser};
@@ -22,7 +23,7 @@ pub(crate) fn workbench<'a>(alloc: Global) -> Result<Command<'a>, AllocError>
 
 fn check_command<'a>(alloc: Global) -> Result<Command<'a>, AllocError>
     ensures app { IfOk result (λ c. (app_of c).top ≡ check_command) }
-    ensures local { IfOk result (λ c. (fields_of c).has_globals ≡ false) }
+    ensures local { IfOk result (λ c. (out-Command c).has_globals ≡ false) }
 {
     Command::new(alloc, "check")
         .arg(wanted_option(alloc, "model"))?
@@ -33,7 +34,7 @@ fn check_command<'a>(alloc: Global) -> Result<Command<'a>, AllocError>
 
 fn simulate_command<'a>(alloc: Global) -> Result<Command<'a>, AllocError>
     ensures app { IfOk result (λ c. (app_of c).top ≡ simulate_command) }
-    ensures local { IfOk result (λ c. (fields_of c).has_globals ≡ false) }
+    ensures local { IfOk result (λ c. (out-Command c).has_globals ≡ false) }
 {
     Command::new(alloc, "simulate")
         .arg(wanted_option(alloc, "model"))?

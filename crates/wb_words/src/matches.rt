@@ -1,9 +1,9 @@
 //! Requests from what `clap` found.
 
-ghost use Rattle.std.specs.Prelude.{◌≡◌, codes, option_and_then};
+ghost use Rattle.std.specs.Prelude.{◌≡◌, codes, map, option_and_then};
 ghost use Rattle.clap.specs.Words.{all_of, first_of, found_of, one_of, rows_of, subcommand_rows_of};
 ghost use Rattle.wb_words.specs.Requests.{budget_in, check_of, request_in, simulate_of};
-ghost use Rattle.wb_words.specs.View.{Answers, check_view, request_view, simulate_view};
+ghost use Rattle.wb_words.specs.View.{Answers, request_view};
 
 use crate::requests::{Check, Request, Simulate};
 use crate::stop::WordsStop;
@@ -31,16 +31,17 @@ fn named<'a>(
     ensures { Answers request_view result (request_in name.now (rows_of (found_of matches.now))) }
 {
     if name == "check" {
-        return Ok(Request::Check(check(alloc, matches)?));
+        return check(alloc, matches);
     }
     if name == "simulate" {
-        return Ok(Request::Simulate(simulate(matches)?));
+        return simulate(matches);
     }
     Err(WordsStop::Usage)
 }
 
-fn check<'a>(alloc: Global, matches: &ArgMatches<'a>) -> Result<Check<'a>, WordsStop>
-    ensures { Answers check_view result (check_of
+/// A check of the files that were named.
+fn check<'a>(alloc: Global, matches: &ArgMatches<'a>) -> Result<Request<'a>, WordsStop>
+    ensures { Answers request_view result (check_of
         (first_of (codes "model") (rows_of (found_of matches.now)))
         (first_of (codes "map") (rows_of (found_of matches.now)))
         (option_and_then budget_in (one_of (codes "budget") (rows_of (found_of matches.now))))
@@ -49,26 +50,24 @@ fn check<'a>(alloc: Global, matches: &ArgMatches<'a>) -> Result<Check<'a>, Words
     let model = value(matches, "model")?;
     let map = value(matches, "map")?;
     let budget = budget(matches).ok_or(WordsStop::Usage)?;
-    let Some(designs) = matches.get_strs("designs") else {
-        return Err(WordsStop::Usage);
-    };
-    let designs = designs.to_vec(alloc)?;
-    Ok(Check {
+    let designs = designs(alloc, matches)?;
+    Ok(Request::Check(Check {
         model,
         map,
         budget,
         designs,
-    })
+    }))
 }
 
-fn simulate<'a>(matches: &ArgMatches<'a>) -> Result<Simulate<'a>, WordsStop>
-    ensures { Answers simulate_view result (simulate_of
+/// A simulation of the files that were named.
+fn simulate<'a>(matches: &ArgMatches<'a>) -> Result<Request<'a>, WordsStop>
+    ensures { Answers request_view result (simulate_of
         (first_of (codes "model") (rows_of (found_of matches.now)))
         (first_of (codes "script") (rows_of (found_of matches.now)))) }
 {
     let model = value(matches, "model")?;
     let script = value(matches, "script")?;
-    Ok(Simulate { model, script })
+    Ok(Request::Simulate(Simulate { model, script }))
 }
 
 /// The value of an option.
@@ -90,5 +89,15 @@ fn budget(matches: &ArgMatches<'_>) -> Option<u64>
         Some(budget)
     } else {
         None
+    }
+}
+
+/// The names of the designs.
+fn designs<'a>(alloc: Global, matches: &ArgMatches<'a>) -> Result<Vec<&'a str>, WordsStop>
+    ensures { Answers (λ ds. map (λ s. s.now) ds.items) result (all_of (codes "designs") (rows_of (found_of matches.now))) }
+{
+    match matches.get_strs("designs") {
+        Some(names) => Ok(names.to_vec(alloc)?),
+        None => Err(WordsStop::Usage),
     }
 }
