@@ -1,5 +1,7 @@
 -- Requests as the definitions see them.
 use Rattle.std.specs.Prelude.{◌≡◌, ⊤, map, Option, Some, None, Result, Ok, Err}
+use Rattle.clap.specs.declared.error.kind.ErrorKind.{ErrorKind}
+use Rattle.clap.specs.declared.error.kind.ErrorKind.TheVariants.{OutOfMemory}
 use Rattle.wb_words.specs.Requests as pure
 use Rattle.wb_words.specs.declared.requests.Request.{Request}
 use Rattle.wb_words.specs.declared.requests.Request.TheVariants as kind
@@ -18,3 +20,8 @@ abbrev pub Answers : {T A : Type 0} → (T → A) → Result T WordsStop → Opt
 Answers view (Ok r) asked = asked ≡ Some (view r)
 Answers view (Err Usage) asked = asked ≡ None
 Answers view (Err NoMemory) asked = ⊤
+
+-- why words are not taken, by the kind of clap's error
+abbrev pub stop_for : ErrorKind → WordsStop
+stop_for OutOfMemory = NoMemory
+stop_for _ = Usage

@@ -1,10 +1,10 @@
 //! What the words of a command ask for.
 
 ghost use Rattle.std.specs.Prelude.{◌≡◌, true, false, IfOk, IsErrAnd, map, string_bytes};
-ghost use Rattle.clap.specs.Words.{subcommand_of, subcommand_rows_of, takes};
+ghost use Rattle.clap.specs.Words.{kind_of, subcommand_of, subcommand_rows_of, takes};
 ghost use Rattle.wb_words.specs.Application.{workbench_app};
 ghost use Rattle.wb_words.specs.Requests.{request_of};
-ghost use Rattle.wb_words.specs.View.{Answers, request_view};
+ghost use Rattle.wb_words.specs.View.{Answers, request_view, stop_for};
 ghost use Rattle.wb_words.specs.declared.stop.WordsStop.TheVariants.{Usage};
 
 use crate::application::workbench;
@@ -12,7 +12,7 @@ use crate::matches::entered;
 use crate::requests::Request;
 use crate::stop::WordsStop;
 use clap::error::ErrorKind;
-use clap::ArgMatches;
+use clap::{ArgMatches, Error};
 use std::alloc::Global;
 
 /// What the words ask for, the first of them the program's name.
@@ -32,7 +32,16 @@ fn taken<'a>(alloc: Global, words: &'a [String]) -> Result<ArgMatches<'a>, Words
     let command = workbench(alloc)?;
     match command.try_get_matches_from(words) {
         Ok(matches) => Ok(matches),
-        Err(error) if error.kind() == ErrorKind::OutOfMemory => Err(WordsStop::NoMemory),
-        Err(_) => Err(WordsStop::Usage),
+        Err(error) => Err(stop_for(&error)),
+    }
+}
+
+/// Why the words are not taken.
+fn stop_for(error: &Error) -> WordsStop
+    ensures { result ≡ stop_for (kind_of error.now) }
+{
+    match error.kind() {
+        ErrorKind::OutOfMemory => WordsStop::NoMemory,
+        _ => WordsStop::Usage,
     }
 }
