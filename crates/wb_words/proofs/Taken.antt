@@ -8,6 +8,7 @@ use Rattle.clap.specs.Faults.{fault_of, is_simple_and_free}
 use Rattle.clap.specs.declared.error.kind.ErrorKind.{ErrorKind}
 use Rattle.clap.specs.declared.error.kind.ErrorKind.TheVariants.{OutOfMemory}
 use Rattle.clap.proofs.OnLiterals.{clap_on_literals}
+use Rattle.wb_words.proofs.Faultless.{taken_without_fault}
 use Rattle.wb_words.specs.Application.{workbench_app}
 use Rattle.wb_words.specs.Requests.{request_in, request_of}
 use Rattle.wb_words.specs.Requests as pure
@@ -25,7 +26,8 @@ unfolding clap_on_literals workbench_app
 is_simple_too = refl
 
 pub no_fault : (words : List Text) → fault_of workbench_app words ≡ [] → takes workbench_app words ≡ true
-no_fault words none = ?
+unfolding clap_on_literals workbench_app
+no_fault words none = taken_without_fault workbench_app words refl refl refl none
 
 is_usage : WordsStop → Bool
 is_usage Usage = true
