@@ -1,8 +1,10 @@
 -- What the getters of the matches give, by their rows.
-use Rattle.std.proofs.Common.{◌≡◌, ◌∙◌, ◌<◌, ◌≤◌, ◌^◌, ◌&&◌, ℕ, Bool, cond, true, false, refl, sym, ap, subst, nat_lt, lt-ltb, List, [], ◌∷◌, Option, Some, None, Result, Ok, Err, map, arith}
+use Rattle.std.proofs.Common.{◌≡◌, ◌∙◌, ◌<◌, ◌≤◌, ◌^◌, ◌&&◌, ℕ, Bool, cond, true, false, refl, sym, ap, subst, nat_lt, lt-ltb, List, [], ◌∷◌, Option, Some, None, Result, Ok, Err, map, length, arith, true≢false, ◌==◌}
 use Rattle.std.specs.Prelude.{nat_le, option_and_then, option_map, codes}
 use Rattle.std.specs.Borrow.{Bor}
-use Rattle.std.proofs.lemmas.Bool.{le-leb, leb-true}
+use Rattle.std.specs.Global.{Global}
+use Rattle.std.specs.Prelude.{Vec}
+use Rattle.std.proofs.lemmas.Bool.{eqb-true, le-leb, leb-true}
 use Rattle.std.specs.List.{list_all}
 use Rattle.std.specs.Char.{digit_value}
 use Rattle.std.specs.Str.Parse.{AllDigits, IsNumeral, ParsesUnsigned, digits_value, without_leading_plus}
@@ -15,7 +17,7 @@ use Rattle.clap.proofs.WalkLemmas.{one_text-rows, raw_values-rows}
 use Rattle.clap.specs.declared.builder.value_parser.ValueParser.TheVariants as vp
 use Rattle.clap.proofs.ValueTestLemmas.{Accepts-accepts, accepts-Accepts}
 use Rattle.std.specs.Str.{bytes_eq}
-use Rattle.wb_words.specs.Requests.{budget_in, check_of, request_in, simulate_of}
+use Rattle.wb_words.specs.Requests.{budget_in, check_of, designs_in, request_in, simulate_of}
 use Rattle.wb_words.specs.View.{Answers, request_view}
 use Rattle.wb_words.specs.declared.requests.Request.{Request}
 use Rattle.wb_words.specs.declared.stop.WordsStop.{WordsStop}
@@ -73,7 +75,7 @@ module _ (E : Type 0) (G : Text → Result ℕ E → Type 0) (only : (t : Text) 
 
 module _ (name : Text) (rows : List Row) where
   pub asks_check : (r : Result Request WordsStop) → bytes_eq name (codes "check") ≡ true
-      → Answers request_view r (check_of (first_of (codes "model") rows) (first_of (codes "map") rows) (option_and_then budget_in (one_of (codes "budget") rows)) (all_of (codes "designs") rows))
+      → Answers request_view r (check_of (first_of (codes "model") rows) (first_of (codes "map") rows) (option_and_then budget_in (one_of (codes "budget") rows)) (option_and_then designs_in (all_of (codes "designs") rows)))
       → Answers request_view r (request_in name rows)
   unfolding request_in
   asks_check r is h = rw is h
@@ -88,13 +90,25 @@ module _ (name : Text) (rows : List Row) where
   unfolding request_in
   asks_nothing first second = rw (first, second) refl
 
--- the values of an option that takes several, as the getter gives them
-pub designs_read : (f : Found) (id : Text) (o : Option (Bor (List (Bor Text)))) (names : Bor (List (Bor Text))) (copy : List (Bor Text))
-    → option_map (λ s. map (λ v. v.now) s.now) o ≡ option_map raw_values (matched_of f id) → o ≡ Some names → copy ≡ names.now
-    → all_of id (rows_of f) ≡ Some (map (λ s. s.now) copy)
-designs_read f id o names copy got some same =
-    sym (raw_values-rows f id) ∙ sym got ∙ ap (option_map (λ s. map (λ v. v.now) s.now)) some ∙ ap (λ vs. Some (map (λ v. v.now) vs)) (sym same)
+-- the designs that the getter gives
+module _ (f : Found) (id : Text) (o : Option (Bor (List (Bor Text)))) (got : option_map (λ s. map (λ v. v.now) s.now) o ≡ option_map raw_values (matched_of f id)) where
+  pub designs_read : (names : Bor (List (Bor Text))) (r : Result (Vec (Bor Text) Global) WordsStop) → o ≡ Some names
+      → Answers (λ ds. map (λ s. s.now) ds.items) r (designs_in (map (λ s. s.now) names.now))
+      → Answers (λ ds. map (λ s. s.now) ds.items) r (option_and_then designs_in (all_of id (rows_of f)))
+  designs_read names r some h =
+      let all : option_map (λ (s : Bor (List (Bor Text))). map (λ (v : Bor Text). v.now) s.now) o ≡ all_of id (rows_of f) = got ∙ raw_values-rows f id in
+      let same : Some (map (λ (v : Bor Text). v.now) names.now) ≡ all_of id (rows_of f) = ap (option_map (λ (s : Bor (List (Bor Text))). map (λ (v : Bor Text). v.now) s.now)) (sym some) ∙ all in
+      subst (λ d. Answers (λ (ds : Vec (Bor Text) Global). map (λ s. s.now) ds.items) r (option_and_then designs_in d)) same h
 
-pub designs_missing : (f : Found) (id : Text) (o : Option (Bor (List (Bor Text))))
-    → option_map (λ s. map (λ v. v.now) s.now) o ≡ option_map raw_values (matched_of f id) → o ≡ None → all_of id (rows_of f) ≡ None
-designs_missing f id o got none = sym (raw_values-rows f id) ∙ sym got ∙ ap (option_map (λ (s : Bor (List (Bor Text))). map (λ (v : Bor Text). v.now) s.now)) none
+  pub designs_missing : o ≡ None → option_and_then designs_in (all_of id (rows_of f)) ≡ None
+  designs_missing none =
+      ap (option_and_then designs_in) (sym (raw_values-rows f id) ∙ sym got ∙ ap (option_map (λ (s : Bor (List (Bor Text))). map (λ (v : Bor Text). v.now) s.now)) none)
+
+-- a copy of names, where there are some
+pub names_copied : (names copy : List (Bor Text)) → (length names == 0) ≡ false → copy ≡ names → designs_in (map (λ s. s.now) names) ≡ Some (map (λ s. s.now) copy)
+names_copied [] copy some same = absurd (true≢false some)
+names_copied (x ∷ xs) copy some same = ap (λ vs. Some (map (λ (v : Bor Text). v.now) vs)) (sym same)
+
+pub no_names : (names : List (Bor Text)) → (length names == 0) ≡ true → designs_in (map (λ s. s.now) names) ≡ None
+no_names [] none = refl
+no_names (x ∷ xs) none = absurd (omega (arith, eqb-true _ _ none))

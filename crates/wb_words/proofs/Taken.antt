@@ -9,6 +9,7 @@ use Rattle.clap.specs.declared.error.kind.ErrorKind.{ErrorKind}
 use Rattle.clap.specs.declared.error.kind.ErrorKind.TheVariants.{OutOfMemory}
 use Rattle.clap.proofs.OnLiterals.{clap_on_literals}
 use Rattle.wb_words.proofs.Faultless.{taken_without_fault}
+use Rattle.wb_words.proofs.Asked.{all_given, joins}
 use Rattle.wb_words.specs.Application.{workbench_app}
 use Rattle.wb_words.specs.Requests.{request_in, request_of}
 use Rattle.wb_words.specs.Requests as pure

@@ -1,5 +1,5 @@
 -- What the program's words ask for.
-use Rattle.std.specs.Prelude.{ℕ, List, Option, Some, None, if◌then◌else◌, codes, option_and_then}
+use Rattle.std.specs.Prelude.{ℕ, List, [], ◌∷◌, Option, Some, None, if◌then◌else◌, codes, option_and_then}
 use Rattle.std.specs.Str.{bytes_eq}
 use Rattle.std.specs.Str.Parse.{digits_value, without_leading_plus}
 use Rattle.clap.specs.ValueTests.{is_unsigned_in}
@@ -8,7 +8,7 @@ use Rattle.clap.specs.Simple.{subcommand_of}
 use Rattle.clap.specs.Takes.{takes}
 use Rattle.wb_words.specs.Application.{workbench_app}
 
--- a command with the names of its files, in the order in which they are read
+-- a command with the names of its files, in the order in which they are read, and its budget
 pub data Request : Type 0 where
   check : Text → Text → ℕ → List Text → Request
   simulate : Text → Text → Request
@@ -17,6 +17,11 @@ pub data Request : Type 0 where
 abbrev pub budget_in : Text → Option ℕ
 budget_in text = if is_unsigned_in 1 1000000000 text
     then Some (digits_value 10 (without_leading_plus text)) else None
+
+-- the names of designs, one or more
+abbrev pub designs_in : List Text → Option (List Text)
+designs_in [] = None
+designs_in (design ∷ more) = Some (design ∷ more)
 
 abbrev pub check_of : Option Text → Option Text → Option ℕ → Option (List Text) → Option Request
 check_of (Some model) (Some map) (Some budget) (Some designs) =
@@ -31,7 +36,8 @@ simulate_of _ _ = None
 unfoldable pub request_in : Text → List Row → Option Request
 request_in name rows = if bytes_eq name (codes "check")
     then check_of (first_of (codes "model") rows) (first_of (codes "map") rows)
-    (option_and_then budget_in (one_of (codes "budget") rows)) (all_of (codes "designs") rows)
+    (option_and_then budget_in (one_of (codes "budget") rows))
+    (option_and_then designs_in (all_of (codes "designs") rows))
     else (if bytes_eq name (codes "simulate")
     then simulate_of (first_of (codes "model") rows) (first_of (codes "script") rows)
     else None)

@@ -2,7 +2,7 @@
 
 ghost use Rattle.std.specs.Prelude.{◌≡◌, codes, map, option_and_then};
 ghost use Rattle.clap.specs.Words.{all_of, first_of, found_of, one_of, rows_of, subcommand_rows_of};
-ghost use Rattle.wb_words.specs.Requests.{budget_in, check_of, request_in, simulate_of};
+ghost use Rattle.wb_words.specs.Requests.{budget_in, check_of, designs_in, request_in, simulate_of};
 ghost use Rattle.wb_words.specs.View.{Answers, request_view};
 
 use crate::requests::{Check, Request, Simulate};
@@ -45,7 +45,7 @@ fn check<'a>(alloc: Global, matches: &ArgMatches<'a>) -> Result<Request<'a>, Wor
         (first_of (codes "model") (rows_of (found_of matches.now)))
         (first_of (codes "map") (rows_of (found_of matches.now)))
         (option_and_then budget_in (one_of (codes "budget") (rows_of (found_of matches.now))))
-        (all_of (codes "designs") (rows_of (found_of matches.now)))) }
+        (option_and_then designs_in (all_of (codes "designs") (rows_of (found_of matches.now))))) }
 {
     let model = value(matches, "model")?;
     let map = value(matches, "map")?;
@@ -94,10 +94,20 @@ fn budget(matches: &ArgMatches<'_>) -> Option<u64>
 
 /// The names of the designs.
 fn designs<'a>(alloc: Global, matches: &ArgMatches<'a>) -> Result<Vec<&'a str>, WordsStop>
-    ensures { Answers (λ ds. map (λ s. s.now) ds.items) result (all_of (codes "designs") (rows_of (found_of matches.now))) }
+    ensures { Answers (λ ds. map (λ s. s.now) ds.items) result (option_and_then designs_in (all_of (codes "designs") (rows_of (found_of matches.now)))) }
 {
     match matches.get_strs("designs") {
-        Some(names) => Ok(names.to_vec(alloc)?),
+        Some(names) => some_names(alloc, names),
         None => Err(WordsStop::Usage),
     }
+}
+
+/// The names, of which there is one or more.
+fn some_names<'a>(alloc: Global, names: &[&'a str]) -> Result<Vec<&'a str>, WordsStop>
+    ensures { Answers (λ ds. map (λ s. s.now) ds.items) result (designs_in (map (λ s. s.now) names.now)) }
+{
+    if names.is_empty() {
+        return Err(WordsStop::Usage);
+    }
+    Ok(names.to_vec(alloc)?)
 }
