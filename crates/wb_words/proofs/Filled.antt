@@ -40,7 +40,7 @@ every_append : {X : Type 0} (Q : X → Type 0) (xs ys : List X) → Every Q xs �
 every_append Q [] ys a b = b
 every_append Q (x ∷ xs) ys a b = (a.0, every_append Q xs ys a.1 b)
 
-abbrev is_count : ArgAction → Bool
+abbrev pub is_count : ArgAction → Bool
 is_count action.Count = true
 is_count _ = false
 

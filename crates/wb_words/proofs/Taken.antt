@@ -1,5 +1,5 @@
 -- Which words are taken.
-use Rattle.std.proofs.Common.{◌≡◌, ◌∙◌, Bool, true, false, refl, sym, ap, subst, List, [], ◌∷◌, Option, Some, None, Result, Ok, Err, IsErrAnd}
+use Rattle.std.proofs.Common.{◌≡◌, ◌∙◌, Bool, true, false, refl, sym, ap, subst, List, [], ◌∷◌, Option, Some, None, Result, Ok, Err, IsErrAnd, is_some, true≢false}
 use Rattle.std.specs.Prelude.{option_and_then}
 use Rattle.clap.specs.Walk.{Row, Text}
 use Rattle.clap.specs.Simple.{App, is_simple, subcommand_of}
@@ -9,7 +9,7 @@ use Rattle.clap.specs.declared.error.kind.ErrorKind.{ErrorKind}
 use Rattle.clap.specs.declared.error.kind.ErrorKind.TheVariants.{OutOfMemory}
 use Rattle.clap.proofs.OnLiterals.{clap_on_literals}
 use Rattle.wb_words.proofs.Faultless.{taken_without_fault}
-use Rattle.wb_words.proofs.Asked.{all_given, joins}
+use Rattle.wb_words.proofs.Asked.{taken_asks}
 use Rattle.wb_words.specs.Application.{workbench_app}
 use Rattle.wb_words.specs.Requests.{request_in, request_of}
 use Rattle.wb_words.specs.Requests as pure
@@ -55,3 +55,17 @@ pub refused_up : (r : Result Request WordsStop) (stop : WordsStop) (asked : Opti
 refused_up (Ok x) stop asked is none = absurd is
 refused_up (Err Usage) stop asked is none = none (sym is)
 refused_up (Err NoMemory) stop asked is none = tt
+
+none_taken : (b : Bool) (asked : Option pure.Request) → asked ≡ None → (b ≡ true → is_some asked ≡ true) → b ≡ false
+none_taken true asked none h = sym (h refl) ∙ ap is_some none
+none_taken false asked none h = refl
+
+-- words that ask for nothing are not taken
+pub not_taken : (words : List Text) → request_of words ≡ None → takes workbench_app words ≡ false
+not_taken words none = none_taken (takes workbench_app words) (request_of words) none (taken_asks words)
+
+pub refuses : (words : List Text) (r : Result Request WordsStop) → Answers request_view r (request_of words) → IsErrAnd r (λ s. s ≡ Usage) → takes workbench_app words ≡ false
+unfolding is_usage
+refuses words (Ok x) h is = absurd is
+refuses words (Err Usage) h is = not_taken words h
+refuses words (Err NoMemory) h is = absurd (true≢false (sym (ap is_usage is)))

@@ -17,7 +17,8 @@ use std::alloc::Global;
 
 /// What the words ask for, the first of them the program's name.
 pub fn request<'a>(alloc: Global, words: &'a [String]) -> Result<Request<'a>, WordsStop>
-    ensures { Answers request_view result (request_of (map string_bytes words.entry.now)) }
+    ensures request { Answers request_view result (request_of (map string_bytes words.entry.now)) }
+    ensures refused { IsErrAnd result (λ stop. stop ≡ Usage) → takes workbench_app (map string_bytes words.entry.now) ≡ false }
 {
     let matches = taken(alloc, words)?;
     entered(alloc, &matches)
