@@ -1,6 +1,6 @@
 //! Requests from what `clap` found.
 
-ghost use Rattle.std.specs.Prelude.{◌≡◌, codes, map, option_and_then};
+ghost use Rattle.std.specs.Prelude.{◌≡◌, ◌≤◌, IfOk, IfSome, codes, length, map, option_and_then};
 ghost use Rattle.clap.specs.Words.{all_of, first_of, found_of, one_of, rows_of, subcommand_rows_of};
 ghost use Rattle.wb_words.specs.Requests.{budget_in, check_of, designs_in, request_in, simulate_of};
 ghost use Rattle.wb_words.specs.View.{Answers, request_view};
@@ -82,7 +82,8 @@ fn value<'a>(matches: &ArgMatches<'a>, option: &str) -> Result<&'a str, WordsSto
 
 /// The number of steps that `--budget` allows.
 fn budget(matches: &ArgMatches<'_>) -> Option<u64>
-    ensures { result ≡ option_and_then budget_in (one_of (codes "budget") (rows_of (found_of matches.now))) }
+    ensures value { result ≡ option_and_then budget_in (one_of (codes "budget") (rows_of (found_of matches.now))) }
+    ensures range { IfSome result (λ n. (1 ≤ n) × (n ≤ 1000000000)) }
 {
     let budget = matches.get_one::<u64>("budget")?;
     if 1 <= budget && budget <= 1_000_000_000 {
@@ -94,7 +95,8 @@ fn budget(matches: &ArgMatches<'_>) -> Option<u64>
 
 /// The names of the designs.
 fn designs<'a>(alloc: Global, matches: &ArgMatches<'a>) -> Result<Vec<&'a str>, WordsStop>
-    ensures { Answers (λ ds. map (λ s. s.now) ds.items) result (option_and_then designs_in (all_of (codes "designs") (rows_of (found_of matches.now)))) }
+    ensures some { IfOk result (λ ds. 1 ≤ length ds.items) }
+    ensures names { Answers (λ ds. map (λ s. s.now) ds.items) result (option_and_then designs_in (all_of (codes "designs") (rows_of (found_of matches.now)))) }
 {
     match matches.get_strs("designs") {
         Some(names) => some_names(alloc, names),
@@ -104,7 +106,8 @@ fn designs<'a>(alloc: Global, matches: &ArgMatches<'a>) -> Result<Vec<&'a str>, 
 
 /// The names, of which there is one or more.
 fn some_names<'a>(alloc: Global, names: &[&'a str]) -> Result<Vec<&'a str>, WordsStop>
-    ensures { Answers (λ ds. map (λ s. s.now) ds.items) result (designs_in (map (λ s. s.now) names.now)) }
+    ensures some { IfOk result (λ ds. 1 ≤ length ds.items) }
+    ensures names { Answers (λ ds. map (λ s. s.now) ds.items) result (designs_in (map (λ s. s.now) names.now)) }
 {
     if names.is_empty() {
         return Err(WordsStop::Usage);

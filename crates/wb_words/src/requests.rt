@@ -1,5 +1,7 @@
 //! What words may ask for.
 
+ghost use Rattle.std.specs.Prelude.{◌≤◌, length};
+
 /// Does the design refine the model, under the map?
 #[derive(Drop)]
 pub struct Check<'a> {
@@ -9,8 +11,14 @@ pub struct Check<'a> {
     pub map: &'a str,
     /// How many steps a search may take.
     pub budget: u64,
-    /// The names of the Verilog files, one or more.
+    /// The names of the Verilog files.
     pub designs: Vec<&'a str>,
+    /// A search may take a step.
+    pub ghost some_steps: { 1 ≤ budget },
+    /// A search ends before long.
+    pub ghost not_too_many: { budget ≤ 1000000000 },
+    /// There is a design.
+    pub ghost some_design: { 1 ≤ length designs.items },
 }
 
 /// What does the model do under the script?
