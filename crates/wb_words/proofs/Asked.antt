@@ -261,9 +261,16 @@ abbrev simulate_built : Shape
 simulate_built = built_leaf (inherited (record (new_shape (codes "wb")) { subcommand_required = true; disable_help_subcommand = true; is_leaf = false; is_built = true }) simulate_command)
 
 check_leaves : Every (Leaves IsGood false) check_built.rules
-check_leaves =
-    (plain_leaves false _ refl refl refl refl, (plain_leaves false _ refl refl refl refl, (budget_leaves false _ refl refl refl refl,
-    (plain_leaves false _ refl refl refl refl, (help_leaves false _ refl refl, tt)))))
+check_leaves = (
+  plain_leaves false _ refl refl refl refl,
+  (
+    plain_leaves false _ refl refl refl refl,
+    (
+      budget_leaves false _ refl refl refl refl,
+      (plain_leaves false _ refl refl refl refl, (help_leaves false _ refl refl, tt)),
+    ),
+  ),
+)
 
 simulate_leaves : Every (Leaves IsGood false) simulate_built.rules
 simulate_leaves = (plain_leaves false _ refl refl refl refl, (plain_leaves false _ refl refl refl refl, (help_leaves false _ refl refl, tt)))

@@ -45,9 +45,7 @@ fn wanted_option<'a>(alloc: Global, name: &'a str) -> Arg<'a>
     ensures rule { rule_of result ≡ wanted_option name.entry.now }
     ensures local { result.global ≡ false }
 {
-    Arg::new(alloc, name)
-        .long(name)
-        .required(true)
+    Arg::new(alloc, name).long(name).required(true)
 }
 
 fn budget_option<'a>(alloc: Global) -> Arg<'a>
@@ -64,7 +62,5 @@ fn designs_argument<'a>(alloc: Global) -> Arg<'a>
     ensures rule { rule_of result ≡ designs_argument }
     ensures local { result.global ≡ false }
 {
-    Arg::new(alloc, "designs")
-        .required(true)
-        .num_args(1..)
+    Arg::new(alloc, "designs").required(true).num_args(1..)
 }

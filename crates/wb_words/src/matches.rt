@@ -11,10 +11,7 @@ use clap::ArgMatches;
 use std::alloc::Global;
 
 /// What the subcommand asks for that was found.
-pub(crate) fn entered<'a>(
-    alloc: Global,
-    matches: &ArgMatches<'a>,
-) -> Result<Request<'a>, WordsStop>
+pub(crate) fn entered<'a>(alloc: Global, matches: &ArgMatches<'a>) -> Result<Request<'a>, WordsStop>
     ensures { Answers request_view result (option_and_then (λ p. request_in p.0 p.1) (subcommand_rows_of matches.now)) }
 {
     match matches.subcommand() {
@@ -23,11 +20,7 @@ pub(crate) fn entered<'a>(
     }
 }
 
-fn named<'a>(
-    alloc: Global,
-    name: &str,
-    matches: &ArgMatches<'a>,
-) -> Result<Request<'a>, WordsStop>
+fn named<'a>(alloc: Global, name: &str, matches: &ArgMatches<'a>) -> Result<Request<'a>, WordsStop>
     ensures { Answers request_view result (request_in name.now (rows_of (found_of matches.now))) }
 {
     if name == "check" {
