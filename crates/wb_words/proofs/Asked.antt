@@ -1,5 +1,5 @@
 -- Words that are taken ask for something.
-use Rattle.std.proofs.Common.{◌≡◌, ◌∙◌, ◌<◌, ◌&&◌, ◌||◌, ℕ, Bool, cond, true, false, not, zero, suc, refl, sym, ap, subst, arith, List, [], ◌∷◌, ◌++◌, length, Option, Some, None, is_some, true≢false, nat_lt}
+use Rattle.std.proofs.Common.{◌≡◌, ◌∙◌, ◌&&◌, ◌||◌, ℕ, Bool, cond, true, false, not, suc, refl, sym, ap, subst, arith, List, [], ◌∷◌, ◌++◌, length, Option, Some, None, is_some, true≢false, nat_lt}
 use Rattle.std.specs.Prelude.{codes, find, fold, nat_le, option_and_then, option_map, slice_get}
 use Rattle.std.specs.List.{list_all, list_any}
 use Rattle.std.specs.Option.{option_map_or}
@@ -11,16 +11,15 @@ use Rattle.std.proofs.lemmas.List.Folds.{list_all-append}
 use Rattle.clap.specs.ValueTests.{accepts, is_unsigned_in}
 use Rattle.clap.specs.Facts.{explicit_source, parser_of_value, unwrap_or_range}
 use Rattle.clap.specs.Values.{read_as, reading_of}
-use Rattle.clap.specs.Walk.{Row, Rule, Text, action_of, all_of, answers_to, default_rows, finished, first_of, has_row, is_empty, more_values, nothing_held, one_of, reading_by, row_text, rows_after, settled, stop_after, values_or_missing, walk, walk_from, with_default, with_values}
-use Rattle.clap.specs.Simple.{App, Shape, argument_words, built, built_leaf, entered, inherited, is_simple, label_of, names_of, new_shape, rows_at, subcommand_of}
-use Rattle.clap.specs.Takes.{action_passes, built_takes, default_passes, entered_passes, is_given, is_valid, level_passes, settle_passes, takes, use_passes, values_pass, walk_passes}
+use Rattle.clap.specs.Walk.{Row, Rule, Text, action_of, all_of, answers_to, default_rows, first_of, has_row, is_empty, more_values, nothing_held, one_of, reading_by, row_text, rows_after, settled, stop_after, values_or_missing, walk, walk_from, with_default, with_values}
+use Rattle.clap.specs.Simple.{App, Shape, argument_words, built, built_leaf, entered, inherited, is_simple, label_of, names_of, new_shape, rows_at}
+use Rattle.clap.specs.Takes.{action_passes, built_takes, default_passes, entered_passes, is_given, level_passes, settle_passes, takes, use_passes, walk_passes}
 use Rattle.clap.specs.declared.builder.action.ArgAction.TheVariants as action
 use Rattle.clap.specs.declared.builder.value_parser.ValueParser.TheVariants as vp
 use Rattle.clap.specs.declared.parser.matches.ValueSource.{ValueSource}
 use Rattle.clap.specs.declared.parser.matches.ValueSource.TheVariants.{DefaultValue}
 use Rattle.clap.specs.declared.builder.value_parser.Reading.{Reading}
 use Rattle.clap.specs.declared.builder.value_parser.Reading.TheVariants as reading
-use Rattle.clap.proofs.OnLiterals.{clap_on_literals}
 use Rattle.wb_words.specs.Application.{check_command, simulate_command, workbench_app}
 use Rattle.wb_words.specs.Requests.{budget_in, check_of, designs_in, request_in, request_of, simulate_of}
 use Rattle.wb_words.proofs.Filled.{Every, Holds, Leaves, every_found, first_part, is_count, level_holds, second_part}

@@ -1,5 +1,5 @@
 -- Where no step of a parse fails, the words are taken.
-use Rattle.std.proofs.Common.{◌≡◌, ◌∙◌, ◌+◌, ◌&&◌, ◌||◌, ℕ, Bool, cond, true, false, not, zero, suc, refl, sym, ap, arith, List, [], ◌∷◌, length, drop, Option, Some, None, is_some, true≢false, nat_lt}
+use Rattle.std.proofs.Common.{◌≡◌, ◌∙◌, ◌&&◌, ◌||◌, ℕ, Bool, cond, true, false, not, zero, suc, refl, sym, ap, arith, List, [], ◌∷◌, length, drop, Option, Some, None, is_some, true≢false, nat_lt}
 use Rattle.std.specs.Prelude.{◌==◌, nat_le, codes, encode_utf8, slice_get, find}
 use Rattle.std.specs.List.{list_all, list_any}
 use Rattle.std.specs.Option.{option_map_or}
@@ -8,7 +8,7 @@ use Rattle.std.proofs.lemmas.Bool.{eqb-true, le-leb, ltb-false}
 use Rattle.clap.specs.Lexer.{long_of, short_of}
 use Rattle.clap.specs.ValueTests.{accepts}
 use Rattle.clap.specs.Facts.{explicit_source, parser_of_value, unwrap_or_range}
-use Rattle.clap.specs.Kinds.{Kinds, check_kinds, or_else, range_kinds, request_kinds, value_kinds}
+use Rattle.clap.specs.Kinds.{Kinds, or_else, range_kinds, value_kinds}
 use Rattle.clap.specs.Walk.{Held, Names, Row, Rule, Step, Text, Waiting, Walk, action_of, answers_to, arg_by_id, arg_by_index, arg_by_long, arg_by_short, attached_value, finished, has_row, is_pending, most_values, next, nothing_held, reacted, settled, subcommand, subcommand_met, takes_several, takes_values, trailing, value, values_or_missing, walk, walk_from, walked, word_met}
 use Rattle.clap.specs.Simple.{App, Shape, argument_words, built, entered, is_simple, label_of, names_of}
 use Rattle.clap.specs.Takes.{action_passes, built_takes, bundle_passes, bundle_step_passes, count_passes, default_passes, entered_passes, flag_word_passes, flags_pass, is_given, is_valid, level_passes, long_passes, option_passes, other_passes, positional_passes, react_passes, set_passes, settle_passes, short_passes, step_passes, takes, turn_passes, use_passes, value_passes, values_pass, walk_passes, word_passes}
@@ -16,6 +16,7 @@ use Rattle.clap.specs.Faults.{action_fault, built_fault, bundle_fault, bundle_st
 use Rattle.clap.specs.declared.builder.action.ArgAction.{ArgAction}
 use Rattle.clap.specs.declared.builder.action.ArgAction.TheVariants as action
 use Rattle.clap.specs.declared.error.kind.ErrorKind.{ErrorKind}
+use Rattle.wb_words.proofs.Filled.{first_part, second_part}
 
 -- ---- lists of kinds that are empty
 
@@ -266,14 +267,6 @@ check_fits s rows has free e =
 -- the values of the defaults pass, and no argument has a rule on another
 abbrev pub is_sound : Shape → Bool
 is_sound s = list_all default_passes s.rules && list_all (λ a. a.is_free) s.rules
-
-first_part : (a b : Bool) → (a && b) ≡ true → a ≡ true
-first_part true b e = refl
-first_part false b e = absurd (true≢false (sym e))
-
-second_part : (a b : Bool) → (a && b) ≡ true → b ≡ true
-second_part true b e = e
-second_part false b e = absurd (true≢false (sym e))
 
 level_fits : (s : Shape) (names : Names) (h : Held) (words : List Text) (has : Bool) (below : Kinds) → is_sound s ≡ true → level_fault s names h words has below ≡ []
     → (below ≡ []) × (level_passes s names h words has ≡ true)

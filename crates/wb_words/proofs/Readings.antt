@@ -9,16 +9,15 @@ use Rattle.std.specs.List.{list_all}
 use Rattle.std.specs.Char.{digit_value}
 use Rattle.std.specs.Str.Parse.{AllDigits, IsNumeral, ParsesUnsigned, digits_value, without_leading_plus}
 use Rattle.clap.specs.Matches.{ReadsOne, matched_of, one_text, raw_values}
-use Rattle.clap.specs.Values.{IsUnsignedIn}
 use Rattle.clap.specs.ValueTests.{is_numeral, is_unsigned_in}
 use Rattle.clap.specs.Walk.{Row, Text, all_of, first_of, one_of, rows_of}
 use Rattle.clap.specs.declared.parser.matches.Found.{Found}
 use Rattle.clap.proofs.WalkLemmas.{one_text-rows, raw_values-rows}
 use Rattle.clap.specs.declared.builder.value_parser.ValueParser.TheVariants as vp
-use Rattle.clap.proofs.ValueTestLemmas.{Accepts-accepts, accepts-Accepts}
+use Rattle.clap.proofs.ValueTestLemmas.{accepts-Accepts}
 use Rattle.std.specs.Str.{bytes_eq}
 use Rattle.wb_words.specs.Requests.{budget_in, check_of, designs_in, request_in, simulate_of}
-use Rattle.wb_words.specs.View.{Answers, request_view}
+use Rattle.wb_words.specs.View.{IsAnswer, request_view}
 use Rattle.wb_words.specs.declared.requests.Request.{Request}
 use Rattle.wb_words.specs.declared.stop.WordsStop.{WordsStop}
 
@@ -75,14 +74,14 @@ module _ (E : Type 0) (G : Text → Result ℕ E → Type 0) (only : (t : Text) 
 
 module _ (name : Text) (rows : List Row) where
   pub asks_check : (r : Result Request WordsStop) → bytes_eq name (codes "check") ≡ true
-      → Answers request_view r (check_of (first_of (codes "model") rows) (first_of (codes "map") rows) (option_and_then budget_in (one_of (codes "budget") rows)) (option_and_then designs_in (all_of (codes "designs") rows)))
-      → Answers request_view r (request_in name rows)
+      → IsAnswer request_view r (check_of (first_of (codes "model") rows) (first_of (codes "map") rows) (option_and_then budget_in (one_of (codes "budget") rows)) (option_and_then designs_in (all_of (codes "designs") rows)))
+      → IsAnswer request_view r (request_in name rows)
   unfolding request_in
   asks_check r is h = rw is h
 
   pub asks_simulate : (r : Result Request WordsStop) → bytes_eq name (codes "check") ≡ false → bytes_eq name (codes "simulate") ≡ true
-      → Answers request_view r (simulate_of (first_of (codes "model") rows) (first_of (codes "script") rows))
-      → Answers request_view r (request_in name rows)
+      → IsAnswer request_view r (simulate_of (first_of (codes "model") rows) (first_of (codes "script") rows))
+      → IsAnswer request_view r (request_in name rows)
   unfolding request_in
   asks_simulate r first is h = rw (first, is) h
 
@@ -93,12 +92,12 @@ module _ (name : Text) (rows : List Row) where
 -- the designs that the getter gives
 module _ (f : Found) (id : Text) (o : Option (Bor (List (Bor Text)))) (got : option_map (λ s. map (λ v. v.now) s.now) o ≡ option_map raw_values (matched_of f id)) where
   pub designs_read : (names : Bor (List (Bor Text))) (r : Result (Vec (Bor Text) Global) WordsStop) → o ≡ Some names
-      → Answers (λ ds. map (λ s. s.now) ds.items) r (designs_in (map (λ s. s.now) names.now))
-      → Answers (λ ds. map (λ s. s.now) ds.items) r (option_and_then designs_in (all_of id (rows_of f)))
+      → IsAnswer (λ ds. map (λ s. s.now) ds.items) r (designs_in (map (λ s. s.now) names.now))
+      → IsAnswer (λ ds. map (λ s. s.now) ds.items) r (option_and_then designs_in (all_of id (rows_of f)))
   designs_read names r some h =
       let all : option_map (λ (s : Bor (List (Bor Text))). map (λ (v : Bor Text). v.now) s.now) o ≡ all_of id (rows_of f) = got ∙ raw_values-rows f id in
       let same : Some (map (λ (v : Bor Text). v.now) names.now) ≡ all_of id (rows_of f) = ap (option_map (λ (s : Bor (List (Bor Text))). map (λ (v : Bor Text). v.now) s.now)) (sym some) ∙ all in
-      subst (λ d. Answers (λ (ds : Vec (Bor Text) Global). map (λ s. s.now) ds.items) r (option_and_then designs_in d)) same h
+      subst (λ d. IsAnswer (λ (ds : Vec (Bor Text) Global). map (λ s. s.now) ds.items) r (option_and_then designs_in d)) same h
 
   pub designs_missing : o ≡ None → option_and_then designs_in (all_of id (rows_of f)) ≡ None
   designs_missing none =

@@ -1,8 +1,8 @@
 -- Which words are taken.
-use Rattle.std.proofs.Common.{◌≡◌, ◌∙◌, Bool, true, false, refl, sym, ap, subst, List, [], ◌∷◌, Option, Some, None, Result, Ok, Err, IsErrAnd, is_some, true≢false}
+use Rattle.std.proofs.Common.{◌≡◌, ◌∙◌, Bool, true, false, refl, sym, ap, subst, List, [], Option, None, Result, Ok, Err, IsErrAnd, is_some, true≢false}
 use Rattle.std.specs.Prelude.{option_and_then}
 use Rattle.clap.specs.Walk.{Row, Text}
-use Rattle.clap.specs.Simple.{App, is_simple, subcommand_of}
+use Rattle.clap.specs.Simple.{is_simple, subcommand_of}
 use Rattle.clap.specs.Takes.{takes}
 use Rattle.clap.specs.Faults.{fault_of, is_simple_and_free}
 use Rattle.clap.specs.declared.error.kind.ErrorKind.{ErrorKind}
@@ -13,7 +13,7 @@ use Rattle.wb_words.proofs.Asked.{taken_asks}
 use Rattle.wb_words.specs.Application.{workbench_app}
 use Rattle.wb_words.specs.Requests.{request_in, request_of}
 use Rattle.wb_words.specs.Requests as pure
-use Rattle.wb_words.specs.View.{Answers, request_view, stop_for}
+use Rattle.wb_words.specs.View.{IsAnswer, request_view, stop_for}
 use Rattle.wb_words.specs.declared.requests.Request.{Request}
 use Rattle.wb_words.specs.declared.stop.WordsStop.{WordsStop}
 use Rattle.wb_words.specs.declared.stop.WordsStop.TheVariants.{NoMemory, Usage}
@@ -41,9 +41,9 @@ refused_by false k memory is = refl
 refused_by true k memory is = sym (ap is_usage (ap stop_for (sym (memory refl)) ∙ is))
 
 pub asked : (words : List Text) (found : Option (Text × List Row)) (r : Result Request WordsStop) → takes workbench_app words ≡ true → found ≡ subcommand_of workbench_app words
-    → Answers request_view r (option_and_then (λ p. request_in p.0 p.1) found) → Answers request_view r (request_of words)
+    → IsAnswer request_view r (option_and_then (λ p. request_in p.0 p.1) found) → IsAnswer request_view r (request_of words)
 unfolding request_of
-asked words found r taken same h = rw taken (subst (λ o. Answers request_view r (option_and_then (λ p. request_in p.0 p.1) o)) same h)
+asked words found r taken same h = rw taken (subst (λ o. IsAnswer request_view r (option_and_then (λ p. request_in p.0 p.1) o)) same h)
 
 pub not_asked : (words : List Text) → takes workbench_app words ≡ false → request_of words ≡ None
 unfolding request_of
@@ -51,7 +51,7 @@ not_asked words refused = rw refused refl
 
 -- `?` passes a refusal up
 pub refused_up : (r : Result Request WordsStop) (stop : WordsStop) (asked : Option pure.Request) → IsErrAnd r (λ s. s ≡ stop) → (stop ≡ Usage → asked ≡ None)
-    → Answers request_view r asked
+    → IsAnswer request_view r asked
 refused_up (Ok x) stop asked is none = absurd is
 refused_up (Err Usage) stop asked is none = none (sym is)
 refused_up (Err NoMemory) stop asked is none = tt
@@ -64,7 +64,7 @@ none_taken false asked none h = refl
 pub not_taken : (words : List Text) → request_of words ≡ None → takes workbench_app words ≡ false
 not_taken words none = none_taken (takes workbench_app words) (request_of words) none (taken_asks words)
 
-pub refuses : (words : List Text) (r : Result Request WordsStop) → Answers request_view r (request_of words) → IsErrAnd r (λ s. s ≡ Usage) → takes workbench_app words ≡ false
+pub refuses : (words : List Text) (r : Result Request WordsStop) → IsAnswer request_view r (request_of words) → IsErrAnd r (λ s. s ≡ Usage) → takes workbench_app words ≡ false
 unfolding is_usage
 refuses words (Ok x) h is = absurd is
 refuses words (Err Usage) h is = not_taken words h

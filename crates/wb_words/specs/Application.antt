@@ -1,15 +1,15 @@
 -- The program's words, as a command in the sense of clap.
-use Rattle.std.specs.Prelude.{true, false, List, [], ◌∷◌, Some, codes}
+use Rattle.std.specs.Prelude.{true, false, [], ◌∷◌, Some, codes}
 use Rattle.clap.specs.Lexer.{usize_max}
 use Rattle.clap.specs.Walk.{Rule, Text}
 use Rattle.clap.specs.Simple.{App, Shape, new_rule, new_shape}
 use Rattle.clap.specs.declared.builder.value_parser.ValueParser.TheVariants.{Unsigned}
 
 -- an option that has to be there, with one value
-abbrev pub wanted_option : Text → Rule
-wanted_option name = record (new_rule name) { long = Some name; required = true }
+abbrev pub required_option : Text → Rule
+required_option name = record (new_rule name) { long = Some name; required = true }
 
--- `--budget N`, from 1 to 1,000,000,000
+-- `--budget N`: from 1 to 1,000,000,000, and 100,000 where it is not there
 abbrev pub budget_option : Rule
 budget_option = record (new_rule (codes "budget")) {
   long = Some (codes "budget");
@@ -17,7 +17,7 @@ budget_option = record (new_rule (codes "budget")) {
   defaults = codes "100000" ∷ [];
 }
 
--- the designs, one or more, behind one another or not
+-- the words that belong to no option, one or more
 abbrev pub designs_argument : Rule
 designs_argument = record (new_rule (codes "designs")) {
   required = true;
@@ -27,17 +27,17 @@ designs_argument = record (new_rule (codes "designs")) {
 -- `check --model M --map P [--budget N] RTL...`
 abbrev pub check_command : Shape
 check_command = record (new_shape (codes "check")) {
-  rules = wanted_option (codes "model") ∷ wanted_option (codes "map") ∷ budget_option
+  rules = required_option (codes "model") ∷ required_option (codes "map") ∷ budget_option
       ∷ designs_argument ∷ [];
 }
 
 -- `simulate --model M --script S`
 abbrev pub simulate_command : Shape
 simulate_command = record (new_shape (codes "simulate")) {
-  rules = wanted_option (codes "model") ∷ wanted_option (codes "script") ∷ [];
+  rules = required_option (codes "model") ∷ required_option (codes "script") ∷ [];
 }
 
--- the program, which takes one of the two
+-- the program, with one of its two commands
 unfoldable pub workbench_app : App
 workbench_app = record {
   top = record (new_shape (codes "wb")) {

@@ -8,7 +8,8 @@ use Rattle.clap.specs.Simple.{subcommand_of}
 use Rattle.clap.specs.Takes.{takes}
 use Rattle.wb_words.specs.Application.{workbench_app}
 
--- a command with the names of its files, in the order in which they are read, and its budget
+-- a command with the names of its files in the order in which they are read: a check of a model, a
+-- map and designs, with its budget, or a simulation of a model and a script
 pub data Request : Type 0 where
   check : Text → Text → ℕ → List Text → Request
   simulate : Text → Text → Request
@@ -23,16 +24,18 @@ abbrev pub designs_in : List Text → Option (List Text)
 designs_in [] = None
 designs_in (design ∷ more) = Some (design ∷ more)
 
+-- a check, where each of its parts is there
 abbrev pub check_of : Option Text → Option Text → Option ℕ → Option (List Text) → Option Request
 check_of (Some model) (Some map) (Some budget) (Some designs) =
     Some (check model map budget designs)
 check_of _ _ _ _ = None
 
+-- a simulation, where both of its parts are there
 abbrev pub simulate_of : Option Text → Option Text → Option Request
 simulate_of (Some model) (Some script) = Some (simulate model script)
 simulate_of _ _ = None
 
--- what a subcommand asks for, by the values of its options
+-- what a subcommand asks for, by its name and the values of its options
 unfoldable pub request_in : Text → List Row → Option Request
 request_in name rows = if bytes_eq name (codes "check")
     then check_of (first_of (codes "model") rows) (first_of (codes "map") rows)
@@ -42,7 +45,7 @@ request_in name rows = if bytes_eq name (codes "check")
     then simulate_of (first_of (codes "model") rows) (first_of (codes "script") rows)
     else None)
 
--- what the words ask for: where clap takes them, what the subcommand asks for that they name
+-- what the words ask for: where clap takes them, what their subcommand asks for
 unfoldable pub request_of : List Text → Option Request
 request_of words = if takes workbench_app words
     then option_and_then (λ p. request_in p.0 p.1) (subcommand_of workbench_app words) else None

@@ -15,11 +15,10 @@ request_view (kind.Check c) =
 request_view (kind.Simulate s) = pure.simulate s.model.now s.script.now
 
 -- the result is what is asked for, or refuses where nothing is, unless memory ran out
-abbrev pub Answers : {T A : Type 0} → (T → A) → Result T WordsStop → Option A
-    → Type 0
-Answers view (Ok r) asked = asked ≡ Some (view r)
-Answers view (Err Usage) asked = asked ≡ None
-Answers view (Err NoMemory) asked = ⊤
+abbrev pub IsAnswer : {T A : Type 0} → (T → A) → Result T WordsStop → Option A → Type 0
+IsAnswer view (Ok r) asked = asked ≡ Some (view r)
+IsAnswer view (Err Usage) asked = asked ≡ None
+IsAnswer view (Err NoMemory) asked = ⊤
 
 -- why words are not taken, by the kind of clap's error
 abbrev pub stop_for : ErrorKind → WordsStop

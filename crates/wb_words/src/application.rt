@@ -3,7 +3,7 @@
 ghost use Rattle.std.specs.Prelude.{◌≡◌, false, IfOk};
 ghost use Rattle.clap.specs.Words.{app_of, rule_of};
 ghost use Rattle.clap.specs.declared.builder.command.Command.TheViews.{out-Command};
-ghost use Rattle.wb_words.specs.Application.{budget_option, check_command, designs_argument, simulate_command, wanted_option, workbench_app};
+ghost use Rattle.wb_words.specs.Application.{budget_option, check_command, designs_argument, simulate_command, required_option, workbench_app};
 
 use clap::{Arg, Command, value_parser};
 use std::alloc::{AllocError, Global};
@@ -26,8 +26,8 @@ fn check_command<'a>(alloc: Global) -> Result<Command<'a>, AllocError>
     ensures local { IfOk result (λ c. (out-Command c).has_globals ≡ false) }
 {
     Command::new(alloc, "check")
-        .arg(wanted_option(alloc, "model"))?
-        .arg(wanted_option(alloc, "map"))?
+        .arg(required_option(alloc, "model"))?
+        .arg(required_option(alloc, "map"))?
         .arg(budget_option(alloc))?
         .arg(designs_argument(alloc))
 }
@@ -37,12 +37,12 @@ fn simulate_command<'a>(alloc: Global) -> Result<Command<'a>, AllocError>
     ensures local { IfOk result (λ c. (out-Command c).has_globals ≡ false) }
 {
     Command::new(alloc, "simulate")
-        .arg(wanted_option(alloc, "model"))?
-        .arg(wanted_option(alloc, "script"))
+        .arg(required_option(alloc, "model"))?
+        .arg(required_option(alloc, "script"))
 }
 
-fn wanted_option<'a>(alloc: Global, name: &'a str) -> Arg<'a>
-    ensures rule { rule_of result ≡ wanted_option name.entry.now }
+fn required_option<'a>(alloc: Global, name: &'a str) -> Arg<'a>
+    ensures rule { rule_of result ≡ required_option name.entry.now }
     ensures local { result.global ≡ false }
 {
     Arg::new(alloc, name).long(name).required(true)

@@ -4,7 +4,7 @@ ghost use Rattle.std.specs.Prelude.{◌≡◌, true, false, IfOk, IsErrAnd, map,
 ghost use Rattle.clap.specs.Words.{kind_of, subcommand_of, subcommand_rows_of, takes};
 ghost use Rattle.wb_words.specs.Application.{workbench_app};
 ghost use Rattle.wb_words.specs.Requests.{request_of};
-ghost use Rattle.wb_words.specs.View.{Answers, request_view, stop_for};
+ghost use Rattle.wb_words.specs.View.{IsAnswer, request_view, stop_for};
 ghost use Rattle.wb_words.specs.declared.stop.WordsStop.TheVariants.{Usage};
 
 use crate::application::workbench;
@@ -17,7 +17,7 @@ use std::alloc::Global;
 
 /// What the words ask for, the first of them the program's name.
 pub fn request<'a>(alloc: Global, words: &'a [String]) -> Result<Request<'a>, WordsStop>
-    ensures request { Answers request_view result (request_of (map string_bytes words.entry.now)) }
+    ensures request { IsAnswer request_view result (request_of (map string_bytes words.entry.now)) }
     ensures refused { IsErrAnd result (λ stop. stop ≡ Usage) → takes workbench_app (map string_bytes words.entry.now) ≡ false }
 {
     let matches = taken(alloc, words)?;

@@ -1,7 +1,7 @@
 use Rattle.std.proofs.Common.{◌≡◌, ◌∙◌, ap, ap₂, codes, true}
 use Rattle.std.proofs.lemmas.Result.{IfOk-weaker}
 use Rattle.clap.specs.Simple.{App, Shape, app_of, app_of_fields, new_app, on_top, with_subcommand}
-use Rattle.wb_words.specs.Application.{check_command, simulate_command, workbench_app}
+use Rattle.wb_words.specs.Application.{check_command, workbench_app}
 use Rattle.wb_words.proofs.application.workbench.Goals as goal
 
 abbrev wanting : App → App

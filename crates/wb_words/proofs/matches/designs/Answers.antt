@@ -1,4 +1,4 @@
-use Rattle.std.proofs.Common.{◌≡◌, codes}
+use Rattle.std.proofs.Common.{codes}
 use Rattle.clap.specs.Words.{found_of}
 use Rattle.wb_words.proofs.Readings.{designs_missing, designs_read}
 use Rattle.wb_words.proofs.matches.designs.Goals as goal

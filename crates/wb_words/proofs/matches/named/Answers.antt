@@ -1,4 +1,4 @@
-use Rattle.std.proofs.Common.{◌≡◌, ◌∙◌, sym}
+use Rattle.std.proofs.Common.{◌∙◌, sym}
 use Rattle.clap.specs.Words.{found_of, rows_of}
 use Rattle.wb_words.proofs.Readings.{asks_check, asks_nothing, asks_simulate}
 use Rattle.wb_words.proofs.matches.named.Goals as goal

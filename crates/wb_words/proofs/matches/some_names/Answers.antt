@@ -1,4 +1,4 @@
-use Rattle.std.proofs.Common.{◌≡◌, ◌∙◌, sym, rules}
+use Rattle.std.proofs.Common.{◌∙◌, sym, rules}
 use Rattle.wb_words.proofs.Readings.{names_copied, no_names}
 use Rattle.wb_words.proofs.matches.some_names.Goals as goal
 

@@ -1,6 +1,6 @@
-use Rattle.std.proofs.Common.{◌≡◌, ◌∙◌, map, string_bytes}
+use Rattle.std.proofs.Common.{map, string_bytes}
 use Rattle.clap.specs.Words.{subcommand_rows_of}
-use Rattle.wb_words.proofs.Taken.{asked, not_asked, not_taken, refused_up, refuses}
+use Rattle.wb_words.proofs.Taken.{asked, not_asked, refused_up, refuses}
 use Rattle.wb_words.proofs.words.request.Goals as goal
 
 pub returns-in_err-matches : goal.returns-in_err-matches

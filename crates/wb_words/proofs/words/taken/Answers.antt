@@ -1,5 +1,5 @@
-use Rattle.std.proofs.Common.{◌≡◌, ◌∙◌, sym, ap, subst, true, false, List, map, string_bytes}
-use Rattle.clap.specs.Simple.{App, is_simple, subcommand_of}
+use Rattle.std.proofs.Common.{◌∙◌, sym, ap, map, string_bytes}
+use Rattle.clap.specs.Simple.{is_simple, subcommand_of}
 use Rattle.clap.specs.Takes.{takes}
 use Rattle.clap.specs.Words.{kind_of}
 use Rattle.clap.specs.Faults.{fault_of, is_simple_and_free}
