@@ -1,0 +1,5 @@
+mod Readings
+mod Faultless
+mod Filled
+mod Asked
+mod Taken

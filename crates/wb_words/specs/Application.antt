@@ -1,0 +1,49 @@
+-- The program's words, as a command in the sense of clap.
+use Rattle.std.specs.Prelude.{true, false, [], ◌∷◌, Some, codes}
+use Rattle.clap.specs.Lexer.{usize_max}
+use Rattle.clap.specs.Walk.{Rule, Text}
+use Rattle.clap.specs.Simple.{App, Shape, new_rule, new_shape}
+use Rattle.clap.specs.declared.builder.value_parser.ValueParser.TheVariants.{Unsigned}
+
+-- an option that has to be there, with one value
+abbrev pub required_option : Text → Rule
+required_option name = record (new_rule name) { long = Some name; required = true }
+
+-- `--budget N`: from 1 to 1,000,000,000, and 100,000 where it is not there
+abbrev pub budget_option : Rule
+budget_option = record (new_rule (codes "budget")) {
+  long = Some (codes "budget");
+  parser = Some (Unsigned 1 1000000000);
+  defaults = codes "100000" ∷ [];
+}
+
+-- the words that belong to no option, one or more
+abbrev pub designs_argument : Rule
+designs_argument = record (new_rule (codes "designs")) {
+  required = true;
+  range = Some (record { start_inclusive = 1; end_inclusive = usize_max });
+}
+
+-- `check --model M --map P [--budget N] RTL...`
+abbrev pub check_command : Shape
+check_command = record (new_shape (codes "check")) {
+  rules = required_option (codes "model") ∷ required_option (codes "map") ∷ budget_option
+      ∷ designs_argument ∷ [];
+}
+
+-- `simulate --model M --script S`
+abbrev pub simulate_command : Shape
+simulate_command = record (new_shape (codes "simulate")) {
+  rules = required_option (codes "model") ∷ required_option (codes "script") ∷ [];
+}
+
+-- the program, with one of its two commands
+unfoldable pub workbench_app : App
+workbench_app = record {
+  top = record (new_shape (codes "wb")) {
+    is_leaf = false;
+    subcommand_required = true;
+    disable_help_subcommand = true;
+  };
+  subs = check_command ∷ simulate_command ∷ [];
+}

@@ -1,0 +1,3 @@
+pub mod Application
+pub mod Requests
+pub mod View

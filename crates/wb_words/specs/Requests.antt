@@ -1,0 +1,51 @@
+-- What the program's words ask for.
+use Rattle.std.specs.Prelude.{ℕ, List, [], ◌∷◌, Option, Some, None, if◌then◌else◌, codes, option_and_then}
+use Rattle.std.specs.Str.{bytes_eq}
+use Rattle.std.specs.Str.Parse.{digits_value, without_leading_plus}
+use Rattle.clap.specs.ValueTests.{is_unsigned_in}
+use Rattle.clap.specs.Walk.{Row, Text, all_of, first_of, one_of}
+use Rattle.clap.specs.Simple.{subcommand_of}
+use Rattle.clap.specs.Takes.{takes}
+use Rattle.wb_words.specs.Application.{workbench_app}
+
+-- a command with the names of its files in the order in which they are read: a check of a model, a
+-- map and designs, with its budget, or a simulation of a model and a script
+pub data Request : Type 0 where
+  check : Text → Text → ℕ → List Text → Request
+  simulate : Text → Text → Request
+
+-- the number that a text of decimal digits stands for, from 1 to 1,000,000,000
+abbrev pub budget_in : Text → Option ℕ
+budget_in text = if is_unsigned_in 1 1000000000 text
+    then Some (digits_value 10 (without_leading_plus text)) else None
+
+-- the names of designs, one or more
+abbrev pub designs_in : List Text → Option (List Text)
+designs_in [] = None
+designs_in (design ∷ more) = Some (design ∷ more)
+
+-- a check, where each of its parts is there
+abbrev pub check_of : Option Text → Option Text → Option ℕ → Option (List Text) → Option Request
+check_of (Some model) (Some map) (Some budget) (Some designs) =
+    Some (check model map budget designs)
+check_of _ _ _ _ = None
+
+-- a simulation, where both of its parts are there
+abbrev pub simulate_of : Option Text → Option Text → Option Request
+simulate_of (Some model) (Some script) = Some (simulate model script)
+simulate_of _ _ = None
+
+-- what a subcommand asks for, by its name and the values of its options
+unfoldable pub request_in : Text → List Row → Option Request
+request_in name rows = if bytes_eq name (codes "check")
+    then check_of (first_of (codes "model") rows) (first_of (codes "map") rows)
+    (option_and_then budget_in (one_of (codes "budget") rows))
+    (option_and_then designs_in (all_of (codes "designs") rows))
+    else (if bytes_eq name (codes "simulate")
+    then simulate_of (first_of (codes "model") rows) (first_of (codes "script") rows)
+    else None)
+
+-- what the words ask for: where clap takes them, what their subcommand asks for
+unfoldable pub request_of : List Text → Option Request
+request_of words = if takes workbench_app words
+    then option_and_then (λ p. request_in p.0 p.1) (subcommand_of workbench_app words) else None

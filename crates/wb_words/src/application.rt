@@ -1,0 +1,66 @@
+//! The commands that there are, as `clap` takes them.
+
+ghost use Rattle.std.specs.Prelude.{◌≡◌, false, IfOk};
+ghost use Rattle.clap.specs.Words.{app_of, rule_of};
+ghost use Rattle.clap.specs.declared.builder.command.Command.TheViews.{out-Command};
+ghost use Rattle.wb_words.specs.Application.{budget_option, check_command, designs_argument, simulate_command, required_option, workbench_app};
+
+use clap::{Arg, Command, value_parser};
+use std::alloc::{AllocError, Global};
+
+/// The program, with its commands.
+pub(crate) fn workbench<'a>(alloc: Global) -> Result<Command<'a>, AllocError>
+    ensures { IfOk result (λ c. app_of c ≡ workbench_app) }
+{
+    let check = check_command(alloc)?;
+    let simulate = simulate_command(alloc)?;
+    Command::new(alloc, "wb")
+        .subcommand_required(true)
+        .disable_help_subcommand(true)
+        .subcommand(check)?
+        .subcommand(simulate)
+}
+
+fn check_command<'a>(alloc: Global) -> Result<Command<'a>, AllocError>
+    ensures app { IfOk result (λ c. (app_of c).top ≡ check_command) }
+    ensures local { IfOk result (λ c. (out-Command c).has_globals ≡ false) }
+{
+    Command::new(alloc, "check")
+        .arg(required_option(alloc, "model"))?
+        .arg(required_option(alloc, "map"))?
+        .arg(budget_option(alloc))?
+        .arg(designs_argument(alloc))
+}
+
+fn simulate_command<'a>(alloc: Global) -> Result<Command<'a>, AllocError>
+    ensures app { IfOk result (λ c. (app_of c).top ≡ simulate_command) }
+    ensures local { IfOk result (λ c. (out-Command c).has_globals ≡ false) }
+{
+    Command::new(alloc, "simulate")
+        .arg(required_option(alloc, "model"))?
+        .arg(required_option(alloc, "script"))
+}
+
+fn required_option<'a>(alloc: Global, name: &'a str) -> Arg<'a>
+    ensures rule { rule_of result ≡ required_option name.entry.now }
+    ensures local { result.global ≡ false }
+{
+    Arg::new(alloc, name).long(name).required(true)
+}
+
+fn budget_option<'a>(alloc: Global) -> Arg<'a>
+    ensures rule { rule_of result ≡ budget_option }
+    ensures local { result.global ≡ false }
+{
+    Arg::new(alloc, "budget")
+        .long("budget")
+        .value_parser(value_parser!(u64).range(1..=1_000_000_000))
+        .default_value("100000")
+}
+
+fn designs_argument<'a>(alloc: Global) -> Arg<'a>
+    ensures rule { rule_of result ≡ designs_argument }
+    ensures local { result.global ≡ false }
+{
+    Arg::new(alloc, "designs").required(true).num_args(1..)
+}

@@ -1,0 +1,15 @@
+//! The words of a command, read by `clap`.
+#![tactic(auto)]
+
+mod application;
+mod matches;
+mod requests;
+mod stop;
+mod words;
+
+pub use requests::{Check, Request, Simulate};
+pub use stop::WordsStop;
+pub use words::request;
+
+#[cfg(test)]
+mod tests;

@@ -1,0 +1,40 @@
+//! What words may ask for.
+
+ghost use Rattle.std.specs.Prelude.{◌≤◌, length};
+
+/// Does the design refine the model, under the map?
+#[derive(Drop)]
+pub struct Check<'a> {
+    /// The name of the model file.
+    pub model: &'a str,
+    /// The name of the map file.
+    pub map: &'a str,
+    /// How many steps a search may take.
+    pub budget: u64,
+    /// The names of the Verilog files.
+    pub designs: Vec<&'a str>,
+    /// A search may take a step.
+    pub ghost some_steps: { 1 ≤ budget },
+    /// A search ends before long.
+    pub ghost not_too_many: { budget ≤ 1000000000 },
+    /// There is a design.
+    pub ghost some_design: { 1 ≤ length designs.items },
+}
+
+/// What does the model do under the script?
+#[derive(Clone, Copy)]
+pub struct Simulate<'a> {
+    /// The name of the model file.
+    pub model: &'a str,
+    /// The name of the script.
+    pub script: &'a str,
+}
+
+/// A command, with the names of the files that it reads.
+#[derive(Drop)]
+pub enum Request<'a> {
+    /// `check`
+    Check(Check<'a>),
+    /// `simulate`
+    Simulate(Simulate<'a>),
+}
