@@ -18,4 +18,8 @@ pub use front::{expression, selects};
 pub use stop::ExpressionStop;
 
 #[cfg(test)]
+mod expression_tests;
+#[cfg(test)]
+mod shown;
+#[cfg(test)]
 mod tests;
