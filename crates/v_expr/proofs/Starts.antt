@@ -1,5 +1,5 @@
 -- What the reader chooses by single tokens.
-use Rattle.std.proofs.Common.{◌≡◌, List, ◌∷◌, Option, Some, None, refl}
+use Rattle.std.proofs.Common.{◌≡◌, List, ◌∷◌, Some, None, refl}
 use Rattle.wb_meaning.specs.Verilog.Token.{right_parenthesis, left_parenthesis, mark, Token}
 use Rattle.wb_meaning.specs.Verilog.Syntax.{Expression}
 use Rattle.v_expr.specs.Repeat.{◌>>=◌, Read}

@@ -6,18 +6,17 @@ use Rattle.wb_meaning.specs.Verilog.Syntax as tree
 use Rattle.wb_meaning.specs.Verilog.Syntax.{Expression, Select, Selects, one, whole}
 use Rattle.v_syntax.specs.declared.tree.Expression.{Expression as CodeExpression}
 use Rattle.v_syntax.specs.declared.tree.Choice.{Choice}
-use Rattle.v_syntax.specs.declared.tree.PrefixOperator.{PrefixOperator}
 use Rattle.v_syntax.specs.Tree.{tree_of, expressions_of}
 use Rattle.v_syntax.specs.Chain.{chosen}
 use Rattle.v_expr.specs.declared.stop.ExpressionStop.{ExpressionStop}
 use Rattle.v_expr.specs.declared.stop.ExpressionStop.TheVariants.{NoMemory, Refused}
 use Rattle.v_expr.specs.declared.operator.Joint.{Joint}
 use Rattle.v_expr.specs.declared.limit.RangeKind.{RangeKind}
-use Rattle.v_expr.specs.Repeat.{◌>>=◌, choose, Read, repeated}
-use Rattle.v_expr.specs.Reading.{Reader, after_mark, as_expressions, next_at, parts_at, more_parts_at, expressions_at, copies_at, concatenation_at, braces_at, limits_at, select_at, second_select_at, selects_at, alone_at, of_level, joins_at, prefixed_at, tier_at, conditional_at, expression_at}
+use Rattle.v_expr.specs.Repeat.{◌>>=◌, Read}
+use Rattle.v_expr.specs.Reading.{Reader, after_mark, as_expressions, next_at, parts_at, more_parts_at, expressions_at, copies_at, concatenation_at, braces_at, limits_at, select_at, second_select_at, selects_at, of_level, joins_at, prefixed_at, tier_at, conditional_at, expression_at}
 use Rattle.v_expr.specs.Starting.{range_of, ranged_by, closed_by, closed_at, joined_by, valued_by, two_by, chosen_by, choice_of}
 use Rattle.v_expr.specs.View.{Fails, joins_of, joint_of, in_front}
-use Rattle.v_expr.proofs.Repeat.{Shrinks, some, some_is, with_front, goes_on, is_over, is_lost}
+use Rattle.v_expr.proofs.Repeat.{Shrinks, some, some_is, goes_on, is_over, is_lost}
 use Rattle.v_expr.proofs.Places.{mark_spelled}
 use Rattle.v_expr.proofs.Spelled.{bound, joins_spelled, tier_spelled, expression_spelled}
 use Rattle.v_expr.proofs.Grow.{shrinks, next_shrinks, before_choice, conditional-on, conditional-over, conditional-lost, conditional-no_value, conditional-no_colon}

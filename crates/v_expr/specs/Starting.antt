@@ -1,5 +1,5 @@
 -- What the reader chooses by single tokens, and what each choice reads.
-use Rattle.std.specs.Prelude.{List, Option, Some, None}
+use Rattle.std.specs.Prelude.{List, Some, None}
 use Rattle.wb_meaning.specs.Verilog.Token.{Mark, right_parenthesis, right_bracket, Token}
 use Rattle.wb_meaning.specs.Verilog.Syntax as tree
 use Rattle.wb_meaning.specs.Verilog.Syntax.{Expression, Select, Selects}

@@ -1,9 +1,8 @@
 //! Expressions by hand (1364-2005, 5.1.2): precedence and association, each form once, refusals, and long chains.
 
-use crate::expression;
-use crate::selects;
 use crate::shown::show;
 use crate::stop::ExpressionStop;
+use crate::{expression, selects};
 use std::alloc::Global;
 use std::process::Abort;
 use std::test::Fail;
@@ -189,7 +188,12 @@ fn long_chains(rt: HostRuntime) -> Result<(), Fail> {
     let alloc = rt.alloc();
     assert!(rt; matches!(&is_long_read(alloc, &["a", "+"], 100_000), Ok(true)));
     assert!(rt; matches!(&is_long_read(alloc, &["-"], 100_000), Ok(true)));
-    assert!(rt; matches!(&is_long_read(alloc, &["a", "?", "b", ":"], 100_000), Ok(true)));
+    assert!(rt;
+        matches!(
+            &is_long_read(alloc, &["a", "?", "b", ":"], 100_000),
+            Ok(true)
+        )
+    );
     Ok(())
 }
 

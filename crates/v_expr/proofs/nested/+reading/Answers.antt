@@ -1,14 +1,13 @@
-use Rattle.std.proofs.Common.{◌≡◌, ◌∙◌, ◌++◌, ◌∷◌, [], ◌<◌, ◌-◌, sym, ap, subst, map, Some, arith}
+use Rattle.std.proofs.Common.{◌≡◌, ◌∙◌, ◌++◌, ◌∷◌, [], ◌<◌, ◌-◌, sym, ap, subst, map, arith}
 use Rattle.std.proofs.lemmas.Result.{err_from_is_err_and}
 use Rattle.std.proofs.lemmas.List.{map_push}
 use Rattle.wb_meaning.specs.Verilog.Syntax as tree
 use Rattle.wb_meaning.specs.Verilog.Token.{colon}
-use Rattle.v_token.specs.View.{mark_of, tokens_of}
-use Rattle.v_syntax.specs.Tree.{tree_of, select_of, selects_of, expressions_of}
-use Rattle.v_syntax.specs.Chain.{chosen}
-use Rattle.v_expr.specs.Reading.{as_expressions, parts_at, next_at, expressions_at, braces_at, select_at, selects_at, alone_at, prefixed_at, tier_at, conditional_at, expression_at}
+use Rattle.v_token.specs.View.{tokens_of}
+use Rattle.v_syntax.specs.Tree.{tree_of, select_of, selects_of}
+use Rattle.v_expr.specs.Reading.{parts_at, select_at, tier_at, conditional_at, expression_at}
 use Rattle.v_expr.specs.Starting.{closed_at, chosen_by}
-use Rattle.v_expr.specs.View.{Gives, Fails, in_front}
+use Rattle.v_expr.specs.View.{Gives, in_front}
 use Rattle.v_expr.proofs.Repeat.{some}
 use Rattle.v_expr.proofs.Steps as step
 use Rattle.v_expr.proofs.nested.+reading.Goals as goal
