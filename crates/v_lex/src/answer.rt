@@ -108,6 +108,34 @@ fn note(alloc: Global, files: &[Vec<u8>], place: Place) -> Result<Note, NoMemory
     Note::new(alloc, &text)
 }
 
+/// Where the last file ends.
+fn end_of(files: &[Vec<u8>]) -> Place {
+    let length = match files.last() {
+        Some(file) => file.len(),
+        None => 0,
+    };
+    Place {
+        file: u32::try_from(files.len().saturating_sub(1)).unwrap_or(u32::MAX),
+        start: u32::try_from(length).unwrap_or(u32::MAX),
+    }
+}
+
+/// A note that leads to a token of the files, or to the end of the last file where no token is left:
+/// `file 0 line 3 column 7: ` and the word there. None where memory runs out.
+pub fn note_at(alloc: Global, files: &[Vec<u8>], token: Option<Token<'_>>) -> Option<Note> {
+    let place = match token {
+        Some(token) => Place {
+            file: token.file,
+            start: token.start,
+        },
+        None => end_of(files),
+    };
+    match note(alloc, files, place) {
+        Ok(note) => Some(note),
+        Err(_) => None,
+    }
+}
+
 fn refusal(alloc: Global, files: &[Vec<u8>], kind: LexKind, place: Place) -> LexStop
     ensures { IsOfKind kind result }
 {

@@ -21,7 +21,7 @@ mod stop;
 mod table;
 mod words;
 
-pub use answer::tokens;
+pub use answer::{note_at, tokens};
 pub use note::Note;
 pub use stop::{LexKind, LexRefusal, LexStop};
 pub use v_token::token::{Mark, Token, TokenKind};
