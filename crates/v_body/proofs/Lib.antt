@@ -6,3 +6,5 @@ pub mod Longer
 pub mod TargetsAgain
 pub mod StatementsAgain
 pub mod Whole
+pub mod Trees
+pub mod Turns

@@ -1,4 +1,6 @@
-//! Targets and statements of Verilog: reading them from tokens.
+//! Targets and statements of Verilog: the law of how they are read from tokens, and their reader.
 #![tactic(auto)]
 
 pub mod laws;
+pub mod target;
+pub mod word;
