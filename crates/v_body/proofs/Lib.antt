@@ -8,3 +8,5 @@ pub mod StatementsAgain
 pub mod Whole
 pub mod Trees
 pub mod Turns
+pub mod Few
+pub mod Ladder

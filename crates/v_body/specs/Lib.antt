@@ -1,3 +1,4 @@
 pub mod Words
 pub mod Targets
 pub mod Statements
+pub mod View

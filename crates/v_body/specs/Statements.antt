@@ -1,5 +1,5 @@
 -- Reading statements from tokens, from left to right: each function gives what stands at the front, and the rest.
-use Rattle.std.specs.Prelude.{◌≡◌, ℕ, zero, suc, Bool, true, false, cond, nat_le, List, [], ◌∷◌, length, codes, Option, Some, None}
+use Rattle.std.specs.Prelude.{◌≡◌, ℕ, zero, suc, Bool, true, false, cond, nat_le, List, [], ◌∷◌, length, codes, Option, Some, None, is_none}
 use Rattle.wb_meaning.specs.Value.{Name}
 use Rattle.wb_meaning.specs.Verilog.Token.{left_parenthesis, right_parenthesis, colon, semicolon, equals, less_equals, Token}
 use Rattle.wb_meaning.specs.Verilog.Syntax as tree
@@ -105,6 +105,14 @@ item_at one ts = choose (after_word (codes "default") ts) (default_at one) (arm_
 -- items up to endcase, which is passed
 unfoldable pub items_at : Reader → List Token → Read Token (List CaseItem)
 items_at one ts = repeated (after_word (codes "endcase")) (item_at one) ts
+
+abbrev pub is_default : CaseItem → Bool
+is_default i = is_none i.0
+
+-- no more than one default, where one was met or not
+abbrev pub has_few_defaults : (met : Bool) → List CaseItem → Bool
+has_few_defaults met [] = true
+has_few_defaults met (i ∷ items) = cond (is_default i) (cond met false (has_few_defaults true items)) (has_few_defaults met items)
 
 -- one item at least, and one default at most
 abbrev pub are_items_of_case : CaseItems → Bool

@@ -2,5 +2,7 @@
 #![tactic(auto)]
 
 pub mod laws;
+mod part;
+pub mod statement;
 pub mod target;
 pub mod word;
