@@ -5,4 +5,8 @@ pub mod Grow
 pub mod Again
 pub mod Digits
 pub mod Turns
+pub mod Starts
+pub mod Climb
+pub mod Links
+pub mod Steps
 pub mod Whole

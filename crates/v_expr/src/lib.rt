@@ -1,14 +1,20 @@
-//! Expressions and selects of Verilog: the law of how they are read from tokens, and the parts that a reader is made of.
+//! Expressions and selects of Verilog, read from tokens, and the laws of what is read.
 #![tactic(auto)]
 
+mod front;
 pub mod laws;
+mod limit;
+mod made;
+mod nested;
 pub mod node;
 pub mod number;
 pub mod operator;
 pub mod reader;
+mod start;
 mod stop;
 pub mod worked;
 
+pub use front::{expression, selects};
 pub use stop::ExpressionStop;
 
 #[cfg(test)]

@@ -1,42 +1,116 @@
 //! Nodes of trees.
 
-ghost use Rattle.std.specs.Prelude.{◌≡◌, IfOk, IfErr};
+ghost use Rattle.std.specs.Prelude.{◌≡◌, ◌∷◌, [], IfOk, IfErr};
+ghost use Rattle.wb_meaning.specs.Verilog.Syntax as pure;
 ghost use Rattle.v_syntax.specs.Tree.{tree_of, all_prefixed, expressions_of};
 ghost use Rattle.v_syntax.specs.Chain.{linked, test_linked, chosen};
+ghost use Rattle.v_expr.specs.View.{joins_of};
 ghost use Rattle.v_expr.specs.declared.stop.ExpressionStop.TheVariants.{NoMemory};
 
+use crate::operator::JointOperator;
 use crate::stop::ExpressionStop;
 use std::alloc::Global;
 use v_syntax::tree::{BinaryLink, Choice, Expression, PrefixOperator, TestLink};
 
-/// The operand with the links behind it.
-pub fn with_links<'s>(
+fn with_link<'s>(
     alloc: Global,
-    operand: Expression<'s>,
-    links: Vec<BinaryLink<'s>>,
+    left: Expression<'s>,
+    link: BinaryLink<'s>,
 ) -> Result<Expression<'s>, ExpressionStop>
-    ensures made { IfOk result (λ e. tree_of e ≡ linked links.entry.items (tree_of operand.entry)) }
+    ensures made { IfOk result (λ e. tree_of e ≡ linked (link.entry ∷ []) (tree_of left.entry)) }
     ensures memory { IfErr result (λ e. e ≡ NoMemory) }
 {
-    if links.is_empty() {
-        return Ok(operand);
+    match left {
+        Expression::Binary(first, links) => {
+            let mut links = links;
+            links.push(link)?;
+            Ok(Expression::Binary(first, links))
+        }
+        first => {
+            let first = Box::new(alloc, first)?;
+            let mut links = Vec::new(alloc);
+            links.push(link)?;
+            Ok(Expression::Binary(first, links))
+        }
     }
-    Ok(Expression::Binary(Box::new(alloc, operand)?, links))
 }
 
-/// The operand with the tests behind it.
-pub fn with_tests<'s>(
+fn with_test<'s>(
     alloc: Global,
-    operand: Expression<'s>,
-    links: Vec<TestLink<'s>>,
+    left: Expression<'s>,
+    link: TestLink<'s>,
 ) -> Result<Expression<'s>, ExpressionStop>
-    ensures made { IfOk result (λ e. tree_of e ≡ test_linked links.entry.items (tree_of operand.entry)) }
+    ensures made { IfOk result (λ e. tree_of e ≡ test_linked (link.entry ∷ []) (tree_of left.entry)) }
     ensures memory { IfErr result (λ e. e ≡ NoMemory) }
 {
-    if links.is_empty() {
-        return Ok(operand);
+    match left {
+        Expression::Test(first, links) => {
+            let mut links = links;
+            links.push(link)?;
+            Ok(Expression::Test(first, links))
+        }
+        first => {
+            let first = Box::new(alloc, first)?;
+            let mut links = Vec::new(alloc);
+            links.push(link)?;
+            Ok(Expression::Test(first, links))
+        }
     }
-    Ok(Expression::Test(Box::new(alloc, operand)?, links))
+}
+
+/// The left operand with an operator and the right operand behind it.
+pub fn with_joint<'s>(
+    alloc: Global,
+    left: Expression<'s>,
+    operator: JointOperator,
+    right: Expression<'s>,
+) -> Result<Expression<'s>, ExpressionStop>
+    ensures made { IfOk result (λ e. tree_of e ≡ joins_of operator (tree_of left.entry) (tree_of right.entry)) }
+    ensures memory { IfErr result (λ e. e ≡ NoMemory) }
+{
+    match operator {
+        JointOperator::Binary(operator) => {
+            let link = BinaryLink {
+                operator,
+                operand: right,
+            };
+            with_link(alloc, left, link)
+        }
+        JointOperator::Test(operator) => {
+            let link = TestLink {
+                operator,
+                operand: right,
+            };
+            with_test(alloc, left, link)
+        }
+    }
+}
+
+/// Parts in braces, of which this is the first.
+pub fn first_part<'s>(
+    alloc: Global,
+    first: Expression<'s>,
+) -> Result<Vec<Expression<'s>>, ExpressionStop>
+    ensures made { IfOk result (λ v. v.items ≡ first.entry ∷ []) }
+    ensures memory { IfErr result (λ e. e ≡ NoMemory) }
+{
+    let mut parts = Vec::new(alloc);
+    parts.push(first)?;
+    Ok(parts)
+}
+
+/// So many copies of parts.
+pub fn replication<'s>(count: Box<Expression<'s>>, parts: Vec<Expression<'s>>) -> Expression<'s>
+    ensures { tree_of result ≡ pure.replication (tree_of count.entry.value) (expressions_of parts.entry.items) }
+{
+    Expression::Replication(count, parts)
+}
+
+/// Parts one behind another.
+pub fn concatenation<'s>(parts: Vec<Expression<'s>>) -> Expression<'s>
+    ensures { tree_of result ≡ pure.concatenation (expressions_of parts.entry.items) }
+{
+    Expression::Concatenation(parts)
 }
 
 /// The last value with the choices before it.

@@ -1,13 +1,13 @@
 //! Operators by their marks.
 
-ghost use Rattle.std.specs.Prelude.{◌≡◌, option_map, ℕ, Some, IfSome, IfOk, IfErr, true, false};
+ghost use Rattle.std.specs.Prelude.{◌≡◌, ◌≤◌, ◌-◌, option_map, ℕ, Some, IfSome, IfOk, IfErr};
 ghost use Rattle.wb_meaning.specs.Verilog.Spelling.{prefix_of, operator_of};
-ghost use Rattle.v_syntax.specs.Tree.{prefixed, combined, tested};
+ghost use Rattle.v_syntax.specs.Tree.{prefixed};
 ghost use Rattle.v_token.specs.View.{mark_of, token_of, tokens_of};
-ghost use Rattle.v_expr.specs.Reading.{Reader, prefix_from, prefix_at, alone_at, prefixed_at, joins_from, joins_at};
+ghost use Rattle.v_expr.specs.Reading.{Reader, prefix_from, prefix_at, alone_at, prefixed_at, joins_from};
 ghost use Rattle.v_expr.specs.declared.operator.JointOperator.TheVariants.{Binary, Test};
 ghost use Rattle.v_expr.specs.declared.stop.ExpressionStop.TheVariants.{NoMemory};
-ghost use Rattle.v_expr.specs.View.{joint_of, joins_found, after_prefixes, is_test, is_test_level};
+ghost use Rattle.v_expr.specs.View.{joint_of, joins_found, after_prefixes, IsFitting, IsJoining};
 
 use crate::reader::from_here;
 use crate::stop::ExpressionStop;
@@ -22,10 +22,10 @@ pub enum JointOperator {
     Test(TestOperator),
 }
 
-/// An operator between two operands, and how tightly it binds, from 1 to 11.
+/// An operator between two operands, and its tier: how many levels bind tighter, 0 for `**` and 10 for `||`.
 #[derive(Clone, Copy, PartialEq, Eq, Debug)]
 pub struct Joint {
-    pub level: u8,
+    pub tier: u8,
     pub operator: JointOperator,
 }
 
@@ -62,26 +62,28 @@ pub fn prefix_of(token: Token<'_>) -> Option<PrefixOperator>
 }
 
 fn binary(level: u8, operator: BinaryOperator) -> Option<Joint>
-    ensures { result ≡ Some (record { level = level; operator = Binary operator }) }
+    requires { level ≤ 11 }
+    ensures { result ≡ Some (record { tier = 11 - level; operator = Binary operator }) }
 {
     Some(Joint {
-        level,
+        tier: 11 - level,
         operator: JointOperator::Binary(operator),
     })
 }
 
 fn test(level: u8, operator: TestOperator) -> Option<Joint>
-    ensures { result ≡ Some (record { level = level; operator = Test operator }) }
+    requires { level ≤ 11 }
+    ensures { result ≡ Some (record { tier = 11 - level; operator = Test operator }) }
 {
     Some(Joint {
-        level,
+        tier: 11 - level,
         operator: JointOperator::Test(operator),
     })
 }
 
 fn joint_of_mark(mark: Mark) -> Option<Joint>
     ensures meaning { option_map joint_of result ≡ operator_of (mark_of mark) }
-    ensures kinds { IfSome result (λ j. is_test_level j.level ≡ is_test j.operator) }
+    ensures tiers { IfSome result (λ j. j.tier ≤ 10) }
 {
     match mark {
         Mark::DoubleBar => test(1, TestOperator::Either),
@@ -115,7 +117,7 @@ fn joint_of_mark(mark: Mark) -> Option<Joint>
 
 fn joint_in(token: Token<'_>) -> Option<Joint>
     ensures meaning { (k : ℕ) → joins_from k (token_of token.entry) ≡ joins_found k result }
-    ensures kinds { IfSome result (λ j. is_test_level j.level ≡ is_test j.operator) }
+    ensures tiers { IfSome result (λ j. j.tier ≤ 10) }
 {
     match token.kind {
         TokenKind::Mark(mark) => joint_of_mark(mark),
@@ -126,75 +128,29 @@ fn joint_in(token: Token<'_>) -> Option<Joint>
     }
 }
 
-fn binary_of(token: Token<'_>, level: u8) -> Option<BinaryOperator>
-    requires { is_test_level level ≡ false }
-    ensures { option_map (λ o. combined o) result ≡ joins_from level (token_of token.entry) }
+fn fitting(token: Token<'_>, tiers: u8) -> Option<Joint>
+    ensures { IsFitting tiers (token_of token.entry) result }
 {
     let joint = joint_in(token)?;
-    if joint.level != level {
-        return None;
-    }
-    match joint.operator {
-        JointOperator::Binary(operator) => Some(operator),
-        JointOperator::Test(_) => None,
+    if joint.tier < tiers {
+        Some(joint)
+    } else {
+        None
     }
 }
 
-fn test_of(token: Token<'_>, level: u8) -> Option<TestOperator>
-    requires { is_test_level level ≡ true }
-    ensures { option_map (λ o. tested o) result ≡ joins_from level (token_of token.entry) }
-{
-    let joint = joint_in(token)?;
-    if joint.level != level {
-        return None;
-    }
-    match joint.operator {
-        JointOperator::Test(operator) => Some(operator),
-        JointOperator::Binary(_) => None,
-    }
-}
-
-/// The operator of this level in front, and what stands behind it.
+/// The operator in front, of so many tiers from the tightest, and what stands behind it.
 #[tactic(auto, unfolding(crate::specs::Reading::joins_at))]
-pub fn behind_binary<'s, 't>(
-    tokens: &'t [Token<'s>],
-    level: u8,
-) -> Option<(BinaryOperator, &'t [Token<'s>])>
-    requires { is_test_level level ≡ false }
-    ensures { option_map (λ x. (combined x.0, tokens_of x.1.now)) result ≡ joins_at level (tokens_of tokens.now) }
+pub fn behind_joint<'s, 't>(tokens: &'t [Token<'s>], tiers: u8) -> Option<(Joint, &'t [Token<'s>])>
+    ensures { IsJoining tiers (tokens_of tokens.now) result }
 {
     match tokens {
         [] => None,
-        [token, rest @ ..] => match binary_of(*token, level) {
-            Some(operator) => Some((operator, rest)),
+        [token, rest @ ..] => match fitting(*token, tiers) {
+            Some(joint) => Some((joint, rest)),
             None => None,
         },
     }
-}
-
-/// The operator of this level in front, and what stands behind it.
-#[tactic(auto, unfolding(crate::specs::Reading::joins_at))]
-pub fn behind_test<'s, 't>(
-    tokens: &'t [Token<'s>],
-    level: u8,
-) -> Option<(TestOperator, &'t [Token<'s>])>
-    requires { is_test_level level ≡ true }
-    ensures { option_map (λ x. (tested x.0, tokens_of x.1.now)) result ≡ joins_at level (tokens_of tokens.now) }
-{
-    match tokens {
-        [] => None,
-        [token, rest @ ..] => match test_of(*token, level) {
-            Some(operator) => Some((operator, rest)),
-            None => None,
-        },
-    }
-}
-
-/// Whether the operators of this level make one bit.
-pub fn is_test_level(level: u8) -> bool
-    ensures { result ≡ is_test_level level }
-{
-    level == 1 || level == 2 || level == 6 || level == 7
 }
 
 /// The operator that stands before an operand, and what stands behind it.

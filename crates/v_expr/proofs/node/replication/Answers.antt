@@ -1,0 +1,5 @@
+use Rattle.v_syntax.proofs.Trees.{tree_of-Replication}
+use Rattle.v_expr.proofs.node.replication.Goals as goal
+
+pub returns : goal.returns
+returns c = tree_of-Replication c.args.count c.args.parts

@@ -1,0 +1,18 @@
+use Rattle.std.proofs.Common.{◌∙◌, ap, sym}
+use Rattle.v_syntax.specs.Tree.{tree_of}
+use Rattle.v_syntax.specs.Chain.{linked}
+use Rattle.v_syntax.proofs.Trees.{tree_of-Binary}
+use Rattle.v_expr.proofs.Links.{one_link}
+use Rattle.v_expr.proofs.node.with_link.Goals as goal
+
+pub returns-in_ok-push-in-Binary-clause-made : goal.returns-in_ok-push-in-Binary-clause-made
+returns-in_ok-push-in-Binary-clause-made c =
+    one_link c.in-Binary.first c.push.new.self c.in-Binary.links.items c.args.link c.args.left c.in_ok-push-in-Binary.ensures.items
+    (sym (tree_of-Binary c.in-Binary.first c.in-Binary.links) ∙ ap tree_of (sym c.in-Binary.is))
+
+pub returns-in_ok-push-in_default : goal.returns-in_ok-push-in_default
+returns-in_ok-push-in_default c = record {
+  made = one_link c.in_ok-first-in_default.first c.push-in_default.new.self c.new-links.result.items c.args.link c.args.left c.in_ok-push-in_default.ensures.items
+      (ap (λ ls. linked ls (tree_of c.in_ok-first-in_default.first.value)) c.new-links.ensures.items ∙ ap tree_of c.in_ok-first-in_default.ensures.ok);
+  memory = tt;
+}

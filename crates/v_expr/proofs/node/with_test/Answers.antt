@@ -1,0 +1,18 @@
+use Rattle.std.proofs.Common.{◌∙◌, ap, sym}
+use Rattle.v_syntax.specs.Tree.{tree_of}
+use Rattle.v_syntax.specs.Chain.{test_linked}
+use Rattle.v_syntax.proofs.Trees.{tree_of-Test}
+use Rattle.v_expr.proofs.Links.{one_test}
+use Rattle.v_expr.proofs.node.with_test.Goals as goal
+
+pub returns-in_ok-push-in-Test-clause-made : goal.returns-in_ok-push-in-Test-clause-made
+returns-in_ok-push-in-Test-clause-made c =
+    one_test c.in-Test.first c.push.new.self c.in-Test.links.items c.args.link c.args.left c.in_ok-push-in-Test.ensures.items
+    (sym (tree_of-Test c.in-Test.first c.in-Test.links) ∙ ap tree_of (sym c.in-Test.is))
+
+pub returns-in_ok-push-in_default : goal.returns-in_ok-push-in_default
+returns-in_ok-push-in_default c = record {
+  made = one_test c.in_ok-first-in_default.first c.push-in_default.new.self c.new-links.result.items c.args.link c.args.left c.in_ok-push-in_default.ensures.items
+      (ap (λ ls. test_linked ls (tree_of c.in_ok-first-in_default.first.value)) c.new-links.ensures.items ∙ ap tree_of c.in_ok-first-in_default.ensures.ok);
+  memory = tt;
+}
