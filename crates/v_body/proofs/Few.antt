@@ -1,5 +1,5 @@
 -- At most one default, counted one after the other.
-use Rattle.std.proofs.Common.{◌≡◌, ℕ, suc, ◌+◌, Bool, true, false, cond, List, [], ◌∷◌, map, Option, Some, None, is_none, refl, sym, ap, ◌∙◌, arith}
+use Rattle.std.proofs.Common.{◌≡◌, ℕ, suc, ◌+◌, ◌≤◌, length, Bool, true, false, cond, List, [], ◌∷◌, map, Option, Some, None, is_none, refl, sym, ap, ◌∙◌, arith}
 use Rattle.std.specs.Prelude.{nat_le}
 use Rattle.std.proofs.lemmas.Bool.Decides.{nat_tests}
 use Rattle.wb_meaning.specs.Verilog.Syntax.{Expressions, Statement, CaseItems}
@@ -36,3 +36,7 @@ some_items None s items = refl
 
 pub few_of_some : (i : CaseItem) (items : List CaseItem) → has_few_defaults false (i ∷ items) ≡ are_items_of_case (as_items (i ∷ items))
 few_of_some i items = one_at_most (i ∷ items) ∙ sym (some_items i.0 i.1 (as_items items))
+
+pub few_of_list : {X : Type 0} (f : X → CaseItem) (xs : List X) → 1 ≤ length xs → has_few_defaults false (map f xs) ≡ are_items_of_case (as_items (map f xs))
+few_of_list f [] h = absurd (omega (arith, h))
+few_of_list f (x ∷ xs) h = few_of_some (f x) (map f xs)

@@ -11,6 +11,8 @@ use Rattle.v_expr.specs.declared.stop.ExpressionStop.TheVariants.{NoMemory, Refu
 use Rattle.v_expr.proofs.Repeat.{some, Shrinks}
 use Rattle.v_body.specs.Words.{after_word}
 use Rattle.v_body.specs.Statements.{Reader, guarded_at, ladder_at, conditional_at}
+use Rattle.v_syntax.specs.Tree.{arm_before, or_empty}
+use Rattle.v_body.specs.View.{ladder_of}
 use Rattle.v_body.proofs.Words.{word_spelled}
 
 abbrev pub Guarded : Type 0
@@ -123,3 +125,40 @@ no_last one (Refused left) gs ts g after other total at_arm at_else at_if f so_f
 pub no_arms_yet : (r : Read Token Statement) → with_arms [] r ≡ r
 no_arms_yet None = refl
 no_arms_yet (Some t) = refl
+
+pub no_arms_start : (one : Reader) (gs : List Guarded) (ts us : List Token) → gs ≡ [] → ts ≡ us → with_arms gs (conditional_at one ts) ≡ conditional_at one us
+no_arms_start one gs ts us e f = ap (λ (hs : List Guarded). with_arms hs (conditional_at one ts)) e ∙ no_arms_yet (conditional_at one ts) ∙ ap (conditional_at one) f
+
+pub ladder_shrinks : (one : Reader) → Shrinks (guarded_at one) → (ts : List Token) (g : Guarded) (after other next : List Token)
+    → guarded_at one ts ≡ Some (g, after) → after_word (codes "else") after ≡ Some other → after_word (codes "if") other ≡ Some next → length next < length ts
+ladder_shrinks one small ts g after other next at_arm at_else at_if =
+    let shorter : length after < length ts = small ts g after at_arm in
+    let first : length after ≡ suc (length other) = ap (λ (us : List Token). length us) (word_spelled (codes "else") at_else) in
+    let second : length other ≡ suc (length next) = ap (λ (us : List Token). length us) (word_spelled (codes "if") at_if) in
+    omega (arith, shorter, first, second)
+
+-- ---- the trees of ladders
+
+ladder-alone : (gs : List Guarded) (g : Guarded) → ladder_of (gs ++ g ∷ []) None ≡ Some (in_front gs (tree.if_then g.0 g.1))
+ladder-alone [] g = refl
+ladder-alone (h ∷ gs) g = ap (λ (o : Option Statement). Some (arm_before h.0 h.1 o)) (ladder-alone gs g)
+
+ladder-with_else : (gs : List Guarded) (g : Guarded) (t : Statement) → ladder_of (gs ++ g ∷ []) (Some t) ≡ Some (in_front gs (tree.if_else g.0 g.1 t))
+ladder-with_else [] g t = refl
+ladder-with_else (h ∷ gs) g t = ap (λ (o : Option Statement). Some (arm_before h.0 h.1 o)) (ladder-with_else gs g t)
+
+-- what the code makes where no else stands behind the last arm
+pub made_alone : (one : Reader) (gs all : List Guarded) (ts : List Token) (g : Guarded) (after : List Token) (total : Read Token Statement) (s : Statement)
+    → guarded_at one ts ≡ Some (g, after) → after_word (codes "else") after ≡ None → with_arms gs (conditional_at one ts) ≡ total
+    → all ≡ gs ++ g ∷ [] → s ≡ or_empty (ladder_of all None) → total ≡ Some (s, after)
+made_alone one gs all ts g after total s at_arm at_else so_far pushed made =
+    let tree_is : s ≡ in_front gs (tree.if_then g.0 g.1) = made ∙ ap (λ (hs : List Guarded). or_empty (ladder_of hs None)) pushed ∙ ap or_empty (ladder-alone gs g) in
+    ends_alone one gs ts g after total at_arm at_else so_far ∙ ap (λ (t : Statement). some (t, after)) (sym tree_is)
+
+-- and where one does
+pub made_with_else : (one : Reader) (gs all : List Guarded) (ts : List Token) (g : Guarded) (after other : List Token) (t : Statement) (rest : List Token) (total : Read Token Statement) (s : Statement)
+    → guarded_at one ts ≡ Some (g, after) → after_word (codes "else") after ≡ Some other → after_word (codes "if") other ≡ None → one other ≡ Some (t, rest)
+    → with_arms gs (conditional_at one ts) ≡ total → all ≡ gs ++ g ∷ [] → s ≡ or_empty (ladder_of all (Some t)) → total ≡ Some (s, rest)
+made_with_else one gs all ts g after other t rest total s at_arm at_else at_if at_last so_far pushed made =
+    let tree_is : s ≡ in_front gs (tree.if_else g.0 g.1 t) = made ∙ ap (λ (hs : List Guarded). or_empty (ladder_of hs (Some t))) pushed ∙ ap or_empty (ladder-with_else gs g t) in
+    ends_with_else one gs ts g after other t rest total at_arm at_else at_if at_last so_far ∙ ap (λ (u : Statement). some (u, rest)) (sym tree_is)

@@ -1,5 +1,5 @@
 -- A target, a statement and an item each have at least one token, so each turn of a loop takes something.
-use Rattle.std.proofs.Common.{ℕ, ◌<◌, ◌≤◌, List, ◌∷◌, length, Option, arith}
+use Rattle.std.proofs.Common.{◌≡◌, ℕ, suc, ◌<◌, ◌≤◌, List, ◌∷◌, length, Option, ap, arith}
 use Rattle.std.specs.Prelude.{codes}
 use Rattle.wb_meaning.specs.Value.{Name}
 use Rattle.wb_meaning.specs.Verilog.Token.{Mark, right_parenthesis, right_brace, comma, semicolon, colon, equals, less_equals, Token, word, mark}
@@ -10,8 +10,8 @@ use Rattle.wb_meaning.specs.Verilog.Grammar.{IsTarget, a_place, some_joined, Are
 use Rattle.v_expr.proofs.Repeat.{Shrinks}
 use Rattle.v_expr.proofs.Grow.{longer}
 use Rattle.v_body.specs.Targets.{target_in, target_at, assignment_at}
-use Rattle.v_body.specs.Statements.{Reader, item_at, statement_in, statement_at}
-use Rattle.v_body.proofs.Spelled.{target_in_spelled, target_spelled, assignment_spelled, Spells, item_spelled, statement_in_spelled, statement_spelled}
+use Rattle.v_body.specs.Statements.{Reader, item_at, statement_in, statement_at, guarded_at}
+use Rattle.v_body.proofs.Spelled.{target_in_spelled, target_spelled, assignment_spelled, Spells, item_spelled, statement_in_spelled, statement_spelled, guarded_spelled}
 
 pub expressions_longer : (es : Expressions) (text rest : List Token) → AreExpressions es text rest → length rest < length text
 expressions_longer _ _ _ (last_one e text rest d) = longer 0 e text rest d
@@ -83,3 +83,11 @@ statement_shrinks ts x rest e = statement_longer x ts rest (statement_spelled ts
 
 pub item_shrinks : (d : ℕ) → Shrinks (item_at (statement_in d))
 item_shrinks d ts x rest e = item_longer no_items _ ts rest (item_spelled (statement_in d) (statement_in_spelled d) ts (x, rest) e no_items)
+
+pub guarded_shrinks : (d : ℕ) → Shrinks (guarded_at (statement_in d))
+guarded_shrinks d ts x rest e =
+    let g = guarded_spelled (statement_in d) (statement_in_spelled d) ts (x, rest) e in
+    let parts : length ts ≡ suc (length g.condition.text) = ap (λ (us : List Token). length us) g.condition.parts in
+    let condition : length (mark right_parenthesis ∷ g.more) < length g.condition.text = longer 0 x.0 g.condition.text (mark right_parenthesis ∷ g.more) g.condition.is_whole in
+    let body : length rest < length g.more = statement_longer x.1 g.more rest g.body.is_spelled in
+    omega (arith, parts, condition, body)

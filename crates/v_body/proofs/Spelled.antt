@@ -133,10 +133,10 @@ assigning_spelled ts y h =
     (λ w. let v = bound w.1 in nonblocking_spelled t.0.0 ts t.0.1 v.0 y d v.1 v.2)
 
 -- an expression in parentheses
-record IsCondition (ts : List Token) (y : Expression × List Token) : Type 0 where
-  text : List Token
-  parts : ts ≡ mark left_parenthesis ∷ text
-  is_whole : IsWhole y.0 text (mark right_parenthesis ∷ y.1)
+pub record IsCondition (ts : List Token) (y : Expression × List Token) : Type 0 where
+  pub text : List Token
+  pub parts : ts ≡ mark left_parenthesis ∷ text
+  pub is_whole : IsWhole y.0 text (mark right_parenthesis ∷ y.1)
 
 condition_spelled : (ts : List Token) (y : Expression × List Token) → condition_at ts ≡ Some y → IsCondition ts y
 unfolding condition_at
@@ -151,12 +151,12 @@ condition_spelled ts y h =
     })
 
 -- behind if
-record IsGuarded (ts : List Token) (g : (Expression × Statement) × List Token) : Type 0 where
-  more : List Token
-  condition : IsCondition ts (g.0.0, more)
-  body : IsStatementThen more (g.0.1, g.1)
+pub record IsGuarded (ts : List Token) (g : (Expression × Statement) × List Token) : Type 0 where
+  pub more : List Token
+  pub condition : IsCondition ts (g.0.0, more)
+  pub body : IsStatementThen more (g.0.1, g.1)
 
-guarded_spelled : (one : Reader) → Spells one → (ts : List Token) (g : (Expression × Statement) × List Token) → guarded_at one ts ≡ Some g → IsGuarded ts g
+pub guarded_spelled : (one : Reader) → Spells one → (ts : List Token) (g : (Expression × Statement) × List Token) → guarded_at one ts ≡ Some g → IsGuarded ts g
 unfolding guarded_at
 guarded_spelled one hyp ts g h =
     let c = bound h in

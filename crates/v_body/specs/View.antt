@@ -1,7 +1,7 @@
 -- What the code's parts of statements stand for.
-use Rattle.std.specs.Prelude.{map, Option, Some, None}
+use Rattle.std.specs.Prelude.{map, List, [], ◌∷◌, Option, Some, None}
 use Rattle.wb_meaning.specs.Verilog.Syntax as pure
-use Rattle.v_syntax.specs.Tree.{tree_of, statement_of}
+use Rattle.v_syntax.specs.Tree.{tree_of, statement_of, arm_before}
 use Rattle.v_syntax.specs.declared.tree.Arm.{Arm}
 use Rattle.v_syntax.specs.declared.tree.CaseItem.{CaseItem, Values, Default}
 use Rattle.v_expr.specs.Reading.{as_expressions}
@@ -15,3 +15,8 @@ arm_of a = (tree_of a.condition, statement_of a.statement)
 abbrev pub item_of : CaseItem → PureItem
 item_of (Values es s) = (Some (as_expressions (map tree_of es.items)), statement_of s)
 item_of (Default s) = (None, statement_of s)
+
+-- the arms of a ladder before what stands behind its last else, if anything does
+abbrev pub ladder_of : List (pure.Expression × pure.Statement) → Option pure.Statement → Option pure.Statement
+ladder_of [] last = last
+ladder_of (g ∷ gs) last = Some (arm_before g.0 g.1 (ladder_of gs last))

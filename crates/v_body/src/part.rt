@@ -13,9 +13,8 @@ ghost use Rattle.v_body.specs.View.{item_of};
 use crate::target::target;
 use crate::word::{behind_word, name};
 use std::alloc::Global;
-use v_expr::ExpressionStop;
-use v_expr::expression::expression;
 use v_expr::reader::{behind_mark, mark};
+use v_expr::{ExpressionStop, expression};
 use v_syntax::tree::{CaseItem, Expression, Statement};
 use v_token::token::{Mark, Token};
 
@@ -151,10 +150,10 @@ fn has_few_defaults(items: &[CaseItem<'_>]) -> bool
 pub fn are_items_of_case(items: &[CaseItem<'_>]) -> bool
     ensures { result ≡ are_items_of_case (as_items (map item_of items.now)) }
 {
-    if items.is_empty() {
-        return false;
+    match items {
+        [] => false,
+        [_, ..] => has_few_defaults(items),
     }
-    has_few_defaults(items)
 }
 
 /// Where the items of a `case` are refused: at the second default, or at the first token where there is no item.

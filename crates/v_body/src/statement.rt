@@ -9,7 +9,11 @@ ghost use Rattle.v_body.specs.Words.{after_word};
 ghost use Rattle.v_body.specs.Statements.{guarded_at, conditional_at, item_at, items_at, case_at, block_at, outer_statement_at, statement_in, statement_at};
 ghost use Rattle.v_body.specs.View.{arm_of, item_of};
 
-use crate::part::{Refusal, are_items_of_case, assigning, behind_perhaps_colon, block_name, condition, no_refusal, values, with_item};
+use crate::node::{alone, block_of, case_of, with_else};
+use crate::part::{
+    Refusal, are_items_of_case, assigning, behind_perhaps_colon, block_name, condition, no_refusal,
+    values, with_item,
+};
 use crate::word::behind_word;
 use std::alloc::Global;
 use v_expr::ExpressionStop;
@@ -53,13 +57,13 @@ fn ladder<'s, 't>(
         let (arm, after) = guarded(alloc, levels, rest)?;
         arms.push(arm)?;
         match behind_word(after, "else") {
-            None => return Ok((Statement::If(arms, None), after)),
+            None => return Ok((alone(arms), after)),
             Some(other) => match behind_word(other, "if") {
                 Some(next) => rest = next,
                 None => {
-                    let (last, after) = nested(alloc, levels, other)?;
-                    let last = Box::new(alloc, last)?;
-                    return Ok((Statement::If(arms, Some(last)), after));
+                    let (last, behind) = nested(alloc, levels, other)?;
+                    let whole = with_else(alloc, arms, last)?;
+                    return Ok((whole, behind));
                 }
             },
         }
@@ -127,7 +131,7 @@ fn case<'s, 't>(
     if !are_items_of_case(&items) {
         return Err(ExpressionStop::Refused(refusal.place));
     }
-    Ok((Statement::Case(kind, subject, items), rest))
+    Ok((case_of(kind, subject, items), rest))
 }
 
 /// Statements up to `end`, which is passed.
@@ -165,7 +169,7 @@ fn block<'s, 't>(
 {
     let (name, rest) = block_name(tokens)?;
     let (statements, rest) = statements(alloc, levels, rest)?;
-    Ok((Statement::Block(name, statements), rest))
+    Ok((block_of(name, statements), rest))
 }
 
 /// A statement whose parts have at most `levels` levels.

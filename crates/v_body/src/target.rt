@@ -10,9 +10,8 @@ ghost use Rattle.v_body.specs.Targets.{place_at, outer_target_at, target_in, tar
 
 use crate::word::name;
 use std::alloc::Global;
-use v_expr::ExpressionStop;
-use v_expr::expression::{expression, selects};
 use v_expr::reader::{behind_mark, mark};
+use v_expr::{ExpressionStop, expression, selects};
 use v_syntax::tree::{Expression, Target};
 use v_token::token::{Mark, Token};
 
