@@ -1,0 +1,12 @@
+pub mod Words
+pub mod Lists
+pub mod Fronts
+pub mod Spelled
+pub mod Longer
+pub mod TargetsAgain
+pub mod StatementsAgain
+pub mod Whole
+pub mod Trees
+pub mod Turns
+pub mod Few
+pub mod Ladder

@@ -1,0 +1,4 @@
+pub mod Words
+pub mod Targets
+pub mod Statements
+pub mod View

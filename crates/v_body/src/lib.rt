@@ -1,0 +1,13 @@
+//! Targets and statements of Verilog: the law of how they are read from tokens, and their reader.
+#![tactic(auto)]
+
+pub mod laws;
+mod node;
+mod part;
+#[cfg(test)]
+mod shown;
+pub mod statement;
+pub mod target;
+#[cfg(test)]
+mod tests;
+pub mod word;
