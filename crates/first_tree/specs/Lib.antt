@@ -1,0 +1,5 @@
+pub mod Steps
+pub mod Profile
+pub mod Reading
+pub mod Outcome
+pub mod Parts
