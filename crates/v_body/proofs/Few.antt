@@ -1,10 +1,10 @@
 -- At most one default, counted one after the other.
-use Rattle.std.proofs.Common.{◌≡◌, ℕ, suc, ◌+◌, ◌≤◌, length, Bool, true, false, cond, List, [], ◌∷◌, map, Option, Some, None, is_none, refl, sym, ap, ◌∙◌, arith}
+use Rattle.std.proofs.Common.{◌≡◌, ℕ, suc, ◌≤◌, length, Bool, true, false, cond, List, [], ◌∷◌, map, Option, Some, None, is_none, refl, sym, ◌∙◌, arith}
 use Rattle.std.specs.Prelude.{nat_le}
 use Rattle.std.proofs.lemmas.Bool.Decides.{nat_tests}
 use Rattle.wb_meaning.specs.Verilog.Syntax.{Expressions, Statement, CaseItems}
 use Rattle.wb_meaning.specs.Verilog.Grammar.{count_defaults}
-use Rattle.v_body.specs.Statements.{CaseItem, item_before, as_items, is_default, has_few_defaults, are_items_of_case}
+use Rattle.v_body.specs.Statements.{CaseItem, item_before, as_items, has_few_defaults, are_items_of_case}
 
 one_less : (n : ℕ) → nat_le n 0 ≡ nat_le (suc n) 1
 one_less n = grind (arith, nat_tests)

@@ -1,16 +1,16 @@
 -- The turns of the reader's loops, and its levels.
-use Rattle.std.proofs.Common.{◌≡◌, ℕ, zero, suc, ◌<◌, ◌-◌, List, [], ◌∷◌, ◌++◌, Option, Some, None, true, refl, sym, ap, ◌∙◌, arith}
+use Rattle.std.proofs.Common.{◌≡◌, ℕ, zero, suc, ◌<◌, ◌-◌, List, [], ◌∷◌, Option, Some, None, true, refl, sym, ap, ◌∙◌, arith}
 use Rattle.std.specs.Prelude.{codes}
 use Rattle.wb_meaning.specs.Value.{Name}
 use Rattle.wb_meaning.specs.Verilog.Token.{Mark, Token}
 use Rattle.wb_meaning.specs.Verilog.Syntax as tree
 use Rattle.wb_meaning.specs.Verilog.Syntax.{Expression, CaseKind, Statement}
-use Rattle.v_expr.specs.Repeat.{◌>>=◌, Read, repeated}
+use Rattle.v_expr.specs.Repeat.{Read, repeated}
 use Rattle.v_expr.specs.Reading.{after_mark}
 use Rattle.v_expr.specs.View.{Fails}
 use Rattle.v_expr.specs.declared.stop.ExpressionStop.{ExpressionStop}
 use Rattle.v_expr.specs.declared.stop.ExpressionStop.TheVariants.{NoMemory, Refused}
-use Rattle.v_expr.proofs.Repeat.{some, with_front, with_nothing, goes_on, is_over, is_lost}
+use Rattle.v_expr.proofs.Repeat.{some, with_front, with_nothing, is_lost}
 use Rattle.v_body.specs.Words.{after_word, behind_comma, listed_at}
 use Rattle.v_body.specs.Targets.{outer_target_at, target_in}
 use Rattle.v_body.specs.Statements.{Reader, CaseItem, condition_at, item_at, items_at, as_items, are_items_of_case, case_at, as_statements, block_name_at, block_at, outer_statement_at, statement_in}

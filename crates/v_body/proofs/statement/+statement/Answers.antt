@@ -1,4 +1,4 @@
-use Rattle.std.proofs.Common.{◌≡◌, ◌∙◌, ◌<◌, ◌++◌, ◌∷◌, [], map, sym, ap, arith, Some}
+use Rattle.std.proofs.Common.{◌≡◌, ◌∙◌, ◌<◌, ◌++◌, ◌∷◌, [], map, sym, ap, arith}
 use Rattle.std.specs.Prelude.{codes}
 use Rattle.std.proofs.lemmas.Result.{err_from_is_err_and}
 use Rattle.std.proofs.lemmas.List.{map_push}
@@ -10,7 +10,7 @@ use Rattle.v_body.specs.Words.{after_word}
 use Rattle.v_body.specs.Statements.{are_items_of_case, as_items, conditional_at, item_at, items_at, statement_in}
 use Rattle.v_body.specs.View.{arm_of, item_of}
 use Rattle.v_body.proofs.Longer.{statement_in_shrinks, item_shrinks, guarded_shrinks}
-use Rattle.v_body.proofs.Ladder.{with_arms, goes_up, made_alone, made_with_else, no_arm, no_last, no_arms_start, ladder_shrinks}
+use Rattle.v_body.proofs.Ladder.{goes_up, made_alone, made_with_else, no_arm, no_last, no_arms_start, ladder_shrinks}
 use Rattle.v_body.proofs.Turns.{fails, starts, items_start, no_statement_level, statement_level, statement_level_fails, block_read, case_read}
 use Rattle.v_body.proofs.statement.+statement.Goals as goal
 
