@@ -1,0 +1,9 @@
+pub mod Words
+pub mod Lists
+pub mod Spelled
+pub mod SpelledItems
+pub mod Begins
+pub mod Again
+pub mod AgainItems
+pub mod Turns
+pub mod Whole

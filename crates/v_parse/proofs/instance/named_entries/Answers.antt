@@ -1,0 +1,39 @@
+use Rattle.std.proofs.Common.{map}
+use Rattle.std.proofs.lemmas.Result.{err_from_is_err_and}
+use Rattle.v_token.specs.View.{tokens_of}
+use Rattle.wb_meaning.specs.Verilog.Token.{comma}
+use Rattle.v_expr.specs.Reading.{after_mark}
+use Rattle.v_parse.specs.Reading.{named_entry_at, named_entries_at}
+use Rattle.v_parse.specs.View.{named_entry_of}
+use Rattle.v_parse.proofs.Lists.{keeps, list_begins, list_is_none, list_goes_on, list_shrinks, list_ends, list_fails}
+use Rattle.wb_meaning.specs.Verilog.Grammar.{IsNamedEntry}
+use Rattle.v_parse.proofs.Spelled.{comma_advances, named_entry_read}
+use Rattle.v_parse.proofs.instance.named_entries.Goals as goal
+
+pub returns-in_err-first : goal.returns-in_err-first
+unfolding named_entries_at
+returns-in_err-first c =
+    let p = err_from_is_err_and c.from_residual.result c.from_residual.ensures.1 in
+    rw (p.1, p.2) (list_is_none (after_mark comma) named_entry_at c.in_err-first.field-0.0 (tokens_of c.args.tokens.now) c.in_err-first.ensures)
+
+pub loop-entries-init : goal.loop-entries-init
+unfolding named_entries_at
+loop-entries-init c =
+    list_begins named_entry_of (after_mark comma) named_entry_at (tokens_of c.args.tokens.now) c.in_ok-first.first (tokens_of c.in_ok-first.rest.now) c.new-entries.result.items c.push.new.self.items c.new-entries.ensures.items c.in_ok-push.ensures.items c.in_ok-first.ensures
+
+pub returns-in-None : goal.returns-in-None
+returns-in-None c = list_ends (after_mark comma) named_entry_at (map named_entry_of c.loop-entries.entries.items) (tokens_of c.loop-entries.rest.now) (named_entries_at (tokens_of c.args.tokens.now)) c.in-None.ensures c.loop-entries.invariant
+
+pub returns-in_err-next-in-Some : goal.returns-in_err-next-in-Some
+returns-in_err-next-in-Some c =
+    let p = err_from_is_err_and c.from_residual-in_err-next-in-Some.result c.from_residual-in_err-next-in-Some.ensures.1 in
+    rw (p.1, p.2) (list_fails (after_mark comma) named_entry_at c.in_err-next-in-Some.field-0.0 (map named_entry_of c.loop-entries.entries.items) (tokens_of c.loop-entries.rest.now) (tokens_of c.in-Some.more.now) (named_entries_at (tokens_of c.args.tokens.now)) c.in-Some.ensures c.in_err-next-in-Some.ensures c.loop-entries.invariant)
+
+pub loop-entries-smaller : goal.loop-entries-smaller
+loop-entries-smaller c =
+    list_shrinks (after_mark comma) named_entry_at comma_advances (keeps IsNamedEntry named_entry_read) (tokens_of c.loop-entries.rest.now) (tokens_of c.in-Some.more.now) _ (tokens_of c.in_ok-next-in-Some.after.now) c.in-Some.ensures c.in_ok-next-in-Some.ensures
+
+pub loop-entries-preserved : goal.loop-entries-preserved
+loop-entries-preserved c =
+    list_goes_on named_entry_of (after_mark comma) named_entry_at comma_advances (keeps IsNamedEntry named_entry_read) c.loop-entries.entries.items c.push-in-Some.new.self.items (tokens_of c.loop-entries.rest.now) (tokens_of c.in-Some.more.now) c.in_ok-next-in-Some.next (tokens_of c.in_ok-next-in-Some.after.now)
+    (named_entries_at (tokens_of c.args.tokens.now)) c.in_ok-push-in-Some.ensures.items c.in-Some.ensures c.in_ok-next-in-Some.ensures c.loop-entries.invariant

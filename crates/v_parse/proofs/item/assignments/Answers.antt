@@ -1,0 +1,40 @@
+use Rattle.std.proofs.Common.{map}
+use Rattle.std.proofs.lemmas.Result.{err_from_is_err_and}
+use Rattle.v_token.specs.View.{tokens_of}
+use Rattle.wb_meaning.specs.Verilog.Token.{comma, equals}
+use Rattle.v_expr.specs.Reading.{after_mark}
+use Rattle.v_body.specs.Targets.{assignment_at}
+use Rattle.v_parse.specs.View.{assignment_of}
+use Rattle.v_parse.specs.Reading.{assignments_at}
+use Rattle.v_parse.proofs.Lists.{keeps, list_begins, list_is_none, list_goes_on, list_shrinks, list_ends, list_fails}
+use Rattle.wb_meaning.specs.Verilog.Grammar.{IsAssignment}
+use Rattle.v_parse.proofs.Spelled.{comma_advances, assignment_read}
+use Rattle.v_parse.proofs.item.assignments.Goals as goal
+
+pub returns-in_err-first : goal.returns-in_err-first
+unfolding assignments_at
+returns-in_err-first c =
+    let p = err_from_is_err_and c.from_residual.result c.from_residual.ensures.1 in
+    rw (p.1, p.2) (list_is_none (after_mark comma) (assignment_at equals) c.in_err-first.field-0.0 (tokens_of c.args.tokens.now) c.in_err-first.ensures)
+
+pub loop-assignments-init : goal.loop-assignments-init
+unfolding assignments_at
+loop-assignments-init c =
+    list_begins assignment_of (after_mark comma) (assignment_at equals) (tokens_of c.args.tokens.now) c.in_ok-first.first (tokens_of c.in_ok-first.rest.now) c.new-assignments.result.items c.push.new.self.items c.new-assignments.ensures.items c.in_ok-push.ensures.items c.in_ok-first.ensures
+
+pub returns-in-None : goal.returns-in-None
+returns-in-None c = list_ends (after_mark comma) (assignment_at equals) (map assignment_of c.loop-assignments.assignments.items) (tokens_of c.loop-assignments.rest.now) (assignments_at (tokens_of c.args.tokens.now)) c.in-None.ensures c.loop-assignments.invariant
+
+pub returns-in_err-next-in-Some : goal.returns-in_err-next-in-Some
+returns-in_err-next-in-Some c =
+    let p = err_from_is_err_and c.from_residual-in_err-next-in-Some.result c.from_residual-in_err-next-in-Some.ensures.1 in
+    rw (p.1, p.2) (list_fails (after_mark comma) (assignment_at equals) c.in_err-next-in-Some.field-0.0 (map assignment_of c.loop-assignments.assignments.items) (tokens_of c.loop-assignments.rest.now) (tokens_of c.in-Some.more.now) (assignments_at (tokens_of c.args.tokens.now)) c.in-Some.ensures c.in_err-next-in-Some.ensures c.loop-assignments.invariant)
+
+pub loop-assignments-smaller : goal.loop-assignments-smaller
+loop-assignments-smaller c =
+    list_shrinks (after_mark comma) (assignment_at equals) comma_advances (keeps (IsAssignment equals) assignment_read) (tokens_of c.loop-assignments.rest.now) (tokens_of c.in-Some.more.now) _ (tokens_of c.in_ok-next-in-Some.after.now) c.in-Some.ensures c.in_ok-next-in-Some.ensures
+
+pub loop-assignments-preserved : goal.loop-assignments-preserved
+loop-assignments-preserved c =
+    list_goes_on assignment_of (after_mark comma) (assignment_at equals) comma_advances (keeps (IsAssignment equals) assignment_read) c.loop-assignments.assignments.items c.push-in-Some.new.self.items (tokens_of c.loop-assignments.rest.now) (tokens_of c.in-Some.more.now) c.in_ok-next-in-Some.next (tokens_of c.in_ok-next-in-Some.after.now)
+    (assignments_at (tokens_of c.args.tokens.now)) c.in_ok-push-in-Some.ensures.items c.in-Some.ensures c.in_ok-next-in-Some.ensures c.loop-assignments.invariant

@@ -1,0 +1,26 @@
+//! Whole sources.
+
+ghost use Rattle.std.specs.Prelude.{◌≡◌, ◌↔◌, Some};
+ghost use Rattle.v_token.specs.View.{tokens_of};
+ghost use Rattle.v_parse.specs.Reading.{source_at};
+ghost use Rattle.v_parse.specs.View.{Parses, IsParsed};
+
+use crate::module::modules;
+use crate::stop::ParseStop;
+use std::alloc::Global;
+use v_expr::ExpressionStop;
+use v_syntax::module::Tree;
+use v_token::token::Token;
+
+/// The tree that all of the tokens are spelled by.
+#[tactic(auto, unfolding(crate::specs::Reading::source_at))]
+pub fn parse<'s>(alloc: Global, tokens: &[Token<'s>]) -> Result<Tree<'s>, ParseStop>
+    ensures read { Parses result (source_at (tokens_of tokens.now)) }
+    ensures spelled { IsParsed result (tokens_of tokens.now) }
+{
+    match modules(alloc, tokens) {
+        Ok((modules, _)) => Ok(Tree { modules }),
+        Err(ExpressionStop::NoMemory) => Err(ParseStop::NoMemory),
+        Err(ExpressionStop::Refused(left)) => Err(ParseStop::Refused(left)),
+    }
+}
