@@ -1,0 +1,217 @@
+//! Small texts from bytes to a tree or to the kind that refuses them.
+
+mod tables;
+
+use std::alloc::{AllocError, Global};
+use std::process::Abort;
+use std::test::Fail;
+use v_dotted::{dotted_tokens, whole_expression};
+use v_expr::expression;
+use v_lex::{LexKind, LexStop, tokens};
+use v_narrow::{are_objects_narrow, is_narrow, values_fit};
+use v_parse::{ParseStop, parse};
+use v_syntax::expression::assigned_value;
+use v_syntax::scope::{Scope, Values};
+use v_syntax::tree::Expression;
+
+/// What a text is read as: a tree, or the kind that refuses it.
+#[derive(Clone, Copy, PartialEq, Eq, Debug)]
+pub(crate) enum Kind {
+    Tree,
+    NotText,
+    BadToken,
+    BadDirective,
+    Unsupported,
+    TooDeep,
+    Syntax,
+}
+
+fn kind_of_text(kind: LexKind) -> Kind {
+    match kind {
+        LexKind::NotText => Kind::NotText,
+        LexKind::BadToken => Kind::BadToken,
+        LexKind::BadDirective => Kind::BadDirective,
+        LexKind::Unsupported => Kind::Unsupported,
+        LexKind::TooDeep => Kind::TooDeep,
+    }
+}
+
+/// What a file of these bytes is read as.
+fn kind_of(alloc: Global, text: &[u8]) -> Result<Kind, AllocError> {
+    let files = vec![in alloc; Vec::from_slice(alloc, text)?]?;
+    let tokens = match tokens(alloc, &files) {
+        Ok(tokens) => tokens,
+        Err(LexStop::Refused(refusal)) => return Ok(kind_of_text(refusal.kind)),
+        Err(LexStop::NoMemory) => return Err(AllocError),
+    };
+    match parse(alloc, &tokens) {
+        Ok(_) => Ok(Kind::Tree),
+        Err(ParseStop::Refused(_)) => Ok(Kind::Syntax),
+        Err(ParseStop::NoMemory) => Err(AllocError),
+    }
+}
+
+fn check(rt: &impl Abort, alloc: Global, rows: &[(&str, Kind)]) -> Result<(), Fail> {
+    for (text, kind) in rows {
+        let found = kind_of(alloc, text.as_bytes())?;
+        assert_eq!(rt; found, *kind, "{text}");
+    }
+    Ok(())
+}
+
+#[test]
+fn modules(rt: HostRuntime) -> Result<(), Fail> {
+    check(&rt, rt.alloc(), &tables::MODULES)
+}
+
+#[test]
+fn first_items(rt: HostRuntime) -> Result<(), Fail> {
+    check(&rt, rt.alloc(), &tables::FIRST_ITEMS)
+}
+
+#[test]
+fn more_items(rt: HostRuntime) -> Result<(), Fail> {
+    check(&rt, rt.alloc(), &tables::MORE_ITEMS)
+}
+
+#[test]
+fn statements(rt: HostRuntime) -> Result<(), Fail> {
+    check(&rt, rt.alloc(), &tables::STATEMENTS)
+}
+
+#[test]
+fn first_expressions(rt: HostRuntime) -> Result<(), Fail> {
+    check(&rt, rt.alloc(), &tables::FIRST_EXPRESSIONS)
+}
+
+#[test]
+fn more_expressions(rt: HostRuntime) -> Result<(), Fail> {
+    check(&rt, rt.alloc(), &tables::MORE_EXPRESSIONS)
+}
+
+#[test]
+fn numbers(rt: HostRuntime) -> Result<(), Fail> {
+    check(&rt, rt.alloc(), &tables::NUMBERS)
+}
+
+#[test]
+fn first_texts(rt: HostRuntime) -> Result<(), Fail> {
+    check(&rt, rt.alloc(), &tables::FIRST_TEXTS)
+}
+
+#[test]
+fn more_texts(rt: HostRuntime) -> Result<(), Fail> {
+    check(&rt, rt.alloc(), &tables::MORE_TEXTS)
+}
+
+/// The value of a text's expression in an assignment to 32 bits, where it is an expression without names.
+fn value_of(alloc: Global, text: &[u8]) -> Result<Option<u128>, AllocError> {
+    let files = vec![in alloc; Vec::from_slice(alloc, text)?]?;
+    let Ok(tokens) = tokens(alloc, &files) else {
+        return Ok(None);
+    };
+    let Ok((expression, rest)) = expression(alloc, &tokens) else {
+        return Ok(None);
+    };
+    if !rest.is_empty() {
+        return Ok(None);
+    }
+    let scope = Scope {
+        declarations: Vec::new(alloc),
+    };
+    let values = Values {
+        entries: Vec::new(alloc),
+    };
+    if !are_objects_narrow(&scope)
+        || !values_fit(&scope, &values)
+        || !is_narrow(&scope, &expression)
+    {
+        return Ok(None);
+    }
+    Ok(Some(assigned_value(&scope, &values, 32, &expression)))
+}
+
+fn check_values(rt: &impl Abort, alloc: Global, rows: &[(&str, u128)]) -> Result<(), Fail> {
+    for (text, value) in rows {
+        let found = value_of(alloc, text.as_bytes())?;
+        assert_eq!(rt; found, Some(*value), "{text}");
+    }
+    Ok(())
+}
+
+#[test]
+fn first_values(rt: HostRuntime) -> Result<(), Fail> {
+    check_values(&rt, rt.alloc(), &tables::FIRST_VALUES)
+}
+
+#[test]
+fn more_values(rt: HostRuntime) -> Result<(), Fail> {
+    check_values(&rt, rt.alloc(), &tables::MORE_VALUES)
+}
+
+/// Names with dots between them are one name, and a size from a macro joins its digits.
+#[test]
+fn expressions_of_maps(rt: HostRuntime) -> Result<(), Fail> {
+    let alloc = rt.alloc();
+    let number = dotted_value(alloc, b"`define W 8\n`W'hF")?;
+    assert_eq!(rt; number, Some((15, 8)));
+    let missing = dotted_value(alloc, b"u1 . u2 . cnt [ 3 : 0 ]")?;
+    assert_eq!(rt; missing, None);
+    Ok(())
+}
+
+/// The value and the width of a text's expression, with dotted names, where it is a number.
+fn dotted_value(alloc: Global, text: &[u8]) -> Result<Option<(u128, u64)>, AllocError> {
+    let files = vec![in alloc; Vec::from_slice(alloc, text)?]?;
+    let Ok(tokens) = tokens(alloc, &files) else {
+        return Ok(None);
+    };
+    let Ok(joined) = dotted_tokens(alloc, &tokens) else {
+        return Ok(None);
+    };
+    match whole_expression(alloc, &joined) {
+        Ok(Expression::Number(number)) => Ok(Some((number.value, number.width))),
+        _ => Ok(None),
+    }
+}
+
+const COUNTER: &str = "module counter(input clk, input rst, input go,
+  input op, output [7:0] q);
+  reg [7:0] cnt;
+  assign q = cnt;
+  always @(posedge clk)
+    if (rst) cnt <= 0;
+    else if (go) begin
+      if (op) cnt <= cnt + 1;
+      else cnt <= 0;
+    end
+endmodule";
+
+/// A file that is cut off anywhere in its module has no tree.
+#[test]
+fn a_file_that_is_cut_off(rt: HostRuntime) -> Result<(), Fail> {
+    let bytes = COUNTER.as_bytes();
+    let mut length = 1;
+    while length < bytes.len() {
+        let found = kind_of(rt.alloc(), &bytes[..length])?;
+        assert_eq!(rt; found, Kind::Syntax, "{length}");
+        length += 1;
+    }
+    let whole = kind_of(rt.alloc(), bytes)?;
+    assert_eq!(rt; whole, Kind::Tree);
+    Ok(())
+}
+
+#[test]
+fn open_brackets(rt: HostRuntime) -> Result<(), Fail> {
+    let alloc = rt.alloc();
+    let few = vec![in alloc; b'('; 200]?;
+    let many = vec![in alloc; b'('; 201]?;
+    let found = kind_of(alloc, &few)?;
+    assert_eq!(rt; found, Kind::Syntax);
+    let found = kind_of(alloc, &many)?;
+    assert_eq!(rt; found, Kind::TooDeep);
+    let found = kind_of(alloc, b"\xff")?;
+    assert_eq!(rt; found, Kind::NotText);
+    Ok(())
+}
