@@ -1,12 +1,10 @@
--- What three files stand for, from what their readers give.
-use Rattle.std.proofs.Common.{Result, Ok, Err, ◌≡◌, ◌≤◌, ◌&&◌, ℕ, Bool, true, false, cond, nat_le, List, [], ◌∷◌, length, Some, None, option_map, is_some, refl, ap, sym, ◌∙◌, subst, IsTrue, true≢false, arith}
-use Rattle.std.proofs.lemmas.Bool.Decides.{nat_tests}
+-- What files stand for, from what their readers give.
+use Rattle.std.proofs.Common.{Result, Ok, Err, ◌≡◌, ℕ, Bool, true, false, List, [], ◌∷◌, length, map, Some, None, refl, ap, sym, ◌∙◌, subst, codes}
 use Rattle.std.specs.declared.option.Option.{Option}
-use Rattle.std.proofs.Common.{IfOk, OnOk}
-use Rattle.first_text.specs.Tree.{FirstModule as PureModule}
-use Rattle.first_text.specs.Spelling.{IsFirstText}
+use Rattle.first_text.specs.Tree.{FirstModule as PureModule, module_tree}
 use Rattle.first_text.specs.View.{first_module_of}
 use Rattle.first_text.specs.declared.tree.FirstModule.{FirstModule}
+use Rattle.first_tree.specs.Profile.{IsWithinProfile}
 use Rattle.first_json.specs.MapFile.{map_of_bytes}
 use Rattle.first_json.specs.ModelFile.{model_of_bytes}
 use Rattle.first_json.specs.ModelView.{first_model_of}
@@ -22,8 +20,10 @@ use Rattle.wb_meaning.specs.ModelFile.Meaning.{ModelRule, reading_of}
 use Rattle.ila_rules.specs.Rule.{rule_name}
 use Rattle.ila_json.specs.Reading.{refusal_in}
 use Rattle.wb_meaning.specs.Verilog.Token.{Token}
+use Rattle.wb_meaning.specs.Verilog.Syntax.{Source, Module}
 use Rattle.wb_meaning.specs.Verilog.Text.{Refusal, tokens_in}
-use Rattle.wb_top.specs.Files.{kind_of_text, first_kind, refused_by, refusing_kind, IsCaseOf}
+use Rattle.wb_meaning.specs.Verilog.Grammar.{IsSource, IsTreeOf}
+use Rattle.wb_top.specs.Files.{IsKindOfText, IsFirstKind, IsKind, IsCaseOf, text_kind}
 use Rattle.wb_top.specs.Texts.{IsRefusalBy, IsRefusal}
 use Rattle.wb_top.specs.Outcome.{IsChecked, IsRefused, IsReported}
 use Rattle.wb_top.specs.declared.status.Status.{Status}
@@ -36,18 +36,48 @@ some_same x y h = ap (λ o. value_or x o) h
     value_or z None = z
     value_or z (Some w) = w
 
+ok_same : (x y : List Token) → ◌≡◌ {A = Result (List Token) Refusal} (Ok x) (Ok y) → x ≡ y
+ok_same x y h = ap (λ o. value_or x o) h
+  where
+    value_or : List Token → Result (List Token) Refusal → List Token
+    value_or z (Err e) = z
+    value_or z (Ok w) = w
+
+-- Files have at most one tree.
+abbrev OneSource : Type 0
+OneSource = (ms ns : Source) (text : List Token) → IsSource ms text → IsSource ns text → ms ≡ ns
+
+pub one_tree : OneSource → (files : List (List ℕ)) (ms ns : Source) → IsTreeOf files ms → IsTreeOf files ns → ms ≡ ns
+one_tree one files ms ns a b =
+    one ms ns a.tokens a.is_source (subst (λ (text : List Token). IsSource ns text) (ok_same b.tokens a.tokens (sym b.are_tokens ∙ a.are_tokens)) b.is_source)
+
+abbrev first_module : (ms : Source) (m : Module) → Module
+first_module [] m = m
+first_module (x ∷ xs) m = x
+
+one_of_list : (x y : Module) → ◌≡◌ {A = Source} (x ∷ []) (y ∷ []) → x ≡ y
+one_of_list x y h = ap (λ (ms : Source). first_module ms x) h
+
+-- Files whose tree is no module of the profile stand for no case.
+pub no_module : OneSource → (m p : List ℕ) (ds : List (List ℕ)) (ms : Source) → IsTreeOf ds ms
+    → ((n : PureModule) → IsWithinProfile n → ¬ (ms ≡ module_tree n ∷ [])) → (f : First) → ¬ IsCaseOf m p ds f
+no_module one m p ds ms is none f case = none f.design case.is_within (one_tree one ds ms (module_tree f.design ∷ []) is case.is_design)
+
 -- Files whose model, map and module are not accepted together stand for no case.
-pub not_accepted : (m p d : List ℕ) (model : FirstModel) (map : FirstMap) (design : FirstModule)
+pub not_accepted : (m p : List ℕ) (ds : List (List ℕ)) (ms : Source) (model : FirstModel) (map : FirstMap) (design : FirstModule)
     → ◌≡◌ {A = Option Model} (Some (first_model_of model)) (model_of_bytes m)
     → ◌≡◌ {A = Option Map} (Some (map_of map)) (map_of_bytes p)
-    → IsFirstText d (first_module_of design)
-    → ((text : List ℕ) (a b : PureModule) → IsFirstText text a → IsFirstText text b → a ≡ b)
+    → IsTreeOf ds ms → ms ≡ module_tree (first_module_of design) ∷ []
+    → OneSource → ((a b : PureModule) → module_tree a ≡ module_tree b → a ≡ b)
     → false ≡ is_accepted (first_of model map design)
-    → (f : First) → ¬ IsCaseOf m p d f
-not_accepted m p d model map design is_model is_map is_design one refused f case =
+    → (f : First) → ¬ IsCaseOf m p ds f
+not_accepted m p ds ms model map design is_model is_map is_tree is_design one_source one_module refused f case =
     let same_model : first_model_of model ≡ f.model = some_same _ _ (is_model ∙ case.is_model) in
     let same_map : map_of map ≡ f.map = some_same _ _ (is_map ∙ case.is_map) in
-    let same_design : first_module_of design ≡ f.design = one d _ _ is_design case.is_design in
+    let same_tree : module_tree (first_module_of design) ∷ [] ≡ module_tree f.design ∷ [] =
+    sym is_design ∙ one_tree one_source ds ms (module_tree f.design ∷ []) is_tree case.is_design in
+    let same_design : first_module_of design ≡ f.design =
+    one_module (first_module_of design) f.design (one_of_list (module_tree (first_module_of design)) (module_tree f.design) same_tree) in
     let same : first_of model map design ≡ f = λ i. record { model = same_model i; map = same_map i; design = same_design i } in
     clash (refused ∙ ap is_accepted same ∙ case.accepted)
   where
@@ -58,33 +88,48 @@ not_accepted m p d model map design is_model is_map is_design one refused f case
         pick true = ⊥
         pick false = Unit {0}
 
+-- Files whose tree is a module of the profile, accepted with the model and the map, are a case.
+pub is_case : (m p : List ℕ) (ds : List (List ℕ)) (ms : Source) (f : First) → model_of_bytes m ≡ Some f.model → map_of_bytes p ≡ Some f.map → length ds ≡ 1
+    → IsTreeOf ds ms → ms ≡ module_tree f.design ∷ [] → IsWithinProfile f.design → is_accepted f ≡ true → IsCaseOf m p ds f
+is_case m p ds ms f is_model is_map count is_tree is_design within accepted = record {
+  is_model = is_model;
+  is_map = is_map;
+  one_design = count;
+  is_design = subst (λ (xs : Source). IsTreeOf ds xs) is_design is_tree;
+  is_within = within;
+  accepted = accepted;
+}
+
 -- a report of a case answers the check of its files
-pub answered : (m p d : List ℕ) (f : First) (status : Status) (text : List ℕ) → IsCaseOf m p d f → refusing_kind (m ∷ p ∷ d ∷ []) ≡ None
-    → IsReported f status text → IsChecked (m ∷ p ∷ d ∷ []) status text
-answered m p d f Done text case unbroken reported = (f, case, reported, unbroken)
-answered m p d f Failed text case unbroken reported = (f, case, reported, unbroken)
-answered m p d f Usage text case unbroken reported = absurd reported
-answered m p d f Refused text case unbroken reported = absurd reported
-answered m p d f ReadFault text case unbroken reported = absurd reported
-answered m p d f WriteFault text case unbroken reported = absurd reported
-answered m p d f NoMemory text case unbroken reported = absurd reported
-answered m p d f Limit text case unbroken reported = absurd reported
+pub answered : (m p : List ℕ) (ds : List (List ℕ)) (f : First) (status : Status) (text : List ℕ) → IsCaseOf m p ds f → IsKind m ds None
+    → IsReported f status text → IsChecked (m ∷ p ∷ ds) status text
+answered m p ds f Done text case unbroken reported = (f, case, reported, unbroken)
+answered m p ds f Failed text case unbroken reported = (f, case, reported, unbroken)
+answered m p ds f Usage text case unbroken reported = absurd reported
+answered m p ds f Refused text case unbroken reported = absurd reported
+answered m p ds f ReadFault text case unbroken reported = absurd reported
+answered m p ds f WriteFault text case unbroken reported = absurd reported
+answered m p ds f NoMemory text case unbroken reported = absurd reported
+answered m p ds f Limit text case unbroken reported = absurd reported
 
--- a refusal for no kind, and one by a kind
-pub refused_by_none : (m p d : List ℕ) (o : Option (List ℕ)) (text : List ℕ) → o ≡ None → ((f : First) → ¬ IsCaseOf m p d f)
-    → IsRefusal text → IsRefused (m ∷ p ∷ d ∷ []) o text
-refused_by_none m p d o text is no_case refusal = subst (λ r. IsRefused (m ∷ p ∷ d ∷ []) r text) (sym is) (no_case, refusal)
+-- the kind that refuses: of the model file, of the Verilog files' text, of their tokens, none
+pub kind_of_model : (m : List ℕ) (ds : List (List ℕ)) (rule : ModelRule) → ◌≡◌ {A = Option ModelRule} (Some rule) (refusal_in (reading_of m)) → IsKind m ds (Some (rule_name rule))
+unfolding IsKind
+kind_of_model m ds rule is = subst (λ (o : Option ModelRule). IsFirstKind o (tokens_in ds) (Some (rule_name rule))) is refl
 
-pub refused_by_kind : (contents : List (List ℕ)) (o : Option (List ℕ)) (kind : List ℕ) (text : List ℕ) → o ≡ Some kind
-    → IsRefusalBy kind text → IsRefused contents o text
-refused_by_kind contents o kind text is refusal = subst (λ r. IsRefused contents r text) (sym is) refusal
+first_kind_by : (m : List ℕ) (ds : List (List ℕ)) (o : Result (List Token) Refusal) (kind : Option (List ℕ)) → refusal_in (reading_of m) ≡ None → tokens_in ds ≡ o
+    → IsKindOfText o kind → IsKind m ds kind
+unfolding IsKind
+first_kind_by m ds o kind unbroken is h =
+    subst (λ (r : Option ModelRule). IsFirstKind r (tokens_in ds) kind) (sym unbroken)
+    (subst (λ (t : Result (List Token) Refusal). IsKindOfText t kind) (sym is) h)
 
--- the kind that refuses: of the model file, of the Verilog file, none
-pub kind_of_model : (m p d : List ℕ) (rule : ModelRule) → ◌≡◌ {A = Option ModelRule} (Some rule) (refusal_in (reading_of m)) → refusing_kind (m ∷ p ∷ d ∷ []) ≡ Some (rule_name rule)
-unfolding refused_by
-kind_of_model m p d rule is = ap (λ o. first_kind o (kind_of_text (tokens_in (d ∷ [])))) (sym is)
+pub kind_of_text : (m : List ℕ) (ds : List (List ℕ)) (r : Refusal) → refusal_in (reading_of m) ≡ None → tokens_in ds ≡ Err r → IsKind m ds (Some (text_kind r))
+kind_of_text m ds r unbroken is = first_kind_by m ds (Err r) (Some (text_kind r)) unbroken is refl
 
-pub kind_of_design : (m p d : List ℕ) (o : Result (List Token) Refusal) → refusal_in (reading_of m) ≡ None → tokens_in (d ∷ []) ≡ o
-    → refusing_kind (m ∷ p ∷ d ∷ []) ≡ kind_of_text o
-unfolding refused_by
-kind_of_design m p d o unbroken is = ap (λ r. first_kind r (kind_of_text (tokens_in (d ∷ [])))) unbroken ∙ ap kind_of_text is
+pub kind_of_tokens : (m : List ℕ) (ds : List (List ℕ)) (text : List Token) → refusal_in (reading_of m) ≡ None → tokens_in ds ≡ Ok text
+    → ((ms : Source) → ¬ IsSource ms text) → IsKind m ds (Some (codes "V6 Syntax"))
+kind_of_tokens m ds text unbroken is none = first_kind_by m ds (Ok text) (Some (codes "V6 Syntax")) unbroken is (refl, none)
+
+pub no_kind : (m : List ℕ) (ds : List (List ℕ)) (text : List Token) (ms : Source) → refusal_in (reading_of m) ≡ None → tokens_in ds ≡ Ok text → IsSource ms text → IsKind m ds None
+no_kind m ds text ms unbroken is source = first_kind_by m ds (Ok text) None unbroken is (ms, source)

@@ -6,10 +6,9 @@ use Rattle.std.specs.declared.option.Option.{Option}
 use Rattle.std.specs.Option.{option_map}
 use Rattle.wb_meaning.specs.Value.{Name}
 use Rattle.wb_outside.specs.Outside.{with_appended, GrewByPrefix, AreStartsOf}
-use Rattle.wb_meaning.specs.Term.{some_if}
 use Rattle.wb_top.specs.declared.verb.Verb.{Verb}
 use Rattle.wb_top.specs.declared.verb.Verb.TheVariants.{Check, Simulate}
-use Rattle.wb_top.specs.Words.{Command, command_of, file_count}
+use Rattle.wb_top.specs.Words.{Command, command_of}
 use Rattle.std.proofs.lemmas.Bool.Decides.{nat_tests}
 use Rattle.wb_top.specs.Files.{most_bytes, has_fitting_length, first_long, AreHeld}
 use Rattle.wb_top.specs.Simulated.{Pair, runs, refused, pair_of, IsSimulated, AreSimulated}
@@ -204,37 +203,6 @@ asks_option o c h = sym h
 
 pub asks_for : (words : List Name) (c : Command) → ◌≡◌ {A = Option Command} (Some c) (command_of words) → AsksFor words c.verb c.files
 asks_for words c h = record { command = c; is_command = asks_option (command_of words) c h; is_verb = refl; are_names = refl }
-
-no_command : {c : Command} → ◌≡◌ {A = Option Command} None (Some c) → ⊥
-no_command h = subst is_none h tt
-  where
-    is_none : Option Command → Type 0
-    is_none None = Unit {0}
-    is_none (Some x) = ⊥
-
--- as many files as the command reads
-counted : (b : Bool) (verb : Verb) (files : List Name) → length files ≡ file_count verb → (c : Command)
-    → some_if b (record { verb = verb; files = files }) ≡ Some c → length c.files ≡ file_count c.verb
-counted true verb files count c is = subst (λ c. length c.files ≡ file_count c.verb) (some_same _ _ is) count
-  where
-    some_same : (x y : Command) → ◌≡◌ {A = Option Command} (Some x) (Some y) → x ≡ y
-    some_same x y h = ap (λ o. value_or x o) h
-      where
-        value_or : Command → Option Command → Command
-        value_or z None = z
-        value_or z (Some w) = w
-counted false verb files count c is = absurd (no_command is)
-
-pub files_counted : (words : List Name) (c : Command) → command_of words ≡ Some c → length c.files ≡ file_count c.verb
-files_counted [] c is = absurd (no_command is)
-files_counted (a ∷ []) c is = absurd (no_command is)
-files_counted (a ∷ b ∷ []) c is = absurd (no_command is)
-files_counted (a ∷ b ∷ d ∷ []) c is = absurd (no_command is)
-files_counted (a ∷ b ∷ d ∷ e ∷ []) c is = absurd (no_command is)
-files_counted (a ∷ b ∷ d ∷ e ∷ f ∷ []) c is = absurd (no_command is)
-files_counted (a ∷ b ∷ d ∷ e ∷ f ∷ g ∷ []) c is = counted _ Simulate _ refl c is
-files_counted (a ∷ b ∷ d ∷ e ∷ f ∷ g ∷ h ∷ []) c is = counted _ Check _ refl c is
-files_counted (a ∷ b ∷ d ∷ e ∷ f ∷ g ∷ h ∷ x ∷ xs) c is = absurd (no_command is)
 
 pub wanted_by : (words : List Name) (verb : Verb) (names : List Name) → AsksFor words verb names → wanted_names (command_of words) ≡ names
 wanted_by words verb names asks = ap wanted_names asks.is_command ∙ sym asks.are_names

@@ -1,12 +1,15 @@
--- How files are refused, and which model, map and module the bytes of three files stand for in the first profile.
+-- How files are refused, and which model, map and module the bytes of files stand for in the first profile.
 use Rattle.std.specs.Prelude.{◌≡◌, ℕ, suc, Bool, cond, nat_le, List, [], ◌∷◌, length, map, Option, Some, None, Result, Ok, Err, codes, IfSome, IsTrue}
 use Rattle.wb_meaning.specs.Value.{Name}
 use Rattle.wb_meaning.specs.ModelFile.Meaning.{ModelRule, reading_of}
 use Rattle.wb_meaning.specs.Verilog.Token.{Token}
 use Rattle.wb_meaning.specs.Verilog.Text.{Refusal, not_text, bad_token, bad_directive, unsupported, too_deep, tokens_in}
+use Rattle.wb_meaning.specs.Verilog.Syntax.{Source}
+use Rattle.wb_meaning.specs.Verilog.Grammar.{IsSource, IsTreeOf}
 use Rattle.ila_rules.specs.Rule.{rule_name}
 use Rattle.ila_json.specs.Reading.{refusal_in}
-use Rattle.first_text.specs.Spelling.{IsFirstText}
+use Rattle.first_text.specs.Tree.{module_tree}
+use Rattle.first_tree.specs.Profile.{IsWithinProfile}
 use Rattle.first_json.specs.MapFile.{map_of_bytes}
 use Rattle.first_json.specs.ModelFile.{model_of_bytes}
 use Rattle.wb_first.specs.Names.{First}
@@ -32,33 +35,39 @@ text_kind bad_directive = codes "V3 BadDirective"
 text_kind unsupported = codes "V4 Unsupported"
 text_kind too_deep = codes "V5 TooDeep"
 
-abbrev pub kind_of_text : Result (List Token) Refusal → Option (List ℕ)
-kind_of_text (Ok tokens) = None
-kind_of_text (Err r) = Some (text_kind r)
+-- The kind by which the tokens of Verilog files are refused, if there is one: the files have no tokens, or the tokens have no tree.
+abbrev pub IsKindOfText : Result (List Token) Refusal → Option (List ℕ) → Type 0
+IsKindOfText (Err r) kind = kind ≡ Some (text_kind r)
+IsKindOfText (Ok tokens) (Some kind) = (kind ≡ codes "V6 Syntax") × ((ms : Source) → ¬ IsSource ms tokens)
+IsKindOfText (Ok tokens) None = (ms : Source) × IsSource ms tokens
 
-abbrev pub first_kind : Option ModelRule → Option (List ℕ) → Option (List ℕ)
-first_kind (Some rule) kind = Some (rule_name rule)
-first_kind None kind = kind
+-- The first kind: a rule that the model file breaks comes before all that refuses the Verilog files.
+abbrev pub IsFirstKind : Option ModelRule → Result (List Token) Refusal → Option (List ℕ) → Type 0
+IsFirstKind (Some rule) tokens kind = kind ≡ Some (rule_name rule)
+IsFirstKind None tokens kind = IsKindOfText tokens kind
 
--- the first kind that refuses a model file or a Verilog file, in this order
-unfoldable pub refused_by : (model_bytes design_bytes : List ℕ) → Option (List ℕ)
-refused_by m d = first_kind (refusal_in (reading_of m)) (kind_of_text (tokens_in (d ∷ [])))
+-- the first kind that refuses a model file or the Verilog files, if there is one
+unfoldable pub IsKind : (model_bytes : List ℕ) → (designs : List (List ℕ)) → Option (List ℕ) → Type 0
+IsKind m ds kind = IsFirstKind (refusal_in (reading_of m)) (tokens_in ds) kind
 
--- of the three files of a check
-abbrev pub refusing_kind : List (List ℕ) → Option (List ℕ)
-refusing_kind (m ∷ p ∷ d ∷ []) = refused_by m d
-refusing_kind _ = None
+-- of the files of a check
+abbrev pub IsRefusingKind : List (List ℕ) → Option (List ℕ) → Type 0
+IsRefusingKind (m ∷ p ∷ ds) kind = IsKind m ds kind
+IsRefusingKind _ kind = ⊥
 
--- The bytes stand for this model, this map and this module, which the profile accepts together.
-pub record IsCaseOf (model_bytes map_bytes design_bytes : List ℕ) (f : First) : Type 0 where
+-- The bytes stand for this model, this map and this module, which the profile accepts together: there is one Verilog file, and its
+-- tree is the module's alone.
+pub record IsCaseOf (model_bytes map_bytes : List ℕ) (designs : List (List ℕ)) (f : First) : Type 0 where
   pub is_model : model_of_bytes model_bytes ≡ Some f.model
   pub is_map : map_of_bytes map_bytes ≡ Some f.map
-  pub is_design : IsFirstText design_bytes f.design
+  pub one_design : length designs ≡ 1
+  pub is_design : IsTreeOf designs (module_tree f.design ∷ [])
+  pub is_within : IsWithinProfile f.design
   pub accepted : IsTrue (is_accepted f)
 
--- of three files in their order
+-- of the files of a check in their order
 abbrev pub IsCase : List (List ℕ) → First → Type 0
-IsCase (m ∷ p ∷ d ∷ []) f = IsCaseOf m p d f
+IsCase (m ∷ p ∷ ds) f = IsCaseOf m p ds f
 IsCase _ f = ⊥
 
 -- These are the bytes under these names, where it is told what is held.

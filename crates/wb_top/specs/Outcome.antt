@@ -8,7 +8,7 @@ use Rattle.wb_first.specs.Names.{First, setting_of}
 use Rattle.wb_top.specs.declared.verb.Verb.{Verb}
 use Rattle.wb_top.specs.declared.verb.Verb.TheVariants.{Check, Simulate}
 use Rattle.wb_top.specs.Words.{Command, command_of}
-use Rattle.wb_top.specs.Files.{first_long, refusing_kind, IsCase, AreHeld}
+use Rattle.wb_top.specs.Files.{first_long, IsRefusingKind, IsCase, AreHeld}
 use Rattle.wb_top.specs.Simulated.{AreSimulated}
 use Rattle.wb_top.specs.Texts.{usage_text, limit_text, IsRefusalBy, IsRefusal}
 use Rattle.wb_top.specs.declared.status.Status.{Status}
@@ -20,7 +20,7 @@ IsReported f Done text = IsReport (setting_of f) text false × EveryRunRefines (
 IsReported f Failed text = IsReport (setting_of f) text true
 IsReported f _ text = ⊥
 
--- Refused: by the first kind that refuses the model file or the Verilog file; where none does, the files stand for no case of the
+-- Refused: by the first kind that refuses the model file or the Verilog files; where none does, the files stand for no case of the
 -- profile.
 abbrev pub IsRefused : List (List ℕ) → Option (List ℕ) → List ℕ → Type 0
 IsRefused contents (Some kind) text = IsRefusalBy kind text
@@ -28,8 +28,8 @@ IsRefused contents None text = ((f : First) → ¬ IsCase contents f) × IsRefus
 
 -- A check of these files, and its text.
 abbrev pub IsChecked : List (List ℕ) → Status → List ℕ → Type 0
-IsChecked contents Refused text = IsRefused contents (refusing_kind contents) text
-IsChecked contents status text = (f : First) × IsCase contents f × IsReported f status text × (refusing_kind contents ≡ None)
+IsChecked contents Refused text = (kind : Option (List ℕ)) × IsRefusingKind contents kind × IsRefused contents kind text
+IsChecked contents status text = (f : First) × IsCase contents f × IsReported f status text × IsRefusingKind contents None
 
 -- what a command ends with on files of which none is too long
 abbrev pub IsEnd : Verb → List (List ℕ) → Status → List ℕ → Type 0

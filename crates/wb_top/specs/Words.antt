@@ -1,7 +1,7 @@
 -- The words of a command, and the files that it names.
-use Rattle.std.specs.Prelude.{ℕ, Bool, false, not, ◌&&◌, ◌==◌, List, [], ◌∷◌, Option, None, codes}
-use Rattle.wb_meaning.specs.Value.{Name, same_name}
-use Rattle.wb_meaning.specs.Term.{some_if}
+use Rattle.std.specs.Prelude.{ℕ, Bool, ◌==◌, nat_le, List, [], ◌∷◌, Option, option_map}
+use Rattle.wb_meaning.specs.Value.{Name}
+use Rattle.wb_words.specs.Requests.{Request, check, simulate, request_of}
 use Rattle.wb_top.specs.declared.verb.Verb.{Verb}
 use Rattle.wb_top.specs.declared.verb.Verb.TheVariants.{Check, Simulate}
 
@@ -10,29 +10,16 @@ pub record Command : Type 0 where
   pub verb : Verb
   pub files : List Name
 
--- how many files a command reads
-abbrev pub file_count : Verb → ℕ
-file_count Check = 3
-file_count Simulate = 2
+-- A check reads the model file, the map file and each Verilog file; a simulation the model file and the script.
+abbrev pub command_for : Request → Command
+command_for (check model map budget designs) = record { verb = Check; files = model ∷ map ∷ designs }
+command_for (simulate model script) = record { verb = Simulate; files = model ∷ script ∷ [] }
 
-abbrev pub begins_with_dash : Name → Bool
-begins_with_dash [] = false
-begins_with_dash (b ∷ bs) = b == 45
-
-abbrev pub is_file_name : Name → Bool
-is_file_name n = not (begins_with_dash n)
-
--- The command that words ask for: behind the program's name `check --model M --map P V` or `simulate --model M --script S`,
--- where no file's name begins with `-`.
+-- the command that words ask for
 abbrev pub command_of : List Name → Option Command
-command_of (program ∷ command ∷ first ∷ model ∷ second ∷ map ∷ design ∷ []) =
-    some_if
-    ((same_name command (codes "check") && same_name first (codes "--model") && same_name second (codes "--map"))
-    && (is_file_name model && is_file_name map && is_file_name design))
-    (record { verb = Check; files = model ∷ map ∷ design ∷ [] })
-command_of (program ∷ command ∷ first ∷ model ∷ second ∷ script ∷ []) =
-    some_if
-    ((same_name command (codes "simulate") && same_name first (codes "--model") && same_name second (codes "--script"))
-    && (is_file_name model && is_file_name script))
-    (record { verb = Simulate; files = model ∷ script ∷ [] })
-command_of _ = None
+command_of words = option_map command_for (request_of words)
+
+-- whether a command reads so many files
+abbrev pub is_file_count : Verb → ℕ → Bool
+is_file_count Check n = nat_le 3 n
+is_file_count Simulate n = n == 2

@@ -1,9 +1,9 @@
 //! The answer to a command on files that were read.
 
-ghost use Rattle.std.specs.Prelude.{◌≡◌, ◌∷◌, [], IfOk, map, length};
+ghost use Rattle.std.specs.Prelude.{◌∷◌, IfOk, IsTrue, map, length};
 ghost use Rattle.wb_first.specs.CaseView.{case_of};
 ghost use Rattle.wb_top.specs.Files.{first_long};
-ghost use Rattle.wb_top.specs.Words.{file_count};
+ghost use Rattle.wb_top.specs.Words.{is_file_count};
 ghost use Rattle.wb_top.specs.Outcome.{IsAnswer, IsEnd, IsChecked, IsReported};
 
 use crate::judged::{Judged, judge};
@@ -11,7 +11,7 @@ use crate::length::first_long;
 use crate::simulation::simulated;
 use crate::status::Status;
 use crate::stop::NoMemory;
-use crate::texts::{limit, refusal, refusal_by, refusal_of_text};
+use crate::texts::{limit, refusal, refusal_by, refusal_of_text, refusal_of_tree};
 use crate::verb::Verb;
 use first_report::check;
 use std::alloc::Global;
@@ -27,7 +27,7 @@ pub(crate) struct Outcome {
 /// The answer to a command on the contents of its files, in the order in which they were read. Of a file that is too long the
 /// first bytes past the limit are enough.
 pub(crate) fn answer(alloc: Global, verb: Verb, contents: &[Vec<u8>]) -> Result<Outcome, NoMemory>
-    requires { length contents.now ≡ file_count verb }
+    requires { IsTrue (is_file_count verb (length contents.now)) }
     ensures { IfOk result (λ o. IsAnswer verb (map (λ bytes. bytes.items) contents.now) o.status o.text.items) }
 {
     match first_long(contents) {
@@ -47,12 +47,12 @@ pub(crate) fn answer(alloc: Global, verb: Verb, contents: &[Vec<u8>]) -> Result<
 
 /// The answer to a command on files of which none is too long.
 fn ended(alloc: Global, verb: Verb, contents: &[Vec<u8>]) -> Result<Outcome, NoMemory>
-    requires { length contents.now ≡ file_count verb }
+    requires { IsTrue (is_file_count verb (length contents.now)) }
     ensures { IfOk result (λ o. IsEnd verb (map (λ bytes. bytes.items) contents.now) o.status o.text.items) }
 {
     match verb {
         Verb::Check => match contents {
-            [model, map, design] => checked(alloc, model, map, design),
+            [model, map, designs @ ..] => checked(alloc, model, map, designs),
             _ => unreachable!(),
         },
         Verb::Simulate => match contents {
@@ -62,10 +62,15 @@ fn ended(alloc: Global, verb: Verb, contents: &[Vec<u8>]) -> Result<Outcome, NoM
     }
 }
 
-fn checked(alloc: Global, model: &[u8], map: &[u8], design: &Vec<u8>) -> Result<Outcome, NoMemory>
-    ensures { IfOk result (λ o. IsChecked (model.now ∷ map.now ∷ design.now.items ∷ []) o.status o.text.items) }
+fn checked(
+    alloc: Global,
+    model: &[u8],
+    map_file: &[u8],
+    designs: &[Vec<u8>],
+) -> Result<Outcome, NoMemory>
+    ensures { IfOk result (λ o. IsChecked (model.now ∷ map_file.now ∷ map (λ d. d.items) designs.now) o.status o.text.items) }
 {
-    match judge(alloc, model, map, design)? {
+    match judge(alloc, model, map_file, designs)? {
         Judged::Case(case) => {
             let outcome = reported(alloc, &case)?;
             Ok(outcome)
@@ -86,6 +91,13 @@ fn checked(alloc: Global, model: &[u8], map: &[u8], design: &Vec<u8>) -> Result<
         }
         Judged::RefusedText(broken) => {
             let text = refusal_of_text(alloc, &broken)?;
+            Ok(Outcome {
+                status: Status::Refused,
+                text,
+            })
+        }
+        Judged::RefusedTree(note) => {
+            let text = refusal_of_tree(alloc, &note)?;
             Ok(Outcome {
                 status: Status::Refused,
                 text,

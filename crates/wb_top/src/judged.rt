@@ -1,22 +1,30 @@
-//! Whether three files are a case of the first profile, and which kind refuses the model file or the Verilog file.
+//! Whether files are a case of the first profile, and which kind refuses the model file or the Verilog files.
 
-ghost use Rattle.std.specs.Prelude.{◌≡◌, None, IfOk, IfSome, IfNone};
+ghost use Rattle.std.specs.Prelude.{◌≡◌, ◌∷◌, [], None, Ok, IfOk, IfSome, IfNone, map};
 ghost use Rattle.wb_meaning.specs.ModelFile.Meaning.{reading_of};
-ghost use Rattle.first_text.specs.Tree.{FirstModule as PureModule};
-ghost use Rattle.first_text.specs.Spelling.{IsFirstText};
+ghost use Rattle.wb_meaning.specs.Verilog.Text.{tokens_in};
+ghost use Rattle.wb_meaning.specs.Verilog.Grammar.{IsTreeOf};
+ghost use Rattle.first_text.specs.Tree.{FirstModule as PureModule, module_tree};
 ghost use Rattle.first_text.specs.View.{first_module_of};
+ghost use Rattle.first_tree.specs.Profile.{IsWithinProfile};
 ghost use Rattle.ila_json.specs.Reading.{refusal_in};
+ghost use Rattle.v_token.specs.View.{tokens_of};
+ghost use Rattle.v_syntax.specs.Source.{source_of};
 ghost use Rattle.wb_top.specs.Judged.{IsJudged, IsInProfile};
 
 use crate::stop::NoMemory;
 use first_accept::accept;
 use first_json::{read_map, read_model};
-use first_text::{FirstModule, one_tree, read_text};
+use first_text::FirstModule;
+use first_tree::{first_module, one_module};
 use ila_json::model_refusal;
 use ila_rules::ModelRefusal;
 use std::alloc::{AllocError, Global};
-use std::slice;
-use v_lex::{LexRefusal, LexStop, tokens};
+use v_lex::{LexRefusal, LexStop, Note, note_at, tokens};
+use v_parse::laws::one_source;
+use v_parse::{ParseStop, parse};
+use v_syntax::module::Tree;
+use v_token::token::Token;
 use wb_first::FirstCase;
 
 /// Where files leave the profile.
@@ -28,6 +36,8 @@ pub(crate) enum Place {
     Map,
     /// In the Verilog file.
     Design,
+    /// There is more than one Verilog file.
+    Designs,
     /// Each is in the profile, and together they are not.
     Together,
 }
@@ -39,63 +49,106 @@ pub(crate) enum Judged {
     Outside(Place),
     /// The model file breaks a rule.
     Refused(ModelRefusal),
-    /// The Verilog file's text is refused.
+    /// The text of the Verilog files is refused.
     RefusedText(LexRefusal),
+    /// The tokens of the Verilog files have no tree.
+    RefusedTree(Note),
 }
 
-/// Judges the bytes of a model file, a map file and a Verilog file.
+/// Judges the bytes of a model file, a map file and Verilog files.
 pub(crate) fn judge(
     alloc: Global,
     model: &[u8],
-    map: &[u8],
-    design: &Vec<u8>,
+    map_file: &[u8],
+    designs: &[Vec<u8>],
 ) -> Result<Judged, NoMemory>
-    ensures { IfOk result (IsJudged model.now map.now design.now.items) }
+    ensures { IfOk result (IsJudged model.now map_file.now (map (λ d. d.items) designs.now)) }
 {
     match model_refusal(alloc, model)? {
         Some(refusal) => Ok(Judged::Refused(refusal)),
-        None => of_text(alloc, model, map, design),
+        None => of_text(alloc, model, map_file, designs),
     }
 }
 
 /// Judges the bytes of files whose model file breaks no rule.
-fn of_text(alloc: Global, model: &[u8], map: &[u8], design: &Vec<u8>) -> Result<Judged, NoMemory>
+fn of_text(
+    alloc: Global,
+    model: &[u8],
+    map_file: &[u8],
+    designs: &[Vec<u8>],
+) -> Result<Judged, NoMemory>
     requires { refusal_in (reading_of model.now) ≡ None }
-    ensures { IfOk result (IsJudged model.now map.now design.now.items) }
+    ensures { IfOk result (IsJudged model.now map_file.now (map (λ d. d.items) designs.now)) }
 {
-    match tokens(alloc, slice::from_ref(design)) {
-        Ok(_) => in_profile(alloc, model, map, design),
+    match tokens(alloc, designs) {
+        Ok(tokens) => of_tokens(alloc, model, map_file, designs, &tokens),
         Err(LexStop::Refused(refusal)) => Ok(Judged::RefusedText(refusal)),
         Err(LexStop::NoMemory) => Err(AllocError),
     }
 }
 
-/// Judges the bytes of files whose model file breaks no rule, and whose Verilog file has tokens.
-fn in_profile(alloc: Global, model: &[u8], map: &[u8], design: &[u8]) -> Result<Judged, NoMemory>
-    ensures { IfOk result (IsInProfile model.now map.now design.now) }
+/// Judges the bytes of files whose model file breaks no rule, and whose Verilog files have these tokens.
+fn of_tokens(
+    alloc: Global,
+    model: &[u8],
+    map_file: &[u8],
+    designs: &[Vec<u8>],
+    tokens: &[Token<'_>],
+) -> Result<Judged, NoMemory>
+    requires unbroken { refusal_in (reading_of model.now) ≡ None }
+    requires are_tokens { tokens_in (map (λ d. d.items) designs.now) ≡ Ok (tokens_of tokens.now) }
+    ensures { IfOk result (IsJudged model.now map_file.now (map (λ d. d.items) designs.now)) }
 {
-    let Some(model) = read_model(alloc, model)? else {
-        return Ok(Judged::Outside(Place::Model));
-    };
-    let Some(map) = read_map(alloc, map)? else {
-        return Ok(Judged::Outside(Place::Map));
-    };
-    let Some(design) = design_of(alloc, design)? else {
-        return Ok(Judged::Outside(Place::Design));
-    };
-    one_tree();
-    match accept(alloc, model, map, design)? {
-        Some(case) => Ok(Judged::Case(case)),
-        None => Ok(Judged::Outside(Place::Together)),
+    match parse(alloc, tokens) {
+        Ok(tree) => in_profile(alloc, model, map_file, designs, &tree),
+        Err(ParseStop::Refused(left)) => {
+            let token = tokens.get(tokens.len().saturating_sub(left)).copied();
+            match note_at(alloc, designs, token) {
+                Some(note) => Ok(Judged::RefusedTree(note)),
+                None => Err(AllocError),
+            }
+        }
+        Err(ParseStop::NoMemory) => Err(AllocError),
     }
 }
 
-/// The module of a text, where the text is in the profile.
-fn design_of(alloc: Global, text: &[u8]) -> Result<Option<FirstModule>, NoMemory>
-    ensures read { IfOk result (λ o. IfSome o (λ m. IsFirstText text.now (first_module_of m))) }
-    ensures refused { IfOk result (λ o. IfNone o ((m : PureModule) → ¬ IsFirstText text.now m)) }
+/// Judges the bytes of files whose model file breaks no rule, and whose Verilog files have this tree.
+fn in_profile(
+    alloc: Global,
+    model: &[u8],
+    map_file: &[u8],
+    designs: &[Vec<u8>],
+    tree: &Tree<'_>,
+) -> Result<Judged, NoMemory>
+    requires { IsTreeOf (map (λ d. d.items) designs.now) (source_of tree.now) }
+    ensures { IfOk result (IsInProfile model.now map_file.now (map (λ d. d.items) designs.now)) }
 {
-    match read_text(alloc, text) {
+    if designs.len() != 1 {
+        return Ok(Judged::Outside(Place::Designs));
+    }
+    let Some(model) = read_model(alloc, model)? else {
+        return Ok(Judged::Outside(Place::Model));
+    };
+    let Some(map) = read_map(alloc, map_file)? else {
+        return Ok(Judged::Outside(Place::Map));
+    };
+    one_source();
+    one_module();
+    match design_of(alloc, tree)? {
+        Some(design) => match accept(alloc, model, map, design)? {
+            Some(case) => Ok(Judged::Case(case)),
+            None => Ok(Judged::Outside(Place::Together)),
+        },
+        None => Ok(Judged::Outside(Place::Design)),
+    }
+}
+
+/// The module of the profile that a tree is, if it is one.
+fn design_of(alloc: Global, tree: &Tree<'_>) -> Result<Option<FirstModule>, NoMemory>
+    ensures read { IfOk result (λ o. IfSome o (λ m. (source_of tree.now ≡ module_tree (first_module_of m) ∷ []) × IsWithinProfile (first_module_of m))) }
+    ensures refused { IfOk result (λ o. IfNone o ((m : PureModule) → IsWithinProfile m → ¬ (source_of tree.now ≡ module_tree m ∷ []))) }
+{
+    match first_module(alloc, tree) {
         Ok(module) => Ok(module),
         Err(_) => Err(AllocError),
     }

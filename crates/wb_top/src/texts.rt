@@ -13,7 +13,7 @@ use ila_rules::ModelRefusal;
 use ila_sim::ScriptRefusal;
 use itoa::Buffer;
 use std::alloc::Global;
-use v_lex::{LexKind, LexRefusal};
+use v_lex::{LexKind, LexRefusal, Note};
 
 /// The text for words that ask for nothing that the program does.
 pub(crate) fn usage(alloc: Global) -> Result<Vec<u8>, NoMemory>
@@ -63,6 +63,13 @@ pub(crate) fn refusal_of_text(alloc: Global, broken: &LexRefusal) -> Result<Vec<
     )
 }
 
+/// The text for Verilog files whose tokens have no tree.
+pub(crate) fn refusal_of_tree(alloc: Global, note: &Note) -> Result<Vec<u8>, NoMemory>
+    ensures { IfOk result (λ text. IsRefusalBy (codes "V6 Syntax") text.items) }
+{
+    refusal_text_by(alloc, b"V6 Syntax", note.as_bytes())
+}
+
 /// The name of a kind by which Verilog texts are refused.
 fn text_kind(kind: LexKind) -> &'static str
     ensures { result.now ≡ text_kind (refusal_of kind) }
@@ -101,6 +108,7 @@ fn refusal_text(place: Place) -> &'static [u8]
         Place::Model => b"refused N1 NotYet\nnote the model file\n",
         Place::Map => b"refused N1 NotYet\nnote the map file\n",
         Place::Design => b"refused N1 NotYet\nnote the Verilog file\n",
-        Place::Together => b"refused N1 NotYet\nnote the three files together\n",
+        Place::Designs => b"refused N1 NotYet\nnote more than one Verilog file\n",
+        Place::Together => b"refused N1 NotYet\nnote the files together\n",
     }
 }

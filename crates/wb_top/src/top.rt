@@ -14,8 +14,8 @@ use wb_outside::{Shelf, Sink};
 
 /// Does what the words ask for: reads the files that they name from the shelf, and writes the outcome's text by one write.
 ///
-/// The words are `PROGRAM check --model MODEL --map MAP VERILOG` or `PROGRAM simulate --model MODEL --script SCRIPT`; all others end
-/// with `Usage`.
+/// The words are `PROGRAM check --model MODEL --map MAP [--budget N] VERILOG..` or `PROGRAM simulate --model MODEL --script SCRIPT`;
+/// all others end with `Usage`.
 pub fn workbench<S: Shelf, K: Sink>(
     alloc: Global,
     words: &[String],

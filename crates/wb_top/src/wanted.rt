@@ -1,5 +1,8 @@
 //! A command and the files that it reads.
 
+ghost use Rattle.std.specs.Prelude.{IsTrue, length};
+ghost use Rattle.wb_top.specs.Words.{is_file_count};
+
 use crate::verb::Verb;
 
 /// What is asked for, and the names of the files in the order in which they are read.
@@ -7,4 +10,5 @@ use crate::verb::Verb;
 pub(crate) struct Wanted {
     pub(crate) verb: Verb,
     pub(crate) files: Vec<String>,
+    pub(crate) ghost counted: { IsTrue (is_file_count verb (length files.items)) },
 }

@@ -9,26 +9,20 @@ use wb_outside::MemSink;
 #[test]
 fn other_words_are_usage(rt: HostRuntime) -> Result<(), Fail> {
     let alloc = rt.alloc();
-    let rows: [&[&str]; 20] = [
+    let rows: [&[&str]; 12] = [
         &[],
         &["wb"],
+        &["wb", "--help"],
         &["wb", "check"],
         &["wb", "check", "--model", "m", "--map", "p"],
-        &["wb", "check", "--model", "m", "--map", "p", "v", "w"],
-        &["wb", "check", "--map", "p", "--model", "m", "v"],
-        &["wb", "check", "--model", "m", "p", "v"],
-        &["wb", "check", "--model=m", "--map=p", "v"],
+        &["wb", "check", "--model", "-m", "--map", "p", "v"],
+        &["wb", "check", "--models", "m", "--map", "p", "v"],
+        &[
+            "wb", "check", "--model", "m", "--map", "p", "--budget", "0", "v",
+        ],
         &["wb", "Check", "--model", "m", "--map", "p", "v"],
         &["wb", "simulate", "--model", "m", "--map", "p", "v"],
-        &["wb", "check", "--model", "-m", "--map", "p", "v"],
-        &["wb", "check", "--model", "m", "--map", "--", "v"],
-        &["wb", "check", "--model", "m", "--map", "p", "-"],
-        &["wb", "check", "--models", "m", "--map", "p", "v"],
         &["wb", "simulate", "--model", "m"],
-        &["wb", "simulate", "--model", "m", "--map", "s"],
-        &["wb", "simulate", "--script", "s", "--model", "m"],
-        &["wb", "simulate", "--model", "-", "--script", "s"],
-        &["wb", "simulate", "--model", "m", "--script", "--s"],
         &["wb", "check", "--model", "m", "--script", "s"],
     ];
     for (index, words) in rows.into_iter().enumerate() {
@@ -151,5 +145,52 @@ fn a_file_that_is_too_long_is_a_limit(rt: HostRuntime) -> Result<(), Fail> {
         assert_eq!(rt; ended.status, status, "row {index}");
         assert_eq!(rt; sink.bytes(), text.as_bytes(), "row {index}");
     }
+    Ok(())
+}
+
+/// Options stand in any order and form.
+#[test]
+fn words_in_another_order(rt: HostRuntime) -> Result<(), Fail> {
+    let alloc = rt.alloc();
+    let mut shelf = shelf_of(
+        alloc,
+        MODEL.as_bytes(),
+        MAP.as_bytes(),
+        DESIGN.as_bytes(),
+        &[],
+    )?;
+    let mut sink = MemSink::new(alloc, ROOM, Vec::new(alloc))?;
+    let words = owned(
+        alloc,
+        &["wb", "check", "v", "--budget=7", "--map=p", "--model", "m"],
+    )?;
+    let ended = workbench(alloc, &words, &mut shelf, &mut sink);
+    assert_eq!(rt; ended.status, Status::Done);
+    assert_eq!(rt; sink.bytes(), REPORT.as_bytes());
+    Ok(())
+}
+
+/// The profile has one Verilog file.
+#[test]
+fn two_designs_are_not_accepted_yet(rt: HostRuntime) -> Result<(), Fail> {
+    let alloc = rt.alloc();
+    let mut shelf = shelf_of(
+        alloc,
+        MODEL.as_bytes(),
+        MAP.as_bytes(),
+        DESIGN.as_bytes(),
+        &[],
+    )?;
+    let mut sink = MemSink::new(alloc, ROOM, Vec::new(alloc))?;
+    let words = owned(
+        alloc,
+        &["wb", "check", "--model", "m", "--map", "p", "v", "v"],
+    )?;
+    let ended = workbench(alloc, &words, &mut shelf, &mut sink);
+    assert_eq!(rt; ended.status, Status::Refused);
+    assert_eq!(rt;
+        sink.bytes(),
+        b"refused N1 NotYet\nnote more than one Verilog file\n".as_slice()
+    );
     Ok(())
 }

@@ -4,11 +4,11 @@ use Rattle.first_json.specs.View.{map_of}
 use Rattle.wb_top.proofs.Cases.{not_accepted}
 use Rattle.wb_top.proofs.judged.in_profile.Goals as goal
 
-pub returns-in-None : goal.returns-in-None
-returns-in-None c =
-    let design = rw c.in-Some-3.is at c.in_ok-design.ensures.read in
-    not_accepted _ _ _ c.in-Some.model c.in-Some-2.map c.in-Some-3.design
+pub returns-in-None-2 : goal.returns-in-None-2
+returns-in-None-2 c =
+    let read = rw c.in-Some-3.is at c.in_ok-design.ensures.read in
+    not_accepted _ _ _ _ c.in-Some.model c.in-Some-2.map c.in-Some-3.design
     (ap (option_map first_model_of) (sym c.in-Some.is) ∙ c.in_ok-model.ensures)
     (ap (option_map map_of) (sym c.in-Some-2.is) ∙ c.in_ok-map.ensures)
-    design c.one_tree.ensures
-    (ap is_some (sym c.in-None.is) ∙ c.in_ok-case.ensures.accepted)
+    c.requires read.0 c.one_source.ensures c.one_module.ensures
+    (ap is_some (sym c.in-None-2.is) ∙ c.in_ok-case-in-Some-3.ensures.accepted)

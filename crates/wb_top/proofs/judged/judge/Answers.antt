@@ -6,7 +6,7 @@ use Rattle.wb_top.proofs.judged.judge.Goals as goal
 
 pub returns-in-Some : goal.returns-in-Some
 returns-in-Some c =
-    kind_of_model c.args.model.now c.args.map.now c.args.design.now.items _ (ap (option_map (λ (r : ModelRefusal). rule_view r.rule)) (sym c.in-Some.is) ∙ c.in_ok-refusal.ensures)
+    kind_of_model c.args.model.now _ _ (ap (option_map (λ (r : ModelRefusal). rule_view r.rule)) (sym c.in-Some.is) ∙ c.in_ok-refusal.ensures)
 
 pub of_text-requires : goal.of_text-requires
 of_text-requires c = sym (ap (option_map (λ (r : ModelRefusal). rule_view r.rule)) (sym c.in-None.is) ∙ c.in_ok-refusal.ensures)

@@ -1,17 +1,15 @@
 use Rattle.std.proofs.Common.{◌≡◌, ◌∙◌, ap, sym, subst, List, map, length, string_bytes, String, Global, Some, option_map, Ok, Err, OnErr}
-use Rattle.std.proofs.lemmas.List.{length-map}
-use Rattle.wb_top.specs.Words.{command_of, file_count}
+use Rattle.wb_top.specs.Words.{command_of, is_file_count}
 use Rattle.wb_top.specs.Wanted.{command_view}
 use Rattle.wb_top.specs.Asked.{AskedSome}
-use Rattle.wb_top.proofs.Told.{AsksFor, asks_for, files_counted, asked_all, asked_some, asked_prefix, outcome_of_answer}
+use Rattle.wb_top.proofs.Told.{AsksFor, asks_for, asked_all, asked_some, asked_prefix, outcome_of_answer}
 use Rattle.wb_top.proofs.outcome.outcome.Goals as goal
 
 pub answer-requires : goal.answer-requires
 answer-requires g c =
-    let found = rw c.in-Some.is at c.in_ok-wanted.ensures in
-    let counted = files_counted (map string_bytes c.args.words.now) (command_view c.in-Some.wanted) (sym found) in
-    let named : length c.in-Some.wanted.files.items ≡ file_count c.in-Some.wanted.verb = sym (length-map c.in-Some.wanted.files.items string_bytes) ∙ counted in
-    ap length c.deref-in-Some.ensures.value ∙ c.in_ok-contents-in-Some.ensures.count ∙ ap length c.deref.ensures.value ∙ named
+    let count : length c.deref-in-Some.result.now ≡ length c.in-Some.wanted.files.items =
+    ap length c.deref-in-Some.ensures.value ∙ c.in_ok-contents-in-Some.ensures.count ∙ ap length c.deref.ensures.value in
+    ap (is_file_count c.in-Some.wanted.verb) count ∙ c.in-Some.wanted.counted
 
 pub returns-in_err-outcome-in-Some-clause-err_asked : goal.returns-in_err-outcome-in-Some-clause-err_asked
 returns-in_err-outcome-in-Some-clause-err_asked g c =

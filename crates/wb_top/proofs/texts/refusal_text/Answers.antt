@@ -11,4 +11,7 @@ pub returns-in-Design : goal.returns-in-Design
 returns-in-Design c = (codes "the Verilog file", record { short = lit≤ tt; one_line = refl }, refl)
 
 pub returns-in-Together : goal.returns-in-Together
-returns-in-Together c = (codes "the three files together", record { short = lit≤ tt; one_line = refl }, refl)
+returns-in-Together c = (codes "the files together", record { short = lit≤ tt; one_line = refl }, refl)
+
+pub returns-in-Designs : goal.returns-in-Designs
+returns-in-Designs c = (codes "more than one Verilog file", record { short = lit≤ tt; one_line = refl }, refl)

@@ -1,0 +1,7 @@
+use Rattle.std.proofs.Common.{◌≡◌, ◌∷◌, ◌++◌, map, drop, string_bytes, ℕ, List}
+use Rattle.wb_top.proofs.words.files_of_check.Given as goal
+
+abbrev pub invariant-loop-design : goal.invariant-loop-design
+invariant-loop-design l =
+    map string_bytes l.names.items ++ map (λ s. s.now) (drop l.design-index l.design-items)
+    ≡ l.check.model.now ∷ l.check.map.now ∷ map (λ s. s.now) l.check.designs.items
