@@ -13,6 +13,3 @@ mod stop;
 
 pub use source::parse;
 pub use stop::ParseStop;
-
-#[cfg(test)]
-mod tests;
