@@ -191,11 +191,9 @@ endmodule";
 #[test]
 fn a_file_that_is_cut_off(rt: HostRuntime) -> Result<(), Fail> {
     let bytes = COUNTER.as_bytes();
-    let mut length = 1;
-    while length < bytes.len() {
+    for length in 1..bytes.len() {
         let found = kind_of(rt.alloc(), &bytes[..length])?;
         assert_eq!(rt; found, Kind::Syntax, "{length}");
-        length += 1;
     }
     let whole = kind_of(rt.alloc(), bytes)?;
     assert_eq!(rt; whole, Kind::Tree);
