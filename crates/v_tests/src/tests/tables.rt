@@ -526,7 +526,7 @@ pub(super) const MORE_TEXTS: [(&str, Kind); 24] = [
     ),
 ];
 
-/// First values: constant expressions and what Icarus Verilog printed for their assignment to 32 bits.
+/// First values: constant expressions and what Icarus Verilog printed for their assignment to 32 bits; of `! ! 5`, `- - 7` and `~ - 1`, which it refuses, with brackets between the operators.
 pub(super) const FIRST_VALUES: [(&str, u128); 42] = [
     ("8 - 2 - 1", 5),
     ("2 + 3 * 4", 14),
@@ -572,7 +572,7 @@ pub(super) const FIRST_VALUES: [(&str, u128); 42] = [
     ("! ! 5", 1),
 ];
 
-/// More values: constant expressions and what Icarus Verilog printed for their assignment to 32 bits.
+/// More values: constant expressions and what Icarus Verilog printed for their assignment to 32 bits; of `! ! 5`, `- - 7` and `~ - 1`, which it refuses, with brackets between the operators.
 pub(super) const MORE_VALUES: [(&str, u128); 41] = [
     ("- - 7", 7),
     ("~ - 1", 0),
