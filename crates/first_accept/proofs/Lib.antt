@@ -1,6 +1,7 @@
 mod Actions
+mod Bits
 mod Widths
-mod UnderNames
+pub mod UnderNames
 mod Variables
 pub mod Rules
 pub mod NameTests

@@ -12,9 +12,9 @@ use Rattle.first_json.specs.declared.model.FirstInstruction.{FirstInstruction}
 use Rattle.first_json.specs.ModelView.{instruction_view}
 use Rattle.first_accept.proofs.NameTests.{instructions_are}
 use Rattle.wb_first.specs.Names.{First, blocks_among, sets, one_sets, is_set_among}
-use Rattle.wb_first.specs.Accepted.{entries_are_accepted, entry_names, instruction_names, is_accepted, is_accepted_map, is_accepted_module, no_children, has_one_block, set_names, all_set_names, read_names, is_among, all_names, is_target, is_read}
+use Rattle.wb_first.specs.Accepted.{entries_are_accepted, entry_names, instruction_names, is_accepted, is_accepted_map, is_accepted_module, is_accepted_model, has_plain_names, no_children, has_one_block, set_names, all_set_names, read_names, is_among, all_names, is_target, is_read}
 use Rattle.first_accept.specs.Known.{is_each_once, only_behind}
-use Rattle.first_accept.specs.Groups.{has_clock, declares_once, has_ranges, has_assignments, has_few_bits, is_narrow_everywhere, has_block, has_reset, maps_states, maps_inputs, maps_instructions, module_groups, map_groups}
+use Rattle.first_accept.specs.Groups.{has_clock, declares_once, has_ranges, has_assignments, has_drivers, is_narrow_everywhere, has_block, has_reset, maps_states, maps_inputs, maps_instructions, module_groups, map_groups, model_group}
 
 -- two or three tests behind another are one
 pub two_behind : (a b c : Bool) → (a && b && c) ≡ (a && (b && c))
@@ -89,17 +89,16 @@ registers_are ps s a e n =
 
 -- ---- all rules
 
-module_shape : (h b c d e i j k l m n o p : Bool)
-    → (h && b && c && d && e && i && j && k && l && m && n && o && p) ≡ (h && (b && c) && (d && e && i) && j && (k && l && m) && n && (o && p))
-module_shape h b c d e i j k l m n o p =
-    ap (λ t. t && d && e && i && j && k && l && m && n && o && p) (two_behind h b c)
-    ∙ (ap (λ t. t && j && k && l && m && n && o && p) (three_behind (h && (b && c)) d e i)
-    ∙ (ap (λ t. t && n && o && p) (three_behind (h && (b && c) && (d && e && i) && j) k l m)
-    ∙ two_behind (h && (b && c) && (d && e && i) && j && (k && l && m) && n) o p))
+module_shape : (h b c d e i j k l m n o : Bool)
+    → (h && b && c && d && e && i && j && k && l && m && n && o) ≡ (h && (b && c) && (d && e && i) && j && (k && l && m) && n && o)
+module_shape h b c d e i j k l m n o =
+    ap (λ t. t && d && e && i && j && k && l && m && n && o) (two_behind h b c)
+    ∙ (ap (λ t. t && j && k && l && m && n && o) (three_behind (h && (b && c)) d e i)
+    ∙ ap (λ t. t && n && o) (three_behind (h && (b && c) && (d && e && i) && j) k l m))
 
 pub module_is : (f : First) → is_accepted_module f ≡ module_groups f
-unfolding has_clock declares_once has_ranges is_narrow_everywhere has_assignments has_block has_few_bits
-module_is f = module_shape (has_clock f) _ _ _ _ _ _ _ _ _ _ _ _
+unfolding has_clock declares_once has_ranges is_narrow_everywhere has_assignments has_block has_drivers
+module_is f = module_shape (has_clock f) _ _ _ _ _ _ _ _ _ _ _
 
 four_behind : (a b c d e : Bool) → (a && b && c && d && e) ≡ (a && (b && c && d && e))
 four_behind true b c d e = refl
@@ -124,19 +123,21 @@ childless : (is : List FirstInstruction) → no_children (map instruction_view i
 childless [] = refl
 childless (i ∷ is) = childless is
 
-pub accepted_is : (m : FirstModel) (p : FirstMap) (d : FirstModule)
-    → is_accepted (first_of m p d) ≡ (module_groups (first_of m p d) && map_groups (first_of m p d))
-accepted_is m p d =
+model_is : (m : FirstModel) (p : FirstMap) (d : FirstModule) → is_accepted_model (first_of m p d) ≡ model_group (first_of m p d)
+unfolding model_group
+model_is m p d =
     let none : no_children (instruction_list (instructions_from (map instruction_view m.instructions.items))) ≡ true =
     ap no_children (instructions_are (map instruction_view m.instructions.items)) ∙ childless m.instructions.items in
-    ap (λ t. is_accepted_module (first_of m p d) && is_accepted_map (first_of m p d) && t) none
-    ∙ (and_true _
-    ∙ (ap (λ t. t && is_accepted_map (first_of m p d)) (module_is (first_of m p d)) ∙ ap (λ t. module_groups (first_of m p d) && t) (map_is m p d)))
+    rw none refl
 
-pub by_groups : (m : FirstModel) (p : FirstMap) (d : FirstModule) (a b : Bool) → a ≡ module_groups (first_of m p d) → b ≡ map_groups (first_of m p d)
-    → (a && b) ≡ is_accepted (first_of m p d)
-by_groups m p d a b h k =
-    ap (λ t. t && b) h ∙ (ap (λ t. module_groups (first_of m p d) && t) k ∙ sym (accepted_is m p d))
+pub by_groups : (m : FirstModel) (p : FirstMap) (d : FirstModule) (a b c e : Bool) → a ≡ module_groups (first_of m p d)
+    → b ≡ map_groups (first_of m p d) → c ≡ model_group (first_of m p d) → e ≡ has_plain_names (first_of m p d)
+    → (a && b && c && e) ≡ is_accepted (first_of m p d)
+by_groups m p d a b c e h k l n =
+    let own : a ≡ is_accepted_module (first_of m p d) = h ∙ sym (module_is (first_of m p d)) in
+    let mapped : b ≡ is_accepted_map (first_of m p d) = k ∙ sym (map_is m p d) in
+    let modelled : c ≡ is_accepted_model (first_of m p d) = l ∙ sym (model_is m p d) in
+    rw (own, mapped, modelled, n) refl
 
 pub block_with : (f : First) (s : Name) (a : Action) (targets read : List Name) → only_behind None (blocks_among f.design.parts) ≡ Some (s, a)
     → targets ≡ set_names a → read ≡ read_names a → (same_name s f.map.clock && all_names (is_target f) targets && all_names (is_read f) read) ≡ has_block f

@@ -1,9 +1,9 @@
--- The rules of a module and of a map in a few groups, in their order.
-use Rattle.std.specs.Prelude.{Bool, not, ◌&&◌, ◌==◌, nat_le}
-use Rattle.wb_meaning.specs.Value.{same_name}
-use Rattle.wb_meaning.specs.Model.{states_of, instructions_in}
+-- The rules of a module, of a map and of a model in a few groups, in their order.
+use Rattle.std.specs.Prelude.{Bool, not, ◌&&◌, ◌==◌, Some}
+use Rattle.wb_meaning.specs.Value.{same_name, truth}
+use Rattle.wb_meaning.specs.Model.{states_of, valid_of, instructions_in}
 use Rattle.wb_first.specs.Names.{First, is_input, bits_of_name, assigned, blocks_among}
-use Rattle.wb_first.specs.Accepted.{are_distinct, port_names, variable_names, ports_are_small, variables_are_small, variables_agree, all_names, is_narrow, declared_names, is_net, keys, terms_read, is_source, has_one_block, is_kept, sum_of_bits, is_map_expression, states_are_mapped, all_states_mapped, inputs_are_mapped, all_inputs_mapped, entries_are_accepted, entry_names, instruction_names, is_among}
+use Rattle.wb_first.specs.Accepted.{are_distinct, port_names, variable_names, ports_are_small, variables_are_small, variables_agree, all_names, is_narrow, declared_names, is_net, keys, terms_read, is_source, has_one_block, is_kept, is_map_expression, states_are_mapped, all_states_mapped, inputs_are_mapped, all_inputs_mapped, entries_are_accepted, entry_names, instruction_names, is_among, are_states, is_term_of, are_instructions}
 
 -- the module's name and its clock
 unfoldable pub has_clock : First → Bool
@@ -22,9 +22,9 @@ unfoldable pub has_assignments : First → Bool
 has_assignments f =
     all_names (is_net f) (keys (assigned f.design)) && are_distinct (keys (assigned f.design)) && terms_read (is_source f) (assigned f.design)
 
--- the ports are driven, and the bits are few
-unfoldable pub has_few_bits : First → Bool
-has_few_bits f = all_names (is_kept f.design) (port_names f.design.ports) && nat_le (sum_of_bits f (declared_names f.design)) 16
+-- the ports are driven
+unfoldable pub has_drivers : First → Bool
+has_drivers f = all_names (is_kept f.design) (port_names f.design.ports)
 
 unfoldable pub is_narrow_everywhere : First → Bool
 is_narrow_everywhere f = all_names (is_narrow f.design) (declared_names f.design)
@@ -54,9 +54,16 @@ maps_instructions f =
     && all_names (is_among (instruction_names (instructions_in f.model.top))) (entry_names f.map.instructions)
     && all_names (is_among (entry_names f.map.instructions)) (instruction_names (instructions_in f.model.top))
 
+-- the model's terms and initial values are of the sorts that their places want
+unfoldable pub model_group : First → Bool
+model_group f =
+    are_states f (states_of f.model.top)
+    && is_term_of f (Some truth) (valid_of f.model.top)
+    && are_instructions f (instructions_in f.model.top)
+
 -- the groups of a module together, and those of a map
 abbrev pub module_groups : First → Bool
-module_groups f = has_clock f && declares_once f && has_ranges f && is_narrow_everywhere f && has_assignments f && has_block f && has_few_bits f
+module_groups f = has_clock f && declares_once f && has_ranges f && is_narrow_everywhere f && has_assignments f && has_block f && has_drivers f
 
 abbrev pub map_groups : First → Bool
 map_groups f = has_reset f && maps_states f && maps_inputs f && maps_instructions f

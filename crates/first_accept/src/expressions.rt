@@ -24,7 +24,7 @@ fn has_dot(name: &[u8]) -> bool
     false
 }
 
-/// Whether the expression is a decimal or a name of the module other than the clock's.
+/// Whether the expression is a plain decimal or a name of the module other than the clock's.
 pub(crate) fn is_map_expression<'a>(case: &Candidate<'a>, expression: &'a FirstExpression) -> bool
     ensures { result ≡ is_map_expression (first_in case.now) (expression_of expression.now) }
 {
@@ -32,7 +32,8 @@ pub(crate) fn is_map_expression<'a>(case: &Candidate<'a>, expression: &'a FirstE
         FirstExpression::Identifier(name) => {
             is_data(case, name.as_bytes()) && !has_dot(name.as_bytes())
         }
-        FirstExpression::Decimal(_) => true,
+        // A plain decimal has 32 bits, as each value of the type.
+        FirstExpression::Decimal(value) => u64::from(*value) < 1 << 32,
     }
 }
 

@@ -17,10 +17,12 @@ mod index;
 mod lookups;
 mod map_names;
 mod map_rules;
+mod model_rules;
 mod module_rules;
 mod names;
 mod signals;
 mod tables;
+mod terms;
 
 use blocks::{add_set_names, only_block};
 use candidate::Candidate;
@@ -30,7 +32,8 @@ use index::{
     bounds_by_name, inputs_by_name, ports_by_name, states_by_name, terms_by_name, variables_by_name,
 };
 use map_rules::is_accepted_map;
-use module_rules::is_accepted_module;
+use model_rules::is_accepted_model;
+use module_rules::{has_plain_names, is_accepted_module};
 use std::alloc::{AllocError, Global};
 use tables::set_of;
 use wb_first::FirstCase;
@@ -89,7 +92,15 @@ fn keeps_rules<'a>(
     if !keeps_module {
         return Ok(false);
     }
-    Ok(keeps_map)
+    if !keeps_map {
+        return Ok(false);
+    }
+    let keeps_model = is_accepted_model(&case);
+    if !keeps_model {
+        return Ok(false);
+    }
+    let has_plain = has_plain_names(alloc, &case)?;
+    Ok(has_plain)
 }
 
 fn is_accepted<'a>(

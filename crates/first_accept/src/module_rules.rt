@@ -1,21 +1,19 @@
 //! The rules of a module.
 
-ghost use Rattle.std.specs.Prelude.{◌≡◌, ◌&&◌, map, nat_le, None, Some, IfOk};
+ghost use Rattle.std.specs.Prelude.{◌≡◌, ◌&&◌, map, None, Some, IfOk};
 ghost use Rattle.wb_meaning.specs.Value.{same_name};
 ghost use Rattle.wb_first.specs.Names.{assigned_among, blocks_among, port_named};
-ghost use Rattle.wb_first.specs.Accepted.{is_narrow, is_net, is_target, is_read, is_kept, is_source, all_names, sum_of_bits, terms_read, has_small_bounds, ports_are_small, variables_are_small, same_bounds, port_agrees, variables_agree, declared_names, port_names, is_among};
+ghost use Rattle.wb_first.specs.Accepted.{is_narrow, is_net, is_target, is_read, is_kept, is_source, all_names, terms_read, has_small_bounds, ports_are_small, variables_are_small, same_bounds, port_agrees, variables_agree, declared_names, port_names, is_among, is_plain_name, has_plain_names};
 ghost use Rattle.first_text.specs.View.{port_of, part_of, bounds_of, action_of};
 ghost use Rattle.first_accept.specs.Known.{texts, only_behind};
-ghost use Rattle.first_accept.specs.Groups.{has_clock, declares_once, has_ranges, has_assignments, has_few_bits, has_block, is_narrow_everywhere, module_groups};
+ghost use Rattle.first_accept.specs.Groups.{has_clock, declares_once, has_ranges, has_assignments, has_drivers, has_block, is_narrow_everywhere, module_groups};
 ghost use Rattle.first_accept.specs.View.{first_in};
 
 use crate::blocks::{add_read_names, add_set_names};
 use crate::candidate::Candidate;
 use crate::lookups::{bits, is_input, port_named};
 use crate::names::{assigned_names, is_same, port_names, variable_names};
-use crate::signals::{
-    counted_bits, is_kept, is_narrow, is_net, is_read, is_target, term_reads_sources,
-};
+use crate::signals::{is_kept, is_narrow, is_net, is_read, is_target, term_reads_sources};
 use crate::tables::are_distinct;
 use first_text::{Action, Bounds, Part, Port};
 use std::alloc::{AllocError, Global};
@@ -140,20 +138,6 @@ fn all_kept<'a>(case: &Candidate<'a>, ports: &'a [Port]) -> bool
     true
 }
 
-/// Whether the registers and the inputs but the clock have at most 16 bits together.
-fn has_16_bits<'a>(case: &Candidate<'a>, names: &[&'a [u8]]) -> bool
-    ensures { result ≡ nat_le (sum_of_bits (first_in case.now) (texts names.now)) 16 }
-{
-    let mut sum = 0u64;
-    for name in names {
-        sum += counted_bits(case, *name);
-        if sum > 16 {
-            return false;
-        }
-    }
-    true
-}
-
 fn terms_read_sources<'a>(case: &Candidate<'a>, parts: &'a [Part]) -> bool
     ensures { result ≡ terms_read (is_source (first_in case.now)) (assigned_among (map part_of parts.now)) }
 {
@@ -188,6 +172,38 @@ fn declared_names<'a>(alloc: Global, case: &Candidate<'a>) -> Result<Vec<&'a [u8
         }
     }
     Ok(names)
+}
+
+/// Whether a name is of ASCII characters.
+fn is_plain_name(name: &[u8]) -> bool
+    ensures { result ≡ is_plain_name name.now }
+{
+    for character in name {
+        let is_ascii = *character < 128;
+        if !is_ascii {
+            return false;
+        }
+    }
+    true
+}
+
+fn all_plain(names: &[&[u8]]) -> bool
+    ensures { result ≡ all_names is_plain_name (texts names.now) }
+{
+    for name in names {
+        if !is_plain_name(name) {
+            return false;
+        }
+    }
+    true
+}
+
+/// Whether the declared names are of ASCII characters.
+pub(crate) fn has_plain_names<'a>(alloc: Global, case: &Candidate<'a>) -> Result<bool, AllocError>
+    ensures { IfOk result (λ b. b ≡ has_plain_names (first_in case.now)) }
+{
+    let names = declared_names(alloc, case)?;
+    Ok(all_plain(&names))
 }
 
 #[tactic(auto, unfolding(crate::specs::Groups::has_clock))]
@@ -239,12 +255,11 @@ pub(crate) fn is_narrow_everywhere<'a>(
     Ok(all_narrow(case, &names))
 }
 
-#[tactic(auto, unfolding(crate::specs::Groups::has_few_bits))]
-pub(crate) fn has_few_bits<'a>(alloc: Global, case: &Candidate<'a>) -> Result<bool, AllocError>
-    ensures { IfOk result (λ b. b ≡ has_few_bits (first_in case.now)) }
+#[tactic(auto, unfolding(crate::specs::Groups::has_drivers))]
+pub(crate) fn has_drivers<'a>(case: &Candidate<'a>) -> bool
+    ensures { result ≡ has_drivers (first_in case.now) }
 {
-    let names = declared_names(alloc, case)?;
-    Ok(all_kept(case, &case.design.ports) && has_16_bits(case, &names))
+    all_kept(case, &case.design.ports)
 }
 
 /// Whether a clocked block of this signal may assign the targets and read the names.
@@ -298,6 +313,5 @@ pub(crate) fn is_accepted_module<'a>(
     let is_declared = has_declarations(alloc, case)?;
     let is_assigned = has_assignments(alloc, case)?;
     let has_block = has_block(alloc, case, signal, action)?;
-    let is_small = has_few_bits(alloc, case)?;
-    Ok(is_declared && is_assigned && has_block && is_small)
+    Ok(is_declared && is_assigned && has_block && has_drivers(case))
 }

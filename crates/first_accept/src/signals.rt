@@ -1,8 +1,7 @@
 //! What the names of a module are to a candidate.
 
-ghost use Rattle.std.specs.Prelude.{◌≡◌, ◌≤◌, ◌^◌};
-ghost use Rattle.wb_first.specs.Names.{is_register};
-ghost use Rattle.wb_first.specs.Accepted.{is_narrow, is_driven, is_source, is_net, is_target, is_read, is_kept, counted_bits, all_names, primary_names, term_names, is_assigned};
+ghost use Rattle.std.specs.Prelude.{◌≡◌};
+ghost use Rattle.wb_first.specs.Accepted.{is_narrow, is_driven, is_source, is_net, is_target, is_read, is_kept, all_names, primary_names, term_names, is_assigned};
 ghost use Rattle.first_text.specs.View.{primary_of, term_of};
 ghost use Rattle.first_accept.specs.View.{first_in};
 
@@ -57,18 +56,6 @@ pub(crate) fn is_kept<'a>(case: &Candidate<'a>, name: &'a [u8]) -> bool
     ensures { result ≡ is_kept (first_in case.now).design name.now }
 {
     !is_output(case, name) || is_driven(case, name)
-}
-
-/// The bits of a register or of an input other than the clock, 0 of another name.
-pub(crate) fn counted_bits<'a>(case: &Candidate<'a>, name: &'a [u8]) -> u64
-    ensures exact { result ≡ counted_bits (first_in case.now) name.now }
-    ensures small { result ≤ 2 ^ 32 }
-{
-    if is_data(case, name) && (is_register(case, name) || is_input(case, name)) {
-        bits(case, name)
-    } else {
-        0
-    }
 }
 
 fn primary_reads_sources<'a>(case: &Candidate<'a>, primary: &'a Primary) -> bool

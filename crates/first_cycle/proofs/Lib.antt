@@ -4,4 +4,3 @@ pub mod Actions
 pub mod Registers
 pub mod Valued
 pub mod Mapping
-pub mod Slicing

@@ -1,5 +1,5 @@
 -- The bits of names of a module, by the bounds of their declarations.
-use Rattle.std.proofs.Common.{◌≡◌, ℕ, ◌+◌, ◌≤◌, Bool, true, false, cond, ◌||◌, List, [], ◌∷◌, ◌++◌, subst, refl, ap, ◌∙◌, Option, Some, None, arith}
+use Rattle.std.proofs.Common.{◌≡◌, ℕ, ◌+◌, ◌≤◌, Bool, true, false, cond, ◌&&◌, ◌||◌, List, [], ◌∷◌, ◌++◌, subst, refl, ap, ◌∙◌, Option, Some, None, arith}
 use Rattle.std.specs.Prelude.{nat_le, is_some}
 use mathlib.Core.Path.{ap₂}
 use Rattle.std.proofs.lemmas.Bool.Decides.{nat_tests}
@@ -9,10 +9,10 @@ use Rattle.wb_meaning.specs.Verilog.Expression.{object_width, distance, scope_of
 use Rattle.wb_meaning.specs.Verilog.Hierarchy.{Declaration, declarations, port_declarations, item_declarations, declaration_of, both_declarations, ranged_object, bound_of, first_of}
 use Rattle.first_text.specs.Tree.{Bounds, bounds_tree, decimal_number, Port, port_trees, Part, register, assignment, clocked, part_trees, FirstModule, module_tree}
 use Rattle.wb_first.specs.Names.{First, bits_of_name, is_declared, is_variable_among, port_named}
-use Rattle.wb_first.specs.Accepted.{is_accepted, is_accepted_module, is_accepted_map, ports_are_small, variables_are_small, has_small_bounds, all_names, is_narrow, declared_names, is_among, sum_of_bits}
+use Rattle.wb_first.specs.Accepted.{is_accepted, is_accepted_module, is_accepted_map, is_accepted_model, has_plain_names, ports_are_small, variables_are_small, has_small_bounds, all_names, is_narrow, declared_names, is_among}
 use Rattle.wb_first.proofs.Alike.{and_left, and_right}
 use Rattle.wb_first.proofs.Edge.{same_name_true}
-use Rattle.wb_first.proofs.Enumerated.{declared_among}
+use Rattle.wb_first.proofs.Declared.{declared_among}
 use Rattle.first_cycle.specs.Widths.{port_bounds, part_bounds, name_bounds, bounds_width, AreSmallBounds}
 
 -- ---- the rules that are needed here
@@ -21,14 +21,13 @@ pub record IsMeasured (f : First) : Type 0 where
   pub ports : ports_are_small f.design.ports ≡ true
   pub variables : variables_are_small f.design.parts ≡ true
   pub narrow : all_names (is_narrow f.design) (declared_names f.design) ≡ true
-  pub few : sum_of_bits f (declared_names f.design) ≤ 16
 
 pub measured : (f : First) → is_accepted f ≡ true → IsMeasured f
 measured f h =
-    let both = and_left _ _ h in
+    let rules = and_left (is_accepted_module f && is_accepted_map f && is_accepted_model f) (has_plain_names f) h in
+    let both = and_left (is_accepted_module f && is_accepted_map f) (is_accepted_model f) rules in
     let m : is_accepted_module f ≡ true = and_left (is_accepted_module f) (is_accepted_map f) both in
-    let m14 = and_left _ _ m in
-    let m13 = and_left _ _ m14 in
+    let m13 = and_left _ _ m in
     let m12 = and_left _ _ m13 in
     let m11 = and_left _ _ m12 in
     let m10 = and_left _ _ m11 in
@@ -36,16 +35,7 @@ measured f h =
     let m8 = and_left _ _ m9 in
     let m7 = and_left _ _ m8 in
     let m6 = and_left _ _ m7 in
-    let few : nat_le (sum_of_bits f (declared_names f.design)) 16 ≡ true = and_right _ _ m in
-    record {
-      ports = and_right _ _ m6;
-      variables = and_right _ _ m7;
-      narrow = and_right _ _ m9;
-      few = at_most (sum_of_bits f (declared_names f.design)) 16 few;
-    }
-  where
-    at_most : (a b : ℕ) → nat_le a b ≡ true → a ≤ b
-    at_most a b e = grind (arith, nat_tests)
+    record { ports = and_right _ _ m6; variables = and_right _ _ m7; narrow = and_right _ _ m9 }
 
 -- ---- the range of a name
 

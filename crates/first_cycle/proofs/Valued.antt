@@ -11,7 +11,8 @@ use Rattle.wb_first.specs.Decided.{second_valuation, no_inputs}
 use Rattle.wb_first.proofs.Alike.{and_right}
 use Rattle.wb_first.proofs.Edge.{same_name_true}
 use Rattle.wb_first.proofs.Rules.{keeps}
-use Rattle.wb_first.proofs.Enumerated.{register_target, first_by_held}
+use Rattle.wb_first.proofs.Targets.{register_target}
+use Rattle.wb_first.proofs.Held.{first_by_held}
 use Rattle.first_cycle.specs.declared.values.Named.{Named}
 use Rattle.first_cycle.specs.declared.values.Values.{Values}
 use Rattle.first_cycle.specs.declared.term.ReadTerm.{ReadTerm}

@@ -1,5 +1,3 @@
-pub mod Sample
-pub mod Slices
 pub mod Terms
 pub mod Updates
 pub mod Values

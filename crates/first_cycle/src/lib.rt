@@ -4,10 +4,9 @@
 mod edge;
 mod names;
 mod reading;
-mod slices;
 mod term;
 mod values;
 mod widths;
 
 pub use reading::{holds, number};
-pub use values::{Named, NoMemory, Values, after_edge, numbered, value, value_count};
+pub use values::{Named, NoMemory, Values, after_edge, value};

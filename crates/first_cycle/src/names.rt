@@ -5,7 +5,6 @@ ghost use Rattle.wb_meaning.specs.Value.{same_name, entry_of};
 ghost use Rattle.wb_meaning.specs.Verilog.Syntax.{input};
 ghost use Rattle.first_text.specs.View.{action_of, actions_of, term_of, port_of, part_of};
 ghost use Rattle.wb_first.specs.Names.{is_input, is_register, assigned, sets, one_sets, port_named, has_direction, is_set_among, assigned_among};
-ghost use Rattle.wb_first.specs.Accepted.{is_among, port_names};
 ghost use Rattle.wb_first.specs.CaseView.{case_of};
 
 use first_text::{Action, Direction, Part, Port, Term};
@@ -28,18 +27,6 @@ pub(crate) fn is_input(case: &FirstCase, name: &[u8]) -> bool
     ensures { result ≡ is_input (case_of case.now).design name.now }
 {
     is_input_among(&case.design.ports, name)
-}
-
-/// Whether one of the ports has the name.
-pub(crate) fn is_port(ports: &[Port], name: &[u8]) -> bool
-    ensures { result ≡ is_among (port_names (map port_of ports.now)) name.now }
-{
-    for port in ports {
-        if port.name.as_slice() == name {
-            return true;
-        }
-    }
-    false
 }
 
 /// Whether the name is the clock's.

@@ -1,18 +1,17 @@
 //! Values of registers and inputs, and what the names of the module stand for then.
 
-ghost use Rattle.std.specs.Prelude.{◌≡◌, ◌<◌, ◌^◌, ◌≤◌, map, IfOk, IsTrue};
+ghost use Rattle.std.specs.Prelude.{◌≡◌, map, IfOk};
 ghost use Rattle.wb_meaning.specs.Value.{number, valuation_of};
 ghost use Rattle.first_text.specs.View.{primary_of, term_of};
 ghost use Rattle.wb_first.specs.Names.{scope_of_first};
 ghost use Rattle.wb_first.specs.CaseView.{case_of};
 ghost use Rattle.wb_first.specs.Cycle.{held};
-ghost use Rattle.wb_first.specs.Decided.{values_of, second_valuation, value_count};
+ghost use Rattle.wb_first.specs.Decided.{second_valuation};
 ghost use Rattle.first_cycle.specs.Values.{entry_of_named, held_of, valuation_at};
 ghost use Rattle.first_cycle.specs.Terms.{operand_at, term_at, IsSmallOperand, IsSmallTerm};
 
 use crate::edge::{add_registers, updates};
 use crate::names::{assignment, is_clock, is_input, is_register};
-use crate::slices::{all_bits, declared_names, take_all};
 use crate::term::{Operand, ReadTerm, given};
 use crate::widths::bits;
 use first_text::{Primary, Term};
@@ -33,24 +32,6 @@ pub struct Named<'a> {
 #[derive(Drop)]
 pub struct Values<'a> {
     pub entries: Vec<Named<'a>>,
-}
-
-/// How many values the registers and the inputs but the clock have together, at most 2^16.
-pub fn value_count(case: &FirstCase) -> u32
-    ensures count { result ≡ value_count (case_of case.now) }
-    ensures small { result ≤ 65536 }
-{
-    1 << all_bits(case)
-}
-
-/// The values that a number stands for: each register and input takes its bits of it, the first that is declared the lowest.
-pub fn numbered<'a>(alloc: Global, case: &'a FirstCase, number: u32) -> Result<Values<'a>, NoMemory>
-    ensures { IfOk result (λ x. held_of x ≡ values_of (case_of case.now) number) }
-{
-    let names = declared_names(alloc, case)?;
-    let mut entries = Vec::new(alloc);
-    take_all(case, &names, u128::from(number), &mut entries)?;
-    Ok(Values { entries })
 }
 
 /// The values behind the clock's edge of a cycle: those of the registers. The inputs have none, which is 0.

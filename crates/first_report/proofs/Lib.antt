@@ -1,10 +1,5 @@
 pub mod Lists
 pub mod Claimed
-pub mod Turns
-pub mod Placed
-pub mod Assigned
-pub mod Hexadecimal
 pub mod Parts
-pub mod Inserted
-pub mod Told
+pub mod Named
 pub mod Reported

@@ -1,214 +1,196 @@
--- What was found of all numbers is a report.
-use Rattle.std.proofs.Common.{◌≡◌, ◌≢◌, ℕ, zero, suc, ◌+◌, ◌<◌, Bool, true, false, cond, ◌||◌, List, [], ◌∷◌, ◌++◌, map, subst, refl, sym, ap, ◌∙◌, append_assoc, arith, Option, Some, None, is_some, is_none}
-use Rattle.std.specs.Prelude.{slice_get, ◌==◌, codes, decimal, count_by}
-use Rattle.std.specs.List.{list_any}
-use Rattle.std.proofs.lemmas.Bool.{eqb-true, eqb-false}
+-- What was found of a case is a report, and where all its obligations are proved, each run refines.
+use Rattle.std.proofs.Common.{◌≡◌, ℕ, ◌+◌, Bool, true, false, cond, nat_lt, List, [], ◌∷◌, ◌++◌, length, map, subst, refl, sym, ap, ◌∙◌, append_assoc, arith}
+use Rattle.std.specs.Prelude.{codes, count_by}
+use Rattle.std.proofs.lemmas.Bool.Decides.{nat_tests}
+use Rattle.std.proofs.lemmas.List.{map-append}
 use Rattle.std.proofs.lemmas.List.Sums.{sum_by-cons}
-use Rattle.wb_meaning.specs.Model.{Instruction, instructions_in}
+use Rattle.wb_meaning.specs.Map.{Setting}
+use Rattle.wb_meaning.specs.Model.{Instruction, instruction_name, instructions_in}
 use Rattle.wb_meaning.specs.Obligation.{Obligation, obligations}
-use Rattle.wb_meaning.specs.Soundness.{EveryRunRefines}
-use Rattle.wb_meaning.specs.Report.{IsVerdict, IsCover, AreVerdicts, AreCovers, verdict_text, verdict_lines, cover_lines, count_proved, count_failed, IsReport}
+use Rattle.wb_meaning.specs.Soundness.{AllHold, EveryRunRefines}
+use Rattle.wb_meaning.specs.Report as pure
+use Rattle.wb_meaning.specs.Report.{Verdict, proved, failed, unknown, AreVerdicts, AreCovers, verdict_text, cover_text, verdict_lines, cover_lines, count_proved, count_failed, count_unknown, total_line, spent_in, spent_in_covers, ending_of, IsReport}
 use Rattle.wb_first.specs.Names.{First, setting_of}
 use Rattle.wb_first.specs.Accepted.{is_accepted}
-use Rattle.wb_first.specs.Decided.{is_broken_by, is_command_by, value_count}
-use Rattle.wb_first.specs.Claims.{IsObligation, ValuesDecide, BrokenIsFalsified, NumbersGiveCommands, CommandsHaveNumbers, UnbrokenRefines}
-use Rattle.first_report.specs.Walked.{or_broken, least_broken, is_command_below, commands_below}
-use Rattle.first_report.specs.Traced.{verdict_by, verdicts_by, cover_by}
-use Rattle.first_report.specs.Lines.{lines_by}
-use Rattle.first_report.proofs.Told.{is_told}
-
--- ---- what a walk found
-
-or_left : (a b : Bool) → (a || b) ≡ false → a ≡ false
-or_left true b g = g
-or_left false b g = refl
-
-or_right : (a b : Bool) → (a || b) ≡ false → b ≡ false
-or_right true b g = absurd (let c : true ≡ false = g in cc)
-or_right false b g = g
-
-found_or : (b : Option ℕ) (t : Bool) (n : ℕ) → or_broken b t n ≡ None → (b ≡ None) × (t ≡ false)
-found_or (Some m) t n e = absurd (let c : Some m ≡ None = e in cc)
-found_or None true n e = absurd (let c : Some n ≡ None = e in cc)
-found_or None false n e = (refl, refl)
-
-none_below : (f : First) (o : Obligation) (n : ℕ) → least_broken f n o ≡ None → (a : ℕ) → a < n → is_broken_by f o a ≡ false
-unfolding least_broken
-none_below f o zero e a h = absurd (omega arith)
-none_below f o (suc n) e a h =
-    let parts = found_or (least_broken f n o) (is_broken_by f o n) n e in
-    by_place (none_below f o n parts.0 a) parts.1 (a == n) refl
-  where
-    by_place : (a < n → is_broken_by f o a ≡ false) → is_broken_by f o n ≡ false → (t : Bool) → (a == n) ≡ t → is_broken_by f o a ≡ false
-    by_place below here true q = let same : n ≡ a = sym (eqb-true a n q) in subst (λ m. is_broken_by f o m ≡ false) same here
-    by_place below here false q = below (let other : a ≢ n = eqb-false a n q in omega arith)
-
-some_breaks : (f : First) (o : Obligation) (n a : ℕ) → least_broken f n o ≡ Some a → is_broken_by f o a ≡ true
-unfolding least_broken
-some_breaks f o zero a e = absurd (let c : None ≡ Some a = e in cc)
-some_breaks f o (suc n) a e = by_found (least_broken f n o) (is_broken_by f o n) refl e (some_breaks f o n a)
-  where
-    by_found : (b : Option ℕ) (t : Bool) → is_broken_by f o n ≡ t → or_broken b t n ≡ Some a → (b ≡ Some a → is_broken_by f o a ≡ true)
-        → is_broken_by f o a ≡ true
-    by_found (Some m) t q g before = before g
-    by_found None true q g before = let same : n ≡ a = cc in subst (λ m. is_broken_by f o m ≡ true) same q
-    by_found None false q g before = absurd (let c : None ≡ Some a = g in cc)
-
-some_command : (f : First) (j n : ℕ) → is_command_below f n j ≡ true → (a : ℕ) × (is_command_by f j a ≡ true)
-unfolding is_command_below
-some_command f j zero e = absurd (let c : false ≡ true = e in cc)
-some_command f j (suc n) e = by_found (is_command_below f n j) (is_command_by f j n) refl e (some_command f j n)
-  where
-    by_found : (b t : Bool) → is_command_by f j n ≡ t → (b || t) ≡ true → (b ≡ true → (a : ℕ) × (is_command_by f j a ≡ true))
-        → (a : ℕ) × (is_command_by f j a ≡ true)
-    by_found true t q g before = before refl
-    by_found false true q g before = (n, q)
-    by_found false false q g before = absurd (let c : false ≡ true = g in cc)
-
-no_command : (f : First) (j n : ℕ) → is_command_below f n j ≡ false → (a : ℕ) → a < n → is_command_by f j a ≡ false
-unfolding is_command_below
-no_command f j zero e a h = absurd (omega arith)
-no_command f j (suc n) e a h =
-    let before : is_command_below f n j ≡ false = or_left _ _ e in
-    let here : is_command_by f j n ≡ false = or_right _ _ e in
-    by_place (no_command f j n before a) here (a == n) refl
-  where
-    by_place : (a < n → is_command_by f j a ≡ false) → is_command_by f j n ≡ false → (t : Bool) → (a == n) ≡ t → is_command_by f j a ≡ false
-    by_place below last true q = let same : n ≡ a = sym (eqb-true a n q) in subst (λ m. is_command_by f j m ≡ false) same last
-    by_place below last false q = below (let other : a ≢ n = eqb-false a n q in omega arith)
-
--- ---- verdicts and covers
-
-each_verdict : (f : First) (b : Obligation → Option ℕ) (os : List Obligation)
-    → ((k : ℕ) (o : Obligation) → slice_get os k ≡ Some o → IsVerdict (setting_of f) o (verdict_by f o (b o)))
-    → AreVerdicts (setting_of f) os (verdicts_by f os (map b os))
-each_verdict f b [] h = tt
-each_verdict f b (o ∷ os) h = (h zero o refl, each_verdict f b os (λ k x e. h (suc k) x e))
-
-verdict_is : (f : First) → is_accepted f ≡ true → ValuesDecide → BrokenIsFalsified → (k : ℕ) (o : Obligation) → IsObligation f k o
-    → IsVerdict (setting_of f) o (verdict_by f o (least_broken f (value_count f) o))
-verdict_is f accepted decide falsify k o is_o = by_found (least_broken f (value_count f) o) refl
-  where
-    by_found : (b : Option ℕ) → least_broken f (value_count f) o ≡ b → IsVerdict (setting_of f) o (verdict_by f o b)
-    by_found None e = decide f accepted k o is_o (none_below f o (value_count f) e)
-    by_found (Some a) e =
-        let found = falsify f accepted k o is_o a (some_breaks f o (value_count f) a e) in
-        (found.0, found.2, is_told f accepted k o is_o a found.0 found.1)
-
-each_cover : (f : First) → is_accepted f ≡ true → NumbersGiveCommands → CommandsHaveNumbers → (j : ℕ) (is : List Instruction)
-    → AreCovers (setting_of f) j is (map cover_by (commands_below f (value_count f) j is))
-each_cover f accepted give have j [] = tt
-each_cover f accepted give have j (i ∷ is) =
-    (by_found (is_command_below f (value_count f) j) refl, each_cover f accepted give have (suc j) is)
-  where
-    by_found : (b : Bool) → is_command_below f (value_count f) j ≡ b → IsCover (setting_of f) j (cover_by b)
-    by_found true e = let found = some_command f j (value_count f) e in give f accepted j found.0 found.1
-    by_found false e = have f accepted j (no_command f j (value_count f) e)
+use Rattle.wb_first.specs.Claims.{HoldingRefines}
+use Rattle.first_trace.specs.Traced.{names_of}
+use Rattle.first_check.specs.Found.{verdict_by, verdicts_by, cover_by, spent_by}
+use Rattle.first_check.specs.declared.names.BitName.{BitName}
+use Rattle.first_check.specs.declared.findings.Finding.{Finding}
+use Rattle.first_check.specs.declared.findings.Finding.TheVariants.{Holds, Breaks, Spent}
+use Rattle.first_report.specs.declared.totals.Ending.{Ending}
+use Rattle.first_report.specs.declared.totals.Ending.TheVariants.{AllProved}
+use Rattle.first_report.specs.declared.spending.Spent as code
+use Rattle.first_report.specs.Lines.{verdict_said, verdict_lines_by, cover_said, cover_lines_by}
+use Rattle.first_report.specs.Totals.{is_proved, is_failed, is_unknown, total_by, ending_by, ending_view}
+use Rattle.first_report.specs.Spending.{spent_among, spent_view}
 
 -- ---- the text
 
-lines_are : (f : First) (os : List Obligation) (bs : List (Option ℕ)) → lines_by f os bs ≡ verdict_lines os (verdicts_by f os bs)
-lines_are f [] bs = refl
-lines_are f (o ∷ os) [] = refl
-lines_are f (o ∷ os) (b ∷ bs) =
-    append_assoc (o.called ++ verdict_text (verdict_by f o b)) (10 ∷ []) (lines_by f os bs)
-    ∙ ap (λ rest. o.called ++ verdict_text (verdict_by f o b) ++ 10 ∷ rest) (lines_are f os bs)
+verdict_same : (f : First) (names : List BitName) (budget : ℕ) (o : Obligation) (x : Finding)
+    → verdict_said (names_of f) names budget o.called x ≡ verdict_text budget (verdict_by f names o x)
+verdict_same f names budget o Holds = refl
+verdict_same f names budget o (Breaks numbers) = refl
+verdict_same f names budget o (Spent b log) = refl
 
-proved_are : (f : First) (b : Obligation → Option ℕ) (os : List Obligation) → count_by is_none (map b os) ≡ count_proved (verdicts_by f os (map b os))
-proved_are f b [] = refl
-proved_are f b (o ∷ os) = by_found (b o) (proved_are f b os)
-  where
-    by_found : (q : Option ℕ) → count_by is_none (map b os) ≡ count_proved (verdicts_by f os (map b os))
-        → count_by is_none (q ∷ map b os) ≡ count_proved (verdict_by f o q ∷ verdicts_by f os (map b os))
-    by_found None later =
-        let e : count_by is_none (None ∷ map b os) ≡ 1 + count_by is_none (map b os) = sum_by-cons (λ x. cond (is_none x) 1 0) (None) (map b os) in omega arith
-    by_found (Some a) later =
-        let e : count_by is_none (Some a ∷ map b os) ≡ 0 + count_by is_none (map b os) = sum_by-cons (λ x. cond (is_none x) 1 0) (Some a) (map b os) in omega arith
+verdicts_same : (f : First) (names : List BitName) (budget : ℕ) (os : List Obligation) (xs : List Finding)
+    → verdict_lines_by (names_of f) names budget os xs ≡ verdict_lines budget os (verdicts_by f names os xs)
+verdicts_same f names budget [] xs = refl
+verdicts_same f names budget (o ∷ os) [] = refl
+verdicts_same f names budget (o ∷ os) (x ∷ xs) =
+    append_assoc (o.called ++ verdict_said (names_of f) names budget o.called x) (10 ∷ []) (verdict_lines_by (names_of f) names budget os xs)
+    ∙ (ap (λ said. o.called ++ said ++ 10 ∷ verdict_lines_by (names_of f) names budget os xs) (verdict_same f names budget o x)
+    ∙ ap (λ rest. o.called ++ verdict_text budget (verdict_by f names o x) ++ 10 ∷ rest) (verdicts_same f names budget os xs))
 
-failed_are : (f : First) (b : Obligation → Option ℕ) (os : List Obligation) → count_by is_some (map b os) ≡ count_failed (verdicts_by f os (map b os))
-failed_are f b [] = refl
-failed_are f b (o ∷ os) = by_found (b o) (failed_are f b os)
-  where
-    by_found : (q : Option ℕ) → count_by is_some (map b os) ≡ count_failed (verdicts_by f os (map b os))
-        → count_by is_some (q ∷ map b os) ≡ count_failed (verdict_by f o q ∷ verdicts_by f os (map b os))
-    by_found None later =
-        let e : count_by is_some (None ∷ map b os) ≡ 0 + count_by is_some (map b os) = sum_by-cons (λ x. cond (is_some x) 1 0) None (map b os) in omega arith
-    by_found (Some a) later =
-        let e : count_by is_some (Some a ∷ map b os) ≡ 1 + count_by is_some (map b os) = sum_by-cons (λ x. cond (is_some x) 1 0) (Some a) (map b os) in omega arith
+cover_same : (names : List BitName) (budget : ℕ) (x : Finding) → cover_said budget x ≡ cover_text budget (cover_by names x)
+cover_same names budget Holds = refl
+cover_same names budget (Breaks numbers) = refl
+cover_same names budget (Spent b log) = refl
 
-some_fail : (f : First) (b : Obligation → Option ℕ) (os : List Obligation) → list_any is_some (map b os) ≡ true
-    → 0 < count_failed (verdicts_by f os (map b os))
-some_fail f b [] e = absurd (let c : false ≡ true = e in cc)
-some_fail f b (o ∷ os) e = by_found (b o) e (some_fail f b os)
-  where
-    by_found : (q : Option ℕ) → (is_some q || list_any is_some (map b os)) ≡ true
-        → (list_any is_some (map b os) ≡ true → 0 < count_failed (verdicts_by f os (map b os)))
-        → 0 < count_failed (verdict_by f o q ∷ verdicts_by f os (map b os))
-    by_found (Some a) g later = omega arith
-    by_found None g later = later g
+covers_same : (names : List BitName) (budget : ℕ) (is : List Instruction) (xs : List Finding)
+    → cover_lines_by budget is xs ≡ cover_lines budget is (map (cover_by names) xs)
+covers_same names budget [] xs = refl
+covers_same names budget (i ∷ is) [] = refl
+covers_same names budget (i ∷ is) (x ∷ xs) =
+    append_assoc (codes "cover." ++ instruction_name i ++ cover_said budget x) (10 ∷ []) (cover_lines_by budget is xs)
+    ∙ (ap (λ said. codes "cover." ++ instruction_name i ++ said ++ 10 ∷ cover_lines_by budget is xs) (cover_same names budget x)
+    ∙ ap (λ rest. codes "cover." ++ instruction_name i ++ cover_text budget (cover_by names x) ++ 10 ∷ rest) (covers_same names budget is xs))
 
-fails_some : (f : First) (b : Obligation → Option ℕ) (os : List Obligation) → 0 < count_failed (verdicts_by f os (map b os))
-    → list_any is_some (map b os) ≡ true
-fails_some f b [] h = absurd (omega arith)
-fails_some f b (o ∷ os) h = by_found (b o) h (fails_some f b os)
-  where
-    by_found : (q : Option ℕ) → 0 < count_failed (verdict_by f o q ∷ verdicts_by f os (map b os))
-        → (0 < count_failed (verdicts_by f os (map b os)) → list_any is_some (map b os) ≡ true)
-        → (is_some q || list_any is_some (map b os)) ≡ true
-    by_found (Some a) g later = refl
-    by_found None g later = later g
+-- ---- the counts
 
-none_at : (b : Obligation → Option ℕ) (os : List Obligation) → list_any is_some (map b os) ≡ false
-    → (k : ℕ) (o : Obligation) → slice_get os k ≡ Some o → b o ≡ None
-none_at b [] e k o is_o = cc
-none_at b (x ∷ os) e zero o is_o = let here : x ≡ o = cc in subst (λ y. b y ≡ None) here (is_none_of (b x) (or_left _ _ e))
+one_more : (P : Finding → Bool) (x : Finding) (xs : List Finding) → count_by P (x ∷ xs) ≡ cond (P x) 1 0 + count_by P xs
+one_more P x xs = sum_by-cons (λ y. cond (P y) 1 0) x xs
+
+module _ (f : First) (names : List BitName) where
+  proved_same : (os : List Obligation) (xs : List Finding) → length os ≡ length xs → count_by is_proved xs ≡ count_proved (verdicts_by f names os xs)
+  proved_same [] [] h = refl
+  proved_same [] (x ∷ xs) h = absurd (omega (arith, h))
+  proved_same (o ∷ os) [] h = absurd (omega (arith, h))
+  proved_same (o ∷ os) (x ∷ xs) h = of_first x (one_more is_proved x xs) (proved_same os xs (omega (arith, h)))
+    where
+      of_first : (y : Finding) → count_by is_proved (y ∷ xs) ≡ cond (is_proved y) 1 0 + count_by is_proved xs
+          → count_by is_proved xs ≡ count_proved (verdicts_by f names os xs)
+          → count_by is_proved (y ∷ xs) ≡ count_proved (verdict_by f names o y ∷ verdicts_by f names os xs)
+      of_first Holds e later = omega (arith, e, later)
+      of_first (Breaks numbers) e later = omega (arith, e, later)
+      of_first (Spent b log) e later = omega (arith, e, later)
+
+  failed_same : (os : List Obligation) (xs : List Finding) → length os ≡ length xs → count_by is_failed xs ≡ count_failed (verdicts_by f names os xs)
+  failed_same [] [] h = refl
+  failed_same [] (x ∷ xs) h = absurd (omega (arith, h))
+  failed_same (o ∷ os) [] h = absurd (omega (arith, h))
+  failed_same (o ∷ os) (x ∷ xs) h = of_first x (one_more is_failed x xs) (failed_same os xs (omega (arith, h)))
+    where
+      of_first : (y : Finding) → count_by is_failed (y ∷ xs) ≡ cond (is_failed y) 1 0 + count_by is_failed xs
+          → count_by is_failed xs ≡ count_failed (verdicts_by f names os xs)
+          → count_by is_failed (y ∷ xs) ≡ count_failed (verdict_by f names o y ∷ verdicts_by f names os xs)
+      of_first Holds e later = omega (arith, e, later)
+      of_first (Breaks numbers) e later = omega (arith, e, later)
+      of_first (Spent b log) e later = omega (arith, e, later)
+
+  unknown_same : (os : List Obligation) (xs : List Finding) → length os ≡ length xs
+      → count_by is_unknown xs ≡ count_unknown (verdicts_by f names os xs)
+  unknown_same [] [] h = refl
+  unknown_same [] (x ∷ xs) h = absurd (omega (arith, h))
+  unknown_same (o ∷ os) [] h = absurd (omega (arith, h))
+  unknown_same (o ∷ os) (x ∷ xs) h = of_first x (one_more is_unknown x xs) (unknown_same os xs (omega (arith, h)))
+    where
+      of_first : (y : Finding) → count_by is_unknown (y ∷ xs) ≡ cond (is_unknown y) 1 0 + count_by is_unknown xs
+          → count_by is_unknown xs ≡ count_unknown (verdicts_by f names os xs)
+          → count_by is_unknown (y ∷ xs) ≡ count_unknown (verdict_by f names o y ∷ verdicts_by f names os xs)
+      of_first Holds e later = omega (arith, e, later)
+      of_first (Breaks numbers) e later = omega (arith, e, later)
+      of_first (Spent b log) e later = omega (arith, e, later)
+
+  -- ---- what shows that budgets were spent
+
+  spent_same : (os : List Obligation) (xs : List Finding) → length os ≡ length xs
+      → map (spent_view names) (spent_among xs) ≡ spent_in (verdicts_by f names os xs)
+  spent_same [] [] h = refl
+  spent_same [] (x ∷ xs) h = absurd (omega (arith, h))
+  spent_same (o ∷ os) [] h = absurd (omega (arith, h))
+  spent_same (o ∷ os) (Holds ∷ xs) h = spent_same os xs (omega (arith, h))
+  spent_same (o ∷ os) (Breaks numbers ∷ xs) h = spent_same os xs (omega (arith, h))
+  spent_same (o ∷ os) (Spent b log ∷ xs) h = ap (λ rest. spent_by names b log ∷ rest) (spent_same os xs (omega (arith, h)))
+
+spent_covers_same : (names : List BitName) (xs : List Finding)
+    → map (spent_view names) (spent_among xs) ≡ spent_in_covers (map (cover_by names) xs)
+spent_covers_same names [] = refl
+spent_covers_same names (Holds ∷ xs) = spent_covers_same names xs
+spent_covers_same names (Breaks numbers ∷ xs) = spent_covers_same names xs
+spent_covers_same names (Spent b log ∷ xs) = ap (λ rest. spent_by names b log ∷ rest) (spent_covers_same names xs)
+
+-- ---- how the check ends
+
+none_above : (n : ℕ) → nat_lt 0 n ≡ false → n ≡ 0
+none_above n e = grind (arith, nat_tests)
+
+none_open : (m n : ℕ) → ending_by m n ≡ pure.all_proved → (m ≡ 0) × (n ≡ 0)
+none_open m n = by_tests (nat_lt 0 m) (nat_lt 0 n) refl refl
   where
-    is_none_of : (q : Option ℕ) → is_some q ≡ false → q ≡ None
-    is_none_of None g = refl
-    is_none_of (Some a) g = absurd (let c : true ≡ false = g in cc)
-none_at b (x ∷ os) e (suc k) o is_o = none_at b os (or_right (is_some (b x)) (list_any is_some (map b os)) e) k o is_o
+    by_tests : (t u : Bool) → nat_lt 0 m ≡ t → nat_lt 0 n ≡ u
+        → cond t pure.some_failed (cond u pure.some_unknown pure.all_proved) ≡ pure.all_proved → (m ≡ 0) × (n ≡ 0)
+    by_tests false false p q e = (none_above m p, none_above n q)
+    by_tests false true p q e = absurd (let c : pure.some_unknown ≡ pure.all_proved = e in cc)
+    by_tests true u p q e = absurd (let c : pure.some_failed ≡ pure.all_proved = e in cc)
+
+all_hold : (s : Setting) (budget : ℕ) (os : List Obligation) (vs : List Verdict) → AreVerdicts s budget os vs → count_failed vs ≡ 0 → count_unknown vs ≡ 0
+    → AllHold s os
+all_hold s budget [] vs h a b = tt
+all_hold s budget (o ∷ os) [] h a b = absurd h
+all_hold s budget (o ∷ os) (proved ∷ vs) h a b = (h.0, all_hold s budget os vs h.1 a b)
+all_hold s budget (o ∷ os) (failed t ∷ vs) h a b = absurd (omega (arith, a))
+all_hold s budget (o ∷ os) (unknown x ∷ vs) h a b = absurd (omega (arith, b))
 
 -- ---- the report
 
-pub is_report : (f : First) → is_accepted f ≡ true → ValuesDecide → BrokenIsFalsified → NumbersGiveCommands → CommandsHaveNumbers
-    → (bs : List (Option ℕ)) (cs : List Bool) (text : List ℕ) (some : Bool)
-    → bs ≡ map (least_broken f (value_count f)) (obligations f.model f.map)
-    → cs ≡ commands_below f (value_count f) 0 (instructions_in f.model.top)
+pub is_report : (f : First) (names : List BitName) (budget : ℕ) (os : List Obligation) (is : List Instruction) (xs cs : List Finding)
+    (text : List ℕ) (ending : pure.Ending) (spent : List code.Spent)
+    → os ≡ obligations f.model f.map → is ≡ instructions_in f.model.top → length os ≡ length xs
+    → AreVerdicts (setting_of f) budget os (verdicts_by f names os xs)
+    → AreCovers (setting_of f) budget 0 (instructions_in f.model.top) (map (cover_by names) cs)
     → text
-    ≡ lines_by f (obligations f.model f.map) bs ++ cover_lines (instructions_in f.model.top) (map cover_by cs)
-    ++ (codes "total proved " ++ decimal (count_by is_none bs) ++ codes " failed " ++ decimal (count_by is_some bs) ++ codes " unknown 0" ++ 10 ∷ [])
-    → some ≡ list_any is_some bs
-    → IsReport (setting_of f) text some
-is_report f accepted decide falsify give have bs cs text some is_bs is_cs is_text is_some_of =
-    let os = obligations f.model f.map in
-    let is = instructions_in f.model.top in
-    let b = least_broken f (value_count f) in
-    let vs = verdicts_by f os (map b os) in
-    let qs = map cover_by (commands_below f (value_count f) 0 is) in
-    let any : some ≡ list_any is_some (map b os) = is_some_of ∙ ap (list_any is_some) is_bs in
-    let total = λ (p : ℕ) (q : ℕ). codes "total proved " ++ decimal p ++ codes " failed " ++ decimal q ++ codes " unknown 0" ++ 10 ∷ [] in
-    let proved_count : count_by is_none bs ≡ count_proved vs = ap (count_by is_none) is_bs ∙ proved_are f b os in
-    let failed_count : count_by is_some bs ≡ count_failed vs = ap (count_by is_some) is_bs ∙ failed_are f b os in
-    let lines : lines_by f os bs ≡ verdict_lines os vs = ap (lines_by f os) is_bs ∙ lines_are f os (map b os) in
+    ≡ verdict_lines_by (names_of f) names budget os xs ++ cover_lines_by budget is cs
+    ++ total_by (count_by is_proved xs) (count_by is_failed xs) (count_by is_unknown xs)
+    → ending ≡ ending_by (count_by is_failed xs) (count_by is_unknown xs)
+    → spent ≡ spent_among xs ++ spent_among cs
+    → IsReport (setting_of f) budget text ending (map (spent_view names) spent)
+is_report f names budget os is xs cs text ending spent is_os is_is as_long verdicts covers is_text is_ending is_spent =
+    let vs = verdicts_by f names os xs in
+    let qs = map (cover_by names) cs in
+    let obligation_lines = verdict_lines budget (obligations f.model f.map) vs in
+    let instruction_lines = cover_lines budget (instructions_in f.model.top) qs in
+    let p = proved_same f names os xs as_long in
+    let q = failed_same f names os xs as_long in
+    let r = unknown_same f names os xs as_long in
     record {
       verdicts = vs;
       covers = qs;
-      are_verdicts = each_verdict f b os (verdict_is f accepted decide falsify);
-      are_covers = each_cover f accepted give have 0 is;
+      are_verdicts = subst (λ ps. AreVerdicts (setting_of f) budget ps vs) is_os verdicts;
+      are_covers = covers;
       is_text =
           is_text
-          ∙ (ap (λ t. t ++ cover_lines is (map cover_by cs) ++ total (count_by is_none bs) (count_by is_some bs)) lines
-          ∙ (ap (λ t. verdict_lines os vs ++ cover_lines is (map cover_by t) ++ total (count_by is_none bs) (count_by is_some bs)) is_cs
-          ∙ (ap (λ p. verdict_lines os vs ++ cover_lines is qs ++ total p (count_by is_some bs)) proved_count
-          ∙ ap (λ q. verdict_lines os vs ++ cover_lines is qs ++ total (count_proved vs) q) failed_count)));
-      is_status = (λ h. some_fail f b os (sym any ∙ h), λ h. any ∙ fails_some f b os h);
+          ∙ (ap (λ t. t ++ cover_lines_by budget is cs ++ total_by (count_by is_proved xs) (count_by is_failed xs) (count_by is_unknown xs))
+          (verdicts_same f names budget os xs ∙ ap (λ ps. verdict_lines budget ps vs) is_os)
+          ∙ (ap (λ t. obligation_lines ++ t ++ total_by (count_by is_proved xs) (count_by is_failed xs) (count_by is_unknown xs))
+          (covers_same names budget is cs ∙ ap (λ js. cover_lines budget js qs) is_is)
+          ∙ (ap (λ n. obligation_lines ++ instruction_lines ++ total_by n (count_by is_failed xs) (count_by is_unknown xs)) p
+          ∙ (ap (λ n. obligation_lines ++ instruction_lines ++ total_by (count_proved vs) n (count_by is_unknown xs)) q
+          ∙ ap (λ n. obligation_lines ++ instruction_lines ++ total_by (count_proved vs) (count_failed vs) n) r))));
+      is_ending = is_ending ∙ (ap (λ n. ending_by n (count_by is_unknown xs)) q ∙ ap (λ n. ending_by (count_failed vs) n) r);
+      are_spent =
+          ap (map (spent_view names)) is_spent
+          ∙ (map-append (spent_view names) (spent_among xs) (spent_among cs)
+          ∙ (ap (λ s. s ++ map (spent_view names) (spent_among cs)) (spent_same f names os xs as_long)
+          ∙ ap (λ s. spent_in vs ++ s) (spent_covers_same names cs)));
     }
 
-pub refines : (f : First) → is_accepted f ≡ true → UnbrokenRefines → (bs : List (Option ℕ)) (some : Bool)
-    → bs ≡ map (least_broken f (value_count f)) (obligations f.model f.map) → some ≡ list_any is_some bs → some ≡ false
-    → EveryRunRefines (setting_of f)
-refines f accepted unbroken bs some is_bs is_some_of none =
-    let b = least_broken f (value_count f) in
-    let any : list_any is_some (map b (obligations f.model f.map)) ≡ false = sym (is_some_of ∙ ap (list_any is_some) is_bs) ∙ none in
-    unbroken f accepted
-    (λ k o is_o a below. none_below f o (value_count f) (none_at b (obligations f.model f.map) any k o is_o) a below)
+pub refines : (f : First) → is_accepted f ≡ true → HoldingRefines → (names : List BitName) (budget : ℕ) (os : List Obligation) (xs : List Finding)
+    (ending : Ending) → os ≡ obligations f.model f.map → length os ≡ length xs → AreVerdicts (setting_of f) budget os (verdicts_by f names os xs)
+    → ending_view ending ≡ ending_by (count_by is_failed xs) (count_by is_unknown xs) → ending ≡ AllProved → EveryRunRefines (setting_of f)
+refines f accepted holding names budget os xs ending is_os as_long verdicts is_ending all =
+    let none = none_open (count_by is_failed xs) (count_by is_unknown xs) (sym is_ending ∙ ap ending_view all) in
+    holding f accepted
+    (subst (λ ps. AllHold (setting_of f) ps) is_os
+    (all_hold (setting_of f) budget os (verdicts_by f names os xs) verdicts (sym (failed_same f names os xs as_long) ∙ none.0)
+    (sym (unknown_same f names os xs as_long) ∙ none.1)))

@@ -1,6 +1,4 @@
 pub mod Listed
-pub mod Walked
-pub mod Traced
-pub mod Bytes
-pub mod Texts
 pub mod Lines
+pub mod Totals
+pub mod Spending

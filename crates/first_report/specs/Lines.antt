@@ -1,18 +1,40 @@
 -- The lines of a report, by what was found.
-use Rattle.std.specs.Prelude.{ℕ, Bool, List, [], ◌∷◌, ◌++◌, Option, codes}
+use Rattle.std.specs.Prelude.{ℕ, List, [], ◌∷◌, ◌++◌, codes}
 use Rattle.wb_meaning.specs.Value.{Name}
+use Rattle.wb_meaning.specs.Model.{Instruction, instruction_name}
 use Rattle.wb_meaning.specs.Obligation.{Obligation}
-use Rattle.wb_meaning.specs.Report.{verdict_text, cover_text}
-use Rattle.wb_first.specs.Names.{First}
-use Rattle.first_report.specs.Traced.{verdict_by, cover_by}
+use Rattle.wb_meaning.specs.Report.{trace_text, unknown_text}
+use Rattle.first_trace.specs.Traced.{Names, trace_by}
+use Rattle.first_check.specs.Found.{values_in}
+use Rattle.first_check.specs.declared.names.BitName.{BitName}
+use Rattle.first_check.specs.declared.findings.Finding.{Finding}
+use Rattle.first_check.specs.declared.findings.Finding.TheVariants.{Holds, Breaks, Spent}
 
-abbrev pub verdict_line : First → Obligation → Option ℕ → List ℕ
-verdict_line f o b = o.called ++ verdict_text (verdict_by f o b) ++ 10 ∷ []
+-- what is said of a finding of an obligation of this name
+abbrev pub verdict_said : Names → List BitName → (budget : ℕ) → Name → Finding → List ℕ
+verdict_said traced names budget called Holds = codes " proved"
+verdict_said traced names budget called (Breaks numbers) = codes " failed " ++ trace_text (trace_by traced called (values_in names numbers.items))
+verdict_said traced names budget called (Spent formula log) = unknown_text budget
+
+abbrev pub verdict_line : Names → List BitName → (budget : ℕ) → Name → Finding → List ℕ
+verdict_line traced names budget called x = called ++ verdict_said traced names budget called x ++ 10 ∷ []
 
 -- a line for each obligation
-abbrev pub lines_by : First → List Obligation → List (Option ℕ) → List ℕ
-lines_by f (o ∷ os) (b ∷ bs) = verdict_line f o b ++ lines_by f os bs
-lines_by f _ _ = []
+abbrev pub verdict_lines_by : Names → List BitName → (budget : ℕ) → List Obligation → List Finding → List ℕ
+verdict_lines_by traced names budget (o ∷ os) (x ∷ xs) =
+    verdict_line traced names budget o.called x ++ verdict_lines_by traced names budget os xs
+verdict_lines_by traced names budget _ _ = []
 
-abbrev pub cover_line : Name → Bool → List ℕ
-cover_line n b = codes "cover." ++ n ++ cover_text (cover_by b) ++ 10 ∷ []
+-- what is said of a finding of a cover
+abbrev pub cover_said : (budget : ℕ) → Finding → List ℕ
+cover_said budget Holds = codes " no"
+cover_said budget (Breaks numbers) = codes " yes"
+cover_said budget (Spent formula log) = unknown_text budget
+
+abbrev pub cover_line : (budget : ℕ) → Name → Finding → List ℕ
+cover_line budget n x = codes "cover." ++ n ++ cover_said budget x ++ 10 ∷ []
+
+-- a line for each instruction
+abbrev pub cover_lines_by : (budget : ℕ) → List Instruction → List Finding → List ℕ
+cover_lines_by budget (i ∷ is) (x ∷ xs) = cover_line budget (instruction_name i) x ++ cover_lines_by budget is xs
+cover_lines_by budget _ _ = []

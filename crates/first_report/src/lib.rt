@@ -1,16 +1,19 @@
-//! The report of a check in the first profile: its obligations decided by all values of registers and inputs.
+//! The report of a check in the first profile: a line for what was found of each obligation and each cover, the total, and what
+//! shows that a budget was spent.
 #![tactic(auto)]
 
 mod checking;
 mod lines;
 mod listing;
-mod names;
-mod text;
-mod walk;
+mod spending;
+mod totals;
+mod values;
 
 pub use checking::{Report, check};
-pub use first_cycle::NoMemory;
+pub use first_check::NoMemory;
 pub use listing::obligations;
+pub use spending::Spent;
+pub use totals::Ending;
 
 #[cfg(test)]
 mod tests;

@@ -7,7 +7,7 @@ ghost use Rattle.first_facts.specs.View.{fact_of, obligation_of};
 ghost use Rattle.wb_first.specs.CaseView.{case_of};
 ghost use Rattle.first_report.specs.Listed.{initial_lines, idle_lines, decode_line, bound_line, commit_lines, instruction_lines, instructions_lines};
 
-use first_cycle::NoMemory;
+use first_check::NoMemory;
 use first_facts::{Fact, Obligation};
 use first_json::{FirstInstruction, FirstState};
 use std::alloc::Global;

@@ -1,155 +1,251 @@
-//! Numbers, names in order, traces and lines as text.
+//! Lines as text, totals, and how a check ends.
 
-use crate::lines::{append_cover, append_total};
-use crate::names::add_name;
-use crate::text::{append_number, append_trace};
-use first_cycle::{Named, Values};
-use std::alloc::{AllocError, Global};
+use crate::checking::check;
+use crate::lines::{append_cover, append_verdicts};
+use crate::listing::obligations;
+use crate::spending::add_spent;
+use crate::totals::{Ending, append_total, count_all, ending_of};
+use first_accept::accept;
+use first_check::{BitName, Finding, NoMemory};
+use first_json::{read_map, read_model};
+use first_text::{Action, Bounds, Direction, FirstModule, Part, Port, Primary, Term};
+use first_trace::trace_names;
+use sat_base::Log;
+use sat_gates::{blast, can_blast};
+use std::alloc::Global;
 use std::process::Abort;
 use std::test::Fail;
+use wb_first::FirstCase;
+use wb_terms::{Node, Sort, Terms};
 
-/// Numbers and their hexadecimal texts.
-const NUMBERS: [(u128, &str); 10] = [
-    (0, "\"0x0\""),
-    (1, "\"0x1\""),
-    (9, "\"0x9\""),
-    (10, "\"0xa\""),
-    (15, "\"0xf\""),
-    (16, "\"0x10\""),
-    (160, "\"0xa0\""),
-    (4096, "\"0x1000\""),
-    (3735928559, "\"0xdeadbeef\""),
-    (u128::MAX, "\"0xffffffffffffffffffffffffffffffff\""),
-];
-
-#[test]
-fn numbers(rt: HostRuntime) -> Result<(), Fail> {
-    for (number, text) in &NUMBERS {
-        let mut out = Vec::new(rt.alloc());
-        append_number(&mut out, *number)?;
-        assert_eq!(rt; out.as_slice(), text.as_bytes());
+/// A finding with a formula of a constant and an empty log.
+fn spent(alloc: Global) -> Result<Finding, Fail> {
+    let mut terms = Terms::new(alloc)?;
+    let id = terms.put(Node::Truth(true))?;
+    if !can_blast(alloc, &terms, id)? {
+        return Err("no formula".into());
     }
-    Ok(())
-}
-
-/// Names stand once each, by their bytes: a name before those that begin with it.
-#[test]
-fn names_in_order(rt: HostRuntime) -> Result<(), Fail> {
-    let mut names: Vec<&[u8]> = Vec::new(rt.alloc());
-    add_name(&mut names, b"b")?;
-    add_name(&mut names, b"ab")?;
-    add_name(&mut names, b"Z")?;
-    add_name(&mut names, b"b")?;
-    add_name(&mut names, b"a")?;
-    let mut text = Vec::new(rt.alloc());
-    for name in &names {
-        text.extend_from_slice(name)?;
-        text.push(b' ')?;
+    match terms.sort(id) {
+        Sort::Truth => {}
+        _ => return Err("no truth value".into()),
     }
-    assert_eq!(rt; text.as_slice(), b"Z a ab b ".as_slice());
-    Ok(())
+    let formula = blast(alloc, &terms, id)?;
+    Ok(Finding::Spent(formula, Log::new(alloc)))
 }
 
-/// The counter's values where go and op are 1.
-fn counter_values(alloc: Global) -> Result<Values<'static>, AllocError> {
-    let mut entries = Vec::new(alloc);
-    entries.push(Named {
-        name: b"rst",
-        number: 0,
-    })?;
-    entries.push(Named {
-        name: b"op",
-        number: 1,
-    })?;
-    entries.push(Named {
-        name: b"go",
-        number: 1,
-    })?;
-    Ok(Values { entries })
-}
-
-#[test]
-fn counter_trace(rt: HostRuntime) -> Result<(), Fail> {
-    let values = counter_values(rt.alloc())?;
-    let mut out = Vec::new(rt.alloc());
-    let registers = [b"cnt".as_slice()];
-    let inputs = [b"go".as_slice(), b"op".as_slice(), b"rst".as_slice()];
-    append_trace(
-        &mut out,
-        "commit.INC.0.state.cnt",
-        &values,
-        &registers,
-        &inputs,
-    )?;
-    let text =
-        "{\"inputs\":[{\"go\":\"0x1\",\"op\":\"0x1\",\"rst\":\"0x0\"}],\"obligation\":\"commit.INC.0.state.cnt\",\"registers\":{\"cnt\":\"0x0\"}}";
-    assert_eq!(rt; out.as_slice(), text.as_bytes());
-    Ok(())
-}
-
-/// A design without registers and without inputs but the clock.
-#[test]
-fn empty_trace(rt: HostRuntime) -> Result<(), Fail> {
-    let values = Values {
-        entries: Vec::new(rt.alloc()),
-    };
-    let mut out = Vec::new(rt.alloc());
-    append_trace(&mut out, "decode", &values, &[], &[])?;
-    let text = "{\"inputs\":[{}],\"obligation\":\"decode\",\"registers\":{}}";
-    assert_eq!(rt; out.as_slice(), text.as_bytes());
-    Ok(())
+/// A finding of each kind by its letter: `h` holds, `b` breaks under the numbers, any other is spent.
+fn findings(alloc: Global, kinds: &str, numbers: &[u128]) -> Result<Vec<Finding>, Fail> {
+    let mut list = Vec::new(alloc);
+    for kind in kinds.as_bytes() {
+        let finding = match kind {
+            b'h' => Finding::Holds,
+            b'b' => Finding::Breaks(Vec::from_slice(alloc, numbers)?),
+            _ => spent(alloc)?,
+        };
+        list.push(finding)?;
+    }
+    Ok(list)
 }
 
 #[test]
 fn covers(rt: HostRuntime) -> Result<(), Fail> {
     let mut out = Vec::new(rt.alloc());
-    append_cover(&mut out, "INC", true)?;
-    append_cover(&mut out, "CLR", false)?;
-    assert_eq!(rt; out.as_slice(), b"cover.INC yes\ncover.CLR no\n".as_slice());
+    for finding in &findings(rt.alloc(), "sbh", &[])? {
+        append_cover(&mut out, "INC", finding, 20)?;
+    }
+    let text = "cover.INC unknown 20\ncover.INC yes\ncover.INC no\n";
+    assert_eq!(rt; out.as_slice(), text.as_bytes());
     Ok(())
 }
 
-/// What broke each obligation, and the last line.
+/// The last line over these kinds of findings, and how the check ends.
 fn check_total(
     rt: &impl Abort,
     alloc: Global,
-    broken: &[Option<u32>],
+    kinds: &str,
     text: &str,
+    ending: Ending,
 ) -> Result<(), Fail> {
+    let counts = count_all(&findings(alloc, kinds, &[])?);
     let mut out = Vec::new(alloc);
-    append_total(&mut out, broken)?;
+    append_total(&mut out, counts)?;
     assert_eq!(rt; out.as_slice(), text.as_bytes());
+    assert_eq!(rt; ending_of(counts), ending);
     Ok(())
 }
 
 #[test]
 fn totals(rt: HostRuntime) -> Result<(), Fail> {
-    let proved = [None; 7];
-    check_total(
-        &rt,
-        rt.alloc(),
-        &proved,
-        "total proved 7 failed 0 unknown 0\n",
-    )?;
-    let some = [
-        None,
-        Some(0),
-        None,
-        Some(65535),
-        None,
-        None,
-        None,
-        None,
-        None,
-        None,
-        None,
-        None,
+    let alloc = rt.alloc();
+    let rows = [
+        ("", "total proved 0 failed 0 unknown 0\n", Ending::AllProved),
+        (
+            "hhhhhhhhhhhh",
+            "total proved 12 failed 0 unknown 0\n",
+            Ending::AllProved,
+        ),
+        (
+            "hsh",
+            "total proved 2 failed 0 unknown 1\n",
+            Ending::SomeUnknown,
+        ),
+        (
+            "shbb",
+            "total proved 1 failed 2 unknown 1\n",
+            Ending::SomeFailed,
+        ),
     ];
-    check_total(
-        &rt,
-        rt.alloc(),
-        &some,
-        "total proved 10 failed 2 unknown 0\n",
-    )?;
-    check_total(&rt, rt.alloc(), &[], "total proved 0 failed 0 unknown 0\n")
+    for (kinds, text, ending) in &rows {
+        check_total(&rt, alloc, kinds, text, *ending)?;
+    }
+    Ok(())
+}
+
+#[test]
+fn spent_of_findings(rt: HostRuntime) -> Result<(), Fail> {
+    let alloc = rt.alloc();
+    let mut list = Vec::new(alloc);
+    add_spent(&mut list, findings(alloc, "hsbs", &[1])?)?;
+    add_spent(&mut list, findings(alloc, "bsh", &[])?)?;
+    assert_eq!(rt; list.len(), 3);
+    Ok(())
+}
+
+const MODEL: &str =
+    "{\"name\":\"counter\",\"states\":[{\"name\":\"cnt\",\"sort\":8,\"init\":0}],\"inputs\":[{\"name\":\"op\",\"sort\":1}],\"valid\":true,\"instructions\":[{\"name\":\"INC\",\"decode\":[\"eq\",\"op\",[\"const\",1,1]],\"update\":{\"cnt\":[\"add\",\"cnt\",[\"const\",8,1]]}},{\"name\":\"CLR\",\"decode\":[\"eq\",\"op\",[\"const\",1,0]],\"update\":{\"cnt\":[\"const\",8,0]}}]}";
+
+const MAP: &str =
+    "{\"version\":1,\"top\":\"counter\",\"clock\":\"clk\",\"reset\":{\"signal\":\"rst\",\"active\":1,\"cycles\":1},\"assume\":[],\"invariants\":[],\"start\":\"go\",\"states\":{\"cnt\":\"cnt\"},\"inputs\":{\"op\":\"op\"},\"instructions\":[{\"name\":\"INC\",\"commit\":\"1\",\"bound\":1},{\"name\":\"CLR\",\"commit\":\"1\",\"bound\":1}]}";
+
+/// A name's value.
+fn named(alloc: Global, name: &[u8]) -> Result<Primary, NoMemory> {
+    Ok(Primary::Name(name.to_vec(alloc)?))
+}
+
+/// `cnt <= 0;`
+fn clear(alloc: Global) -> Result<Action, NoMemory> {
+    let target = b"cnt".to_vec(alloc)?;
+    Ok(Action::Set(target, Term::Single(Primary::Decimal(0))))
+}
+
+/// `cnt <= cnt + 1;`
+fn increment(alloc: Global) -> Result<Action, NoMemory> {
+    let target = b"cnt".to_vec(alloc)?;
+    let sum = Term::Sum(named(alloc, b"cnt")?, Primary::Decimal(1));
+    Ok(Action::Set(target, sum))
+}
+
+/// `if (rst) cnt <= 0; else if (go) if (op) cnt <= cnt + 1; else cnt <= 0;`
+fn counting(alloc: Global) -> Result<Action, NoMemory> {
+    let op = Term::Single(named(alloc, b"op")?);
+    let step = Action::WhenElse(
+        op,
+        Box::new(alloc, increment(alloc)?)?,
+        Box::new(alloc, clear(alloc)?)?,
+    );
+    let go = Term::Single(named(alloc, b"go")?);
+    let command = Action::When(go, Box::new(alloc, step)?);
+    let rst = Term::Single(named(alloc, b"rst")?);
+    Ok(Action::WhenElse(
+        rst,
+        Box::new(alloc, clear(alloc)?)?,
+        Box::new(alloc, command)?,
+    ))
+}
+
+/// An input of one bit.
+fn input(alloc: Global, name: &[u8]) -> Result<Port, NoMemory> {
+    Ok(Port {
+        direction: Direction::Input,
+        bounds: None,
+        name: name.to_vec(alloc)?,
+    })
+}
+
+/// A counter of 8 bits, without outputs.
+fn counter_module(alloc: Global) -> Result<FirstModule, NoMemory> {
+    let mut ports = Vec::new(alloc);
+    for name in ["clk", "rst", "go", "op"] {
+        ports.push(input(alloc, name.as_bytes())?)?;
+    }
+    let byte = Bounds { left: 7, right: 0 };
+    let mut parts = Vec::new(alloc);
+    parts.push(Part::Register(Some(byte), b"cnt".to_vec(alloc)?))?;
+    parts.push(Part::Clocked(b"clk".to_vec(alloc)?, counting(alloc)?))?;
+    Ok(FirstModule {
+        name: b"counter".to_vec(alloc)?,
+        ports,
+        parts,
+    })
+}
+
+fn counter(alloc: Global) -> Result<FirstCase, Fail> {
+    let Some(model) = read_model(alloc, MODEL.as_bytes())? else {
+        return Err("no model".into());
+    };
+    let Some(map) = read_map(alloc, MAP.as_bytes())? else {
+        return Err("no map".into());
+    };
+    match accept(alloc, model, map, counter_module(alloc)?)? {
+        Some(case) => Ok(case),
+        None => Err("not accepted".into()),
+    }
+}
+
+/// A register or an input by its name.
+fn bit_name(alloc: Global, name: &str, width: u32, is_register: bool) -> Result<BitName, NoMemory> {
+    Ok(BitName {
+        name: String::from_str(alloc, name)?,
+        width,
+        is_register,
+    })
+}
+
+/// The counter's names, one of them twice.
+fn counter_names(alloc: Global) -> Result<Vec<BitName>, NoMemory> {
+    let mut names = Vec::new(alloc);
+    names.push(bit_name(alloc, "cnt", 8, true)?)?;
+    names.push(bit_name(alloc, "op", 1, false)?)?;
+    names.push(bit_name(alloc, "cnt", 8, true)?)?;
+    Ok(names)
+}
+
+/// The lines of the case's obligations by these findings.
+fn verdict_lines(alloc: Global, case: &FirstCase, findings: &[Finding]) -> Result<Vec<u8>, Fail> {
+    let obligations = obligations(alloc, case)?;
+    if findings.len() != obligations.len() {
+        return Err("another count of obligations".into());
+    }
+    let traced = trace_names(alloc, case)?;
+    let names = counter_names(alloc)?;
+    let mut out = Vec::new(alloc);
+    append_verdicts(alloc, &mut out, &traced, &names, &obligations, findings, 20)?;
+    Ok(out)
+}
+
+const LINES: &str =
+    "reset.init.cnt proved\nidle.state.cnt failed {\"inputs\":[{\"go\":\"0x0\",\"op\":\"0x1\",\"rst\":\"0x0\"}],\"obligation\":\"idle.state.cnt\",\"registers\":{\"cnt\":\"0x2a\"}}\ndecode proved\nbound.INC unknown 20\ncommit.INC.0.state.cnt proved\nbound.CLR proved\ncommit.CLR.0.state.cnt proved\n";
+
+/// Of two numbers under one name the first counts, and a name without one is 0.
+#[test]
+fn verdicts(rt: HostRuntime) -> Result<(), Fail> {
+    let case = counter(rt.alloc())?;
+    let findings = findings(rt.alloc(), "hbhshhh", &[42, 1, 7])?;
+    let out = verdict_lines(rt.alloc(), &case, &findings)?;
+    assert_eq!(rt; out.as_slice(), LINES.as_bytes());
+    Ok(())
+}
+
+const REPORT: &str =
+    "reset.init.cnt proved\nidle.state.cnt proved\ndecode proved\nbound.INC proved\ncommit.INC.0.state.cnt proved\nbound.CLR proved\ncommit.CLR.0.state.cnt proved\ncover.INC yes\ncover.CLR yes\ntotal proved 7 failed 0 unknown 0\n";
+
+/// The counter keeps all its obligations, and each instruction has a command.
+#[test]
+fn report_of_the_counter(rt: HostRuntime) -> Result<(), Fail> {
+    let case = counter(rt.alloc())?;
+    let report = check(rt.alloc(), &case, 10_000)?;
+    assert_eq!(rt; report.text.as_slice(), REPORT.as_bytes());
+    assert_eq!(rt; report.ending, Ending::AllProved);
+    assert_eq!(rt; report.spent.len(), 0);
+    Ok(())
 }

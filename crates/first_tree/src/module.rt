@@ -32,7 +32,7 @@ fn limits(range: &Range<'_>) -> Result<Bounds, Stop>
 }
 
 #[tactic(auto, unfolding(crate::specs::Reading::bounds_from))]
-fn bounds(range: &Option<Range<'_>>) -> Result<Option<Bounds>, Stop>
+fn bounds(range: &Option<Box<Range<'_>>>) -> Result<Option<Bounds>, Stop>
     ensures { Gives bounds_of result (bounds_from (optional_range_of range.now)) }
 {
     match range {
@@ -102,7 +102,7 @@ fn declared(alloc: Global, list: &[PortDeclaration<'_>]) -> Result<Vec<Port>, St
 fn register(
     alloc: Global,
     signed: bool,
-    range: &Option<Range<'_>>,
+    range: &Option<Box<Range<'_>>>,
     list: &[Variable<'_>],
 ) -> Result<Part, Stop>
     ensures { Gives part_of result (register_from signed (optional_range_of range.now) (variables_of list.now)) }

@@ -1,6 +1,7 @@
 -- One gate more: what follows the longer circuit, and that every assignment of the inputs goes on in one way.
-use Rattle.std.proofs.Common.{◌≡◌, ◌∙◌, ℕ, suc, ◌+◌, ◌<◌, Bool, false, not, cond, ◌&&◌, List, [], ◌∷◌, ◌++◌, length, take, get_or, arith, refl, sym, ap, subst}
+use Rattle.std.proofs.Common.{◌≡◌, ◌∙◌, ℕ, suc, ◌+◌, ◌<◌, Bool, false, not, cond, ◌&&◌, List, [], ◌∷◌, ◌++◌, length, take, get_or, slice_get, Some, zero, arith, refl, sym, ap, subst}
 use Rattle.std.proofs.lemmas.List.{get_or-take, take_more, take_all, length-append, take-take, take_at, get_or_at}
+use Rattle.std.proofs.lemmas.Option.{none-some, same_Some, slice_get_within}
 use Rattle.sat_base.specs.declared.literals.Lit.{Lit}
 use Rattle.sat_base.specs.Formula.{variable_value, value}
 use Rattle.gate_base.specs.declared.bits.Bit.TheVariants.{Literal}
@@ -83,4 +84,22 @@ pub gives_gate : (inputs var : ℕ) (gs hs : List Gate) (g : Gate) → hs ≡ gs
 gives_gate inputs var gs hs g e v = record {
   known = omega (arith, v, ap length e ∙ length-append gs (g ∷ []));
   value = λ w f. ap (variable_value w) v ∙ last_follows inputs w gs g (subst (FollowsFrom inputs w) e f);
+}
+
+-- the variable of the gate at a place has what the gate gives
+placed_follows : (v : ℕ) (w : List Bool) (gs : List Gate) (k : ℕ) (g : Gate) → slice_get gs k ≡ Some g → FollowsFrom v w gs → variable_value w (v + k) ≡ gate_value w g
+placed_follows v w [] k g e f = absurd (none-some g e)
+placed_follows v w (h ∷ gs) zero g e f =
+    let s : v ≡ v + 0 = omega arith in
+    subst (λ n. variable_value w n ≡ gate_value w h) s f.0 ∙ ap (gate_value w) (same_Some h g e)
+placed_follows v w (h ∷ gs) (suc k) g e f =
+    let s : suc v + k ≡ v + suc k = omega arith in
+    subst (λ n. variable_value w n ≡ gate_value w g) s (placed_follows (suc v) w gs k g e f.1)
+
+-- a gate that is there already, maybe with its operands in another order
+pub gives_placed : (c : Circuit) (k : ℕ) (g h : Gate) → slice_get c.gates k ≡ Some g → ((w : List Bool) → gate_value w g ≡ gate_value w h)
+    → Gives c (Literal (record { var = c.inputs + k; negative = false })) (λ w. gate_value w h)
+gives_placed c k g h e same = record {
+  known = omega (arith, slice_get_within c.gates k g e);
+  value = λ w f. placed_follows c.inputs w c.gates k g e f ∙ same w;
 }

@@ -1,2 +1,3 @@
 pub mod Circuit
 pub mod Clauses
+pub mod Keys

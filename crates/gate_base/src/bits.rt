@@ -1,7 +1,8 @@
 //! Bits, which are what words are made of, and the gates that give new ones.
 
 ghost use Rattle.std.specs.Prelude.{◌≡◌, List, Bool, not, ℕ};
-ghost use Rattle.gate_base.specs.Circuit.{bit_value, differ, IsBitBelow};
+ghost use Rattle.gate_base.specs.Circuit.{bit_value, differ, gate_value, IsBitBelow};
+ghost use Rattle.gate_base.specs.Clauses.{IsGateBelow};
 
 use sat_base::Lit;
 
@@ -15,7 +16,7 @@ pub enum Bit {
 }
 
 /// What the variable of a gate stands for.
-#[derive(Clone, Copy, Debug)]
+#[derive(Clone, Copy, Debug, PartialEq, Eq)]
 pub enum Gate {
     /// Both are true.
     And(Lit, Lit),
@@ -43,5 +44,19 @@ impl Bit {
         ensures known { (n : ℕ) → IsBitBelow n self → IsBitBelow n result }
     {
         if flip { self.negated() } else { self }
+    }
+}
+
+impl Gate {
+    /// The same gate with its operands by their variables, where their order does not count.
+    pub(crate) fn in_order(self) -> Gate
+        ensures value { (w : List Bool) → gate_value w result ≡ gate_value w self }
+        ensures below { (n : ℕ) → IsGateBelow n self → IsGateBelow n result }
+    {
+        match self {
+            Gate::And(x, y) if y.var < x.var => Gate::And(y, x),
+            Gate::Xor(x, y) if y.var < x.var => Gate::Xor(y, x),
+            _ => self,
+        }
     }
 }

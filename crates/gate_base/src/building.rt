@@ -1,14 +1,17 @@
-//! The builder of a circuit: each call gives a bit with a stated value, and adds a gate only where no constant and no operand is the answer.
+//! The builder of a circuit: each call gives a bit with a stated value, and adds a gate only where no constant, no operand and no earlier gate is the answer.
 
-ghost use Rattle.std.specs.Prelude.{◌≡◌, ◌+◌, ◌<◌, ◌^◌, ℕ, List, Bool, [], length, not, ◌&&◌, ◌||◌, cond, IfOk, OnErr};
+ghost use Rattle.std.specs.Prelude.{◌≡◌, ◌+◌, ◌<◌, ◌^◌, ℕ, List, Bool, [], length, not, ◌&&◌, ◌||◌, cond, false, slice_get, Some, IfOk, IfSome, OnErr};
 ghost use Rattle.gate_base.specs.Circuit.{size, bit_value, differ, IsKnown, Grows, Gives, IsDetermined, IsFormulaOf};
 ghost use Rattle.gate_base.specs.Clauses.{IsGateBelow, clauses_from};
 ghost use Rattle.gate_base.specs.Circuit.{gate_value};
+ghost use Rattle.gate_base.specs.declared.bits.Bit.TheVariants.{Literal};
 
 use crate::bits::{Bit, Gate};
 use crate::clauses::{push_bit, push_gate};
+use crate::keys::GateKey;
 use sat_base::{Clause, Cnf, Lit, NoMemory};
 use std::alloc::Global;
+use std::collections::BTreeMap;
 use std::marker::Model;
 
 /// A circuit that grows. Its first variables are inputs, and each gate has a variable behind them. Contracts see the number of the inputs and
@@ -17,6 +20,8 @@ use std::marker::Model;
 pub struct Builder {
     inputs: u64,
     gates: Vec<Gate>,
+    /// Where to look for a gate. What the table says is compared with the gates themselves, so nothing has to hold of it.
+    places: BTreeMap<GateKey, usize>,
 }
 
 impl Model for Builder {
@@ -38,24 +43,60 @@ impl Builder {
         Builder {
             inputs,
             gates: Vec::new(alloc),
+            places: BTreeMap::new(alloc),
         }
     }
 
-    /// A bit for a new gate.
+    /// A bit for a gate: that of the same gate where there is one, else that of a new one. Operands whose order does not count may stand
+    /// the other way round.
     fn add(&mut self, gate: Gate) -> Result<Bit, NoMemory>
         requires { IsGateBelow (size self.old) gate }
         ensures bit { IfOk result (λ b. Gives self.new b (λ w. gate_value w gate)) }
         ensures grows { Grows self.old self.new }
         ensures err { OnErr result (self.new ≡ self.old) }
     {
-        let Some(var) = self.inputs.checked_add(self.gates.len() as u64) else {
+        let ordered = gate.in_order();
+        if let Some(place) = self.place_of(ordered) {
+            return self.bit_at(place);
+        }
+        self.put(ordered)
+    }
+
+    /// A place among the gates where the same gate stands.
+    fn place_of(&self, gate: Gate) -> Option<usize>
+        ensures { IfSome result (λ place. slice_get self.now.gates place ≡ Some gate) }
+    {
+        let place = *self.places.get(&GateKey::of(gate))?;
+        let found = *self.gates.get(place)?;
+        if found == gate { Some(place) } else { None }
+    }
+
+    /// The bit of the gate at a place.
+    fn bit_at(&self, place: usize) -> Result<Bit, NoMemory>
+        ensures { IfOk result (λ b. b ≡ Literal (record { var = self.now.inputs + place; negative = false })) }
+    {
+        let Some(var) = self.inputs.checked_add(place as u64) else {
             return Err(NoMemory);
         };
-        self.gates.push(gate)?;
         Ok(Bit::Literal(Lit {
             var,
             negative: false,
         }))
+    }
+
+    /// A bit for a new gate.
+    fn put(&mut self, gate: Gate) -> Result<Bit, NoMemory>
+        requires { IsGateBelow (size self.old) gate }
+        ensures bit { IfOk result (λ b. Gives self.new b (λ w. gate_value w gate)) }
+        ensures grows { Grows self.old self.new }
+        ensures err { OnErr result (self.new ≡ self.old) }
+    {
+        let place = self.gates.len();
+        let bit = self.bit_at(place)?;
+        // The table first: where the gate then finds no memory, the circuit stays as it was, and the entry is never taken.
+        self.places.insert(GateKey::of(gate), place)?;
+        self.gates.push(gate)?;
+        Ok(bit)
     }
 
     /// Whether both bits are true.

@@ -4,6 +4,7 @@
 mod bits;
 mod building;
 mod clauses;
+mod keys;
 
 pub use bits::{Bit, Gate};
 pub use building::Builder;

@@ -3,3 +3,5 @@
 
 #[cfg(test)]
 mod claims;
+#[cfg(test)]
+mod sharing;

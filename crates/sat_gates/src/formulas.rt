@@ -32,12 +32,14 @@ impl Model for BitMap {
 }
 
 impl BitMap {
-    /// The variable of a name's bit 0, where the name stands in the term. Bit k has the variable k further.
+    /// The variable of a name's bit 0, where the name is declared and stands in the term. Bit k has the variable k further.
     pub fn first(&self, name: NameId) -> Option<u64>
-        requires { name.0 < length self.now }
         ensures { result ≡ slice_index_or self.now name.0 None }
     {
-        self.firsts[name.0]
+        match self.firsts.get(name.0) {
+            Some(first) => *first,
+            None => None,
+        }
     }
 }
 

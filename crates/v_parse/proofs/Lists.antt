@@ -222,11 +222,10 @@ parted_again Is next one Fits again goes _ _ _ (and_parts x xs text more rest d 
 -- ---- the turns of a list's loop
 
 -- the first part
-pub list_begins : {A B : Type 0} (view : B → A) (next : Passes) (one : ReaderOf A) (ts : List Token) (x : B) (rest : List Token) (new xs : List B) → new ≡ [] → xs ≡ new ++ x ∷ []
+pub list_begins : {A B : Type 0} (view : B → A) (next : Passes) (one : ReaderOf A) (ts : List Token) (x : B) (rest : List Token) (xs : List B) → xs ≡ x ∷ []
     → one ts ≡ Some (view x, rest) → with_front (map view xs) (others_at next one rest) ≡ parted_at next one ts
 unfolding parted_at more_at
-list_begins view next one ts x rest new xs none pushed e =
-    let now : xs ≡ x ∷ [] = pushed ∙ ap (λ ys. ys ++ x ∷ []) none in
+list_begins view next one ts x rest xs now e =
     let read : with_front (view x ∷ []) (others_at next one rest) ≡ parted_at next one ts = rw e refl in
     subst (λ ys. with_front (map view ys) (others_at next one rest) ≡ parted_at next one ts) (sym now) read
 

@@ -13,7 +13,7 @@ use Rattle.v_syntax.specs.declared.module.Assignment.{Assignment}
 use Rattle.v_syntax.specs.declared.module.Instance.{Instance}
 use Rattle.v_syntax.specs.declared.module.Tree.{Tree}
 use Rattle.v_syntax.specs.Tree.{tree_of, target_of}
-use Rattle.v_syntax.specs.Source.{edge_of, optional_tree_of, optional_range_of, connections_of, source_of}
+use Rattle.v_syntax.specs.Source.{edge_of, optional_tree_of, boxed_tree_of, optional_range_of, connections_of, source_of}
 use Rattle.v_parse.specs.declared.stop.ParseStop.{ParseStop}
 use Rattle.v_parse.specs.declared.stop.ParseStop.TheVariants.{NoMemory, Refused}
 
@@ -27,7 +27,7 @@ abbrev pub named_entry_of : NamedConnection → Name × Option pure.Expression
 named_entry_of c = (c.name.now, optional_tree_of c.value)
 
 abbrev pub wire_of : Wire → Name × Option pure.Expression
-wire_of w = (w.name.now, optional_tree_of w.value)
+wire_of w = (w.name.now, boxed_tree_of w.value)
 
 abbrev pub variable_of : Variable → Name × Option pure.Range
 variable_of v = (v.name.now, optional_range_of v.addresses)

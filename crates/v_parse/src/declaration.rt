@@ -2,12 +2,12 @@
 
 ghost use Rattle.std.specs.Prelude.{◌≡◌, option_map, map, Some};
 ghost use Rattle.v_token.specs.View.{tokens_of};
-ghost use Rattle.v_syntax.specs.Source.{range_of, optional_range_of, optional_tree_of, direction_of, kind_of, port_of, parameter_of};
+ghost use Rattle.v_syntax.specs.Source.{range_of, optional_range_of, boxed_tree_of, direction_of, kind_of, port_of, parameter_of};
 ghost use Rattle.v_expr.specs.View.{Gives};
 ghost use Rattle.v_parse.specs.Reading.{range_at, perhaps_range_at, direction_at, net_kind_at, names_at, declared_port_at, port_at, setting_at, settings_at, parameter_word_at, declared_parameter_at, perhaps_value_at, wire_at, wires_at, variable_at, variables_at};
 ghost use Rattle.v_parse.specs.View.{setting_of, wire_of, variable_of};
 
-use crate::front::{behind_comma_at_name, flag};
+use crate::front::{begun_with, behind_comma_at_name, flag};
 use std::alloc::Global;
 use v_body::word::{behind_word, name};
 use v_expr::reader::{behind_mark, mark};
@@ -39,12 +39,13 @@ fn range<'s, 't>(
 pub fn perhaps_range<'s, 't>(
     alloc: Global,
     tokens: &'t [Token<'s>],
-) -> Result<(Option<Range<'s>>, &'t [Token<'s>]), ExpressionStop>
+) -> Result<(Option<Box<Range<'s>>>, &'t [Token<'s>]), ExpressionStop>
     ensures { Gives (λ x. (optional_range_of x.0, tokens_of x.1.now)) result (perhaps_range_at (tokens_of tokens.now)) }
 {
     match behind_mark(tokens, Mark::LeftBracket) {
         Some(inside) => {
             let (range, rest) = range(alloc, inside)?;
+            let range = Box::new(alloc, range)?;
             Ok((Some(range), rest))
         }
         None => Ok((None, tokens)),
@@ -88,8 +89,7 @@ pub fn names<'s, 't>(
     ensures { Gives (λ x. (map (λ n. n.now) x.0.items, tokens_of x.1.now)) result (names_at (tokens_of tokens.now)) }
 {
     let (first, mut rest) = name(tokens)?;
-    let mut names = Vec::new(alloc);
-    names.push(first)?;
+    let mut names = begun_with(alloc, first)?;
     loop {
         match behind_comma_at_name(rest) {
             None => return Ok((names, rest)),
@@ -167,8 +167,7 @@ fn settings<'s, 't>(
     ensures { Gives (λ x. (map setting_of x.0.items, tokens_of x.1.now)) result (settings_at (tokens_of tokens.now)) }
 {
     let (first, mut rest) = setting(alloc, tokens)?;
-    let mut values = Vec::new(alloc);
-    values.push(first)?;
+    let mut values = begun_with(alloc, first)?;
     loop {
         match behind_comma_at_name(rest) {
             None => return Ok((values, rest)),
@@ -223,12 +222,13 @@ pub fn declared_parameter<'s, 't>(
 fn perhaps_value<'s, 't>(
     alloc: Global,
     tokens: &'t [Token<'s>],
-) -> Result<(Option<Expression<'s>>, &'t [Token<'s>]), ExpressionStop>
-    ensures { Gives (λ x. (optional_tree_of x.0, tokens_of x.1.now)) result (perhaps_value_at (tokens_of tokens.now)) }
+) -> Result<(Option<Box<Expression<'s>>>, &'t [Token<'s>]), ExpressionStop>
+    ensures { Gives (λ x. (boxed_tree_of x.0, tokens_of x.1.now)) result (perhaps_value_at (tokens_of tokens.now)) }
 {
     match behind_mark(tokens, Mark::Equals) {
         Some(value) => {
             let (value, rest) = expression(alloc, value)?;
+            let value = Box::new(alloc, value)?;
             Ok((Some(value), rest))
         }
         None => Ok((None, tokens)),
@@ -257,8 +257,7 @@ pub fn wires<'s, 't>(
     ensures { Gives (λ x. (map wire_of x.0.items, tokens_of x.1.now)) result (wires_at (tokens_of tokens.now)) }
 {
     let (first, mut rest) = wire(alloc, tokens)?;
-    let mut wires = Vec::new(alloc);
-    wires.push(first)?;
+    let mut wires = begun_with(alloc, first)?;
     loop {
         match behind_mark(rest, Mark::Comma) {
             None => return Ok((wires, rest)),
@@ -293,8 +292,7 @@ pub fn variables<'s, 't>(
     ensures { Gives (λ x. (map variable_of x.0.items, tokens_of x.1.now)) result (variables_at (tokens_of tokens.now)) }
 {
     let (first, mut rest) = variable(alloc, tokens)?;
-    let mut variables = Vec::new(alloc);
-    variables.push(first)?;
+    let mut variables = begun_with(alloc, first)?;
     loop {
         match behind_mark(rest, Mark::Comma) {
             None => return Ok((variables, rest)),

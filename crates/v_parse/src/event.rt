@@ -7,6 +7,7 @@ ghost use Rattle.v_expr.specs.View.{Gives};
 ghost use Rattle.v_parse.specs.Reading.{edge_at, event_at, next_event, event_list_at, events_at, star_at, in_parentheses_at, control_at};
 ghost use Rattle.v_parse.specs.View.{event_of};
 
+use crate::front::begun_with;
 use std::alloc::Global;
 use v_body::word::{behind_word, name};
 use v_expr::ExpressionStop;
@@ -58,8 +59,7 @@ fn event_list<'s, 't>(
     ensures { Gives (λ x. (map event_of x.0.items, tokens_of x.1.now)) result (event_list_at (tokens_of tokens.now)) }
 {
     let (first, mut rest) = event(tokens)?;
-    let mut events = Vec::new(alloc);
-    events.push(first)?;
+    let mut events = begun_with(alloc, first)?;
     loop {
         match behind_or(rest) {
             None => return Ok((events, rest)),

@@ -1,6 +1,6 @@
-//! Words and marks in front of tokens.
+//! Words and marks in front of tokens, and the lists that are read behind them.
 
-ghost use Rattle.std.specs.Prelude.{◌≡◌, option_map, Some};
+ghost use Rattle.std.specs.Prelude.{◌≡◌, ◌∷◌, [], option_map, Some, IfOk};
 ghost use Rattle.wb_meaning.specs.Verilog.Token.{comma};
 ghost use Rattle.v_token.specs.View.{mark_of, tokens_of};
 ghost use Rattle.v_expr.specs.Reading.{after_mark};
@@ -8,6 +8,7 @@ ghost use Rattle.v_expr.specs.View.{Gives};
 ghost use Rattle.v_body.specs.Words.{after_word};
 ghost use Rattle.v_parse.specs.Lists.{flag_at, at_name, before_name};
 
+use std::alloc::{AllocError, Global};
 use v_body::word::behind_word;
 use v_expr::ExpressionStop;
 use v_expr::reader::behind_mark;
@@ -85,4 +86,13 @@ pub fn behind_comma_at_name<'s, 't>(tokens: &'t [Token<'s>]) -> Option<&'t [Toke
         Some(rest) => at_name(rest),
         None => None,
     }
+}
+
+/// A list of one element, with room for no more: most lists of a declaration have one.
+pub fn begun_with<T: Drop>(alloc: Global, first: T) -> Result<Vec<T>, AllocError>
+    ensures { IfOk result (λ list. list.items ≡ first ∷ []) }
+{
+    let mut list = Vec::with_capacity(alloc, 1)?;
+    list.push(first)?;
+    Ok(list)
 }

@@ -7,6 +7,7 @@ ghost use Rattle.v_expr.specs.View.{Gives};
 ghost use Rattle.v_parse.specs.Reading.{entry_at, entries_at, named_entry_at, named_entries_at, by_order_at, by_name_at, connections_at, instance_at, instances_at, overrides_at};
 ghost use Rattle.v_parse.specs.View.{named_entry_of, instance_of};
 
+use crate::front::begun_with;
 use std::alloc::Global;
 use v_body::word::name;
 use v_expr::reader::{behind_mark, mark};
@@ -42,8 +43,7 @@ fn entries<'s, 't>(
     ensures { Gives (λ x. (map optional_tree_of x.0.items, tokens_of x.1.now)) result (entries_at (tokens_of tokens.now)) }
 {
     let (first, mut rest) = entry(alloc, tokens)?;
-    let mut entries = Vec::new(alloc);
-    entries.push(first)?;
+    let mut entries = begun_with(alloc, first)?;
     loop {
         match behind_mark(rest, Mark::Comma) {
             None => return Ok((entries, rest)),
@@ -81,8 +81,7 @@ fn named_entries<'s, 't>(
     ensures { Gives (λ x. (map named_entry_of x.0.items, tokens_of x.1.now)) result (named_entries_at (tokens_of tokens.now)) }
 {
     let (first, mut rest) = named_entry(alloc, tokens)?;
-    let mut entries = Vec::new(alloc);
-    entries.push(first)?;
+    let mut entries = begun_with(alloc, first)?;
     loop {
         match behind_mark(rest, Mark::Comma) {
             None => return Ok((entries, rest)),
@@ -160,8 +159,7 @@ pub fn instances<'s, 't>(
     ensures { Gives (λ x. (map instance_of x.0.items, tokens_of x.1.now)) result (instances_at (tokens_of tokens.now)) }
 {
     let (first, mut rest) = instance(alloc, tokens)?;
-    let mut instances = Vec::new(alloc);
-    instances.push(first)?;
+    let mut instances = begun_with(alloc, first)?;
     loop {
         match behind_mark(rest, Mark::Comma) {
             None => return Ok((instances, rest)),

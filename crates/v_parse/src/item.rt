@@ -13,7 +13,7 @@ use crate::declaration::{
     declared_parameter, declared_port, direction, parameter_word, perhaps_range, variables, wires,
 };
 use crate::event::control;
-use crate::front::{closing, flag};
+use crate::front::{begun_with, closing, flag};
 use crate::instance::{instances, overrides};
 use std::alloc::Global;
 use v_body::statement::statement;
@@ -102,8 +102,7 @@ fn assignments<'s, 't>(
     ensures { Gives (λ x. (map assignment_of x.0.items, tokens_of x.1.now)) result (assignments_at (tokens_of tokens.now)) }
 {
     let (first, mut rest) = one_assignment(alloc, tokens)?;
-    let mut assignments = Vec::new(alloc);
-    assignments.push(first)?;
+    let mut assignments = begun_with(alloc, first)?;
     loop {
         match behind_mark(rest, Mark::Comma) {
             None => return Ok((assignments, rest)),
@@ -140,6 +139,7 @@ fn always_item<'s, 't>(
     let rest = mark(tokens, Mark::At)?;
     let (events, rest) = control(alloc, rest)?;
     let (body, rest) = statement(alloc, rest)?;
+    let body = Box::new(alloc, body)?;
     Ok((Item::Always(events, body), rest))
 }
 

@@ -9,7 +9,7 @@ ghost use Rattle.v_parse.specs.Lists.{at_end};
 ghost use Rattle.v_parse.specs.Reading.{header_parameter_at, parameter_list_at, some_parameters_at, header_parameters_at, port_list_at, declared_ports_at, listed_ports_at, some_ports_at, ports_at, items_at, module_at, modules_at};
 
 use crate::declaration::{declared_parameter, direction, names, port};
-use crate::front::{closing, keyword};
+use crate::front::{begun_with, closing, keyword};
 use crate::item::item;
 use std::alloc::Global;
 use v_body::word::{behind_word, name};
@@ -40,8 +40,7 @@ fn parameter_list<'s, 't>(
     ensures { Gives (λ x. (map parameter_of x.0.items, tokens_of x.1.now)) result (parameter_list_at (tokens_of tokens.now)) }
 {
     let (first, mut rest) = header_parameter(alloc, tokens)?;
-    let mut parameters = Vec::new(alloc);
-    parameters.push(first)?;
+    let mut parameters = begun_with(alloc, first)?;
     loop {
         match behind_mark(rest, Mark::Comma) {
             None => return Ok((parameters, rest)),
@@ -82,8 +81,7 @@ fn port_list<'s, 't>(
     ensures { Gives (λ x. (map port_of x.0.items, tokens_of x.1.now)) result (port_list_at (tokens_of tokens.now)) }
 {
     let (first, mut rest) = port(alloc, tokens)?;
-    let mut ports = Vec::new(alloc);
-    ports.push(first)?;
+    let mut ports = begun_with(alloc, first)?;
     loop {
         match behind_mark(rest, Mark::Comma) {
             None => return Ok((ports, rest)),

@@ -1,5 +1,7 @@
 -- The pure trees that the code's declarations, items, modules and sources stand for.
 use Rattle.std.specs.Prelude.{Option, Some, None, map}
+use Rattle.std.specs.declared.boxed.Box.{Box}
+use Rattle.std.specs.declared.alloc.Global.{Global}
 use Rattle.wb_meaning.specs.Verilog.Syntax as pure
 use Rattle.v_syntax.specs.declared.tree.Expression.{Expression}
 use Rattle.v_syntax.specs.declared.module.EdgeKind.{EdgeKind}
@@ -35,13 +37,17 @@ events_of (OnEvents es) = pure.on_events (map (λ e. record { edge = edge_of e.e
 abbrev pub range_of : Range → pure.Range
 range_of r = record { left = tree_of r.left; right = tree_of r.right }
 
-abbrev pub optional_range_of : Option Range → Option pure.Range
+abbrev pub optional_range_of : Option (Box Range Global) → Option pure.Range
 optional_range_of None = None
-optional_range_of (Some r) = Some (range_of r)
+optional_range_of (Some b) = Some (range_of b.value)
 
 abbrev pub optional_tree_of : Option Expression → Option pure.Expression
 optional_tree_of None = None
 optional_tree_of (Some e) = Some (tree_of e)
+
+abbrev pub boxed_tree_of : Option (Box Expression Global) → Option pure.Expression
+boxed_tree_of None = None
+boxed_tree_of (Some b) = Some (tree_of b.value)
 
 abbrev pub direction_of : Direction → pure.Direction
 direction_of Input = pure.input
@@ -67,10 +73,10 @@ connections_of (ByOrder cs) = pure.by_order (map optional_tree_of cs.items)
 abbrev pub item_of : Item → pure.Item
 item_of (Port p) = pure.port (port_of p)
 item_of (Parameter p) = pure.parameter (parameter_of p)
-item_of (Wires s r ws) = pure.wires s (optional_range_of r) (map (λ w. (w.name.now, optional_tree_of w.value)) ws.items)
+item_of (Wires s r ws) = pure.wires s (optional_range_of r) (map (λ w. (w.name.now, boxed_tree_of w.value)) ws.items)
 item_of (Variables s r vs) = pure.variables s (optional_range_of r) (map (λ v. (v.name.now, optional_range_of v.addresses)) vs.items)
 item_of (Assign xs) = pure.assign (map (λ a. (target_of a.target, tree_of a.value)) xs.items)
-item_of (Always es x) = pure.always (events_of es) (statement_of x)
+item_of (Always es b) = pure.always (events_of es) (statement_of b.value)
 item_of (Instances m ps is) = pure.instances m.now (connections_of ps) (map (λ i. (i.name.now, connections_of i.connections)) is.items)
 
 abbrev pub ports_of : Ports → pure.Ports

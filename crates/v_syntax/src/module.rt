@@ -1,4 +1,4 @@
-//! Declarations, module items, modules and sources, as they are written.
+//! Declarations, module items, modules and sources, as they are written. What most of them go without stands behind a `Box`.
 use crate::tree::{Expression, Statement, Target};
 
 /// The edge of an event.
@@ -56,7 +56,7 @@ pub struct PortDeclaration<'s> {
     /// `wire` or `reg`, where it stands there.
     pub kind: Option<NetKind>,
     pub signed: bool,
-    pub range: Option<Range<'s>>,
+    pub range: Option<Box<Range<'s>>>,
     pub names: Vec<&'s str>,
 }
 
@@ -73,7 +73,7 @@ pub struct ParameterDeclaration<'s> {
     /// Whether it is a `localparam`.
     pub is_local: bool,
     pub signed: bool,
-    pub range: Option<Range<'s>>,
+    pub range: Option<Box<Range<'s>>>,
     pub values: Vec<ParameterValue<'s>>,
 }
 
@@ -97,14 +97,14 @@ pub enum Connections<'s> {
 #[derive(Drop)]
 pub struct Wire<'s> {
     pub name: &'s str,
-    pub value: Option<Expression<'s>>,
+    pub value: Option<Box<Expression<'s>>>,
 }
 
 /// A variable, or a memory where it has a range of addresses.
 #[derive(Drop)]
 pub struct Variable<'s> {
     pub name: &'s str,
-    pub addresses: Option<Range<'s>>,
+    pub addresses: Option<Box<Range<'s>>>,
 }
 
 /// A continuous assignment.
@@ -127,11 +127,11 @@ pub enum Item<'s> {
     Port(PortDeclaration<'s>),
     Parameter(ParameterDeclaration<'s>),
     /// `wire`: whether signed, the range, the nets.
-    Wires(bool, Option<Range<'s>>, Vec<Wire<'s>>),
+    Wires(bool, Option<Box<Range<'s>>>, Vec<Wire<'s>>),
     /// `reg`: whether signed, the range, the variables.
-    Variables(bool, Option<Range<'s>>, Vec<Variable<'s>>),
+    Variables(bool, Option<Box<Range<'s>>>, Vec<Variable<'s>>),
     Assign(Vec<Assignment<'s>>),
-    Always(Events<'s>, Statement<'s>),
+    Always(Events<'s>, Box<Statement<'s>>),
     /// Of which module, its parameters, the instances.
     Instances(&'s str, Connections<'s>, Vec<Instance<'s>>),
 }

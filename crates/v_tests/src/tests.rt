@@ -1,5 +1,6 @@
 //! Small texts from bytes to a tree or to the kind that refuses them.
 
+mod places;
 mod tables;
 
 use std::alloc::{AllocError, Global};
@@ -7,7 +8,7 @@ use std::process::Abort;
 use std::test::Fail;
 use v_dotted::{dotted_tokens, whole_expression};
 use v_expr::expression;
-use v_lex::{LexKind, LexStop, tokens};
+use v_lex::{LexKind, LexStop, Note, note_at, tokens};
 use v_narrow::{are_objects_narrow, is_narrow, values_fit};
 use v_parse::{ParseStop, parse};
 use v_syntax::expression::assigned_value;
@@ -102,6 +103,64 @@ fn first_texts(rt: HostRuntime) -> Result<(), Fail> {
 #[test]
 fn more_texts(rt: HostRuntime) -> Result<(), Fail> {
     check(&rt, rt.alloc(), &tables::MORE_TEXTS)
+}
+
+/// The note that leads to the first token that does not fit, where the tokens of the files are no source.
+fn place_in(alloc: Global, files: &[Vec<u8>]) -> Result<Option<Note>, AllocError> {
+    let Ok(tokens) = tokens(alloc, files) else {
+        return Ok(None);
+    };
+    match parse(alloc, &tokens) {
+        Ok(_) => Ok(None),
+        Err(ParseStop::Refused(left)) => {
+            let first = tokens.len().saturating_sub(left);
+            Ok(note_at(alloc, files, tokens.get(first).copied()))
+        }
+        Err(ParseStop::NoMemory) => Err(AllocError),
+    }
+}
+
+fn check_place(rt: &impl Abort, alloc: Global, files: &[Vec<u8>], place: &str) -> Result<(), Fail> {
+    let note = place_in(alloc, files)?.ok_or("no place")?;
+    assert_eq!(rt; note.as_bytes(), place.as_bytes());
+    Ok(())
+}
+
+fn check_places(rt: &impl Abort, alloc: Global, rows: &[(&str, &str)]) -> Result<(), Fail> {
+    for (text, place) in rows {
+        let files = vec![in alloc; Vec::from_slice(alloc, text.as_bytes())?]?;
+        check_place(rt, alloc, &files, place)?;
+    }
+    Ok(())
+}
+
+#[test]
+fn places_in_headers(rt: HostRuntime) -> Result<(), Fail> {
+    check_places(&rt, rt.alloc(), &places::HEADERS)
+}
+
+#[test]
+fn places_in_declarations(rt: HostRuntime) -> Result<(), Fail> {
+    check_places(&rt, rt.alloc(), &places::DECLARATIONS)
+}
+
+#[test]
+fn places_in_blocks(rt: HostRuntime) -> Result<(), Fail> {
+    check_places(&rt, rt.alloc(), &places::BLOCKS)
+}
+
+/// A place behind the first file, and one at the end of the last.
+#[test]
+fn places_in_files(rt: HostRuntime) -> Result<(), Fail> {
+    let alloc = rt.alloc();
+    let first = Vec::from_slice(alloc, b"module m;\nendmodule\n")?;
+    let second = Vec::from_slice(alloc, b"\nmodule n;\n  wire a b;\nendmodule")?;
+    let files = vec![in alloc; first, second]?;
+    check_place(&rt, alloc, &files, "file 1 line 3 column 10: b;")?;
+    let first = Vec::from_slice(alloc, b"module m;\n")?;
+    let second = Vec::from_slice(alloc, b"wire a;\n")?;
+    let files = vec![in alloc; first, second]?;
+    check_place(&rt, alloc, &files, "file 1 line 2 column 1: ")
 }
 
 /// The value of a text's expression in an assignment to 32 bits, where it is an expression without names.

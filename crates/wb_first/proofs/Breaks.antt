@@ -1,115 +1,23 @@
--- Values that break an obligation falsify it, and whole commands are those of numbers.
-use Rattle.std.proofs.Common.{◌≡◌, ◌≢◌, ℕ, zero, suc, ◌<◌, ◌≤◌, Bool, true, false, cond, not, ◌&&◌, List, [], ◌∷◌, subst, sym, refl, ap, ◌∙◌, Option, Some, None, arith, eq-eqb}
+-- What is met on the values of a run holds of it: hypotheses that are met, and claims that hold are met.
+use Rattle.std.proofs.Common.{◌≡◌, ◌≢◌, ℕ, zero, suc, Bool, true, false, cond, List, [], ◌∷◌, subst, sym, refl, ap, ◌∙◌, Option, Some, None, arith, eq-eqb}
 use Rattle.std.specs.Prelude.{is_some, IsTrue, slice_get}
-use mathlib.Core.Path.{fun_ext}
 use Rattle.wb_meaning.specs.Value.{Name, same_name, Sort, truth, word, memory, Value, number, truth_value, Valuation, Entries, entry_of}
 use Rattle.wb_meaning.specs.Model.{Instruction, instruction, instructions_in, valid_of, decode_of, holds, updated, point_of, StateDeclaration, state_named, states_of, child_of, no_child, child}
 use Rattle.wb_meaning.specs.Instruction.{DoesInstruction, Does, state_in}
-use Rattle.wb_meaning.specs.Verilog.Syntax.{Expression, input}
+use Rattle.wb_meaning.specs.Verilog.Syntax.{Expression}
 use Rattle.wb_meaning.specs.Verilog.Expression.{is_true, self_value}
-use Rattle.wb_meaning.specs.Verilog.Settled.{IsValueOf, IsPort, IsSettled}
-use Rattle.wb_meaning.specs.Verilog.Next.{AreInputs, IsNext}
-use Rattle.wb_meaning.specs.Verilog.Hierarchy.{placed_scope}
 use Rattle.wb_meaning.specs.Map.{Setting, mapped_value, mapped_or_zero, sort_of_state, map_scope}
 use Rattle.wb_meaning.specs.Run.{Run, IsRun}
 use Rattle.wb_meaning.specs.Refinement.{state_at, inputs_at}
 use Rattle.wb_meaning.specs.Obligation.{Fact, reset_active, reset_inactive, assumed, invariant, start, no_start, decoded, commit, no_commit, initial, same, one_decodes, ends, result_of, never, Means, MeansAll}
-use Rattle.first_text.specs.Tree.{module_tree}
-use Rattle.wb_first.specs.Names.{First, setting_of, scope_of_first, is_input, is_declared, is_register}
-use Rattle.wb_first.specs.Accepted.{fits_sort, state_sort, states_are_mapped, declared_names, has_no_child}
-use Rattle.wb_first.specs.Cycle.{held, settled, next_registers}
-use Rattle.wb_first.specs.Decided.{same_value, no_inputs, first_valuation, second_valuation, state_of, start_point, is_reset, starts, decodes_option, decodes_number, commits_number, initial_met, decode_count, update_of, result_at, is_met, all_met, values_of, first_of_number, second_of_number}
-use Rattle.wb_first.specs.Claims.{registers_of_number, inputs_of_number, BeginsWith}
+use Rattle.wb_first.specs.Names.{First, setting_of}
+use Rattle.wb_first.specs.Accepted.{fits_sort, state_sort, states_are_mapped, has_no_child, updates_of}
+use Rattle.wb_first.specs.Decided.{same_value, first_valuation, second_valuation, state_of, start_point, is_reset, starts, decodes_option, decodes_number, commits_number, initial_met, decode_count, result_at, is_met, all_met}
 use Rattle.wb_first.proofs.Alike.{and_left, and_right}
 use Rattle.wb_first.proofs.Rules.{Keeps}
-use Rattle.wb_first.proofs.Shape.{design_of_first, only_top, port_input}
-use Rattle.wb_first.proofs.Edge.{IsNumberOf, same_name_true}
+use Rattle.wb_first.proofs.Edge.{same_name_true}
 use Rattle.wb_first.proofs.Facts.{false_of_not, childless_at}
 use Rattle.wb_first.proofs.Decides.{IsHypothesis, AreHypotheses, IsClaim, state_first, state_second, point_first, means_reset, start_same, means_commit, reset_means, commit_means}
-use Rattle.wb_first.proofs.Enumerated.{first_by_held, second_by_held}
-use Rattle.wb_first.proofs.Built.{KeepsMore, sliced_fit, are_registers, value_of_number, is_settled, is_next, next_fits, zero_number}
-
--- at cycle 0 one thing, and from then on another
-abbrev at_cycle : {A : Type 0} → A → A → ℕ → A
-at_cycle a b zero = a
-at_cycle a b (suc t) = b
-
-module _ (f : First) (k : Keeps f) (more : KeepsMore f) (a : ℕ) where
-  abbrev R : Valuation
-  R = registers_of_number f a
-
-  abbrev I : Valuation
-  I = inputs_of_number f a
-
-  registers_fit : (n : Name) → is_declared f.design n ≡ true → IsNumberOf (scope_of_first f.design) n (R n)
-  registers_fit n h =
-      elim (is_register f.design n) as (λ t. IsNumberOf (scope_of_first f.design) n (cond t (values_of f a n) (number 0))) [
-        | true ↦ sliced_fit f (declared_names f.design) a n
-        | false ↦ zero_number f.design n
-      ]
-
-  inputs_fit : (n : Name) → is_input f.design n ≡ true → IsNumberOf (scope_of_first f.design) n (I n)
-  inputs_fit n h = sliced_fit f (declared_names f.design) a n
-
-  -- what is held is what the number's values give
-  same_as_number : held f R I ≡ held f (values_of f a) (values_of f a)
-  same_as_number = fun_ext (λ n.
-      elim (is_register f.design n) as
-      (λ t. cond t (cond t (values_of f a n) (number 0)) (cond (is_input f.design n && not (same_name n f.map.clock)) (values_of f a n) (number 0))
-      ≡ cond t (values_of f a n) (cond (is_input f.design n && not (same_name n f.map.clock)) (values_of f a n) (number 0))) [
-        | true ↦ refl
-        | false ↦ refl
-      ])
-
-  abbrev pub run_of : Run
-  run_of = record {
-    registers = at_cycle R (next_registers f R I);
-    inputs = at_cycle I no_inputs;
-    valuations = at_cycle (settled f R I) (settled f (next_registers f R I) no_inputs);
-  }
-
-  inputs_are : (q : Valuation) → ((n : Name) → is_input f.design n ≡ true → IsNumberOf (scope_of_first f.design) n (q n)) → AreInputs (design_of_first f) q
-  inputs_are q fits p n e is_port other =
-      let only = only_top f k.is_top [] p e in
-      let is_port' : IsPort (module_tree f.design) n input = subst (λ x. IsPort x.of_module n input) only.1 is_port in
-      subst (λ x. IsValueOf (placed_scope x n) (q n)) (sym only.1)
-      (value_of_number f.design n (q n) (fits n (port_input f.design n is_port')))
-
-  zero_inputs : (n : Name) → is_input f.design n ≡ true → IsNumberOf (scope_of_first f.design) n (no_inputs n)
-  zero_inputs n h = zero_number f.design n
-
-  pub run_is : IsRun (setting_of f) run_of 1
-  run_is = record {
-    first = are_registers f k R registers_fit (λ n g. rw g refl);
-    inputs = λ t h. each_input t;
-    settled = λ t h. each_settled t h;
-    next = λ t h. each_next t h;
-  }
-    where
-      each_input : (t : ℕ) → AreInputs (design_of_first f) (at_cycle I no_inputs t)
-      each_input zero = inputs_are I inputs_fit
-      each_input (suc t) = inputs_are no_inputs zero_inputs
-
-      each_settled : (t : ℕ) → t ≤ 1 → IsSettled (design_of_first f) (at_cycle R (next_registers f R I) t) (at_cycle I no_inputs t)
-          (at_cycle (settled f R I) (settled f (next_registers f R I) no_inputs) t)
-      each_settled zero h = is_settled f k more R I registers_fit inputs_fit
-      each_settled (suc t) h =
-          is_settled f k more (next_registers f R I) no_inputs (next_fits f k more R I registers_fit inputs_fit) zero_inputs
-
-      each_next : (t : ℕ) → t < 1 → IsNext (design_of_first f) (at_cycle (settled f R I) (settled f (next_registers f R I) no_inputs) t)
-          (at_cycle R (next_registers f R I) (suc t))
-      each_next zero h = is_next f k more R I registers_fit inputs_fit
-      each_next (suc t) h = absurd (omega arith)
-
-  pub begins : BeginsWith f a run_of
-  begins = record { is_run = run_is; registers = refl; inputs = refl }
-
-  -- the run's facts are those of the number's valuations
-  pub first_is : first_valuation f R I ≡ first_of_number f a
-  first_is = first_by_held f R I (values_of f a) (values_of f a) same_as_number
-
-  pub second_is : second_valuation f R I ≡ second_of_number f a
-  second_is = second_by_held f R I (values_of f a) (values_of f a) same_as_number
 
 -- ---- values that can be compared
 
@@ -120,7 +28,7 @@ same_truth false = refl
 same_number : (x : ℕ) → same_value (number x) (number x) ≡ true
 same_number x = eq-eqb x x refl
 
-sort_found : (ds : List StateDeclaration) (n : Name) → state_sort ds n ≡ sort_of_state (state_named ds n)
+pub sort_found : (ds : List StateDeclaration) (n : Name) → state_sort ds n ≡ sort_of_state (state_named ds n)
 sort_found [] n = refl
 sort_found (d ∷ ds) n =
     elim (same_name d.state_name n) as
@@ -129,7 +37,7 @@ sort_found (d ∷ ds) n =
       | false ↦ sort_found ds n
     ]
 
-sort_entry : (f : First) (es : Entries Expression) → states_are_mapped f es ≡ true → (n : Name) (e : Expression) → entry_of es n ≡ Some e
+pub sort_entry : (f : First) (es : Entries Expression) → states_are_mapped f es ≡ true → (n : Name) (e : Expression) → entry_of es n ≡ Some e
     → fits_sort f (state_sort (states_of f.model.top) n) e ≡ true
 sort_entry f [] h n e is_e = cc
 sort_entry f (x ∷ es) h n e is_e =
@@ -267,7 +175,7 @@ module _ (f : First) (k : Keeps f) (run : Run) (is_run : IsRun (setting_of f) ru
       (λ j o e n d. one.no_other j o e n (ap (holds (decode_of o)) (point_first f k run is_run) ∙ d)) in
       rw (valid, count) refl
 
-  done_childless : (i : Instruction) → has_no_child (child_of i) ≡ true → (p : Valuation) → DoesInstruction i p (updated (update_of i) p)
+  done_childless : (i : Instruction) → has_no_child (child_of i) ≡ true → (p : Valuation) → DoesInstruction i p (updated (updates_of i) p)
   done_childless (instruction called decode update no_child) h p = refl
   done_childless (instruction called decode update (child steps program)) h p = absurd (let e : false ≡ true = h in cc)
 
@@ -280,13 +188,13 @@ module _ (f : First) (k : Keeps f) (run : Run) (is_run : IsRun (setting_of f) ru
       by_instruction None is_o t = absurd (let e : false ≡ true = t in cc)
       by_instruction (Some i) is_o t =
           let point : Valuation = point_of f.model (state_at s run 0) (inputs_at s run 0) in
-          let after : Valuation = updated (update_of i) point in
+          let after : Valuation = updated (updates_of i) point in
           let does : Does f.model i (state_at s run 0) (inputs_at s run 0) (state_in f.model after) =
           (after, done_childless i (childless_at (instructions_in f.model.top) k.childless j i is_o) point, refl) in
           let result : state_at s run 1 n ≡ state_in f.model after n = m i (state_in f.model after) is_o does in
           let own : state_in f.model after n ≡ after n = rw is_state refl in
-          not_words (state_of f W n) (updated (update_of i) (start_point f V) n) (state_compares f k W n)
-          (sym (ap (λ q. q n) (state_second f k run is_run)) ∙ (result ∙ (own ∙ ap (λ p. updated (update_of i) p n) (point_first f k run is_run))))
+          not_words (state_of f W n) (updated (updates_of i) (start_point f V) n) (state_compares f k W n)
+          (sym (ap (λ q. q n) (state_second f k run is_run)) ∙ (result ∙ (own ∙ ap (λ p. updated (updates_of i) p n) (point_first f k run is_run))))
 
   -- a claim that holds is met
   pub met_claim : (x : Fact) → IsClaim f x → Means s run x → is_met f V W x ≡ true

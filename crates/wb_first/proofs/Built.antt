@@ -1,11 +1,11 @@
 -- The run that registers and inputs give: its valuations are settled, and its registers are those behind the edge.
-use Rattle.std.proofs.Common.{◌≡◌, ℕ, zero, suc, ◌/◌, ◌%◌, ◌^◌, ◌<◌, ◌≤◌, Bool, true, false, cond, not, ◌&&◌, ◌||◌, List, [], ◌∷◌, arith, subst, sym, refl, ap, ◌∙◌, Option, Some, None, ◌⊎◌, inl, inr}
-use Rattle.std.specs.Prelude.{is_some, nat_lt, ◌==◌, max}
+use Rattle.std.proofs.Common.{◌≡◌, ℕ, zero, suc, ◌/◌, ◌^◌, ◌<◌, ◌≤◌, Bool, true, false, cond, not, ◌&&◌, ◌||◌, List, [], ◌∷◌, arith, subst, sym, refl, ap, ◌∙◌, Option, Some, None, ◌⊎◌, inl, inr}
+use Rattle.std.specs.Prelude.{is_some, nat_lt, max}
 use Rattle.std.proofs.lemmas.Bool.Decides.{nat_tests}
 use Rattle.std.proofs.Math.Nat.{mod-lt, div-one, div-eq_of_lt}
 use Rattle.std.proofs.lemmas.Nat.{pow_pos}
 use Rattle.std.proofs.Math.Pow.{pow_mono}
-use Rattle.wb_meaning.specs.Value.{Name, same_name, Value, number, as_number, Valuation, Entries, entry_of, valuation_of, value_or_zero}
+use Rattle.wb_meaning.specs.Value.{Name, same_name, Value, number, as_number, Valuation, Entries, entry_of}
 use Rattle.wb_meaning.specs.Verilog.Syntax.{place, whole, Direction, input, output}
 use Rattle.wb_meaning.specs.Verilog.Expression.{Scope, width_of, sign_of, value_of, assigned_value}
 use Rattle.wb_meaning.specs.Verilog.Statement.{variable, all_bits, written, written_cell, places, target_width, with_bits_from}
@@ -15,16 +15,15 @@ use Rattle.wb_meaning.specs.Verilog.Settled.{inside, IsDeclared, IsValueOf, HasA
 use Rattle.wb_meaning.specs.Verilog.Next.{AreRegisters, IsNext}
 use Rattle.first_text.specs.Tree.{Term, term_tree, Part, register, assignment, clocked, FirstModule, module_tree, Port}
 use Rattle.wb_first.specs.Names.{First, scope_of_first, bits_of_name, is_input, is_output, is_variable, is_variable_among, is_declared, is_register, assigned, port_named, has_direction, same_direction}
-use Rattle.wb_first.specs.Accepted.{all_names, keys, term_names, is_source, is_net, is_among, are_distinct, variables_agree, is_accepted, counted_bits}
+use Rattle.wb_first.specs.Accepted.{all_names, keys, term_names, is_source, is_net, is_among, are_distinct, variables_agree, is_accepted}
 use Rattle.wb_first.specs.Cycle.{held, assigned_number, settled, next_registers}
-use Rattle.wb_first.specs.Decided.{sliced}
 use Rattle.wb_first.proofs.Shape.{assigned_trees, no_combinational, assignments_of, not_memory, first_placed, design_of_first, no_paths, only_top, declared_same, input_port, port_input}
 use Rattle.wb_first.proofs.Bits.{whole_written, zero_unset}
 use Rattle.wb_first.proofs.Alike.{and_left, and_right, assigned_same}
 use Rattle.wb_first.proofs.Edge.{same_name_true, IsNumberOf}
 use Rattle.wb_first.proofs.Rules.{Keeps}
 use Rattle.wb_first.proofs.Forced.{same_name_refl, may_be_set, terms_entry, reach_is, counted_is, edge_fits}
-use Rattle.wb_first.proofs.Enumerated.{register_target}
+use Rattle.wb_first.proofs.Targets.{register_target}
 
 -- the names that are assigned keep the rule of the list
 key_passes : (p : Name → Bool) (es : Entries Term) → all_names p (keys es) ≡ true → (n : Name) (e : Term) → entry_of es n ≡ Some e → p n ≡ true
@@ -108,9 +107,8 @@ pub record KeepsMore (f : First) : Type 0 where
 
 pub keeps_more : (f : First) → is_accepted f ≡ true → KeepsMore f
 keeps_more f h =
-    let m = and_left _ _ (and_left _ _ h) in
-    let m14 = and_left _ _ m in
-    let m13 = and_left _ _ m14 in
+    let m = and_left _ _ (and_left _ _ (and_left _ _ h)) in
+    let m13 = and_left _ _ m in
     let m12 = and_left _ _ m13 in
     let m11 = and_left _ _ m12 in
     let m10 = and_left _ _ m11 in
@@ -124,24 +122,6 @@ value_of_number m n y h =
 
 pub zero_number : (m : FirstModule) (n : Name) → IsNumberOf (scope_of_first m) n (number 0)
 zero_number m n = (0, refl, pow_pos (bits_of_name m n))
-
--- the values that a number stands for fit
-pub sliced_fit : (f : First) (ns : List Name) (a : ℕ) (n : Name) → IsNumberOf (scope_of_first f.design) n (valuation_of (sliced f ns a) n)
-sliced_fit f [] a n = zero_number f.design n
-sliced_fit f (m ∷ ns) a n = by_count (counted_bits f m == 0) (λ q. sliced_fit f ns q n)
-  where
-    by_count : (t : Bool) → ((q : ℕ) → IsNumberOf (scope_of_first f.design) n (valuation_of (sliced f ns q) n))
-        → IsNumberOf (scope_of_first f.design) n
-        (valuation_of (cond t (sliced f ns a) ((m, number (a % 2 ^ bits_of_name f.design m)) ∷ sliced f ns (a / 2 ^ bits_of_name f.design m))) n)
-    by_count true rest = rest a
-    by_count false rest =
-        (elim (same_name m n) as
-        (λ t. same_name m n ≡ t → IsNumberOf (scope_of_first f.design) n
-        (value_or_zero (cond t (Some (number (a % 2 ^ bits_of_name f.design m))) (entry_of (sliced f ns (a / 2 ^ bits_of_name f.design m)) n)))) [
-          | true ↦ λ e. subst (λ x. IsNumberOf (scope_of_first f.design) x (number (a % 2 ^ bits_of_name f.design m))) (same_name_true m n e)
-              (a % 2 ^ bits_of_name f.design m, refl, mod-lt a (pow_pos (bits_of_name f.design m)))
-          | false ↦ λ e. rest (a / 2 ^ bits_of_name f.design m)
-        ]) refl
 
 zero_bit : (j b : ℕ) → value_bit (number 0) j b ≡ false
 zero_bit zero b = zero_unset b
@@ -188,6 +168,19 @@ are_registers f k q fits rest = record {
         by_register false g = ap (λ x. value_bit x j b) (rest n g) ∙ zero_bit j b
         by_register true g = subst (λ x. value_bit x j b ≡ false) (sym h.1) (by_word j c g)
 
+-- a register is a variable, and an input is no register
+register_variable : (f : First) → Keeps f → (n : Name) → is_register f.design n ≡ true → is_variable f.design n ≡ true
+register_variable f k n h = and_right _ _ (register_target f k n h)
+
+pub input_register : (f : First) → Keeps f → KeepsMore f → (n : Name) → is_input f.design n ≡ true → is_register f.design n ≡ false
+input_register f k more n h = by_register (is_register f.design n) refl
+  where
+    by_register : (t : Bool) → is_register f.design n ≡ t → t ≡ false
+    by_register true g =
+        let out : is_input f.design n ≡ false = variable_no_input f.design f.design.parts more.variables n (register_variable f k n g) in
+        absurd (let clash : true ≡ false = sym h ∙ out in cc)
+    by_register false g = refl
+
 module _ (f : First) (k : Keeps f) (more : KeepsMore f) (r i : Valuation)
     (registers_fit : (n : Name) → is_declared f.design n ≡ true → IsNumberOf (scope_of_first f.design) n (r n))
     (inputs_fit : (n : Name) → is_input f.design n ≡ true → IsNumberOf (scope_of_first f.design) n (i n)) where
@@ -207,14 +200,11 @@ module _ (f : First) (k : Keeps f) (more : KeepsMore f) (r i : Valuation)
       by_entry None e = refl
       by_entry (Some t) e = absurd (bad (net_rule n t e))
 
-  register_variable : (n : Name) → is_register f.design n ≡ true → is_variable f.design n ≡ true
-  register_variable n h = and_right _ _ (register_target f k n h)
-
   register_entry : (n : Name) → is_register f.design n ≡ true → entry_of (assigned f.design) n ≡ None
   register_entry n h =
       no_entry n (λ net.
       let out : not (is_variable f.design n) ≡ true = and_right _ _ net in
-      let clash : not true ≡ true = subst (λ t. not t ≡ true) (register_variable n h) out in
+      let clash : not true ≡ true = subst (λ t. not t ≡ true) (register_variable f k n h) out in
       let clash' : false ≡ true = clash in cc)
 
   input_entry : (n : Name) → is_input f.design n ≡ true → entry_of (assigned f.design) n ≡ None
@@ -223,23 +213,14 @@ module _ (f : First) (k : Keeps f) (more : KeepsMore f) (r i : Valuation)
       let out : is_output f.design n ≡ true = and_right _ _ (and_left _ _ net) in
       let clash : true ≡ false = sym out ∙ input_no_output f.design n h in cc)
 
-  input_register : (n : Name) → is_input f.design n ≡ true → is_register f.design n ≡ false
-  input_register n h = by_register (is_register f.design n) refl
-    where
-      by_register : (t : Bool) → is_register f.design n ≡ t → t ≡ false
-      by_register true g =
-          let out : is_input f.design n ≡ false = variable_no_input f.design f.design.parts more.variables n (register_variable n g) in
-          absurd (let clash : true ≡ false = sym h ∙ out in cc)
-      by_register false g = refl
-
   at_register : (n : Name) → is_register f.design n ≡ true → V n ≡ r n
   at_register n h = rw (register_entry n h, h) refl
 
   at_input : (n : Name) → is_input f.design n ≡ true → same_name n f.map.clock ≡ false → V n ≡ i n
-  at_input n h c = rw (input_entry n h, input_register n h, h, c) refl
+  at_input n h c = rw (input_entry n h, input_register f k more n h, h, c) refl
 
   at_clock : V f.map.clock ≡ number 0
-  at_clock = rw (input_entry f.map.clock k.clock_input, input_register f.map.clock k.clock_input, k.clock_input, same_name_refl f.map.clock) refl
+  at_clock = rw (input_entry f.map.clock k.clock_input, input_register f k more f.map.clock k.clock_input, k.clock_input, same_name_refl f.map.clock) refl
 
   source_value : (n : Name) → is_source f n ≡ true → V n ≡ held f r i n
   source_value n h = ap (assigned_number f r i n) (no_source_entry (is_register f.design n) refl)
@@ -255,7 +236,7 @@ module _ (f : First) (k : Keeps f) (more : KeepsMore f) (r i : Valuation)
           only_left true e = refl
           only_left false e = e
 
-  value_fits : (n : Name) → is_declared f.design n ≡ true → IsNumberOf S n (V n)
+  pub value_fits : (n : Name) → is_declared f.design n ≡ true → IsNumberOf S n (V n)
   value_fits n known = by_entry (entry_of (assigned f.design) n)
     where
       by_input : (t : Bool) → is_input f.design n ≡ t → IsNumberOf S n (cond (t && not (same_name n f.map.clock)) (i n) (number 0))

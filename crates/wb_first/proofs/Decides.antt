@@ -11,8 +11,9 @@ use Rattle.wb_meaning.specs.Run.{Run, IsRun, IsResetAt}
 use Rattle.wb_meaning.specs.Refinement.{state_at, inputs_at, CommitsAt}
 use Rattle.wb_meaning.specs.Obligation.{Fact, reset_active, reset_inactive, assumed, invariant, start, no_start, decoded, commit, no_commit, initial, same, one_decodes, ends, result_of, never, Means, MeansAll, Obligation, Holds}
 use Rattle.wb_first.specs.Names.{First, setting_of, is_declared}
+use Rattle.wb_first.specs.Accepted.{updates_of}
 use Rattle.wb_first.specs.Cycle.{settled, next_registers}
-use Rattle.wb_first.specs.Decided.{same_value, no_inputs, first_valuation, second_valuation, state_of, start_point, is_reset, starts, decodes_option, decodes_number, commits_by, commits_option, commits_number, initial_met, decode_count, update_of, result_at, is_met, all_met, is_broken}
+use Rattle.wb_first.specs.Decided.{same_value, no_inputs, first_valuation, second_valuation, state_of, start_point, is_reset, starts, decodes_option, decodes_number, commits_by, commits_option, commits_number, initial_met, decode_count, result_at, is_met, all_met, is_broken}
 use Rattle.wb_first.proofs.Alike.{and_left, and_right}
 use Rattle.wb_first.proofs.Rules.{Keeps}
 use Rattle.wb_first.proofs.Forced.{forced, next_forced}
@@ -189,15 +190,15 @@ module _ (f : First) (k : Keeps f) (run : Run) (is_run : IsRun (setting_of f) ru
       → Means s run (result_of j n 1)
   claimed_result j n is_state h i r is_i does =
       let after : Valuation = does.0 in
-      let updates : after ≡ updated (update_of i) (point_of f.model (state_at s run 0) (inputs_at s run 0)) =
+      let updates : after ≡ updated (updates_of i) (point_of f.model (state_at s run 0) (inputs_at s run 0)) =
       done_is_updated i (childless_at (instructions_in f.model.top) k.childless j i is_i)
       (point_of f.model (state_at s run 0) (inputs_at s run 0)) after does.1 in
-      let here : state_of f W n ≡ updated (update_of i) (start_point f V) n =
-      same_value_true (state_of f W n) (updated (update_of i) (start_point f V) n)
+      let here : state_of f W n ≡ updated (updates_of i) (start_point f V) n =
+      same_value_true (state_of f W n) (updated (updates_of i) (start_point f V) n)
       (subst (λ o. same_value (state_of f W n) (result_at o (start_point f V) n) ≡ true) is_i h) in
       let result : r n ≡ after n = ap (λ q. q n) does.2 ∙ rw is_state refl in
       ap (λ q. q n) state_second
-      ∙ (here ∙ (ap (λ p. updated (update_of i) p n) (sym point_first) ∙ (sym (ap (λ q. q n) updates) ∙ sym result)))
+      ∙ (here ∙ (ap (λ p. updated (updates_of i) p n) (sym point_first) ∙ (sym (ap (λ q. q n) updates) ∙ sym result)))
 
   pub claimed : (x : Fact) → IsClaim f x → is_met f V W x ≡ true → Means s run x
   claimed (reset_active t) h m = absurd h
@@ -231,12 +232,12 @@ met_claim true true h e = refl
 met_claim true false h e = absurd (let c : true ≡ false = h in cc)
 met_claim false b h e = absurd (let c : false ≡ true = e in cc)
 
--- Where no registers and inputs break it, it holds.
+-- Where the values of no run break it, it holds.
 pub holds_unbroken : (f : First) → Keeps f → (o : Obligation) → IsFirstObligation f o
-    → ((r i : Valuation) → (run : Run) → IsRun (setting_of f) run 1 → run.registers 0 ≡ r → run.inputs 0 ≡ i
-    → is_broken f (first_valuation f r i) (second_valuation f r i) o ≡ false)
+    → ((run : Run) → IsRun (setting_of f) run 1
+    → is_broken f (first_valuation f (run.registers 0) (run.inputs 0)) (second_valuation f (run.registers 0) (run.inputs 0)) o ≡ false)
     → Holds (setting_of f) o
 holds_unbroken f k o form unbroken run is_run hypotheses =
     let is_run' : IsRun (setting_of f) run 1 = subst (λ c. IsRun (setting_of f) run c) form.one_cycle is_run in
     claimed f k run is_run' o.claim form.claim
-    (met_claim _ _ (unbroken (run.registers 0) (run.inputs 0) run is_run' refl refl) (met_all f k run is_run' o.hypotheses form.hypotheses hypotheses))
+    (met_claim _ _ (unbroken run is_run') (met_all f k run is_run' o.hypotheses form.hypotheses hypotheses))

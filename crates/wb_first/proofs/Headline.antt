@@ -1,4 +1,4 @@
--- Where no values break any obligation, every run refines.
+-- Where all obligations hold, every run refines.
 use Rattle.std.proofs.Common.{◌≡◌, ℕ, zero, suc, ◌≤◌, true, List, [], ◌∷◌, refl, Some, arith}
 use Rattle.std.specs.Prelude.{slice_get, ◌==◌}
 use Rattle.std.proofs.lemmas.Bool.Decides.{nat_tests}
@@ -9,15 +9,11 @@ use Rattle.wb_meaning.specs.Soundness.{AllHold, IsComplete}
 use Rattle.wb_meaning.proofs.Refined.{refined}
 use Rattle.wb_first.specs.Names.{First, setting_of}
 use Rattle.wb_first.specs.Accepted.{is_among, entry_names}
-use Rattle.wb_first.specs.Claims.{UnbrokenRefines}
+use Rattle.wb_first.specs.Claims.{HoldingRefines}
 use Rattle.wb_first.proofs.Rules.{Keeps, keeps}
 use Rattle.wb_first.proofs.Facts.{entry_accepted}
 use Rattle.wb_first.proofs.Forms.{entry_found, instruction_among}
-use Rattle.wb_first.proofs.Concluded.{values_decide}
-
-each_holds : (s : Setting) (os : List Obligation) → ((k : ℕ) (o : Obligation) → slice_get os k ≡ Some o → Holds s o) → AllHold s os
-each_holds s [] h = tt
-each_holds s (o ∷ os) h = (h zero o refl, each_holds s os (λ k x e. h (suc k) x e))
+use Rattle.wb_first.proofs.Concluded.{unbroken_holds}
 
 complete : (f : First) → Keeps f → IsComplete (setting_of f)
 complete f k j i is_i =
@@ -29,7 +25,5 @@ complete f k j i is_i =
     at_least : (b : ℕ) → (b == 1) ≡ true → 1 ≤ b
     at_least b h = grind (arith, nat_tests)
 
-pub unbroken_refines : UnbrokenRefines
-unbroken_refines f accepted unbroken =
-    refined (setting_of f) (complete f (keeps f accepted))
-    (each_holds (setting_of f) (obligations f.model f.map) (λ k o is_o. values_decide f accepted k o is_o (unbroken k o is_o)))
+pub holding_refines : HoldingRefines
+holding_refines f accepted all = refined (setting_of f) (complete f (keeps f accepted)) all

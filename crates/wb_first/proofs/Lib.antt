@@ -8,9 +8,12 @@ pub mod Mapped
 pub mod Facts
 pub mod Decides
 pub mod Forms
-pub mod Enumerated
+pub mod Targets
+pub mod Declared
+pub mod Held
+pub mod Sorts
 pub mod Concluded
 pub mod Built
+pub mod Begun
 pub mod Breaks
-pub mod Numbered
 pub mod Headline

@@ -77,7 +77,7 @@ module _ (f : First) (v u : Valuation) where
   or_zero_alike None None h alike = refl
 
 -- the rules of an entry, found by its name
-state_entry : (f : First) (es : Entries Expression) → states_are_mapped f es ≡ true → (n : Name) (e : Expression) → entry_of es n ≡ Some e
+pub state_entry : (f : First) (es : Entries Expression) → states_are_mapped f es ≡ true → (n : Name) (e : Expression) → entry_of es n ≡ Some e
     → (is_map_expression f e ≡ true) × (is_input_free f e ≡ true)
 state_entry f [] h n e is_e = cc
 state_entry f (x ∷ es) h n e is_e =
@@ -89,7 +89,7 @@ state_entry f (x ∷ es) h n e is_e =
       | false ↦ λ some. state_entry f es (and_right _ _ h) n e some
     ]) is_e
 
-input_entry : (f : First) (es : Entries Expression) → inputs_are_mapped f es ≡ true → (n : Name) (e : Expression) → entry_of es n ≡ Some e
+pub input_entry : (f : First) (es : Entries Expression) → inputs_are_mapped f es ≡ true → (n : Name) (e : Expression) → entry_of es n ≡ Some e
     → is_map_expression f e ≡ true
 input_entry f [] h n e is_e = cc
 input_entry f (x ∷ es) h n e is_e =

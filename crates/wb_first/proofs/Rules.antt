@@ -1,10 +1,10 @@
 -- The rules that an accepted model, map and module keep, one by one.
-use Rattle.std.proofs.Common.{◌≡◌, Bool, true, false, not, refl}
+use Rattle.std.proofs.Common.{◌≡◌, Bool, true, false, not, ◌&&◌, refl}
 use Rattle.std.specs.Prelude.{◌==◌, length}
 use Rattle.wb_meaning.specs.Value.{same_name}
 use Rattle.wb_meaning.specs.Model.{states_of, instructions_in}
 use Rattle.wb_first.specs.Names.{First, bits_of_name, is_input, assigned, blocks_among}
-use Rattle.wb_first.specs.Accepted.{is_accepted, is_accepted_module, is_accepted_map, all_names, is_among, keys, terms_read, is_source, is_net, is_kept, has_one_block, is_map_expression, states_are_mapped, all_states_mapped, inputs_are_mapped, all_inputs_mapped, entries_are_accepted, entry_names, instruction_names, port_names, no_children}
+use Rattle.wb_first.specs.Accepted.{is_accepted, is_accepted_module, is_accepted_map, is_accepted_model, has_plain_names, all_names, is_among, keys, terms_read, is_source, is_net, is_kept, has_one_block, is_map_expression, states_are_mapped, all_states_mapped, inputs_are_mapped, all_inputs_mapped, entries_are_accepted, entry_names, instruction_names, port_names, no_children}
 use Rattle.wb_first.proofs.Alike.{and_left, and_right}
 
 pub record Keeps (f : First) : Type 0 where
@@ -35,11 +35,11 @@ not_false false h = refl
 
 pub keeps : (f : First) → is_accepted f ≡ true → Keeps f
 keeps f h =
-    let both = and_left _ _ h in
+    let rules = and_left (is_accepted_module f && is_accepted_map f && is_accepted_model f) (has_plain_names f) h in
+    let both = and_left _ _ rules in
     let m : is_accepted_module f ≡ true = and_left (is_accepted_module f) (is_accepted_map f) both in
     let p : is_accepted_map f ≡ true = and_right (is_accepted_module f) (is_accepted_map f) both in
-    let m14 = and_left _ _ m in
-    let m13 = and_left _ _ m14 in
+    let m13 = and_left _ _ m in
     let m12 = and_left _ _ m13 in
     let m11 = and_left _ _ m12 in
     let m10 = and_left _ _ m11 in
@@ -70,7 +70,7 @@ keeps f h =
       nets = and_right _ _ m10;
       sources = and_right _ _ m12;
       block = and_right _ _ m13;
-      outputs = and_right _ _ m14;
+      outputs = and_right _ _ m;
       one_reset = and_left _ _ p2;
       reset_input = and_right _ _ p2;
       reset_bit = and_right _ _ p3;
@@ -84,5 +84,5 @@ keeps f h =
       each_entry = and_right _ _ p13;
       no_assumptions = and_right _ _ p14;
       no_invariants = and_right _ _ p;
-      childless = and_right _ _ h;
+      childless = and_left _ _ (and_left _ _ (and_left _ _ (and_right (is_accepted_module f && is_accepted_map f) (is_accepted_model f) rules)));
     }

@@ -1,11 +1,14 @@
 -- Which model, map and module are accepted in the first profile: one test for each rule.
-use Rattle.std.specs.Prelude.{ℕ, ◌+◌, Bool, true, false, cond, not, ◌&&◌, ◌||◌, ◌==◌, nat_le, List, [], ◌∷◌, ◌++◌, length, Option, Some, None, is_some}
-use Rattle.wb_meaning.specs.Value.{Name, same_name, Sort, truth, word, Entries, entry_of}
-use Rattle.wb_meaning.specs.Model.{StateDeclaration, InputDeclaration, states_of, instructions_in, Instruction, instruction_name, child_of, Child, no_child, child}
-use Rattle.wb_meaning.specs.Verilog.Syntax.{Expression, name, number, whole}
+use Rattle.std.specs.Prelude.{ℕ, ◌^◌, Bool, true, false, cond, not, ◌&&◌, ◌||◌, ◌==◌, nat_le, nat_lt, List, [], ◌∷◌, ◌++◌, length, Option, Some, None, is_some}
+use Rattle.wb_meaning.specs.Value.{Name, same_name, Sort, truth, word, Value, is_of_sort, Entries, entry_of}
+use Rattle.wb_meaning.specs.Term as terms
+use Rattle.wb_meaning.specs.Term.{Term, same_sort, sort_of}
+use Rattle.wb_meaning.specs.Model.{StateDeclaration, InputDeclaration, states_of, valid_of, instructions_in, Instruction, instruction, instruction_name, decode_of, child_of, Child, no_child, child}
+use Rattle.wb_meaning.specs.Verilog.Syntax.{Number, Expression, name, number, whole}
 use Rattle.wb_meaning.specs.Verilog.Expression.{width_of}
 use Rattle.wb_meaning.specs.Map.{InstructionMap, sort_of_input}
-use Rattle.first_text.specs.Tree.{Primary, identifier, decimal, Term, single, sum, equality, Action, set, sequence, when, when_else, Actions, no_actions, action, Bounds, Port, Part, register, FirstModule}
+use Rattle.first_text.specs.Tree.{Primary, identifier, decimal, single, sum, equality, Action, set, sequence, when, when_else, Actions, no_actions, action, Bounds, Port, Part, register, FirstModule}
+use Rattle.first_text.specs.Tree as trees
 use Rattle.wb_first.specs.Names.{First, scope_of_first, bits_of_name, port_named, is_input, is_output, is_variable, is_declared, is_register, assigned, blocks_among}
 
 -- every name of the list passes
@@ -31,7 +34,7 @@ primary_names (identifier n) = n ∷ []
 primary_names (decimal x) = []
 
 -- the names that a term reads
-abbrev pub term_names : Term → List Name
+abbrev pub term_names : trees.Term → List Name
 term_names (single p) = primary_names p
 term_names (sum p q) = primary_names p ++ primary_names q
 term_names (equality p q) = primary_names p ++ primary_names q
@@ -123,7 +126,7 @@ is_driven m n = is_input m n || is_register m n || is_assigned m n
 abbrev pub is_source : First → Name → Bool
 is_source f n = is_data f n && (is_input f.design n || is_register f.design n)
 
-abbrev pub terms_read : (Name → Bool) → Entries Term → Bool
+abbrev pub terms_read : (Name → Bool) → Entries trees.Term → Bool
 terms_read p [] = true
 terms_read p (e ∷ es) = all_names p (term_names e.1) && terms_read p es
 
@@ -145,14 +148,7 @@ has_one_block f _ = false
 abbrev pub is_kept : FirstModule → Name → Bool
 is_kept m n = not (is_output m n) || is_driven m n
 
-abbrev pub counted_bits : First → Name → ℕ
-counted_bits f n = cond (is_data f n && (is_register f.design n || is_input f.design n)) (bits_of_name f.design n) 0
-
-abbrev pub sum_of_bits : First → List Name → ℕ
-sum_of_bits f [] = 0
-sum_of_bits f (n ∷ ns) = counted_bits f n + sum_of_bits f ns
-
--- The module: its names, its ranges, its drivers. Its registers and its inputs but the clock have at most 16 bits together.
+-- The module: its names, its ranges, its drivers.
 abbrev pub is_accepted_module : First → Bool
 is_accepted_module f =
     same_name f.design.own_name f.map.top
@@ -169,16 +165,19 @@ is_accepted_module f =
     && terms_read (is_source f) (assigned f.design)
     && has_one_block f (blocks_among f.design.parts)
     && all_names (is_kept f.design) (port_names f.design.ports)
-    && nat_le (sum_of_bits f (declared_names f.design)) 16
 
 abbrev pub has_dot : Name → Bool
 has_dot [] = false
 has_dot (c ∷ cs) = (c == 46) || has_dot cs
 
+-- a plain decimal has 32 bits
+abbrev pub is_plain : Number → Bool
+is_plain k = (k.width == 32) && nat_lt k.value (2 ^ 32)
+
 -- an expression of the map: a name of the module that is not the clock, or a plain decimal
 abbrev pub is_map_expression : First → Expression → Bool
 is_map_expression f (name n whole) = is_data f n && not (has_dot n)
-is_map_expression f (number k) = true
+is_map_expression f (number k) = is_plain k
 is_map_expression f _ = false
 
 abbrev pub map_width : First → Expression → ℕ
@@ -190,7 +189,7 @@ fits_sort f (Some (word w)) e = map_width f e == w
 fits_sort f _ e = false
 
 -- reads no input: neither itself nor by its assignment
-abbrev pub term_reads_no_input : First → Option Term → Bool
+abbrev pub term_reads_no_input : First → Option trees.Term → Bool
 term_reads_no_input f None = true
 term_reads_no_input f (Some e) = all_names (λ n. not (is_input f.design n)) (term_names e)
 
@@ -261,5 +260,67 @@ abbrev pub no_children : List Instruction → Bool
 no_children [] = true
 no_children (i ∷ is) = has_no_child (child_of i) && no_children is
 
+-- the sort that the model declares for a name: that of an input, or of a state
+abbrev pub declared_sort : First → Name → Option Sort
+declared_sort f n =
+    cond (is_some (sort_of_input f.model.inputs n)) (sort_of_input f.model.inputs n) (state_sort (states_of f.model.top) n)
+
+abbrev pub is_sort_of : Option Sort → Option Sort → Bool
+is_sort_of (Some s) (Some t) = same_sort s t
+is_sort_of _ _ = false
+
+-- each name stands with its declared sort
+abbrev pub has_declared_names : First → Term → Bool
+has_declared_names f (terms.name n s) = is_sort_of (declared_sort f n) (Some s)
+has_declared_names f (terms.constant_truth b) = true
+has_declared_names f (terms.const w x) = true
+has_declared_names f (terms.not x) = has_declared_names f x
+has_declared_names f (terms.and x y) = has_declared_names f x && has_declared_names f y
+has_declared_names f (terms.add x y) = has_declared_names f x && has_declared_names f y
+has_declared_names f (terms.eq x y) = has_declared_names f x && has_declared_names f y
+has_declared_names f _ = false
+
+-- A term of the profile: of a sort, of its few forms, over declared names.
+abbrev pub is_term_of : First → Option Sort → Term → Bool
+is_term_of f s e = is_sort_of (sort_of e) s && has_declared_names f e
+
+abbrev pub are_updates : First → Entries Term → Bool
+are_updates f [] = true
+are_updates f (u ∷ us) = is_term_of f (state_sort (states_of f.model.top) u.0) u.1 && are_updates f us
+
+abbrev pub updates_of : Instruction → Entries Term
+updates_of (instruction called decode update program) = update
+
+abbrev pub are_instructions : First → List Instruction → Bool
+are_instructions f [] = true
+are_instructions f (i ∷ is) = is_term_of f (Some truth) (decode_of i) && are_updates f (updates_of i) && are_instructions f is
+
+-- an initial value is one of the state's sort
+abbrev pub is_initial_of : Sort → Option Value → Bool
+is_initial_of s None = true
+is_initial_of s (Some x) = is_of_sort s x
+
+-- each state has a name that is no input's, and an initial value of its sort if it states one
+abbrev pub are_states : First → List StateDeclaration → Bool
+are_states f [] = true
+are_states f (d ∷ ds) = is_initial_of d.sort d.init && not (is_some (sort_of_input f.model.inputs d.state_name)) && are_states f ds
+
+-- The model: its terms are of the sorts that their places want.
+abbrev pub is_accepted_model : First → Bool
+is_accepted_model f =
+    no_children (instructions_in f.model.top)
+    && are_states f (states_of f.model.top)
+    && is_term_of f (Some truth) (valid_of f.model.top)
+    && are_instructions f (instructions_in f.model.top)
+
+-- a name of ASCII characters
+abbrev pub is_plain_name : Name → Bool
+is_plain_name [] = true
+is_plain_name (c ∷ cs) = nat_lt c 128 && is_plain_name cs
+
+-- The names that the module declares are of ASCII characters, as all that the grammar allows are.
+abbrev pub has_plain_names : First → Bool
+has_plain_names f = all_names is_plain_name (declared_names f.design)
+
 abbrev pub is_accepted : First → Bool
-is_accepted f = is_accepted_module f && is_accepted_map f && no_children (instructions_in f.model.top)
+is_accepted f = is_accepted_module f && is_accepted_map f && is_accepted_model f && has_plain_names f

@@ -1,12 +1,11 @@
--- Obligations of the first profile on concrete values, and deciding them by going through all values of registers and inputs.
-use Rattle.std.specs.Prelude.{ℕ, suc, ◌/◌, ◌%◌, ◌^◌, Bool, true, false, cond, not, ◌&&◌, ◌==◌, List, [], ◌∷◌, Option, Some, None, slice_get}
-use Rattle.wb_meaning.specs.Value.{Name, Value, truth_value, number, as_number, Valuation, Entries, valuation_of}
-use Rattle.wb_meaning.specs.Model.{Instruction, instruction_name, instructions_in, valid_of, decode_of, holds, updated, point_of, StateDeclaration, state_named, states_of, instruction}
-use Rattle.wb_meaning.specs.Term.{Term}
+-- Obligations of the first profile on values of registers and inputs: whether values break one, and whether they are a whole command.
+use Rattle.std.specs.Prelude.{ℕ, suc, Bool, true, false, cond, not, ◌&&◌, ◌==◌, List, [], ◌∷◌, Option, Some, None, slice_get}
+use Rattle.wb_meaning.specs.Value.{Name, Value, truth_value, number, as_number, Valuation}
+use Rattle.wb_meaning.specs.Model.{Instruction, instruction_name, instructions_in, valid_of, decode_of, holds, updated, point_of, StateDeclaration, state_named, states_of}
 use Rattle.wb_meaning.specs.Map.{InstructionMap, instruction_map, condition_holds, mapped_state, mapped_inputs}
 use Rattle.wb_meaning.specs.Obligation.{Fact, reset_active, reset_inactive, assumed, invariant, start, no_start, decoded, commit, no_commit, initial, same, one_decodes, ends, result_of, never, Obligation, ended_at}
-use Rattle.wb_first.specs.Names.{First, setting_of, bits_of_name}
-use Rattle.wb_first.specs.Accepted.{counted_bits, declared_names, sum_of_bits}
+use Rattle.wb_first.specs.Names.{First, setting_of}
+use Rattle.wb_first.specs.Accepted.{updates_of}
 use Rattle.wb_first.specs.Cycle.{settled, next_registers}
 
 abbrev pub same_value : Value → Value → Bool
@@ -73,12 +72,9 @@ abbrev pub decode_count : List Instruction → Valuation → ℕ
 decode_count [] p = 0
 decode_count (j ∷ js) p = cond (holds (decode_of j) p) (suc (decode_count js p)) (decode_count js p)
 
-abbrev pub update_of : Instruction → Entries Term
-update_of (instruction called decode update program) = update
-
 -- the state that instruction number j leaves, at a name
 abbrev pub result_at : Option Instruction → Valuation → Name → Value
-result_at (Some i) p n = updated (update_of i) p n
+result_at (Some i) p n = updated (updates_of i) p n
 result_at None p n = number 0
 
 -- A fact on concrete values. In this profile hypotheses speak of cycle 0, and claims of cycles 0 and 1.
@@ -113,31 +109,18 @@ is_broken f v w o = all_met f v w o.hypotheses && not (is_met f v w o.claim)
 abbrev pub is_whole_command : First → (v w : Valuation) → ℕ → Bool
 is_whole_command f v w j = all_met f v w (ended_at f.map j 0)
 
--- The values of registers and inputs that a number stands for: each name takes its bits of it, the first name the lowest.
-abbrev pub sliced : First → List Name → ℕ → Entries Value
-sliced f [] a = []
-sliced f (n ∷ ns) a =
-    cond (counted_bits f n == 0) (sliced f ns a)
-    ((n, number (a % 2 ^ bits_of_name f.design n)) ∷ sliced f ns (a / 2 ^ bits_of_name f.design n))
+-- Below, x gives each register and each input its value.
 
-abbrev pub values_of : First → ℕ → Valuation
-values_of f a = valuation_of (sliced f (declared_names f.design) a)
+abbrev pub first_of_values : First → Valuation → Valuation
+first_of_values f x = first_valuation f x x
 
--- the valuations of cycles 0 and 1 where registers and inputs have the values of number a
-abbrev pub first_of_number : First → ℕ → Valuation
-first_of_number f a = first_valuation f (values_of f a) (values_of f a)
+abbrev pub second_of_values : First → Valuation → Valuation
+second_of_values f x = second_valuation f x x
 
-abbrev pub second_of_number : First → ℕ → Valuation
-second_of_number f a = second_valuation f (values_of f a) (values_of f a)
+-- The values break the obligation.
+abbrev pub is_broken_by : First → Obligation → Valuation → Bool
+is_broken_by f o x = is_broken f (first_of_values f x) (second_of_values f x) o
 
--- Number a breaks the obligation.
-abbrev pub is_broken_by : First → Obligation → ℕ → Bool
-is_broken_by f o a = is_broken f (first_of_number f a) (second_of_number f a) o
-
--- Number a is a whole command of instruction number j.
-abbrev pub is_command_by : First → ℕ → ℕ → Bool
-is_command_by f j a = is_whole_command f (first_of_number f a) (second_of_number f a) j
-
--- how many values there are
-abbrev pub value_count : First → ℕ
-value_count f = 2 ^ sum_of_bits f (declared_names f.design)
+-- They are a whole command of instruction number j.
+abbrev pub is_command_by : First → ℕ → Valuation → Bool
+is_command_by f j x = is_whole_command f (first_of_values f x) (second_of_values f x) j

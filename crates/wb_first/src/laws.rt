@@ -1,24 +1,39 @@
 //! Laws about the profile, each the contract of a function without code.
-ghost use Rattle.wb_first.specs.Claims.{ValuesDecide, BrokenIsFalsified, NumbersGiveCommands, CommandsHaveNumbers, UnbrokenRefines};
+ghost use Rattle.wb_first.specs.Claims.{RunsHaveValues, ValuesHaveRuns, OneCycle, BoundIsOne, BrokenIsFalsified, UnbrokenHolds, CommandsAreWhole, StartHasSorts, EndHasSorts, ResultsHaveSorts, HoldingRefines};
 
-/// Where no values break an obligation of an accepted model, map and module, it holds.
+/// Of an accepted model, map and module each run has values of registers and inputs, and all values that fit have a run.
+pub fn runs_are_values()
+    ensures values { RunsHaveValues }
+    ensures runs { ValuesHaveRuns }
+{}
+
+/// Each obligation speaks of one cycle, and each instruction has a bound of one.
+pub fn one_cycle()
+    ensures obligations { OneCycle }
+    ensures bounds { BoundIsOne }
+{}
+
+/// A run falsifies an obligation exactly where its values break it, and where no values break it, it holds.
 pub fn values_decide()
-    ensures { ValuesDecide }
+    ensures falsified { BrokenIsFalsified }
+    ensures holds { UnbrokenHolds }
 {}
 
-/// Values that break an obligation falsify it, in a run that begins with them.
-pub fn broken_is_falsified()
-    ensures { BrokenIsFalsified }
+/// A run is a whole command of an instruction exactly where its values are one.
+pub fn commands_are_whole()
+    ensures { CommandsAreWhole }
 {}
 
-/// A whole command of an instruction exists where some values are one, and where none are there is none.
-pub fn numbers_decide_commands()
-    ensures found { NumbersGiveCommands }
-    ensures none { CommandsHaveNumbers }
+/// Of an accepted model, map and module the states and inputs have values of their sorts, at the start, behind the cycle, and
+/// as an instruction leaves them.
+pub fn values_have_sorts()
+    ensures start { StartHasSorts }
+    ensures end { EndHasSorts }
+    ensures results { ResultsHaveSorts }
 {}
 
-/// Where no values break any obligation of an accepted model, map and module, every run of the module, of any length and from
-/// any first registers, that is from reset and has one command in flight, refines the model.
-pub fn unbroken_refines()
-    ensures { UnbrokenRefines }
+/// Where all obligations of an accepted model, map and module hold, every run of the module, of any length and from any first
+/// registers, that is from reset and has one command in flight, refines the model.
+pub fn holding_refines()
+    ensures { HoldingRefines }
 {}

@@ -1,4 +1,4 @@
-//! `check` in the first profile: small models, maps and modules, decided by going through all values.
+//! The first profile of `check`: which models, maps and modules are accepted, and what values of registers and inputs decide.
 #![tactic(auto)]
 
 mod case;

@@ -12,6 +12,7 @@ pub mod Map
 pub mod Run
 pub mod Refinement
 pub mod Obligation
+pub mod Encoding
 pub mod Report
 pub mod Soundness
 pub mod Worked

@@ -1,5 +1,5 @@
 -- Traces as text, and the report of a check: what each of its lines claims.
-use Rattle.std.specs.Prelude.{◌≡◌, ◌↔◌, ℕ, suc, ◌<◌, Bool, true, false, ◌&&◌, ◌||◌, ◌==◌, nat_lt, List, [], ◌∷◌, ◌++◌, length, take, Some, is_some, slice_get, IsTrue, codes, decimal, ⊤}
+use Rattle.std.specs.Prelude.{◌≡◌, ◌↔◌, ℕ, suc, Bool, true, false, cond, ◌&&◌, ◌||◌, ◌==◌, nat_lt, List, [], ◌∷◌, ◌++◌, length, take, Some, is_some, slice_get, IsTrue, codes, decimal, ⊤}
 use Rattle.std.specs.Fmt.{digits}
 use Rattle.wb_meaning.specs.Value.{Name, Value, number, words, numeral_of, Valuation, Entries, entry_of}
 use Rattle.wb_meaning.specs.Model.{Instruction, instruction_name, instructions_in}
@@ -10,6 +10,7 @@ use Rattle.wb_meaning.specs.Verilog.Settled.{Design, at_path, IsDeclared, is_cou
 use Rattle.wb_meaning.specs.Map.{Setting, design_of, map_scope}
 use Rattle.wb_meaning.specs.Run.{Run}
 use Rattle.wb_meaning.specs.Obligation.{Obligation, Holds, Falsifies, obligations, IsWholeCommand}
+use Rattle.wb_meaning.specs.Encoding.{EncodesObligation, EncodesCover, Spent, IsSpentOn}
 
 -- A trace: the name of an obligation, the first registers, and the inputs of each cycle.
 pub record Trace : Type 0 where
@@ -124,75 +125,111 @@ pub record IsTraceOf (s : Setting) (o : Obligation) (run : Run) (t : Trace) : Ty
 pub data Verdict : Type 0 where
   proved : Verdict
   failed : Trace → Verdict
+  unknown : Spent → Verdict
 
 pub data Cover : Type 0 where
   covered not_covered : Cover
+  unknown_cover : Spent → Cover
 
--- `proved` where the obligation holds; `failed` with a trace of values that falsify it
-abbrev pub IsVerdict : Setting → Obligation → Verdict → Type 0
-IsVerdict s o proved = Holds s o
-IsVerdict s o (failed t) = (run : Run) × Falsifies s run o × IsTraceOf s o run t
+-- `proved` where the obligation holds; `failed` with a trace of values that falsify it; `unknown` where a log over a formula that
+-- encodes it is spent on the budget
+abbrev pub IsVerdict : Setting → (budget : ℕ) → Obligation → Verdict → Type 0
+IsVerdict s budget o proved = Holds s o
+IsVerdict s budget o (failed t) = (run : Run) × Falsifies s run o × IsTraceOf s o run t
+IsVerdict s budget o (unknown x) = EncodesObligation s o x.formula x.bits × IsSpentOn budget x
 
--- `yes` where a whole command of the instruction exists, `no` where none does
-abbrev pub IsCover : Setting → ℕ → Cover → Type 0
-IsCover s j covered = (run : Run) × IsWholeCommand s j run
-IsCover s j not_covered = (run : Run) → ¬ IsWholeCommand s j run
+-- `yes` where a whole command of the instruction exists, `no` where none does; `unknown` as above
+abbrev pub IsCover : Setting → (budget : ℕ) → ℕ → Instruction → Cover → Type 0
+IsCover s budget j i covered = (run : Run) × IsWholeCommand s j run
+IsCover s budget j i not_covered = (run : Run) → ¬ IsWholeCommand s j run
+IsCover s budget j i (unknown_cover x) = EncodesCover s j i x.formula x.bits × IsSpentOn budget x
 
-abbrev pub AreVerdicts : Setting → List Obligation → List Verdict → Type 0
-AreVerdicts s [] [] = ⊤
-AreVerdicts s (o ∷ os) (v ∷ vs) = IsVerdict s o v × AreVerdicts s os vs
-AreVerdicts s [] (v ∷ vs) = ⊥
-AreVerdicts s (o ∷ os) [] = ⊥
+abbrev pub AreVerdicts : Setting → (budget : ℕ) → List Obligation → List Verdict → Type 0
+AreVerdicts s budget [] [] = ⊤
+AreVerdicts s budget (o ∷ os) (v ∷ vs) = IsVerdict s budget o v × AreVerdicts s budget os vs
+AreVerdicts s budget [] (v ∷ vs) = ⊥
+AreVerdicts s budget (o ∷ os) [] = ⊥
 
 -- of the instructions from number j on
-abbrev pub AreCovers : Setting → ℕ → List Instruction → List Cover → Type 0
-AreCovers s j [] [] = ⊤
-AreCovers s j (i ∷ is) (c ∷ cs) = IsCover s j c × AreCovers s (suc j) is cs
-AreCovers s j [] (c ∷ cs) = ⊥
-AreCovers s j (i ∷ is) [] = ⊥
+abbrev pub AreCovers : Setting → (budget : ℕ) → ℕ → List Instruction → List Cover → Type 0
+AreCovers s budget j [] [] = ⊤
+AreCovers s budget j (i ∷ is) (c ∷ cs) = IsCover s budget j i c × AreCovers s budget (suc j) is cs
+AreCovers s budget j [] (c ∷ cs) = ⊥
+AreCovers s budget j (i ∷ is) [] = ⊥
 
-abbrev pub verdict_text : Verdict → List ℕ
-verdict_text proved = codes " proved"
-verdict_text (failed t) = codes " failed " ++ trace_text t
+abbrev pub unknown_text : (budget : ℕ) → List ℕ
+unknown_text budget = codes " unknown " ++ decimal budget
 
-abbrev pub cover_text : Cover → List ℕ
-cover_text covered = codes " yes"
-cover_text not_covered = codes " no"
+abbrev pub verdict_text : (budget : ℕ) → Verdict → List ℕ
+verdict_text budget proved = codes " proved"
+verdict_text budget (failed t) = codes " failed " ++ trace_text t
+verdict_text budget (unknown x) = unknown_text budget
+
+abbrev pub cover_text : (budget : ℕ) → Cover → List ℕ
+cover_text budget covered = codes " yes"
+cover_text budget not_covered = codes " no"
+cover_text budget (unknown_cover x) = unknown_text budget
 
 -- a line for each obligation, in order
-abbrev pub verdict_lines : List Obligation → List Verdict → List ℕ
-verdict_lines (o ∷ os) (v ∷ vs) = o.called ++ verdict_text v ++ 10 ∷ verdict_lines os vs
-verdict_lines _ _ = []
+abbrev pub verdict_lines : (budget : ℕ) → List Obligation → List Verdict → List ℕ
+verdict_lines budget (o ∷ os) (v ∷ vs) = o.called ++ verdict_text budget v ++ 10 ∷ verdict_lines budget os vs
+verdict_lines budget _ _ = []
 
 -- a line for each instruction of the model, in order
-abbrev pub cover_lines : List Instruction → List Cover → List ℕ
-cover_lines (i ∷ is) (c ∷ cs) = codes "cover." ++ instruction_name i ++ cover_text c ++ 10 ∷ cover_lines is cs
-cover_lines _ _ = []
+abbrev pub cover_lines : (budget : ℕ) → List Instruction → List Cover → List ℕ
+cover_lines budget (i ∷ is) (c ∷ cs) =
+    codes "cover." ++ instruction_name i ++ cover_text budget c ++ 10 ∷ cover_lines budget is cs
+cover_lines budget _ _ = []
 
 abbrev pub count_proved : List Verdict → ℕ
 count_proved [] = 0
 count_proved (proved ∷ vs) = suc (count_proved vs)
-count_proved (failed t ∷ vs) = count_proved vs
+count_proved (_ ∷ vs) = count_proved vs
 
 abbrev pub count_failed : List Verdict → ℕ
 count_failed [] = 0
-count_failed (proved ∷ vs) = count_failed vs
 count_failed (failed t ∷ vs) = suc (count_failed vs)
+count_failed (_ ∷ vs) = count_failed vs
+
+abbrev pub count_unknown : List Verdict → ℕ
+count_unknown [] = 0
+count_unknown (unknown x ∷ vs) = suc (count_unknown vs)
+count_unknown (_ ∷ vs) = count_unknown vs
 
 -- the last line: how many obligations are proved, failed and unknown
 abbrev pub total_line : List Verdict → List ℕ
 total_line vs =
-    codes "total proved " ++ decimal (count_proved vs) ++ codes " failed " ++ decimal (count_failed vs) ++ codes " unknown 0" ++ 10 ∷ []
+    codes "total proved " ++ decimal (count_proved vs) ++ codes " failed " ++ decimal (count_failed vs)
+    ++ codes " unknown " ++ decimal (count_unknown vs) ++ 10 ∷ []
 
-abbrev pub report_text : List Obligation → List Verdict → List Instruction → List Cover → List ℕ
-report_text os vs is cs = verdict_lines os vs ++ cover_lines is cs ++ total_line vs
+abbrev pub report_text : (budget : ℕ) → List Obligation → List Verdict → List Instruction → List Cover → List ℕ
+report_text budget os vs is cs = verdict_lines budget os vs ++ cover_lines budget is cs ++ total_line vs
 
--- The text is a report of the check: a line for each obligation in order, then one for each cover, then the total, each true
--- by its meaning. `some_failed` says that a line is `failed`.
-pub record IsReport (s : Setting) (text : List ℕ) (some_failed : Bool) : Type 0 where
+-- how a check ends: with a failed line, else with an unknown obligation, else with all proved; covers do not count
+pub data Ending : Type 0 where
+  all_proved some_unknown some_failed : Ending
+
+abbrev pub ending_of : List Verdict → Ending
+ending_of vs = cond (nat_lt 0 (count_failed vs)) some_failed (cond (nat_lt 0 (count_unknown vs)) some_unknown all_proved)
+
+-- what shows that budgets were spent: an entry for each unknown line, in order
+abbrev pub spent_in : List Verdict → List Spent
+spent_in [] = []
+spent_in (unknown x ∷ vs) = x ∷ spent_in vs
+spent_in (_ ∷ vs) = spent_in vs
+
+abbrev pub spent_in_covers : List Cover → List Spent
+spent_in_covers [] = []
+spent_in_covers (unknown_cover x ∷ cs) = x ∷ spent_in_covers cs
+spent_in_covers (_ ∷ cs) = spent_in_covers cs
+
+-- The text is a report of the check with a budget: a line for each obligation in order, then one for each cover, then the total,
+-- each true by its meaning. Beside it stand how the check ends, and what shows that the budget was spent where a line is unknown.
+pub record IsReport (s : Setting) (budget : ℕ) (text : List ℕ) (ending : Ending) (spent : List Spent) : Type 0 where
   pub verdicts : List Verdict
   pub covers : List Cover
-  pub are_verdicts : AreVerdicts s (obligations s.model s.map) verdicts
-  pub are_covers : AreCovers s 0 (instructions_in s.model.top) covers
-  pub is_text : text ≡ report_text (obligations s.model s.map) verdicts (instructions_in s.model.top) covers
-  pub is_status : IsTrue some_failed ↔ (0 < count_failed verdicts)
+  pub are_verdicts : AreVerdicts s budget (obligations s.model s.map) verdicts
+  pub are_covers : AreCovers s budget 0 (instructions_in s.model.top) covers
+  pub is_text : text ≡ report_text budget (obligations s.model s.map) verdicts (instructions_in s.model.top) covers
+  pub is_ending : ending ≡ ending_of verdicts
+  pub are_spent : spent ≡ spent_in verdicts ++ spent_in_covers covers

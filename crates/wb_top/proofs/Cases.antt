@@ -24,10 +24,9 @@ use Rattle.wb_meaning.specs.Verilog.Syntax.{Source, Module}
 use Rattle.wb_meaning.specs.Verilog.Text.{Refusal, tokens_in}
 use Rattle.wb_meaning.specs.Verilog.Grammar.{IsSource, IsTreeOf}
 use Rattle.wb_top.specs.Files.{IsKindOfText, IsFirstKind, IsKind, IsCaseOf, text_kind}
-use Rattle.wb_top.specs.Texts.{IsRefusalBy, IsRefusal}
-use Rattle.wb_top.specs.Outcome.{IsChecked, IsRefused, IsReported}
+use Rattle.wb_top.specs.Outcome.{Told, IsChecked, IsReported}
 use Rattle.wb_top.specs.declared.status.Status.{Status}
-use Rattle.wb_top.specs.declared.status.Status.TheVariants.{Done, Failed, Usage, Refused, ReadFault, WriteFault, NoMemory, Limit}
+use Rattle.wb_top.specs.declared.status.Status.TheVariants.{Done, Failed, Unknown, Usage, Refused, ReadFault, WriteFault, NoMemory, Limit}
 
 some_same : {A : Type 0} (x y : A) → ◌≡◌ {A = Option A} (Some x) (Some y) → x ≡ y
 some_same x y h = ap (λ o. value_or x o) h
@@ -101,16 +100,17 @@ is_case m p ds ms f is_model is_map count is_tree is_design within accepted = re
 }
 
 -- a report of a case answers the check of its files
-pub answered : (m p : List ℕ) (ds : List (List ℕ)) (f : First) (status : Status) (text : List ℕ) → IsCaseOf m p ds f → IsKind m ds None
-    → IsReported f status text → IsChecked (m ∷ p ∷ ds) status text
-answered m p ds f Done text case unbroken reported = (f, case, reported, unbroken)
-answered m p ds f Failed text case unbroken reported = (f, case, reported, unbroken)
-answered m p ds f Usage text case unbroken reported = absurd reported
-answered m p ds f Refused text case unbroken reported = absurd reported
-answered m p ds f ReadFault text case unbroken reported = absurd reported
-answered m p ds f WriteFault text case unbroken reported = absurd reported
-answered m p ds f NoMemory text case unbroken reported = absurd reported
-answered m p ds f Limit text case unbroken reported = absurd reported
+pub answered : (m p : List ℕ) (ds : List (List ℕ)) (f : First) (budget : ℕ) (status : Status) (text : Told) → IsCaseOf m p ds f → IsKind m ds None
+    → IsReported f budget status text → IsChecked budget (m ∷ p ∷ ds) status text
+answered m p ds f budget Done text case unbroken reported = (f, case, reported, unbroken)
+answered m p ds f budget Failed text case unbroken reported = (f, case, reported, unbroken)
+answered m p ds f budget Unknown text case unbroken reported = (f, case, reported, unbroken)
+answered m p ds f budget Usage text case unbroken reported = absurd reported
+answered m p ds f budget Refused text case unbroken reported = absurd reported
+answered m p ds f budget ReadFault text case unbroken reported = absurd reported
+answered m p ds f budget WriteFault text case unbroken reported = absurd reported
+answered m p ds f budget NoMemory text case unbroken reported = absurd reported
+answered m p ds f budget Limit text case unbroken reported = absurd reported
 
 -- the kind that refuses: of the model file, of the Verilog files' text, of their tokens, none
 pub kind_of_model : (m : List ℕ) (ds : List (List ℕ)) (rule : ModelRule) → ◌≡◌ {A = Option ModelRule} (Some rule) (refusal_in (reading_of m)) → IsKind m ds (Some (rule_name rule))

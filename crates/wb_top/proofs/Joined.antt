@@ -1,5 +1,5 @@
 -- What is joined to what: a judgement in the profile to the kind that refuses none, and the pieces of a refusal's text.
-use Rattle.std.proofs.Common.{◌≡◌, ◌++◌, ◌∙◌, ℕ, List, [], ◌∷◌, Result, Ok, Err, IfOk, None}
+use Rattle.std.proofs.Common.{◌≡◌, ◌++◌, ◌∙◌, ℕ, List, Result, Ok, Err, IfOk, None}
 use Rattle.std.proofs.lemmas.List.{append_assoc}
 use Rattle.wb_top.specs.Files.{IsKind}
 use Rattle.wb_top.specs.Judged.{IsInProfile, IsJudged}

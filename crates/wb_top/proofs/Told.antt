@@ -1,5 +1,5 @@
 -- From the first bytes that are read to the bytes that are held.
-use Rattle.std.proofs.Common.{◌≡◌, ◌<◌, ◌≤◌, ◌+◌, ◌-◌, ◌^◌, ◌&&◌, ℕ, Bool, cond, suc, nat_le, min, List, [], ◌∷◌, ◌++◌, take, map, length, refl, ap, sym, ◌∙◌, subst, arith, Some, None, true, false, append-nil}
+use Rattle.std.proofs.Common.{◌≡◌, ◌≤◌, ◌+◌, ℕ, Bool, cond, suc, nat_le, min, List, [], ◌∷◌, take, map, length, refl, ap, sym, ◌∙◌, subst, arith, Some, None, true, false}
 use Rattle.std.proofs.lemmas.List.{take_all, length-take}
 use Rattle.std.proofs.Math.Seq.{take-length}
 use Rattle.std.specs.declared.option.Option.{Option}
@@ -13,9 +13,9 @@ use Rattle.std.proofs.lemmas.Bool.Decides.{nat_tests}
 use Rattle.wb_top.specs.Files.{most_bytes, has_fitting_length, first_long, AreHeld}
 use Rattle.wb_top.specs.Simulated.{Pair, runs, refused, pair_of, IsSimulated, AreSimulated}
 use Rattle.wb_top.specs.Asked.{wanted_names, AskedAll, AskedSome}
-use Rattle.wb_top.specs.Outcome.{IsEnd, IsWithin, IsAnswer, IsAnswered, IsOutcome}
+use Rattle.wb_top.specs.Outcome.{Told, IsEnd, IsWithin, IsAnswer, IsAnswered, IsOutcome}
 use Rattle.wb_top.specs.declared.status.Status.{Status}
-use Rattle.wb_top.specs.declared.status.Status.TheVariants.{Done, Failed, Usage, Refused, ReadFault, WriteFault, NoMemory, Limit}
+use Rattle.wb_top.specs.declared.status.Status.TheVariants.{Done, Failed, Unknown, Usage, Refused, ReadFault, WriteFault, NoMemory, Limit}
 
 -- the first bytes of a file that is no longer than the limit are all
 whole : (n : ℕ) (bytes : List ℕ) → length bytes ≤ n → take (n + 1) bytes ≡ bytes
@@ -58,7 +58,7 @@ starts_if_fit k [] h = refl
 starts_if_fit k (m ∷ ms) h = one_fits k m ms (has_fitting_length m) refl (λ rest. starts_if_fit (suc k) ms rest) h
 
 -- so an answer on the first bytes is one on all bytes
-pub answer_of_starts : (verb : Verb) (contents : List (List ℕ)) (status : Status) (text : List ℕ) → IsAnswer verb (starts contents) status text
+pub answer_of_starts : (verb : Verb) (contents : List (List ℕ)) (status : Status) (text : Told) → IsAnswer verb (starts contents) status text
     → IsAnswer verb contents status text
 answer_of_starts verb contents status text answer =
     within (first_long 0 contents) refl (subst (λ o. IsWithin o verb (starts contents) status text) (first_long_of_starts 0 contents) answer)
@@ -131,12 +131,12 @@ all_begun n files (name ∷ names) (x ∷ xs) h =
     }
 
 -- An answer on what was read is one on what is held.
-record HeldAnswer (held : Option (Name → Option (List ℕ))) (verb : Verb) (names : List Name) (status : Status) (text : List ℕ) : Type 0 where
+record HeldAnswer (held : Option (Name → Option (List ℕ))) (verb : Verb) (names : List Name) (status : Status) (text : Told) : Type 0 where
   contents : List (List ℕ)
   are_held : AreHeld held names contents
   is_answer : IsAnswer verb contents status text
 
-held_answer : (held : Option (Name → Option (List ℕ))) (verb : Verb) (names : List Name) (contents : List (List ℕ)) (status : Status) (text : List ℕ)
+held_answer : (held : Option (Name → Option (List ℕ))) (verb : Verb) (names : List Name) (contents : List (List ℕ)) (status : Status) (text : Told)
     → AreStartsOf held names most_bytes contents → IsAnswer verb contents status text → HeldAnswer held verb names status text
 held_answer None verb names contents status text begun answer = record { contents = contents; are_held = tt; is_answer = answer }
 held_answer (Some files) verb names contents status text read answer =
@@ -164,16 +164,17 @@ no_simulation_is_usage (m ∷ []) text h = h
 no_simulation_is_usage (m ∷ s ∷ []) text h = no_pair_is_usage (pair_of m s) text h
 no_simulation_is_usage (m ∷ s ∷ x ∷ xs) text h = h
 
-no_end_is_usage : (o : Option ℕ) (verb : Verb) (contents : List (List ℕ)) (text : List ℕ) → IsWithin o verb contents Usage text → ⊥
+no_end_is_usage : (o : Option ℕ) (verb : Verb) (contents : List (List ℕ)) (text : Told) → IsWithin o verb contents Usage text → ⊥
 no_end_is_usage (Some k) verb contents text h = usage_is_no_limit h.0
-no_end_is_usage None Check contents text h = h.2
-no_end_is_usage None Simulate contents text h = no_simulation_is_usage contents text h
+no_end_is_usage None (Check budget) contents text h = h.2
+no_end_is_usage None Simulate contents text h = no_simulation_is_usage contents text.text h.0
 
 -- an answer on files is never about the words
-answered_outcome : (held : Option (Name → Option (List ℕ))) (words : List Name) (status : Status) (text : List ℕ)
+answered_outcome : (held : Option (Name → Option (List ℕ))) (words : List Name) (status : Status) (text : Told)
     → IsAnswered held words status text → IsOutcome held words status text
 answered_outcome held words Done text answered = answered
 answered_outcome held words Failed text answered = answered
+answered_outcome held words Unknown text answered = answered
 answered_outcome held words Usage text answered = absurd (no_end_is_usage (first_long 0 answered.2) answered.0.verb answered.2 text answered.4)
 answered_outcome held words Refused text answered = answered
 answered_outcome held words ReadFault text answered = answered
@@ -190,7 +191,7 @@ pub record AsksFor (words : List Name) (verb : Verb) (names : List Name) : Type 
 
 -- The outcome of a command.
 pub outcome_of_answer : (held : Option (Name → Option (List ℕ))) (words : List Name) (verb : Verb) (names : List Name)
-    (contents : List (List ℕ)) (status : Status) (text : List ℕ) → AsksFor words verb names
+    (contents : List (List ℕ)) (status : Status) (text : Told) → AsksFor words verb names
     → AreStartsOf held names most_bytes contents → IsAnswer verb contents status text → IsOutcome held words status text
 outcome_of_answer held words verb names contents status text asks read answer =
     let all : HeldAnswer held asks.command.verb asks.command.files status text =

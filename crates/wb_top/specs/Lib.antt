@@ -4,6 +4,7 @@ pub mod Files
 pub mod Texts
 pub mod Simulated
 pub mod Outcome
+pub mod Showing
 pub mod StatusNumber
 pub mod Stops
 pub mod Judged

@@ -1,5 +1,5 @@
 -- The words of a command, and the files that it names.
-use Rattle.std.specs.Prelude.{ℕ, Bool, ◌==◌, nat_le, List, [], ◌∷◌, Option, option_map}
+use Rattle.std.specs.Prelude.{ℕ, Bool, ◌&&◌, ◌==◌, nat_le, nat_lt, List, [], ◌∷◌, Option, option_map}
 use Rattle.wb_meaning.specs.Value.{Name}
 use Rattle.wb_words.specs.Requests.{Request, check, simulate, request_of}
 use Rattle.wb_top.specs.declared.verb.Verb.{Verb}
@@ -12,14 +12,14 @@ pub record Command : Type 0 where
 
 -- A check reads the model file, the map file and each Verilog file; a simulation the model file and the script.
 abbrev pub command_for : Request → Command
-command_for (check model map budget designs) = record { verb = Check; files = model ∷ map ∷ designs }
+command_for (check model map budget designs) = record { verb = Check budget; files = model ∷ map ∷ designs }
 command_for (simulate model script) = record { verb = Simulate; files = model ∷ script ∷ [] }
 
 -- the command that words ask for
 abbrev pub command_of : List Name → Option Command
 command_of words = option_map command_for (request_of words)
 
--- whether a command reads so many files
-abbrev pub is_file_count : Verb → ℕ → Bool
-is_file_count Check n = nat_le 3 n
-is_file_count Simulate n = n == 2
+-- a command reads so many files, and a check has a budget
+abbrev pub is_command : Verb → ℕ → Bool
+is_command (Check budget) n = nat_le 3 n && nat_lt 0 budget
+is_command Simulate n = n == 2

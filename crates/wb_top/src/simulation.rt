@@ -1,8 +1,9 @@
 //! What a model does under a script, from the bytes of both.
 
-ghost use Rattle.std.specs.Prelude.{◌≡◌, IfOk};
+ghost use Rattle.std.specs.Prelude.{◌≡◌, [], IfOk};
 ghost use Rattle.wb_meaning.specs.Script.{script_reading, settables_of};
 ghost use Rattle.ila_model.specs.Model.{model_of};
+ghost use Rattle.wb_top.specs.Showing.{told_of};
 ghost use Rattle.wb_top.specs.Simulated.{pair_of, with_script, IsSimulated};
 
 use crate::answer::Outcome;
@@ -17,7 +18,7 @@ use std::alloc::{AllocError, Global};
 /// The answer to a simulation of a model file under a script.
 #[tactic(auto, unfolding(crate::specs::Simulated::pair_of))]
 pub(crate) fn simulated(alloc: Global, model: &[u8], script: &[u8]) -> Result<Outcome, NoMemory>
-    ensures { IfOk result (λ o. IsSimulated (pair_of model.now script.now) o.status o.text.items) }
+    ensures { IfOk result (λ o. IsSimulated (pair_of model.now script.now) o.status o.text.items × ((told_of o).spent ≡ [])) }
 {
     match read_model(alloc, model) {
         Ok(model) => {
@@ -26,10 +27,7 @@ pub(crate) fn simulated(alloc: Global, model: &[u8], script: &[u8]) -> Result<Ou
         }
         Err(ModelStop::Refused(broken)) => {
             let text = refusal_by(alloc, &broken)?;
-            Ok(Outcome {
-                status: Status::Refused,
-                text,
-            })
+            Ok(Outcome::plain(alloc, Status::Refused, text))
         }
         Err(ModelStop::NoMemory) => Err(AllocError),
     }
@@ -37,19 +35,13 @@ pub(crate) fn simulated(alloc: Global, model: &[u8], script: &[u8]) -> Result<Ou
 
 /// The answer to a simulation of a model under a script.
 fn run(alloc: Global, model: &IlaModel, script: &[u8]) -> Result<Outcome, NoMemory>
-    ensures { IfOk result (λ o. IsSimulated (with_script (model_of model.now) (script_reading (settables_of (model_of model.now)) script.now)) o.status o.text.items) }
+    ensures { IfOk result (λ o. IsSimulated (with_script (model_of model.now) (script_reading (settables_of (model_of model.now)) script.now)) o.status o.text.items × ((told_of o).spent ≡ [])) }
 {
     match ila_sim::simulated(alloc, model, script)? {
-        Simulation::Text(text) => Ok(Outcome {
-            status: Status::Done,
-            text,
-        }),
+        Simulation::Text(text) => Ok(Outcome::plain(alloc, Status::Done, text)),
         Simulation::Refused(refusal) => {
             let text = refusal_of_script(alloc, &refusal)?;
-            Ok(Outcome {
-                status: Status::Refused,
-                text,
-            })
+            Ok(Outcome::plain(alloc, Status::Refused, text))
         }
     }
 }

@@ -1,12 +1,17 @@
 //! How a call ends.
 
+use first_check::BitName;
+use first_report::Spent;
+
 /// How a call ends; its number is the program's exit status.
 #[derive(Clone, Copy, PartialEq, Eq, Debug)]
 pub enum Status {
-    /// A report without `failed` lines was written: every run of the design refines the model.
+    /// A report was written in which all obligations are `proved`: every run of the design refines the model.
     Done,
     /// A report with a `failed` line was written.
     Failed,
+    /// A report without `failed` lines was written in which an obligation is `unknown`.
+    Unknown,
     /// The words ask for nothing that the program does.
     Usage,
     /// The files are not accepted.
@@ -32,6 +37,7 @@ impl Status {
         match self {
             Status::Done => 0,
             Status::Failed => 1,
+            Status::Unknown => 2,
             Status::Usage => 3,
             Status::Refused => 4,
             Status::ReadFault => 5,
@@ -43,7 +49,11 @@ impl Status {
 }
 
 /// What a call answers.
-#[derive(Clone, Copy, PartialEq, Eq, Debug)]
+#[derive(Drop)]
 pub struct Ended {
     pub status: Status,
+    /// The names whose bits have variables in the formulas of `spent`.
+    pub names: Vec<BitName>,
+    /// For each `unknown` line of the report, in order, its formula and the lemmas on which the budget was spent.
+    pub spent: Vec<Spent>,
 }

@@ -1,7 +1,9 @@
 //! The rows of the top call over a shelf and a sink in memory.
 
+mod budgets;
 mod counter;
 mod faults;
+mod refusals;
 mod simulation;
 mod variants;
 

@@ -1,9 +1,10 @@
 //! The top call.
 
-ghost use Rattle.std.specs.Prelude.{◌≡◌, ◌≤◌, ◌≢◌, IsSome, map, string_bytes};
+ghost use Rattle.std.specs.Prelude.{◌≡◌, ◌≤◌, ◌≢◌, [], IsSome, map, string_bytes};
 ghost use Rattle.wb_outside.specs.Outside.{Rose};
 ghost use Rattle.wb_top.specs.Asked.{AskedAll, AskedSome};
 ghost use Rattle.wb_top.specs.Outcome.{AskForCheck, Headline, Wrote, WrotePrefix};
+ghost use Rattle.wb_top.specs.Showing.{shown_by};
 ghost use Rattle.wb_top.specs.Words.{command_of};
 
 use crate::outcome::{outcome, written};
@@ -28,14 +29,15 @@ pub fn workbench<S: Shelf, K: Sink>(
 
     // What was written, and why: a report, each of whose lines is true; what the model does under the script, line by line; or the
     // text of a refusal or of a limit.
-    ensures done { result.status ≡ Status.Done → Wrote (S.holds shelf.old) (map string_bytes words.now) Status.Done (K.written out.old) (K.written out.new) }
-    ensures failed { result.status ≡ Status.Failed → Wrote (S.holds shelf.old) (map string_bytes words.now) Status.Failed (K.written out.old) (K.written out.new) }
-    ensures usage { result.status ≡ Status.Usage → Wrote (S.holds shelf.old) (map string_bytes words.now) Status.Usage (K.written out.old) (K.written out.new) }
-    ensures refused { result.status ≡ Status.Refused → Wrote (S.holds shelf.old) (map string_bytes words.now) Status.Refused (K.written out.old) (K.written out.new) }
-    ensures limit { result.status ≡ Status.Limit → Wrote (S.holds shelf.old) (map string_bytes words.now) Status.Limit (K.written out.old) (K.written out.new) }
-    ensures write_fault { result.status ≡ Status.WriteFault → WrotePrefix (S.holds shelf.old) (map string_bytes words.now) (K.written out.old) (K.written out.new) }
-    ensures read_fault { result.status ≡ Status.ReadFault → K.written out.new ≡ K.written out.old }
-    ensures no_memory { result.status ≡ Status.NoMemory → K.written out.new ≡ K.written out.old }
+    ensures done { result.status ≡ Status.Done → Wrote (S.holds shelf.old) (map string_bytes words.now) Status.Done (shown_by result) (K.written out.old) (K.written out.new) }
+    ensures failed { result.status ≡ Status.Failed → Wrote (S.holds shelf.old) (map string_bytes words.now) Status.Failed (shown_by result) (K.written out.old) (K.written out.new) }
+    ensures unknown { result.status ≡ Status.Unknown → Wrote (S.holds shelf.old) (map string_bytes words.now) Status.Unknown (shown_by result) (K.written out.old) (K.written out.new) }
+    ensures usage { result.status ≡ Status.Usage → Wrote (S.holds shelf.old) (map string_bytes words.now) Status.Usage (shown_by result) (K.written out.old) (K.written out.new) }
+    ensures refused { result.status ≡ Status.Refused → Wrote (S.holds shelf.old) (map string_bytes words.now) Status.Refused (shown_by result) (K.written out.old) (K.written out.new) }
+    ensures limit { result.status ≡ Status.Limit → Wrote (S.holds shelf.old) (map string_bytes words.now) Status.Limit (shown_by result) (K.written out.old) (K.written out.new) }
+    ensures write_fault { result.status ≡ Status.WriteFault → WrotePrefix (S.holds shelf.old) (map string_bytes words.now) (shown_by result) (K.written out.old) (K.written out.new) }
+    ensures read_fault { result.status ≡ Status.ReadFault → (K.written out.new ≡ K.written out.old) × (shown_by result ≡ []) }
+    ensures no_memory { result.status ≡ Status.NoMemory → (K.written out.new ≡ K.written out.old) × (shown_by result ≡ []) }
 
     // Faults come from outside alone.
     ensures read_command { result.status ≡ Status.ReadFault → IsSome (command_of (map string_bytes words.now)) }
@@ -53,13 +55,25 @@ pub fn workbench<S: Shelf, K: Sink>(
     match outcome(alloc, words, shelf) {
         Ok(outcome) => {
             let status = written(&outcome, out);
-            Ended { status }
+            Ended {
+                status,
+                names: outcome.names,
+                spent: outcome.spent,
+            }
         }
-        Err(Stop::ReadFault) => Ended {
-            status: Status::ReadFault,
-        },
-        Err(Stop::NoMemory) => Ended {
-            status: Status::NoMemory,
-        },
+        Err(Stop::ReadFault) => nothing_shown(alloc, Status::ReadFault),
+        Err(Stop::NoMemory) => nothing_shown(alloc, Status::NoMemory),
+    }
+}
+
+/// A call that ends with a status and shows nothing beside it.
+fn nothing_shown(alloc: Global, status: Status) -> Ended
+    ensures status { result.status ≡ status }
+    ensures nothing { shown_by result ≡ [] }
+{
+    Ended {
+        status,
+        names: Vec::new(alloc),
+        spent: Vec::new(alloc),
     }
 }

@@ -1,7 +1,7 @@
 //! A command and the files that it reads.
 
 ghost use Rattle.std.specs.Prelude.{IsTrue, length};
-ghost use Rattle.wb_top.specs.Words.{is_file_count};
+ghost use Rattle.wb_top.specs.Words.{is_command};
 
 use crate::verb::Verb;
 
@@ -10,5 +10,5 @@ use crate::verb::Verb;
 pub(crate) struct Wanted {
     pub(crate) verb: Verb,
     pub(crate) files: Vec<String>,
-    pub(crate) ghost counted: { IsTrue (is_file_count verb (length files.items)) },
+    pub(crate) ghost counted: { IsTrue (is_command verb (length files.items)) },
 }

@@ -1,6 +1,8 @@
 //! What the words of a command ask for.
 
-ghost use Rattle.std.specs.Prelude.{◌≡◌, ◌∷◌, [], IfOk, map, option_map, string_bytes};
+ghost use Rattle.std.specs.Prelude.{◌≡◌, ◌∷◌, [], None, false, IfOk, map, option_map, string_bytes};
+ghost use Rattle.clap.specs.Words.{takes};
+ghost use Rattle.wb_words.specs.Application.{workbench_app};
 ghost use Rattle.wb_words.specs.View.{request_view};
 ghost use Rattle.wb_top.specs.Words.{command_for, command_of};
 ghost use Rattle.wb_top.specs.Wanted.{command_view};
@@ -13,7 +15,8 @@ use wb_words::{Check, Request, Simulate, WordsStop, request};
 
 /// What the words ask for, if it is a command.
 pub(crate) fn wanted(alloc: Global, words: &[String]) -> Result<Option<Wanted>, NoMemory>
-    ensures { IfOk result (λ o. option_map command_view o ≡ command_of (map string_bytes words.now)) }
+    ensures wanted { IfOk result (λ o. option_map command_view o ≡ command_of (map string_bytes words.now)) }
+    ensures refused { IfOk result (λ o. o ≡ None → takes workbench_app (map string_bytes words.now) ≡ false) }
 {
     match request(alloc, words) {
         Ok(request) => {
@@ -32,7 +35,7 @@ fn wanted_by(alloc: Global, request: &Request<'_>) -> Result<Wanted, NoMemory>
         Request::Check(check) => {
             let files = files_of_check(alloc, check)?;
             Ok(Wanted {
-                verb: Verb::Check,
+                verb: Verb::Check(check.budget),
                 files,
             })
         }

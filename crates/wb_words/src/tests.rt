@@ -82,7 +82,7 @@ const TAKEN: [(&str, &str); 42] = [
 ];
 
 /// Command lines that are refused for their commands and their files.
-const REFUSED: [&str; 50] = [
+const REFUSED: [&str; 53] = [
     "",
     "wb",
     "wb ",
@@ -126,6 +126,9 @@ const REFUSED: [&str; 50] = [
     "wb check --model m --map p v -x",
     "wb check --model m --map p v --depth 3",
     "wb check --model m --script s --map p v",
+    "wb check --budget 1 --model m --map p v --budget 1",
+    "wb check --model m --map p v --budget",
+    "wb check --budget --model m --map p v",
     "wb simulate",
     "wb simulate --model m",
     "wb simulate --script s",

@@ -1,10 +1,10 @@
 //! Words that ask for nothing, faults of the shelf and the sink, and files that are too long.
 
 use super::counter::{DESIGN, MAP, MODEL, REPORT};
-use super::{CHECK, ROOM, owned, shelf_of};
+use super::{CHECK, ROOM, file, owned, shelf_of};
 use crate::{Status, workbench};
 use std::test::Fail;
-use wb_outside::MemSink;
+use wb_outside::{MemShelf, MemSink};
 
 #[test]
 fn other_words_are_usage(rt: HostRuntime) -> Result<(), Fail> {
@@ -167,6 +167,28 @@ fn words_in_another_order(rt: HostRuntime) -> Result<(), Fail> {
     let ended = workbench(alloc, &words, &mut shelf, &mut sink);
     assert_eq!(rt; ended.status, Status::Done);
     assert_eq!(rt; sink.bytes(), REPORT.as_bytes());
+    Ok(())
+}
+
+/// Length comes before all that is said of the files as texts.
+#[test]
+fn a_second_design_that_is_too_long_is_a_limit(rt: HostRuntime) -> Result<(), Fail> {
+    let alloc = rt.alloc();
+    let blanks = vec![in alloc; b' '; 4_194_305]?;
+    let mut files = Vec::new(alloc);
+    files.push(file(alloc, "m", MODEL.as_bytes())?)?;
+    files.push(file(alloc, "p", MAP.as_bytes())?)?;
+    files.push(file(alloc, "v", b"no module")?)?;
+    files.push(file(alloc, "w", &blanks)?)?;
+    let mut shelf = MemShelf::new(alloc, files, Vec::new(alloc))?;
+    let mut sink = MemSink::new(alloc, ROOM, Vec::new(alloc))?;
+    let words = owned(
+        alloc,
+        &["wb", "check", "--model", "m", "--map", "p", "v", "w"],
+    )?;
+    let ended = workbench(alloc, &words, &mut shelf, &mut sink);
+    assert_eq!(rt; ended.status, Status::Limit);
+    assert_eq!(rt; sink.bytes(), b"limit length 3\n".as_slice());
     Ok(())
 }
 

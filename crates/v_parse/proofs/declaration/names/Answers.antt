@@ -18,7 +18,7 @@ returns-in_err-first c =
 pub loop-names-init : goal.loop-names-init
 unfolding names_at
 loop-names-init c =
-    list_begins (λ n. n.now) before_name name_at (tokens_of c.args.tokens.now) c.in_ok-first.first (tokens_of c.in_ok-first.rest.now) c.new-names.result.items c.push.new.self.items c.new-names.ensures.items c.in_ok-push.ensures.items c.in_ok-first.ensures
+    list_begins (λ n. n.now) before_name name_at (tokens_of c.args.tokens.now) c.in_ok-first.first (tokens_of c.in_ok-first.rest.now) c.in_ok-names.names.items c.in_ok-names.ensures c.in_ok-first.ensures
 
 pub returns-in-None : goal.returns-in-None
 returns-in-None c = list_ends before_name name_at (map (λ n. n.now) c.loop-names.names.items) (tokens_of c.loop-names.rest.now) (names_at (tokens_of c.args.tokens.now)) c.in-None.ensures c.loop-names.invariant
@@ -34,5 +34,5 @@ loop-names-smaller c =
 
 pub loop-names-preserved : goal.loop-names-preserved
 loop-names-preserved c =
-    list_goes_on (λ n. n.now) before_name name_at before_name_advances (keeps IsName name_read) c.loop-names.names.items c.push-in-Some.new.self.items (tokens_of c.loop-names.rest.now) (tokens_of c.in-Some.more.now) c.in_ok-next-in-Some.next (tokens_of c.in_ok-next-in-Some.after.now)
+    list_goes_on (λ n. n.now) before_name name_at before_name_advances (keeps IsName name_read) c.loop-names.names.items c.push.new.self.items (tokens_of c.loop-names.rest.now) (tokens_of c.in-Some.more.now) c.in_ok-next-in-Some.next (tokens_of c.in_ok-next-in-Some.after.now)
     (names_at (tokens_of c.args.tokens.now)) c.in_ok-push-in-Some.ensures.items c.in-Some.ensures c.in_ok-next-in-Some.ensures c.loop-names.invariant

@@ -18,7 +18,7 @@ returns-in_err-first c =
 pub loop-values-init : goal.loop-values-init
 unfolding settings_at
 loop-values-init c =
-    list_begins setting_of before_name setting_at (tokens_of c.args.tokens.now) c.in_ok-first.first (tokens_of c.in_ok-first.rest.now) c.new-values.result.items c.push.new.self.items c.new-values.ensures.items c.in_ok-push.ensures.items c.in_ok-first.ensures
+    list_begins setting_of before_name setting_at (tokens_of c.args.tokens.now) c.in_ok-first.first (tokens_of c.in_ok-first.rest.now) c.in_ok-values.values.items c.in_ok-values.ensures c.in_ok-first.ensures
 
 pub returns-in-None : goal.returns-in-None
 returns-in-None c = list_ends before_name setting_at (map setting_of c.loop-values.values.items) (tokens_of c.loop-values.rest.now) (settings_at (tokens_of c.args.tokens.now)) c.in-None.ensures c.loop-values.invariant
@@ -34,5 +34,5 @@ loop-values-smaller c =
 
 pub loop-values-preserved : goal.loop-values-preserved
 loop-values-preserved c =
-    list_goes_on setting_of before_name setting_at before_name_advances (keeps IsSetting setting_read) c.loop-values.values.items c.push-in-Some.new.self.items (tokens_of c.loop-values.rest.now) (tokens_of c.in-Some.more.now) c.in_ok-next-in-Some.next (tokens_of c.in_ok-next-in-Some.after.now)
+    list_goes_on setting_of before_name setting_at before_name_advances (keeps IsSetting setting_read) c.loop-values.values.items c.push.new.self.items (tokens_of c.loop-values.rest.now) (tokens_of c.in-Some.more.now) c.in_ok-next-in-Some.next (tokens_of c.in_ok-next-in-Some.after.now)
     (settings_at (tokens_of c.args.tokens.now)) c.in_ok-push-in-Some.ensures.items c.in-Some.ensures c.in_ok-next-in-Some.ensures c.loop-values.invariant

@@ -19,7 +19,7 @@ returns-in_err-first c =
 pub loop-variables-init : goal.loop-variables-init
 unfolding variables_at
 loop-variables-init c =
-    list_begins variable_of (after_mark comma) variable_at (tokens_of c.args.tokens.now) c.in_ok-first.first (tokens_of c.in_ok-first.rest.now) c.new-variables.result.items c.push.new.self.items c.new-variables.ensures.items c.in_ok-push.ensures.items c.in_ok-first.ensures
+    list_begins variable_of (after_mark comma) variable_at (tokens_of c.args.tokens.now) c.in_ok-first.first (tokens_of c.in_ok-first.rest.now) c.in_ok-variables.variables.items c.in_ok-variables.ensures c.in_ok-first.ensures
 
 pub returns-in-None : goal.returns-in-None
 returns-in-None c = list_ends (after_mark comma) variable_at (map variable_of c.loop-variables.variables.items) (tokens_of c.loop-variables.rest.now) (variables_at (tokens_of c.args.tokens.now)) c.in-None.ensures c.loop-variables.invariant
@@ -35,5 +35,5 @@ loop-variables-smaller c =
 
 pub loop-variables-preserved : goal.loop-variables-preserved
 loop-variables-preserved c =
-    list_goes_on variable_of (after_mark comma) variable_at comma_advances (keeps IsVariable variable_read) c.loop-variables.variables.items c.push-in-Some.new.self.items (tokens_of c.loop-variables.rest.now) (tokens_of c.in-Some.more.now) c.in_ok-next-in-Some.next (tokens_of c.in_ok-next-in-Some.after.now)
+    list_goes_on variable_of (after_mark comma) variable_at comma_advances (keeps IsVariable variable_read) c.loop-variables.variables.items c.push.new.self.items (tokens_of c.loop-variables.rest.now) (tokens_of c.in-Some.more.now) c.in_ok-next-in-Some.next (tokens_of c.in_ok-next-in-Some.after.now)
     (variables_at (tokens_of c.args.tokens.now)) c.in_ok-push-in-Some.ensures.items c.in-Some.ensures c.in_ok-next-in-Some.ensures c.loop-variables.invariant

@@ -19,7 +19,7 @@ returns-in_err-first c =
 pub loop-wires-init : goal.loop-wires-init
 unfolding wires_at
 loop-wires-init c =
-    list_begins wire_of (after_mark comma) wire_at (tokens_of c.args.tokens.now) c.in_ok-first.first (tokens_of c.in_ok-first.rest.now) c.new-wires.result.items c.push.new.self.items c.new-wires.ensures.items c.in_ok-push.ensures.items c.in_ok-first.ensures
+    list_begins wire_of (after_mark comma) wire_at (tokens_of c.args.tokens.now) c.in_ok-first.first (tokens_of c.in_ok-first.rest.now) c.in_ok-wires.wires.items c.in_ok-wires.ensures c.in_ok-first.ensures
 
 pub returns-in-None : goal.returns-in-None
 returns-in-None c = list_ends (after_mark comma) wire_at (map wire_of c.loop-wires.wires.items) (tokens_of c.loop-wires.rest.now) (wires_at (tokens_of c.args.tokens.now)) c.in-None.ensures c.loop-wires.invariant
@@ -35,5 +35,5 @@ loop-wires-smaller c =
 
 pub loop-wires-preserved : goal.loop-wires-preserved
 loop-wires-preserved c =
-    list_goes_on wire_of (after_mark comma) wire_at comma_advances (keeps IsWire wire_read) c.loop-wires.wires.items c.push-in-Some.new.self.items (tokens_of c.loop-wires.rest.now) (tokens_of c.in-Some.more.now) c.in_ok-next-in-Some.next (tokens_of c.in_ok-next-in-Some.after.now)
+    list_goes_on wire_of (after_mark comma) wire_at comma_advances (keeps IsWire wire_read) c.loop-wires.wires.items c.push.new.self.items (tokens_of c.loop-wires.rest.now) (tokens_of c.in-Some.more.now) c.in_ok-next-in-Some.next (tokens_of c.in_ok-next-in-Some.after.now)
     (wires_at (tokens_of c.args.tokens.now)) c.in_ok-push-in-Some.ensures.items c.in-Some.ensures c.in_ok-next-in-Some.ensures c.loop-wires.invariant

@@ -17,7 +17,7 @@ returns-in_err-first c =
 pub loop-events-init : goal.loop-events-init
 unfolding event_list_at
 loop-events-init c =
-    list_begins event_of next_event event_at (tokens_of c.args.tokens.now) c.in_ok-first.first (tokens_of c.in_ok-first.rest.now) c.new-events.result.items c.push.new.self.items c.new-events.ensures.items c.in_ok-push.ensures.items c.in_ok-first.ensures
+    list_begins event_of next_event event_at (tokens_of c.args.tokens.now) c.in_ok-first.first (tokens_of c.in_ok-first.rest.now) c.in_ok-events.events.items c.in_ok-events.ensures c.in_ok-first.ensures
 
 pub returns-in-None : goal.returns-in-None
 returns-in-None c = list_ends next_event event_at (map event_of c.loop-events.events.items) (tokens_of c.loop-events.rest.now) (event_list_at (tokens_of c.args.tokens.now)) c.in-None.ensures c.loop-events.invariant
@@ -33,5 +33,5 @@ loop-events-smaller c =
 
 pub loop-events-preserved : goal.loop-events-preserved
 loop-events-preserved c =
-    list_goes_on event_of next_event event_at next_event_advances (keeps IsEvent event_read) c.loop-events.events.items c.push-in-Some.new.self.items (tokens_of c.loop-events.rest.now) (tokens_of c.in-Some.more.now) c.in_ok-next-in-Some.next (tokens_of c.in_ok-next-in-Some.after.now)
+    list_goes_on event_of next_event event_at next_event_advances (keeps IsEvent event_read) c.loop-events.events.items c.push.new.self.items (tokens_of c.loop-events.rest.now) (tokens_of c.in-Some.more.now) c.in_ok-next-in-Some.next (tokens_of c.in_ok-next-in-Some.after.now)
     (event_list_at (tokens_of c.args.tokens.now)) c.in_ok-push-in-Some.ensures.items c.in-Some.ensures c.in_ok-next-in-Some.ensures c.loop-events.invariant

@@ -19,7 +19,7 @@ returns-in_err-first c =
 pub loop-instances-init : goal.loop-instances-init
 unfolding instances_at
 loop-instances-init c =
-    list_begins instance_of (after_mark comma) instance_at (tokens_of c.args.tokens.now) c.in_ok-first.first (tokens_of c.in_ok-first.rest.now) c.new-instances.result.items c.push.new.self.items c.new-instances.ensures.items c.in_ok-push.ensures.items c.in_ok-first.ensures
+    list_begins instance_of (after_mark comma) instance_at (tokens_of c.args.tokens.now) c.in_ok-first.first (tokens_of c.in_ok-first.rest.now) c.in_ok-instances.instances.items c.in_ok-instances.ensures c.in_ok-first.ensures
 
 pub returns-in-None : goal.returns-in-None
 returns-in-None c = list_ends (after_mark comma) instance_at (map instance_of c.loop-instances.instances.items) (tokens_of c.loop-instances.rest.now) (instances_at (tokens_of c.args.tokens.now)) c.in-None.ensures c.loop-instances.invariant
@@ -35,5 +35,5 @@ loop-instances-smaller c =
 
 pub loop-instances-preserved : goal.loop-instances-preserved
 loop-instances-preserved c =
-    list_goes_on instance_of (after_mark comma) instance_at comma_advances (keeps IsInstance instance_read) c.loop-instances.instances.items c.push-in-Some.new.self.items (tokens_of c.loop-instances.rest.now) (tokens_of c.in-Some.more.now) c.in_ok-next-in-Some.next (tokens_of c.in_ok-next-in-Some.after.now)
+    list_goes_on instance_of (after_mark comma) instance_at comma_advances (keeps IsInstance instance_read) c.loop-instances.instances.items c.push.new.self.items (tokens_of c.loop-instances.rest.now) (tokens_of c.in-Some.more.now) c.in_ok-next-in-Some.next (tokens_of c.in_ok-next-in-Some.after.now)
     (instances_at (tokens_of c.args.tokens.now)) c.in_ok-push-in-Some.ensures.items c.in-Some.ensures c.in_ok-next-in-Some.ensures c.loop-instances.invariant

@@ -19,7 +19,7 @@ returns-in_err-first c =
 pub loop-entries-init : goal.loop-entries-init
 unfolding named_entries_at
 loop-entries-init c =
-    list_begins named_entry_of (after_mark comma) named_entry_at (tokens_of c.args.tokens.now) c.in_ok-first.first (tokens_of c.in_ok-first.rest.now) c.new-entries.result.items c.push.new.self.items c.new-entries.ensures.items c.in_ok-push.ensures.items c.in_ok-first.ensures
+    list_begins named_entry_of (after_mark comma) named_entry_at (tokens_of c.args.tokens.now) c.in_ok-first.first (tokens_of c.in_ok-first.rest.now) c.in_ok-entries.entries.items c.in_ok-entries.ensures c.in_ok-first.ensures
 
 pub returns-in-None : goal.returns-in-None
 returns-in-None c = list_ends (after_mark comma) named_entry_at (map named_entry_of c.loop-entries.entries.items) (tokens_of c.loop-entries.rest.now) (named_entries_at (tokens_of c.args.tokens.now)) c.in-None.ensures c.loop-entries.invariant
@@ -35,5 +35,5 @@ loop-entries-smaller c =
 
 pub loop-entries-preserved : goal.loop-entries-preserved
 loop-entries-preserved c =
-    list_goes_on named_entry_of (after_mark comma) named_entry_at comma_advances (keeps IsNamedEntry named_entry_read) c.loop-entries.entries.items c.push-in-Some.new.self.items (tokens_of c.loop-entries.rest.now) (tokens_of c.in-Some.more.now) c.in_ok-next-in-Some.next (tokens_of c.in_ok-next-in-Some.after.now)
+    list_goes_on named_entry_of (after_mark comma) named_entry_at comma_advances (keeps IsNamedEntry named_entry_read) c.loop-entries.entries.items c.push.new.self.items (tokens_of c.loop-entries.rest.now) (tokens_of c.in-Some.more.now) c.in_ok-next-in-Some.next (tokens_of c.in_ok-next-in-Some.after.now)
     (named_entries_at (tokens_of c.args.tokens.now)) c.in_ok-push-in-Some.ensures.items c.in-Some.ensures c.in_ok-next-in-Some.ensures c.loop-entries.invariant

@@ -20,7 +20,7 @@ returns-in_err-first c =
 pub loop-assignments-init : goal.loop-assignments-init
 unfolding assignments_at
 loop-assignments-init c =
-    list_begins assignment_of (after_mark comma) (assignment_at equals) (tokens_of c.args.tokens.now) c.in_ok-first.first (tokens_of c.in_ok-first.rest.now) c.new-assignments.result.items c.push.new.self.items c.new-assignments.ensures.items c.in_ok-push.ensures.items c.in_ok-first.ensures
+    list_begins assignment_of (after_mark comma) (assignment_at equals) (tokens_of c.args.tokens.now) c.in_ok-first.first (tokens_of c.in_ok-first.rest.now) c.in_ok-assignments.assignments.items c.in_ok-assignments.ensures c.in_ok-first.ensures
 
 pub returns-in-None : goal.returns-in-None
 returns-in-None c = list_ends (after_mark comma) (assignment_at equals) (map assignment_of c.loop-assignments.assignments.items) (tokens_of c.loop-assignments.rest.now) (assignments_at (tokens_of c.args.tokens.now)) c.in-None.ensures c.loop-assignments.invariant
@@ -36,5 +36,5 @@ loop-assignments-smaller c =
 
 pub loop-assignments-preserved : goal.loop-assignments-preserved
 loop-assignments-preserved c =
-    list_goes_on assignment_of (after_mark comma) (assignment_at equals) comma_advances (keeps (IsAssignment equals) assignment_read) c.loop-assignments.assignments.items c.push-in-Some.new.self.items (tokens_of c.loop-assignments.rest.now) (tokens_of c.in-Some.more.now) c.in_ok-next-in-Some.next (tokens_of c.in_ok-next-in-Some.after.now)
+    list_goes_on assignment_of (after_mark comma) (assignment_at equals) comma_advances (keeps (IsAssignment equals) assignment_read) c.loop-assignments.assignments.items c.push.new.self.items (tokens_of c.loop-assignments.rest.now) (tokens_of c.in-Some.more.now) c.in_ok-next-in-Some.next (tokens_of c.in_ok-next-in-Some.after.now)
     (assignments_at (tokens_of c.args.tokens.now)) c.in_ok-push-in-Some.ensures.items c.in-Some.ensures c.in_ok-next-in-Some.ensures c.loop-assignments.invariant

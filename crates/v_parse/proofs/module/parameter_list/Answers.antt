@@ -20,7 +20,7 @@ returns-in_err-first c =
 pub loop-parameters-init : goal.loop-parameters-init
 unfolding parameter_list_at
 loop-parameters-init c =
-    list_begins parameter_of (after_mark comma) header_parameter_at (tokens_of c.args.tokens.now) c.in_ok-first.first (tokens_of c.in_ok-first.rest.now) c.new-parameters.result.items c.push.new.self.items c.new-parameters.ensures.items c.in_ok-push.ensures.items c.in_ok-first.ensures
+    list_begins parameter_of (after_mark comma) header_parameter_at (tokens_of c.args.tokens.now) c.in_ok-first.first (tokens_of c.in_ok-first.rest.now) c.in_ok-parameters.parameters.items c.in_ok-parameters.ensures c.in_ok-first.ensures
 
 pub returns-in-None : goal.returns-in-None
 returns-in-None c = list_ends (after_mark comma) header_parameter_at (map parameter_of c.loop-parameters.parameters.items) (tokens_of c.loop-parameters.rest.now) (parameter_list_at (tokens_of c.args.tokens.now)) c.in-None.ensures c.loop-parameters.invariant
@@ -36,5 +36,5 @@ loop-parameters-smaller c =
 
 pub loop-parameters-preserved : goal.loop-parameters-preserved
 loop-parameters-preserved c =
-    list_goes_on parameter_of (after_mark comma) header_parameter_at comma_advances (keeps IsHeaderParameter header_parameter_read) c.loop-parameters.parameters.items c.push-in-Some.new.self.items (tokens_of c.loop-parameters.rest.now) (tokens_of c.in-Some.more.now) c.in_ok-next-in-Some.next (tokens_of c.in_ok-next-in-Some.after.now)
+    list_goes_on parameter_of (after_mark comma) header_parameter_at comma_advances (keeps IsHeaderParameter header_parameter_read) c.loop-parameters.parameters.items c.push.new.self.items (tokens_of c.loop-parameters.rest.now) (tokens_of c.in-Some.more.now) c.in_ok-next-in-Some.next (tokens_of c.in_ok-next-in-Some.after.now)
     (parameter_list_at (tokens_of c.args.tokens.now)) c.in_ok-push-in-Some.ensures.items c.in-Some.ensures c.in_ok-next-in-Some.ensures c.loop-parameters.invariant

@@ -18,7 +18,7 @@ returns-in_err-first c =
 pub loop-ports-init : goal.loop-ports-init
 unfolding port_list_at
 loop-ports-init c =
-    list_begins port_of (after_mark comma) port_at (tokens_of c.args.tokens.now) c.in_ok-first.first (tokens_of c.in_ok-first.rest.now) c.new-ports.result.items c.push.new.self.items c.new-ports.ensures.items c.in_ok-push.ensures.items c.in_ok-first.ensures
+    list_begins port_of (after_mark comma) port_at (tokens_of c.args.tokens.now) c.in_ok-first.first (tokens_of c.in_ok-first.rest.now) c.in_ok-ports.ports.items c.in_ok-ports.ensures c.in_ok-first.ensures
 
 pub returns-in-None : goal.returns-in-None
 returns-in-None c = list_ends (after_mark comma) port_at (map port_of c.loop-ports.ports.items) (tokens_of c.loop-ports.rest.now) (port_list_at (tokens_of c.args.tokens.now)) c.in-None.ensures c.loop-ports.invariant
@@ -34,5 +34,5 @@ loop-ports-smaller c =
 
 pub loop-ports-preserved : goal.loop-ports-preserved
 loop-ports-preserved c =
-    list_goes_on port_of (after_mark comma) port_at comma_advances port_keeps c.loop-ports.ports.items c.push-in-Some.new.self.items (tokens_of c.loop-ports.rest.now) (tokens_of c.in-Some.more.now) c.in_ok-next-in-Some.next (tokens_of c.in_ok-next-in-Some.after.now)
+    list_goes_on port_of (after_mark comma) port_at comma_advances port_keeps c.loop-ports.ports.items c.push.new.self.items (tokens_of c.loop-ports.rest.now) (tokens_of c.in-Some.more.now) c.in_ok-next-in-Some.next (tokens_of c.in_ok-next-in-Some.after.now)
     (port_list_at (tokens_of c.args.tokens.now)) c.in_ok-push-in-Some.ensures.items c.in-Some.ensures c.in_ok-next-in-Some.ensures c.loop-ports.invariant

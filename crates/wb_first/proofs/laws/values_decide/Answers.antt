@@ -1,5 +1,5 @@
-use Rattle.wb_first.proofs.Concluded.{values_decide}
+use Rattle.wb_first.proofs.Concluded.{broken_is_falsified, unbroken_holds}
 use Rattle.wb_first.proofs.laws.values_decide.Goals as goal
 
 pub returns : goal.returns
-returns c = values_decide
+returns c = record { falsified = broken_is_falsified; holds = unbroken_holds }

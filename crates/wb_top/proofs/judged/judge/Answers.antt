@@ -1,4 +1,4 @@
-use Rattle.std.proofs.Common.{◌≡◌, ◌∙◌, ap, sym, Some, None, option_map}
+use Rattle.std.proofs.Common.{◌∙◌, ap, sym, option_map}
 use Rattle.ila_rules.specs.declared.rule.ModelRefusal.{ModelRefusal}
 use Rattle.ila_rules.specs.Rule.{rule_view}
 use Rattle.wb_top.proofs.Cases.{kind_of_model}

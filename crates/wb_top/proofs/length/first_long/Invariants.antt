@@ -1,4 +1,4 @@
-use Rattle.std.proofs.Common.{◌≡◌, map, drop, length, ℕ, List}
+use Rattle.std.proofs.Common.{◌≡◌, map, drop}
 use Rattle.wb_top.specs.Files.{first_long}
 use Rattle.wb_top.proofs.length.first_long.Given as goal
 

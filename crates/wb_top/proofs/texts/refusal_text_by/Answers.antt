@@ -1,4 +1,4 @@
-use Rattle.std.proofs.Common.{◌≡◌, ◌∙◌, ◌++◌, ◌∷◌, [], ap, codes}
+use Rattle.std.proofs.Common.{◌∙◌, ◌++◌, ◌∷◌, [], ap, codes}
 use Rattle.wb_top.proofs.Joined.{joined_pieces}
 use Rattle.wb_top.proofs.texts.refusal_text_by.Goals as goal
 

@@ -1,4 +1,5 @@
 use Rattle.std.proofs.Common.{map, string_bytes}
+use Rattle.wb_top.specs.Showing.{told_of}
 use Rattle.wb_top.specs.Words.{command_of}
 use Rattle.wb_top.proofs.Headline.{headline_at}
 use Rattle.wb_top.proofs.Told.{some_of_all}
@@ -6,7 +7,7 @@ use Rattle.wb_top.proofs.top.workbench.Goals as goal
 
 pub returns-in-Ok-clause-headline : goal.returns-in-Ok-clause-headline
 returns-in-Ok-clause-headline g c =
-    headline_at (g.S.Shelf.holds c.args.shelf.now) (map string_bytes c.args.words.now) c.in-Ok.outcome.status c.written-status.result c.in-Ok.outcome.text.items
+    headline_at (g.S.Shelf.holds c.args.shelf.now) (map string_bytes c.args.words.now) c.in-Ok.outcome.status c.written-status.result (told_of c.in-Ok.outcome)
     c.in-Ok.ensures.outcome c.written-status.ensures.status
 
 pub returns-in-Ok-clause-asked : goal.returns-in-Ok-clause-asked

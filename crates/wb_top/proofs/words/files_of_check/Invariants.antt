@@ -1,4 +1,4 @@
-use Rattle.std.proofs.Common.{◌≡◌, ◌∷◌, ◌++◌, map, drop, string_bytes, ℕ, List}
+use Rattle.std.proofs.Common.{◌≡◌, ◌∷◌, ◌++◌, map, drop, string_bytes}
 use Rattle.wb_top.proofs.words.files_of_check.Given as goal
 
 abbrev pub invariant-loop-design : goal.invariant-loop-design

@@ -1,21 +1,14 @@
-use Rattle.std.proofs.Common.{◌+◌, length, arith, subst, sym}
-use Rattle.gate_base.specs.Circuit.{Circuit, size, Grows}
-use Rattle.gate_base.specs.Clauses.{AreOrdered, IsGateBelow}
-use Rattle.gate_base.proofs.Following.{ordered_push, grows_by_gate, gives_gate}
+use Rattle.std.proofs.Common.{subst, sym}
+use Rattle.std.proofs.lemmas.Result.{IfOk-weaker}
+use Rattle.gate_base.specs.Circuit.{Gives, gate_value}
+use Rattle.gate_base.specs.declared.bits.Bit.{Bit}
+use Rattle.gate_base.proofs.Following.{gives_placed}
 use Rattle.gate_base.proofs.building.Builder.add.Goals as goal
 
-pub invariant_of-self-2 : goal.invariant_of-self-2
-invariant_of-self-2 c =
-    let below : IsGateBelow (c.self.inside.inputs + length c.self.inside.gates.items) c.args.gate =
-    subst (λ (g : Circuit). IsGateBelow (size g) c.args.gate) (sym c.self.view_is) c.requires in
-    subst (AreOrdered c.self.inside.inputs) (sym c.in_ok-push.ensures.items)
-    (ordered_push c.self.inside.inputs c.self.inside.gates.items c.args.gate c.self.invariant below)
+pub returns-in-Some-clause-bit : goal.returns-in-Some-clause-bit
+returns-in-Some-clause-bit c = IfOk-weaker c.bit_at.result _ _
+    (λ b own. subst (λ (x : Bit). Gives c.args.self.now x (λ w. gate_value w c.args.gate)) (sym own)
+    (gives_placed c.args.self.now c.in-Some.place c.in_order-ordered.result c.args.gate c.in-Some.ensures c.in_order-ordered.ensures.value)) c.bit_at.ensures
 
-pub returns-clause-bit : goal.returns-clause-bit
-returns-clause-bit c =
-    gives_gate c.self.inside.inputs c.in-Some.var c.self.inside.gates.items c.push.new.self.items c.args.gate c.in_ok-push.ensures.items (omega (arith, c.in-Some.ensures.1, c.len.ensures))
-
-pub returns-clause-grows : goal.returns-clause-grows
-returns-clause-grows c =
-    subst (λ (old : Circuit). Grows old (record { inputs = c.self.inside.inputs; gates = c.push.new.self.items })) c.self.view_is
-    (grows_by_gate c.self.inside.inputs c.self.inside.gates.items c.push.new.self.items c.args.gate c.in_ok-push.ensures.items)
+pub put-requires : goal.put-requires
+put-requires c = c.in_order-ordered.ensures.below _ c.requires

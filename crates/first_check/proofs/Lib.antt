@@ -1,0 +1,4 @@
+pub mod Asked
+pub mod Counted
+pub mod Numbers
+pub mod Verdicts

@@ -1,0 +1,4 @@
+pub mod Growing
+pub mod Plain
+pub mod Forms
+pub mod Chains

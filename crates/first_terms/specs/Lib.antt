@@ -1,0 +1,6 @@
+pub mod Tables
+pub mod Asked
+pub mod Kept
+pub mod Shared
+pub mod Read
+pub mod Ready

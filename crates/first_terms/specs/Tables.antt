@@ -1,0 +1,11 @@
+-- Tables by names: what stands there under a name.
+use Rattle.std.specs.Prelude.{ℕ, List, Option}
+use Rattle.std.specs.Borrow.{Bor}
+use Rattle.std.specs.Ordering.{nat_cmp}
+use Rattle.std.specs.Cmp.Lexicographic.{slice_cmp}
+use Rattle.std.specs.BTreeMap.{BTreeMap, get_by}
+use Rattle.wb_meaning.specs.Value.{Name}
+
+-- the value under a name
+abbrev pub under_name : {X : Type 0} → BTreeMap (Bor (List ℕ)) X → Name → Option X
+under_name t n = get_by (λ k. slice_cmp nat_cmp n k.now) t

@@ -1,0 +1,16 @@
+//! Obligations and covers of a case as terms over its registers and inputs.
+#![tactic(auto)]
+
+mod case_store;
+mod decoding;
+mod expressions;
+mod facts;
+mod mapping;
+mod modelled;
+mod obligations;
+mod preparing;
+mod shared;
+mod tables;
+
+pub use case_store::{CaseTerms, case_terms};
+pub use first_store::NoMemory;

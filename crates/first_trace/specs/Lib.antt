@@ -1,0 +1,3 @@
+pub mod Traced
+pub mod Bytes
+pub mod Texts

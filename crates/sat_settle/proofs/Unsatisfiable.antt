@@ -1,0 +1,25 @@
+-- A term whose formula no assignment satisfies is false under no values that fit.
+use Rattle.std.proofs.Common.{◌≡◌, ℕ, Bool, false, List, [], Option, Contains, subst}
+use Rattle.std.proofs.lemmas.List.Elements.{Contains-get_or}
+use Rattle.wb_meaning.specs.Value.{truth, truth_value, Valuation}
+use Rattle.wb_meaning.specs.Term.{val}
+use Rattle.wb_terms.specs.Graph.{Graph, tree}
+use Rattle.sat_base.specs.Formula.{Formula, Satisfies}
+use Rattle.sat_gates.specs.Names.{names_in}
+use Rattle.sat_gates.specs.Encodes.{GivesSorts, Encodes}
+use Rattle.sat_gates.specs.Layout.{variables_of, IsNumbered}
+use Rattle.sat_settle.specs.Settled.{FitsNames}
+
+-- what fits all names of the store fits those of the term
+pub gives_sorts : (g : Graph) (id : ℕ) (firsts : List (Option ℕ)) (vars : ℕ) (v : Valuation) → IsNumbered g.names (names_in (tree g id)) firsts vars
+    → FitsNames g.names v → GivesSorts v (tree g id)
+gives_sorts g id firsts vars v numbered fits n s stands =
+    let u = numbered.declared n s stands in
+    fits n s (subst (Contains g.names) u.2 (Contains-get_or g.names u.0 ([], truth) u.1))
+
+pub never_false : (g : Graph) (id : ℕ) (firsts : List (Option ℕ)) (f : Formula) → Encodes f (variables_of g.names firsts) (tree g id)
+    → IsNumbered g.names (names_in (tree g id)) firsts f.vars → ((a : List Bool) → ¬ Satisfies a f)
+    → (v : Valuation) → FitsNames g.names v → ¬ (val (tree g id) v ≡ truth_value false)
+never_false g id firsts f encodes numbered none v fits e =
+    let found = (encodes.some v (gives_sorts g id firsts f.vars v numbered fits)).0 e in
+    none found.0 found.1.satisfies
