@@ -208,6 +208,87 @@ fn more_values(rt: HostRuntime) -> Result<(), Fail> {
     check_values(&rt, rt.alloc(), &tables::MORE_VALUES)
 }
 
+/// Two texts are expressions without names that have one value.
+fn check_same(rt: &impl Abort, alloc: Global, one: &str, other: &str) -> Result<(), Fail> {
+    let found = value_of(alloc, one.as_bytes())?.ok_or("no expression")?;
+    let wanted = value_of(alloc, other.as_bytes())?.ok_or("no expression")?;
+    assert_eq!(rt; found, wanted, "{one}");
+    Ok(())
+}
+
+/// Of two operators the tighter takes its operands first, and of two of one level the first.
+fn check_beside(
+    rt: &impl Abort,
+    alloc: Global,
+    first: (&str, u32),
+    second: (&str, u32),
+) -> Result<(), Fail> {
+    let (one, level) = first;
+    let (other, other_level) = second;
+    for (a, b, c) in tables::OPERANDS {
+        let plain = format!(in alloc; "{a} {one} {b} {other} {c}")?;
+        let grouped = if level <= other_level {
+            format!(in alloc; "({a} {one} {b}) {other} {c}")?
+        } else {
+            format!(in alloc; "{a} {one} ({b} {other} {c})")?
+        };
+        check_same(rt, alloc, &plain, &grouped)?;
+    }
+    Ok(())
+}
+
+/// Each operator of two sides beside each other.
+#[test]
+fn operators_beside_operators(rt: HostRuntime) -> Result<(), Fail> {
+    for first in tables::OPERATORS {
+        for second in tables::OPERATORS {
+            check_beside(&rt, rt.alloc(), first, second)?;
+        }
+    }
+    Ok(())
+}
+
+fn check_choices(rt: &impl Abort, alloc: Global, operator: &str) -> Result<(), Fail> {
+    for (a, b, c) in tables::OPERANDS {
+        let plain = format!(in alloc; "{a} {operator} {b} ? {c} : 7")?;
+        let grouped = format!(in alloc; "({a} {operator} {b}) ? {c} : 7")?;
+        check_same(rt, alloc, &plain, &grouped)?;
+        let plain = format!(in alloc; "{a} ? {b} : {c} {operator} 7")?;
+        let grouped = format!(in alloc; "{a} ? {b} : ({c} {operator} 7)")?;
+        check_same(rt, alloc, &plain, &grouped)?;
+    }
+    Ok(())
+}
+
+/// A choice is looser than each operator.
+#[test]
+fn operators_beside_choices(rt: HostRuntime) -> Result<(), Fail> {
+    for (operator, _) in tables::OPERATORS {
+        check_choices(&rt, rt.alloc(), operator)?;
+    }
+    Ok(())
+}
+
+fn check_prefix(rt: &impl Abort, alloc: Global, prefix: &str, operator: &str) -> Result<(), Fail> {
+    for (a, b, _) in tables::OPERANDS {
+        let plain = format!(in alloc; "{prefix} {a} {operator} {b}")?;
+        let grouped = format!(in alloc; "({prefix} {a}) {operator} {b}")?;
+        check_same(rt, alloc, &plain, &grouped)?;
+    }
+    Ok(())
+}
+
+/// A prefix operator is tighter than each operator of two sides.
+#[test]
+fn prefixes_beside_operators(rt: HostRuntime) -> Result<(), Fail> {
+    for prefix in tables::PREFIXES {
+        for (operator, _) in tables::OPERATORS {
+            check_prefix(&rt, rt.alloc(), prefix, operator)?;
+        }
+    }
+    Ok(())
+}
+
 /// Names with dots between them are one name, and a size from a macro joins its digits.
 #[test]
 fn expressions_of_maps(rt: HostRuntime) -> Result<(), Fail> {

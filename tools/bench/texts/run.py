@@ -3,6 +3,8 @@
 
 usage: run.py [PROGRAM]      (PROGRAM: the built workbench, default crates/wb_main/out/wb_main)
 
+The status is 1 where a file takes more than a tenth of yosys' time, or more than 600 MiB.
+
 `check` reads each file as tokens and a tree before it says whether it is of the profile, so its time is that of reading. The counter's
 model and map stand beside the file. yosys is Debian's; without it the ordinary file is measured alone.
 """
@@ -20,10 +22,10 @@ COUNTER = os.path.join(TOP, "examples/counter")
 LIMIT = 4_194_304
 
 ORDINARY = """module m{n} #(parameter W = 8) (input clk, input rst, input [W-1:0] a, b, output reg [W-1:0] q, output [W:0] s);
-  // an ordinary module
-  wire [W:0] sum = a + b; wire [W-1:0] both = a & ~b;
+  // s
+  wire [W:0] s0 = a + b; wire [W-1:0] n = a & ~b;
   reg [W-1:0] last, m [0:15];
-  assign s = rst ? 9'd0 : sum + {{1'b0, both}};
+  assign s = rst ? 9'd0 : s0 + {{1'b0, n}};
   always @(posedge clk)
     if (rst) q <= 8'h00;
     else begin
@@ -92,7 +94,7 @@ def timed(words, room):
 
 
 def main():
-    bound = None
+    bound, is_over = None, False
     with tempfile.TemporaryDirectory() as room:
         for name in ("model.json", "map.json"):
             shutil.copy(os.path.join(COUNTER, name), room)
@@ -104,9 +106,11 @@ def main():
                 bound = seconds / 10
                 print(f"{title}, yosys: {seconds:.2f} s, {memory} MiB, status {status}")
             seconds, memory, status, first = timed([PROGRAM, "check", "--model", "model.json", "--map", "map.json", "t.v"], room)
+            is_over |= memory > 600 or (bound is not None and seconds > bound)
             held = "" if bound is None else f" (bound {bound:.2f} s, 600 MiB)"
             print(f"{title}: {seconds:.2f} s, {memory} MiB, status {status}, `{first}`{held}")
+    return int(is_over)
 
 
 if __name__ == "__main__":
-    main()
+    sys.exit(main())

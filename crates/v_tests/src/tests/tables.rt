@@ -616,3 +616,47 @@ pub(super) const MORE_VALUES: [(&str, u128); 41] = [
     ("16'HABCD", 43981),
     ("8'D2_5", 25),
 ];
+
+/// The operators of two sides, each with its level from tight to loose (1364-2005, 5.1.2).
+pub(super) const OPERATORS: [(&str, u32); 25] = [
+    ("**", 1),
+    ("*", 2),
+    ("/", 2),
+    ("%", 2),
+    ("+", 3),
+    ("-", 3),
+    ("<<", 4),
+    (">>", 4),
+    ("<<<", 4),
+    (">>>", 4),
+    ("<", 5),
+    ("<=", 5),
+    (">", 5),
+    (">=", 5),
+    ("==", 6),
+    ("!=", 6),
+    ("===", 6),
+    ("!==", 6),
+    ("&", 7),
+    ("^", 8),
+    ("^~", 8),
+    ("~^", 8),
+    ("|", 9),
+    ("&&", 10),
+    ("||", 11),
+];
+
+/// The prefix operators.
+pub(super) const PREFIXES: [&str; 11] = ["+", "-", "!", "~", "&", "~&", "|", "~|", "^", "~^", "^~"];
+
+/// Operands that tell the groupings apart, of each two operators for which any of one digit do.
+pub(super) const OPERANDS: [(u32, u32, u32); 8] = [
+    (6, 6, 3),
+    (1, 2, 1),
+    (1, 2, 0),
+    (4, 2, 8),
+    (1, 8, 2),
+    (0, 0, 2),
+    (1, 3, 3),
+    (0, 0, 0),
+];
