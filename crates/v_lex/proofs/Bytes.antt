@@ -1,15 +1,15 @@
 -- Tokens are ASCII.
-use Rattle.std.proofs.Common.{◌≡◌, ℕ, zero, suc, ◌+◌, ◌-◌, ◌<◌, Bool, true, false, cond, not, ◌&&◌, ◌||◌, ◌==◌, List, [], ◌∷◌, ◌++◌, length, take, drop, Option, Some, None, refl, sym, ap, ◌∙◌, subst, arith}
+use Rattle.std.proofs.Common.{◌≡◌, ℕ, zero, suc, ◌+◌, ◌-◌, Bool, true, false, cond, ◌&&◌, ◌||◌, ◌==◌, List, [], ◌∷◌, length, take, drop, Option, Some, None, refl, sym, ap, ◌∙◌, subst, arith}
 use Rattle.std.proofs.lemmas.Bool.Decides.{nat_tests}
-use Rattle.std.specs.Prelude.{option_map, slice_index}
+use Rattle.std.specs.Prelude.{option_map, slice_get}
 use Rattle.std.specs.List.{list_all}
 use Rattle.std.specs.Char.{is_ascii}
 use Rattle.std.specs.Str.{IsAscii, IsUtf8}
 use Rattle.std.proofs.lemmas.Str.{IsUtf8-from_ascii}
 use Rattle.wb_meaning.specs.ModelFile.Names.{is_letter, is_digit, begins_with}
-use Rattle.v_lex.specs.View.{rest_after}
+use Rattle.v_lex.specs.View.{rest_after, taken}
 use Rattle.v_lex.proofs.Texts.{token_text, some_rest}
-use Rattle.wb_meaning.specs.Verilog.Lexical.{is_line_blank, is_blank, is_word_byte, is_decimal_byte, ends_line, is_blank_before, run_length, blank_length, is_base, runs_on, are_digits_of, if_digits, digits_length, base_length, behind_quote}
+use Rattle.wb_meaning.specs.Verilog.Lexical.{is_word_byte, is_decimal_byte, is_blank_before, run_length, blank_length, is_base, runs_on, digits_length, base_length, behind_quote}
 
 letter_below : (b : ℕ) → is_letter b ≡ true → is_ascii b ≡ true
 letter_below b h = grind (arith, nat_tests)
@@ -164,3 +164,40 @@ based_there m text more rest taken b e f t h =
   where
     quoted : (b : ℕ) → (b == 39) ≡ true → b ≡ 39
     quoted b h = grind (arith, nat_tests)
+
+-- ---- marks
+
+ascii_two : (x y : Bool) → (x && y) ≡ true → (x && (y && true)) ≡ true
+ascii_two true true h = refl
+ascii_two true false h = absurd cc
+ascii_two false y h = absurd cc
+
+ascii_three : (x y z : Bool) → (x && (y && z)) ≡ true → (x && (y && (z && true))) ≡ true
+ascii_three true true true h = refl
+ascii_three true true false h = absurd cc
+ascii_three true false z h = absurd cc
+ascii_three false y z h = absurd cc
+
+pub two_there : (text more rest : List ℕ) (b c : ℕ) → text ≡ b ∷ more → slice_get more 0 ≡ Some c → rest ≡ drop 1 more → (is_ascii b && is_ascii c) ≡ true
+    → list_all is_ascii (taken text rest) ≡ true
+two_there text [] rest b c e g f h = absurd cc
+two_there text (x ∷ xs) rest b c e g f h =
+    let same : x ≡ c = some_is x c g in
+    ap (list_all is_ascii) (token_text text (x ∷ xs) rest b 1 e f) ∙ ap (λ (y : ℕ). is_ascii b && (is_ascii y && true)) same ∙ ascii_two (is_ascii b) (is_ascii c) h
+  where
+    some_is : (x c : ℕ) → Some x ≡ Some c → x ≡ c
+    some_is x c e = cc
+
+pub three_there : (text more rest : List ℕ) (b c d : ℕ) → text ≡ b ∷ more → slice_get more 0 ≡ Some c → slice_get more 1 ≡ Some d → rest ≡ drop 2 more
+    → (is_ascii b && (is_ascii c && is_ascii d)) ≡ true → list_all is_ascii (taken text rest) ≡ true
+three_there text [] rest b c d e g k f h = absurd cc
+three_there text (x ∷ []) rest b c d e g k f h = absurd cc
+three_there text (x ∷ y ∷ xs) rest b c d e g k f h =
+    let same : x ≡ c = some_is x c g in
+    let same_too : y ≡ d = some_is y d k in
+    ap (list_all is_ascii) (token_text text (x ∷ y ∷ xs) rest b 2 e f)
+    ∙ (λ i. is_ascii b && (is_ascii (same i) && (is_ascii (same_too i) && true)))
+    ∙ ascii_three (is_ascii b) (is_ascii c) (is_ascii d) h
+  where
+    some_is : (x c : ℕ) → Some x ≡ Some c → x ≡ c
+    some_is x c e = cc

@@ -6,3 +6,4 @@ pub mod Shown
 pub mod Encoded
 pub mod Answered
 pub mod Bytes
+pub mod Placed

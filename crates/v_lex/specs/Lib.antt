@@ -3,3 +3,5 @@ pub mod Reading
 pub mod Nesting
 pub mod Notes
 pub mod Answer
+pub mod Places
+pub mod Placed

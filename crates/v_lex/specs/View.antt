@@ -1,8 +1,7 @@
 -- What the code's types stand for.
-use Rattle.std.specs.Prelude.{ℕ, Bool, not, List, [], ◌∷◌, drop, Option, Some, None, option_map}
+use Rattle.std.specs.Prelude.{◌≡◌, ℕ, ◌-◌, Bool, not, List, [], ◌∷◌, length, take, drop, Option, Some, None, option_map, ⊤}
 use Rattle.std.proofs.Common.{Bor}
 use Rattle.wb_meaning.specs.Value.{Name}
-use Rattle.wb_meaning.specs.Verilog.Token as pure
 use Rattle.wb_meaning.specs.Verilog.Lexical as pieces
 use Rattle.v_lex.specs.declared.run.Run.{Run}
 use Rattle.v_lex.specs.declared.run.Run.TheVariants as runs
@@ -55,3 +54,33 @@ or_front None other = other
 -- the name and what stands behind it
 abbrev pub name_after : List ℕ → Option (Name × ℕ) → Option (Name × List ℕ)
 name_after text n = option_map (λ k. (k.0, drop k.1 text)) n
+
+-- the text up to a rest of it
+abbrev pub taken : List ℕ → (rest : List ℕ) → List ℕ
+taken text rest = take (length text - length rest) text
+
+-- A token has that text; the piece is no definition.
+abbrev pub HasText : Piece → List ℕ → Type 0
+HasText (code.Token k t) w = t.now ≡ w
+HasText (code.Define n t) w = ⊥
+HasText _ w = ⊤
+
+-- The text of a definition stands in this text and ends where the rest begins; the piece is no token.
+abbrev pub HasDefinition : Piece → (text rest : List ℕ) → Type 0
+HasDefinition (code.Token k t) text rest = ⊥
+HasDefinition (code.Define n t) text rest = (j : ℕ) × (t.now ≡ taken (drop j text) rest)
+HasDefinition _ text rest = ⊤
+
+-- The piece is neither a token nor a definition.
+abbrev pub IsPlain : Piece → Type 0
+IsPlain (code.Token k t) = ⊥
+IsPlain (code.Define n t) = ⊥
+IsPlain _ = ⊤
+
+-- What a piece has of the text at whose front it stands: a token's text is all that is taken; the text of a definition stands in a
+-- directive and ends with it.
+abbrev pub IsPart : Piece → (text rest : List ℕ) → Type 0
+IsPart (code.Token k t) text rest = t.now ≡ taken text rest
+IsPart (code.Define n t) text rest =
+    (bs : List ℕ) × (text ≡ 96 ∷ bs) × (after bs (pieces.directive_at bs) ≡ Some (pieces.define n.now t.now, rest)) × ((j : ℕ) × (t.now ≡ taken (drop j bs) rest))
+IsPart _ text rest = ⊤

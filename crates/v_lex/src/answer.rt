@@ -1,17 +1,19 @@
 //! The tokens of files, or why they are refused.
 
-ghost use Rattle.std.specs.Prelude.{◌≡◌, map, not, is_some};
-ghost use Rattle.std.specs.List.{list_all};
+ghost use Rattle.std.specs.Prelude.{◌≡◌, map, not, is_some, IfOk};
+ghost use Rattle.std.specs.List.{list_all, All, AllPairs};
 ghost use Rattle.std.specs.Str.{is_utf8};
 ghost use Rattle.wb_meaning.specs.Verilog.Text.{judged, tokens_in};
 ghost use Rattle.v_lex.specs.Reading.{reading_of, IsRead};
 ghost use Rattle.v_lex.specs.Answer.{IsAnswer, IsOfKind};
+ghost use Rattle.v_lex.specs.Places.{AreShort, IsSlice, AreInOrder};
 
 use crate::nesting::too_deep;
 use crate::note::Note;
+use crate::place::{Place, short};
 use crate::run::{Run, behind, first_bytes, split_run};
 use crate::state::Reader;
-use crate::stop::{LexKind, LexRefusal, LexStop, NoMemory, Place, Stop};
+use crate::stop::{LexKind, LexRefusal, LexStop, NoMemory, Stop};
 use std::alloc::Global;
 use v_token::token::Token;
 
@@ -33,7 +35,7 @@ fn broken_place(number: u32, bytes: &[u8]) -> Place {
     };
     Place {
         file: number,
-        start: u32::try_from(start).unwrap_or(u32::MAX),
+        start: short(start),
     }
 }
 
@@ -43,7 +45,7 @@ fn broken_text(files: &[Vec<u8>]) -> Option<Place>
 {
     for (number, file) in files.iter().enumerate() {
         if !is_utf8(file) {
-            return Some(broken_place(u32::try_from(number).unwrap_or(u32::MAX), file));
+            return Some(broken_place(short(number), file));
         }
     }
     None
@@ -51,7 +53,8 @@ fn broken_text(files: &[Vec<u8>]) -> Option<Place>
 
 #[tactic(auto, unfolding(wb_meaning::specs::Verilog::Text::judged))]
 fn judge<'s>(alloc: Global, reader: Reader<'s>) -> Result<Vec<Token<'s>>, Stop>
-    ensures { IsRead result (judged (reading_of reader.entry)) }
+    ensures read { IsRead result (judged (reading_of reader.entry)) }
+    ensures tokens { IfOk result (λ v. v ≡ reader.entry.tokens) }
 {
     if let Some(place) = reader.misdirected {
         return Err(Stop::Refused(LexKind::BadDirective, place));
@@ -67,7 +70,9 @@ fn judge<'s>(alloc: Global, reader: Reader<'s>) -> Result<Vec<Token<'s>>, Stop>
 
 #[tactic(auto, unfolding(wb_meaning::specs::Verilog::Text::tokens_in))]
 fn read<'s>(alloc: Global, files: &'s [Vec<u8>]) -> Result<Vec<Token<'s>>, Stop>
-    ensures { IsRead result (tokens_in (map (λ f. f.items) files.now)) }
+    ensures read { IsRead result (tokens_in (map (λ f. f.items) files.now)) }
+    ensures slices { AreShort (map (λ f. f.items) files.now) → IfOk result (λ v. All (IsSlice (map (λ f. f.items) files.now)) v.items) }
+    ensures order { AreShort (map (λ f. f.items) files.now) → IfOk result (λ v. AllPairs (AreInOrder (map (λ f. f.items) files.now)) v.items) }
 {
     if let Some(place) = broken_text(files) {
         return Err(Stop::Refused(LexKind::NotText, place));
@@ -115,8 +120,8 @@ fn end_of(files: &[Vec<u8>]) -> Place {
         None => 0,
     };
     Place {
-        file: u32::try_from(files.len().saturating_sub(1)).unwrap_or(u32::MAX),
-        start: u32::try_from(length).unwrap_or(u32::MAX),
+        file: short(files.len().saturating_sub(1)),
+        start: short(length),
     }
 }
 
@@ -146,9 +151,12 @@ fn refusal(alloc: Global, files: &[Vec<u8>], kind: LexKind, place: Place) -> Lex
 }
 
 /// The tokens of the files in order (1364-2005, clauses 3 and 19): macros carry over from file to file. Of several broken rules the
-/// first in the order of the kinds is answered, wherever it stands.
+/// first in the order of the kinds is answered, wherever it stands. Each token's text is a slice of its file; outside the texts of
+/// macros tokens stand in the order of their places. (Both for at most 2^32 - 1 files of at most 2^32 - 1 bytes.)
 pub fn tokens<'s>(alloc: Global, files: &'s [Vec<u8>]) -> Result<Vec<Token<'s>>, LexStop>
-    ensures { IsAnswer result (tokens_in (map (λ f. f.items) files.now)) }
+    ensures answer { IsAnswer result (tokens_in (map (λ f. f.items) files.now)) }
+    ensures slices { AreShort (map (λ f. f.items) files.now) → IfOk result (λ v. All (IsSlice (map (λ f. f.items) files.now)) v.items) }
+    ensures order { AreShort (map (λ f. f.items) files.now) → IfOk result (λ v. AllPairs (AreInOrder (map (λ f. f.items) files.now)) v.items) }
 {
     match read(alloc, files) {
         Ok(tokens) => Ok(tokens),

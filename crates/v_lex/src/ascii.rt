@@ -3,6 +3,7 @@
 ghost use Rattle.std.specs.Prelude.{◌≡◌, true};
 ghost use Rattle.std.specs.List.{list_all};
 ghost use Rattle.std.specs.Char.{is_ascii};
+ghost use Rattle.v_lex.specs.View.{taken};
 
 use crate::run::taken_before;
 
@@ -17,7 +18,10 @@ pub(crate) fn ascii_text(bytes: &[u8]) -> &str
     }
 }
 
-/// The text of a mark, up to a rest of the text. (What a mark is does not depend on it.)
-pub(crate) fn mark_text<'t>(text: &'t [u8], rest: &[u8]) -> &'t str {
-    std::str::from_utf8(taken_before(text, rest)).unwrap_or("")
+/// The text up to a rest of it.
+pub(crate) fn ascii_before<'t>(text: &'t [u8], rest: &[u8]) -> &'t str
+    requires { list_all is_ascii (taken text.now rest.now) ≡ true }
+    ensures { result.now ≡ taken text.now rest.now }
+{
+    ascii_text(taken_before(text, rest))
 }

@@ -1,9 +1,9 @@
 //! Directives at the front of a text.
 
-ghost use Rattle.std.specs.Prelude.{◌≡◌, Some, None, false, true, option_map, drop, codes};
+ghost use Rattle.std.specs.Prelude.{◌≡◌, Some, None, false, true, option_map, drop, codes, IfSome};
 ghost use Rattle.wb_meaning.specs.Value.{Name};
 ghost use Rattle.wb_meaning.specs.Verilog.Lexical.{Front, name_behind, named, undefine, if_defined, else_if, ends_definition, escape_length, passed_length, definition_length, definition_of, definition_at, conditional_at, is_line_word, directive_from, directive_of, directive_at, conditional_behind};
-ghost use Rattle.v_lex.specs.View.{rest_after, front_of, after, or_front, name_after};
+ghost use Rattle.v_lex.specs.View.{rest_after, front_of, after, or_front, name_after, HasDefinition, IsPlain};
 
 use crate::piece::Piece;
 use crate::run::{Run, behind, split_run, taken_before};
@@ -79,7 +79,8 @@ fn name_behind(text: &[u8]) -> Option<(&[u8], &[u8])>
 }
 
 fn conditional_begin(is_wanted: bool, text: &[u8]) -> (Piece<'_>, &[u8])
-    ensures { Some (front_of result) ≡ after text.now (named (if_defined is_wanted) (name_behind text.now)) }
+    ensures front { Some (front_of result) ≡ after text.now (named (if_defined is_wanted) (name_behind text.now)) }
+    ensures plain { IsPlain result.0 }
 {
     match name_behind(text) {
         Some((name, rest)) => (Piece::IfDefined(is_wanted, name), rest),
@@ -88,7 +89,8 @@ fn conditional_begin(is_wanted: bool, text: &[u8]) -> (Piece<'_>, &[u8])
 }
 
 fn other_condition(text: &[u8]) -> (Piece<'_>, &[u8])
-    ensures { Some (front_of result) ≡ after text.now (named else_if (name_behind text.now)) }
+    ensures front { Some (front_of result) ≡ after text.now (named else_if (name_behind text.now)) }
+    ensures plain { IsPlain result.0 }
 {
     match name_behind(text) {
         Some((name, rest)) => (Piece::ElseIf(name), rest),
@@ -97,7 +99,8 @@ fn other_condition(text: &[u8]) -> (Piece<'_>, &[u8])
 }
 
 fn undefinition(text: &[u8]) -> (Piece<'_>, &[u8])
-    ensures { Some (front_of result) ≡ after text.now (named undefine (name_behind text.now)) }
+    ensures front { Some (front_of result) ≡ after text.now (named undefine (name_behind text.now)) }
+    ensures plain { IsPlain result.0 }
 {
     match name_behind(text) {
         Some((name, rest)) => (Piece::Undefine(name), rest),
@@ -107,7 +110,8 @@ fn undefinition(text: &[u8]) -> (Piece<'_>, &[u8])
 
 /// The text of a definition behind its name.
 fn definition_text<'t>(name: &'t [u8], text: &'t [u8]) -> Option<(Piece<'t>, &'t [u8])>
-    ensures { option_map front_of result ≡ after text.now (definition_of name.now text.now (definition_length 0 text.now)) }
+    ensures front { option_map front_of result ≡ after text.now (definition_of name.now text.now (definition_length 0 text.now)) }
+    ensures part { IfSome result (λ f. HasDefinition f.0 text.now f.1.now) }
 {
     match behind_definition(text) {
         Some(rest) => {
@@ -123,7 +127,8 @@ fn definition_text<'t>(name: &'t [u8], text: &'t [u8]) -> Option<(Piece<'t>, &'t
 
 #[tactic(auto, unfolding(wb_meaning::specs::Verilog::Lexical::definition_at))]
 fn definition(text: &[u8]) -> Option<(Piece<'_>, &[u8])>
-    ensures { option_map front_of result ≡ after text.now (definition_at text.now) }
+    ensures front { option_map front_of result ≡ after text.now (definition_at text.now) }
+    ensures part { IfSome result (λ f. HasDefinition f.0 text.now f.1.now) }
 {
     match name_behind(text) {
         Some((name, rest)) => definition_text(name, rest),
@@ -134,7 +139,8 @@ fn definition(text: &[u8]) -> Option<(Piece<'_>, &[u8])>
 /// The directive of a conditional, where the word is one of theirs.
 #[tactic(auto, unfolding(wb_meaning::specs::Verilog::Lexical::conditional_at))]
 fn conditional<'t>(word: &[u8], text: &'t [u8]) -> Option<(Piece<'t>, &'t [u8])>
-    ensures { (other : Front) → after text.now (conditional_at word.now text.now other) ≡ or_front (option_map front_of result) (after text.now other) }
+    ensures front { (other : Front) → after text.now (conditional_at word.now text.now other) ≡ or_front (option_map front_of result) (after text.now other) }
+    ensures plain { IfSome result (λ f. IsPlain f.0) }
 {
     if word == b"ifdef".as_slice() {
         return Some(conditional_begin(true, text));
@@ -168,7 +174,8 @@ fn is_line_word(word: &[u8]) -> bool
 /// The other directives, and uses of macros.
 #[tactic(auto, unfolding(wb_meaning::specs::Verilog::Lexical::directive_from))]
 fn other_directive<'t>(word: &'t [u8], text: &'t [u8]) -> Option<(Piece<'t>, &'t [u8])>
-    ensures { option_map front_of result ≡ after text.now (directive_from word.now text.now) }
+    ensures front { option_map front_of result ≡ after text.now (directive_from word.now text.now) }
+    ensures part { IfSome result (λ f. HasDefinition f.0 text.now f.1.now) }
 {
     if word == b"define".as_slice() {
         return definition(text);
@@ -183,7 +190,8 @@ fn other_directive<'t>(word: &'t [u8], text: &'t [u8]) -> Option<(Piece<'t>, &'t
 }
 
 fn directive_of<'t>(word: &'t [u8], text: &'t [u8]) -> Option<(Piece<'t>, &'t [u8])>
-    ensures { option_map front_of result ≡ after text.now (directive_of word.now text.now) }
+    ensures front { option_map front_of result ≡ after text.now (directive_of word.now text.now) }
+    ensures part { IfSome result (λ f. HasDefinition f.0 text.now f.1.now) }
 {
     match conditional(word, text) {
         Some(found) => Some(found),
@@ -194,7 +202,8 @@ fn directive_of<'t>(word: &'t [u8], text: &'t [u8]) -> Option<(Piece<'t>, &'t [u
 /// A directive or the use of a macro, by what stands behind its backquote.
 #[tactic(auto, unfolding(wb_meaning::specs::Verilog::Lexical::directive_at))]
 pub(crate) fn directive(text: &[u8]) -> Option<(Piece<'_>, &[u8])>
-    ensures { option_map front_of result ≡ after text.now (directive_at text.now) }
+    ensures front { option_map front_of result ≡ after text.now (directive_at text.now) }
+    ensures part { IfSome result (λ f. HasDefinition f.0 text.now f.1.now) }
 {
     if !begins_with_letter(text) {
         return None;
@@ -206,7 +215,8 @@ pub(crate) fn directive(text: &[u8]) -> Option<(Piece<'_>, &[u8])>
 /// The same in text that a conditional leaves out.
 #[tactic(auto, unfolding(wb_meaning::specs::Verilog::Lexical::conditional_behind))]
 pub(crate) fn left_out_directive(text: &[u8]) -> Option<(Piece<'_>, &[u8])>
-    ensures { option_map front_of result ≡ after text.now (conditional_behind text.now) }
+    ensures front { option_map front_of result ≡ after text.now (conditional_behind text.now) }
+    ensures plain { IfSome result (λ f. IsPlain f.0) }
 {
     let (word, rest) = split_run(Run::Word, text);
     match conditional(word, rest) {

@@ -1,12 +1,15 @@
 //! Reading files one after the other.
 
-ghost use Rattle.std.specs.Prelude.{◌≡◌, map};
+ghost use Rattle.std.specs.Prelude.{◌≡◌, ◌-◌, ℕ, List, Some, map, min, length, slice_get, IfOk};
 ghost use Rattle.wb_meaning.specs.Verilog.Text.{first_reading, without_byte_order_mark, opened, closed, file_read, files_read, text_from, macro_read};
 ghost use Rattle.v_lex.specs.Reading.{reading_of, IsOutcome};
+ghost use Rattle.v_lex.specs.Places.{AreShort};
+ghost use Rattle.v_lex.specs.Placed.{Keeps, IsReaderPlaced};
 
 use crate::conditional::innermost;
+use crate::place::{Place, short};
 use crate::state::{Reader, Span};
-use crate::stop::{Place, Stop};
+use crate::stop::Stop;
 use std::alloc::Global;
 use std::collections::BTreeMap;
 
@@ -22,15 +25,16 @@ fn without_byte_order_mark(bytes: &[u8]) -> &[u8]
 
 /// The text of a file without the byte order mark that may stand at its front.
 fn file_span(number: u32, bytes: &[u8]) -> Span<'_>
-    ensures { result.text.now ≡ without_byte_order_mark bytes.now }
+    ensures text { result.text.now ≡ without_byte_order_mark bytes.now }
+    ensures file { result.place.file ≡ number }
+    ensures start { result.place.start ≡ min (length bytes.now - length result.text.now) 4294967295 }
 {
     let text = without_byte_order_mark(bytes);
-    let start = if text.len() < bytes.len() { 3 } else { 0 };
     Span {
         text,
         place: Place {
             file: number,
-            start,
+            start: short(bytes.len().saturating_sub(text.len())),
         },
     }
 }
@@ -39,13 +43,14 @@ fn file_span(number: u32, bytes: &[u8]) -> Span<'_>
 fn end_of(number: u32, bytes: &[u8]) -> Place {
     Place {
         file: number,
-        start: u32::try_from(bytes.len()).unwrap_or(u32::MAX),
+        start: short(bytes.len()),
     }
 }
 
 impl<'s> Reader<'s> {
     pub(crate) fn new(alloc: Global) -> Reader<'s>
-        ensures { reading_of result ≡ first_reading }
+        ensures reading { reading_of result ≡ first_reading }
+        ensures places { (files : List (List ℕ)) → IsReaderPlaced files 0 0 result }
     {
         Reader {
             macros: BTreeMap::new(alloc),
@@ -60,14 +65,16 @@ impl<'s> Reader<'s> {
 
     #[tactic(auto, unfolding(wb_meaning::specs::Verilog::Text::opened))]
     fn begin_file(&mut self)
-        ensures { reading_of self.new ≡ opened (reading_of self.old) }
+        ensures reading { reading_of self.new ≡ opened (reading_of self.old) }
+        ensures kept { Keeps self.old self.new }
     {
         self.conditionals.clear();
     }
 
     #[tactic(auto, unfolding(wb_meaning::specs::Verilog::Text::closed))]
     fn end_file(&mut self, place: Place)
-        ensures { reading_of self.new ≡ closed (reading_of self.old) }
+        ensures reading { reading_of self.new ≡ closed (reading_of self.old) }
+        ensures kept { Keeps self.old self.new }
     {
         if innermost(&self.conditionals).is_some() {
             self.misdirect(place);
@@ -76,7 +83,8 @@ impl<'s> Reader<'s> {
 
     #[tactic(auto, unfolding(wb_meaning::specs::Verilog::Text::file_read))]
     fn read_file(&mut self, number: u32, bytes: &'s [u8]) -> Result<(), Stop>
-        ensures { IsOutcome result (reading_of self.new) (file_read bytes.now (reading_of self.old)) }
+        ensures outcome { IsOutcome result (reading_of self.new) (file_read bytes.now (reading_of self.old)) }
+        ensures places { (files : List (List ℕ)) → AreShort files → slice_get files number ≡ Some bytes.now → IsReaderPlaced files number 0 self.old → IfOk result (λ _. IsReaderPlaced files number (length bytes.now) self.new) }
     {
         self.begin_file();
         self.read_text(64, false, file_span(number, bytes))?;
@@ -86,10 +94,11 @@ impl<'s> Reader<'s> {
 
     #[tactic(auto, unfolding(wb_meaning::specs::Verilog::Text::files_read))]
     pub(crate) fn read_files(&mut self, files: &'s [Vec<u8>]) -> Result<(), Stop>
-        ensures { IsOutcome result (reading_of self.new) (files_read (map (λ f. f.items) files.now) (reading_of self.old)) }
+        ensures outcome { IsOutcome result (reading_of self.new) (files_read (map (λ f. f.items) files.now) (reading_of self.old)) }
+        ensures places { AreShort (map (λ f. f.items) files.now) → IsReaderPlaced (map (λ f. f.items) files.now) 0 0 self.old → IfOk result (λ _. IsReaderPlaced (map (λ f. f.items) files.now) (length files.now) 0 self.new) }
     {
         for (number, file) in files.iter().enumerate() {
-            self.read_file(u32::try_from(number).unwrap_or(u32::MAX), file)?;
+            self.read_file(short(number), file)?;
         }
         Ok(())
     }

@@ -1,10 +1,10 @@
 //! The front of a text.
 
-ghost use Rattle.std.specs.Prelude.{◌≡◌, false, None, option_map};
+ghost use Rattle.std.specs.Prelude.{◌≡◌, ◌∷◌, false, Some, None, option_map, slice_get, IfSome};
 ghost use Rattle.wb_meaning.specs.Verilog.Lexical.{left_out, mark_of_one, mark_of_two, mark_of_three, longest, mark_at, slash_at, is_star_alone, bracket_at, string_length, if_closed, read_at, left_out_at};
-ghost use Rattle.v_lex.specs.View.{front_of, after, at_front};
+ghost use Rattle.v_lex.specs.View.{front_of, after, at_front, taken, HasText, IsPart, IsPlain};
 
-use crate::ascii::mark_text;
+use crate::ascii::ascii_before;
 use crate::directive::{behind_passed, directive, left_out_directive};
 use crate::mark::{double, single, triple};
 use crate::number::{based, number};
@@ -16,11 +16,13 @@ use v_token::token::{Mark, TokenKind};
 use wb_names::{is_digit, is_letter};
 
 fn short_mark<'t>(byte: u8, text: &'t [u8], more: &'t [u8]) -> Option<(Piece<'t>, &'t [u8])>
-    ensures { option_map front_of result ≡ after more.now (longest (mark_of_one byte) 0 None) }
+    requires { text.now ≡ byte ∷ more.now }
+    ensures front { option_map front_of result ≡ after more.now (longest (mark_of_one byte) 0 None) }
+    ensures part { IfSome result (λ f. HasText f.0 (taken text.now f.1.now)) }
 {
     match single(byte) {
         Some(mark) => Some((
-            Piece::Token(TokenKind::Mark(mark), mark_text(text, more)),
+            Piece::Token(TokenKind::Mark(mark), ascii_before(text, more)),
             more,
         )),
         None => None,
@@ -33,13 +35,16 @@ fn middle_mark<'t>(
     text: &'t [u8],
     more: &'t [u8],
 ) -> Option<(Piece<'t>, &'t [u8])>
-    ensures { option_map front_of result ≡ after more.now (longest (mark_of_two byte next) 1 (longest (mark_of_one byte) 0 None)) }
+    requires whole { text.now ≡ byte ∷ more.now }
+    requires second { slice_get more.now 0 ≡ Some next }
+    ensures front { option_map front_of result ≡ after more.now (longest (mark_of_two byte next) 1 (longest (mark_of_one byte) 0 None)) }
+    ensures part { IfSome result (λ f. HasText f.0 (taken text.now f.1.now)) }
 {
     match double(byte, next) {
         Some(mark) => {
             let rest = behind(more, 1);
             Some((
-                Piece::Token(TokenKind::Mark(mark), mark_text(text, rest)),
+                Piece::Token(TokenKind::Mark(mark), ascii_before(text, rest)),
                 rest,
             ))
         }
@@ -54,13 +59,17 @@ fn long_mark<'t>(
     text: &'t [u8],
     more: &'t [u8],
 ) -> Option<(Piece<'t>, &'t [u8])>
-    ensures { option_map front_of result ≡ after more.now (longest (mark_of_three byte next third) 2 (longest (mark_of_two byte next) 1 (longest (mark_of_one byte) 0 None))) }
+    requires whole { text.now ≡ byte ∷ more.now }
+    requires second { slice_get more.now 0 ≡ Some next }
+    requires third { slice_get more.now 1 ≡ Some third }
+    ensures front { option_map front_of result ≡ after more.now (longest (mark_of_three byte next third) 2 (longest (mark_of_two byte next) 1 (longest (mark_of_one byte) 0 None))) }
+    ensures part { IfSome result (λ f. HasText f.0 (taken text.now f.1.now)) }
 {
     match triple(byte, next, third) {
         Some(mark) => {
             let rest = behind(more, 2);
             Some((
-                Piece::Token(TokenKind::Mark(mark), mark_text(text, rest)),
+                Piece::Token(TokenKind::Mark(mark), ascii_before(text, rest)),
                 rest,
             ))
         }
@@ -71,7 +80,8 @@ fn long_mark<'t>(
 /// The longest mark at the front.
 #[tactic(auto, unfolding(wb_meaning::specs::Verilog::Lexical::mark_at))]
 fn mark(text: &[u8]) -> Option<(Piece<'_>, &[u8])>
-    ensures { option_map front_of result ≡ at_front mark_at text.now }
+    ensures front { option_map front_of result ≡ at_front mark_at text.now }
+    ensures part { IfSome result (λ f. HasText f.0 (taken text.now f.1.now)) }
 {
     match text {
         [] => None,
@@ -84,9 +94,11 @@ fn mark(text: &[u8]) -> Option<(Piece<'_>, &[u8])>
 /// A comment or an operator, by what stands behind its slash.
 #[tactic(auto, unfolding(wb_meaning::specs::Verilog::Lexical::slash_at))]
 fn slash<'t>(text: &'t [u8], more: &'t [u8]) -> Option<(Piece<'t>, &'t [u8])>
-    ensures { option_map front_of result ≡ after more.now (slash_at more.now) }
+    requires { text.now ≡ 47 ∷ more.now }
+    ensures front { option_map front_of result ≡ after more.now (slash_at more.now) }
+    ensures part { IfSome result (λ f. HasText f.0 (taken text.now f.1.now)) }
 {
-    let alone = Piece::Token(TokenKind::Mark(Mark::Slash), mark_text(text, more));
+    let alone = Piece::Token(TokenKind::Mark(Mark::Slash), ascii_before(text, more));
     let Some((first, comment)) = more.split_first() else {
         return Some((alone, more));
     };
@@ -112,11 +124,13 @@ fn is_star_alone(is_macro: bool, text: &[u8]) -> bool
 /// An attribute or a bracket, by what stands behind the bracket.
 #[tactic(auto, unfolding(wb_meaning::specs::Verilog::Lexical::bracket_at))]
 fn bracket<'t>(is_macro: bool, text: &'t [u8], more: &'t [u8]) -> Option<(Piece<'t>, &'t [u8])>
-    ensures { option_map front_of result ≡ after more.now (bracket_at is_macro more.now) }
+    requires { text.now ≡ 40 ∷ more.now }
+    ensures front { option_map front_of result ≡ after more.now (bracket_at is_macro more.now) }
+    ensures part { IfSome result (λ f. HasText f.0 (taken text.now f.1.now)) }
 {
     let alone = Piece::Token(
         TokenKind::Mark(Mark::LeftParenthesis),
-        mark_text(text, more),
+        ascii_before(text, more),
     );
     let Some((first, attribute)) = more.split_first() else {
         return Some((alone, more));
@@ -132,7 +146,8 @@ fn bracket<'t>(is_macro: bool, text: &'t [u8], more: &'t [u8]) -> Option<(Piece<
 
 /// A string, by what stands behind the quote that begins it.
 fn string(more: &[u8]) -> Option<(Piece<'_>, &[u8])>
-    ensures { option_map front_of result ≡ after more.now (if_closed left_out (string_length false more.now)) }
+    ensures front { option_map front_of result ≡ after more.now (if_closed left_out (string_length false more.now)) }
+    ensures part { IfSome result (λ f. IsPlain f.0) }
 {
     match behind_string(more) {
         Some(rest) => Some((Piece::LeftOut, rest)),
@@ -143,7 +158,8 @@ fn string(more: &[u8]) -> Option<(Piece<'_>, &[u8])>
 /// The front of a text that is read, the text of a macro or a file.
 #[tactic(auto, unfolding(wb_meaning::specs::Verilog::Lexical::read_at))]
 pub(crate) fn read_front(is_macro: bool, text: &[u8]) -> Option<(Piece<'_>, &[u8])>
-    ensures { option_map front_of result ≡ at_front (read_at is_macro) text.now }
+    ensures front { option_map front_of result ≡ at_front (read_at is_macro) text.now }
+    ensures part { IfSome result (λ f. IsPart f.0 text.now f.1.now) }
 {
     let Some((first, more)) = text.split_first() else {
         return None;
@@ -172,7 +188,8 @@ pub(crate) fn read_front(is_macro: bool, text: &[u8]) -> Option<(Piece<'_>, &[u8
 /// The front of a text that a conditional leaves out.
 #[tactic(auto, unfolding(wb_meaning::specs::Verilog::Lexical::left_out_at))]
 pub(crate) fn left_out_front(text: &[u8]) -> Option<(Piece<'_>, &[u8])>
-    ensures { option_map front_of result ≡ at_front left_out_at text.now }
+    ensures front { option_map front_of result ≡ at_front left_out_at text.now }
+    ensures part { IfSome result (λ f. IsPlain f.0) }
 {
     let Some((first, more)) = text.split_first() else {
         return None;

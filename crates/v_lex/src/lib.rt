@@ -13,6 +13,7 @@ mod note;
 mod number;
 mod opening;
 mod piece;
+mod place;
 mod reading;
 mod run;
 mod scan;

@@ -1,6 +1,7 @@
 //! The marks at the front of a text.
 
-ghost use Rattle.std.specs.Prelude.{◌≡◌, option_map};
+ghost use Rattle.std.specs.Prelude.{◌≡◌, true, ◌&&◌, option_map, IfSome};
+ghost use Rattle.std.specs.Char.{is_ascii};
 ghost use Rattle.wb_meaning.specs.Verilog.Lexical.{mark_of_one, mark_of_two, mark_of_three};
 ghost use Rattle.v_token.specs.View.{mark_of};
 
@@ -8,7 +9,8 @@ use v_token::token::Mark;
 
 #[tactic(auto, unfolding(wb_meaning::specs::Verilog::Lexical::mark_of_one))]
 pub(crate) fn single(byte: u8) -> Option<Mark>
-    ensures { option_map mark_of result ≡ mark_of_one byte }
+    ensures mark { option_map mark_of result ≡ mark_of_one byte }
+    ensures ascii { IfSome result (λ _. is_ascii byte ≡ true) }
 {
     match byte {
         b'(' => Some(Mark::LeftParenthesis),
@@ -43,7 +45,8 @@ pub(crate) fn single(byte: u8) -> Option<Mark>
 
 #[tactic(auto, unfolding(wb_meaning::specs::Verilog::Lexical::mark_of_two))]
 pub(crate) fn double(byte: u8, next: u8) -> Option<Mark>
-    ensures { option_map mark_of result ≡ mark_of_two byte next }
+    ensures mark { option_map mark_of result ≡ mark_of_two byte next }
+    ensures ascii { IfSome result (λ _. (is_ascii byte && is_ascii next) ≡ true) }
 {
     match (byte, next) {
         (b'+', b':') => Some(Mark::PlusColon),
@@ -67,7 +70,8 @@ pub(crate) fn double(byte: u8, next: u8) -> Option<Mark>
 
 #[tactic(auto, unfolding(wb_meaning::specs::Verilog::Lexical::mark_of_three))]
 pub(crate) fn triple(byte: u8, next: u8, third: u8) -> Option<Mark>
-    ensures { option_map mark_of result ≡ mark_of_three byte next third }
+    ensures mark { option_map mark_of result ≡ mark_of_three byte next third }
+    ensures ascii { IfSome result (λ _. (is_ascii byte && (is_ascii next && is_ascii third)) ≡ true) }
 {
     match (byte, next, third) {
         (b'<', b'<', b'<') => Some(Mark::TripleLess),

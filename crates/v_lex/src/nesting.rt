@@ -8,7 +8,7 @@ ghost use Rattle.v_lex.specs.Reading.{first_in, without_first};
 ghost use Rattle.v_lex.specs.Nesting.{opening_of, openings_of, step_view};
 
 use crate::opening::{Opening, Step};
-use crate::stop::Place;
+use crate::place::Place;
 use std::alloc::{AllocError, Global};
 use v_token::token::{Mark, Token, TokenKind};
 

@@ -1,10 +1,10 @@
 //! Numbers at the front of a text.
 
-ghost use Rattle.std.specs.Prelude.{◌≡◌, ◌==◌, ◌||◌, true, option_map};
+ghost use Rattle.std.specs.Prelude.{◌≡◌, ◌==◌, ◌||◌, true, option_map, IfSome};
 ghost use Rattle.std.specs.List.{list_all, list_any};
 ghost use Rattle.wb_meaning.specs.ModelFile.Names.{is_digit, begins_with};
 ghost use Rattle.wb_meaning.specs.Verilog.Lexical.{fraction_length, signed_length, exponent_length, real_length, number_at, is_base, is_unknown_digit, is_hexadecimal_digit, is_digit_of, are_digits_of, digits_length, base_length, behind_quote, based_at};
-ghost use Rattle.v_lex.specs.View.{rest_after, front_of, at_front};
+ghost use Rattle.v_lex.specs.View.{rest_after, front_of, at_front, taken, HasText};
 
 use crate::ascii::ascii_text;
 use crate::piece::Piece;
@@ -81,7 +81,8 @@ fn behind_real(text: &[u8]) -> Option<&[u8]>
 #[tactic(auto, unfolding(wb_meaning::specs::Verilog::Lexical::number_at))]
 pub(crate) fn number(text: &[u8]) -> Option<(Piece<'_>, &[u8])>
     requires { begins_with is_digit text.now ≡ true }
-    ensures { option_map front_of result ≡ at_front number_at text.now }
+    ensures front { option_map front_of result ≡ at_front number_at text.now }
+    ensures part { IfSome result (λ f. HasText f.0 (taken text.now f.1.now)) }
 {
     let Some((_, more)) = text.split_first() else {
         return None;
@@ -212,7 +213,8 @@ fn behind_quote(is_macro: bool, text: &[u8]) -> Option<&[u8]>
 #[tactic(auto, unfolding(wb_meaning::specs::Verilog::Lexical::based_at))]
 pub(crate) fn based(is_macro: bool, text: &[u8]) -> Option<(Piece<'_>, &[u8])>
     requires { begins_with (λ b. b == 39) text.now ≡ true }
-    ensures { option_map front_of result ≡ at_front (based_at is_macro) text.now }
+    ensures front { option_map front_of result ≡ at_front (based_at is_macro) text.now }
+    ensures part { IfSome result (λ f. HasText f.0 (taken text.now f.1.now)) }
 {
     let Some((_, more)) = text.split_first() else {
         return None;

@@ -1,17 +1,21 @@
 //! Reading piece by piece.
 
-ghost use Rattle.std.specs.Prelude.{◌≡◌, ◌==◌, ◌||◌, ◌+◌, nat_le, cond, ℕ, List, Some, None, option_map};
+ghost use Rattle.std.specs.Prelude.{◌≡◌, ◌==◌, ◌||◌, ◌+◌, ◌++◌, ◌∷◌, [], nat_le, cond, ℕ, List, Some, None, option_map, length, IfOk, IfSome};
 ghost use Rattle.std.specs.List.{list_all};
+ghost use Rattle.wb_meaning.specs.Value.{same_name};
 ghost use Rattle.wb_meaning.specs.Verilog.Text.{most_used, Reading, Outcome, with_bad_directive, with_left_out, with_macro, with_token, is_zero, is_based, is_defined, begun, continued, ended, with_text_of, with_piece, front_at, text_from, macro_read};
 ghost use Rattle.v_token.specs.View.{token_of_kind, token_of};
-ghost use Rattle.v_lex.specs.View.{piece_of, front_of, at_front};
+ghost use Rattle.v_lex.specs.View.{piece_of, front_of, at_front, IsPart};
 ghost use Rattle.v_lex.specs.Reading.{reading_of, IsOutcome, Leaves, IsTaken, IsFront, front_in};
+ghost use Rattle.v_lex.specs.Places.{AreShort};
+ghost use Rattle.v_lex.specs.Placed.{span_under, IsMacroText, IsReaderPlaced, Keeps, IsTextAt, reached, IsPieceAt, IsUse, IsTakenAt, IsFrontAt};
 
 use crate::conditional::{enter, first_branch, innermost, leave, leaves_out, next_branch};
 use crate::front::{left_out_front, read_front};
 use crate::piece::Piece;
+use crate::place::{Place, moved, moved_back};
 use crate::state::{Conditional, Reader, Span};
-use crate::stop::{LexKind, Place, Stop};
+use crate::stop::{LexKind, Stop};
 use crate::table::{macro_text, set_macro};
 use v_token::token::{Token, TokenKind};
 
@@ -58,29 +62,11 @@ fn total_used(used: usize, more: usize) -> Option<usize>
     }
 }
 
-fn moved(place: Place, from: &[u8], to: &[u8]) -> Place {
-    let passed = from.len().saturating_sub(to.len());
-    Place {
-        file: place.file,
-        start: place
-            .start
-            .wrapping_add(u32::try_from(passed).unwrap_or(u32::MAX)),
-    }
-}
-
-fn moved_back(place: Place, text: &[u8]) -> Place {
-    Place {
-        file: place.file,
-        start: place
-            .start
-            .wrapping_sub(u32::try_from(text.len()).unwrap_or(u32::MAX)),
-    }
-}
-
 impl<'s> Reader<'s> {
     /// Notes a wrong directive.
     pub(crate) fn misdirect(&mut self, place: Place)
-        ensures { reading_of self.new ≡ with_bad_directive (reading_of self.old) }
+        ensures reading { reading_of self.new ≡ with_bad_directive (reading_of self.old) }
+        ensures kept { Keeps self.old self.new }
     {
         if self.misdirected.is_none() {
             self.misdirected = Some(place);
@@ -89,7 +75,8 @@ impl<'s> Reader<'s> {
 
     /// Notes what the subset leaves out.
     fn leave_out(&mut self, place: Place)
-        ensures { reading_of self.new ≡ with_left_out (reading_of self.old) }
+        ensures reading { reading_of self.new ≡ with_left_out (reading_of self.old) }
+        ensures kept { Keeps self.old self.new }
     {
         self.is_behind_zero = false;
         if self.left_out.is_none() {
@@ -99,7 +86,9 @@ impl<'s> Reader<'s> {
 
     #[tactic(auto, unfolding(wb_meaning::specs::Verilog::Text::with_token, wb_meaning::specs::Verilog::Text::most_tokens))]
     fn push(&mut self, token: Token<'s>) -> Result<(), Stop>
-        ensures { IsOutcome result (reading_of self.new) (with_token (token_of token.entry) (reading_of self.old)) }
+        ensures outcome { IsOutcome result (reading_of self.new) (with_token (token_of token.entry) (reading_of self.old)) }
+        ensures tokens { IfOk result (λ _. self.new.tokens.items ≡ self.old.tokens.items ++ token.entry ∷ []) }
+        ensures macros { self.new.macros ≡ self.old.macros }
     {
         let place = Place {
             file: token.file,
@@ -117,7 +106,9 @@ impl<'s> Reader<'s> {
     }
 
     fn define(&mut self, name: &'s [u8], text: Option<Span<'s>>) -> Result<(), Stop>
-        ensures { Leaves result (reading_of self.new) (with_macro name.now (option_map (λ s. s.text.now) text.entry) (reading_of self.old)) }
+        ensures reading { Leaves result (reading_of self.new) (with_macro name.now (option_map (λ s. s.text.now) text.entry) (reading_of self.old)) }
+        ensures tokens { self.new.tokens ≡ self.old.tokens }
+        ensures spans { IfOk result (λ _. (q : List ℕ) → span_under self.new.macros q ≡ cond (same_name name.now q) text.entry (span_under self.old.macros q)) }
     {
         set_macro(&mut self.macros, name, text)?;
         Ok(())
@@ -134,7 +125,8 @@ impl<'s> Reader<'s> {
 
     #[tactic(auto, unfolding(wb_meaning::specs::Verilog::Text::begun))]
     fn begin(&mut self, holds: bool) -> Result<(), Stop>
-        ensures { Leaves result (reading_of self.new) (begun holds (reading_of self.old)) }
+        ensures reading { Leaves result (reading_of self.new) (begun holds (reading_of self.old)) }
+        ensures kept { Keeps self.old self.new }
     {
         let branch = first_branch(leaves_out(&self.conditionals), holds);
         enter(
@@ -149,7 +141,8 @@ impl<'s> Reader<'s> {
 
     #[tactic(auto, unfolding(wb_meaning::specs::Verilog::Text::continued))]
     fn go_on(&mut self, is_last: bool, holds: bool, place: Place) -> Result<(), Stop>
-        ensures { Leaves result (reading_of self.new) (continued is_last holds (reading_of self.old)) }
+        ensures reading { Leaves result (reading_of self.new) (continued is_last holds (reading_of self.old)) }
+        ensures kept { Keeps self.old self.new }
     {
         let Some(conditional) = innermost(&self.conditionals) else {
             self.misdirect(place);
@@ -173,7 +166,8 @@ impl<'s> Reader<'s> {
 
     #[tactic(auto, unfolding(wb_meaning::specs::Verilog::Text::ended))]
     fn end(&mut self, place: Place)
-        ensures { reading_of self.new ≡ ended (reading_of self.old) }
+        ensures reading { reading_of self.new ≡ ended (reading_of self.old) }
+        ensures kept { Keeps self.old self.new }
     {
         match innermost(&self.conditionals) {
             Some(_) => leave(&mut self.conditionals),
@@ -182,7 +176,9 @@ impl<'s> Reader<'s> {
     }
 
     fn count_use(&mut self, text: Span<'s>, place: Place) -> Result<Option<Span<'s>>, Stop>
-        ensures { (read : List ℕ → Reading → Outcome) → IsTaken read result (reading_of self.new) (with_text_of read (Some text.entry.text.now) (reading_of self.old)) }
+        ensures taken { (read : List ℕ → Reading → Outcome) → IsTaken read result (reading_of self.new) (with_text_of read (Some text.entry.text.now) (reading_of self.old)) }
+        ensures span { IsUse result (Some text.entry) }
+        ensures kept { Keeps self.old self.new }
     {
         match total_used(self.used, text.text.len()) {
             Some(used) => {
@@ -194,14 +190,18 @@ impl<'s> Reader<'s> {
     }
 
     fn undefined(&mut self, place: Place) -> Result<Option<Span<'s>>, Stop>
-        ensures { (read : List ℕ → Reading → Outcome) → IsTaken read result (reading_of self.new) (with_text_of read None (reading_of self.old)) }
+        ensures taken { (read : List ℕ → Reading → Outcome) → IsTaken read result (reading_of self.new) (with_text_of read None (reading_of self.old)) }
+        ensures span { IsUse result None }
+        ensures kept { Keeps self.old self.new }
     {
         self.misdirect(place);
         Ok(None)
     }
 
     fn use_macro(&mut self, name: &'s [u8], place: Place) -> Result<Option<Span<'s>>, Stop>
-        ensures { (read : List ℕ → Reading → Outcome) → IsTaken read result (reading_of self.new) (with_text_of read ((reading_of self.old).macros name.now) (reading_of self.old)) }
+        ensures taken { (read : List ℕ → Reading → Outcome) → IsTaken read result (reading_of self.new) (with_text_of read ((reading_of self.old).macros name.now) (reading_of self.old)) }
+        ensures span { IsUse result (span_under self.old.macros name.now) }
+        ensures kept { Keeps self.old self.new }
     {
         match macro_text(&self.macros, name) {
             Some(text) => self.count_use(text, place),
@@ -217,7 +217,8 @@ impl<'s> Reader<'s> {
         here: Place,
         behind: Place,
     ) -> Result<Option<Span<'s>>, Stop>
-        ensures { (read : List ℕ → Reading → Outcome) → IsTaken read result (reading_of self.new) (with_piece read (piece_of piece.entry) (reading_of self.old)) }
+        ensures taken { (read : List ℕ → Reading → Outcome) → IsTaken read result (reading_of self.new) (with_piece read (piece_of piece.entry) (reading_of self.old)) }
+        ensures places { (files : List (List ℕ)) (file limit next : ℕ) → AreShort files → IsPieceAt files file limit next piece.entry here behind → IsReaderPlaced files file limit self.old → IsTakenAt result files file next self.new }
     {
         match piece {
             Piece::Nothing => Ok(None),
@@ -271,7 +272,8 @@ impl<'s> Reader<'s> {
 
     #[tactic(auto, unfolding(wb_meaning::specs::Verilog::Text::front_at))]
     fn pieces_front(&self, is_macro: bool, text: &'s [u8]) -> Option<(Piece<'s>, &'s [u8])>
-        ensures { option_map front_of result ≡ at_front (front_at is_macro (reading_of self.now)) text.now }
+        ensures front { option_map front_of result ≡ at_front (front_at is_macro (reading_of self.now)) text.now }
+        ensures part { IfSome result (λ f. IsPart f.0 text.now f.1.now) }
     {
         if leaves_out(&self.conditionals) {
             left_out_front(text)
@@ -281,7 +283,8 @@ impl<'s> Reader<'s> {
     }
 
     fn front(&self, is_macro: bool, text: Span<'s>) -> Result<Option<(Piece<'s>, Span<'s>)>, Stop>
-        ensures { IsFront result (front_in is_macro (reading_of self.now) text.entry.text.now) }
+        ensures front { IsFront result (front_in is_macro (reading_of self.now) text.entry.text.now) }
+        ensures part { IsFrontAt result text.entry }
     {
         if text.text.is_empty() {
             return Ok(None);
@@ -303,7 +306,8 @@ impl<'s> Reader<'s> {
         here: Place,
         behind: Place,
     ) -> Result<(), Stop>
-        ensures { IsOutcome result (reading_of self.new) (with_piece (macro_read levels) (piece_of piece.entry) (reading_of self.old)) }
+        ensures outcome { IsOutcome result (reading_of self.new) (with_piece (macro_read levels) (piece_of piece.entry) (reading_of self.old)) }
+        ensures places { (files : List (List ℕ)) (file limit next : ℕ) → AreShort files → IsPieceAt files file limit next piece.entry here behind → IsReaderPlaced files file limit self.old → IfOk result (λ _. IsReaderPlaced files file next self.new) }
     {
         match self.take(piece, here, behind)? {
             Some(text) => self.read_macro(levels, text, here),
@@ -314,7 +318,8 @@ impl<'s> Reader<'s> {
     /// Reads the text of a macro, with so many levels left for uses.
     #[cycle(read)]
     fn read_macro(&mut self, levels: u32, text: Span<'s>, place: Place) -> Result<(), Stop>
-        ensures { IsOutcome result (reading_of self.new) (macro_read levels text.entry.text.now (reading_of self.old)) }
+        ensures outcome { IsOutcome result (reading_of self.new) (macro_read levels text.entry.text.now (reading_of self.old)) }
+        ensures places { (files : List (List ℕ)) (file limit : ℕ) → AreShort files → IsMacroText files text.entry → IsReaderPlaced files file limit self.old → IfOk result (λ _. IsReaderPlaced files file limit self.new) }
     {
         if levels == 0 {
             self.misdirect(place);
@@ -331,7 +336,8 @@ impl<'s> Reader<'s> {
         is_macro: bool,
         text: Span<'s>,
     ) -> Result<(), Stop>
-        ensures { IsOutcome result (reading_of self.new) (text_from is_macro (macro_read levels) 0 text.entry.text.now (reading_of self.old)) }
+        ensures outcome { IsOutcome result (reading_of self.new) (text_from is_macro (macro_read levels) 0 text.entry.text.now (reading_of self.old)) }
+        ensures places { (files : List (List ℕ)) (file limit : ℕ) → AreShort files → IsTextAt is_macro files file limit text.entry → IsReaderPlaced files file limit self.old → IfOk result (λ _. IsReaderPlaced files file (reached is_macro limit (length text.entry.text.now)) self.new) }
     {
         let mut rest = text;
         loop {

@@ -1,6 +1,6 @@
 //! What is known behind a part of the files.
 
-use crate::stop::Place;
+use crate::place::Place;
 use std::collections::BTreeMap;
 use v_token::token::Token;
 

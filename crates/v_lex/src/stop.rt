@@ -4,6 +4,7 @@ ghost use Rattle.std.specs.Prelude.{◌≡◌};
 ghost use Rattle.v_lex.specs.declared.stop.Stop.TheVariants.{Memory};
 
 use crate::note::Note;
+use crate::place::Place;
 use std::alloc::{AllocError, AllocFailed};
 
 /// The kinds of refusals, in the order in which they are answered.
@@ -19,15 +20,6 @@ pub enum LexKind {
     Unsupported,
     /// V5: more than 200 constructs are open.
     TooDeep,
-}
-
-/// A place in the files.
-#[derive(Clone, Copy, PartialEq, Eq, Debug)]
-pub(crate) struct Place {
-    /// The number of the file, from 0.
-    pub file: u32,
-    /// The byte in it.
-    pub start: u32,
 }
 
 /// Why reading stops.

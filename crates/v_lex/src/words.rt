@@ -1,13 +1,13 @@
 //! Words, and names with `$`.
 
-ghost use Rattle.std.specs.Prelude.{◌≡◌, true, option_map};
+ghost use Rattle.std.specs.Prelude.{◌≡◌, true, option_map, IfSome};
 ghost use Rattle.std.specs.Char.{is_ascii};
 ghost use Rattle.std.specs.Str.{bytes_eq};
 ghost use Rattle.std.specs.List.{list_all, list_any};
 ghost use Rattle.wb_meaning.specs.Words.{grammar_words};
 ghost use Rattle.wb_meaning.specs.ModelFile.Names.{begins_with, is_letter};
 ghost use Rattle.wb_meaning.specs.Verilog.Lexical.{is_word_byte, is_graphic, is_left_out, word_piece, word_at, system_piece, system_at, escaped_at};
-ghost use Rattle.v_lex.specs.View.{piece_of, front_of, after, at_front};
+ghost use Rattle.v_lex.specs.View.{piece_of, front_of, after, at_front, taken, HasText, IsPlain};
 
 use crate::ascii::ascii_text;
 use crate::piece::Piece;
@@ -62,7 +62,8 @@ fn is_left_out(word: &[u8]) -> bool
 #[tactic(auto, unfolding(wb_meaning::specs::Verilog::Lexical::word_piece))]
 fn word_piece(word: &[u8]) -> Piece<'_>
     requires { list_all is_ascii word.now ≡ true }
-    ensures { piece_of result ≡ word_piece word.now }
+    ensures piece { piece_of result ≡ word_piece word.now }
+    ensures text { HasText result word.now }
 {
     if is_left_out(word) {
         Piece::LeftOut
@@ -75,7 +76,8 @@ fn word_piece(word: &[u8]) -> Piece<'_>
 #[tactic(auto, unfolding(wb_meaning::specs::Verilog::Lexical::word_at))]
 pub(crate) fn word(text: &[u8]) -> Option<(Piece<'_>, &[u8])>
     requires { begins_with is_letter text.now ≡ true }
-    ensures { option_map front_of result ≡ at_front word_at text.now }
+    ensures front { option_map front_of result ≡ at_front word_at text.now }
+    ensures part { IfSome result (λ f. HasText f.0 (taken text.now f.1.now)) }
 {
     let Some((_, more)) = text.split_first() else {
         return None;
@@ -86,7 +88,8 @@ pub(crate) fn word(text: &[u8]) -> Option<(Piece<'_>, &[u8])>
 
 #[tactic(auto, unfolding(wb_meaning::specs::Verilog::Lexical::system_piece))]
 fn system_piece(word: &[u8]) -> Piece<'_>
-    ensures { piece_of result ≡ system_piece word.now }
+    ensures piece { piece_of result ≡ system_piece word.now }
+    ensures text { HasText result word.now }
 {
     if word == b"$signed".as_slice() || word == b"$unsigned".as_slice() {
         Piece::Token(TokenKind::System, ascii_text(word))
@@ -126,7 +129,8 @@ pub(crate) fn begins_with_letter(text: &[u8]) -> bool
 /// A name with `$`, where `$` stands first.
 #[tactic(auto, unfolding(wb_meaning::specs::Verilog::Lexical::system_at))]
 pub(crate) fn system(text: &[u8]) -> Option<(Piece<'_>, &[u8])>
-    ensures { option_map front_of result ≡ at_front system_at text.now }
+    ensures front { option_map front_of result ≡ at_front system_at text.now }
+    ensures part { IfSome result (λ f. HasText f.0 (taken text.now f.1.now)) }
 {
     let Some((_, more)) = text.split_first() else {
         return None;
@@ -141,7 +145,8 @@ pub(crate) fn system(text: &[u8]) -> Option<(Piece<'_>, &[u8])>
 /// An escaped identifier, by what stands behind its backslash.
 #[tactic(auto, unfolding(wb_meaning::specs::Verilog::Lexical::escaped_at))]
 pub(crate) fn escaped(more: &[u8]) -> Option<(Piece<'_>, &[u8])>
-    ensures { option_map front_of result ≡ after more.now (escaped_at more.now) }
+    ensures front { option_map front_of result ≡ after more.now (escaped_at more.now) }
+    ensures part { IfSome result (λ f. IsPlain f.0) }
 {
     if begins_with_graphic(more) {
         Some((Piece::LeftOut, split_run(Run::Graphic, more).1))

@@ -1,4 +1,6 @@
-use Rattle.std.proofs.Common.{◌≡◌, ◌+◌, ◌*◌, length}
+use Rattle.std.proofs.Common.{◌≡◌, ℕ, ◌+◌, ◌-◌, ◌*◌, ◌≤◌, List, length}
+use Rattle.v_lex.specs.Places.{AreShort}
+use Rattle.v_lex.specs.Placed.{IsTextAt, IsReaderPlaced, reached}
 use Rattle.wb_meaning.specs.Verilog.Text.{text_from, macro_read}
 use Rattle.v_lex.specs.Reading.{reading_of}
 use Rattle.v_lex.proofs.state.Reader.+read.Given as goal
@@ -14,7 +16,11 @@ decreases-taken l = 3 * l.levels + 1
 
 abbrev pub invariant-read_text-loop-piece : goal.invariant-read_text-loop-piece
 invariant-read_text-loop-piece l =
-    text_from l.is_macro (macro_read l.levels) 0 l.fn.text.text.now (reading_of l.fn.self) ≡ text_from l.is_macro (macro_read l.levels) 0 l.rest.text.now (reading_of l.self)
+    (text_from l.is_macro (macro_read l.levels) 0 l.fn.text.text.now (reading_of l.fn.self) ≡ text_from l.is_macro (macro_read l.levels) 0 l.rest.text.now (reading_of l.self))
+    × (length l.rest.text.now ≤ length l.fn.text.text.now)
+    × ((files : List (List ℕ)) (file limit : ℕ) → AreShort files → IsTextAt l.is_macro files file limit l.fn.text → IsReaderPlaced files file limit l.fn.self
+    → IsTextAt l.is_macro files file (reached l.is_macro limit (length l.fn.text.text.now - length l.rest.text.now)) l.rest
+    × IsReaderPlaced files file (reached l.is_macro limit (length l.fn.text.text.now - length l.rest.text.now)) l.self)
 
 abbrev pub decreases-read_text-loop-piece : goal.decreases-read_text-loop-piece
 decreases-read_text-loop-piece l = length l.rest.text.now
