@@ -17,7 +17,7 @@ use Rattle.wb_meaning.specs.Verilog.Text as texts
 use Rattle.v_token.specs.declared.token.Token.{Token}
 use Rattle.v_lex.specs.View.{piece_of, taken}
 use Rattle.v_lex.specs.Reading.{front_in}
-use Rattle.v_lex.specs.Places.{AreShort, StandsAt, IsRestOf, IsInMacro, IsSlice, IsOfMacro, EndsBefore, AreInOrder}
+use Rattle.v_lex.specs.Places.{AreShort, StandsAt, ComesTo, IsInMacro, IsSlice, IsOfMacro, EndsBefore, AreInOrder}
 use Rattle.v_lex.specs.Placed.{flat, span_under, IsMacroAt, IsMacroText, IsPlaced, IsReaderPlaced, Keeps, IsTextAt, reached, IsPieceAt, IsUse, IsTakenAt, IsFrontPart}
 use Rattle.v_lex.proofs.Turns.{front_behind}
 use Rattle.v_lex.specs.declared.piece.Piece.{Piece}
@@ -51,7 +51,7 @@ stands_part files file s j text t at h e = (at.0, at.1, omega (arith, at.2, h), 
 
 inside : (files : List (List ℕ)) (file s count j m : ℕ) → IsInMacro files file s count → j + m ≤ count → IsInMacro files file (s + j) m
 inside files file s count j m i h =
-    (i.0, i.1, i.2, i.3, i.4, i.5, i.6, i.7, omega (arith, i.8, h), omega (arith, i.9, h))
+    (i.0, i.1, i.2, i.3, i.4, i.5, i.6, i.7, i.8, omega (arith, i.9, h), omega (arith, i.10, h))
 
 macro_part : (files : List (List ℕ)) (file s j : ℕ) (text t : List ℕ) → IsMacroAt files file s text → j + length t ≤ length text → t ≡ take (length t) (drop j text)
     → IsMacroAt files file (s + j) t
@@ -235,7 +235,7 @@ macro_piece files file limit (code.Token k t) text rest h at le q =
 macro_piece files file limit code.LeftOut text rest h at le q = omega arith
 macro_piece files file limit code.Misdirected text rest h at le q = omega arith
 macro_piece files file limit (code.Define n t) text rest h at le q =
-    let cut = definition_cut text.text.now rest.text.now q.0.0 t.now q.0.3.0 q.0.1 le q.0.3.1 in
+    let cut = definition_cut text.text.now rest.text.now q.0.0 t.now q.0.2.0 q.0.1 le q.0.2.1 in
     let there = macro_part files text.place.file text.place.start (length text.text.now - length rest.text.now - length t.now) text.text.now t.now at (omega (arith, cut.0, le)) cut.1 in (
       omega arith,
       subst (λ (x : ℕ). IsMacroAt files x (rest.place.start - length t.now) t.now) (sym q.1)
@@ -256,26 +256,27 @@ macro_rest files p text rest h at cut q =
     subst (λ (x : ℕ). IsMacroAt files x rest.place.start rest.text.now) (sym q.1)
     (subst (λ (x : ℕ). IsMacroAt files text.place.file x rest.text.now) (sym (rest_start files p text rest h at.0 q)) there)
 
-file_stands : (files : List (List ℕ)) (file limit : ℕ) (text : Span) → IsTextAt false files file limit text → StandsAt files text.place.file text.place.start text.text.now
-file_stands files file limit text i =
+file_stands : (files : List (List ℕ)) (levels file limit : ℕ) (text : Span) (r : texts.Reading) → IsTextAt false levels r files file limit text → StandsAt files text.place.file text.place.start text.text.now
+file_stands files levels file limit text r i =
     let there : StandsAt files file limit text.text.now =
     (i.0, i.1, omega (arith, ap length i.3, length-drop limit i.0, i.4), ap (take (length text.text.now)) i.3 ∙ take-length text.text.now) in
     subst (λ (x : ℕ). StandsAt files x text.place.start text.text.now) (sym i.5) (subst (λ (x : ℕ). StandsAt files file x text.text.now) (sym i.6) there)
 
-file_piece : (files : List (List ℕ)) (file limit : ℕ) (p : Piece) (text rest : Span) → AreShort files → IsTextAt false files file limit text → length rest.text.now ≤ length text.text.now
+file_piece : (files : List (List ℕ)) (levels file limit : ℕ) (p : Piece) (text rest : Span) (r : texts.Reading) → AreShort files → IsTextAt false levels r files file limit text
+    → front_in false r text.text.now ≡ Some (Some (piece_of p, rest.text.now)) → length rest.text.now ≤ length text.text.now
     → IsFrontPart text p rest → IsPieceAt files file limit (limit + (length text.text.now - length rest.text.now)) p text.place rest.place
-file_piece files file limit code.Nothing text rest h i le q = omega arith
-file_piece files file limit (code.Token k t) text rest h i le q =
+file_piece files levels file limit code.Nothing text rest r h i front le q = omega arith
+file_piece files levels file limit (code.Token k t) text rest r h i front le q =
     let cut = token_cut text.text.now rest.text.now t.now le q.0 in (
       omega arith,
-      stands_front files text.place.file text.place.start text.text.now t.now (file_stands files file limit text i) (omega (arith, cut.0)) cut.1,
+      stands_front files text.place.file text.place.start text.text.now t.now (file_stands files levels file limit text r i) (omega (arith, cut.0)) cut.1,
       inr (i.5, i.6, omega (arith, cut.0)),
     )
-file_piece files file limit code.LeftOut text rest h i le q = omega arith
-file_piece files file limit code.Misdirected text rest h i le q = omega arith
-file_piece files file limit (code.Define n t) text rest h i le q =
-    let cut = definition_cut text.text.now rest.text.now q.0.0 t.now q.0.3.0 q.0.1 le q.0.3.1 in
-    let at = file_stands files file limit text i in
+file_piece files levels file limit code.LeftOut text rest r h i front le q = omega arith
+file_piece files levels file limit code.Misdirected text rest r h i front le q = omega arith
+file_piece files levels file limit (code.Define n t) text rest r h i front le q =
+    let cut = definition_cut text.text.now rest.text.now q.0.0 t.now q.0.2.0 q.0.1 le q.0.2.1 in
+    let at = file_stands files levels file limit text r i in
     let ends = ends_there files (code.Define n t) text rest t.now h at q cut.0 in
     let there = stands_part files text.place.file text.place.start (length text.text.now - length rest.text.now - length t.now) text.text.now t.now at (omega (arith, cut.0, le)) cut.1 in
     let all : length i.0 ≡ limit + length text.text.now = omega (arith, ap length i.3, length-drop limit i.0, i.4) in
@@ -283,43 +284,45 @@ file_piece files file limit (code.Define n t) text rest h i le q =
       omega arith,
       (
         subst (λ (x : ℕ). StandsAt files x (rest.place.start - length t.now) t.now) (sym q.1) (subst (λ (x : ℕ). StandsAt files text.place.file x t.now) ends there),
-        (i.0, q.0.0, rest.text.now, t.now, n.now, get, subst (IsRestOf i.0) q.0.1 i.2, q.0.2, omega (arith, all, ends, cut.0, le, i.6), omega (arith, all, ends, cut.0, le, i.6)),
+        (i.0, text.text.now, rest.text.now, t.now, n.now, r, get, subst (λ (x : ℕ). ComesTo files x r text.text.now) (sym (q.1 ∙ i.5)) i.2, front, omega (arith, all, ends, cut.0, le, i.6), omega (arith, all, ends, cut.0, le, i.6)),
       ),
     )
-file_piece files file limit (code.Undefine n) text rest h i le q = omega arith
-file_piece files file limit (code.IfDefined b n) text rest h i le q = omega arith
-file_piece files file limit (code.ElseIf n) text rest h i le q = omega arith
-file_piece files file limit code.Otherwise text rest h i le q = omega arith
-file_piece files file limit code.EndIf text rest h i le q = omega arith
-file_piece files file limit (code.Use n) text rest h i le q = omega arith
+file_piece files levels file limit (code.Undefine n) text rest r h i front le q = omega arith
+file_piece files levels file limit (code.IfDefined b n) text rest r h i front le q = omega arith
+file_piece files levels file limit (code.ElseIf n) text rest r h i front le q = omega arith
+file_piece files levels file limit code.Otherwise text rest r h i front le q = omega arith
+file_piece files levels file limit code.EndIf text rest r h i front le q = omega arith
+file_piece files levels file limit (code.Use n) text rest r h i front le q = omega arith
 
-file_rest : (files : List (List ℕ)) (file limit : ℕ) (p : Piece) (text rest : Span) (r : texts.Reading) → AreShort files → IsTextAt false files file limit text
-    → front_in false r text.text.now ≡ Some (Some (piece_of p, rest.text.now))
+file_rest : (files : List (List ℕ)) (levels file limit : ℕ) (p : Piece) (text rest : Span) (r s : texts.Reading) → AreShort files → IsTextAt false levels r files file limit text
+    → front_in false r text.text.now ≡ Some (Some (piece_of p, rest.text.now)) → texts.with_piece (texts.macro_read levels) (piece_of p) r ≡ Ok s
     → (drop (length text.text.now - length rest.text.now) text.text.now ≡ rest.text.now) × (length rest.text.now ≤ length text.text.now) → IsFrontPart text p rest
-    → IsTextAt false files file (limit + (length text.text.now - length rest.text.now)) rest
-file_rest files file limit p text rest r h i front cut q =
+    → IsTextAt false levels s files file (limit + (length text.text.now - length rest.text.now)) rest
+file_rest files levels file limit p text rest r s h i front took cut q =
     let d = length text.text.now - length rest.text.now in (
       i.0,
       i.1,
-      IsRestOf.behind_piece r (piece_of p) text.text.now rest.text.now i.2 front,
+      ComesTo.behind_piece r s (piece_of p) text.text.now rest.text.now i.2 front (sym (ap (λ (k : ℕ). texts.with_piece (texts.macro_read k) (piece_of p) r) i.7) ∙ took),
       sym (drop-drop d limit i.0) ∙ ap (drop d) i.3 ∙ cut.0,
       omega (arith, ap length i.3, length-drop limit i.0, i.4),
       q.1 ∙ i.5,
-      rest_start files p text rest h (file_stands files file limit text i) q ∙ ap (λ (x : ℕ). x + d) i.6,
+      rest_start files p text rest h (file_stands files levels file limit text r i) q ∙ ap (λ (x : ℕ). x + d) i.6,
+      i.7,
     )
 
-pub next_piece : (is_macro : Bool) (files : List (List ℕ)) (file limit : ℕ) (p : Piece) (text rest : Span) (r : texts.Reading) → AreShort files → IsTextAt is_macro files file limit text
-    → front_in is_macro r text.text.now ≡ Some (Some (piece_of p, rest.text.now)) → IsFrontPart text p rest
+pub next_piece : (is_macro : Bool) (levels : ℕ) (files : List (List ℕ)) (file limit : ℕ) (p : Piece) (text rest : Span) (r s : texts.Reading) → AreShort files
+    → IsTextAt is_macro levels r files file limit text → front_in is_macro r text.text.now ≡ Some (Some (piece_of p, rest.text.now))
+    → texts.with_piece (texts.macro_read levels) (piece_of p) r ≡ Ok s → IsFrontPart text p rest
     → IsPieceAt files file limit (reached is_macro limit (length text.text.now - length rest.text.now)) p text.place rest.place
-    × IsTextAt is_macro files file (reached is_macro limit (length text.text.now - length rest.text.now)) rest
-next_piece true files file limit p text rest r h i front q =
+    × IsTextAt is_macro levels s files file (reached is_macro limit (length text.text.now - length rest.text.now)) rest
+next_piece true levels files file limit p text rest r s h i front took q =
     let b = front_behind true text.text.now rest.text.now (piece_of p) r front in
     let cut = rest_behind text.text.now rest.text.now b.0 b.1 in
     (macro_piece files file limit p text rest h i cut.1 q, macro_rest files p text rest h i cut q)
-next_piece false files file limit p text rest r h i front q =
+next_piece false levels files file limit p text rest r s h i front took q =
     let b = front_behind false text.text.now rest.text.now (piece_of p) r front in
     let cut = rest_behind text.text.now rest.text.now b.0 b.1 in
-    (file_piece files file limit p text rest h i cut.1 q, file_rest files file limit p text rest r h i front cut q)
+    (file_piece files levels file limit p text rest r h i front cut.1 q, file_rest files levels file limit p text rest r s h i front took cut q)
 
 -- ---- from one place to the next
 
@@ -347,13 +350,16 @@ behind_mark (a ∷ []) = (0, refl)
 behind_mark (a ∷ b ∷ []) = (0, refl)
 behind_mark (a ∷ b ∷ c ∷ bs) = mark_by (a == 239 && b == 187 && c == 191) a b c bs
 
-pub file_opened : (files : List (List ℕ)) (number : ℕ) (bytes : List ℕ) (s : Span) → AreShort files → slice_get files number ≡ Some bytes
+pub file_opened : (files : List (List ℕ)) (number : ℕ) (bytes : List ℕ) (s : Span) (r opened : texts.Reading) → AreShort files → slice_get files number ≡ Some bytes
+    → texts.files_read (take number files) texts.first_reading ≡ Ok r → opened ≡ texts.opened r
     → s.text.now ≡ texts.without_byte_order_mark bytes → s.place.file ≡ number → s.place.start ≡ min (length bytes - length s.text.now) 4294967295
-    → IsTextAt false files number (length bytes - length s.text.now) s × (length bytes - length s.text.now + length s.text.now ≡ length bytes)
-file_opened files number bytes s h get e f b =
+    → IsTextAt false 64 opened files number (length bytes - length s.text.now) s × (length bytes - length s.text.now + length s.text.now ≡ length bytes)
+file_opened files number bytes s r opened h get before is e f b =
     let mark = behind_mark bytes in
     let cut = rest_behind bytes s.text.now mark.0 (e ∙ mark.1) in
-    ((bytes, get, subst (IsRestOf bytes) (sym e) IsRestOf.whole, cut.0, omega (arith, cut.1), f, omega (arith, b, h.1 number bytes get)), omega (arith, cut.1))
+    let there : ComesTo files number opened s.text.now =
+    subst (λ (x : texts.Reading). ComesTo files number x s.text.now) (sym is) (subst (ComesTo files number (texts.opened r)) (sym e) (ComesTo.to_file bytes r get before)) in
+    ((bytes, get, there, cut.0, omega (arith, cut.1), f, omega (arith, b, h.1 number bytes get), refl), omega (arith, cut.1))
 
 pub number_there : (vs : List (Vec ℕ Global)) (number short : ℕ) → AreShort (map (λ f. f.items) vs) → number < length vs → short ≡ min number 4294967295 → short ≡ number
 number_there vs number short h lt e = omega (arith, h.0, lt, e, length-map vs (λ f. f.items))

@@ -6,9 +6,10 @@ use Rattle.std.specs.Cmp.Lexicographic.{slice_cmp}
 use Rattle.std.specs.BTreeMap.{BTreeMap, get_by}
 use Rattle.std.specs.List.{All, AllPairs}
 use Rattle.wb_meaning.specs.Value.{Name}
+use Rattle.wb_meaning.specs.Verilog.Text.{Reading}
 use Rattle.v_token.specs.declared.token.Token.{Token}
 use Rattle.v_lex.specs.View.{IsPart}
-use Rattle.v_lex.specs.Places.{StandsAt, IsRestOf, IsInMacro, IsSlice, IsOfMacro, EndsBefore, AreInOrder}
+use Rattle.v_lex.specs.Places.{StandsAt, ComesTo, IsInMacro, IsSlice, IsOfMacro, EndsBefore, AreInOrder}
 use Rattle.v_lex.specs.declared.piece.Piece.{Piece}
 use Rattle.v_lex.specs.declared.piece.Piece.TheVariants as code
 use Rattle.v_lex.specs.declared.place.Place.{Place}
@@ -45,11 +46,11 @@ IsReaderPlaced files file limit r = IsPlaced files file limit r.macros r.tokens.
 abbrev pub Keeps : (old new : Reader) → Type 0
 Keeps old new = (new.macros ≡ old.macros) × (new.tokens ≡ old.tokens)
 
--- The text is read at that place: the text of a macro, or the rest of the file.
-abbrev pub IsTextAt : (is_macro : Bool) → List (List ℕ) → (file limit : ℕ) → Span → Type 0
-IsTextAt true files file limit s = IsMacroText files s
-IsTextAt false files file limit s =
-    (f : List ℕ) × (slice_get files file ≡ Some f) × IsRestOf f s.text.now × (drop limit f ≡ s.text.now) × (limit ≤ length f) × (s.place.file ≡ file) × (s.place.start ≡ limit)
+-- The text is read at that place: the text of a macro, or the rest of the file, with 64 levels for uses.
+abbrev pub IsTextAt : (is_macro : Bool) → (levels : ℕ) → Reading → List (List ℕ) → (file limit : ℕ) → Span → Type 0
+IsTextAt true levels r files file limit s = IsMacroText files s
+IsTextAt false levels r files file limit s =
+    (f : List ℕ) × (slice_get files file ≡ Some f) × ComesTo files file r s.text.now × (drop limit f ≡ s.text.now) × (limit ≤ length f) × (s.place.file ≡ file) × (s.place.start ≡ limit) × (levels ≡ 64)
 
 -- the place that is reached with so many bytes: reading a macro's text does not go on in the file
 abbrev pub reached : (is_macro : Bool) → (limit count : ℕ) → ℕ

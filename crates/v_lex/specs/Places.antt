@@ -1,10 +1,9 @@
 -- Where tokens stand in their files.
-use Rattle.std.specs.Prelude.{◌≡◌, ℕ, ◌+◌, ◌<◌, ◌≤◌, ◌⊎◌, false, List, ◌∷◌, length, take, drop, slice_get, Some}
+use Rattle.std.specs.Prelude.{◌≡◌, ℕ, ◌+◌, ◌<◌, ◌≤◌, ◌⊎◌, false, List, length, take, drop, slice_get, Some, Ok}
 use Rattle.wb_meaning.specs.Value.{Name}
-use Rattle.wb_meaning.specs.Verilog.Lexical.{Piece, define, directive_at}
-use Rattle.wb_meaning.specs.Verilog.Text.{Reading, without_byte_order_mark}
+use Rattle.wb_meaning.specs.Verilog.Lexical.{Piece, define}
+use Rattle.wb_meaning.specs.Verilog.Text.{Reading, first_reading, opened, without_byte_order_mark, files_read, with_piece, macro_read}
 use Rattle.v_token.specs.declared.token.Token.{Token}
-use Rattle.v_lex.specs.View.{after}
 use Rattle.v_lex.specs.Reading.{front_in}
 
 -- Files and places in them are told by numbers of 32 bits.
@@ -15,16 +14,17 @@ AreShort files = (length files ≤ 4294967295) × ((file : ℕ) (f : List ℕ) �
 abbrev pub StandsAt : List (List ℕ) → (file start : ℕ) → (text : List ℕ) → Type 0
 StandsAt files file start text = (f : List ℕ) × (slice_get files file ≡ Some f) × (start + length text ≤ length f) × (take (length text) (drop start f) ≡ text)
 
--- A piece of the file, read or left out, or the end stands at the front of that rest of it.
-pub data IsRestOf (f : List ℕ) : List ℕ → Type 0 where
-  whole : IsRestOf f (without_byte_order_mark f)
-  behind_piece : (r : Reading) (p : Piece) (text rest : List ℕ) → IsRestOf f text → front_in false r text ≡ Some (Some (p, rest)) → IsRestOf f rest
+-- The reading of all files comes to that rest of that file, and knows so much there.
+pub data ComesTo (files : List (List ℕ)) (file : ℕ) : Reading → (rest : List ℕ) → Type 0 where
+  to_file : (f : List ℕ) (r : Reading) → slice_get files file ≡ Some f → files_read (take file files) first_reading ≡ Ok r → ComesTo files file (opened r) (without_byte_order_mark f)
+  behind_piece : (r s : Reading) (p : Piece) (text rest : List ℕ) → ComesTo files file r text → front_in false r text ≡ Some (Some (p, rest)) → with_piece (macro_read 64) p r ≡ Ok s
+      → ComesTo files file s rest
 
--- From that byte on so many lie in the text of a macro's definition in that file. (The text stands in front of what is left behind the
--- definition.)
+-- From that byte on so many lie in the text of a macro that is defined in that file. (The text stands in front of what is left behind
+-- the definition.)
 abbrev pub IsInMacro : List (List ℕ) → (file start count : ℕ) → Type 0
 IsInMacro files file start count =
-    (f bs rest x : List ℕ) × (n : Name) × (slice_get files file ≡ Some f) × IsRestOf f (96 ∷ bs) × (after bs (directive_at bs) ≡ Some (define n x, rest))
+    (f text rest x : List ℕ) × (n : Name) × (r : Reading) × (slice_get files file ≡ Some f) × ComesTo files file r text × (front_in false r text ≡ Some (Some (define n x, rest)))
     × (length f ≤ start + length x + length rest) × (start + count + length rest ≤ length f)
 
 -- A token's text is a slice of its file.

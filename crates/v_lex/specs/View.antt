@@ -82,5 +82,5 @@ IsPlain _ = ⊤
 abbrev pub IsPart : Piece → (text rest : List ℕ) → Type 0
 IsPart (code.Token k t) text rest = t.now ≡ taken text rest
 IsPart (code.Define n t) text rest =
-    (bs : List ℕ) × (text ≡ 96 ∷ bs) × (after bs (pieces.directive_at bs) ≡ Some (pieces.define n.now t.now, rest)) × ((j : ℕ) × (t.now ≡ taken (drop j bs) rest))
+    (bs : List ℕ) × (text ≡ 96 ∷ bs) × ((j : ℕ) × (t.now ≡ taken (drop j bs) rest))
 IsPart _ text rest = ⊤

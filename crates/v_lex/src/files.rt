@@ -1,6 +1,6 @@
 //! Reading files one after the other.
 
-ghost use Rattle.std.specs.Prelude.{◌≡◌, ◌-◌, ℕ, List, Some, map, min, length, slice_get, IfOk};
+ghost use Rattle.std.specs.Prelude.{◌≡◌, ◌-◌, ℕ, List, Some, map, min, length, take, slice_get, Ok, IfOk};
 ghost use Rattle.wb_meaning.specs.Verilog.Text.{first_reading, without_byte_order_mark, opened, closed, file_read, files_read, text_from, macro_read};
 ghost use Rattle.v_lex.specs.Reading.{reading_of, IsOutcome};
 ghost use Rattle.v_lex.specs.Places.{AreShort};
@@ -84,7 +84,7 @@ impl<'s> Reader<'s> {
     #[tactic(auto, unfolding(wb_meaning::specs::Verilog::Text::file_read))]
     fn read_file(&mut self, number: u32, bytes: &'s [u8]) -> Result<(), Stop>
         ensures outcome { IsOutcome result (reading_of self.new) (file_read bytes.now (reading_of self.old)) }
-        ensures places { (files : List (List ℕ)) → AreShort files → slice_get files number ≡ Some bytes.now → IsReaderPlaced files number 0 self.old → IfOk result (λ _. IsReaderPlaced files number (length bytes.now) self.new) }
+        ensures places { (files : List (List ℕ)) → AreShort files → slice_get files number ≡ Some bytes.now → files_read (take number files) first_reading ≡ Ok (reading_of self.old) → IsReaderPlaced files number 0 self.old → IfOk result (λ _. IsReaderPlaced files number (length bytes.now) self.new) }
     {
         self.begin_file();
         self.read_text(64, false, file_span(number, bytes))?;
@@ -95,7 +95,7 @@ impl<'s> Reader<'s> {
     #[tactic(auto, unfolding(wb_meaning::specs::Verilog::Text::files_read))]
     pub(crate) fn read_files(&mut self, files: &'s [Vec<u8>]) -> Result<(), Stop>
         ensures outcome { IsOutcome result (reading_of self.new) (files_read (map (λ f. f.items) files.now) (reading_of self.old)) }
-        ensures places { AreShort (map (λ f. f.items) files.now) → IsReaderPlaced (map (λ f. f.items) files.now) 0 0 self.old → IfOk result (λ _. IsReaderPlaced (map (λ f. f.items) files.now) (length files.now) 0 self.new) }
+        ensures places { AreShort (map (λ f. f.items) files.now) → reading_of self.old ≡ first_reading → IsReaderPlaced (map (λ f. f.items) files.now) 0 0 self.old → IfOk result (λ _. IsReaderPlaced (map (λ f. f.items) files.now) (length files.now) 0 self.new) }
     {
         for (number, file) in files.iter().enumerate() {
             self.read_file(short(number), file)?;

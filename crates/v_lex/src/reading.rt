@@ -337,7 +337,7 @@ impl<'s> Reader<'s> {
         text: Span<'s>,
     ) -> Result<(), Stop>
         ensures outcome { IsOutcome result (reading_of self.new) (text_from is_macro (macro_read levels) 0 text.entry.text.now (reading_of self.old)) }
-        ensures places { (files : List (List ℕ)) (file limit : ℕ) → AreShort files → IsTextAt is_macro files file limit text.entry → IsReaderPlaced files file limit self.old → IfOk result (λ _. IsReaderPlaced files file (reached is_macro limit (length text.entry.text.now)) self.new) }
+        ensures places { (files : List (List ℕ)) (file limit : ℕ) → AreShort files → IsTextAt is_macro levels (reading_of self.old) files file limit text.entry → IsReaderPlaced files file limit self.old → IfOk result (λ _. IsReaderPlaced files file (reached is_macro limit (length text.entry.text.now)) self.new) }
     {
         let mut rest = text;
         loop {

@@ -71,10 +71,10 @@ read_text-loop-piece-preserved t c =
       λ files file limit s i q.
           let so_far = c.loop-piece.invariant.2 files file limit s i q in
           let limit_there = reached c.args.is_macro limit (length c.args.text.text.now - length c.loop-piece.rest.text.now) in
-          let next = next_piece c.args.is_macro files file limit_there c.in-Some.piece c.loop-piece.rest c.in-Some.behind (reading_of c.loop-piece.self) s so_far.0 front part in
+          let next = next_piece c.args.is_macro c.args.levels files file limit_there c.in-Some.piece c.loop-piece.rest c.in-Some.behind (reading_of c.loop-piece.self) (reading_of c.taken.new.self) s so_far.0 front c.in_ok-taken.ensures.outcome part in
           let on = reached_on c.args.is_macro limit (length c.args.text.text.now) (length c.loop-piece.rest.text.now) (length c.in-Some.behind.text.now)
           c.loop-piece.invariant.1 (omega (arith, shorter)) in (
-            subst (λ (x : ℕ). IsTextAt c.args.is_macro files file x c.in-Some.behind) on next.1,
+            subst (λ (x : ℕ). IsTextAt c.args.is_macro c.args.levels (reading_of c.taken.new.self) files file x c.in-Some.behind) on next.1,
             subst (λ (x : ℕ). IsReaderPlaced files file x c.taken.new.self) on (c.in_ok-taken.ensures.places files file limit_there _ s next.0 so_far.1),
           ),
     )

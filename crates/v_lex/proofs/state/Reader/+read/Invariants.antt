@@ -18,8 +18,8 @@ abbrev pub invariant-read_text-loop-piece : goal.invariant-read_text-loop-piece
 invariant-read_text-loop-piece l =
     (text_from l.is_macro (macro_read l.levels) 0 l.fn.text.text.now (reading_of l.fn.self) ≡ text_from l.is_macro (macro_read l.levels) 0 l.rest.text.now (reading_of l.self))
     × (length l.rest.text.now ≤ length l.fn.text.text.now)
-    × ((files : List (List ℕ)) (file limit : ℕ) → AreShort files → IsTextAt l.is_macro files file limit l.fn.text → IsReaderPlaced files file limit l.fn.self
-    → IsTextAt l.is_macro files file (reached l.is_macro limit (length l.fn.text.text.now - length l.rest.text.now)) l.rest
+    × ((files : List (List ℕ)) (file limit : ℕ) → AreShort files → IsTextAt l.is_macro l.levels (reading_of l.fn.self) files file limit l.fn.text → IsReaderPlaced files file limit l.fn.self
+    → IsTextAt l.is_macro l.levels (reading_of l.self) files file (reached l.is_macro limit (length l.fn.text.text.now - length l.rest.text.now)) l.rest
     × IsReaderPlaced files file (reached l.is_macro limit (length l.fn.text.text.now - length l.rest.text.now)) l.self)
 
 abbrev pub decreases-read_text-loop-piece : goal.decreases-read_text-loop-piece
