@@ -1,10 +1,10 @@
 -- Tests of lists of names.
 use Rattle.std.proofs.Common.{◌≡◌, Bool, true, false, ◌&&◌, List, [], ◌∷◌, ◌++◌, refl, ap, ◌∙◌}
 use Rattle.std.specs.Prelude.{cond, ◌||◌, Some, is_some}
-use Rattle.wb_meaning.specs.Value.{Name, same_name, Entries, entry_of}
-use Rattle.wb_meaning.specs.Model.{StateDeclaration, InputDeclaration, Instruction, instruction_list}
+use Rattle.wb_values.specs.Value.{Name, same_name, Entries, entry_of}
+use Rattle.model_meaning.specs.Model.{StateDeclaration, InputDeclaration, Instruction, instruction_list}
 use Rattle.first_json.specs.ModelFile.{instructions_from}
-use Rattle.wb_meaning.specs.Verilog.Syntax.{Expression}
+use Rattle.verilog_trees.specs.Syntax.{Expression}
 use Rattle.first_text.specs.Tree.{Port}
 use Rattle.wb_first.specs.Names.{port_named}
 use Rattle.wb_first.specs.Accepted.{all_names, is_among, port_names, keys, all_states_mapped, all_inputs_mapped}

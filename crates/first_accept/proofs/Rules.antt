@@ -1,7 +1,7 @@
 -- The rules in groups, and the one clocked block.
 use Rattle.std.proofs.Common.{◌≡◌, Bool, true, false, ◌&&◌, ◌||◌, List, [], ◌∷◌, ◌++◌, map, Option, Some, None, option_map, sym, refl, ap, ◌∙◌}
-use Rattle.wb_meaning.specs.Value.{Name, same_name}
-use Rattle.wb_meaning.specs.Model.{instructions_in, instruction_list}
+use Rattle.wb_values.specs.Value.{Name, same_name}
+use Rattle.model_meaning.specs.Model.{instructions_in, instruction_list}
 use Rattle.first_json.specs.ModelFile.{instructions_from}
 use Rattle.first_json.specs.declared.model.FirstModel.{FirstModel}
 use Rattle.first_json.specs.declared.map.FirstMap.{FirstMap}

@@ -11,8 +11,8 @@ use Rattle.std.specs.BTreeSet.{BTreeSet}
 use Rattle.std.proofs.Math.Seq.{drop-cons}
 use Rattle.std.proofs.lemmas.Slice.Eq.{bytes_eq-Decides}
 use Rattle.std.proofs.lemmas.Map.Text.{is_eq-slice_cmp, btree_map_updates_str}
-use Rattle.wb_meaning.specs.Value.{Name, same_name}
-use Rattle.wb_meaning.specs.Verilog.Hierarchy.{first_of}
+use Rattle.wb_values.specs.Value.{Name, same_name}
+use Rattle.wb_values.specs.Choice.{first_of}
 use Rattle.wb_first.specs.Accepted.{is_among, are_distinct, all_names}
 use Rattle.first_accept.specs.Known.{texts}
 use Rattle.first_accept.specs.Tables.{under_name, has_name}

@@ -1,6 +1,6 @@
 -- Variables by the list of their names.
 use Rattle.std.proofs.Common.{◌≡◌, ◌||◌, List, [], ◌∷◌, refl, ap}
-use Rattle.wb_meaning.specs.Value.{Name, same_name}
+use Rattle.wb_values.specs.Value.{Name, same_name}
 use Rattle.first_text.specs.Tree.{Part, register, assignment, clocked}
 use Rattle.wb_first.specs.Names.{is_variable_among}
 use Rattle.wb_first.specs.Accepted.{variable_names, is_among}

@@ -1,13 +1,14 @@
 -- How many bits a name has, by its first bounds.
 use Rattle.std.proofs.Common.{◌≡◌, ℕ, ◌+◌, ◌-◌, ◌<◌, ◌≤◌, ◌^◌, Bool, true, false, cond, List, [], ◌∷◌, ◌++◌, sym, refl, ap, ◌∙◌, Option, Some, None, arith}
-use Rattle.std.specs.Prelude.{pos, negsuc, ◌-ℤ◌}
+use Rattle.std.specs.Prelude.{pos, negsuc, ◌-ℤ◌, option_map, option_and_then}
 use Rattle.std.proofs.lemmas.Bool.Decides.{nat_tests}
 use Rattle.std.proofs.lemmas.Int.{ints}
-use Rattle.wb_meaning.specs.Value.{Name, same_name}
-use Rattle.wb_meaning.specs.Number.{top_bit}
-use Rattle.wb_meaning.specs.Verilog.Syntax.{Range}
-use Rattle.wb_meaning.specs.Verilog.Expression.{Scope, scope_of, object_width, distance, natural_of, integer_from}
-use Rattle.wb_meaning.specs.Verilog.Hierarchy.{Declaration, declarations, port_declarations, item_declarations, declaration_of, both_declarations, ranged_object, first_of}
+use Rattle.wb_values.specs.Value.{Name, same_name}
+use Rattle.wb_values.specs.Number.{top_bit}
+use Rattle.verilog_trees.specs.Syntax.{reg, Range}
+use Rattle.verilog_meaning.specs.Expression.{Scope, scope_of, object_width, object_or_undeclared, distance, natural_of, integer_from}
+use Rattle.wb_values.specs.Choice.{first_of}
+use Rattle.verilog_meaning.specs.Hierarchy.{Declaration, declarations, port_declarations, item_declarations, declaration_of, and_later, declared_object, ranged_object}
 use Rattle.first_text.specs.Tree.{Bounds, bounds_tree, Port, port_trees, Part, register, assignment, clocked, part_trees, FirstModule, module_tree}
 use Rattle.wb_first.specs.Names.{bits_of_name}
 use Rattle.first_accept.specs.Known.{port_bounds, variable_bounds, declared_bounds, bound_value, bounds_width}
@@ -20,35 +21,52 @@ first_first : (a b c : Option Range) → first_of a (first_of b c) ≡ first_of 
 first_first None b c = refl
 first_first (Some x) b c = refl
 
+-- the range that is declared of a name, if any is
+abbrev range_in : Option Declaration → Option Range
+range_in o = option_and_then (λ d. d.range) o
+
+later_range : (d : Declaration) (o : Option Declaration) → (and_later d o).range ≡ first_of d.range (range_in o)
+later_range d None = only d.range
+  where
+    only : (r : Option Range) → r ≡ first_of r None
+    only None = refl
+    only (Some r) = refl
+later_range d (Some e) = refl
+
 range_of_ports : (ps : List Port) (rest : List Declaration) (n : Name)
-    → (declaration_of (port_declarations (port_trees ps) ++ rest) n).range ≡ first_of (bounds_tree (port_bounds ps n)) (declaration_of rest n).range
+    → range_in (declaration_of (port_declarations (port_trees ps) ++ rest) n) ≡ first_of (bounds_tree (port_bounds ps n)) (range_in (declaration_of rest n))
 range_of_ports [] rest n = refl
 range_of_ports (p ∷ ps) rest n =
-    let own : Declaration = record { of_name = p.own_name; signed = false; range = bounds_tree p.bounds; addresses = None } in
+    let own : Declaration = record { of_name = p.own_name; direction = Some p.direction; kind = None; signed = false; range = bounds_tree p.bounds; addresses = None } in
     elim (same_name p.own_name n) as
-    (λ b. (cond b (both_declarations own (declaration_of (port_declarations (port_trees ps) ++ rest) n)) (declaration_of (port_declarations (port_trees ps) ++ rest) n)).range
-    ≡ first_of (bounds_tree (cond b (first_of p.bounds (port_bounds ps n)) (port_bounds ps n))) (declaration_of rest n).range) [
+    (λ b. range_in (cond b (Some (and_later own (declaration_of (port_declarations (port_trees ps) ++ rest) n)))
+    (declaration_of (port_declarations (port_trees ps) ++ rest) n))
+    ≡ first_of (bounds_tree (cond b (first_of p.bounds (port_bounds ps n)) (port_bounds ps n))) (range_in (declaration_of rest n))) [
       | true ↦
-          ap (λ r. first_of (bounds_tree p.bounds) r) (range_of_ports ps rest n)
-          ∙ (first_first (bounds_tree p.bounds) (bounds_tree (port_bounds ps n)) (declaration_of rest n).range
-          ∙ ap (λ r. first_of r (declaration_of rest n).range) (sym (tree_of_first p.bounds (port_bounds ps n))))
+          later_range own (declaration_of (port_declarations (port_trees ps) ++ rest) n)
+          ∙ (ap (λ r. first_of (bounds_tree p.bounds) r) (range_of_ports ps rest n)
+          ∙ (first_first (bounds_tree p.bounds) (bounds_tree (port_bounds ps n)) (range_in (declaration_of rest n))
+          ∙ ap (λ r. first_of r (range_in (declaration_of rest n))) (sym (tree_of_first p.bounds (port_bounds ps n)))))
       | false ↦ range_of_ports ps rest n
     ]
 
-range_of_parts : (ps : List Part) (n : Name) → (declaration_of (item_declarations (part_trees ps)) n).range ≡ bounds_tree (variable_bounds ps n)
+range_of_parts : (ps : List Part) (n : Name) → range_in (declaration_of (item_declarations (part_trees ps)) n) ≡ bounds_tree (variable_bounds ps n)
 range_of_parts [] n = refl
 range_of_parts (register c m ∷ ps) n =
-    let own : Declaration = record { of_name = m; signed = false; range = bounds_tree c; addresses = None } in
+    let own : Declaration = record { of_name = m; direction = None; kind = Some reg; signed = false; range = bounds_tree c; addresses = None } in
     elim (same_name m n) as
-    (λ b. (cond b (both_declarations own (declaration_of (item_declarations (part_trees ps)) n)) (declaration_of (item_declarations (part_trees ps)) n)).range
+    (λ b. range_in (cond b (Some (and_later own (declaration_of (item_declarations (part_trees ps)) n)))
+    (declaration_of (item_declarations (part_trees ps)) n))
     ≡ bounds_tree (cond b (first_of c (variable_bounds ps n)) (variable_bounds ps n))) [
-      | true ↦ ap (λ r. first_of (bounds_tree c) r) (range_of_parts ps n) ∙ sym (tree_of_first c (variable_bounds ps n))
+      | true ↦
+          later_range own (declaration_of (item_declarations (part_trees ps)) n)
+          ∙ (ap (λ r. first_of (bounds_tree c) r) (range_of_parts ps n) ∙ sym (tree_of_first c (variable_bounds ps n)))
       | false ↦ range_of_parts ps n
     ]
 range_of_parts (assignment m e ∷ ps) n = range_of_parts ps n
 range_of_parts (clocked s a ∷ ps) n = range_of_parts ps n
 
-range_is : (m : FirstModule) (n : Name) → (declaration_of (declarations (module_tree m)) n).range ≡ bounds_tree (declared_bounds m n)
+range_is : (m : FirstModule) (n : Name) → range_in (declaration_of (declarations (module_tree m)) n) ≡ bounds_tree (declared_bounds m n)
 range_is m n =
     range_of_ports m.ports (item_declarations (part_trees m.parts)) n
     ∙ (ap (λ r. first_of (bounds_tree (port_bounds m.ports n)) r) (range_of_parts m.parts n)
@@ -59,11 +77,16 @@ same_width : (s : Scope) (signed : Bool) (r : Option Range)
 same_width s signed None = refl
 same_width s signed (Some r) = refl
 
+declared_width : (s : Scope) (o : Option Declaration)
+    → object_width (object_or_undeclared (option_map (declared_object s) o)) ≡ object_width (ranged_object s false (range_in o))
+declared_width s None = refl
+declared_width s (Some d) = same_width s d.signed d.range
+
 pub bits_are : (m : FirstModule) (n : Name) → bits_of_name m n ≡ bounds_width (declared_bounds m n)
 unfolding bounds_width
 bits_are m n =
-    let d : Declaration = declaration_of (declarations (module_tree m)) n in
-    same_width (scope_of []) d.signed d.range ∙ ap (λ r. object_width (ranged_object (scope_of []) false r)) (range_is m n)
+    declared_width (scope_of []) (declaration_of (declarations (module_tree m)) n)
+    ∙ ap (λ r. object_width (ranged_object (scope_of []) false r)) (range_is m n)
 
 pub width_none : bounds_width None ≡ 1
 unfolding bounds_width

@@ -1,7 +1,7 @@
 -- The rules of a module, of a map and of a model in a few groups, in their order.
 use Rattle.std.specs.Prelude.{Bool, not, ◌&&◌, ◌==◌, Some}
-use Rattle.wb_meaning.specs.Value.{same_name, truth}
-use Rattle.wb_meaning.specs.Model.{states_of, valid_of, instructions_in}
+use Rattle.wb_values.specs.Value.{same_name, truth}
+use Rattle.model_meaning.specs.Model.{states_of, valid_of, instructions_in}
 use Rattle.wb_first.specs.Names.{First, is_input, bits_of_name, assigned, blocks_among}
 use Rattle.wb_first.specs.Accepted.{are_distinct, port_names, variable_names, ports_are_small, variables_are_small, variables_agree, all_names, is_narrow, declared_names, is_net, keys, terms_read, is_source, has_one_block, is_kept, is_map_expression, states_are_mapped, all_states_mapped, inputs_are_mapped, all_inputs_mapped, entries_are_accepted, entry_names, instruction_names, is_among, are_states, is_term_of, are_instructions}
 

@@ -1,10 +1,11 @@
 -- What is declared of a name, and the one clocked block.
 use Rattle.std.specs.Borrow.{Bor}
 use Rattle.std.specs.Prelude.{ℕ, Bool, ◌&&◌, false, cond, List, [], ◌∷◌, map, Option, Some, None}
-use Rattle.wb_meaning.specs.Value.{Name, same_name}
-use Rattle.wb_meaning.specs.Model.{StateDeclaration, InputDeclaration}
-use Rattle.wb_meaning.specs.Verilog.Expression.{scope_of, object_width}
-use Rattle.wb_meaning.specs.Verilog.Hierarchy.{first_of, bound_of, ranged_object}
+use Rattle.wb_values.specs.Value.{Name, same_name}
+use Rattle.model_meaning.specs.Model.{StateDeclaration, InputDeclaration}
+use Rattle.verilog_meaning.specs.Expression.{scope_of, object_width}
+use Rattle.wb_values.specs.Choice.{first_of}
+use Rattle.verilog_meaning.specs.Hierarchy.{bound_of, ranged_object}
 use Rattle.wb_first.specs.Accepted.{are_distinct, all_names, is_among}
 use Rattle.first_text.specs.Tree.{Bounds, Port, Part, register, FirstModule, decimal_number, bounds_tree}
 

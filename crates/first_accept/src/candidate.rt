@@ -1,10 +1,10 @@
 //! What is to be accepted.
 
 ghost use Rattle.std.specs.Prelude.{◌≡◌, ℕ, List, option_map};
-ghost use Rattle.wb_meaning.specs.Value.{entry_of};
+ghost use Rattle.wb_values.specs.Value.{entry_of};
 ghost use Rattle.wb_first.specs.Names.{is_register, is_variable, assigned, port_named};
-ghost use Rattle.wb_meaning.specs.Map.{sort_of_input};
-ghost use Rattle.wb_meaning.specs.Model.{states_of};
+ghost use Rattle.refinement.specs.Map.{sort_of_input};
+ghost use Rattle.model_meaning.specs.Model.{states_of};
 ghost use Rattle.wb_first.specs.Accepted.{state_sort};
 ghost use Rattle.first_json.specs.ModelView.{sort_view, first_model_of};
 ghost use Rattle.first_text.specs.View.{first_module_of, port_of, term_of, bounds_of};

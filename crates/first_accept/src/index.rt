@@ -1,9 +1,9 @@
 //! What a module and a model say of each name, as tables by names.
 
 ghost use Rattle.std.specs.Prelude.{◌≡◌, ◌∷◌, [], ℕ, List, IfOk, map, option_map, cond, None};
-ghost use Rattle.wb_meaning.specs.Value.{entry_of, same_name};
-ghost use Rattle.wb_meaning.specs.Map.{sort_of_input};
-ghost use Rattle.wb_meaning.specs.Verilog.Hierarchy.{first_of};
+ghost use Rattle.wb_values.specs.Value.{entry_of, same_name};
+ghost use Rattle.refinement.specs.Map.{sort_of_input};
+ghost use Rattle.wb_values.specs.Choice.{first_of};
 ghost use Rattle.wb_first.specs.Names.{port_named, assigned_among, is_variable_among};
 ghost use Rattle.wb_first.specs.Accepted.{state_sort};
 ghost use Rattle.first_text.specs.View.{port_of, part_of, term_of, bounds_of};

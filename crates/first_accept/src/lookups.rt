@@ -1,14 +1,14 @@
 //! What a module says of a name.
 
 ghost use Rattle.std.specs.Prelude.{◌≡◌, ◌≤◌, ◌^◌, map, option_map};
-ghost use Rattle.wb_meaning.specs.Verilog.Hierarchy.{first_of};
-ghost use Rattle.wb_meaning.specs.Value.{entry_of};
+ghost use Rattle.wb_values.specs.Choice.{first_of};
+ghost use Rattle.wb_values.specs.Value.{entry_of};
 ghost use Rattle.wb_first.specs.Names.{port_named, is_variable_among, is_register, assigned_among, is_input, is_output, is_variable, is_declared, assigned, bits_of_name, has_direction, same_direction};
 ghost use Rattle.wb_first.specs.Accepted.{is_data, state_sort};
-ghost use Rattle.wb_meaning.specs.Map.{sort_of_input};
-ghost use Rattle.wb_meaning.specs.Model.{states_of};
+ghost use Rattle.refinement.specs.Map.{sort_of_input};
+ghost use Rattle.model_meaning.specs.Model.{states_of};
 ghost use Rattle.first_json.specs.ModelView.{sort_view};
-ghost use Rattle.wb_meaning.specs.Verilog.Syntax.{input, output};
+ghost use Rattle.verilog_trees.specs.Syntax.{input, output};
 ghost use Rattle.first_text.specs.View.{port_of, part_of, term_of, bounds_of, direction_of};
 ghost use Rattle.first_accept.specs.Known.{declared_bounds, bound_value, bounds_width};
 ghost use Rattle.first_accept.specs.View.{first_in};

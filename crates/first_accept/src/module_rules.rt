@@ -1,7 +1,7 @@
 //! The rules of a module.
 
 ghost use Rattle.std.specs.Prelude.{◌≡◌, ◌&&◌, map, None, Some, IfOk};
-ghost use Rattle.wb_meaning.specs.Value.{same_name};
+ghost use Rattle.wb_values.specs.Value.{same_name};
 ghost use Rattle.wb_first.specs.Names.{assigned_among, blocks_among, port_named};
 ghost use Rattle.wb_first.specs.Accepted.{is_narrow, is_net, is_target, is_read, is_kept, is_source, all_names, terms_read, has_small_bounds, ports_are_small, variables_are_small, same_bounds, port_agrees, variables_agree, declared_names, port_names, is_among, is_plain_name, has_plain_names};
 ghost use Rattle.first_text.specs.View.{port_of, part_of, bounds_of, action_of};

@@ -1,7 +1,7 @@
 //! Lists of names.
 
 ghost use Rattle.std.specs.Prelude.{◌≡◌, ◌++◌, map, IfOk};
-ghost use Rattle.wb_meaning.specs.Value.{same_name};
+ghost use Rattle.wb_values.specs.Value.{same_name};
 ghost use Rattle.wb_first.specs.Names.{assigned_among};
 ghost use Rattle.wb_first.specs.Accepted.{port_names, variable_names, keys};
 ghost use Rattle.first_text.specs.View.{port_of, part_of};

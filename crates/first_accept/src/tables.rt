@@ -1,8 +1,8 @@
 //! Sets of names, and tables by names.
 
 ghost use Rattle.std.specs.Prelude.{◌≡◌, ℕ, List, IfOk, cond, Some, None};
-ghost use Rattle.wb_meaning.specs.Value.{same_name};
-ghost use Rattle.wb_meaning.specs.Verilog.Hierarchy.{first_of};
+ghost use Rattle.wb_values.specs.Value.{same_name};
+ghost use Rattle.wb_values.specs.Choice.{first_of};
 ghost use Rattle.wb_first.specs.Accepted.{is_among, are_distinct, all_names};
 ghost use Rattle.first_accept.specs.Known.{texts};
 ghost use Rattle.first_accept.specs.Tables.{under_name, has_name};

@@ -1,7 +1,8 @@
 //! The terms of a model: their sorts, and their names.
 
 ghost use Rattle.std.specs.Prelude.{◌≡◌, ◌^◌, nat_lt, option_map, Some};
-ghost use Rattle.wb_meaning.specs.Term.{some_if, is_sort, same_sort, const, same_bits_sort, same_word_sort, compared, sort_of};
+ghost use Rattle.wb_values.specs.Choice.{some_if};
+ghost use Rattle.model_meaning.specs.Term.{is_sort, same_sort, const, same_bits_sort, same_word_sort, compared, sort_of};
 ghost use Rattle.wb_first.specs.Accepted.{declared_sort, is_sort_of, has_declared_names, is_term_of};
 ghost use Rattle.first_json.specs.ModelView.{sort_view, term_view};
 ghost use Rattle.first_accept.specs.View.{first_in};

@@ -6,10 +6,10 @@ use Rattle.std.proofs.lemmas.List.{length-map, get_or_default}
 use Rattle.std.proofs.lemmas.List.Elements.{Contains-get_or}
 use Rattle.std.proofs.lemmas.Nat.{pow_pos}
 use Rattle.std.proofs.lemmas.Bool.{lt-ltb}
-use Rattle.wb_meaning.specs.Value.{Name, same_name, Sort, truth, word, Value, truth_value, number, Valuation, Entries, HasSort, as_truth, words}
-use Rattle.wb_meaning.specs.Term.{Term, val}
-use Rattle.wb_meaning.specs.Run.{Run, IsRun}
-use Rattle.wb_meaning.specs.Encoding.{BitMap, number_of_bits, word_of, IsMapOf, Write, RestrictsTo, IsSatisfyingAssignment, EncodesRuns}
+use Rattle.wb_values.specs.Value.{Name, same_name, Sort, truth, word, Value, truth_value, number, Valuation, Entries, HasSort, as_truth, words}
+use Rattle.model_meaning.specs.Term.{Term, val}
+use Rattle.refinement.specs.Run.{Run, IsRun}
+use Rattle.reports.specs.Encoding.{BitMap, number_of_bits, word_of, IsMapOf, Write, RestrictsTo, IsSatisfyingAssignment, EncodesRuns}
 use Rattle.wb_terms.specs.Graph.{Graph, tree, HasDistinctNames}
 use Rattle.sat_base.specs.Formula.{Formula, variable_value}
 use Rattle.gate_words.specs.Binary.{number_of, digit}

@@ -3,8 +3,8 @@ use Rattle.std.proofs.Common.{◌≡◌, ◌∙◌, ℕ, ◌+◌, ◌<◌, List,
 use Rattle.std.proofs.lemmas.List.{length-map, map-append, take_more}
 use Rattle.std.proofs.lemmas.List.Elements.{All-push}
 use Rattle.std.specs.String.{string_bytes}
-use Rattle.wb_meaning.specs.Value.{Sort, word, truth, Entries}
-use Rattle.wb_meaning.specs.Model.{Instruction, instruction_list}
+use Rattle.wb_values.specs.Value.{Sort, word, truth, Entries}
+use Rattle.model_meaning.specs.Model.{Instruction, instruction_list}
 use Rattle.wb_terms.specs.Sort.{as_sort}
 use Rattle.wb_terms.specs.declared.sorts.Sort as code
 use Rattle.wb_terms.specs.declared.sorts.Sort.TheVariants.{Truth, Word, Memory}

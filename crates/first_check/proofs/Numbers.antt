@@ -1,6 +1,6 @@
 -- The values of a case's names are numbers.
 use Rattle.std.proofs.Common.{◌≡◌, ℕ, zero, suc, ◌<◌, true, false, List, [], ◌∷◌, map, length, get_or, Contains, arith, refl, subst}
-use Rattle.wb_meaning.specs.Value.{Name, Sort, word, Entries, HasSort}
+use Rattle.wb_values.specs.Value.{Name, Sort, word, Entries, HasSort}
 use Rattle.wb_terms.specs.Environment.{as_value, AreOfSorts}
 use Rattle.wb_terms.specs.declared.values.Value.{Value}
 use Rattle.wb_terms.specs.declared.values.Value.TheVariants.{Truth, Number, Words}

@@ -2,12 +2,12 @@
 use Rattle.std.proofs.Common.{◌≡◌, ◌∙◌, ℕ, zero, suc, ◌+◌, ◌<◌, ◌^◌, Bool, true, false, not, List, [], ◌∷◌, map, ◌++◌, length, get_or, Some, Contains, ◌⊎◌, inl, inr, cond, arith, refl, sym, ap, subst}
 use Rattle.std.specs.Prelude.{slice_get, nat_lt}
 use Rattle.std.proofs.lemmas.Bool.Decides.{nat_tests}
-use Rattle.wb_meaning.specs.Value.{Name, same_name, Sort, word, Value, truth_value, number, words, Entries, HasSort, valuation_of, value_or_zero, entry_of, as_truth}
-use Rattle.wb_meaning.specs.Model.{Instruction, instruction_name, instructions_in}
-use Rattle.wb_meaning.specs.Run.{Run, IsRun}
-use Rattle.wb_meaning.specs.Obligation.{Obligation, Falsifies, IsWholeCommand, bound_named}
-use Rattle.wb_meaning.specs.Encoding.{EncodesRuns}
-use Rattle.wb_meaning.specs.Report.{IsTraceOf, IsVerdict, IsCover, AreVerdicts, AreCovers}
+use Rattle.wb_values.specs.Value.{Name, same_name, Sort, word, Value, truth_value, number, words, Entries, HasSort, valuation_of, value_or_zero, entry_of, as_truth}
+use Rattle.model_meaning.specs.Model.{Instruction, instruction_name, instructions_in}
+use Rattle.refinement.specs.Run.{Run, IsRun}
+use Rattle.refinement.specs.Obligation.{Obligation, Falsifies, IsWholeCommand, bound_named}
+use Rattle.reports.specs.Encoding.{EncodesRuns}
+use Rattle.reports.specs.Report.{IsTraceOf, IsVerdict, IsCover, AreVerdicts, AreCovers}
 use Rattle.wb_terms.specs.Graph.{Graph, HasDistinctNames}
 use Rattle.wb_terms.specs.Environment.{AreOfSorts, named}
 use Rattle.wb_first.specs.Names.{First, setting_of, bits_of_name}

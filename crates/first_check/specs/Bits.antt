@@ -1,8 +1,8 @@
 -- Which variables of a formula are the bits of which registers and inputs.
 use Rattle.std.specs.Prelude.{◌≡◌, ℕ, zero, suc, Bool, true, false, cond, List, [], ◌∷◌, map, Option, All}
 use Rattle.std.specs.String.{string_bytes}
-use Rattle.wb_meaning.specs.Value.{Name, same_name, Sort, word, Entries}
-use Rattle.wb_meaning.specs.Encoding.{BitMap}
+use Rattle.wb_values.specs.Value.{Name, same_name, Sort, word, Entries}
+use Rattle.reports.specs.Encoding.{BitMap}
 use Rattle.sat_gates.specs.Layout.{variables_of_sort}
 use Rattle.wb_first.specs.Names.{First, is_register}
 use Rattle.first_check.specs.declared.names.BitName.{BitName}

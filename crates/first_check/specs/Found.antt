@@ -1,12 +1,12 @@
 -- What was found of obligations and covers, as verdicts.
 use Rattle.std.specs.Prelude.{◌≡◌, ℕ, false, List, [], ◌∷◌, map, slice_get, Some}
-use Rattle.wb_meaning.specs.Value.{truth_value, number, Valuation, valuation_of}
-use Rattle.wb_meaning.specs.Term.{val}
-use Rattle.wb_meaning.specs.Encoding as encoding
-use Rattle.wb_meaning.specs.Model.{Instruction}
-use Rattle.wb_meaning.specs.Instruction.{IsInstruction}
-use Rattle.wb_meaning.specs.Obligation.{Obligation}
-use Rattle.wb_meaning.specs.Report.{Verdict, proved, failed, unknown, IsVerdict, Cover, covered, not_covered, unknown_cover, IsCover}
+use Rattle.wb_values.specs.Value.{truth_value, number, Valuation, valuation_of}
+use Rattle.model_meaning.specs.Term.{val}
+use Rattle.reports.specs.Encoding as encoding
+use Rattle.model_meaning.specs.Model.{Instruction}
+use Rattle.model_meaning.specs.Instruction.{IsInstruction}
+use Rattle.refinement.specs.Obligation.{Obligation}
+use Rattle.reports.specs.Report.{Verdict, proved, failed, unknown, IsVerdict, Cover, covered, not_covered, unknown_cover, IsCover}
 use Rattle.sat_base.specs.declared.logs.Lemma.{Lemma}
 use Rattle.sat_gates.specs.declared.formulas.Blasted.{Blasted}
 use Rattle.sat_base.specs.Log.{IsSpent}

@@ -1,9 +1,9 @@
 //! What is found of each obligation, and of each instruction's cover.
 
 ghost use Rattle.std.specs.Prelude.{◌≡◌, ◌<◌, ℕ, length, map, vec_len, IfOk};
-ghost use Rattle.wb_meaning.specs.Model.{instructions_in};
-ghost use Rattle.wb_meaning.specs.Obligation.{obligations as all_obligations};
-ghost use Rattle.wb_meaning.specs.Report.{IsVerdict, AreVerdicts, AreCovers};
+ghost use Rattle.model_meaning.specs.Model.{instructions_in};
+ghost use Rattle.refinement.specs.Obligation.{obligations as all_obligations};
+ghost use Rattle.reports.specs.Report.{IsVerdict, AreVerdicts, AreCovers};
 ghost use Rattle.first_facts.specs.View.{obligation_of};
 ghost use Rattle.first_trace.specs.Traced.{names_of};
 ghost use Rattle.wb_first.specs.Names.{setting_of};

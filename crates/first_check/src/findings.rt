@@ -1,7 +1,7 @@
 //! What is found of a term of a case's store.
 
 ghost use Rattle.std.specs.Prelude.{◌≡◌, ◌<◌, map, IfOk};
-ghost use Rattle.wb_meaning.specs.Value.{truth, number};
+ghost use Rattle.wb_values.specs.Value.{truth, number};
 ghost use Rattle.wb_terms.specs.Graph.{HasDistinctNames};
 ghost use Rattle.wb_terms.specs.Environment.{Fits, values_of};
 ghost use Rattle.wb_first.specs.CaseView.{case_of};
@@ -44,7 +44,7 @@ pub(crate) fn find(
 {
     let _count = terms.name_count();
     match settle(alloc, terms, id, budget) {
-        Ok(Settled::Holds) => Ok(Finding::Holds),
+        Ok(Settled::Holds(_)) => Ok(Finding::Holds),
         Ok(Settled::Breaks(values)) => {
             let numbers = numbers(alloc, case, terms, &values)?;
             Ok(Finding::Breaks(numbers))

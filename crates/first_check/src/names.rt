@@ -1,7 +1,7 @@
 //! The names whose bits have variables in a case's formulas.
 
 ghost use Rattle.std.specs.Prelude.{◌≡◌, ◌<◌, ℕ, List, [], length, slice_index_or, string_bytes, IfOk};
-ghost use Rattle.wb_meaning.specs.Value.{truth};
+ghost use Rattle.wb_values.specs.Value.{truth};
 ghost use Rattle.wb_first.specs.Names.{is_register};
 ghost use Rattle.wb_first.specs.Accepted.{is_among};
 ghost use Rattle.wb_first.specs.CaseView.{case_of};

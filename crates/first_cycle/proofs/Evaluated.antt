@@ -5,10 +5,10 @@ use mathlib.Core.Path.{ap₂}
 use Rattle.std.proofs.lemmas.Bool.Decides.{nat_tests}
 use Rattle.std.proofs.Math.Pow.{pow_pos, pow_mono, pow-add, mod-mod-pow}
 use Rattle.std.proofs.Math.Nat.{add-mul-mod_self_right, mod-add-div'}
-use Rattle.wb_meaning.specs.Value.{Name, as_number, Valuation}
-use Rattle.wb_meaning.specs.Number.{top_bit, signed_value, word_sext, word_add}
-use Rattle.wb_meaning.specs.Verilog.Syntax.{name, whole, comparison, equal}
-use Rattle.wb_meaning.specs.Verilog.Expression.{Scope, object_width, width_of, sign_of, value_of, self_value, is_nonzero, bit, is_true, assigned_value, whole_value, widened, integer_from, comparison_value}
+use Rattle.wb_values.specs.Value.{Name, as_number, Valuation}
+use Rattle.wb_values.specs.Number.{top_bit, signed_value, word_sext, word_add}
+use Rattle.verilog_trees.specs.Syntax.{name, whole, comparison, equal}
+use Rattle.verilog_meaning.specs.Expression.{Scope, object_width, width_of, sign_of, value_of, self_value, is_nonzero, bit, is_true, assigned_value, whole_value, widened, integer_from, comparison_value}
 use Rattle.first_text.specs.Tree.{Primary, identifier, decimal, primary_tree, Term, single, sum, equality, term_tree, FirstModule}
 use Rattle.wb_first.specs.Names.{First, scope_of_first}
 use Rattle.wb_first.proofs.Shape.{not_signed, not_constant}

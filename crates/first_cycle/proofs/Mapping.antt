@@ -1,9 +1,9 @@
 -- The map's expressions by themselves: names without dots are the module's.
 use Rattle.std.proofs.Common.{◌≡◌, ℕ, true, sym, ap, ◌∙◌}
-use Rattle.wb_meaning.specs.Value.{Name, number, as_number, Valuation}
-use Rattle.wb_meaning.specs.Verilog.Syntax.{name, whole}
-use Rattle.wb_meaning.specs.Verilog.Expression.{self_value}
-use Rattle.wb_meaning.specs.Map.{map_scope}
+use Rattle.wb_values.specs.Value.{Name, number, as_number, Valuation}
+use Rattle.verilog_trees.specs.Syntax.{name, whole}
+use Rattle.verilog_meaning.specs.Expression.{self_value}
+use Rattle.refinement.specs.Map.{map_scope}
 use Rattle.first_json.specs.MapFile.{decimal}
 use Rattle.wb_first.specs.Names.{First, setting_of}
 use Rattle.wb_first.specs.Accepted.{is_accepted, is_map_expression}

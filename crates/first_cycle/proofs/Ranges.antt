@@ -1,12 +1,13 @@
 -- The bits of names of a module, by the bounds of their declarations.
 use Rattle.std.proofs.Common.{◌≡◌, ℕ, ◌+◌, ◌≤◌, Bool, true, false, cond, ◌&&◌, ◌||◌, List, [], ◌∷◌, ◌++◌, subst, refl, ap, ◌∙◌, Option, Some, None, arith}
-use Rattle.std.specs.Prelude.{nat_le, is_some}
+use Rattle.std.specs.Prelude.{nat_le, is_some, option_map, option_and_then}
 use mathlib.Core.Path.{ap₂}
 use Rattle.std.proofs.lemmas.Bool.Decides.{nat_tests}
-use Rattle.wb_meaning.specs.Value.{Name, same_name}
-use Rattle.wb_meaning.specs.Verilog.Syntax.{Range}
-use Rattle.wb_meaning.specs.Verilog.Expression.{object_width, distance, scope_of}
-use Rattle.wb_meaning.specs.Verilog.Hierarchy.{Declaration, declarations, port_declarations, item_declarations, declaration_of, both_declarations, ranged_object, bound_of, first_of}
+use Rattle.wb_values.specs.Value.{Name, same_name}
+use Rattle.verilog_trees.specs.Syntax.{reg, Range}
+use Rattle.verilog_meaning.specs.Expression.{object_width, object_or_undeclared, distance, scope_of}
+use Rattle.wb_values.specs.Choice.{first_of}
+use Rattle.verilog_meaning.specs.Hierarchy.{Declaration, declarations, port_declarations, item_declarations, declaration_of, and_later, declared_object, ranged_object, bound_of}
 use Rattle.first_text.specs.Tree.{Bounds, bounds_tree, decimal_number, Port, port_trees, Part, register, assignment, clocked, part_trees, FirstModule, module_tree}
 use Rattle.wb_first.specs.Names.{First, bits_of_name, is_declared, is_variable_among, port_named}
 use Rattle.wb_first.specs.Accepted.{is_accepted, is_accepted_module, is_accepted_map, is_accepted_model, has_plain_names, ports_are_small, variables_are_small, has_small_bounds, all_names, is_narrow, declared_names, is_among}
@@ -47,32 +48,50 @@ first_assoc : (a b : Bounds) (r : Option Range) → first_of (bounds_tree a) (fi
 first_assoc None b r = refl
 first_assoc (Some a) b r = refl
 
-part_range : (ps : List Part) (n : Name) → (declaration_of (item_declarations (part_trees ps)) n).range ≡ bounds_tree (part_bounds ps n)
+-- the range that is declared of a name, if any is
+abbrev range_in : Option Declaration → Option Range
+range_in o = option_and_then (λ d. d.range) o
+
+later_range : (d : Declaration) (o : Option Declaration) → (and_later d o).range ≡ first_of d.range (range_in o)
+later_range d None = only d.range
+  where
+    only : (r : Option Range) → r ≡ first_of r None
+    only None = refl
+    only (Some r) = refl
+later_range d (Some e) = refl
+
+part_range : (ps : List Part) (n : Name) → range_in (declaration_of (item_declarations (part_trees ps)) n) ≡ bounds_tree (part_bounds ps n)
 part_range [] n = refl
 part_range (register b m ∷ ps) n =
+    let own : Declaration = record { of_name = m; direction = None; kind = Some reg; signed = false; range = bounds_tree b; addresses = None } in
     elim (same_name m n) as
-    (λ t. (cond t (both_declarations (record { of_name = m; signed = false; range = bounds_tree b; addresses = None }) (declaration_of (item_declarations (part_trees ps)) n))
-    (declaration_of (item_declarations (part_trees ps)) n)).range
+    (λ t. range_in (cond t (Some (and_later own (declaration_of (item_declarations (part_trees ps)) n)))
+    (declaration_of (item_declarations (part_trees ps)) n))
     ≡ bounds_tree (cond t (first_of b (part_bounds ps n)) (part_bounds ps n))) [
-      | true ↦ ap (first_of (bounds_tree b)) (part_range ps n) ∙ first_tree b (part_bounds ps n)
+      | true ↦
+          later_range own (declaration_of (item_declarations (part_trees ps)) n)
+          ∙ (ap (first_of (bounds_tree b)) (part_range ps n) ∙ first_tree b (part_bounds ps n))
       | false ↦ part_range ps n
     ]
 part_range (assignment m e ∷ ps) n = part_range ps n
 part_range (clocked s a ∷ ps) n = part_range ps n
 
 port_range : (ps : List Port) (ds : List Declaration) (n : Name)
-    → (declaration_of (port_declarations (port_trees ps) ++ ds) n).range ≡ first_of (bounds_tree (port_bounds ps n)) (declaration_of ds n).range
+    → range_in (declaration_of (port_declarations (port_trees ps) ++ ds) n) ≡ first_of (bounds_tree (port_bounds ps n)) (range_in (declaration_of ds n))
 port_range [] ds n = refl
 port_range (p ∷ ps) ds n =
+    let own : Declaration = record { of_name = p.own_name; direction = Some p.direction; kind = None; signed = false; range = bounds_tree p.bounds; addresses = None } in
     elim (same_name p.own_name n) as
-    (λ t. (cond t (both_declarations (record { of_name = p.own_name; signed = false; range = bounds_tree p.bounds; addresses = None })
-    (declaration_of (port_declarations (port_trees ps) ++ ds) n)) (declaration_of (port_declarations (port_trees ps) ++ ds) n)).range
-    ≡ first_of (bounds_tree (cond t (first_of p.bounds (port_bounds ps n)) (port_bounds ps n))) (declaration_of ds n).range) [
-      | true ↦ ap (first_of (bounds_tree p.bounds)) (port_range ps ds n) ∙ first_assoc p.bounds (port_bounds ps n) (declaration_of ds n).range
+    (λ t. range_in (cond t (Some (and_later own (declaration_of (port_declarations (port_trees ps) ++ ds) n)))
+    (declaration_of (port_declarations (port_trees ps) ++ ds) n))
+    ≡ first_of (bounds_tree (cond t (first_of p.bounds (port_bounds ps n)) (port_bounds ps n))) (range_in (declaration_of ds n))) [
+      | true ↦
+          later_range own (declaration_of (port_declarations (port_trees ps) ++ ds) n)
+          ∙ (ap (first_of (bounds_tree p.bounds)) (port_range ps ds n) ∙ first_assoc p.bounds (port_bounds ps n) (range_in (declaration_of ds n)))
       | false ↦ port_range ps ds n
     ]
 
-name_range : (m : FirstModule) (n : Name) → (declaration_of (declarations (module_tree m)) n).range ≡ bounds_tree (name_bounds m n)
+name_range : (m : FirstModule) (n : Name) → range_in (declaration_of (declarations (module_tree m)) n) ≡ bounds_tree (name_bounds m n)
 name_range m n =
     port_range m.ports (item_declarations (part_trees m.parts)) n
     ∙ (ap (first_of (bounds_tree (port_bounds m.ports n))) (part_range m.parts n) ∙ first_tree (port_bounds m.ports n) (part_bounds m.parts n))
@@ -86,18 +105,20 @@ range_width : (b : Bounds) → AreSmallBounds b → object_width (ranged_object 
 range_width None h = refl
 range_width (Some b) h = ap₂ (λ x y. distance x y + 1) (small_bound b.0 h.0) (small_bound b.1 h.1)
 
-by_range : (signed : Bool) (o : Option Range) (b : Bounds) → o ≡ bounds_tree b → AreSmallBounds b
-    → object_width (ranged_object (scope_of []) signed o) ≡ bounds_width b
-by_range signed o b e h =
-    ap (λ r. object_width (ranged_object (scope_of []) signed r)) e ∙ (unsigned_range b ∙ range_width b h)
+declared_width : (o : Option Declaration) → object_width (object_or_undeclared (option_map (declared_object (scope_of [])) o))
+    ≡ object_width (ranged_object (scope_of []) false (range_in o))
+declared_width None = refl
+declared_width (Some d) = by_range d.range
   where
-    unsigned_range : (c : Bounds) → object_width (ranged_object (scope_of []) signed (bounds_tree c)) ≡ object_width (ranged_object (scope_of []) false (bounds_tree c))
-    unsigned_range None = refl
-    unsigned_range (Some c) = refl
+    by_range : (r : Option Range) → distance (ranged_object (scope_of []) d.signed r).left (ranged_object (scope_of []) d.signed r).right + 1
+        ≡ object_width (ranged_object (scope_of []) false r)
+    by_range None = refl
+    by_range (Some r) = refl
 
 pub bits_are : (m : FirstModule) (n : Name) → AreSmallBounds (name_bounds m n) → bits_of_name m n ≡ bounds_width (name_bounds m n)
 bits_are m n h =
-    by_range (declaration_of (declarations (module_tree m)) n).signed (declaration_of (declarations (module_tree m)) n).range (name_bounds m n) (name_range m n) h
+    declared_width (declaration_of (declarations (module_tree m)) n)
+    ∙ (ap (λ r. object_width (ranged_object (scope_of []) false r)) (name_range m n) ∙ range_width (name_bounds m n) h)
 
 -- ---- in an accepted module
 

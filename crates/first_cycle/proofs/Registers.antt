@@ -1,10 +1,10 @@
 -- What the clocked blocks leave of registers, by the updates of their actions.
 use Rattle.std.proofs.Common.{◌≡◌, ℕ, ◌+◌, ◌*◌, ◌/◌, ◌%◌, ◌^◌, Bool, true, false, cond, List, [], ◌∷◌, ◌++◌, subst, sym, refl, ap, ◌∙◌, arith, zero-add}
 use Rattle.std.proofs.Math.Nat.{add-mul-mod_self_right, mod-mod}
-use Rattle.wb_meaning.specs.Value.{Name, same_name, number, as_number, Valuation}
-use Rattle.wb_meaning.specs.Verilog.Expression.{Scope, object_width, is_true, assigned_value}
-use Rattle.wb_meaning.specs.Verilog.Statement.{variable, all_bits, run, run_all, Effect, Update, written_cell, with_update, with_updates, with_bits_from}
-use Rattle.wb_meaning.specs.Verilog.Register.{updates_of, after_edge, clocked_blocks}
+use Rattle.wb_values.specs.Value.{Name, same_name, number, as_number, Valuation}
+use Rattle.verilog_meaning.specs.Expression.{Scope, object_width, is_true, assigned_value}
+use Rattle.verilog_meaning.specs.Statement.{variable, all_bits, run, run_all, Effect, Update, written_cell, with_update, with_updates, with_bits_from}
+use Rattle.verilog_meaning.specs.Register.{updates_of, after_edge, clocked_blocks}
 use Rattle.first_text.specs.Tree.{Term, term_tree, Action, set, sequence, when, when_else, Actions, no_actions, action, action_tree, actions_tree, Part, register, assignment, clocked, part_trees, module_tree}
 use Rattle.wb_first.specs.Names.{First, scope_of_first, bits_of_name}
 use Rattle.wb_first.proofs.Alike.{kept}

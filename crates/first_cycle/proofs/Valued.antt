@@ -1,8 +1,8 @@
 -- What names stand for, and the registers behind an edge.
 use Rattle.std.proofs.Common.{◌≡◌, ℕ, ◌≤◌, Bool, true, false, cond, not, ◌&&◌, ◌||◌, List, [], ◌∷◌, ◌++◌, map, subst, sym, refl, ap, ◌∙◌, Option, Some, None}
 use mathlib.Core.Path.{fun_ext}
-use Rattle.wb_meaning.specs.Value.{Name, same_name, Value, number, as_number, Valuation, Entries, entry_of, value_or_zero, valuation_of}
-use Rattle.wb_meaning.specs.Verilog.Expression.{assigned_value}
+use Rattle.wb_values.specs.Value.{Name, same_name, Value, number, as_number, Valuation, Entries, entry_of, value_or_zero, valuation_of}
+use Rattle.verilog_meaning.specs.Expression.{assigned_value}
 use Rattle.first_text.specs.Tree.{Term, term_tree, Part, register, assignment, clocked}
 use Rattle.wb_first.specs.Names.{First, scope_of_first, bits_of_name, is_input, is_register, is_variable, is_variable_among, assigned}
 use Rattle.wb_first.specs.Accepted.{is_accepted}

@@ -1,8 +1,8 @@
 -- Terms by what they read: the value that one gives a target, and whether it is true.
 use Rattle.std.specs.Prelude.{ℕ, ◌+◌, ◌%◌, ◌^◌, ◌<◌, ◌≤◌, max, Bool, ◌==◌}
-use Rattle.wb_meaning.specs.Value.{as_number, Valuation}
-use Rattle.wb_meaning.specs.Number.{word_sext}
-use Rattle.wb_meaning.specs.Verilog.Expression.{Scope, object_width, is_nonzero, bit, is_true, assigned_value}
+use Rattle.wb_values.specs.Value.{as_number, Valuation}
+use Rattle.wb_values.specs.Number.{word_sext}
+use Rattle.verilog_meaning.specs.Expression.{Scope, object_width, is_nonzero, bit, is_true, assigned_value}
 use Rattle.first_text.specs.Tree.{Primary, identifier, decimal, Term, single, sum, equality, term_tree}
 use Rattle.wb_first.specs.Names.{First, scope_of_first}
 use Rattle.first_cycle.specs.declared.term.Operand.{Operand}

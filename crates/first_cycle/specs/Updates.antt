@@ -1,6 +1,6 @@
 -- The updates of an action as names and numbers, and what they leave of a name.
 use Rattle.std.specs.Prelude.{ℕ, cond, List, [], ◌∷◌, ◌++◌}
-use Rattle.wb_meaning.specs.Value.{Name, same_name, Value, number, as_number, Valuation, Entries}
+use Rattle.wb_values.specs.Value.{Name, same_name, Value, number, as_number, Valuation, Entries}
 use Rattle.first_text.specs.Tree.{Action, set, sequence, when, when_else, Actions, no_actions, action, Part, register, clocked}
 use Rattle.wb_first.specs.Names.{First, bits_of_name, is_register}
 use Rattle.first_cycle.specs.Terms.{assigned_at, is_true_at}

@@ -1,6 +1,6 @@
 -- What the values of registers and inputs mean of all names of a module.
 use Rattle.std.specs.Prelude.{map}
-use Rattle.wb_meaning.specs.Value.{Name, Value, number, Valuation, valuation_of}
+use Rattle.wb_values.specs.Value.{Name, Value, number, Valuation, valuation_of}
 use Rattle.wb_first.specs.Names.{First}
 use Rattle.wb_first.specs.Cycle.{settled}
 use Rattle.first_cycle.specs.declared.values.Named.{Named}

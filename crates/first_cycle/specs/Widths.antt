@@ -1,8 +1,8 @@
 -- The bits of names, by the bounds that stand in their declarations.
 use Rattle.std.specs.Prelude.{ℕ, ◌+◌, ◌≤◌, cond, List, [], ◌∷◌, Some, None}
-use Rattle.wb_meaning.specs.Value.{Name, same_name}
-use Rattle.wb_meaning.specs.Verilog.Expression.{distance}
-use Rattle.wb_meaning.specs.Verilog.Hierarchy.{first_of}
+use Rattle.wb_values.specs.Value.{Name, same_name}
+use Rattle.verilog_meaning.specs.Expression.{distance}
+use Rattle.wb_values.specs.Choice.{first_of}
 use Rattle.first_text.specs.Tree.{Bounds, Port, Part, register, FirstModule}
 
 -- the first bounds that stand beside a name

@@ -1,7 +1,7 @@
 //! What the clocked block leaves of the registers (1364-2005, 9.2.2 and 9.5).
 
 ghost use Rattle.std.specs.Prelude.{◌≡◌, ◌++◌, ◌∷◌, [], map, IfOk, OnOk};
-ghost use Rattle.wb_meaning.specs.Value.{as_number};
+ghost use Rattle.wb_values.specs.Value.{as_number};
 ghost use Rattle.first_text.specs.View.{primary_of, term_of, action_of, actions_of, part_of};
 ghost use Rattle.wb_first.specs.Names.{scope_of_first, bits_of_name};
 ghost use Rattle.wb_first.specs.CaseView.{case_of};

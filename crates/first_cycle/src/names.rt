@@ -1,8 +1,8 @@
 //! The names of a module: which are inputs, registers and assigned nets.
 
 ghost use Rattle.std.specs.Prelude.{◌≡◌, map, option_map};
-ghost use Rattle.wb_meaning.specs.Value.{same_name, entry_of};
-ghost use Rattle.wb_meaning.specs.Verilog.Syntax.{input};
+ghost use Rattle.wb_values.specs.Value.{same_name, entry_of};
+ghost use Rattle.verilog_trees.specs.Syntax.{input};
 ghost use Rattle.first_text.specs.View.{action_of, actions_of, term_of, port_of, part_of};
 ghost use Rattle.wb_first.specs.Names.{is_input, is_register, assigned, sets, one_sets, port_named, has_direction, is_set_among, assigned_among};
 ghost use Rattle.wb_first.specs.CaseView.{case_of};

@@ -1,8 +1,8 @@
 //! What an expression of the map is in a cycle.
 
 ghost use Rattle.std.specs.Prelude.{◌≡◌, true};
-ghost use Rattle.wb_meaning.specs.Map.{condition_holds, map_scope};
-ghost use Rattle.wb_meaning.specs.Verilog.Expression.{self_value};
+ghost use Rattle.refinement.specs.Map.{condition_holds, map_scope};
+ghost use Rattle.verilog_meaning.specs.Expression.{self_value};
 ghost use Rattle.first_json.specs.View.{expression_of};
 ghost use Rattle.wb_first.specs.Names.{setting_of};
 ghost use Rattle.wb_first.specs.Accepted.{is_map_expression};

@@ -1,8 +1,8 @@
 //! Terms by what they read, and their values (1364-2005, 5.4 and 5.5).
 
 ghost use Rattle.std.specs.Prelude.{◌≡◌, ◌%◌, ◌^◌, max};
-ghost use Rattle.wb_meaning.specs.Number.{word_sext};
-ghost use Rattle.wb_meaning.specs.Verilog.Expression.{bit};
+ghost use Rattle.wb_values.specs.Number.{word_sext};
+ghost use Rattle.verilog_meaning.specs.Expression.{bit};
 ghost use Rattle.first_cycle.specs.declared.term.Operand.TheVariants.{Decimal};
 ghost use Rattle.first_cycle.specs.Terms.{plain, extended, operand_width, summed, same_operands, given, is_met};
 

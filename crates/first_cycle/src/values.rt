@@ -1,7 +1,7 @@
 //! Values of registers and inputs, and what the names of the module stand for then.
 
 ghost use Rattle.std.specs.Prelude.{◌≡◌, map, IfOk};
-ghost use Rattle.wb_meaning.specs.Value.{number, valuation_of};
+ghost use Rattle.wb_values.specs.Value.{number, valuation_of};
 ghost use Rattle.first_text.specs.View.{primary_of, term_of};
 ghost use Rattle.wb_first.specs.Names.{scope_of_first};
 ghost use Rattle.wb_first.specs.CaseView.{case_of};

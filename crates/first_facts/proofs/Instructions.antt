@@ -3,7 +3,7 @@ use Rattle.std.proofs.Common.{◌≡◌, ℕ, ◌<◌, ◌≤◌, List, [], ◌�
 use Rattle.std.specs.Prelude.{MatchOption}
 use Rattle.std.specs.List.{HoldsAt}
 use Rattle.std.proofs.lemmas.Option.{slice_get-map, slice_get_past, slice_get-get_or}
-use Rattle.wb_meaning.specs.Model.{Instruction, instruction_list}
+use Rattle.model_meaning.specs.Model.{Instruction, instruction_list}
 use Rattle.first_json.specs.ModelFile.{instructions_from}
 
 pub all_listed : (is : List Instruction) → instruction_list (instructions_from is) ≡ is

@@ -1,8 +1,8 @@
 -- What an accepted map says of the expressions that are found in it.
 use Rattle.std.proofs.Common.{◌≡◌, ◌==◌, true, false, cond, [], ◌∷◌, Option, Some, None, subst, refl}
-use Rattle.wb_meaning.specs.Value.{Name, same_name, Entries, entry_of}
-use Rattle.wb_meaning.specs.Verilog.Syntax.{Expression}
-use Rattle.wb_meaning.specs.Map.{InstructionMap, instruction_map}
+use Rattle.wb_values.specs.Value.{Name, same_name, Entries, entry_of}
+use Rattle.verilog_trees.specs.Syntax.{Expression}
+use Rattle.refinement.specs.Map.{InstructionMap, instruction_map}
 use Rattle.wb_first.specs.Names.{First}
 use Rattle.wb_first.specs.Accepted.{is_accepted, is_map_expression, states_are_mapped, inputs_are_mapped}
 use Rattle.wb_first.proofs.Alike.{and_left, and_right}

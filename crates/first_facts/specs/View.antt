@@ -1,7 +1,7 @@
 -- The pure facts and obligations that the code's stand for.
 use Rattle.std.specs.Prelude.{map}
 use Rattle.std.specs.String.{string_bytes}
-use Rattle.wb_meaning.specs.Obligation as pure
+use Rattle.refinement.specs.Obligation as pure
 use Rattle.first_facts.specs.declared.facts.Fact.{Fact}
 use Rattle.first_facts.specs.declared.facts.Fact.TheVariants.{ResetActive, ResetInactive, Start, NoStart, Decoded, Commit, NoCommit, Initial, Same, OneDecodes, ResultOf, Never}
 use Rattle.first_facts.specs.declared.facts.Obligation.{Obligation}

@@ -1,7 +1,7 @@
 //! Whether values break an obligation, and whether they are a whole command.
 
 ghost use Rattle.std.specs.Prelude.{◌≡◌, map, slice_get};
-ghost use Rattle.wb_meaning.specs.Model.{instructions_in, states_of, state_named};
+ghost use Rattle.model_meaning.specs.Model.{instructions_in, states_of, state_named};
 ghost use Rattle.wb_first.specs.CaseView.{case_of};
 ghost use Rattle.wb_first.specs.Decided.{initial_met, result_at, state_of, start_point, same_value, is_met, all_met, is_broken, is_whole_command};
 ghost use Rattle.first_cycle.specs.Values.{valuation_at};

@@ -1,9 +1,9 @@
 //! What a model and a map have under a name.
 
 ghost use Rattle.std.specs.Prelude.{◌≡◌, option_map, map, slice_get};
-ghost use Rattle.wb_meaning.specs.Value.{entry_of};
-ghost use Rattle.wb_meaning.specs.Model.{is_input, state_named, instructions_in};
-ghost use Rattle.wb_meaning.specs.Map.{sort_of_state, sort_of_input, instruction_map};
+ghost use Rattle.wb_values.specs.Value.{entry_of};
+ghost use Rattle.model_meaning.specs.Model.{is_input, state_named, instructions_in};
+ghost use Rattle.refinement.specs.Map.{sort_of_state, sort_of_input, instruction_map};
 ghost use Rattle.first_json.specs.ModelView.{sort_view, value_view, state_view, input_view, instruction_view};
 ghost use Rattle.first_json.specs.View.{expression_of, entry_of_mapped, instruction_map_of};
 ghost use Rattle.wb_first.specs.CaseView.{case_of};

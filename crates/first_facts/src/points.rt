@@ -1,8 +1,8 @@
 //! The model's states and inputs in a cycle of the design.
 
 ghost use Rattle.std.specs.Prelude.{◌≡◌, ◌&&◌, ◌==◌, true, cond, slice_get};
-ghost use Rattle.wb_meaning.specs.Model.{instructions_in, valid_of, holds};
-ghost use Rattle.wb_meaning.specs.Map.{mapped_value, mapped_inputs};
+ghost use Rattle.model_meaning.specs.Model.{instructions_in, valid_of, holds};
+ghost use Rattle.refinement.specs.Map.{mapped_value, mapped_inputs};
 ghost use Rattle.first_json.specs.ModelView.{sort_view, value_view, instruction_view};
 ghost use Rattle.first_json.specs.View.{expression_of};
 ghost use Rattle.wb_first.specs.Names.{setting_of};

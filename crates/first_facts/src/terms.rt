@@ -1,10 +1,11 @@
 //! What a term is at a point: its value and its sort, for ill-sorted terms too.
 
 ghost use Rattle.std.specs.Prelude.{◌≡◌, ◌≤◌, option_map, map};
-ghost use Rattle.wb_meaning.specs.Value.{number as number_value, truth_value, as_truth, as_number, Valuation};
-ghost use Rattle.wb_meaning.specs.Number.{word_add};
-ghost use Rattle.wb_meaning.specs.Model.{holds, updated};
-ghost use Rattle.wb_meaning.specs.Term.{some_if, is_sort, const, bits_sort, same_bits_sort, same_word_sort, compared, sort_of, width_of_sort, complement, conjunction, is_equal, val};
+ghost use Rattle.wb_values.specs.Value.{number as number_value, truth_value, as_truth, as_number, Valuation};
+ghost use Rattle.wb_values.specs.Number.{word_add};
+ghost use Rattle.model_meaning.specs.Model.{holds, updated};
+ghost use Rattle.wb_values.specs.Choice.{some_if};
+ghost use Rattle.model_meaning.specs.Term.{is_sort, const, bits_sort, same_bits_sort, same_word_sort, compared, sort_of, width_of_sort, complement, conjunction, is_equal, val};
 ghost use Rattle.first_json.specs.ModelView.{sort_view, value_view, term_view, update_view, instruction_view};
 ghost use Rattle.wb_first.specs.Decided.{decode_count};
 

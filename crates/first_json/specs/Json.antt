@@ -1,7 +1,7 @@
 -- The data that the bytes of a file stand for, and looking into it.
 use Rattle.std.specs.Prelude.{ℕ, Bool, false, cond, ◌==◌, List, [], ◌∷◌, Option, Some, None, option_and_then}
 use Rattle.std.specs.Str.{is_utf8}
-use Rattle.wb_meaning.specs.Value.{Name}
+use Rattle.wb_values.specs.Value.{Name}
 use Rattle.serde_json.specs.Data.{Data, Items, no_items, item, Members}
 use Rattle.serde_json.specs.Read.{read}
 use Rattle.serde_json.specs.Find.{get, as_number, as_u64, as_array, as_object}

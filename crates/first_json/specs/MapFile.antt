@@ -1,10 +1,10 @@
 -- Map files of the first profile: the map that a file stands for.
 use Rattle.std.specs.Prelude.{ℕ, Bool, true, false, cond, ◌&&◌, ◌==◌, nat_le, List, [], Option, Some, None, option_and_then, codes}
-use Rattle.wb_meaning.specs.Value.{Name, Entries}
-use Rattle.wb_meaning.specs.Term.{some_if}
-use Rattle.wb_meaning.specs.Verilog.Syntax as syntax
-use Rattle.wb_meaning.specs.Verilog.Syntax.{Expression, whole}
-use Rattle.wb_meaning.specs.Map.{Map, InstructionMap}
+use Rattle.wb_values.specs.Value.{Name, Entries}
+use Rattle.wb_values.specs.Choice.{some_if}
+use Rattle.verilog_trees.specs.Syntax as syntax
+use Rattle.verilog_trees.specs.Syntax.{Expression, whole}
+use Rattle.refinement.specs.Map.{Map, InstructionMap}
 use Rattle.serde_json.specs.Data.{Data, Members, no_members, member, Items}
 use Rattle.serde_json.specs.Find.{as_str, as_object, as_array}
 use Rattle.serde_json.specs.Events.{items_len}
@@ -13,7 +13,7 @@ use Rattle.first_json.specs.Json.{document, has_members, option_if, under, unsig
 
 -- a plain decimal is a signed number of 32 bits without size
 abbrev pub decimal : ℕ → Expression
-decimal x = syntax.number (record { width = 32; sized = false; signed = true; value = x; unknown = 0; wild = 0 })
+decimal x = syntax.number (record { width = 32; sized = false; signed = true; value = x; unknown = 0; wild = 0; has_unknown = false; has_wild = false })
 
 -- the text of an identifier or of a plain decimal, and nothing else
 abbrev pub expression_of_text : List ℕ → Option Expression

@@ -1,13 +1,14 @@
 -- Model files of the first profile: the model that a file stands for.
 use Rattle.std.specs.Prelude.{ℕ, ◌^◌, Bool, true, false, cond, not, ◌&&◌, ◌||◌, ◌==◌, nat_lt, List, [], ◌∷◌, Option, Some, None, is_none, option_map, option_and_then, slice_index_or, codes}
-use Rattle.wb_meaning.specs.Value.{Name, same_name, Sort, truth, word, memory, Value, truth_value, number as number_value, Entries}
-use Rattle.wb_meaning.specs.Term as terms
-use Rattle.wb_meaning.specs.Term.{Term, is_width, same_sort, some_if, sort_of}
-use Rattle.wb_meaning.specs.Model.{StateDeclaration, InputDeclaration, Model, machine, Instruction, instruction, instruction_name, Instructions, no_instructions, and_then, no_child}
+use Rattle.wb_values.specs.Value.{Name, same_name, Sort, truth, word, memory, Value, truth_value, number as number_value, Entries}
+use Rattle.model_meaning.specs.Term as terms
+use Rattle.wb_values.specs.Choice.{some_if}
+use Rattle.model_meaning.specs.Term.{Term, is_width, same_sort, sort_of}
+use Rattle.model_meaning.specs.Model.{StateDeclaration, InputDeclaration, Model, machine, Instruction, instruction, instruction_name, Instructions, no_instructions, and_then, no_child}
 use Rattle.serde_json.specs.Data.{Data, null, boolean, number, string, array, object, Items, no_items, item, Members, no_members, member}
 use Rattle.serde_json.specs.Find.{at, as_str, as_bool, as_object}
-use Rattle.wb_meaning.specs.ModelFile.Names.{is_model_name}
-use Rattle.wb_meaning.specs.ModelFile.Shape.{with_hexadecimal_digits, are_hexadecimal_digits}
+use Rattle.wb_values.specs.Names.{is_model_name}
+use Rattle.model_files.specs.Shape.{with_hexadecimal_digits, are_hexadecimal_digits}
 use Rattle.first_json.specs.Json.{document, has_members, has_items, option_if, under, unsigned_in, with_first, list_in}
 
 -- ---- names, sorts and numbers

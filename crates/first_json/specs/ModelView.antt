@@ -2,10 +2,10 @@
 use Rattle.std.specs.Prelude.{List, map, Option, option_map, Vec}
 use Rattle.std.specs.Global.{Global}
 use Rattle.std.specs.String.{string_bytes}
-use Rattle.wb_meaning.specs.Value.{Name, Sort, truth, word, Value, truth_value, number, Entries}
-use Rattle.wb_meaning.specs.Term as terms
-use Rattle.wb_meaning.specs.Term.{Term}
-use Rattle.wb_meaning.specs.Model.{StateDeclaration, InputDeclaration, Model, machine, Instruction, instruction, no_child}
+use Rattle.wb_values.specs.Value.{Name, Sort, truth, word, Value, truth_value, number, Entries}
+use Rattle.model_meaning.specs.Term as terms
+use Rattle.model_meaning.specs.Term.{Term}
+use Rattle.model_meaning.specs.Model.{StateDeclaration, InputDeclaration, Model, machine, Instruction, instruction, no_child}
 use Rattle.first_json.specs.ModelFile.{declared_sort, instructions_from}
 use Rattle.first_json.specs.declared.declarations.Declarations.{Declarations}
 use Rattle.first_json.specs.declared.model.FirstSort.{FirstSort}

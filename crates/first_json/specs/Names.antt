@@ -1,8 +1,8 @@
 -- Names of Verilog and of models, and plain decimals, by their bytes.
 use Rattle.std.specs.Prelude.{ℕ, ◌+◌, ◌*◌, ◌-◌, ◌%◌, ◌^◌, Bool, not, ◌&&◌, ◌||◌, ◌==◌, cond, List, [], ◌∷◌}
 use Rattle.std.specs.List.{list_all}
-use Rattle.wb_meaning.specs.Words.{is_reserved}
-use Rattle.wb_meaning.specs.ModelFile.Names.{is_letter, is_digit, is_name_byte, begins_with}
+use Rattle.wb_values.specs.ReservedWords.{is_reserved}
+use Rattle.wb_values.specs.Names.{is_letter, is_digit, is_name_byte, begins_with}
 
 -- a letter, a digit, _ or $
 abbrev pub is_identifier_byte : ℕ → Bool

@@ -2,10 +2,10 @@
 use Rattle.std.specs.Prelude.{List, [], cond, map, Vec}
 use Rattle.std.specs.Global.{Global}
 use Rattle.std.specs.String.{string_bytes}
-use Rattle.wb_meaning.specs.Value.{Name, Entries}
-use Rattle.wb_meaning.specs.Verilog.Syntax as syntax
-use Rattle.wb_meaning.specs.Verilog.Syntax.{Expression, whole}
-use Rattle.wb_meaning.specs.Map.{Map, InstructionMap}
+use Rattle.wb_values.specs.Value.{Name, Entries}
+use Rattle.verilog_trees.specs.Syntax as syntax
+use Rattle.verilog_trees.specs.Syntax.{Expression, whole}
+use Rattle.refinement.specs.Map.{Map, InstructionMap}
 use Rattle.first_json.specs.MapFile.{decimal, Reset}
 use Rattle.first_json.specs.declared.map.FirstExpression.{FirstExpression}
 use Rattle.first_json.specs.declared.map.FirstExpression.TheVariants.{Identifier, Decimal}

@@ -1,7 +1,7 @@
 //! The declared names of a model and their sorts.
 
 ghost use Rattle.std.specs.Prelude.{◌≡◌, map, option_map, string_bytes};
-ghost use Rattle.wb_meaning.specs.Value.{same_name};
+ghost use Rattle.wb_values.specs.Value.{same_name};
 ghost use Rattle.first_json.specs.ModelFile.{input_sort, declared_sort, inputs_are_distinct, are_distinct, is_instruction_among, have_distinct_names};
 ghost use Rattle.first_json.specs.ModelView.{sort_view, state_view, input_view, instruction_view, scope_of, states_view, inputs_view};
 

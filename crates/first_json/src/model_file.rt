@@ -1,7 +1,7 @@
 //! Model files: from their bytes to the model.
 
 ghost use Rattle.std.specs.Prelude.{◌≡◌, codes, IfOk, option_map, string_bytes, []};
-ghost use Rattle.wb_meaning.specs.Value.{truth};
+ghost use Rattle.wb_values.specs.Value.{truth};
 ghost use Rattle.serde_json.specs.View.{view, members_view, items_view};
 ghost use Rattle.first_json.specs.Json.{all_in, list_in, under};
 ghost use Rattle.first_json.specs.ModelFile.{name_in, sort_in, initial_in, state_in, input_in, named, new_value, updates_in, update_in, instruction_in, model_in, model_of_bytes, body_in, declared_sort, term_of_sort};

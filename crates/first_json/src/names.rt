@@ -3,7 +3,7 @@
 ghost use Rattle.std.specs.Prelude.{◌≡◌, ◌<◌, ◌^◌, ◌*◌, ◌%◌, ◌∷◌, [], IsTrue};
 ghost use Rattle.std.specs.List.{list_all};
 ghost use Rattle.first_json.specs.Names.{is_identifier_byte, is_decimal_byte, is_identifier, is_decimal, decimal_value, with_digits};
-ghost use Rattle.wb_meaning.specs.ModelFile.Names.{is_digit, begins_with};
+ghost use Rattle.wb_values.specs.Names.{is_digit, begins_with};
 
 use wb_names::{begins_with_letter, is_digit, is_name_byte, is_reserved_word};
 

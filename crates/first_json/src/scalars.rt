@@ -2,10 +2,10 @@
 
 ghost use Rattle.std.specs.Prelude.{◌≡◌, ◌<◌, ◌^◌, nat_lt, codes, IsTrue, option_map};
 ghost use Rattle.std.specs.List.{list_all};
-ghost use Rattle.wb_meaning.specs.Term.{some_if};
-ghost use Rattle.wb_meaning.specs.Value.{same_name, truth, truth_value};
+ghost use Rattle.wb_values.specs.Choice.{some_if};
+ghost use Rattle.wb_values.specs.Value.{same_name, truth, truth_value};
 ghost use Rattle.serde_json.specs.View.{view};
-ghost use Rattle.wb_meaning.specs.ModelFile.Shape.{is_hexadecimal_digit, digit_value, with_hexadecimal_digits, are_hexadecimal_digits};
+ghost use Rattle.model_files.specs.Shape.{is_hexadecimal_digit, digit_value, with_hexadecimal_digits, are_hexadecimal_digits};
 ghost use Rattle.first_json.specs.ModelFile.{sort_from, sort_in, number_of_text, number_in, fitting, value_in};
 ghost use Rattle.first_json.specs.ModelView.{sort_view, value_view};
 

@@ -1,8 +1,9 @@
 //! Terms of a model file.
 
 ghost use Rattle.std.specs.Prelude.{◌≡◌, ◌<◌, ℕ, None, codes, slice_index_or, IfOk, option_map, option_and_then};
-ghost use Rattle.wb_meaning.specs.Value.{same_name};
-ghost use Rattle.wb_meaning.specs.Term.{some_if, is_sort, const, not, same_bits_sort, same_word_sort, compared, sort_of};
+ghost use Rattle.wb_values.specs.Value.{same_name};
+ghost use Rattle.wb_values.specs.Choice.{some_if};
+ghost use Rattle.model_meaning.specs.Term.{is_sort, const, not, same_bits_sort, same_word_sort, compared, sort_of};
 ghost use Rattle.serde_json.specs.Find.{at};
 ghost use Rattle.serde_json.specs.View.{view, items_view};
 ghost use Rattle.first_json.specs.Json.{unsigned_in};

@@ -4,9 +4,9 @@ use Rattle.std.specs.Prelude.{codes, decimal}
 use Rattle.std.proofs.lemmas.List.{append-nil}
 use Rattle.std.proofs.lemmas.Fmt.{decimal_digit}
 use mathlib.Core.Path.{ap₂}
-use Rattle.wb_meaning.specs.Value.{Name}
-use Rattle.wb_meaning.specs.Model.{Instruction, instruction_name, instruction_list, StateDeclaration}
-use Rattle.wb_meaning.specs.Obligation.{for_each, bound_obligation, commit_obligations, all_instruction_obligations, obligations, bound_named}
+use Rattle.wb_values.specs.Value.{Name}
+use Rattle.model_meaning.specs.Model.{Instruction, instruction_name, instruction_list, StateDeclaration}
+use Rattle.refinement.specs.Obligation.{for_each, bound_obligation, commit_obligations, all_instruction_obligations, obligations, bound_named}
 use Rattle.first_json.specs.ModelFile.{instructions_from}
 use Rattle.first_json.specs.ModelView.{state_view, instruction_view, first_model_of}
 use Rattle.first_json.specs.View.{map_of}

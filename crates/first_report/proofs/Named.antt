@@ -6,7 +6,7 @@ use Rattle.std.proofs.Math.Seq.{drop-cons}
 use Rattle.std.proofs.lemmas.List.{drop_all}
 use Rattle.std.proofs.lemmas.Bool.Decides.{nat_tests}
 use Rattle.std.specs.String.{string_bytes}
-use Rattle.wb_meaning.specs.Value.{Name, Value, number, Valuation, Entries, valuation_of, value_or_zero, entry_of, same_name}
+use Rattle.wb_values.specs.Value.{Name, Value, number, Valuation, Entries, valuation_of, value_or_zero, entry_of, same_name}
 use Rattle.wb_terms.specs.Environment.{named}
 use Rattle.first_check.specs.Bits.{name_of}
 use Rattle.first_check.specs.Found.{values_in}

@@ -4,12 +4,12 @@ use Rattle.std.specs.Prelude.{codes, count_by}
 use Rattle.std.proofs.lemmas.Bool.Decides.{nat_tests}
 use Rattle.std.proofs.lemmas.List.{map-append}
 use Rattle.std.proofs.lemmas.List.Sums.{sum_by-cons}
-use Rattle.wb_meaning.specs.Map.{Setting}
-use Rattle.wb_meaning.specs.Model.{Instruction, instruction_name, instructions_in}
-use Rattle.wb_meaning.specs.Obligation.{Obligation, obligations}
-use Rattle.wb_meaning.specs.Soundness.{AllHold, EveryRunRefines}
-use Rattle.wb_meaning.specs.Report as pure
-use Rattle.wb_meaning.specs.Report.{Verdict, proved, failed, unknown, AreVerdicts, AreCovers, verdict_text, cover_text, verdict_lines, cover_lines, count_proved, count_failed, count_unknown, total_line, spent_in, spent_in_covers, ending_of, IsReport}
+use Rattle.refinement.specs.Map.{Setting}
+use Rattle.model_meaning.specs.Model.{Instruction, instruction_name, instructions_in}
+use Rattle.refinement.specs.Obligation.{Obligation, obligations}
+use Rattle.refinement.specs.Soundness.{AllHold, EveryRunRefines}
+use Rattle.reports.specs.Report as pure
+use Rattle.reports.specs.Report.{Verdict, proved, failed, unknown, AreVerdicts, AreCovers, verdict_text, cover_text, verdict_lines, cover_lines, count_proved, count_failed, count_unknown, total_line, spent_in, spent_in_covers, ending_of, IsReport}
 use Rattle.wb_first.specs.Names.{First, setting_of}
 use Rattle.wb_first.specs.Accepted.{is_accepted}
 use Rattle.wb_first.specs.Claims.{HoldingRefines}

@@ -1,9 +1,9 @@
 -- The lines of a report, by what was found.
 use Rattle.std.specs.Prelude.{ℕ, List, [], ◌∷◌, ◌++◌, codes}
-use Rattle.wb_meaning.specs.Value.{Name}
-use Rattle.wb_meaning.specs.Model.{Instruction, instruction_name}
-use Rattle.wb_meaning.specs.Obligation.{Obligation}
-use Rattle.wb_meaning.specs.Report.{trace_text, unknown_text}
+use Rattle.wb_values.specs.Value.{Name}
+use Rattle.model_meaning.specs.Model.{Instruction, instruction_name}
+use Rattle.refinement.specs.Obligation.{Obligation}
+use Rattle.reports.specs.Report.{trace_text, unknown_text}
 use Rattle.first_trace.specs.Traced.{Names, trace_by}
 use Rattle.first_check.specs.Found.{values_in}
 use Rattle.first_check.specs.declared.names.BitName.{BitName}

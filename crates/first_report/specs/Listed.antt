@@ -1,8 +1,8 @@
 -- The obligations of a model whose reset takes one cycle and whose commits come at their start's own cycle.
 use Rattle.std.specs.Prelude.{ℕ, suc, List, [], ◌∷◌, ◌++◌, codes}
-use Rattle.wb_meaning.specs.Value.{Name}
-use Rattle.wb_meaning.specs.Model.{StateDeclaration, Instruction, instruction_name}
-use Rattle.wb_meaning.specs.Obligation.{Fact, reset_active, reset_inactive, start, no_start, decoded, commit, no_commit, initial, same, result_of, one_decodes, never, Obligation, state_obligations, with_initial_values}
+use Rattle.wb_values.specs.Value.{Name}
+use Rattle.model_meaning.specs.Model.{StateDeclaration, Instruction, instruction_name}
+use Rattle.refinement.specs.Obligation.{Fact, reset_active, reset_inactive, start, no_start, decoded, commit, no_commit, initial, same, result_of, one_decodes, never, Obligation, state_obligations, with_initial_values}
 
 abbrev pub initial_lines : List StateDeclaration → List Obligation
 initial_lines ds = state_obligations (codes "reset.init.") 1 (reset_active 0 ∷ []) (λ n. initial n 1) (with_initial_values ds)

@@ -1,6 +1,6 @@
 -- What shows that budgets were spent, among what was found.
 use Rattle.std.specs.Prelude.{List, [], ◌∷◌, ◌++◌}
-use Rattle.wb_meaning.specs.Encoding as encoding
+use Rattle.reports.specs.Encoding as encoding
 use Rattle.first_check.specs.Found.{spent_by}
 use Rattle.first_check.specs.declared.names.BitName.{BitName}
 use Rattle.first_check.specs.declared.findings.Finding as finding

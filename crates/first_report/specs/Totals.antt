@@ -1,6 +1,6 @@
 -- The total of what was found of obligations, and how the check ends.
 use Rattle.std.specs.Prelude.{ℕ, Bool, true, false, cond, nat_lt, List, [], ◌∷◌, ◌++◌, codes, decimal}
-use Rattle.wb_meaning.specs.Report as pure
+use Rattle.reports.specs.Report as pure
 use Rattle.first_check.specs.declared.findings.Finding.{Finding}
 use Rattle.first_check.specs.declared.findings.Finding.TheVariants.{Holds, Breaks, Spent}
 use Rattle.first_report.specs.declared.totals.Ending.{Ending}

@@ -1,8 +1,8 @@
 //! A check of an accepted case: its report.
 
 ghost use Rattle.std.specs.Prelude.{◌≡◌, ◌<◌, ◌++◌, length, map, vec_len, count_by, IfOk};
-ghost use Rattle.wb_meaning.specs.Report.{IsReport};
-ghost use Rattle.wb_meaning.specs.Soundness.{EveryRunRefines};
+ghost use Rattle.reports.specs.Report.{IsReport};
+ghost use Rattle.refinement.specs.Soundness.{EveryRunRefines};
 ghost use Rattle.first_json.specs.ModelView.{instruction_view};
 ghost use Rattle.first_facts.specs.View.{obligation_of};
 ghost use Rattle.wb_first.specs.Names.{setting_of};

@@ -1,7 +1,7 @@
 //! The lines of a report.
 
 ghost use Rattle.std.specs.Prelude.{◌≡◌, ◌++◌, [], ◌∷◌, map, length, codes, vec_len, OnOk};
-ghost use Rattle.wb_meaning.specs.Report.{trace_text, unknown_text};
+ghost use Rattle.reports.specs.Report.{trace_text, unknown_text};
 ghost use Rattle.first_json.specs.ModelView.{instruction_view};
 ghost use Rattle.first_facts.specs.View.{obligation_of};
 ghost use Rattle.first_trace.specs.Traced.{trace_by};

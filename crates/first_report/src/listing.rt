@@ -1,7 +1,7 @@
 //! The obligations of an accepted case, in order.
 
 ghost use Rattle.std.specs.Prelude.{◌≡◌, ◌++◌, [], ◌∷◌, map, codes, IfOk, OnOk, string_bytes};
-ghost use Rattle.wb_meaning.specs.Obligation.{obligations};
+ghost use Rattle.refinement.specs.Obligation.{obligations};
 ghost use Rattle.first_json.specs.ModelView.{state_view, instruction_view};
 ghost use Rattle.first_facts.specs.View.{fact_of, obligation_of};
 ghost use Rattle.wb_first.specs.CaseView.{case_of};

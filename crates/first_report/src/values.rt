@@ -1,7 +1,7 @@
 //! The values that break an obligation, by their names.
 
 ghost use Rattle.std.specs.Prelude.{◌≡◌, ◌≤◌, length, IfOk};
-ghost use Rattle.wb_meaning.specs.Value.{valuation_of};
+ghost use Rattle.wb_values.specs.Value.{valuation_of};
 ghost use Rattle.first_check.specs.Found.{values_in};
 
 use first_check::{BitName, NoMemory};

@@ -1,7 +1,8 @@
 -- A comparison of a chain of choices, value by value.
 use Rattle.std.proofs.Common.{◌≡◌, ℕ, ◌<◌, Bool, true, false, cond, ◌&&◌, List, [], ◌∷◌, ◌++◌, length, Option, Some, None, refl, sym, ap, ◌∙◌, subst, arith}
-use Rattle.wb_meaning.specs.Value.{Sort, truth, word, memory, Value, truth_value, Valuation, as_truth}
-use Rattle.wb_meaning.specs.Term.{Term, ite, same_sort, some_if, ite_sort, sort_of, is_equal, val}
+use Rattle.wb_values.specs.Value.{Sort, truth, word, memory, Value, truth_value, Valuation, as_truth}
+use Rattle.wb_values.specs.Choice.{some_if}
+use Rattle.model_meaning.specs.Term.{Term, ite, same_sort, ite_sort, sort_of, is_equal, val}
 use Rattle.std.specs.Prelude.{◌==◌}
 use Rattle.std.proofs.lemmas.Bool.{false≢true}
 use Rattle.std.proofs.lemmas.Bool.Decides.{nat_tests}

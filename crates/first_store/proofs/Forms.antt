@@ -4,10 +4,11 @@ use Rattle.std.specs.Prelude.{◌==◌}
 use Rattle.std.proofs.Math.Nat.{mod-eq_of_lt, div-one}
 use Rattle.std.proofs.Math.Pow.{pow_mono}
 use Rattle.std.proofs.lemmas.Bool.Decides.{nat_tests}
-use Rattle.wb_meaning.specs.Value.{Sort, truth, word, memory, Value, truth_value, number, words, Valuation, as_truth, as_number}
-use Rattle.wb_meaning.specs.Number.{word_not, word_and, word_add}
-use Rattle.wb_meaning.specs.Term.{Term, const, not, and, or, add, eq, extract, zext, ite, is_width, same_sort, some_if, bits_sort, same_bits_sort, same_word_sort, compared, extract_sort, extended_sort, ite_sort, sort_of, width_of_sort, complement, conjunction, disjunction, is_equal, val}
-use Rattle.wb_meaning.specs.Verilog.Expression.{is_nonzero}
+use Rattle.wb_values.specs.Value.{Sort, truth, word, memory, Value, truth_value, number, words, Valuation, as_truth, as_number}
+use Rattle.wb_values.specs.Number.{word_not, word_and, word_add}
+use Rattle.wb_values.specs.Choice.{some_if}
+use Rattle.model_meaning.specs.Term.{Term, const, not, and, or, add, eq, extract, zext, ite, is_width, same_sort, bits_sort, same_bits_sort, same_word_sort, compared, extract_sort, extended_sort, ite_sort, sort_of, width_of_sort, complement, conjunction, disjunction, is_equal, val}
+use Rattle.verilog_meaning.specs.Expression.{is_nonzero}
 use Rattle.wb_terms.specs.Graph.{Graph, tree}
 use Rattle.sat_gates.specs.Names.{is_blastable}
 use Rattle.wb_first.specs.Names.{First}

@@ -4,8 +4,8 @@ use Rattle.std.specs.Prelude.{Result, Ok, Err, IfOk}
 use Rattle.std.proofs.lemmas.List.{append-nil}
 use Rattle.std.proofs.Math.ListN.{get_or-append}
 use Rattle.std.proofs.Math.Seq.{get_or-append_seam}
-use Rattle.wb_meaning.specs.Value.{Sort, Value, Valuation}
-use Rattle.wb_meaning.specs.Term.{Term, constant_truth, val, sort_of}
+use Rattle.wb_values.specs.Value.{Sort, Value, Valuation}
+use Rattle.model_meaning.specs.Term.{Term, constant_truth, val, sort_of}
 use Rattle.wb_terms.specs.Graph.{Graph, tree, tree_at, trees_of, tree_of_node, with_node}
 use Rattle.wb_terms.specs.declared.nodes.Node.{Node}
 use Rattle.wb_terms.proofs.StoreLemmas.{length-trees_of}

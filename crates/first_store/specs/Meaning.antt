@@ -1,7 +1,7 @@
 -- What terms of a store mean: their sorts, and their values under values of registers and inputs.
 use Rattle.std.specs.Prelude.{◌≡◌, ℕ, ◌<◌, Bool, true, List, ◌++◌, length, Some}
-use Rattle.wb_meaning.specs.Value.{Sort, truth, word, Value, truth_value, number, Valuation}
-use Rattle.wb_meaning.specs.Term.{Term, val, sort_of}
+use Rattle.wb_values.specs.Value.{Sort, truth, word, Value, truth_value, number, Valuation}
+use Rattle.model_meaning.specs.Term.{Term, val, sort_of}
 use Rattle.wb_terms.specs.Graph.{Graph, tree, trees_of}
 use Rattle.sat_gates.specs.Names.{is_blastable}
 use Rattle.wb_first.specs.Names.{First}

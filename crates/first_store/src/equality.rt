@@ -1,8 +1,8 @@
 //! Whether two terms have one value.
 
 ghost use Rattle.std.specs.Prelude.{IfOk};
-ghost use Rattle.wb_meaning.specs.Value.{Sort, truth, Value, Valuation};
-ghost use Rattle.wb_meaning.specs.Term.{is_equal};
+ghost use Rattle.wb_values.specs.Value.{Sort, truth, Value, Valuation};
+ghost use Rattle.model_meaning.specs.Term.{is_equal};
 ghost use Rattle.wb_first.specs.Names.{First};
 ghost use Rattle.first_store.specs.Meaning.{Grows, IsOfSort, Means, MeansTruth};
 

@@ -1,7 +1,7 @@
 //! Putting a node into a store.
 
 ghost use Rattle.std.specs.Prelude.{◌≡◌, ◌<◌, length, true, IfOk, IsSome};
-ghost use Rattle.wb_meaning.specs.Term.{sort_of};
+ghost use Rattle.model_meaning.specs.Term.{sort_of};
 ghost use Rattle.wb_terms.specs.Graph.{IsOver, tree, tree_of_node};
 ghost use Rattle.first_store.specs.Meaning.{Grows};
 

@@ -1,7 +1,7 @@
 //! Truth values of terms, and choices by them.
 
 ghost use Rattle.std.specs.Prelude.{Bool, not, ◌&&◌, ◌||◌, cond, IfOk};
-ghost use Rattle.wb_meaning.specs.Value.{Sort, truth, Value, Valuation};
+ghost use Rattle.wb_values.specs.Value.{Sort, truth, Value, Valuation};
 ghost use Rattle.wb_first.specs.Names.{First};
 ghost use Rattle.first_store.specs.Meaning.{Grows, IsOfSort, Means, MeansTruth};
 

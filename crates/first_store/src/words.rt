@@ -1,9 +1,9 @@
 //! Numbers of terms.
 
 ghost use Rattle.std.specs.Prelude.{ℕ, ◌<◌, ◌≤◌, ◌%◌, ◌^◌, IfOk};
-ghost use Rattle.wb_meaning.specs.Value.{truth, word, Valuation};
-ghost use Rattle.wb_meaning.specs.Number.{word_not, word_and, word_add};
-ghost use Rattle.wb_meaning.specs.Verilog.Expression.{is_nonzero};
+ghost use Rattle.wb_values.specs.Value.{truth, word, Valuation};
+ghost use Rattle.wb_values.specs.Number.{word_not, word_and, word_add};
+ghost use Rattle.verilog_meaning.specs.Expression.{is_nonzero};
 ghost use Rattle.wb_first.specs.Names.{First};
 ghost use Rattle.wb_first.specs.Claims.{AreValues};
 ghost use Rattle.first_store.specs.Meaning.{Grows, IsOfSort, MeansTruth, MeansNumber};

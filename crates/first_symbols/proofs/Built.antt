@@ -2,7 +2,7 @@
 use Rattle.std.proofs.Common.{◌≡◌, ℕ, ◌<◌, ◌^◌, Bool, true, false, not, cond, ◌&&◌, ◌||◌, List, [], ◌∷◌, ◌++◌, Option, Some, None, refl, sym, ap, ◌∙◌, subst}
 use Rattle.std.specs.Prelude.{is_some, Contains, ◌↔◌}
 use Rattle.std.proofs.lemmas.List.{append-nil}
-use Rattle.wb_meaning.specs.Value.{Name, same_name, Sort, Value, number, word, as_number, Valuation, Entries, entry_of}
+use Rattle.wb_values.specs.Value.{Name, same_name, Sort, Value, number, word, as_number, Valuation, Entries, entry_of}
 use Rattle.wb_terms.specs.Graph.{Graph}
 use Rattle.first_text.specs.Tree as trees
 use Rattle.first_text.specs.Tree.{Port, Part, register, assignment, clocked, Action}

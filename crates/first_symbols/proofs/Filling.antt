@@ -3,7 +3,7 @@ use Rattle.std.proofs.Common.{◌≡◌, ℕ, ◌+◌, ◌<◌, Bool, true, fals
 use Rattle.std.proofs.Math.Seq.{drop-cons}
 use Rattle.std.proofs.Math.Pow.{pow_pos}
 use Rattle.std.proofs.lemmas.Slice.Eq.{bytes_eq-Decides}
-use Rattle.wb_meaning.specs.Value.{Name, same_name, as_number, Valuation, Entries, entry_of}
+use Rattle.wb_values.specs.Value.{Name, same_name, as_number, Valuation, Entries, entry_of}
 use Rattle.wb_terms.specs.Graph.{Graph}
 use Rattle.first_text.specs.Tree as trees
 use Rattle.wb_first.specs.Names.{First, is_declared, bits_of_name, assigned}

@@ -3,8 +3,8 @@ use Rattle.std.proofs.Common.{◌≡◌, ℕ, ◌<◌, ◌≤◌, ◌^◌, ◌%�
 use mathlib.Core.Path.{ap₂}
 use Rattle.std.proofs.Math.Nat.{mod-eq_of_lt}
 use Rattle.std.proofs.Math.Pow.{pow_mono, pow_pos}
-use Rattle.wb_meaning.specs.Value.{Name, word, number, truth, truth_value, Valuation}
-use Rattle.wb_meaning.specs.Verilog.Expression.{bit, is_nonzero}
+use Rattle.wb_values.specs.Value.{Name, word, number, truth, truth_value, Valuation}
+use Rattle.verilog_meaning.specs.Expression.{bit, is_nonzero}
 use Rattle.wb_terms.specs.Graph.{Graph}
 use Rattle.first_text.specs.Tree.{Primary, Term, single, sum, equality}
 use Rattle.wb_first.specs.Names.{First, scope_of_first, bits_of_name, is_declared}

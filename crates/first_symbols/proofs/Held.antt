@@ -7,8 +7,9 @@ use Rattle.std.proofs.lemmas.Bool.Decides.{nat_tests}
 use Rattle.std.proofs.lemmas.Slice.Eq.{bytes_eq-Decides}
 use Rattle.std.proofs.Math.ListN.{get_or-append}
 use Rattle.std.proofs.Math.Pow.{pow_pos}
-use Rattle.wb_meaning.specs.Value.{Name, same_name, Sort, Value, number, word, as_number, Valuation, Entries, entry_of}
-use Rattle.wb_meaning.specs.Term.{Term, name, constant_truth, val, sort_of, some_if, is_width}
+use Rattle.wb_values.specs.Value.{Name, same_name, Sort, Value, number, word, as_number, Valuation, Entries, entry_of}
+use Rattle.wb_values.specs.Choice.{some_if}
+use Rattle.model_meaning.specs.Term.{Term, name, constant_truth, val, sort_of, is_width}
 use Rattle.wb_terms.specs.declared.nodes.TermId.{TermId}
 use Rattle.wb_terms.specs.Graph.{Graph, tree, tree_at, trees_of}
 use Rattle.wb_terms.proofs.StoreLemmas.{length-trees_of}

@@ -9,8 +9,8 @@ use Rattle.std.specs.BTreeSet as sorted
 use Rattle.std.specs.BTreeSet.{BTreeSet}
 use Rattle.std.proofs.lemmas.Slice.Eq.{bytes_eq-Decides}
 use Rattle.std.proofs.lemmas.Map.Text.{is_eq-slice_cmp, btree_map_updates_str}
-use Rattle.wb_meaning.specs.Value.{Name, same_name}
-use Rattle.wb_meaning.specs.Verilog.Hierarchy.{first_of}
+use Rattle.wb_values.specs.Value.{Name, same_name}
+use Rattle.wb_values.specs.Choice.{first_of}
 use Rattle.first_symbols.specs.Table.{under_name, has_name}
 use Rattle.wb_terms.specs.declared.nodes.TermId.{TermId}
 

@@ -3,9 +3,9 @@ use Rattle.std.proofs.Common.{◌≡◌, ℕ, ◌+◌, ◌<◌, ◌≤◌, ◌^�
 use Rattle.std.specs.Prelude.{◌==◌}
 use Rattle.std.proofs.Math.Nat.{mod-eq_of_lt, add-mod}
 use Rattle.std.proofs.Math.Pow.{pow_mono}
-use Rattle.wb_meaning.specs.Value.{Name, word, number, truth, truth_value, as_number, Valuation}
-use Rattle.wb_meaning.specs.Number.{word_add, word_sext}
-use Rattle.wb_meaning.specs.Term.{is_equal}
+use Rattle.wb_values.specs.Value.{Name, word, number, truth, truth_value, as_number, Valuation}
+use Rattle.wb_values.specs.Number.{word_add, word_sext}
+use Rattle.model_meaning.specs.Term.{is_equal}
 use Rattle.wb_terms.specs.Graph.{Graph}
 use Rattle.first_text.specs.Tree.{Primary, identifier, decimal}
 use Rattle.wb_first.specs.Names.{First, scope_of_first}

@@ -1,6 +1,6 @@
 -- Terms that stand for numbers, where the store grows and where names get other terms.
 use Rattle.std.proofs.Common.{◌≡◌, ℕ, ◌<◌, ◌≤◌, ◌^◌, Bool, true, false, cond, Option, Some, None, sym, ap, ◌∙◌, subst}
-use Rattle.wb_meaning.specs.Value.{Name, same_name, number, word, Valuation}
+use Rattle.wb_values.specs.Value.{Name, same_name, number, word, Valuation}
 use Rattle.wb_terms.specs.Graph.{Graph, tree}
 use Rattle.wb_first.specs.Names.{First, bits_of_name}
 use Rattle.first_store.specs.Meaning.{Grows, IsOfSort}

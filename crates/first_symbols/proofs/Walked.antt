@@ -1,7 +1,7 @@
 -- What assignments, branches and runs of statements make of the terms that wait.
 use Rattle.std.proofs.Common.{◌≡◌, ℕ, ◌+◌, ◌<◌, ◌^◌, Bool, true, false, not, cond, ◌&&◌, suc, List, [], ◌∷◌, ◌++◌, length, get_or, drop, Option, Some, None, refl, sym, ap, ◌∙◌, subst, add-one}
 use Rattle.std.proofs.Math.Seq.{drop-cons}
-use Rattle.wb_meaning.specs.Value.{Name, same_name, Sort, Value, number, truth, truth_value, word, as_number, Valuation}
+use Rattle.wb_values.specs.Value.{Name, same_name, Sort, Value, number, truth, truth_value, word, as_number, Valuation}
 use Rattle.wb_terms.specs.Graph.{Graph}
 use Rattle.first_text.specs.Tree as trees
 use Rattle.first_text.specs.Tree.{Term}

@@ -1,7 +1,7 @@
 -- Tables that get their terms name by name.
 use Rattle.std.specs.Borrow.{Bor}
 use Rattle.std.specs.Prelude.{◌≡◌, ℕ, true, false, List, map, Option, Some}
-use Rattle.wb_meaning.specs.Value.{Name, same_name, Valuation}
+use Rattle.wb_values.specs.Value.{Name, same_name, Valuation}
 use Rattle.wb_terms.specs.Graph.{Graph}
 use Rattle.wb_first.specs.Names.{First, is_declared, bits_of_name}
 use Rattle.wb_first.specs.Accepted.{is_among}

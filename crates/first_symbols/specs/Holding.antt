@@ -1,7 +1,7 @@
 -- Tables in which registers and inputs stand for themselves, and all else is 0.
 use Rattle.std.specs.Prelude.{◌≡◌, ℕ, true, is_some, ◌⊎◌, List, ◌++◌, Contains, Option, Some}
-use Rattle.wb_meaning.specs.Value.{Name, word, Sort, as_number}
-use Rattle.wb_meaning.specs.Term.{Term}
+use Rattle.wb_values.specs.Value.{Name, word, Sort, as_number}
+use Rattle.model_meaning.specs.Term.{Term}
 use Rattle.wb_terms.specs.Graph.{Graph, trees_of}
 use Rattle.wb_first.specs.Names.{First, bits_of_name}
 use Rattle.wb_first.specs.Accepted.{is_source}

@@ -1,7 +1,7 @@
 -- What an operand that a term holds is, where names have terms.
 use Rattle.std.specs.Prelude.{◌≡◌, ℕ, ◌<◌, ◌^◌, Bool, true, false, cond}
-use Rattle.wb_meaning.specs.Value.{Name, word, as_number, Valuation}
-use Rattle.wb_meaning.specs.Number.{word_sext}
+use Rattle.wb_values.specs.Value.{Name, word, as_number, Valuation}
+use Rattle.wb_values.specs.Number.{word_sext}
 use Rattle.wb_terms.specs.Graph.{Graph}
 use Rattle.first_text.specs.Tree.{Primary, identifier, decimal}
 use Rattle.wb_first.specs.Names.{First, scope_of_first, bits_of_name}

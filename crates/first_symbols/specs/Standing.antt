@@ -1,6 +1,6 @@
 -- Terms that stand for the numbers of names.
 use Rattle.std.specs.Prelude.{◌≡◌, ℕ, ◌<◌, ◌^◌, true, Option, Some}
-use Rattle.wb_meaning.specs.Value.{Name, word, Valuation}
+use Rattle.wb_values.specs.Value.{Name, word, Valuation}
 use Rattle.wb_terms.specs.Graph.{Graph}
 use Rattle.wb_first.specs.Names.{First, is_declared, bits_of_name}
 use Rattle.wb_first.specs.Claims.{AreValues}

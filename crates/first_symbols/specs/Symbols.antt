@@ -1,6 +1,6 @@
 -- Terms for the names of a module at a cycle.
 use Rattle.std.specs.Prelude.{◌≡◌, ◌↔◌, ℕ, true, Contains, Option, Some}
-use Rattle.wb_meaning.specs.Value.{Name, Sort, word, as_number, Valuation, Entries}
+use Rattle.wb_values.specs.Value.{Name, Sort, word, as_number, Valuation, Entries}
 use Rattle.wb_terms.specs.Graph.{Graph}
 use Rattle.wb_first.specs.Names.{First, is_declared, bits_of_name}
 use Rattle.wb_first.specs.Accepted.{is_source}

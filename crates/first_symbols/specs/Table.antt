@@ -5,7 +5,7 @@ use Rattle.std.specs.Ordering.{nat_cmp}
 use Rattle.std.specs.Cmp.Lexicographic.{slice_cmp}
 use Rattle.std.specs.BTreeMap.{BTreeMap, get_by}
 use Rattle.std.specs.BTreeSet.{BTreeSet, contains_by}
-use Rattle.wb_meaning.specs.Value.{Name}
+use Rattle.wb_values.specs.Value.{Name}
 use Rattle.first_symbols.specs.declared.table.Symbols.{Symbols}
 
 abbrev pub ids_of : Symbols → Name → Option ℕ

@@ -1,6 +1,6 @@
 -- What a walk over statements makes of the terms that wait for the clock's edge.
 use Rattle.std.specs.Prelude.{◌≡◌, ℕ, Bool, true, not, ◌&&◌, cond, List, [], ◌∷◌, ◌++◌, Option}
-use Rattle.wb_meaning.specs.Value.{Name, as_number, Valuation}
+use Rattle.wb_values.specs.Value.{Name, as_number, Valuation}
 use Rattle.wb_terms.specs.Graph.{Graph}
 use Rattle.first_text.specs.Tree.{Term, Part, clocked}
 use Rattle.wb_first.specs.Names.{First, is_declared}

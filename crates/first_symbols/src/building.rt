@@ -1,7 +1,7 @@
 //! The terms of a module's names at the two cycles of an obligation.
 
 ghost use Rattle.std.specs.Prelude.{◌≡◌, [], IfOk, OnOk};
-ghost use Rattle.wb_meaning.specs.Value.{as_number};
+ghost use Rattle.wb_values.specs.Value.{as_number};
 ghost use Rattle.first_store.specs.Meaning.{Grows};
 ghost use Rattle.first_symbols.specs.Filling.{texts, AreAllNames};
 ghost use Rattle.first_symbols.specs.Standing.{AreStanding, AreWords};

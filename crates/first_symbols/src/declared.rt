@@ -1,8 +1,8 @@
 //! What a module says of each name, as tables by names.
 
 ghost use Rattle.std.specs.Prelude.{◌≡◌, ◌∷◌, [], ◌||◌, ℕ, List, IfOk, OnOk, map, option_map, cond, Some, None};
-ghost use Rattle.wb_meaning.specs.Value.{entry_of, same_name};
-ghost use Rattle.wb_meaning.specs.Verilog.Hierarchy.{first_of};
+ghost use Rattle.wb_values.specs.Value.{entry_of, same_name};
+ghost use Rattle.wb_values.specs.Choice.{first_of};
 ghost use Rattle.wb_first.specs.Names.{port_named, assigned_among, is_set_among, sets, one_sets};
 ghost use Rattle.first_text.specs.View.{port_of, part_of, term_of, bounds_of, action_of, actions_of};
 ghost use Rattle.first_cycle.specs.Widths.{port_bounds, part_bounds};

@@ -1,7 +1,7 @@
 //! What the clocked block makes of the terms that wait for the clock's edge (1364-2005, 9.2.2 and 9.5).
 
 ghost use Rattle.std.specs.Prelude.{◌≡◌, ℕ, true, not, ◌&&◌, ◌∷◌, [], map, Bool, OnOk, IfOk};
-ghost use Rattle.wb_meaning.specs.Value.{truth, word, as_number, Valuation};
+ghost use Rattle.wb_values.specs.Value.{truth, word, as_number, Valuation};
 ghost use Rattle.first_text.specs.View.{term_of, action_of, actions_of, part_of};
 ghost use Rattle.wb_first.specs.Names.{First, is_declared, bits_of_name};
 ghost use Rattle.wb_first.specs.Accepted.{all_names, term_names, read_names, all_read_names};

@@ -1,8 +1,8 @@
 //! A module's expressions as terms: what they give a target, and whether they are true (1364-2005, 5.4 and 5.5).
 
 ghost use Rattle.std.specs.Prelude.{◌≡◌, ◌≤◌, ◌%◌, ◌^◌, true, IfOk, ℕ, Bool};
-ghost use Rattle.wb_meaning.specs.Value.{word, truth, as_number, Valuation};
-ghost use Rattle.wb_meaning.specs.Verilog.Expression.{bit};
+ghost use Rattle.wb_values.specs.Value.{word, truth, as_number, Valuation};
+ghost use Rattle.verilog_meaning.specs.Expression.{bit};
 ghost use Rattle.first_text.specs.Tree.{equality};
 ghost use Rattle.first_text.specs.View.{primary_of, term_of};
 ghost use Rattle.wb_first.specs.Names.{First, scope_of_first, is_declared};

@@ -1,8 +1,8 @@
 //! The declared names of a module, and their terms before any assignment.
 
 ghost use Rattle.std.specs.Prelude.{◌≡◌, ◌≤◌, ◌<◌, ◌||◌, ◌++◌, ◌∷◌, [], ℕ, true, None, is_some, length, map, IfOk, OnOk, string_bytes};
-ghost use Rattle.wb_meaning.specs.Value.{Name, word, same_name, entry_of};
-ghost use Rattle.wb_meaning.specs.Term.{name as leaf};
+ghost use Rattle.wb_values.specs.Value.{Name, word, same_name, entry_of};
+ghost use Rattle.model_meaning.specs.Term.{name as leaf};
 ghost use Rattle.wb_terms.specs.Graph.{tree, trees_of, with_name};
 ghost use Rattle.first_text.specs.View.{port_of, part_of};
 ghost use Rattle.wb_first.specs.CaseView.{case_of};

@@ -1,7 +1,7 @@
 //! What the module of an accepted case says of a name.
 
 ghost use Rattle.std.specs.Prelude.{◌≡◌, ◌≤◌, ◌||◌, ◌&&◌, not, ℕ, List, IfOk, option_map};
-ghost use Rattle.wb_meaning.specs.Value.{entry_of, same_name};
+ghost use Rattle.wb_values.specs.Value.{entry_of, same_name};
 ghost use Rattle.wb_first.specs.CaseView.{case_of};
 ghost use Rattle.wb_first.specs.Names.{port_named, assigned, is_register, is_input, bits_of_name};
 ghost use Rattle.first_text.specs.View.{port_of, term_of, bounds_of};

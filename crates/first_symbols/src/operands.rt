@@ -1,8 +1,8 @@
 //! Operands of a module's expressions: decimals, and terms of names (1364-2005, 5.4 and 5.5).
 
 ghost use Rattle.std.specs.Prelude.{◌≡◌, ◌≤◌, ◌<◌, ◌%◌, ◌^◌, true, IfOk, ℕ, max, ◌&&◌};
-ghost use Rattle.wb_meaning.specs.Value.{Name, word, truth, as_number, Valuation};
-ghost use Rattle.wb_meaning.specs.Number.{word_sext};
+ghost use Rattle.wb_values.specs.Value.{Name, word, truth, as_number, Valuation};
+ghost use Rattle.wb_values.specs.Number.{word_sext};
 ghost use Rattle.first_text.specs.Tree as trees;
 ghost use Rattle.first_text.specs.View.{primary_of};
 ghost use Rattle.wb_first.specs.Names.{First, scope_of_first, is_declared};

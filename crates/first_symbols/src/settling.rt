@@ -1,7 +1,7 @@
 //! The terms of all names where some have theirs: assigned names, and the names behind the clock's edge.
 
 ghost use Rattle.std.specs.Prelude.{◌≡◌, ℕ, true, cond, IfOk, OnOk, Some};
-ghost use Rattle.wb_meaning.specs.Value.{Name, word, as_number, Valuation};
+ghost use Rattle.wb_values.specs.Value.{Name, word, as_number, Valuation};
 ghost use Rattle.wb_terms.specs.Graph.{Graph};
 ghost use Rattle.wb_first.specs.CaseView.{case_of};
 ghost use Rattle.wb_first.specs.Cycle.{held, settled};

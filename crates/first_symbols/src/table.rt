@@ -1,7 +1,7 @@
 //! Terms by names.
 
 ghost use Rattle.std.specs.Prelude.{◌≡◌, ℕ, List, None, Some, cond, option_map, IfOk, OnOk};
-ghost use Rattle.wb_meaning.specs.Value.{same_name};
+ghost use Rattle.wb_values.specs.Value.{same_name};
 ghost use Rattle.first_symbols.specs.Table.{ids_of};
 
 use crate::NoMemory;

@@ -1,7 +1,7 @@
 //! Tests: what a clocked block leaves of a register, by hand.
 
 ghost use Rattle.std.specs.Prelude.{◌≡◌, ◌<◌, [], length, IfOk};
-ghost use Rattle.wb_meaning.specs.Value.{truth};
+ghost use Rattle.wb_values.specs.Value.{truth};
 ghost use Rattle.first_store.specs.Meaning.{Grows, IsOfSort};
 ghost use Rattle.first_symbols.specs.Standing.{AreWords};
 ghost use Rattle.first_symbols.specs.Table.{ids_of};

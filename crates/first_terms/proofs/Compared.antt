@@ -1,7 +1,7 @@
 -- Values of one kind are the same where they are equal.
 use Rattle.std.proofs.Common.{◌≡◌, refl}
-use Rattle.wb_meaning.specs.Value.{Sort, truth, word, memory, Value, truth_value, number, words}
-use Rattle.wb_meaning.specs.Term.{is_equal}
+use Rattle.wb_values.specs.Value.{Sort, truth, word, memory, Value, truth_value, number, words}
+use Rattle.model_meaning.specs.Term.{is_equal}
 use Rattle.wb_first.specs.Decided.{same_value}
 use Rattle.first_terms.specs.Read.{IsOfKind}
 

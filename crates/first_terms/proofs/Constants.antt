@@ -2,7 +2,7 @@
 use Rattle.std.proofs.Common.{◌≡◌, ℕ, ◌<◌, ◌^◌, Bool, true, false, refl, arith}
 use Rattle.std.specs.Prelude.{nat_lt}
 use Rattle.std.proofs.lemmas.Bool.Decides.{nat_tests}
-use Rattle.wb_meaning.specs.Value.{Sort, truth, word, memory, Value, truth_value, number, words, is_of_sort}
+use Rattle.wb_values.specs.Value.{Sort, truth, word, memory, Value, truth_value, number, words, is_of_sort}
 use Rattle.first_terms.specs.Read.{IsOfKind}
 
 pub truth_only : (s : Sort) (b : Bool) → is_of_sort s (truth_value b) ≡ true → s ≡ truth

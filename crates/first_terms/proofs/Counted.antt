@@ -2,9 +2,9 @@
 use Rattle.std.proofs.Common.{◌≡◌, ℕ, suc, ◌+◌, Bool, true, false, cond, ◌&&◌, List, [], ◌∷◌, refl, sym, ap, ◌∙◌, arith}
 use Rattle.std.specs.Prelude.{not, ◌==◌}
 use Rattle.std.proofs.lemmas.Bool.Decides.{nat_tests}
-use Rattle.wb_meaning.specs.Value.{truth, truth_value, Valuation}
-use Rattle.wb_meaning.specs.Model.{Instruction, decode_of}
-use Rattle.wb_meaning.specs.Obligation.{Fact}
+use Rattle.wb_values.specs.Value.{truth, truth_value, Valuation}
+use Rattle.model_meaning.specs.Model.{Instruction, decode_of}
+use Rattle.refinement.specs.Obligation.{Fact}
 use Rattle.wb_terms.specs.Graph.{Graph}
 use Rattle.wb_first.specs.Names.{First}
 use Rattle.first_store.specs.Meaning.{Grows, IsOfSort, Means, MeansTruth}

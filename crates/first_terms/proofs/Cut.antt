@@ -1,8 +1,8 @@
 -- A store that is cut to its first part and then grows keeps the terms that all obligations share.
 use Rattle.std.proofs.Common.{◌≡◌, ◌∙◌, ℕ, ◌<◌, length, take, Option, false, sym, ap, subst, arith}
 use Rattle.std.proofs.lemmas.List.{length-take, get_or-take}
-use Rattle.wb_meaning.specs.Value.{Name, Valuation}
-use Rattle.wb_meaning.specs.Term.{constant_truth, val, sort_of}
+use Rattle.wb_values.specs.Value.{Name, Valuation}
+use Rattle.model_meaning.specs.Term.{constant_truth, val, sort_of}
 use Rattle.sat_gates.specs.Names.{is_blastable}
 use Rattle.wb_terms.specs.Graph.{Graph, tree, tree_at, trees_of}
 use Rattle.wb_first.specs.Names.{First}

@@ -2,11 +2,11 @@
 use Rattle.std.proofs.Common.{◌≡◌, ℕ, Bool, true, false, cond, ◌&&◌, List, [], ◌∷◌, Bor, Option, Some, None, refl, sym, ap, ◌∙◌, subst}
 use Rattle.std.specs.BTreeMap.{BTreeMap, IsEmpty}
 use Rattle.std.proofs.Common.{rules}
-use Rattle.wb_meaning.specs.Value.{Name, same_name, Sort, Valuation, Entries, entry_of}
-use Rattle.wb_meaning.specs.Verilog.Syntax.{Expression}
-use Rattle.wb_meaning.specs.Verilog.Hierarchy.{first_of}
-use Rattle.wb_meaning.specs.Map.{sort_of_input}
-use Rattle.wb_meaning.specs.Model.{states_of}
+use Rattle.wb_values.specs.Value.{Name, same_name, Sort, Valuation, Entries, entry_of}
+use Rattle.verilog_trees.specs.Syntax.{Expression}
+use Rattle.wb_values.specs.Choice.{first_of}
+use Rattle.refinement.specs.Map.{sort_of_input}
+use Rattle.model_meaning.specs.Model.{states_of}
 use Rattle.wb_terms.specs.Graph.{Graph}
 use Rattle.wb_terms.specs.declared.nodes.TermId.{TermId}
 use Rattle.wb_first.specs.Names.{First}

@@ -2,11 +2,11 @@
 use Rattle.std.proofs.Common.{◌≡◌, ℕ, true, false, cond, ◌&&◌, [], ◌∷◌, Option, Some, None, refl, sym, ap, ◌∙◌, subst}
 use mathlib.Core.Path.{ap₂}
 use Rattle.std.specs.Prelude.{not, ◌==◌, slice_get}
-use Rattle.wb_meaning.specs.Value.{Name, Sort, truth, word, memory, Value, truth_value, number, as_number, Valuation, Entries, entry_of, is_of_sort}
-use Rattle.wb_meaning.specs.Term.{Term, is_equal, val}
-use Rattle.wb_meaning.specs.Model.{Instruction, decode_of, valid_of, instructions_in, states_of, state_named, StateDeclaration, updated_value}
-use Rattle.wb_meaning.specs.Map.{mapped_or_zero}
-use Rattle.wb_meaning.specs.Obligation.{reset_active, reset_inactive, start, no_start, decoded, commit, no_commit, initial, same, one_decodes, result_of, never}
+use Rattle.wb_values.specs.Value.{Name, Sort, truth, word, memory, Value, truth_value, number, as_number, Valuation, Entries, entry_of, is_of_sort}
+use Rattle.model_meaning.specs.Term.{Term, is_equal, val}
+use Rattle.model_meaning.specs.Model.{Instruction, decode_of, valid_of, instructions_in, states_of, state_named, StateDeclaration, updated_value}
+use Rattle.refinement.specs.Map.{mapped_or_zero}
+use Rattle.refinement.specs.Obligation.{reset_active, reset_inactive, start, no_start, decoded, commit, no_commit, initial, same, one_decodes, result_of, never}
 use Rattle.wb_terms.specs.Graph.{Graph}
 use Rattle.wb_first.specs.Names.{First, setting_of}
 use Rattle.wb_first.specs.Accepted.{is_accepted, state_sort, are_updates, updates_of, is_term_of, is_initial_of, are_states, are_instructions}
@@ -142,8 +142,8 @@ update_found : (f : First) (us : Entries Term) → are_updates f us ≡ true →
     → is_term_of f (state_sort (states_of f.model.top) n) e ≡ true
 update_found f [] h n e is_e = cc
 update_found f (u ∷ us) h n e is_e =
-    (elim (Rattle.wb_meaning.specs.Value.same_name u.0 n) as
-    (λ t. Rattle.wb_meaning.specs.Value.same_name u.0 n ≡ t → cond t (Some u.1) (entry_of us n) ≡ Some e → is_term_of f (state_sort (states_of f.model.top) n) e ≡ true) [
+    (elim (Rattle.wb_values.specs.Value.same_name u.0 n) as
+    (λ t. Rattle.wb_values.specs.Value.same_name u.0 n ≡ t → cond t (Some u.1) (entry_of us n) ≡ Some e → is_term_of f (state_sort (states_of f.model.top) n) e ≡ true) [
       | true ↦ λ t some.
           let same : u.1 ≡ e = cc in
           subst (λ m. is_term_of f (state_sort (states_of f.model.top) m) e ≡ true) (Rattle.wb_first.proofs.Edge.same_name_true u.0 n t)
@@ -158,7 +158,7 @@ update_term f accepted us h n s is_s e is_e =
     record {
       accepted = accepted;
       names = and_right _ _ both;
-      sort = is_sort_of_true _ s (subst (λ o. Rattle.wb_first.specs.Accepted.is_sort_of (Rattle.wb_meaning.specs.Term.sort_of e) o ≡ true) is_s (and_left _ _ both));
+      sort = is_sort_of_true _ s (subst (λ o. Rattle.wb_first.specs.Accepted.is_sort_of (Rattle.model_meaning.specs.Term.sort_of e) o ≡ true) is_s (and_left _ _ both));
     }
 
 pub result_update : (f : First) (i : Instruction) (n : Name) (e : Term) → entry_of (updates_of i) n ≡ Some e → (x : Valuation)

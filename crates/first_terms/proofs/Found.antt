@@ -5,9 +5,9 @@ use Rattle.std.proofs.lemmas.Option.{slice_get_past, slice_get-get_or}
 use Rattle.std.proofs.Common.{◌≡◌, ℕ, suc, zero, ◌<◌, ◌≤◌, length, List, [], ◌∷◌, Bor, Option, Some, None, refl, sym, ap, ◌∙◌, subst}
 use Rattle.std.specs.BTreeMap.{BTreeMap}
 use Rattle.std.specs.Prelude.{option_map, slice_get}
-use Rattle.wb_meaning.specs.Value.{Name, Sort, Value, Valuation}
-use Rattle.wb_meaning.specs.Model.{Instruction, states_of}
-use Rattle.wb_meaning.specs.Map.{sort_of_input}
+use Rattle.wb_values.specs.Value.{Name, Sort, Value, Valuation}
+use Rattle.model_meaning.specs.Model.{Instruction, states_of}
+use Rattle.refinement.specs.Map.{sort_of_input}
 use Rattle.wb_terms.specs.Graph.{Graph}
 use Rattle.wb_terms.specs.declared.nodes.TermId.{TermId}
 use Rattle.wb_first.specs.Names.{First}

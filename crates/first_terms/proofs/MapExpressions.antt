@@ -2,9 +2,9 @@
 use Rattle.std.proofs.Common.{◌≡◌, ℕ, true, Option, Some, refl, sym, ap, ◌∙◌, subst, arith}
 use Rattle.std.specs.Prelude.{◌==◌}
 use Rattle.std.proofs.lemmas.Bool.Decides.{nat_tests}
-use Rattle.wb_meaning.specs.Value.{Name, truth, word, number, as_number, Valuation}
-use Rattle.wb_meaning.specs.Verilog.Syntax.{Expression, name, whole}
-use Rattle.wb_meaning.specs.Verilog.Expression.{is_nonzero}
+use Rattle.wb_values.specs.Value.{Name, truth, word, number, as_number, Valuation}
+use Rattle.verilog_trees.specs.Syntax.{Expression, name, whole}
+use Rattle.verilog_meaning.specs.Expression.{is_nonzero}
 use Rattle.wb_terms.specs.Graph.{Graph}
 use Rattle.first_json.specs.MapFile.{decimal}
 use Rattle.wb_first.specs.Names.{First, is_declared, bits_of_name}

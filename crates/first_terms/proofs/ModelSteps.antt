@@ -1,8 +1,8 @@
 -- A term of the model by the terms of its operands.
 use Rattle.std.proofs.Common.{◌≡◌, ℕ, Some, refl, sym, ap, ◌∙◌, subst}
-use Rattle.wb_meaning.specs.Value.{Name, Sort, truth, word, truth_value, number, as_number}
-use Rattle.wb_meaning.specs.Number.{word_add}
-use Rattle.wb_meaning.specs.Term.{Term, name, constant_truth, const, not, and, add, eq, sort_of, width_of_sort, complement, conjunction, is_equal}
+use Rattle.wb_values.specs.Value.{Name, Sort, truth, word, truth_value, number, as_number}
+use Rattle.wb_values.specs.Number.{word_add}
+use Rattle.model_meaning.specs.Term.{Term, name, constant_truth, const, not, and, add, eq, sort_of, width_of_sort, complement, conjunction, is_equal}
 use Rattle.wb_terms.specs.Graph.{Graph}
 use Rattle.wb_first.specs.Names.{First}
 use Rattle.wb_first.specs.Accepted.{declared_sort}

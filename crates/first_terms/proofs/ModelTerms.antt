@@ -3,8 +3,9 @@ use Rattle.std.proofs.Common.{◌≡◌, ℕ, ◌<◌, ◌^◌, Bool, true, fals
 use Rattle.std.specs.Prelude.{◌==◌, is_some, ◌≤◌, nat_le, nat_lt}
 use Rattle.std.proofs.lemmas.Bool.Decides.{nat_tests}
 use Rattle.std.proofs.Common.{arith}
-use Rattle.wb_meaning.specs.Value.{Name, Sort, truth, word, memory, Value, truth_value, number, as_number, as_truth, Valuation}
-use Rattle.wb_meaning.specs.Term.{Term, name, constant_truth, const, not, neg, and, or, xor, add, sub, mul, shl, lshr, ashr, eq, ult, ule, slt, sle, concat, extract, zext, sext, ite, load, store, some_if, is_sort, same_sort, sort_of, bits_sort, same_bits_sort, same_word_sort, compared, complement, conjunction}
+use Rattle.wb_values.specs.Value.{Name, Sort, truth, word, memory, Value, truth_value, number, as_number, as_truth, Valuation}
+use Rattle.wb_values.specs.Choice.{some_if}
+use Rattle.model_meaning.specs.Term.{Term, name, constant_truth, const, not, neg, and, or, xor, add, sub, mul, shl, lshr, ashr, eq, ult, ule, slt, sle, concat, extract, zext, sext, ite, load, store, is_sort, same_sort, sort_of, bits_sort, same_bits_sort, same_word_sort, compared, complement, conjunction}
 use Rattle.wb_first.specs.Names.{First}
 use Rattle.wb_first.specs.Accepted.{declared_sort, is_sort_of}
 use Rattle.wb_first.proofs.Alike.{and_left, and_right}
@@ -249,7 +250,7 @@ pub as_truths : (f : First) (g : Graph) (id : ℕ) (v : Valuation → Value) →
 as_truths f g id v k m = Means-same f g id truth v (λ x. truth_value (as_truth (v x))) (λ x fits. kind_truth (v x) (k x fits)) m
 
 -- the complement and the conjunction of values of a kind
-pub not_word : (w : ℕ) (v : Value) → IsOfKind (word w) v → number (Rattle.wb_meaning.specs.Number.word_not w (as_number v)) ≡ complement w v
+pub not_word : (w : ℕ) (v : Value) → IsOfKind (word w) v → number (Rattle.wb_values.specs.Number.word_not w (as_number v)) ≡ complement w v
 not_word w (number n) h = refl
 not_word w (truth_value b) h = absurd h
 not_word w (Value.words ws) h = absurd h
@@ -259,7 +260,7 @@ not_truth w (truth_value b) h = refl
 not_truth w (number n) h = absurd h
 not_truth w (Value.words ws) h = absurd h
 
-pub and_word : (w : ℕ) (v u : Value) → IsOfKind (word w) v → number (Rattle.wb_meaning.specs.Number.word_and (as_number v) (as_number u)) ≡ conjunction v u
+pub and_word : (w : ℕ) (v u : Value) → IsOfKind (word w) v → number (Rattle.wb_values.specs.Number.word_and (as_number v) (as_number u)) ≡ conjunction v u
 and_word w (number n) u h = refl
 and_word w (truth_value b) u h = absurd h
 and_word w (Value.words ws) u h = absurd h

@@ -1,8 +1,8 @@
 -- What holds of the terms that obligations share holds where more is said of each term, and where the store grows.
 use Rattle.std.proofs.Common.{ℕ, List, [], ◌∷◌, Bor, Option}
 use Rattle.std.specs.BTreeMap.{BTreeMap}
-use Rattle.wb_meaning.specs.Value.{Name, Sort, Value, Valuation}
-use Rattle.wb_meaning.specs.Model.{Instruction}
+use Rattle.wb_values.specs.Value.{Name, Sort, Value, Valuation}
+use Rattle.model_meaning.specs.Model.{Instruction}
 use Rattle.wb_terms.specs.Graph.{Graph}
 use Rattle.wb_terms.specs.declared.nodes.TermId.{TermId}
 use Rattle.wb_first.specs.Names.{First}

@@ -4,11 +4,11 @@ use Rattle.std.specs.Prelude.{◌==◌}
 use Rattle.std.specs.BTreeMap.{BTreeMap}
 use mir.Val.{bool_byte}
 use Rattle.std.proofs.lemmas.Bool.Decides.{nat_tests}
-use Rattle.wb_meaning.specs.Value.{Name, same_name, Sort, truth, Value, truth_value, number, as_number, as_truth, words, Valuation, Entries, entry_of}
-use Rattle.wb_meaning.specs.Term.{Term, is_equal, sort_of}
-use Rattle.wb_meaning.specs.Model.{Instruction, instruction_name, instructions_in, decode_of, valid_of, states_of}
-use Rattle.wb_meaning.specs.Map.{InstructionMap, instruction_map, condition_holds, sort_of_input}
-use Rattle.wb_meaning.specs.Verilog.Syntax.{Expression}
+use Rattle.wb_values.specs.Value.{Name, same_name, Sort, truth, Value, truth_value, number, as_number, as_truth, words, Valuation, Entries, entry_of}
+use Rattle.model_meaning.specs.Term.{Term, is_equal, sort_of}
+use Rattle.model_meaning.specs.Model.{Instruction, instruction_name, instructions_in, decode_of, valid_of, states_of}
+use Rattle.refinement.specs.Map.{InstructionMap, instruction_map, condition_holds, sort_of_input}
+use Rattle.verilog_trees.specs.Syntax.{Expression}
 use Rattle.wb_terms.specs.Graph.{Graph}
 use Rattle.wb_terms.specs.declared.nodes.TermId.{TermId}
 use Rattle.wb_first.specs.Names.{First, setting_of, is_declared, bits_of_name}

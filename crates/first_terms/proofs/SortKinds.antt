@@ -1,10 +1,10 @@
 -- Truth values stand where a truth value is wanted, and numbers where a word is.
 use Rattle.std.proofs.Common.{◌≡◌, Bool, true, false, cond, ◌&&◌, List, [], ◌∷◌, Option, Some, None, refl, sym, ap, ◌∙◌, subst}
 use Rattle.std.specs.Prelude.{is_some}
-use Rattle.wb_meaning.specs.Value.{Name, same_name, Sort, truth, word, memory, Value, Valuation, Entries, entry_of}
-use Rattle.wb_meaning.specs.Model.{StateDeclaration, InputDeclaration, state_named, states_of, is_input}
-use Rattle.wb_meaning.specs.Verilog.Syntax.{Expression}
-use Rattle.wb_meaning.specs.Map.{mapped_value, mapped_or_zero, sort_of_state, sort_of_input}
+use Rattle.wb_values.specs.Value.{Name, same_name, Sort, truth, word, memory, Value, Valuation, Entries, entry_of}
+use Rattle.model_meaning.specs.Model.{StateDeclaration, InputDeclaration, state_named, states_of, is_input}
+use Rattle.verilog_trees.specs.Syntax.{Expression}
+use Rattle.refinement.specs.Map.{mapped_value, mapped_or_zero, sort_of_state, sort_of_input}
 use Rattle.wb_first.specs.Names.{First, setting_of}
 use Rattle.wb_first.specs.Accepted.{is_accepted, fits_sort, state_sort, states_are_mapped, inputs_are_mapped, all_states_mapped, all_inputs_mapped, declared_sort, are_states, is_initial_of, is_accepted_module, is_accepted_map, is_accepted_model, has_plain_names}
 use Rattle.wb_first.specs.Decided.{state_of, first_of_values}

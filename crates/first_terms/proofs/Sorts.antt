@@ -2,10 +2,10 @@
 use Rattle.std.proofs.Common.{◌≡◌, ℕ, ◌≤◌, Bool, true, false, ◌&&◌, Some, refl, sym, subst, arith}
 use Rattle.std.specs.Prelude.{not, nat_le, IsTrue}
 use Rattle.std.proofs.lemmas.Bool.Decides.{nat_tests}
-use Rattle.wb_meaning.specs.Value as meaning
-use Rattle.wb_meaning.specs.Value.{truth, word, memory, Value, truth_value, number, as_number, as_truth, Valuation}
-use Rattle.wb_meaning.specs.Number.{word_not, word_and}
-use Rattle.wb_meaning.specs.Term.{is_sort, sort_of, complement, conjunction, width_of_sort}
+use Rattle.wb_values.specs.Value as meaning
+use Rattle.wb_values.specs.Value.{truth, word, memory, Value, truth_value, number, as_number, as_truth, Valuation}
+use Rattle.wb_values.specs.Number.{word_not, word_and}
+use Rattle.model_meaning.specs.Term.{is_sort, sort_of, complement, conjunction, width_of_sort}
 use Rattle.wb_terms.specs.Graph.{Graph, tree}
 use Rattle.wb_terms.specs.Sort.{as_sort}
 use Rattle.wb_terms.specs.declared.sorts.Sort.{Sort}

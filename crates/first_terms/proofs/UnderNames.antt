@@ -7,8 +7,8 @@ use Rattle.std.specs.BTreeMap as tree
 use Rattle.std.specs.BTreeMap.{BTreeMap}
 use Rattle.std.proofs.lemmas.Slice.Eq.{bytes_eq-Decides}
 use Rattle.std.proofs.lemmas.Map.Text.{btree_map_updates_str}
-use Rattle.wb_meaning.specs.Value.{Name, same_name}
-use Rattle.wb_meaning.specs.Verilog.Hierarchy.{first_of}
+use Rattle.wb_values.specs.Value.{Name, same_name}
+use Rattle.wb_values.specs.Choice.{first_of}
 use Rattle.first_terms.specs.Tables.{under_name}
 
 first_none : {A : Type 0} (x : Option A) → first_of x None ≡ x

@@ -1,9 +1,9 @@
 -- The updates and decode conditions of the model's instructions.
 use Rattle.std.proofs.Common.{◌≡◌, ℕ, suc, zero, true, false, ◌&&◌, List, [], ◌∷◌, Option, Some, None, refl, sym, ◌∙◌, subst}
 use Rattle.std.specs.Prelude.{slice_get, is_some}
-use Rattle.wb_meaning.specs.Value.{Name, Sort, truth, entry_of}
-use Rattle.wb_meaning.specs.Term.{Term, sort_of}
-use Rattle.wb_meaning.specs.Model.{Instruction, instructions_in, decode_of, states_of, valid_of}
+use Rattle.wb_values.specs.Value.{Name, Sort, truth, entry_of}
+use Rattle.model_meaning.specs.Term.{Term, sort_of}
+use Rattle.model_meaning.specs.Model.{Instruction, instructions_in, decode_of, states_of, valid_of}
 use Rattle.wb_terms.specs.Graph.{Graph}
 use Rattle.wb_first.specs.Names.{First}
 use Rattle.wb_first.specs.Accepted.{is_accepted, is_accepted_module, is_accepted_map, is_accepted_model, are_instructions, is_term_of, are_updates, updates_of, state_sort, has_plain_names}

@@ -2,8 +2,8 @@
 use Rattle.std.proofs.Common.{◌≡◌, ℕ, Bool, true, false, ◌&&◌, ◌||◌, [], ◌∷◌, length, refl, sym, ap, ◌∙◌, arith}
 use Rattle.std.specs.Prelude.{not, ◌==◌}
 use Rattle.std.proofs.lemmas.Bool.Decides.{nat_tests}
-use Rattle.wb_meaning.specs.Value.{truth, truth_value}
-use Rattle.wb_meaning.specs.Obligation.{reset_inactive, start, decoded, commit, Obligation, ended_at}
+use Rattle.wb_values.specs.Value.{truth, truth_value}
+use Rattle.refinement.specs.Obligation.{reset_inactive, start, decoded, commit, Obligation, ended_at}
 use Rattle.wb_terms.specs.Graph.{Graph}
 use Rattle.wb_first.specs.Names.{First}
 use Rattle.wb_first.specs.Accepted.{is_accepted}

@@ -1,12 +1,12 @@
 -- What the parts of an obligation are where registers and inputs have the values x.
 use Rattle.std.specs.Prelude.{ℕ, Bool, true, List, Option, Some, None}
-use Rattle.wb_meaning.specs.Value.{Name, Sort, Value, Valuation}
-use Rattle.wb_meaning.specs.Term.{Term, val}
-use Rattle.wb_meaning.specs.Model.{Instruction, holds}
-use Rattle.wb_meaning.specs.Verilog.Syntax.{Expression}
-use Rattle.wb_meaning.specs.Verilog.Expression.{self_value}
-use Rattle.wb_meaning.specs.Map.{map_scope, condition_holds, mapped_value, mapped_inputs}
-use Rattle.wb_meaning.specs.Obligation.{Fact}
+use Rattle.wb_values.specs.Value.{Name, Sort, Value, Valuation}
+use Rattle.model_meaning.specs.Term.{Term, val}
+use Rattle.model_meaning.specs.Model.{Instruction, holds}
+use Rattle.verilog_trees.specs.Syntax.{Expression}
+use Rattle.verilog_meaning.specs.Expression.{self_value}
+use Rattle.refinement.specs.Map.{map_scope, condition_holds, mapped_value, mapped_inputs}
+use Rattle.refinement.specs.Obligation.{Fact}
 use Rattle.wb_first.specs.Names.{First, setting_of}
 use Rattle.wb_first.specs.Decided.{state_of, start_point, is_reset, commits_option, decode_count, result_at, same_value, is_met, all_met, first_of_values, second_of_values}
 

@@ -1,6 +1,6 @@
 -- Terms that stay in the store from one obligation to the next.
 use Rattle.std.specs.Prelude.{ℕ, ◌<◌}
-use Rattle.wb_meaning.specs.Value.{Sort, Value, Valuation}
+use Rattle.wb_values.specs.Value.{Sort, Value, Valuation}
 use Rattle.wb_terms.specs.Graph.{Graph}
 use Rattle.wb_first.specs.Names.{First}
 use Rattle.first_store.specs.Meaning.{Means}

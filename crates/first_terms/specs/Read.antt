@@ -2,11 +2,11 @@
 use Rattle.std.specs.Prelude.{◌≡◌, ℕ, Bool, true, false, ◌&&◌, List, [], ◌∷◌, Option, Some, None, IsTrue, is_some, slice_get, ⊤}
 use Rattle.std.specs.Borrow.{Bor}
 use Rattle.std.specs.BTreeMap.{BTreeMap}
-use Rattle.wb_meaning.specs.Value.{Name, Sort, truth, word, memory, Value, truth_value, number, Valuation, Entries, entry_of}
-use Rattle.wb_meaning.specs.Term.{Term, sort_of}
-use Rattle.wb_meaning.specs.Model.{instructions_in, states_of, state_named}
-use Rattle.wb_meaning.specs.Verilog.Syntax.{Expression}
-use Rattle.wb_meaning.specs.Obligation.{Fact, assumed, invariant, ends, result_of}
+use Rattle.wb_values.specs.Value.{Name, Sort, truth, word, memory, Value, truth_value, number, Valuation, Entries, entry_of}
+use Rattle.model_meaning.specs.Term.{Term, sort_of}
+use Rattle.model_meaning.specs.Model.{instructions_in, states_of, state_named}
+use Rattle.verilog_trees.specs.Syntax.{Expression}
+use Rattle.refinement.specs.Obligation.{Fact, assumed, invariant, ends, result_of}
 use Rattle.wb_terms.specs.Graph.{Graph}
 use Rattle.wb_first.specs.Names.{First}
 use Rattle.wb_first.specs.Accepted.{is_accepted, is_map_expression, fits_sort, has_declared_names}

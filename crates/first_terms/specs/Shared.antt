@@ -2,9 +2,9 @@
 use Rattle.std.specs.Prelude.{◌≡◌, ℕ, true, List, [], ◌∷◌, option_map, Option, Some, None, ⊤}
 use Rattle.std.specs.Borrow.{Bor}
 use Rattle.std.specs.BTreeMap.{BTreeMap}
-use Rattle.wb_meaning.specs.Value.{Name, Sort, truth, word, Value, truth_value, number, as_number, Valuation, entry_of}
-use Rattle.wb_meaning.specs.Model.{Instruction, valid_of, decode_of, instructions_in, states_of, state_named}
-use Rattle.wb_meaning.specs.Map.{sort_of_input}
+use Rattle.wb_values.specs.Value.{Name, Sort, truth, word, Value, truth_value, number, as_number, Valuation, entry_of}
+use Rattle.model_meaning.specs.Model.{Instruction, valid_of, decode_of, instructions_in, states_of, state_named}
+use Rattle.refinement.specs.Map.{sort_of_input}
 use Rattle.wb_terms.specs.declared.nodes.TermId.{TermId}
 use Rattle.first_json.specs.ModelView.{state_view, term_view}
 use Rattle.wb_first.specs.Names.{First, is_declared, bits_of_name}

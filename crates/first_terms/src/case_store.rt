@@ -1,7 +1,7 @@
 //! The terms of a case's obligations and covers.
 
 ghost use Rattle.std.specs.Prelude.{◌≡◌, ℕ, ◌<◌, length, not, IfOk};
-ghost use Rattle.wb_meaning.specs.Model.{instructions_in};
+ghost use Rattle.model_meaning.specs.Model.{instructions_in};
 ghost use Rattle.first_facts.specs.View.{obligation_of};
 ghost use Rattle.wb_first.specs.CaseView.{case_of};
 ghost use Rattle.wb_first.specs.Claims.{IsObligation};

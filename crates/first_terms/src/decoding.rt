@@ -1,9 +1,9 @@
 //! Which instructions decode and commit at the start of an obligation.
 
 ghost use Rattle.std.specs.Prelude.{◌&&◌, ◌==◌, Bool, not, List, IfOk};
-ghost use Rattle.wb_meaning.specs.Value.{truth, Valuation};
-ghost use Rattle.wb_meaning.specs.Model.{Instruction};
-ghost use Rattle.wb_meaning.specs.Obligation.{decoded, commit, one_decodes};
+ghost use Rattle.wb_values.specs.Value.{truth, Valuation};
+ghost use Rattle.model_meaning.specs.Model.{Instruction};
+ghost use Rattle.refinement.specs.Obligation.{decoded, commit, one_decodes};
 ghost use Rattle.wb_first.specs.Names.{First};
 ghost use Rattle.first_store.specs.Meaning.{Grows, IsOfSort, Means, MeansTruth};
 ghost use Rattle.first_terms.specs.Asked.{decoded_count, met_at};

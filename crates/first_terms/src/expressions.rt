@@ -1,7 +1,7 @@
 //! Terms of the map's expressions, over the terms of the module's names.
 
 ghost use Rattle.std.specs.Prelude.{◌≡◌, ℕ, ◌≤◌, true, Some, IfOk};
-ghost use Rattle.wb_meaning.specs.Value.{word, Valuation};
+ghost use Rattle.wb_values.specs.Value.{word, Valuation};
 ghost use Rattle.wb_terms.specs.Graph.{Graph};
 ghost use Rattle.wb_first.specs.Names.{First, is_declared};
 ghost use Rattle.wb_first.specs.Accepted.{map_width, fits_sort};

@@ -1,9 +1,9 @@
 //! Terms of what obligations say.
 
 ghost use Rattle.std.specs.Prelude.{◌≡◌, ℕ, ◌<◌, ◌^◌, true, Some, IfOk, option_map, slice_get};
-ghost use Rattle.wb_meaning.specs.Value.{Sort, word, Value, Valuation, is_of_sort};
-ghost use Rattle.wb_meaning.specs.Model.{Instruction, instructions_in, states_of};
-ghost use Rattle.wb_meaning.specs.Obligation.{initial, same, result_of};
+ghost use Rattle.wb_values.specs.Value.{Sort, word, Value, Valuation, is_of_sort};
+ghost use Rattle.model_meaning.specs.Model.{Instruction, instructions_in, states_of};
+ghost use Rattle.refinement.specs.Obligation.{initial, same, result_of};
 ghost use Rattle.first_json.specs.ModelView.{value_view};
 ghost use Rattle.wb_terms.specs.Graph.{Graph};
 ghost use Rattle.wb_first.specs.Names.{First};

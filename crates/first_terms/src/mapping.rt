@@ -1,7 +1,7 @@
 //! The terms of the model's states and inputs in a cycle of the module.
 
 ghost use Rattle.std.specs.Prelude.{◌≡◌, true, Some, IfOk, map, option_map, string_bytes};
-ghost use Rattle.wb_meaning.specs.Value.{Sort, Valuation};
+ghost use Rattle.wb_values.specs.Value.{Sort, Valuation};
 ghost use Rattle.wb_first.specs.Names.{First};
 ghost use Rattle.wb_first.specs.Accepted.{fits_sort};
 ghost use Rattle.first_json.specs.ModelView.{sort_view};

@@ -1,13 +1,13 @@
 //! Terms of the model at the start of an obligation.
 
 ghost use Rattle.std.specs.Prelude.{◌≡◌, true, Some, IfOk};
-ghost use Rattle.wb_meaning.specs.Value.{Sort as Sorts, Value, Valuation, number};
-ghost use Rattle.wb_meaning.specs.Term.{complement, conjunction, width_of_sort, sort_of, const};
+ghost use Rattle.wb_values.specs.Value.{Sort as Sorts, Value, Valuation, number};
+ghost use Rattle.model_meaning.specs.Term.{complement, conjunction, width_of_sort, sort_of, const};
 ghost use Rattle.wb_terms.specs.Graph.{Graph};
 ghost use Rattle.first_json.specs.ModelView.{term_view};
 ghost use Rattle.wb_first.specs.Names.{First};
 ghost use Rattle.wb_first.specs.Accepted.{declared_sort, state_sort};
-ghost use Rattle.wb_meaning.specs.Model.{states_of};
+ghost use Rattle.model_meaning.specs.Model.{states_of};
 ghost use Rattle.first_store.specs.Meaning.{Grows, IsOfSort, Means};
 ghost use Rattle.first_terms.specs.Asked.{point_at, state_before, term_at};
 ghost use Rattle.first_terms.specs.Read.{IsModelTerm, AreOfKind, is_bits};

@@ -1,7 +1,7 @@
 //! Terms of whole obligations and covers.
 
 ghost use Rattle.std.specs.Prelude.{◌&&◌, not, IfOk, map};
-ghost use Rattle.wb_meaning.specs.Obligation.{decoded, commit};
+ghost use Rattle.refinement.specs.Obligation.{decoded, commit};
 ghost use Rattle.wb_first.specs.Names.{First};
 ghost use Rattle.wb_first.specs.Decided.{is_broken_by, is_command_by};
 ghost use Rattle.first_facts.specs.View.{fact_of, obligation_of};

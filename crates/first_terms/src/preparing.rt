@@ -1,8 +1,8 @@
 //! What all obligations of a case share, put into the store once.
 
 ghost use Rattle.std.specs.Prelude.{◌≡◌, ℕ, List, Some, IfOk, option_map};
-ghost use Rattle.wb_meaning.specs.Model.{instructions_in, decode_of};
-ghost use Rattle.wb_meaning.specs.Value.{truth};
+ghost use Rattle.model_meaning.specs.Model.{instructions_in, decode_of};
+ghost use Rattle.wb_values.specs.Value.{truth};
 ghost use Rattle.first_json.specs.ModelView.{instruction_view};
 ghost use Rattle.wb_first.specs.CaseView.{case_of};
 ghost use Rattle.wb_first.specs.Decided.{first_of_values, second_of_values};
@@ -13,8 +13,8 @@ ghost use Rattle.first_terms.specs.Asked.{state_behind, reset_at, committed_at};
 ghost use Rattle.first_terms.specs.Read.{IsModelTerm};
 ghost use Rattle.first_terms.specs.Shared.{HasTerms, HasPoint, IsPrepared, ArePrepared, IsShared};
 ghost use Rattle.wb_first.specs.Accepted.{state_sort};
-ghost use Rattle.wb_meaning.specs.Model.{states_of};
-ghost use Rattle.wb_meaning.specs.Map.{instruction_map};
+ghost use Rattle.model_meaning.specs.Model.{states_of};
+ghost use Rattle.refinement.specs.Map.{instruction_map};
 ghost use Rattle.first_json.specs.View.{expression_of};
 ghost use Rattle.first_facts.specs.Commit.{commit_of};
 ghost use Rattle.first_terms.specs.Tables.{under_name};

@@ -1,10 +1,10 @@
 //! What a model and a map have under a name, as tables by names.
 
 ghost use Rattle.std.specs.Prelude.{◌≡◌, ◌∷◌, [], ℕ, List, IfOk, map, option_map, cond, Some, None};
-ghost use Rattle.wb_meaning.specs.Value.{same_name, entry_of};
-ghost use Rattle.wb_meaning.specs.Model.{state_named};
-ghost use Rattle.wb_meaning.specs.Map.{sort_of_input, instruction_map};
-ghost use Rattle.wb_meaning.specs.Verilog.Hierarchy.{first_of};
+ghost use Rattle.wb_values.specs.Value.{same_name, entry_of};
+ghost use Rattle.model_meaning.specs.Model.{state_named};
+ghost use Rattle.refinement.specs.Map.{sort_of_input, instruction_map};
+ghost use Rattle.wb_values.specs.Choice.{first_of};
 ghost use Rattle.wb_first.specs.Accepted.{state_sort};
 ghost use Rattle.first_json.specs.ModelView.{sort_view, state_view, input_view, term_view, update_view};
 ghost use Rattle.first_json.specs.View.{expression_of, instruction_map_of};

@@ -1,7 +1,7 @@
 -- Modules of the first profile, and the syntax trees that they stand for.
 use Rattle.std.specs.Prelude.{ℕ, true, false, List, [], ◌∷◌, Option, None, option_map}
-use Rattle.wb_meaning.specs.Value.{Name}
-use Rattle.wb_meaning.specs.Verilog.Syntax.{Expression, number, name, binary, comparison, add, equal, whole, place, Statement, nonblocking, if_then, if_else, block, Statements, no_statements, statement, posedge, on_events, Range, Direction, PortDeclaration, Item, variables, assign, always, declared, Module}
+use Rattle.wb_values.specs.Value.{Name}
+use Rattle.verilog_trees.specs.Syntax.{Expression, number, name, binary, comparison, add, equal, whole, place, Statement, nonblocking, if_then, if_else, block, Statements, no_statements, statement, posedge, on_events, Range, Direction, PortDeclaration, Item, variables, assign, always, declared, Module}
 
 -- a name, or a plain decimal by its value, which is below 2^32
 pub data Primary : Type 0 where
@@ -53,7 +53,7 @@ pub record FirstModule : Type 0 where
 
 -- a plain decimal is a signed number of 32 bits
 abbrev pub decimal_number : ℕ → Expression
-decimal_number x = number (record { width = 32; sized = false; signed = true; value = x; unknown = 0; wild = 0 })
+decimal_number x = number (record { width = 32; sized = false; signed = true; value = x; unknown = 0; wild = 0; has_unknown = false; has_wild = false })
 
 abbrev pub primary_tree : Primary → Expression
 primary_tree (identifier n) = name n whole

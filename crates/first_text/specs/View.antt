@@ -1,6 +1,6 @@
 -- The pure trees that the code's stand for.
 use Rattle.std.specs.Prelude.{List, [], ◌∷◌, map, Option, option_map}
-use Rattle.wb_meaning.specs.Verilog.Syntax as syntax
+use Rattle.verilog_trees.specs.Syntax as syntax
 use Rattle.first_text.specs.Tree as pure
 use Rattle.first_text.specs.declared.tree.Direction.{Direction}
 use Rattle.first_text.specs.declared.tree.Direction.TheVariants.{Input, Output}

@@ -1,7 +1,7 @@
 -- The names that a block of the code assigns.
 use Rattle.std.proofs.Common.{◌≡◌, List, [], ◌∷◌, refl, sym, ap, ◌∙◌, map, Vec}
 use Rattle.std.specs.Global.{Global}
-use Rattle.wb_meaning.specs.Value.{Name}
+use Rattle.wb_values.specs.Value.{Name}
 use Rattle.first_text.specs.Tree.{as_actions}
 use Rattle.first_text.specs.Tree as pure
 use Rattle.first_text.specs.View.{action_of, actions_of}

@@ -2,9 +2,9 @@
 use Rattle.std.proofs.Common.{◌≡◌, ◌≤◌, Bool, true, false, cond, not, ◌&&◌, ◌||◌, List, [], ◌∷◌, subst, refl, sym, ap, ◌∙◌, arith, eq-eqb, Some}
 use Rattle.std.specs.Prelude.{nat_lt, ◌==◌}
 use Rattle.std.proofs.lemmas.Bool.{ltb-false}
-use Rattle.wb_meaning.specs.Value.{Name, same_name}
-use Rattle.wb_meaning.specs.Report.{is_before, is_in_order}
-use Rattle.wb_meaning.specs.Verilog.Syntax.{input}
+use Rattle.wb_values.specs.Value.{Name, same_name}
+use Rattle.reports.specs.Report.{is_before, is_in_order}
+use Rattle.verilog_trees.specs.Syntax.{input}
 use Rattle.first_text.specs.Tree.{Action, set, sequence, when, when_else, Actions, no_actions, action, Port, Part, register, assignment, clocked}
 use Rattle.wb_first.specs.Names.{port_named, has_direction, same_direction, sets, one_sets, is_set_among}
 use Rattle.wb_first.specs.Accepted.{is_among, are_distinct, port_names}

@@ -7,7 +7,7 @@ use Rattle.std.specs.Map.{lookup}
 use Rattle.std.specs.BTreeMap as tree
 use Rattle.std.specs.BTreeMap.{BTreeMap, is_at, get_by}
 use Rattle.std.proofs.lemmas.Map.Text.{is_eq-slice_cmp, btree_map_updates_str}
-use Rattle.wb_meaning.specs.Value.{Name, same_name, number, entry_of, value_or_zero, valuation_of}
+use Rattle.wb_values.specs.Value.{Name, same_name, number, entry_of, value_or_zero, valuation_of}
 use Rattle.first_trace.specs.Bytes.{entries_in}
 
 same_test : (m n : Name) → same_name m n ≡ is_eq (slice_cmp nat_cmp n m)

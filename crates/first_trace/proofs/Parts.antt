@@ -2,8 +2,8 @@
 use Rattle.std.proofs.Common.{◌≡◌, ℕ, List, [], ◌∷◌, ◌++◌, sym, ap, ◌∙◌, append_assoc}
 use Rattle.std.specs.Prelude.{codes}
 use Rattle.std.proofs.lemmas.List.{append-nil}
-use Rattle.wb_meaning.specs.Value.{Name, Valuation, number}
-use Rattle.wb_meaning.specs.Report.{quoted, hexadecimal, value_text, member_text, member_texts, with_commas, in_braces, in_brackets}
+use Rattle.wb_values.specs.Value.{Name, Valuation, number}
+use Rattle.reports.specs.Report.{quoted, hexadecimal, value_text, member_text, member_texts, with_commas, in_braces, in_brackets}
 use Rattle.first_trace.specs.Traced.{entries_at}
 use Rattle.first_trace.specs.Texts.{after_comma}
 

@@ -6,8 +6,8 @@ use Rattle.std.specs.Ordering.{nat_cmp, match_ordering}
 use Rattle.std.specs.Cmp.Lexicographic.{slice_cmp}
 use Rattle.std.specs.BTreeSet.{insert_key}
 use Rattle.std.proofs.lemmas.Bool.{le-ltb, ltb-true, ltb-false}
-use Rattle.wb_meaning.specs.Value.{Name, same_name}
-use Rattle.wb_meaning.specs.Report.{is_before}
+use Rattle.wb_values.specs.Value.{Name, same_name}
+use Rattle.reports.specs.Report.{is_before}
 use Rattle.first_trace.specs.Bytes.{names_in}
 use Rattle.first_trace.specs.Traced.{with_name}
 

@@ -1,14 +1,14 @@
 -- The trace of values of registers and inputs tells each run that has them.
 use Rattle.std.proofs.Common.{◌≡◌, ℕ, zero, suc, Bool, true, false, cond, not, ◌&&◌, ◌||◌, List, [], ◌∷◌, subst, refl, sym, ap, ◌∙◌, arith, Option, Some, None}
 use Rattle.std.specs.Prelude.{is_some, slice_get}
-use Rattle.wb_meaning.specs.Value.{Name, same_name, Value, number, Valuation, Entries, entry_of}
-use Rattle.wb_meaning.specs.Verilog.Syntax.{input}
-use Rattle.wb_meaning.specs.Verilog.Settled.{names_of, is_counted, IsPort}
-use Rattle.wb_meaning.specs.Verilog.Register.{word_count}
-use Rattle.wb_meaning.specs.Verilog.Hierarchy.{dotted}
-use Rattle.wb_meaning.specs.Map.{Setting, map_scope}
-use Rattle.wb_meaning.specs.Obligation.{obligations}
-use Rattle.wb_meaning.specs.Report.{is_in_order, IsRegister, IsInput, StandsFor, AreEntriesOf}
+use Rattle.wb_values.specs.Value.{Name, same_name, Value, number, Valuation, Entries, entry_of}
+use Rattle.verilog_trees.specs.Syntax.{input}
+use Rattle.verilog_meaning.specs.Settled.{names_of, is_counted, IsPort}
+use Rattle.verilog_meaning.specs.Register.{word_count}
+use Rattle.verilog_meaning.specs.Hierarchy.{dotted}
+use Rattle.refinement.specs.Map.{Setting, map_scope}
+use Rattle.refinement.specs.Obligation.{obligations}
+use Rattle.reports.specs.Report.{is_in_order, IsRegister, IsInput, StandsFor, AreEntriesOf}
 use Rattle.first_text.specs.Tree.{Port, module_tree}
 use Rattle.wb_first.specs.Names.{First, setting_of, is_register, is_input, is_declared, is_variable, has_direction, port_named, scope_of_first}
 use Rattle.wb_first.specs.Accepted.{is_accepted, is_among, are_distinct, port_names, is_data, is_source}

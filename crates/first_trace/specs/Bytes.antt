@@ -2,7 +2,7 @@
 use Rattle.std.specs.Prelude.{ℕ, List, map}
 use Rattle.std.specs.Borrow.{Bor}
 use Rattle.std.specs.BTreeMap.{BTreeMap}
-use Rattle.wb_meaning.specs.Value.{Name, Value, number, Entries}
+use Rattle.wb_values.specs.Value.{Name, Value, number, Entries}
 
 abbrev pub names_in : List (Bor (List ℕ)) → List Name
 names_in ns = map (λ n. n.now) ns

@@ -1,10 +1,10 @@
 -- The trace of values: the registers and the inputs in the order of their names, with their values.
 use Rattle.std.specs.Prelude.{◌≡◌, ℕ, true, cond, not, ◌&&◌, List, [], ◌∷◌}
-use Rattle.wb_meaning.specs.Value.{Name, same_name, Valuation, Value, Entries}
-use Rattle.wb_meaning.specs.Verilog.Syntax.{input}
-use Rattle.wb_meaning.specs.Run.{Run}
-use Rattle.wb_meaning.specs.Obligation.{Obligation}
-use Rattle.wb_meaning.specs.Report.{is_before, Trace, IsTraceOf}
+use Rattle.wb_values.specs.Value.{Name, same_name, Valuation, Value, Entries}
+use Rattle.verilog_trees.specs.Syntax.{input}
+use Rattle.refinement.specs.Run.{Run}
+use Rattle.refinement.specs.Obligation.{Obligation}
+use Rattle.reports.specs.Report.{is_before, Trace, IsTraceOf}
 use Rattle.first_text.specs.Tree.{Action, set, sequence, when, when_else, Actions, no_actions, action, Port, Part, clocked}
 use Rattle.wb_first.specs.Names.{First, setting_of, same_direction}
 use Rattle.wb_first.specs.Accepted.{is_accepted}

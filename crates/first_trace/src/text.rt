@@ -2,8 +2,8 @@
 
 ghost use Rattle.std.specs.Prelude.{◌≡◌, ◌++◌, [], ◌∷◌, ◌<◌, false, OnOk};
 ghost use Rattle.std.specs.Fmt.{digits, digit_glyph};
-ghost use Rattle.wb_meaning.specs.Value.{number, valuation_of};
-ghost use Rattle.wb_meaning.specs.Report.{quoted, hexadecimal, member_text, member_texts, with_commas, object_text, trace_text};
+ghost use Rattle.wb_values.specs.Value.{number, valuation_of};
+ghost use Rattle.reports.specs.Report.{quoted, hexadecimal, member_text, member_texts, with_commas, object_text, trace_text};
 ghost use Rattle.first_trace.specs.Bytes.{names_in};
 ghost use Rattle.first_trace.specs.Traced.{entries_at, trace_by};
 ghost use Rattle.first_trace.specs.Texts.{after_comma};

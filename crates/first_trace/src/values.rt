@@ -1,6 +1,6 @@
 //! Numbers of registers and inputs, by their names.
 ghost use Rattle.std.specs.Prelude.{◌≡◌, ℕ, List, [], cond, OnOk};
-ghost use Rattle.wb_meaning.specs.Value.{same_name, number, valuation_of};
+ghost use Rattle.wb_values.specs.Value.{same_name, number, valuation_of};
 
 use std::alloc::{AllocError, Global};
 use std::collections::BTreeMap;
@@ -17,7 +17,7 @@ pub struct TraceValues<'a> {
 
 impl<'a> Model for TraceValues<'a> {
     ghost use Rattle.first_trace.specs.Bytes.{entries_in};
-    ghost use Rattle.wb_meaning.specs.Value.{Value as NamedValue, Entries};
+    ghost use Rattle.wb_values.specs.Value.{Value as NamedValue, Entries};
 
     ghost Value = { Entries NamedValue };
 

@@ -1,7 +1,7 @@
 -- The tree of a module within the profile is read as that module.
 use Rattle.std.proofs.Common.{◌≡◌, ℕ, zero, suc, ◌<◌, ◌≤◌, ◌^◌, true, false, nat_lt, List, [], ◌∷◌, Option, Some, None, refl, sym, ap, ◌∙◌, arith}
 use Rattle.std.proofs.lemmas.Bool.Decides.{nat_tests}
-use Rattle.wb_meaning.specs.Verilog.Syntax.{Statement, Source}
+use Rattle.verilog_trees.specs.Syntax.{Statement, Source}
 use Rattle.first_text.specs.Tree.{Primary, identifier, decimal, Term, single, sum, equality, Action, set, sequence, when, when_else, Actions, no_actions, action, Bounds, Port, Part, register, assignment, clocked, FirstModule, decimal_number, primary_tree, term_tree, action_tree, actions_tree, bounds_tree, port_tree, part_tree, port_trees, part_trees, module_tree}
 use Rattle.first_text.specs.Depth.{depth, greatest_depth}
 use Rattle.first_tree.specs.Profile.{IsSmall, IsSmallPrimary, IsSmallTerm, IsSmallAction, AreSmallActions, AreSmallBounds, ArePortsWithin, IsPartWithin, ArePartsWithin, IsWithinProfile}
@@ -10,7 +10,7 @@ use Rattle.first_tree.specs.Reading.{all_from, is_plain, limit_from, primary_fro
 below : (a b : ℕ) → a < b → nat_lt a b ≡ true
 below a b h = grind (arith, nat_tests)
 
-plain_again : (x : ℕ) → IsSmall x → is_plain (record { width = 32; sized = false; signed = true; value = x; unknown = 0; wild = 0 }) ≡ true
+plain_again : (x : ℕ) → IsSmall x → is_plain (record { width = 32; sized = false; signed = true; value = x; unknown = 0; wild = 0; has_unknown = false; has_wild = false }) ≡ true
 unfolding is_plain
 plain_again x h = rw (below x (2 ^ 32) h) refl
 

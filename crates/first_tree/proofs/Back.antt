@@ -1,7 +1,7 @@
 -- A module is told by its tree: the way back.
 use Rattle.std.proofs.Common.{◌≡◌, ℕ, List, [], ◌∷◌, Option, Some, None, option_map, refl, sym, ap, ◌∙◌}
-use Rattle.wb_meaning.specs.Value.{Name}
-use Rattle.wb_meaning.specs.Verilog.Syntax.{Expression, number, name, binary, comparison, Target, place, Statement, nonblocking, if_then, if_else, block, Statements, no_statements, statement, Events, on_events, Range, PortDeclaration, Item, variables, assign, always, Ports, declared, Module}
+use Rattle.wb_values.specs.Value.{Name}
+use Rattle.verilog_trees.specs.Syntax.{Expression, number, name, binary, comparison, Target, place, Statement, nonblocking, if_then, if_else, block, Statements, no_statements, statement, Events, on_events, Range, PortDeclaration, Item, variables, assign, always, Ports, declared, Module}
 use Rattle.first_text.specs.Tree.{Primary, identifier, decimal, Term, single, sum, equality, Action, set, sequence, when, when_else, Actions, no_actions, action, Bounds, Port, Part, register, assignment, clocked, FirstModule, primary_tree, term_tree, action_tree, actions_tree, bounds_tree, port_tree, part_tree, port_trees, part_trees, module_tree}
 
 abbrev value_back : Expression → ℕ

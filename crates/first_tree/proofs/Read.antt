@@ -1,8 +1,8 @@
 -- What is read from a tree is within the profile, and the tree is its own.
 use Rattle.std.proofs.Common.{◌≡◌, ℕ, zero, suc, ◌<◌, ◌≤◌, ◌^◌, Bool, true, false, ◌&&◌, not, cond, ◌==◌, nat_lt, List, [], ◌∷◌, Option, Some, None, refl, ap, ◌∙◌, subst, arith}
 use Rattle.std.proofs.lemmas.Bool.Decides.{nat_tests}
-use Rattle.wb_meaning.specs.Value.{Name}
-use Rattle.wb_meaning.specs.Verilog.Syntax.{Number, Expression, number, name, binary, comparison, add, equal, whole, Target, place, Statement, nonblocking, if_then, if_else, block, Statements, no_statements, statement, EdgeKind, posedge, Events, on_events, Range, NetKind, PortDeclaration, Item, variables, assign, always, Ports, declared, Module, Source}
+use Rattle.wb_values.specs.Value.{Name}
+use Rattle.verilog_trees.specs.Syntax.{Number, Expression, number, name, binary, comparison, add, equal, whole, Target, place, Statement, nonblocking, if_then, if_else, block, Statements, no_statements, statement, EdgeKind, posedge, Events, on_events, Range, NetKind, PortDeclaration, Item, variables, assign, always, Ports, declared, Module, Source}
 use Rattle.first_text.specs.Tree.{Primary, Term, Action, when, when_else, Actions, Bounds, Port, Part, FirstModule, decimal_number, primary_tree, term_tree, action_tree, actions_tree, bounds_tree, port_tree, part_tree, port_trees, part_trees, module_tree}
 use Rattle.first_text.specs.Depth.{depth, greatest_depth}
 use Rattle.first_tree.specs.Steps.{◌>>=◌}
@@ -52,8 +52,12 @@ not_true false e = refl
 plain_is : (n : Number) → is_plain n ≡ true → (number n ≡ decimal_number n.value) × IsSmall n.value
 unfolding is_plain
 plain_is n h =
-    let wild = and_second _ _ h in
-    let h4 = and_first _ _ h in
+    let has_wild = not_true n.has_wild (and_second _ _ h) in
+    let h6 = and_first _ _ h in
+    let has_unknown = not_true n.has_unknown (and_second _ _ h6) in
+    let h5 = and_first _ _ h6 in
+    let wild = and_second _ _ h5 in
+    let h4 = and_first _ _ h5 in
     let unknown = and_second _ _ h4 in
     let h3 = and_first _ _ h4 in
     let small = and_second _ _ h3 in
@@ -62,7 +66,7 @@ plain_is n h =
     let h1 = and_first _ _ h2 in
     let sized = not_true n.sized (and_second _ _ h1) in
     let width = same_number n.width 32 (and_first _ _ h1) in (
-      λ i. number (record { width = width i; sized = sized i; signed = signed i; value = n.value; unknown = same_number n.unknown 0 unknown i; wild = same_number n.wild 0 wild i }),
+      λ i. number (record { width = width i; sized = sized i; signed = signed i; value = n.value; unknown = same_number n.unknown 0 unknown i; wild = same_number n.wild 0 wild i; has_unknown = has_unknown i; has_wild = has_wild i }),
       is_below n.value (2 ^ 32) small,
     )
 

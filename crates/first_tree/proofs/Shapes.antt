@@ -5,8 +5,8 @@ use Rattle.std.specs.Borrow.{Bor}
 use Rattle.std.specs.declared.boxed.Box.{Box}
 use Rattle.std.specs.declared.vec.Vec.{Vec}
 use Rattle.std.specs.declared.alloc.Global.{Global}
-use Rattle.wb_meaning.specs.Verilog.Syntax as pure
-use Rattle.wb_meaning.specs.Verilog.Syntax.{block, empty, statement}
+use Rattle.verilog_trees.specs.Syntax as pure
+use Rattle.verilog_trees.specs.Syntax.{block, empty, statement}
 use Rattle.first_text.specs.Tree.{decimal, single}
 use Rattle.first_tree.specs.Steps.{◌>>=◌}
 use Rattle.v_syntax.specs.declared.tree.PrefixOperator.{PrefixOperator}

@@ -3,9 +3,9 @@ use Rattle.std.specs.Prelude.{◌≡◌, List, [], ◌∷◌, map, Option, Some,
 use Rattle.std.specs.Borrow.{Bor}
 use Rattle.std.specs.declared.boxed.Box.{Box}
 use Rattle.std.specs.declared.alloc.Global.{Global}
-use Rattle.wb_meaning.specs.Value.{Name}
-use Rattle.wb_meaning.specs.Verilog.Syntax as pure
-use Rattle.wb_meaning.specs.Verilog.Syntax.{number, name, binary, comparison, add, equal, whole, place, nonblocking, block, no_statements, statement}
+use Rattle.wb_values.specs.Value.{Name}
+use Rattle.verilog_trees.specs.Syntax as pure
+use Rattle.verilog_trees.specs.Syntax.{number, name, binary, comparison, add, equal, whole, place, nonblocking, block, no_statements, statement}
 use Rattle.v_syntax.specs.declared.tree.Statement.{Statement}
 use Rattle.v_syntax.specs.declared.tree.Arm.{Arm}
 use Rattle.v_syntax.specs.declared.module.Variable.{Variable}

@@ -1,7 +1,7 @@
 -- The parts of a module of the profile that syntax trees stand for, where they stand for some.
 use Rattle.std.specs.Prelude.{ℕ, zero, suc, ◌^◌, Bool, true, false, ◌&&◌, not, cond, ◌==◌, nat_lt, List, [], ◌∷◌, Option, Some, None}
-use Rattle.wb_meaning.specs.Value.{Name}
-use Rattle.wb_meaning.specs.Verilog.Syntax.{Number, Expression, number, name, binary, comparison, add, equal, whole, Target, place, Statement, nonblocking, if_then, if_else, block, Statements, no_statements, statement, EdgeKind, posedge, Events, on_events, Range, NetKind, PortDeclaration, Item, variables, assign, always, Ports, declared, Module, Source}
+use Rattle.wb_values.specs.Value.{Name}
+use Rattle.verilog_trees.specs.Syntax.{Number, Expression, number, name, binary, comparison, add, equal, whole, Target, place, Statement, nonblocking, if_then, if_else, block, Statements, no_statements, statement, EdgeKind, posedge, Events, on_events, Range, NetKind, PortDeclaration, Item, variables, assign, always, Ports, declared, Module, Source}
 use Rattle.first_text.specs.Tree.{Primary, identifier, decimal, Term, single, sum, equality, Action, set, sequence, when, when_else, Actions, no_actions, action, Bounds, Port, Part, register, assignment, clocked, FirstModule}
 use Rattle.first_tree.specs.Steps.{◌>>=◌}
 
@@ -26,7 +26,7 @@ perhaps f (Some x) = f x >>= λ y. Some (Some y)
 
 -- a plain decimal of 32 bits
 unfoldable pub is_plain : Number → Bool
-is_plain n = n.width == 32 && not n.sized && n.signed && nat_lt n.value (2 ^ 32) && n.unknown == 0 && n.wild == 0
+is_plain n = n.width == 32 && not n.sized && n.signed && nat_lt n.value (2 ^ 32) && n.unknown == 0 && n.wild == 0 && not n.has_unknown && not n.has_wild
 
 abbrev pub decimal_from : Number → Option ℕ
 decimal_from n = cond (is_plain n) (Some n.value) None

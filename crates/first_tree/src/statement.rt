@@ -1,7 +1,7 @@
 //! Statements of the profile from flat statements, at most 200 levels deep.
 
 ghost use Rattle.std.specs.Prelude.{◌≡◌, None, map, option_map};
-ghost use Rattle.wb_meaning.specs.Verilog.Syntax as pure;
+ghost use Rattle.verilog_trees.specs.Syntax as pure;
 ghost use Rattle.v_syntax.specs.Tree.{tree_of, target_of, statement_of, arm_before, name_of_option};
 ghost use Rattle.first_text.specs.View.{action_of};
 ghost use Rattle.first_tree.specs.Outcome.{Gives};

@@ -1,7 +1,7 @@
 //! Terms of the profile from flat expressions.
 
 ghost use Rattle.std.specs.Prelude.{◌≡◌, Some};
-ghost use Rattle.wb_meaning.specs.Verilog.Syntax as pure;
+ghost use Rattle.verilog_trees.specs.Syntax as pure;
 ghost use Rattle.v_syntax.specs.Tree.{number_of, tree_of, selects_of, tested, combined};
 ghost use Rattle.first_text.specs.View.{primary_of, term_of};
 ghost use Rattle.first_tree.specs.Outcome.{Gives};
@@ -101,7 +101,9 @@ fn decimal(number: Number) -> Result<u32, Stop>
         && number.signed
         && number.value < 4294967296
         && number.unknown == 0
-        && number.wild == 0;
+        && number.wild == 0
+        && !number.has_unknown
+        && !number.has_wild;
     if is_plain {
         Ok(number.value as u32)
     } else {

@@ -1,9 +1,11 @@
 -- The numbers that lists of bits and chains of cells give.
-use Rattle.std.proofs.Common.{◌≡◌, ◌∙◌, ℕ, zero, suc, ◌+◌, ◌-◌, ◌*◌, ◌/◌, ◌%◌, ◌^◌, ◌<◌, ◌≤◌, Bool, true, false, not, cond, ◌&&◌, ◌||◌, List, [], ◌∷◌, ◌++◌, length, take, drop, replicate, bit_and, bit_or, bit_xor, eqb, ltb, arith, refl, sym, ap, subst, inl, inr}
+use Rattle.std.proofs.Common.{◌≡◌, ◌∙◌, ℕ, zero, suc, ◌+◌, ◌-◌, ◌*◌, ◌/◌, ◌%◌, ◌^◌, ◌<◌, ◌≤◌, Bool, true, false, not, cond, ◌&&◌, ◌||◌, List, [], ◌∷◌, ◌++◌, length, take, drop, replicate, get_or, bit_and, bit_or, bit_xor, eqb, ltb, arith, refl, sym, ap, subst, inl, inr}
+use Rattle.std.specs.Prelude.{nat_le}
 use Rattle.std.proofs.Math.Nat.{pow-succ'}
-use Rattle.std.proofs.lemmas.Nat.{and_block, or_block, xor_block, mod-mul-add, shr_high, mod_low, pow_below}
-use Rattle.std.proofs.lemmas.Bool.{cases_eq, eq-eqb, ne_eqb, cases_lt, lt-ltb, le-ltb}
-use Rattle.std.proofs.lemmas.List.{take-append-drop, length-take-le, drop_all}
+use Rattle.std.proofs.lemmas.Nat.{and_block, or_block, xor_block, mod-mul-add, shr_high, mod_low, pow_below, pow-add}
+use Rattle.std.proofs.lemmas.Bool.{cases_eq, eq-eqb, ne_eqb, cases_lt, lt-ltb, le-ltb, le-leb, lt-leb}
+use Rattle.std.proofs.lemmas.List.{take-append-drop, length-take-le, drop_all, take_all, take_more, nil_from_length}
+use Rattle.wb_values.specs.Number.{top_bit}
 use Rattle.gate_base.specs.Circuit.{differ}
 use Rattle.gate_words.specs.declared.chains.Cell.{Cell}
 use Rattle.gate_words.specs.declared.chains.Cell.TheVariants.{Not, And, Or, Xor, Choose, Sum, Difference, Same, Below}
@@ -234,3 +236,41 @@ number-zeros (suc n) = omega (arith, number-zeros n)
 pub number-ones : (n : ℕ) → number_of (replicate n true) + 1 ≡ 2 ^ n
 number-ones zero = refl
 number-ones (suc n) = omega (arith, number-ones n, pow-succ' 2 n)
+
+-- the last bit is the top bit
+pub top_written : (bs : List Bool) (b : Bool) → number_of (bs ++ b ∷ []) ≡ digit b * 2 ^ length bs + number_of bs
+top_written bs b = number-append bs (b ∷ []) ∙ ap (λ k. k * 2 ^ length bs + number_of bs) (let z : 0 * 2 + digit b ≡ digit b = omega arith in z)
+
+-- the last bit of a word is its top bit
+top_cases : (b : Bool) (p lo : ℕ) → lo < p → nat_le (2 * p) (2 * (digit b * p + lo)) ≡ b
+top_cases true p lo h = le-leb _ _ (omega (arith, h, (let e : 1 * p ≡ p = omega arith in e)))
+top_cases false p lo h = lt-leb _ _ (omega (arith, h, (let e : 0 * p ≡ 0 = omega arith in e)))
+
+pub top_of : (bs : List Bool) → top_bit (length bs) (number_of bs) ≡ get_or bs (length bs - 1) false
+top_of bs = elim (cases_eq (length bs) 0) [
+  | inl e ↦ rw (nil_from_length bs e) refl
+  | inr e ↦
+      let n = length bs - 1 in
+      let b = get_or bs n false in
+      let long : length bs ≡ suc n = omega (arith, e) in
+      let whole : bs ≡ take n bs ++ b ∷ [] = sym (take_all (n + 1) bs (omega (arith, e))) ∙ take_more bs n false (omega (arith, e)) in
+      let front : length (take n bs) ≡ n = length-take-le n bs (omega arith) in
+      let low : number_of (take n bs) < 2 ^ n = subst (λ k. number_of (take n bs) < 2 ^ k) front (number_below (take n bs)) in
+      let value : number_of bs ≡ digit b * 2 ^ n + number_of (take n bs) =
+      ap number_of whole ∙ (top_written (take n bs) b ∙ ap (λ k. digit b * 2 ^ k + number_of (take n bs)) front) in
+      ap (λ k. nat_le (2 ^ k) (2 * number_of bs)) long ∙ (ap (λ k. nat_le k (2 * number_of bs)) (pow-succ' 2 n)
+      ∙ (ap (λ k. nat_le (2 * 2 ^ n) (2 * k)) value ∙ top_cases b (2 ^ n) (number_of (take n bs)) low))
+]
+
+pub signed_fill : (b : Bool) (x w n : ℕ) → w ≤ n → number_of (replicate (n - w) b) * 2 ^ w + x ≡ x + cond b (2 ^ n - 2 ^ w) 0
+signed_fill false x w n h = ap (λ k. k * 2 ^ w + x) (number-zeros (n - w)) ∙ omega arith
+signed_fill true x w n h =
+    let e : n - w + w ≡ n = omega (arith, h) in
+    let p : 2 ^ n ≡ 2 ^ (n - w) * 2 ^ w = sym (ap (λ k. 2 ^ k) e) ∙ pow-add 2 (n - w) w in
+    let q : (number_of (replicate (n - w) true) + 1) * 2 ^ w ≡ 2 ^ n = ap (λ k. k * 2 ^ w) (number-ones (n - w)) ∙ sym p in
+    filled (number_of (replicate (n - w) true)) (2 ^ w) (2 ^ n) x q
+  where
+    filled : (r u v y : ℕ) → (r + 1) * u ≡ v → r * u + y ≡ y + (v - u)
+    filled r u v y h =
+        let k : (r + 1) * u ≡ r * u + u = grind arith in
+        omega (arith, h, k)

@@ -1,2 +1,4 @@
 pub mod Binary
 pub mod Cells
+pub mod Words
+pub mod Shifts

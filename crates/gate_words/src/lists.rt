@@ -65,6 +65,38 @@ pub fn extended(alloc: Global, xs: &[Bit], count: usize, fill: Bit) -> Result<Ve
     Ok(bits)
 }
 
+/// The bits of a word moved up by so many places, with copies of a bit below.
+pub(crate) fn moved_up(
+    alloc: Global,
+    xs: &[Bit],
+    places: usize,
+    fill: Bit,
+) -> Result<Vec<Bit>, NoMemory>
+    requires { places ≤ length xs.now }
+    ensures { IfOk result (λ bits. bits.items ≡ replicate places fill ++ take (length xs.now - places) xs.now) }
+{
+    let mut bits = Vec::new(alloc);
+    append_copies(&mut bits, places, fill)?;
+    append(&mut bits, &xs[..xs.len() - places])?;
+    Ok(bits)
+}
+
+/// The bits of a word moved down by so many places, with copies of a bit above.
+pub(crate) fn moved_down(
+    alloc: Global,
+    xs: &[Bit],
+    places: usize,
+    fill: Bit,
+) -> Result<Vec<Bit>, NoMemory>
+    requires { places ≤ length xs.now }
+    ensures { IfOk result (λ bits. bits.items ≡ drop places xs.now ++ replicate places fill) }
+{
+    let mut bits = Vec::new(alloc);
+    append(&mut bits, &xs[places..])?;
+    append_copies(&mut bits, places, fill)?;
+    Ok(bits)
+}
+
 /// The positive literals of so many variables from one on.
 pub fn literals(alloc: Global, first: u64, count: usize) -> Result<Vec<Bit>, NoMemory>
     requires { first + count < 2 ^ 64 }

@@ -2,9 +2,9 @@
 use Rattle.std.proofs.Common.{◌≡◌, ℕ, List, Bor, Option, None, sym, ap, ◌∙◌, subst, arith}
 use Rattle.std.specs.Prelude.{Result, Ok, Err}
 use Rattle.std.specs.BTreeMap.{BTreeMap}
-use Rattle.wb_meaning.specs.Value.{Name}
-use Rattle.wb_meaning.specs.Term.{Term, sort_of}
-use Rattle.wb_meaning.specs.ModelFile.Written.{WrittenTerm, name}
+use Rattle.wb_values.specs.Value.{Name}
+use Rattle.model_meaning.specs.Term.{Term, sort_of}
+use Rattle.model_files.specs.Written.{WrittenTerm, name}
 use Rattle.wb_terms.specs.declared.nodes.TermId.{TermId}
 use Rattle.wb_terms.specs.declared.store.PutStop.{PutStop}
 use Rattle.wb_terms.specs.Graph.{Graph, tree}

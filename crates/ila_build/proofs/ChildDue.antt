@@ -1,10 +1,10 @@
 -- Child programs that are right in some scope, with new names, are not refused.
 use Rattle.std.proofs.Common.{◌≡◌, ℕ, true, List, [], ◌∷◌, ◌++◌, map, length, Bor, Option, refl, sym, ap, ◌∙◌, subst, arith, append_assoc}
 use Rattle.std.specs.BTreeMap.{BTreeMap}
-use Rattle.wb_meaning.specs.Model.{StateDeclaration}
-use Rattle.wb_meaning.specs.ModelFile.Written.{WrittenInstruction, instruction, WrittenInstructions, and_then, WrittenMachine, machine, WrittenChild, no_child, child, states_in, machines_below, machines_of_child}
-use Rattle.wb_meaning.specs.ModelFile.Names.{data_names, joined}
-use Rattle.wb_meaning.specs.ModelFile.Scope.{Scope, with_states, with_definitions, with_fetch, terms_below}
+use Rattle.model_meaning.specs.Model.{StateDeclaration}
+use Rattle.model_files.specs.Written.{WrittenInstruction, instruction, WrittenInstructions, and_then, WrittenMachine, machine, WrittenChild, no_child, child, states_in, machines_below, machines_of_child}
+use Rattle.model_files.specs.Names.{data_names, joined}
+use Rattle.model_files.specs.Scope.{Scope, with_states, with_definitions, with_fetch, terms_below}
 use Rattle.wb_terms.specs.declared.nodes.TermId.{TermId}
 use Rattle.wb_terms.specs.declared.store.PutStop.{PutStop}
 use Rattle.wb_terms.specs.Graph.{Graph}

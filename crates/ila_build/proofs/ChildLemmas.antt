@@ -7,15 +7,15 @@ use Rattle.std.proofs.Math.ListN.{get_or-append}
 use Rattle.std.proofs.lemmas.Slice.Eq.{bytes_eq-Decides}
 use Rattle.std.proofs.lemmas.Bool.{false≢true, and_parts}
 use Rattle.std.specs.BTreeMap.{BTreeMap}
-use Rattle.wb_meaning.specs.Value as meaning
-use Rattle.wb_meaning.specs.Value.{Name, Sort, same_name, Entries, entry_of}
-use Rattle.wb_meaning.specs.Model.{StateDeclaration, value_or}
-use Rattle.wb_meaning.specs.ModelFile.Scope.{Visible, declared, with_states}
+use Rattle.wb_values.specs.Value as meaning
+use Rattle.wb_values.specs.Value.{Name, Sort, same_name, Entries, entry_of}
+use Rattle.model_meaning.specs.Model.{StateDeclaration, value_or}
+use Rattle.model_files.specs.Scope.{Visible, declared, with_states}
 use Rattle.wb_terms.specs.declared.nodes.TermId.{TermId}
 use Rattle.wb_terms.specs.declared.values.Value.{Value}
 use Rattle.wb_terms.specs.Environment.{as_value}
 use Rattle.wb_terms.specs.Graph.{Graph}
-use Rattle.wb_meaning.specs.ModelFile.Written.{WrittenMachine, states_in}
+use Rattle.model_files.specs.Written.{WrittenMachine, states_in}
 use Rattle.ila_model.specs.declared.parts.Child.{Child}
 use Rattle.ila_model.specs.declared.parts.ChildId.{ChildId}
 use Rattle.ila_model.specs.Meaning.{private_states, privates_of, zero_of}

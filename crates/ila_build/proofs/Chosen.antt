@@ -8,15 +8,15 @@ use Rattle.std.specs.BTreeMap.{BTreeMap, is_at, IsOrdered}
 use Rattle.std.specs.Map.{lookup, keys_of}
 use Rattle.std.proofs.lemmas.Bool.{false≢true, and_parts, eq-eqb, ne_eqb, eqb-true, ltb-true}
 use Rattle.std.proofs.lemmas.Slice.Eq.{bytes_eq-Decides}
-use Rattle.wb_meaning.specs.Value.{Name, Sort, same_name, Entries, entry_of}
-use Rattle.wb_meaning.specs.Term as terms
-use Rattle.wb_meaning.specs.Term.{Term}
-use Rattle.wb_meaning.specs.Model.{StateDeclaration, state_named}
-use Rattle.wb_meaning.specs.Verilog.Hierarchy.{first_of}
-use Rattle.wb_meaning.specs.ModelFile.Written.{WrittenTerm}
-use Rattle.wb_meaning.specs.ModelFile.Scope.{Visible, declared, of_update, placed, term_of, placed_updates}
-use Rattle.wb_meaning.specs.ModelFile.Rules.{uses_unknown_name, updates_no_state}
-use Rattle.wb_meaning.specs.ModelFile.Meaning.{with_update, updates_of}
+use Rattle.wb_values.specs.Value.{Name, Sort, same_name, Entries, entry_of}
+use Rattle.model_meaning.specs.Term as terms
+use Rattle.model_meaning.specs.Term.{Term}
+use Rattle.model_meaning.specs.Model.{StateDeclaration, state_named}
+use Rattle.wb_values.specs.Choice.{first_of}
+use Rattle.model_files.specs.Written.{WrittenTerm}
+use Rattle.model_files.specs.Scope.{Visible, declared, of_update, placed, term_of, placed_updates}
+use Rattle.model_files.specs.Rules.{uses_unknown_name, updates_no_state}
+use Rattle.model_files.specs.Meaning.{with_update, updates_of}
 use Rattle.wb_terms.specs.declared.nodes.NameId.{NameId}
 use Rattle.wb_terms.specs.declared.nodes.TermId.{TermId}
 use Rattle.wb_terms.specs.Graph.{Graph, tree, HasDistinctNames}

@@ -6,10 +6,10 @@ use Rattle.std.specs.Map.{lookup}
 use Rattle.std.specs.Ordering.{nat_cmp}
 use Rattle.std.specs.Cmp.Lexicographic.{slice_cmp}
 use Rattle.std.proofs.lemmas.Slice.Eq.{bytes_eq-Decides}
-use Rattle.wb_meaning.specs.Value.{Name, Sort, same_name, Entries, entry_of}
-use Rattle.wb_meaning.specs.Term as terms
-use Rattle.wb_meaning.specs.Term.{Term}
-use Rattle.wb_meaning.specs.ModelFile.Scope.{Visible, declared}
+use Rattle.wb_values.specs.Value.{Name, Sort, same_name, Entries, entry_of}
+use Rattle.model_meaning.specs.Term as terms
+use Rattle.model_meaning.specs.Term.{Term}
+use Rattle.model_files.specs.Scope.{Visible, declared}
 use Rattle.wb_terms.specs.declared.nodes.NameId.{NameId}
 use Rattle.wb_terms.specs.declared.nodes.TermId.{TermId}
 use Rattle.wb_terms.specs.declared.nodes.Node.{Node}

@@ -3,17 +3,17 @@ use Rattle.std.proofs.Common.{◌≡◌, ◌<◌, Bool, true, false, cond, not, 
 use Rattle.std.specs.Prelude.{Result, Ok, Err, OnOk, is_ok, is_some, ⊤}
 use Rattle.std.specs.BTreeMap.{BTreeMap}
 use Rattle.std.proofs.lemmas.Bool.{false≢true, and_parts}
-use Rattle.wb_meaning.specs.Value.{Name, Sort, same_name, Entries, entry_of}
-use Rattle.wb_meaning.specs.Term.{sort_of}
-use Rattle.wb_meaning.specs.ModelFile.Written.{WrittenTerm}
-use Rattle.wb_meaning.specs.ModelFile.Scope.{Visible, Place, of_definition, Placed, placed, defined, term_of, written_sort, placed_definitions, with_definitions}
-use Rattle.wb_meaning.specs.ModelFile.Rules.{uses_unknown_name, updates_no_state, takes_sort}
+use Rattle.wb_values.specs.Value.{Name, Sort, same_name, Entries, entry_of}
+use Rattle.model_meaning.specs.Term.{sort_of}
+use Rattle.model_files.specs.Written.{WrittenTerm}
+use Rattle.model_files.specs.Scope.{Visible, Place, of_definition, Placed, placed, defined, term_of, written_sort, placed_definitions, with_definitions}
+use Rattle.model_files.specs.Rules.{uses_unknown_name, updates_no_state, takes_sort}
 use Rattle.wb_terms.specs.declared.nodes.TermId.{TermId}
 use Rattle.wb_terms.specs.declared.store.PutStop.{PutStop}
 use Rattle.wb_terms.specs.declared.store.PutStop.TheVariants.{BadSort, NoMemory}
 use Rattle.wb_terms.specs.Graph.{Graph, tree}
 use Rattle.std.proofs.lemmas.Slice.Eq.{bytes_eq-Decides}
-use Rattle.wb_meaning.specs.ModelFile.Keys.{is_among}
+use Rattle.model_files.specs.Keys.{is_among}
 use Rattle.ila_build.specs.Standing.{IsFresh, IsKept, under_name, found, seen, seen_by, StandsFor, IsIn, AreIn, term_by, IsWider, IsPut}
 use Rattle.ila_build.specs.Knowing.{Knows, is_right, are_right, AreDefined, defined_names}
 use Rattle.ila_build.proofs.Growing.{wider}

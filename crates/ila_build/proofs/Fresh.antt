@@ -4,9 +4,9 @@ use Rattle.std.specs.Prelude.{is_some}
 use Rattle.std.specs.BTreeMap.{BTreeMap}
 use Rattle.std.proofs.lemmas.Bool.{false≢true, and_parts}
 use Rattle.std.proofs.lemmas.Slice.Eq.{bytes_eq-Decides}
-use Rattle.wb_meaning.specs.Value.{Name, Sort, same_name, Entries}
-use Rattle.wb_meaning.specs.Term.{is_sort}
-use Rattle.wb_meaning.specs.ModelFile.Keys.{is_among}
+use Rattle.wb_values.specs.Value.{Name, Sort, same_name, Entries}
+use Rattle.model_meaning.specs.Term.{is_sort}
+use Rattle.model_files.specs.Keys.{is_among}
 use Rattle.wb_terms.specs.declared.nodes.TermId.{TermId}
 use Rattle.wb_terms.specs.declared.store.PutStop.{PutStop}
 use Rattle.wb_terms.specs.declared.store.PutStop.TheVariants.{BadSort, NoMemory}

@@ -4,13 +4,13 @@ use Rattle.std.proofs.lemmas.List.{append-nil}
 use Rattle.std.proofs.Math.Seq.{get_or-append_seam}
 use Rattle.std.proofs.Math.ListN.{get_or-append}
 use Rattle.std.specs.BTreeMap.{BTreeMap}
-use Rattle.wb_meaning.specs.Value.{Entries}
-use Rattle.wb_meaning.specs.Model as pure
-use Rattle.wb_meaning.specs.Model.{StateDeclaration}
-use Rattle.wb_meaning.specs.ModelFile.Written.{WrittenTerm, WrittenInstruction, instruction, WrittenInstructions, no_instructions, and_then, WrittenMachine, machine, WrittenChild, no_child, child, machines_below, machines_of_child}
-use Rattle.wb_meaning.specs.ModelFile.Scope.{Visible, Scope, Placed, placed, of_condition, with_states, with_definitions, with_fetch, scope_within, placed_definitions, placed_fetch, placed_updates, terms_in, terms_below, terms_of_instruction, terms_of_child}
-use Rattle.wb_meaning.specs.ModelFile.Rules.{depth_below, depth_of_child}
-use Rattle.wb_meaning.specs.ModelFile.Meaning as file
+use Rattle.wb_values.specs.Value.{Entries}
+use Rattle.model_meaning.specs.Model as pure
+use Rattle.model_meaning.specs.Model.{StateDeclaration}
+use Rattle.model_files.specs.Written.{WrittenTerm, WrittenInstruction, instruction, WrittenInstructions, no_instructions, and_then, WrittenMachine, machine, WrittenChild, no_child, child, machines_below, machines_of_child}
+use Rattle.model_files.specs.Scope.{Visible, Scope, Placed, placed, of_condition, with_states, with_definitions, with_fetch, scope_within, placed_definitions, placed_fetch, placed_updates, terms_in, terms_below, terms_of_instruction, terms_of_child}
+use Rattle.model_files.specs.Rules.{depth_below, depth_of_child}
+use Rattle.model_files.specs.Meaning as file
 use Rattle.wb_terms.specs.declared.nodes.TermId.{TermId}
 use Rattle.wb_terms.specs.Graph.{Graph}
 use Rattle.ila_model.specs.declared.parts.Instruction.{Instruction}

@@ -6,12 +6,12 @@ use Rattle.std.proofs.lemmas.List.{append-nil}
 use Rattle.std.specs.BTreeMap.{BTreeMap}
 use Rattle.std.specs.String.{string_bytes}
 use Rattle.std.proofs.lemmas.Bool.{and_parts}
-use Rattle.wb_meaning.specs.Value.{Name, Sort, Entries}
-use Rattle.wb_meaning.specs.Term.{Term}
-use Rattle.wb_meaning.specs.Model.{StateDeclaration}
-use Rattle.wb_meaning.specs.ModelFile.Written.{WrittenTerm, WrittenInstruction, WrittenInstructions, no_instructions, and_then}
-use Rattle.wb_meaning.specs.ModelFile.Scope.{Visible, placed, of_condition, term_of, placed_updates}
-use Rattle.wb_meaning.specs.ModelFile.Meaning.{updates_of}
+use Rattle.wb_values.specs.Value.{Name, Sort, Entries}
+use Rattle.model_meaning.specs.Term.{Term}
+use Rattle.model_meaning.specs.Model.{StateDeclaration}
+use Rattle.model_files.specs.Written.{WrittenTerm, WrittenInstruction, WrittenInstructions, no_instructions, and_then}
+use Rattle.model_files.specs.Scope.{Visible, placed, of_condition, term_of, placed_updates}
+use Rattle.model_files.specs.Meaning.{updates_of}
 use Rattle.wb_terms.specs.declared.nodes.TermId.{TermId}
 use Rattle.wb_terms.specs.Graph.{Graph, tree}
 use Rattle.ila_model.specs.declared.parts.Instruction.{Instruction}

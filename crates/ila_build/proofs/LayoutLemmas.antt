@@ -4,11 +4,11 @@ use Rattle.std.specs.Prelude.{◌==◌}
 use Rattle.std.proofs.lemmas.List.{append-nil}
 use Rattle.std.proofs.lemmas.Bool.{and_parts, eq-eqb, eqb-true}
 use Rattle.std.specs.BTreeMap.{BTreeMap}
-use Rattle.wb_meaning.specs.Value.{Sort, Entries}
-use Rattle.wb_meaning.specs.Model.{StateDeclaration}
+use Rattle.wb_values.specs.Value.{Sort, Entries}
+use Rattle.model_meaning.specs.Model.{StateDeclaration}
 use Rattle.wb_terms.specs.declared.values.Value.{Value}
-use Rattle.wb_meaning.specs.ModelFile.Written.{WrittenInstruction, instruction, WrittenInstructions, no_instructions, and_then, WrittenMachine, machine, WrittenChild, no_child, child, states_in, machines_of_instruction, machines_of_child}
-use Rattle.wb_meaning.specs.ModelFile.Scope.{Visible, Scope, with_states, with_fetch, with_definitions, scope_within, terms_below}
+use Rattle.model_files.specs.Written.{WrittenInstruction, instruction, WrittenInstructions, no_instructions, and_then, WrittenMachine, machine, WrittenChild, no_child, child, states_in, machines_of_instruction, machines_of_child}
+use Rattle.model_files.specs.Scope.{Visible, Scope, with_states, with_fetch, with_definitions, scope_within, terms_below}
 use Rattle.wb_terms.specs.declared.nodes.TermId.{TermId}
 use Rattle.wb_terms.specs.Environment.{as_value}
 use Rattle.wb_terms.specs.Graph.{Graph}

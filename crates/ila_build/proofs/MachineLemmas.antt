@@ -2,9 +2,9 @@
 use Rattle.std.proofs.Common.{◌≡◌, ℕ, ◌<◌, true, List, [], length, Bor, Option, Some, None, ◌∙◌, subst, arith}
 use Rattle.std.specs.Prelude.{Ok, codes}
 use Rattle.std.specs.BTreeMap.{BTreeMap}
-use Rattle.wb_meaning.specs.Value.{same_name, Entries}
-use Rattle.wb_meaning.specs.ModelFile.Written.{WrittenTerm, WrittenInstructions, WrittenMachine}
-use Rattle.wb_meaning.specs.ModelFile.Scope.{defined, placed, of_fetch, of_condition, with_definitions, with_fetch, placed_definitions, placed_fetch}
+use Rattle.wb_values.specs.Value.{same_name, Entries}
+use Rattle.model_files.specs.Written.{WrittenTerm, WrittenInstructions, WrittenMachine}
+use Rattle.model_files.specs.Scope.{defined, placed, of_fetch, of_condition, with_definitions, with_fetch, placed_definitions, placed_fetch}
 use Rattle.wb_terms.specs.declared.nodes.TermId.{TermId}
 use Rattle.wb_terms.specs.Graph.{Graph}
 use Rattle.ila_model.specs.declared.parts.Instruction.{Instruction}

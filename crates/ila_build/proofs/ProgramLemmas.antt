@@ -1,13 +1,13 @@
 -- What was put of instructions and child programs, read as the model that the parts stand for.
 use Rattle.std.proofs.Common.{◌≡◌, ℕ, suc, List, [], ◌∷◌, ◌++◌, length, map, Option, refl, ap, ◌∙◌}
 use Rattle.std.specs.Prelude.{⊤}
-use Rattle.wb_meaning.specs.Value.{Entries}
-use Rattle.wb_meaning.specs.Term.{Term}
-use Rattle.wb_meaning.specs.Model as pure
-use Rattle.wb_meaning.specs.Model.{StateDeclaration}
-use Rattle.wb_meaning.specs.ModelFile.Written.{WrittenInstruction, instruction, WrittenInstructions, no_instructions, and_then, WrittenMachine, machine, states_in}
-use Rattle.wb_meaning.specs.ModelFile.Scope.{Visible, Scope, term_of, with_states, with_fetch, scope_within}
-use Rattle.wb_meaning.specs.ModelFile.Meaning as file
+use Rattle.wb_values.specs.Value.{Entries}
+use Rattle.model_meaning.specs.Term.{Term}
+use Rattle.model_meaning.specs.Model as pure
+use Rattle.model_meaning.specs.Model.{StateDeclaration}
+use Rattle.model_files.specs.Written.{WrittenInstruction, instruction, WrittenInstructions, no_instructions, and_then, WrittenMachine, machine, states_in}
+use Rattle.model_files.specs.Scope.{Visible, Scope, term_of, with_states, with_fetch, scope_within}
+use Rattle.model_files.specs.Meaning as file
 use Rattle.wb_terms.specs.Graph.{Graph, tree}
 use Rattle.ila_model.specs.declared.parts.Update.{Update}
 use Rattle.ila_model.specs.declared.parts.Instruction.{Instruction}

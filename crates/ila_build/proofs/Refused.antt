@@ -1,10 +1,10 @@
 -- A term has no sort where one of its operands has none.
 use Rattle.std.proofs.Common.{◌≡◌, ℕ, Option, Some, None, refl, ap, ◌∙◌}
-use Rattle.wb_meaning.specs.Value.{Sort, truth, word, memory}
-use Rattle.wb_meaning.specs.Term as terms
-use Rattle.wb_meaning.specs.Term.{Term, sort_of, bits_sort, word_sort, same_bits_sort, same_word_sort, compared, concat_sort, load_sort, extract_sort, extended_sort, ite_sort, store_sort}
-use Rattle.wb_meaning.specs.ModelFile.Written.{UnaryOperator, not, neg, BinaryOperator, and, or, xor, add, sub, mul, shl, lshr, ashr, eq, ult, ule, slt, sle, concat, load, Widening, zext, sext}
-use Rattle.wb_meaning.specs.ModelFile.Scope.{unary_term, binary_term, widened_term, unary_sort, binary_sort}
+use Rattle.wb_values.specs.Value.{Sort, truth, word, memory}
+use Rattle.model_meaning.specs.Term as terms
+use Rattle.model_meaning.specs.Term.{Term, sort_of, bits_sort, word_sort, same_bits_sort, same_word_sort, compared, concat_sort, load_sort, extract_sort, extended_sort, ite_sort, store_sort}
+use Rattle.model_files.specs.Written.{UnaryOperator, not, neg, BinaryOperator, and, or, xor, add, sub, mul, shl, lshr, ashr, eq, ult, ule, slt, sle, concat, load, Widening, zext, sext}
+use Rattle.model_files.specs.Scope.{unary_term, binary_term, widened_term, unary_sort, binary_sort}
 
 -- ---- the sort of an operator's term is what the operator makes of the operands' sorts
 

@@ -2,12 +2,13 @@
 use Rattle.std.proofs.Common.{◌≡◌, Bool, true, false, ◌&&◌, ◌||◌, Option, Some, None, refl, sym, ap, ◌∙◌}
 use Rattle.std.specs.Prelude.{is_none, option_and_then}
 use Rattle.std.proofs.lemmas.Bool.{false≢true, and_parts}
-use Rattle.wb_meaning.specs.Value.{Name, word, Entries, entry_of}
-use Rattle.wb_meaning.specs.Term as terms
-use Rattle.wb_meaning.specs.Term.{Term, is_width, some_if, sort_of, extract_sort, ite_sort, store_sort, extended_sort}
-use Rattle.wb_meaning.specs.ModelFile.Written.{WrittenTerm, name, constant_truth, const, unary, binary, extract, widen, ite, store}
-use Rattle.wb_meaning.specs.ModelFile.Scope.{Visible, unary_term, binary_term, widened_term, unary_sort, binary_sort, term_named, term_of, written_sort}
-use Rattle.wb_meaning.specs.ModelFile.Rules.{uses_unknown_name, has_fitting_constants}
+use Rattle.wb_values.specs.Value.{Name, word, Entries, entry_of}
+use Rattle.model_meaning.specs.Term as terms
+use Rattle.wb_values.specs.Choice.{some_if}
+use Rattle.model_meaning.specs.Term.{Term, is_width, sort_of, extract_sort, ite_sort, store_sort, extended_sort}
+use Rattle.model_files.specs.Written.{WrittenTerm, name, constant_truth, const, unary, binary, extract, widen, ite, store}
+use Rattle.model_files.specs.Scope.{Visible, unary_term, binary_term, widened_term, unary_sort, binary_sort, term_named, term_of, written_sort}
+use Rattle.model_files.specs.Rules.{uses_unknown_name, has_fitting_constants}
 use Rattle.ila_build.specs.Standing.{term_by}
 use Rattle.ila_build.proofs.Refused.{unary-sort, binary-sort, widened-sort}
 

@@ -3,11 +3,11 @@ use Rattle.std.proofs.Common.{◌≡◌, ℕ, true, false, not, ◌||◌, List, 
 use Rattle.std.specs.Prelude.{is_none, Ok, Err}
 use Rattle.std.specs.BTreeMap.{BTreeMap}
 use Rattle.std.proofs.lemmas.Bool.{false≢true, and_parts}
-use Rattle.wb_meaning.specs.Value.{Name, Sort, Entries}
-use Rattle.wb_meaning.specs.Model.{StateDeclaration, state_named}
-use Rattle.wb_meaning.specs.ModelFile.Written.{WrittenTerm, WrittenInstruction, WrittenInstructions, and_then, WrittenMachine}
-use Rattle.wb_meaning.specs.ModelFile.Scope.{Visible, Place, of_condition, of_update, placed, declared, with_definitions, with_fetch, placed_definitions, placed_fetch, placed_updates}
-use Rattle.wb_meaning.specs.ModelFile.Rules.{uses_unknown_name, updates_no_state}
+use Rattle.wb_values.specs.Value.{Name, Sort, Entries}
+use Rattle.model_meaning.specs.Model.{StateDeclaration, state_named}
+use Rattle.model_files.specs.Written.{WrittenTerm, WrittenInstruction, WrittenInstructions, and_then, WrittenMachine}
+use Rattle.model_files.specs.Scope.{Visible, Place, of_condition, of_update, placed, declared, with_definitions, with_fetch, placed_definitions, placed_fetch, placed_updates}
+use Rattle.model_files.specs.Rules.{uses_unknown_name, updates_no_state}
 use Rattle.wb_terms.specs.declared.nodes.TermId.{TermId}
 use Rattle.wb_terms.specs.declared.store.PutStop.{PutStop}
 use Rattle.wb_terms.specs.declared.store.PutStop.TheVariants.{BadSort, NoMemory}

@@ -1,6 +1,6 @@
 -- The parts of written machines, instructions and child programs, as they are seen.
 use Rattle.std.proofs.Common.{◌≡◌, refl, ap, sym, ◌∙◌, None}
-use Rattle.wb_meaning.specs.ModelFile.Written as pure
+use Rattle.model_files.specs.Written as pure
 use Rattle.ila_file.specs.View.{child_step, instruction_step, machine_step, child_view, instruction_view, machine_view, instructions_view}
 use Rattle.ila_file.specs.declared.written.WrittenChild.{WrittenChild, out-WrittenChild}
 use Rattle.ila_file.specs.declared.written.WrittenChild.TheFolds.{fold_out-WrittenChild, fold_out-WrittenInstruction, fold_out-WrittenMachine}

@@ -3,11 +3,11 @@ use Rattle.std.specs.Prelude.{ℕ, suc, ◌<◌, ◌≡◌, true, List, ◌++◌
 use Rattle.std.specs.Borrow.{Bor}
 use Rattle.std.specs.BTreeMap.{BTreeMap}
 use Rattle.std.specs.String.{string_bytes}
-use Rattle.wb_meaning.specs.Value.{Name, Entries}
-use Rattle.wb_meaning.specs.Model.{StateDeclaration}
-use Rattle.wb_meaning.specs.ModelFile.Written.{WrittenTerm, WrittenInstruction, instruction, WrittenInstructions, no_instructions, and_then, WrittenMachine, machine, states_in}
-use Rattle.wb_meaning.specs.ModelFile.Scope.{Visible, Placed, placed, of_condition, term_of, with_states, with_definitions, with_fetch, placed_definitions, placed_fetch, placed_updates}
-use Rattle.wb_meaning.specs.ModelFile.Meaning.{updates_of}
+use Rattle.wb_values.specs.Value.{Name, Entries}
+use Rattle.model_meaning.specs.Model.{StateDeclaration}
+use Rattle.model_files.specs.Written.{WrittenTerm, WrittenInstruction, instruction, WrittenInstructions, no_instructions, and_then, WrittenMachine, machine, states_in}
+use Rattle.model_files.specs.Scope.{Visible, Placed, placed, of_condition, term_of, with_states, with_definitions, with_fetch, placed_definitions, placed_fetch, placed_updates}
+use Rattle.model_files.specs.Meaning.{updates_of}
 use Rattle.wb_terms.specs.declared.nodes.TermId.{TermId}
 use Rattle.wb_terms.specs.Graph.{Graph, tree}
 use Rattle.ila_model.specs.declared.parts.Update.{Update}

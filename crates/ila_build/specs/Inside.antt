@@ -2,11 +2,11 @@
 use Rattle.std.specs.Prelude.{ℕ, ◌+◌, ◌≤◌, ◌≡◌, true, List, [], ◌∷◌, ◌++◌, length, ⊤, Option, Some, None}
 use Rattle.std.specs.Borrow.{Bor}
 use Rattle.std.specs.BTreeMap.{BTreeMap}
-use Rattle.wb_meaning.specs.Value.{Entries}
-use Rattle.wb_meaning.specs.ModelFile.Written.{WrittenInstruction, instruction, WrittenInstructions, no_instructions, and_then, WrittenChild, no_child, child, machines_below, machines_of_instruction, machines_of_child}
-use Rattle.wb_meaning.specs.ModelFile.Scope.{Visible, Scope, terms_below, terms_of_child}
-use Rattle.wb_meaning.specs.ModelFile.Rules.{depth_of_child}
-use Rattle.wb_meaning.specs.ModelFile.Meaning.{child_of}
+use Rattle.wb_values.specs.Value.{Entries}
+use Rattle.model_files.specs.Written.{WrittenInstruction, instruction, WrittenInstructions, no_instructions, and_then, WrittenChild, no_child, child, machines_below, machines_of_instruction, machines_of_child}
+use Rattle.model_files.specs.Scope.{Visible, Scope, terms_below, terms_of_child}
+use Rattle.model_files.specs.Rules.{depth_of_child}
+use Rattle.model_files.specs.Meaning.{child_of}
 use Rattle.wb_terms.specs.declared.nodes.TermId.{TermId}
 use Rattle.wb_terms.specs.Graph.{Graph}
 use Rattle.ila_model.specs.declared.parts.ChildId.{ChildId}

@@ -3,10 +3,10 @@ use Rattle.std.specs.Prelude.{ℕ, ◌≡◌, Bool, true, not, ◌&&◌, List, m
 use Rattle.std.specs.Borrow.{Bor}
 use Rattle.std.specs.BTreeMap.{BTreeMap}
 use Rattle.std.specs.List.{list_all}
-use Rattle.wb_meaning.specs.Value.{Name, Entries, entry_of}
-use Rattle.wb_meaning.specs.ModelFile.Written.{WrittenTerm}
-use Rattle.wb_meaning.specs.ModelFile.Scope.{Visible, Placed, written_sort, placed_definitions, with_definitions}
-use Rattle.wb_meaning.specs.ModelFile.Rules.{is_unknown_at, takes_sort, has_fitting_constants}
+use Rattle.wb_values.specs.Value.{Name, Entries, entry_of}
+use Rattle.model_files.specs.Written.{WrittenTerm}
+use Rattle.model_files.specs.Scope.{Visible, Placed, written_sort, placed_definitions, with_definitions}
+use Rattle.model_files.specs.Rules.{is_unknown_at, takes_sort, has_fitting_constants}
 use Rattle.wb_terms.specs.declared.nodes.TermId.{TermId}
 use Rattle.wb_terms.specs.declared.store.PutStop.{PutStop}
 use Rattle.wb_terms.specs.declared.store.PutStop.TheVariants.{BadSort, NoMemory}

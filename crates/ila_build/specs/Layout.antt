@@ -2,9 +2,9 @@
 use Rattle.std.specs.Prelude.{ℕ, suc, ◌+◌, ◌≡◌, true, List, [], ◌∷◌, ◌++◌, map, length, Option, Some, None, option_map}
 use Rattle.std.specs.Borrow.{Bor}
 use Rattle.std.specs.BTreeMap.{BTreeMap}
-use Rattle.wb_meaning.specs.Value.{Sort, Entries}
-use Rattle.wb_meaning.specs.ModelFile.Written.{WrittenInstruction, instruction, WrittenInstructions, no_instructions, and_then, WrittenMachine, machine, WrittenChild, no_child, child, states_in, machines_of_instruction}
-use Rattle.wb_meaning.specs.ModelFile.Scope.{Visible, Scope, with_states, scope_within, terms_below, terms_of_child}
+use Rattle.wb_values.specs.Value.{Sort, Entries}
+use Rattle.model_files.specs.Written.{WrittenInstruction, instruction, WrittenInstructions, no_instructions, and_then, WrittenMachine, machine, WrittenChild, no_child, child, states_in, machines_of_instruction}
+use Rattle.model_files.specs.Scope.{Visible, Scope, with_states, scope_within, terms_below, terms_of_child}
 use Rattle.wb_terms.specs.declared.nodes.TermId.{TermId}
 use Rattle.wb_terms.specs.Environment.{as_value}
 use Rattle.wb_terms.specs.Graph.{Graph}

@@ -3,13 +3,13 @@ use Rattle.std.specs.Prelude.{ℕ, ◌≤◌, ◌≡◌, ◌++◌, is_some, Bool
 use Rattle.std.specs.List.{list_all}
 use Rattle.std.specs.Borrow.{Bor}
 use Rattle.std.specs.BTreeMap.{BTreeMap}
-use Rattle.wb_meaning.specs.Value.{Name, Sort, Entries}
-use Rattle.wb_meaning.specs.Term.{Term, name, is_sort}
-use Rattle.wb_meaning.specs.Model.{StateDeclaration}
-use Rattle.wb_meaning.specs.ModelFile.Written.{WrittenInstruction, instruction, WrittenInstructions, no_instructions, and_then, WrittenMachine, machine, WrittenChild, no_child, child, states_in, machines_below, machines_of_child}
-use Rattle.wb_meaning.specs.ModelFile.Names.{data_names, joined}
-use Rattle.wb_meaning.specs.ModelFile.Scope.{Visible, with_states, terms_below, terms_of_child}
-use Rattle.wb_meaning.specs.ModelFile.Keys.{is_among}
+use Rattle.wb_values.specs.Value.{Name, Sort, Entries}
+use Rattle.model_meaning.specs.Term.{Term, name, is_sort}
+use Rattle.model_meaning.specs.Model.{StateDeclaration}
+use Rattle.model_files.specs.Written.{WrittenInstruction, instruction, WrittenInstructions, no_instructions, and_then, WrittenMachine, machine, WrittenChild, no_child, child, states_in, machines_below, machines_of_child}
+use Rattle.model_files.specs.Names.{data_names, joined}
+use Rattle.model_files.specs.Scope.{Visible, with_states, terms_below, terms_of_child}
+use Rattle.model_files.specs.Keys.{is_among}
 use Rattle.wb_terms.specs.declared.nodes.TermId.{TermId}
 use Rattle.wb_terms.specs.declared.store.PutStop.{PutStop}
 use Rattle.wb_terms.specs.declared.store.PutStop.TheVariants.{BadSort, NoMemory}

@@ -4,12 +4,12 @@ use Rattle.std.specs.Borrow.{Bor}
 use Rattle.std.specs.Ordering.{nat_cmp}
 use Rattle.std.specs.Cmp.Lexicographic.{slice_cmp}
 use Rattle.std.specs.BTreeMap.{BTreeMap, get_by}
-use Rattle.wb_meaning.specs.Value.{Name, Sort, Entries, same_name}
-use Rattle.wb_meaning.specs.Term as terms
-use Rattle.wb_meaning.specs.Term.{Term, sort_of}
-use Rattle.wb_meaning.specs.ModelFile.Written.{WrittenTerm, name, constant_truth, const, unary, binary, extract, widen, ite, store}
-use Rattle.wb_meaning.specs.ModelFile.Keys.{is_among}
-use Rattle.wb_meaning.specs.ModelFile.Scope.{Visible, declared, unary_term, binary_term, widened_term}
+use Rattle.wb_values.specs.Value.{Name, Sort, Entries, same_name}
+use Rattle.model_meaning.specs.Term as terms
+use Rattle.model_meaning.specs.Term.{Term, sort_of}
+use Rattle.model_files.specs.Written.{WrittenTerm, name, constant_truth, const, unary, binary, extract, widen, ite, store}
+use Rattle.model_files.specs.Keys.{is_among}
+use Rattle.model_files.specs.Scope.{Visible, declared, unary_term, binary_term, widened_term}
 use Rattle.wb_terms.specs.declared.nodes.TermId.{TermId}
 use Rattle.wb_terms.specs.declared.store.PutStop.{PutStop}
 use Rattle.wb_terms.specs.declared.store.PutStop.TheVariants.{BadSort, NoMemory}

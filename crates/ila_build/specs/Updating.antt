@@ -3,12 +3,12 @@ use Rattle.std.specs.Prelude.{ℕ, suc, ◌<◌, ◌≤◌, ◌≡◌, true, Lis
 use Rattle.std.specs.Borrow.{Bor}
 use Rattle.std.specs.Ordering.{nat_cmp}
 use Rattle.std.specs.BTreeMap.{BTreeMap, get_by}
-use Rattle.wb_meaning.specs.Value.{Name, Sort, truth, Entries, entry_of}
-use Rattle.wb_meaning.specs.Term.{Term}
-use Rattle.wb_meaning.specs.Model.{StateDeclaration, state_named}
-use Rattle.wb_meaning.specs.ModelFile.Written.{WrittenTerm}
-use Rattle.wb_meaning.specs.ModelFile.Scope.{Visible, of_update, placed, term_of, placed_updates}
-use Rattle.wb_meaning.specs.ModelFile.Meaning.{updates_of}
+use Rattle.wb_values.specs.Value.{Name, Sort, truth, Entries, entry_of}
+use Rattle.model_meaning.specs.Term.{Term}
+use Rattle.model_meaning.specs.Model.{StateDeclaration, state_named}
+use Rattle.model_files.specs.Written.{WrittenTerm}
+use Rattle.model_files.specs.Scope.{Visible, of_update, placed, term_of, placed_updates}
+use Rattle.model_files.specs.Meaning.{updates_of}
 use Rattle.wb_terms.specs.declared.nodes.NameId.{NameId}
 use Rattle.wb_terms.specs.declared.nodes.TermId.{TermId}
 use Rattle.wb_terms.specs.Graph.{Graph, tree, leaf_at}

@@ -7,8 +7,8 @@ ghost use Rattle.ila_build.specs.Standing.{IsKept, IsTable, IsWider};
 ghost use Rattle.ila_build.specs.Building.{IsChildPut};
 ghost use Rattle.ila_build.specs.Refusing.{IsBesides, IsChildDue, IsUnrefused};
 ghost use Rattle.ila_build.specs.Declaring.{state_entry};
-ghost use Rattle.wb_meaning.specs.ModelFile.Names.{data_names};
-ghost use Rattle.wb_meaning.specs.ModelFile.Written.{states_in};
+ghost use Rattle.model_files.specs.Names.{data_names};
+ghost use Rattle.model_files.specs.Written.{states_in};
 ghost use Rattle.wb_terms.specs.Environment.{as_value};
 
 use crate::declaring::{declare_states, initial_values};

@@ -1,7 +1,7 @@
 //! How many child programs a machine has, with those inside them, and the ids that its instructions' children have by that.
 
 ghost use Rattle.std.specs.Prelude.{◌≡◌, ◌+◌, length, IfOk};
-ghost use Rattle.wb_meaning.specs.ModelFile.Written.{machines_below, machines_of_child, machines_of_instruction};
+ghost use Rattle.model_files.specs.Written.{machines_below, machines_of_child, machines_of_instruction};
 ghost use Rattle.ila_file.specs.View.{child_view, instruction_view, machine_view};
 ghost use Rattle.ila_build.specs.Building.{instructions_in};
 ghost use Rattle.ila_build.specs.Inside.{link_from, links_from, program_in};

@@ -1,7 +1,7 @@
 //! Names are declared in a store, and stand for themselves.
 
 ghost use Rattle.std.specs.Prelude.{◌≡◌, ◌++◌, [], ◌∷◌, true, false, map, None, IfOk, IfSome, OnOk, option_map};
-ghost use Rattle.wb_meaning.specs.Term.{is_sort};
+ghost use Rattle.model_meaning.specs.Term.{is_sort};
 ghost use Rattle.wb_terms.specs.Sort.{as_sort};
 ghost use Rattle.wb_terms.specs.Environment.{as_value};
 ghost use Rattle.ila_file.specs.View.{sort_view, value_view, state_view, input_view, initial_view};

@@ -1,7 +1,7 @@
 //! Definitions: names that stand for terms, each of which sees the definitions before it.
 
 ghost use Rattle.std.specs.Prelude.{◌≡◌, ℕ, List, [], ◌∷◌, false, map, None, OnOk};
-ghost use Rattle.wb_meaning.specs.Value.{same_name};
+ghost use Rattle.wb_values.specs.Value.{same_name};
 ghost use Rattle.ila_file.specs.View.{definition_view};
 ghost use Rattle.ila_build.specs.Standing.{AreIn, IsGrown, IsKept, under_name};
 ghost use Rattle.ila_build.specs.Knowing.{AreDefined, defined_names};

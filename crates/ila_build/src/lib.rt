@@ -13,8 +13,6 @@ mod nodes;
 mod putting;
 mod seen;
 mod table;
-#[cfg(test)]
-mod tests;
 mod updating;
 
 pub use child::put_child;

@@ -6,7 +6,7 @@ ghost use Rattle.ila_build.specs.Standing.{AreIn, IsGrown, IsKept, IsTable};
 ghost use Rattle.ila_build.specs.Building.{IsFetched, IsMachinePut, definitions_in};
 ghost use Rattle.ila_build.specs.Knowing.{are_right, defined_names};
 ghost use Rattle.ila_build.specs.Refusing.{IsBesides, IsDue, IsMachineDue, IsUnrefused};
-ghost use Rattle.wb_meaning.specs.ModelFile.Scope.{placed_fetch};
+ghost use Rattle.model_files.specs.Scope.{placed_fetch};
 
 use crate::defining::put_definitions;
 use crate::instructions::put_instructions;

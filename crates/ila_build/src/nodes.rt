@@ -1,8 +1,8 @@
 //! The nodes of written operators over terms that are in a store.
 
 ghost use Rattle.std.specs.Prelude.{◌≡◌, ◌<◌, ◌≤◌, [], ◌∷◌, length};
-ghost use Rattle.wb_meaning.specs.Term.{const, extract, ite, store};
-ghost use Rattle.wb_meaning.specs.ModelFile.Scope.{unary_term, binary_term, widened_term};
+ghost use Rattle.model_meaning.specs.Term.{const, extract, ite, store};
+ghost use Rattle.model_files.specs.Scope.{unary_term, binary_term, widened_term};
 ghost use Rattle.wb_terms.specs.Graph.{Graph, IsOver, tree, tree_of_node, operands_of, names_of};
 ghost use Rattle.ila_file.specs.View.{unary_view, binary_view, widening_view};
 ghost use Rattle.ila_build.specs.Standing.{IsPut};

@@ -1,7 +1,7 @@
 //! The parts of machines and instructions as they are written, as their views have them.
 
 ghost use Rattle.std.specs.Prelude.{◌≡◌, map};
-ghost use Rattle.wb_meaning.specs.ModelFile.Written.{states_in};
+ghost use Rattle.model_files.specs.Written.{states_in};
 ghost use Rattle.ila_file.specs.View.{definition_view, fetch_view, instruction_view, instructions_view, machine_view, state_view, term_view, update_view};
 ghost use Rattle.ila_build.specs.Building.{called_in, decode_in, definitions_in, fetch_in, instructions_in, update_in, valid_in};
 

@@ -1,7 +1,7 @@
 //! The table of names: what each name stands for.
 
 ghost use Rattle.std.specs.Prelude.{◌≡◌, ℕ, List, OnOk, Some, cond};
-ghost use Rattle.wb_meaning.specs.Value.{same_name};
+ghost use Rattle.wb_values.specs.Value.{same_name};
 ghost use Rattle.ila_build.specs.Standing.{under_name};
 
 use std::collections::BTreeMap;

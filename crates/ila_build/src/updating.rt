@@ -3,11 +3,11 @@
 ghost use Rattle.std.specs.Prelude.{◌≡◌, ◌<◌, ◌==◌, ℕ, true, false, cond, length, map, None, Some, IfOk, IfSome, OnOk};
 ghost use Rattle.std.specs.Ordering.{nat_cmp};
 ghost use Rattle.std.specs.BTreeMap.{IsOrdered};
-ghost use Rattle.wb_meaning.specs.Verilog.Hierarchy.{first_of};
+ghost use Rattle.wb_values.specs.Choice.{first_of};
 ghost use Rattle.ila_file.specs.View.{update_view};
 ghost use Rattle.wb_terms.specs.Graph.{tree};
-ghost use Rattle.wb_meaning.specs.Model.{state_named};
-ghost use Rattle.wb_meaning.specs.ModelFile.Scope.{of_update, placed, placed_updates};
+ghost use Rattle.model_meaning.specs.Model.{state_named};
+ghost use Rattle.model_files.specs.Scope.{of_update, placed, placed_updates};
 ghost use Rattle.ila_build.specs.Standing.{AreIn, IsGrown, IsTable, seen, under_name};
 ghost use Rattle.ila_build.specs.Knowing.{are_right, is_right};
 ghost use Rattle.ila_build.specs.Refusing.{IsDue, IsUnrefused, is_leaf};

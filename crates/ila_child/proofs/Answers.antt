@@ -1,11 +1,11 @@
 -- Lemmas on the answers of a step, from which instructions decode at the point of state and inputs.
 use Rattle.std.proofs.Common.{◌≡◌, ◌≢◌, ℕ, zero, suc, ◌<◌, Bool, true, false, List, [], ◌∷◌, length, get_or, slice_get, Option, Some, None, IsTrue, refl, sym, ap, ◌∙◌, subst, arith}
 use Rattle.std.proofs.lemmas.Bool.{false≢true}
-use Rattle.wb_meaning.specs.Value as meaning
-use Rattle.wb_meaning.specs.Value.{Name, Valuation}
-use Rattle.wb_meaning.specs.Model as pure
-use Rattle.wb_meaning.specs.Model.{Model, instruction_list, decode_of, holds, point_of}
-use Rattle.wb_meaning.specs.Instruction.{DoesInstruction, InstructionTrouble, DoesOne, Steps, state_in, NoneDecodesAt, IsOnlyDecoded, AreFirstTwoDecoded, Trouble}
+use Rattle.wb_values.specs.Value as meaning
+use Rattle.wb_values.specs.Value.{Name, Valuation}
+use Rattle.model_meaning.specs.Model as pure
+use Rattle.model_meaning.specs.Model.{Model, instruction_list, decode_of, holds, point_of}
+use Rattle.model_meaning.specs.Instruction.{DoesInstruction, InstructionTrouble, DoesOne, Steps, state_in, NoneDecodesAt, IsOnlyDecoded, AreFirstTwoDecoded, Trouble}
 use Rattle.wb_terms.specs.Graph.{Graph, tree}
 use Rattle.ila_model.specs.declared.parts.ChildId.{ChildId}
 use Rattle.ila_model.specs.declared.parts.Instruction.{Instruction}

@@ -2,8 +2,8 @@
 use Rattle.std.proofs.Common.{◌≡◌, ℕ, zero, suc, ◌+◌, ◌-◌, ◌<◌, ◌≤◌, Bool, true, false, ◌&&◌, List, [], ◌∷◌, map, length, get_or, take, drop, refl, sym, ap, ◌∙◌, subst, arith}
 use Rattle.std.proofs.lemmas.Bool.{and_from, and_right, and_parts, false≢true}
 use Rattle.std.proofs.lemmas.List.{drop_more}
-use Rattle.wb_meaning.specs.Value as meaning
-use Rattle.wb_meaning.specs.Value.{Name, Sort, truth, Entries, is_of_sort}
+use Rattle.wb_values.specs.Value as meaning
+use Rattle.wb_values.specs.Value.{Name, Sort, truth, Entries, is_of_sort}
 use Rattle.wb_terms.specs.declared.values.Value.{Value}
 use Rattle.wb_terms.specs.Environment.{as_value, AreOfSorts}
 use Rattle.ila_model.specs.declared.parts.Parts.{Parts}

@@ -3,12 +3,12 @@ use Rattle.std.proofs.Common.{◌≡◌, ◌≢◌, ℕ, zero, suc, ◌+◌, ◌
 use Rattle.std.specs.Prelude.{◌==◌, nat_le, nat_lt}
 use mathlib.Core.Path.{fun_ext}
 use Rattle.std.proofs.lemmas.Bool.{and_parts, and_from, ltb-true, eqb-true, false≢true}
-use Rattle.wb_meaning.specs.Value as meaning
-use Rattle.wb_meaning.specs.Value.{truth, as_truth, Valuation, valuation_of}
-use Rattle.wb_meaning.specs.Model as pure
-use Rattle.wb_meaning.specs.Model.{holds, updated}
-use Rattle.wb_meaning.specs.Instruction as instruction
-use Rattle.wb_meaning.specs.Instruction.{NoneDecodes, SomeDecodes, DoesChild, DoesInstruction, DoesOne, ChildTrouble, InstructionTrouble, OneTrouble}
+use Rattle.wb_values.specs.Value as meaning
+use Rattle.wb_values.specs.Value.{truth, as_truth, Valuation, valuation_of}
+use Rattle.model_meaning.specs.Model as pure
+use Rattle.model_meaning.specs.Model.{holds, updated}
+use Rattle.model_meaning.specs.Instruction as instruction
+use Rattle.model_meaning.specs.Instruction.{NoneDecodes, SomeDecodes, DoesChild, DoesInstruction, DoesOne, ChildTrouble, InstructionTrouble, OneTrouble}
 use Rattle.wb_terms.specs.declared.values.Env.{Env}
 use Rattle.wb_terms.specs.Graph.{Graph, tree}
 use Rattle.wb_terms.specs.Environment.{named, values_of, valuation, Fits}

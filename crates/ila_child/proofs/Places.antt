@@ -4,10 +4,10 @@ use Rattle.std.specs.Prelude.{◌==◌}
 use Rattle.std.proofs.lemmas.Bool.{and_from, and_parts, cases_eq, eq-eqb, eqb-true, ne_eqb, false≢true}
 use Rattle.std.proofs.lemmas.List.{get_or-drop, get_or-take, get_or-set_same, get_or-set_other, length-drop}
 use Rattle.std.proofs.Math.ListN.{length-set}
-use Rattle.wb_meaning.specs.Value as meaning
-use Rattle.wb_meaning.specs.Value.{Name, same_name, Sort, truth, number, Entries, entry_of, value_or_zero, Valuation, valuation_of}
-use Rattle.wb_meaning.specs.Term.{Term}
-use Rattle.wb_meaning.specs.Model.{StateDeclaration, InputDeclaration, is_input, state_named}
+use Rattle.wb_values.specs.Value as meaning
+use Rattle.wb_values.specs.Value.{Name, same_name, Sort, truth, number, Entries, entry_of, value_or_zero, Valuation, valuation_of}
+use Rattle.model_meaning.specs.Term.{Term}
+use Rattle.model_meaning.specs.Model.{StateDeclaration, InputDeclaration, is_input, state_named}
 use Rattle.wb_terms.specs.declared.values.Value.{Value}
 use Rattle.wb_terms.specs.Graph.{Graph, tree}
 use Rattle.wb_terms.specs.Environment.{as_value, named}

@@ -3,10 +3,10 @@ use Rattle.std.proofs.Common.{◌≡◌, ◌≢◌, ℕ, zero, suc, ◌+◌, ◌
 use Rattle.std.specs.Prelude.{◌==◌, ◌||◌, nat_le, nat_lt}
 use mathlib.Core.Path.{fun_ext}
 use Rattle.std.proofs.lemmas.Bool.{and_parts, cases_eq, eq-eqb, eqb-true, ne_eqb, false≢true}
-use Rattle.wb_meaning.specs.Value as meaning
-use Rattle.wb_meaning.specs.Value.{Name, Sort, number, Entries, entry_of, Valuation, valuation_of}
-use Rattle.wb_meaning.specs.Term.{Term, val}
-use Rattle.wb_meaning.specs.Model.{StateDeclaration, updated, updated_value, entered, left_behind, initial_value, state_named}
+use Rattle.wb_values.specs.Value as meaning
+use Rattle.wb_values.specs.Value.{Name, Sort, number, Entries, entry_of, Valuation, valuation_of}
+use Rattle.model_meaning.specs.Term.{Term, val}
+use Rattle.model_meaning.specs.Model.{StateDeclaration, updated, updated_value, entered, left_behind, initial_value, state_named}
 use Rattle.wb_terms.specs.declared.values.Value.{Value}
 use Rattle.wb_terms.specs.Graph.{Graph, tree}
 use Rattle.wb_terms.specs.Environment.{named}

@@ -2,12 +2,12 @@
 use Rattle.std.proofs.Common.{◌≡◌, ℕ, zero, suc, ◌+◌, ◌-◌, ◌<◌, ◌≤◌, Bool, true, false, List, [], ◌∷◌, length, get_or, drop, Option, Some, None, inl, inr, refl, sym, ap, ◌∙◌, subst, arith}
 use Rattle.std.proofs.Math.Numerals.{add-one}
 use Rattle.std.proofs.lemmas.Bool.{and_parts}
-use Rattle.wb_meaning.specs.Value as meaning
-use Rattle.wb_meaning.specs.Value.{Valuation}
-use Rattle.wb_meaning.specs.Model as pure
-use Rattle.wb_meaning.specs.Model.{holds, entered, left_behind}
-use Rattle.wb_meaning.specs.Instruction as instruction
-use Rattle.wb_meaning.specs.Instruction.{Reaches, DoesChild, DoesStep, ChildTrouble, OneTrouble}
+use Rattle.wb_values.specs.Value as meaning
+use Rattle.wb_values.specs.Value.{Valuation}
+use Rattle.model_meaning.specs.Model as pure
+use Rattle.model_meaning.specs.Model.{holds, entered, left_behind}
+use Rattle.model_meaning.specs.Instruction as instruction
+use Rattle.model_meaning.specs.Instruction.{Reaches, DoesChild, DoesStep, ChildTrouble, OneTrouble}
 use Rattle.wb_terms.specs.Graph.{Graph, tree}
 use Rattle.ila_model.specs.declared.parts.ChildId.{ChildId}
 use Rattle.ila_model.specs.declared.parts.Child.{Child}

@@ -3,11 +3,11 @@ use Rattle.std.proofs.Common.{◌≡◌, ◌≢◌, ℕ, zero, suc, ◌+◌, ◌
 use Rattle.std.specs.Prelude.{◌==◌}
 use Rattle.std.proofs.lemmas.Bool.{and_parts, eqb-true}
 use Rattle.std.proofs.lemmas.List.{get_or-take, get_or-drop, length-append, length-take, length-drop}
-use Rattle.wb_meaning.specs.Value as meaning
-use Rattle.wb_meaning.specs.Value.{Name, Sort, truth, number, Entries, entry_of, Valuation, valuation_of, HasSort}
-use Rattle.wb_meaning.specs.Model as pure
-use Rattle.wb_meaning.specs.Model.{StateDeclaration, InputDeclaration, is_input, state_named, point_of, states_of}
-use Rattle.wb_meaning.specs.Instruction.{state_in}
+use Rattle.wb_values.specs.Value as meaning
+use Rattle.wb_values.specs.Value.{Name, Sort, truth, number, Entries, entry_of, Valuation, valuation_of, HasSort}
+use Rattle.model_meaning.specs.Model as pure
+use Rattle.model_meaning.specs.Model.{StateDeclaration, InputDeclaration, is_input, state_named, point_of, states_of}
+use Rattle.model_meaning.specs.Instruction.{state_in}
 use Rattle.wb_terms.specs.declared.values.Value.{Value}
 use Rattle.wb_terms.specs.declared.values.Env.{Env}
 use Rattle.wb_terms.specs.Environment.{AreOfSorts, named, values_of, Fits}

@@ -3,10 +3,10 @@ use Rattle.std.proofs.Common.{◌≡◌, ℕ, zero, suc, ◌+◌, ◌<◌, ◌�
 use Rattle.std.proofs.lemmas.Bool.{cases_eq, and_parts, and_from, leb-true, le-leb, ltb-true, lt-ltb, eq-eqb, eqb-true, ne_eqb, false≢true}
 use Rattle.std.proofs.lemmas.List.{get_or-set_same, get_or-set_other, drop_more}
 use Rattle.std.proofs.Math.ListN.{length-set}
-use Rattle.wb_meaning.specs.Value as meaning
-use Rattle.wb_meaning.specs.Value.{Sort, truth, word, memory, number, Entries, Valuation, HasSort}
-use Rattle.wb_meaning.specs.Term.{same_sort, sort_of, val}
-use Rattle.wb_meaning.specs.Model.{updated_value}
+use Rattle.wb_values.specs.Value as meaning
+use Rattle.wb_values.specs.Value.{Sort, truth, word, memory, number, Entries, Valuation, HasSort}
+use Rattle.model_meaning.specs.Term.{same_sort, sort_of, val}
+use Rattle.model_meaning.specs.Model.{updated_value}
 use Rattle.wb_terms.specs.declared.values.Value.{Value}
 use Rattle.wb_terms.specs.Graph.{Graph, tree}
 use Rattle.wb_terms.specs.Environment.{HasSortOf, AreOfSorts, as_value}

@@ -1,8 +1,8 @@
 -- Which instructions of a list decode at a point, by their places.
 use Rattle.std.specs.Prelude.{ℕ, zero, suc, ◌<◌, ◌≡◌, ◌≢◌, Bool, true, false, List, [], ◌∷◌, Option, Some, None}
 use Rattle.std.specs.List.{list_all}
-use Rattle.wb_meaning.specs.Value.{truth, Valuation}
-use Rattle.wb_meaning.specs.Model.{holds}
+use Rattle.wb_values.specs.Value.{truth, Valuation}
+use Rattle.model_meaning.specs.Model.{holds}
 use Rattle.wb_terms.specs.Graph.{Graph, tree}
 use Rattle.ila_model.specs.declared.parts.Instruction.{Instruction}
 use Rattle.ila_model.specs.Sorted.{is_term_of}

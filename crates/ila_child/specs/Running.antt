@@ -1,11 +1,11 @@
 -- A machine's steps and programs at the values of an environment.
 use Rattle.std.specs.Prelude.{ℕ, zero, suc, ◌-◌, ◌<◌, ◌≤◌, ◌≡◌, Bool, true, cond, List, length, ⊤, Option, Some, None, IsTrue, IsFalse}
-use Rattle.wb_meaning.specs.Value as meaning
-use Rattle.wb_meaning.specs.Value.{number, Valuation, valuation_of}
-use Rattle.wb_meaning.specs.Model as pure
-use Rattle.wb_meaning.specs.Model.{holds}
-use Rattle.wb_meaning.specs.Instruction as instruction
-use Rattle.wb_meaning.specs.Instruction.{DoesChild, DoesOne, ChildTrouble, OneTrouble}
+use Rattle.wb_values.specs.Value as meaning
+use Rattle.wb_values.specs.Value.{number, Valuation, valuation_of}
+use Rattle.model_meaning.specs.Model as pure
+use Rattle.model_meaning.specs.Model.{holds}
+use Rattle.model_meaning.specs.Instruction as instruction
+use Rattle.model_meaning.specs.Instruction.{DoesChild, DoesOne, ChildTrouble, OneTrouble}
 use Rattle.wb_terms.specs.declared.values.Env.{Env}
 use Rattle.wb_terms.specs.Graph.{tree}
 use Rattle.wb_terms.specs.Environment.{named, values_of}

@@ -1,10 +1,10 @@
 -- The environment in which a step begins, and what the instruction that starts does.
 use Rattle.std.specs.Prelude.{ℕ, ◌+◌, ◌<◌, ◌≡◌, ◌++◌, List, [], map, length, drop, Option, Some, slice_get}
-use Rattle.wb_meaning.specs.Value as meaning
-use Rattle.wb_meaning.specs.Value.{Sort, Entries, Valuation, HasSort}
-use Rattle.wb_meaning.specs.Model as pure
-use Rattle.wb_meaning.specs.Instruction.{DoesInstruction, InstructionTrouble, stuck, too_long}
-use Rattle.wb_meaning.specs.Instruction as instruction
+use Rattle.wb_values.specs.Value as meaning
+use Rattle.wb_values.specs.Value.{Sort, Entries, Valuation, HasSort}
+use Rattle.model_meaning.specs.Model as pure
+use Rattle.model_meaning.specs.Instruction.{DoesInstruction, InstructionTrouble, stuck, too_long}
+use Rattle.model_meaning.specs.Instruction as instruction
 use Rattle.ila_child.specs.declared.running.Trouble.{Trouble}
 use Rattle.ila_child.specs.declared.running.Trouble.TheVariants.{Stuck, TooLong}
 use Rattle.wb_terms.specs.declared.values.Env.{Env}

@@ -1,7 +1,7 @@
 -- States and inputs of a model as lists of values, one for each declaration and of its sort, and what its names mean by them.
 use Rattle.std.specs.Prelude.{List, map}
-use Rattle.wb_meaning.specs.Value.{Sort, Value, Entries, Valuation, valuation_of}
-use Rattle.wb_meaning.specs.Model.{StateDeclaration, InputDeclaration, Model, states_of, value_or}
+use Rattle.wb_values.specs.Value.{Sort, Value, Entries, Valuation, valuation_of}
+use Rattle.model_meaning.specs.Model.{StateDeclaration, InputDeclaration, Model, states_of, value_or}
 use Rattle.wb_terms.specs.Environment.{AreOfSorts, named}
 use Rattle.ila_model.specs.Meaning.{zero_of}
 

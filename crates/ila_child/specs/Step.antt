@@ -1,9 +1,9 @@
 -- What each answer of a step says. The causes of the answers exclude each other, so each answer comes exactly where its cause holds.
 use Rattle.std.specs.Prelude.{ℕ, List}
-use Rattle.wb_meaning.specs.Value.{Value, Valuation}
-use Rattle.wb_meaning.specs.Model as pure
-use Rattle.wb_meaning.specs.Model.{Model}
-use Rattle.wb_meaning.specs.Instruction.{Steps, IsValidAt, IsStarted, IsInstruction, NoneDecodesAt, AreFirstTwoDecoded, Trouble, stuck, too_long, HasTrouble}
+use Rattle.wb_values.specs.Value.{Value, Valuation}
+use Rattle.model_meaning.specs.Model as pure
+use Rattle.model_meaning.specs.Model.{Model}
+use Rattle.model_meaning.specs.Instruction.{Steps, IsValidAt, IsStarted, IsInstruction, NoneDecodesAt, AreFirstTwoDecoded, Trouble, stuck, too_long, HasTrouble}
 use Rattle.ila_child.specs.declared.stepping.Stepped.{Stepped}
 use Rattle.ila_child.specs.declared.stepping.Stepped.TheVariants.{Next, NotValid, NoInstruction, Several, ChildStuck, ChildTooLong}
 use Rattle.ila_child.specs.State.{IsStateOf, state_valuation, input_valuation}

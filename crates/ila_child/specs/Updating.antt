@@ -1,8 +1,8 @@
 -- The values of the names after updates, and after private states have begun.
 use Rattle.std.specs.Prelude.{ℕ, suc, ◌<◌, ◌≡◌, Bool, true, ◌&&◌, nat_le, nat_lt, cond, ◌==◌, List, [], ◌∷◌, length, ⊤, Option, Some, None, slice_index_or, slice_set}
-use Rattle.wb_meaning.specs.Value as meaning
-use Rattle.wb_meaning.specs.Value.{Sort, Entries, number, Valuation, HasSort}
-use Rattle.wb_meaning.specs.Term.{Term, val}
+use Rattle.wb_values.specs.Value as meaning
+use Rattle.wb_values.specs.Value.{Sort, Entries, number, Valuation, HasSort}
+use Rattle.model_meaning.specs.Term.{Term, val}
 use Rattle.wb_terms.specs.declared.values.Value.{Value}
 use Rattle.wb_terms.specs.Graph.{Graph, tree}
 use Rattle.wb_terms.specs.Environment.{as_value}

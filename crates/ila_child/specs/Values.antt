@@ -1,8 +1,8 @@
 -- The number of words of a memory, and the value with which a state begins.
 use Rattle.std.specs.Prelude.{ℕ, ◌≡◌, ◌^◌, Bool, true, false, ◌&&◌, List, [], ◌∷◌, Option, Some, option_map}
-use Rattle.wb_meaning.specs.Value as meaning
-use Rattle.wb_meaning.specs.Value.{Sort, memory, Entries, is_of_sort}
-use Rattle.wb_meaning.specs.Model.{value_or}
+use Rattle.wb_values.specs.Value as meaning
+use Rattle.wb_values.specs.Value.{Sort, memory, Entries, is_of_sort}
+use Rattle.model_meaning.specs.Model.{value_or}
 use Rattle.wb_terms.specs.declared.values.Value.{Value}
 use Rattle.wb_terms.specs.Environment.{as_value}
 use Rattle.ila_model.specs.Meaning.{zero_of}

@@ -1,9 +1,9 @@
 //! Values of a model's terms, by one pass over its store under an environment.
 
 ghost use Rattle.std.specs.Prelude.{◌≡◌, ◌<◌, true, length, IfOk};
-ghost use Rattle.wb_meaning.specs.Value.{truth, as_words};
-ghost use Rattle.wb_meaning.specs.Term.{sort_of};
-ghost use Rattle.wb_meaning.specs.Model.{holds};
+ghost use Rattle.wb_values.specs.Value.{truth, as_words};
+ghost use Rattle.model_meaning.specs.Term.{sort_of};
+ghost use Rattle.model_meaning.specs.Model.{holds};
 ghost use Rattle.wb_terms.specs.Graph.{tree};
 ghost use Rattle.wb_terms.specs.Environment.{Fits, HasSortOf, valuation, value_of, as_value};
 ghost use Rattle.wb_terms.specs.Held.{Holds};

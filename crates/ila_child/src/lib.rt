@@ -6,8 +6,6 @@ mod evaluation;
 mod running;
 mod states;
 mod stepping;
-#[cfg(test)]
-mod tests;
 mod updating;
 mod values;
 

@@ -1,7 +1,7 @@
 //! States of a model and its inputs: a value for each state, and one for each input.
 
 ghost use Rattle.std.specs.Prelude.{◌≡◌, ◌↔◌, IfOk, IfSome, IsTrue, is_some, map};
-ghost use Rattle.wb_meaning.specs.Model.{states_of};
+ghost use Rattle.model_meaning.specs.Model.{states_of};
 ghost use Rattle.wb_terms.specs.Environment.{as_value};
 ghost use Rattle.ila_model.specs.Model.{model_of};
 ghost use Rattle.ila_child.specs.State.{IsStateOf, AreInputsOf, initial_values};
@@ -20,7 +20,7 @@ pub struct State {
 
 impl Model for State {
     ghost use Rattle.std.specs.Prelude.{List, map};
-    ghost use Rattle.wb_meaning.specs.Value as meaning;
+    ghost use Rattle.wb_values.specs.Value as meaning;
     ghost use Rattle.wb_terms.specs.Environment.{as_value};
 
     ghost Value = { List meaning.Value };
@@ -36,7 +36,7 @@ pub struct Inputs {
 
 impl Model for Inputs {
     ghost use Rattle.std.specs.Prelude.{List, map};
-    ghost use Rattle.wb_meaning.specs.Value as meaning;
+    ghost use Rattle.wb_values.specs.Value as meaning;
     ghost use Rattle.wb_terms.specs.Environment.{as_value};
 
     ghost Value = { List meaning.Value };

@@ -1,8 +1,8 @@
 //! Values by themselves: copies of them, and the zero of a sort.
 
 ghost use Rattle.std.specs.Prelude.{◌≡◌, ◌≤◌, ◌+◌, ◌++◌, IfOk, OnOk, IsTrue, map, length, take, drop};
-ghost use Rattle.wb_meaning.specs.Value.{is_of_sort, all_below};
-ghost use Rattle.wb_meaning.specs.Term.{is_sort};
+ghost use Rattle.wb_values.specs.Value.{is_of_sort, all_below};
+ghost use Rattle.model_meaning.specs.Term.{is_sort};
 ghost use Rattle.wb_terms.specs.Sort.{as_sort};
 ghost use Rattle.wb_terms.specs.Environment.{as_value};
 ghost use Rattle.ila_model.specs.Meaning.{zero_of};

@@ -1,8 +1,8 @@
 -- A list of instructions that is read item by item: what was read so far, and what the rest gives behind it.
 use Rattle.std.proofs.Common.{◌≡◌, List, [], ◌∷◌, ◌++◌, Option, Some, None, option_map, refl, sym, ap, ◌∙◌, map}
 use Rattle.std.proofs.lemmas.List.{map-append}
-use Rattle.wb_meaning.specs.ModelFile.Written.{WrittenInstruction, WrittenInstructions, no_instructions, and_then}
-use Rattle.wb_meaning.specs.ModelFile.Shape.{with_instruction}
+use Rattle.model_files.specs.Written.{WrittenInstruction, WrittenInstructions, no_instructions, and_then}
+use Rattle.model_files.specs.Shape.{with_instruction}
 use Rattle.ila_file.specs.View.{instructions_from}
 
 abbrev pub in_front_of : List WrittenInstruction → WrittenInstructions → WrittenInstructions

@@ -1,8 +1,8 @@
 -- Unknown keys by what stands under the known ones.
 use Rattle.std.proofs.Common.{◌≡◌, Bool, true, false, cond, ◌||◌, Option, Some, option_and_then, is_some, refl, ap, ◌∙◌}
 use Rattle.std.specs.Prelude.{codes}
-use Rattle.wb_meaning.specs.Value.{Name, same_name}
-use Rattle.wb_meaning.specs.ModelFile.Keys.{has_other_key, some_item, some_item_of, some_item_under, is_list, is_memory_state, state_has_other_key, input_has_other_key, input_keys, instruction_keys, child_keys, model_keys, instruction_has_unknown_key, child_under_has_unknown_key, child_has_unknown_key, instructions_under_have_unknown_key, instructions_have_unknown_key, some_instruction_has_unknown_key, model_has_unknown_key}
+use Rattle.wb_values.specs.Value.{Name, same_name}
+use Rattle.model_files.specs.Keys.{has_other_key, some_item, some_item_of, some_item_under, is_list, is_memory_state, state_has_other_key, input_has_other_key, input_keys, instruction_keys, child_keys, model_keys, instruction_has_unknown_key, child_under_has_unknown_key, child_has_unknown_key, instructions_under_have_unknown_key, instructions_have_unknown_key, some_instruction_has_unknown_key, model_has_unknown_key}
 use Rattle.serde_json.specs.Data.{Data, null, boolean, number, string, array, object, Items, no_items, item, Members, no_members, member}
 use Rattle.serde_json.specs.Find.{get_member, as_array, as_object}
 use Rattle.ila_file.specs.KeyParts.{other_key_in, is_list_found, memory_keys, valued_keys, state_key_parts, some_listed, child_key_parts, child_key_found, instruction_key_parts, model_key_parts}

@@ -1,8 +1,8 @@
 -- A list that is a term, by its items.
 use Rattle.std.proofs.Common.{◌≡◌, ◌<◌, ◌≤◌, List, [], ◌∷◌, length, get_or, Option, None, option_and_then, refl, ap, ◌∙◌, arith}
-use Rattle.wb_meaning.specs.Value.{Name}
-use Rattle.wb_meaning.specs.ModelFile.Written.{WrittenTerm}
-use Rattle.wb_meaning.specs.ModelFile.Shape.{term_in, sort_in, of_one, of_two, of_three}
+use Rattle.wb_values.specs.Value.{Name}
+use Rattle.model_files.specs.Written.{WrittenTerm}
+use Rattle.model_files.specs.Shape.{term_in, sort_in, of_one, of_two, of_three}
 use Rattle.serde_json.specs.Data.{Data, null, boolean, number, string, array, object, Items, no_items, item}
 use Rattle.serde_json.specs.Find.{as_str}
 use Rattle.serde_json.specs.View.{view, items_view}

@@ -4,10 +4,10 @@ use Rattle.std.specs.Prelude.{codes}
 use Rattle.std.specs.Ordering.{match_ordering}
 use Rattle.std.specs.Cmp.Lexicographic.{slice_cmp, nat_list_eq_equiv}
 use Rattle.std.proofs.lemmas.Map.Text.{is_eq-slice_cmp}
-use Rattle.wb_meaning.specs.Value.{Name, same_name, Entries}
-use Rattle.wb_meaning.specs.Model.{StateDeclaration}
-use Rattle.wb_meaning.specs.ModelFile.Written.{WrittenTerm, WrittenInstructions, WrittenChild}
-use Rattle.wb_meaning.specs.ModelFile.Shape.{input_in, definition_in, named, term_in, machine_from, child_under, child_in, instructions_under, instructions_in, instruction_in, instruction_from, child_from, model_in, model_from}
+use Rattle.wb_values.specs.Value.{Name, same_name, Entries}
+use Rattle.model_meaning.specs.Model.{StateDeclaration}
+use Rattle.model_files.specs.Written.{WrittenTerm, WrittenInstructions, WrittenChild}
+use Rattle.model_files.specs.Shape.{input_in, definition_in, named, term_in, machine_from, child_under, child_in, instructions_under, instructions_in, instruction_in, instruction_from, child_from, model_in, model_from}
 use Rattle.serde_json.specs.Data.{Data, null, boolean, number, string, array, object, Items, no_items, item, Members, no_members, member}
 use Rattle.serde_json.specs.Find.{as_str, get_member}
 use Rattle.serde_json.specs.View.{view, items_view}

@@ -1,7 +1,7 @@
 -- Keys that a model file's objects do not have, by what stands under the others.
 use Rattle.std.specs.Prelude.{Bool, false, cond, ◌||◌, List, [], ◌∷◌, Option, Some, None, is_some, codes}
-use Rattle.wb_meaning.specs.Value.{Name}
-use Rattle.wb_meaning.specs.ModelFile.Keys.{has_other_key, some_item, model_keys, instruction_keys, child_keys, state_has_other_key, input_has_other_key, instruction_has_unknown_key}
+use Rattle.wb_values.specs.Value.{Name}
+use Rattle.model_files.specs.Keys.{has_other_key, some_item, model_keys, instruction_keys, child_keys, state_has_other_key, input_has_other_key, instruction_has_unknown_key}
 use Rattle.serde_json.specs.Data.{Data, Items, Members}
 use Rattle.serde_json.specs.Find.{get, as_array, as_object}
 use Rattle.ila_file.specs.Parts.{under}

@@ -1,9 +1,9 @@
 -- The shape of a model file's objects by what stands under their keys.
 use Rattle.std.specs.Prelude.{Bool, true, false, List, [], Option, Some, None, option_and_then, codes}
-use Rattle.wb_meaning.specs.Value.{Name, Sort, Value, Entries}
-use Rattle.wb_meaning.specs.Model.{StateDeclaration, InputDeclaration}
-use Rattle.wb_meaning.specs.ModelFile.Written.{WrittenTerm, WrittenMachine, machine, WrittenInstruction, WrittenInstructions, WrittenChild, no_child, WrittenModel}
-use Rattle.wb_meaning.specs.ModelFile.Shape.{if_there, list_in, unsigned_in, sort_in, term_in, initial_in, private_initial_in, state_in, private_state_in, state_from, input_in, input_from, definition_in, update_in, instruction_from, child_from, all_instructions, model_from}
+use Rattle.wb_values.specs.Value.{Name, Sort, Value, Entries}
+use Rattle.model_meaning.specs.Model.{StateDeclaration, InputDeclaration}
+use Rattle.model_files.specs.Written.{WrittenTerm, WrittenMachine, machine, WrittenInstruction, WrittenInstructions, WrittenChild, no_child, WrittenModel}
+use Rattle.model_files.specs.Shape.{if_there, list_in, unsigned_in, sort_in, term_in, initial_in, private_initial_in, state_in, private_state_in, state_from, input_in, input_from, definition_in, update_in, instruction_from, child_from, all_instructions, model_from}
 use Rattle.serde_json.specs.Data.{Data}
 use Rattle.serde_json.specs.Find.{get, as_str, as_array}
 

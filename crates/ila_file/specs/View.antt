@@ -1,9 +1,9 @@
 -- The written model that the code's stands for.
 use Rattle.std.specs.Prelude.{List, [], ◌∷◌, map, Option, Some, None, option_map, Vec, Box}
 use Rattle.std.specs.Global.{Global}
-use Rattle.wb_meaning.specs.Value.{Name, Sort, truth, word, memory, Value, truth_value, number, Entries}
-use Rattle.wb_meaning.specs.Model.{StateDeclaration, InputDeclaration}
-use Rattle.wb_meaning.specs.ModelFile.Written as pure
+use Rattle.wb_values.specs.Value.{Name, Sort, truth, word, memory, Value, truth_value, number, Entries}
+use Rattle.model_meaning.specs.Model.{StateDeclaration, InputDeclaration}
+use Rattle.model_files.specs.Written as pure
 use Rattle.ila_file.specs.declared.written.UnaryOperator.{UnaryOperator}
 use Rattle.ila_file.specs.declared.written.UnaryOperator.TheVariants.{Not, Neg}
 use Rattle.ila_file.specs.declared.written.BinaryOperator.{BinaryOperator}

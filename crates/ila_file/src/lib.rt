@@ -22,6 +22,3 @@ pub use written::{
     WrittenInstruction, WrittenMachine, WrittenModel, WrittenSort, WrittenState, WrittenTerm,
     WrittenUpdate, WrittenValue,
 };
-
-#[cfg(test)]
-mod tests;

@@ -2,11 +2,11 @@
 
 ghost use Rattle.std.specs.Prelude.{◌≡◌, ◌<◌, codes, IsTrue, Some, option_map};
 ghost use Rattle.std.specs.List.{list_all};
-ghost use Rattle.wb_meaning.specs.Term.{some_if};
-ghost use Rattle.wb_meaning.specs.Value.{same_name, truth, word, truth_value, number as number_value};
+ghost use Rattle.wb_values.specs.Choice.{some_if};
+ghost use Rattle.wb_values.specs.Value.{same_name, truth, word, truth_value, number as number_value};
 ghost use Rattle.serde_json.specs.Data.{array};
 ghost use Rattle.serde_json.specs.View.{view, items_view};
-ghost use Rattle.wb_meaning.specs.ModelFile.Shape.{is_hexadecimal_digit, digit_value, with_hexadecimal_digits, are_hexadecimal_digits, number_of_text, number_in, sort_in, memory_of};
+ghost use Rattle.model_files.specs.Shape.{is_hexadecimal_digit, digit_value, with_hexadecimal_digits, are_hexadecimal_digits, number_of_text, number_in, sort_in, memory_of};
 ghost use Rattle.ila_file.specs.View.{sort_view, initial_view};
 
 use crate::written::{WrittenSort, WrittenValue};

@@ -3,7 +3,7 @@
 ghost use Rattle.std.specs.Prelude.{◌≡◌, codes, Some, option_map};
 ghost use Rattle.serde_json.specs.Find.{get, as_array, as_object};
 ghost use Rattle.serde_json.specs.View.{view, items_view, members_view};
-ghost use Rattle.wb_meaning.specs.ModelFile.Shape.{list_in, unsigned_in, input_in, definition_in, term_in, update_in, instruction_in, all_instructions, model_in};
+ghost use Rattle.model_files.specs.Shape.{list_in, unsigned_in, input_in, definition_in, term_in, update_in, instruction_in, all_instructions, model_in};
 ghost use Rattle.ila_file.specs.Parts.{under, under_if_there, or_empty, state_of, machine_under, child_found, instruction_list, instruction_parts, child_parts, model_parts};
 ghost use Rattle.ila_file.specs.Reading.{IsReading, IsNotedReading};
 ghost use Rattle.ila_file.specs.View.{term_view, states_view, inputs_view, definitions_view, updates_view, fetch_view, instructions_view, machine_view, instruction_view, child_view, instruction_list_view, held_child_view, model_view};

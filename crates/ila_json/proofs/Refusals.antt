@@ -1,9 +1,9 @@
 -- What is known of a reading by the refusal that was found, or by finding none.
 use Rattle.std.proofs.Common.{◌≡◌, Bool, true, false, cond, Option, Some, None, refl, sym, ap}
 use Rattle.serde_json.specs.Data.{Data}
-use Rattle.wb_meaning.specs.ModelFile.Written.{WrittenModel}
-use Rattle.wb_meaning.specs.ModelFile.Keys.{model_has_unknown_key}
-use Rattle.wb_meaning.specs.ModelFile.Meaning.{ModelReading, stands_for, refused_by, ModelRule, UnknownKey, model_of, broken_rule, judged, with_known_keys}
+use Rattle.model_files.specs.Written.{WrittenModel}
+use Rattle.model_files.specs.Keys.{model_has_unknown_key}
+use Rattle.model_files.specs.Meaning.{ModelReading, stands_for, refused_by, ModelRule, UnknownKey, model_of, broken_rule, judged, with_known_keys}
 use Rattle.ila_json.specs.Reading.{refusal_in}
 
 pub refusal_found : (x : ModelReading) (r : ModelRule) → Some r ≡ refusal_in x → x ≡ refused_by r

@@ -1,8 +1,8 @@
 -- What the calls answer of a model file, beside its reading.
 use Rattle.std.specs.Prelude.{◌≡◌, true, ⊤, Option, Some, None, option_map, Result, Ok, Err}
 use Rattle.serde_json.specs.Data.{Data}
-use Rattle.wb_meaning.specs.ModelFile.Meaning as meaning
-use Rattle.wb_meaning.specs.ModelFile.Meaning.{ModelReading, stands_for, refused_by, ModelRule, broken_rule, of_document}
+use Rattle.model_files.specs.Meaning as meaning
+use Rattle.model_files.specs.Meaning.{ModelReading, stands_for, refused_by, ModelRule, broken_rule, of_document}
 use Rattle.ila_file.specs.declared.written.WrittenModel.{WrittenModel}
 use Rattle.ila_file.specs.View.{model_view}
 use Rattle.ila_rules.specs.Rule.{rule_view}

@@ -6,6 +6,3 @@ mod stop;
 
 pub use reading::{model_refusal, read_model};
 pub use stop::ModelStop;
-
-#[cfg(test)]
-mod tests;

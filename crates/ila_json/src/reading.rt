@@ -2,9 +2,9 @@
 
 ghost use Rattle.std.specs.Prelude.{◌≡◌, IfOk};
 ghost use Rattle.serde_json.specs.View.{view};
-ghost use Rattle.wb_meaning.specs.ModelFile.Shape.{document, model_in};
-ghost use Rattle.wb_meaning.specs.ModelFile.Meaning as meaning;
-ghost use Rattle.wb_meaning.specs.ModelFile.Meaning.{reading_of, of_shape, with_known_keys, judged, broken_rule, refused_by};
+ghost use Rattle.model_files.specs.Shape.{document, model_in};
+ghost use Rattle.model_files.specs.Meaning as meaning;
+ghost use Rattle.model_files.specs.Meaning.{reading_of, of_shape, with_known_keys, judged, broken_rule, refused_by};
 ghost use Rattle.ila_file.specs.View.{model_view};
 ghost use Rattle.ila_rules.specs.Rule.{rule_view};
 ghost use Rattle.ila_json.specs.Reading.{IsDocument, IsJudged, IsModelRead, IsRefusalIn, IsStoppedBy, IsWritten};

@@ -3,7 +3,7 @@ use Rattle.std.proofs.Common.{◌≡◌, ℕ, zero, suc, ◌+◌, ◌-◌, ◌<�
 use Rattle.std.proofs.lemmas.Bool.{and_from, and_right, and_parts, eqb-true, ne_eqb, ltb-true, false≢true}
 use Rattle.std.specs.Prelude.{◌==◌, nat_le, nat_lt}
 use Rattle.std.proofs.lemmas.List.{drop_more, length-drop, get_or-drop}
-use Rattle.wb_meaning.specs.Value.{Sort, truth, Entries}
+use Rattle.wb_values.specs.Value.{Sort, truth, Entries}
 use Rattle.wb_terms.specs.declared.values.Value.{Value}
 use Rattle.wb_terms.specs.Graph.{Graph, HasDistinctNames}
 use Rattle.wb_terms.specs.Environment.{as_value}

@@ -1,11 +1,11 @@
 -- The model that the parts of a model stand for: the trees of its terms under the names of its states and inputs, and its child programs.
 use Rattle.std.specs.Prelude.{ℕ, zero, suc, ◌^◌, false, List, [], ◌∷◌, map, length, drop, replicate, Option, Some, None, option_map}
 use Rattle.std.specs.String.{string_bytes}
-use Rattle.wb_meaning.specs.Value as meaning
-use Rattle.wb_meaning.specs.Value.{Name, Sort, truth, word, memory, truth_value, number, words, Entries}
-use Rattle.wb_meaning.specs.Term.{Term}
-use Rattle.wb_meaning.specs.Model as pure
-use Rattle.wb_meaning.specs.Model.{StateDeclaration, InputDeclaration, Model, machine, Instructions, no_instructions, and_then, no_child, value_or}
+use Rattle.wb_values.specs.Value as meaning
+use Rattle.wb_values.specs.Value.{Name, Sort, truth, word, memory, truth_value, number, words, Entries}
+use Rattle.model_meaning.specs.Term.{Term}
+use Rattle.model_meaning.specs.Model as pure
+use Rattle.model_meaning.specs.Model.{StateDeclaration, InputDeclaration, Model, machine, Instructions, no_instructions, and_then, no_child, value_or}
 use Rattle.wb_terms.specs.declared.values.Value.{Value}
 use Rattle.wb_terms.specs.Graph.{Graph, tree}
 use Rattle.wb_terms.specs.Environment.{as_value}

@@ -1,6 +1,6 @@
 -- The model that the code's record of its parts stands for.
 use Rattle.std.specs.String.{string_bytes}
-use Rattle.wb_meaning.specs.Model.{Model}
+use Rattle.model_meaning.specs.Model.{Model}
 use Rattle.ila_model.specs.declared.model.IlaModel.{IlaModel}
 use Rattle.ila_model.specs.Meaning.{model_from}
 

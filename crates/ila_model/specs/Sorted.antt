@@ -1,7 +1,7 @@
 -- When the parts of a model are well sorted: its declared names, its conditions and updates over their store of terms, and its children.
 use Rattle.std.specs.Prelude.{ℕ, zero, suc, ◌+◌, ◌<◌, ⊤, Bool, true, false, ◌&&◌, ◌||◌, ◌==◌, nat_le, nat_lt, List, [], ◌∷◌, length, drop, Option, Some, None, is_none, slice_index_or}
-use Rattle.wb_meaning.specs.Value.{Sort, truth, memory, Entries, entry_of, is_of_sort}
-use Rattle.wb_meaning.specs.Term.{same_sort, sort_of}
+use Rattle.wb_values.specs.Value.{Sort, truth, memory, Entries, entry_of, is_of_sort}
+use Rattle.model_meaning.specs.Term.{same_sort, sort_of}
 use Rattle.wb_terms.specs.declared.values.Value.{Value}
 use Rattle.wb_terms.specs.Graph.{Graph, tree}
 use Rattle.wb_terms.specs.Environment.{as_value}

@@ -5,8 +5,6 @@ mod model;
 mod parts;
 mod scopes;
 mod sorted;
-#[cfg(test)]
-mod tests;
 
 pub use model::IlaModel;
 pub use parts::{Child, ChildId, Instruction, Parts, Update};

@@ -19,8 +19,8 @@ pub struct IlaModel {
 
 impl IlaModel {
     ghost use Rattle.std.specs.Prelude.{◌+◌, ◌<◌, ◌≤◌, length, is_some, IfOk, IfSome, option_map, slice_get, string_bytes};
-    ghost use Rattle.wb_meaning.specs.Term.{is_sort};
-    ghost use Rattle.wb_meaning.specs.Model.{states_of};
+    ghost use Rattle.model_meaning.specs.Term.{is_sort};
+    ghost use Rattle.model_meaning.specs.Model.{states_of};
     ghost use Rattle.wb_terms.specs.Sort.{as_sort};
     ghost use Rattle.wb_terms.specs.Environment.{as_value};
     ghost use Rattle.ila_model.specs.Meaning.{model_from};

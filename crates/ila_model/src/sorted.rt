@@ -1,7 +1,7 @@
 //! What it takes for the parts of a model to be well sorted: its declarations, its conditions and updates over their store.
 
 ghost use Rattle.std.specs.Prelude.{◌≡◌, ◌≤◌, true, length, drop, IsTrue};
-ghost use Rattle.wb_meaning.specs.Term.{is_sort};
+ghost use Rattle.model_meaning.specs.Term.{is_sort};
 ghost use Rattle.wb_terms.specs.Sort.{as_sort};
 ghost use Rattle.ila_model.specs.Scope.{AreScopes};
 ghost use Rattle.ila_model.specs.Sorted.{are_distinct, are_states, is_initial, are_inputs, is_input_sort, are_placed, is_term_of, is_read_at, is_condition, is_state_at, are_updates, is_instruction, is_link, same_place, behind, IsChildBelow, are_instructions, is_machine, is_child, are_children, are_declarations};

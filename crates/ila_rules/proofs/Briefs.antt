@@ -2,14 +2,15 @@
 use Rattle.std.proofs.Common.{◌≡◌, ℕ, Bool, true, false, cond, ◌&&◌, Option, Some, None, option_map, sym, refl, ap, ◌∙◌}
 use Rattle.std.specs.Prelude.{is_none, codes, List, [], ◌∷◌, option_and_then}
 use Rattle.std.proofs.lemmas.Slice.Eq.{bytes_eq-Decides}
-use Rattle.wb_meaning.specs.Value.{Name, same_name, Entries, entry_of}
-use Rattle.wb_meaning.specs.Term as terms
-use Rattle.wb_meaning.specs.Term.{Term, is_sort, some_if}
-use Rattle.wb_meaning.specs.Model.{StateDeclaration, InputDeclaration, state_named}
-use Rattle.wb_meaning.specs.ModelFile.Written as written
-use Rattle.wb_meaning.specs.ModelFile.Written.{WrittenTerm, UnaryOperator, BinaryOperator, Widening, zext, sext}
-use Rattle.wb_meaning.specs.ModelFile.Scope.{Visible, term_of, term_named, unary_term, binary_term, widened_term, unary_sort, written_sort, declared, defined, with_inputs, with_states, with_definitions, with_fetch}
-use Rattle.wb_meaning.specs.ModelFile.Rules.{uses_unknown_name, is_memory_with_stores}
+use Rattle.wb_values.specs.Value.{Name, same_name, Entries, entry_of}
+use Rattle.model_meaning.specs.Term as terms
+use Rattle.wb_values.specs.Choice.{some_if}
+use Rattle.model_meaning.specs.Term.{Term, is_sort}
+use Rattle.model_meaning.specs.Model.{StateDeclaration, InputDeclaration, state_named}
+use Rattle.model_files.specs.Written as written
+use Rattle.model_files.specs.Written.{WrittenTerm, UnaryOperator, BinaryOperator, Widening, zext, sext}
+use Rattle.model_files.specs.Scope.{Visible, term_of, term_named, unary_term, binary_term, widened_term, unary_sort, written_sort, declared, defined, with_inputs, with_states, with_definitions, with_fetch}
+use Rattle.model_files.specs.Rules.{uses_unknown_name, is_memory_with_stores}
 use Rattle.ila_rules.specs.Seen.{Brief, LookUp, States, with_name, sort_at, common_memory, memory_at, uses_unknown, brief_at, is_memory_called}
 use Rattle.ila_rules.specs.Flaws.{look_inputs, look_states, look_definitions, look_fetch}
 

@@ -1,8 +1,8 @@
 -- Children nest deeper than some levels where their depth is above that number.
 use Rattle.std.proofs.Common.{◌≡◌, ℕ, suc, ◌-◌, max, false, ◌||◌, ◌==◌, nat_lt, ap, ◌∙◌, arith}
 use Rattle.std.proofs.lemmas.Bool.Decides.{nat_tests}
-use Rattle.wb_meaning.specs.ModelFile.Written.{WrittenMachine, machine, WrittenInstruction, instruction, WrittenInstructions, no_instructions, and_then, WrittenChild, no_child, child}
-use Rattle.wb_meaning.specs.ModelFile.Rules.{depth_of, depth_below, depth_of_instruction, depth_of_child}
+use Rattle.model_files.specs.Written.{WrittenMachine, machine, WrittenInstruction, instruction, WrittenInstructions, no_instructions, and_then, WrittenChild, no_child, child}
+use Rattle.model_files.specs.Rules.{depth_of, depth_below, depth_of_instruction, depth_of_child}
 use Rattle.ila_rules.specs.Depths.{nests_deeper, some_nest_deeper, instruction_nests_deeper, child_nests_deeper}
 
 below_none : (left : ℕ) → false ≡ nat_lt left 0

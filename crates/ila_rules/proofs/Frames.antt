@@ -10,10 +10,10 @@ use Rattle.std.specs.BTreeSet as sorted
 use Rattle.std.specs.BTreeSet.{BTreeSet}
 use Rattle.std.proofs.lemmas.Map.Text.{btree_map_updates_str, is_eq-slice_cmp}
 use Rattle.ila_rules.specs.NameFlaws.{with_member}
-use Rattle.wb_meaning.specs.Value.{Name, same_name}
-use Rattle.wb_meaning.specs.Term.{some_if}
-use Rattle.wb_meaning.specs.Verilog.Hierarchy.{first_of}
-use Rattle.wb_meaning.specs.Model.{StateDeclaration}
+use Rattle.wb_values.specs.Value.{Name, same_name}
+use Rattle.wb_values.specs.Choice.{some_if}
+use Rattle.wb_values.specs.Choice.{first_of}
+use Rattle.model_meaning.specs.Model.{StateDeclaration}
 use Rattle.ila_rules.specs.Seen.{Brief, LookUp, States, with_name, brief_declared}
 use Rattle.ila_rules.specs.Flaws.{look_states, with_state, states_within}
 use Rattle.ila_rules.specs.declared.scope.Frame.{Frame}

@@ -1,8 +1,8 @@
 -- The first rule that is broken, from what was found of each.
 use Rattle.std.proofs.Common.{◌≡◌, Bool, cond, Option, Some, None, refl, ap, ◌∙◌}
-use Rattle.wb_meaning.specs.ModelFile.Meaning.{ModelRule, BadName, DuplicateName, UnknownName, BadWidth, BadSort, BadNumber, MemoryCopy, TooDeepChild, BadSteps, broken_rule}
-use Rattle.wb_meaning.specs.ModelFile.Written.{WrittenModel}
-use Rattle.wb_meaning.specs.ModelFile.Rules.{has_bad_name, has_duplicate_name, has_unknown_name, has_bad_width, has_bad_sort, has_bad_number, has_memory_copy, has_too_deep_child, has_bad_steps}
+use Rattle.model_files.specs.Meaning.{ModelRule, BadName, DuplicateName, UnknownName, BadWidth, BadSort, BadNumber, MemoryCopy, TooDeepChild, BadSteps, broken_rule}
+use Rattle.model_files.specs.Written.{WrittenModel}
+use Rattle.model_files.specs.Rules.{has_bad_name, has_duplicate_name, has_unknown_name, has_bad_width, has_bad_sort, has_bad_number, has_memory_copy, has_too_deep_child, has_bad_steps}
 use Rattle.ila_rules.specs.Flaws.{Flaws, model_flaws}
 use Rattle.ila_rules.specs.NameFlaws.{NameFlaws, names_in_model}
 use Rattle.ila_rules.specs.Depths.{nests_deeper}

@@ -1,7 +1,7 @@
 -- The parts of written machines and instructions, as they are seen.
 use Rattle.std.proofs.Common.{◌≡◌, ap, ◌∙◌, refl, Option, Some, None, Box}
 use Rattle.std.specs.Global.{Global}
-use Rattle.wb_meaning.specs.ModelFile.Written as pure
+use Rattle.model_files.specs.Written as pure
 use Rattle.ila_file.specs.View.{child_step, instruction_step, machine_step, instruction_view, machine_view, held_child_view, term_view, updates_view, states_view, definitions_view, fetch_view, instructions_view}
 use Rattle.ila_file.specs.declared.written.WrittenChild.{WrittenChild}
 use Rattle.ila_file.specs.declared.written.WrittenChild.TheFolds.{fold_out-WrittenInstruction, fold_out-WrittenMachine}

@@ -2,9 +2,9 @@
 use Rattle.std.proofs.Common.{◌≡◌, ℕ, ◌≤◌, List, [], ◌∷◌, ◌++◌, length, drop, map, Option, Some, None, Box, sym, refl, ap, ◌∙◌, subst}
 use Rattle.std.specs.Global.{Global}
 use Rattle.std.proofs.lemmas.List.{drop_all}
-use Rattle.wb_meaning.specs.Value.{Entries}
-use Rattle.wb_meaning.specs.Model.{StateDeclaration}
-use Rattle.wb_meaning.specs.ModelFile.Written as pure
+use Rattle.wb_values.specs.Value.{Entries}
+use Rattle.model_meaning.specs.Model.{StateDeclaration}
+use Rattle.model_files.specs.Written as pure
 use Rattle.ila_file.specs.View.{input_view, state_view, definition_view, update_view, fetch_view, term_view, machine_view, instruction_view, child_view, held_child_view, instructions_view}
 use Rattle.ila_file.specs.declared.written.WrittenState.{WrittenState}
 use Rattle.ila_file.specs.declared.written.WrittenInput.{WrittenInput}

@@ -1,6 +1,6 @@
 -- Whether children nest deeper than some levels.
 use Rattle.std.specs.Prelude.{ℕ, ◌-◌, Bool, false, ◌||◌, ◌==◌}
-use Rattle.wb_meaning.specs.ModelFile.Written.{WrittenMachine, machine, WrittenInstruction, instruction, WrittenInstructions, no_instructions, and_then, WrittenChild, no_child, child}
+use Rattle.model_files.specs.Written.{WrittenMachine, machine, WrittenInstruction, instruction, WrittenInstructions, no_instructions, and_then, WrittenChild, no_child, child}
 
 abbrev mutual
   -- some child nests deeper than so many levels below the machine

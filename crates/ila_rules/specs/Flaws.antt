@@ -1,11 +1,12 @@
 -- Which rules the parts of a model file break, gathered part after part.
 use Rattle.std.specs.Prelude.{Bool, false, not, ◌||◌, List, [], ◌∷◌, Option, Some, None, codes}
-use Rattle.wb_meaning.specs.Verilog.Hierarchy.{first_of}
-use Rattle.wb_meaning.specs.Value.{Name, same_name, Sort, Value, Entries}
-use Rattle.wb_meaning.specs.Term.{is_sort, some_if}
-use Rattle.wb_meaning.specs.Model.{StateDeclaration, InputDeclaration}
-use Rattle.wb_meaning.specs.ModelFile.Written.{WrittenTerm, WrittenMachine, machine, WrittenInstruction, instruction, WrittenInstructions, no_instructions, and_then, WrittenChild, no_child, child, WrittenModel}
-use Rattle.wb_meaning.specs.ModelFile.Rules.{has_widths, has_fitting_constants, fits_sort}
+use Rattle.wb_values.specs.Choice.{first_of}
+use Rattle.wb_values.specs.Value.{Name, same_name, Sort, Value, Entries}
+use Rattle.wb_values.specs.Choice.{some_if}
+use Rattle.model_meaning.specs.Term.{is_sort}
+use Rattle.model_meaning.specs.Model.{StateDeclaration, InputDeclaration}
+use Rattle.model_files.specs.Written.{WrittenTerm, WrittenMachine, machine, WrittenInstruction, instruction, WrittenInstructions, no_instructions, and_then, WrittenChild, no_child, child, WrittenModel}
+use Rattle.model_files.specs.Rules.{has_widths, has_fitting_constants, fits_sort}
 use Rattle.ila_rules.specs.Seen.{LookUp, States, with_name, sort_at, memory_at, uses_unknown, brief_at, brief_declared, Role, definition, fetch, condition, update, updates_none, has_role_sort, copies_at}
 
 -- the rules that were broken so far

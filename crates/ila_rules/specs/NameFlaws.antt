@@ -1,8 +1,8 @@
 -- Which names of a model file are not legal or stand twice, gathered name after name in the order of the file.
 use Rattle.std.specs.Prelude.{Bool, true, false, cond, not, ◌||◌, List, [], ◌∷◌, map}
-use Rattle.wb_meaning.specs.Value.{Name, same_name}
-use Rattle.wb_meaning.specs.ModelFile.Written.{WrittenMachine, machine, WrittenInstruction, instruction, WrittenInstructions, no_instructions, and_then, WrittenChild, no_child, child, WrittenModel}
-use Rattle.wb_meaning.specs.ModelFile.Names.{is_model_name}
+use Rattle.wb_values.specs.Value.{Name, same_name}
+use Rattle.model_files.specs.Written.{WrittenMachine, machine, WrittenInstruction, instruction, WrittenInstructions, no_instructions, and_then, WrittenChild, no_child, child, WrittenModel}
+use Rattle.wb_values.specs.Names.{is_model_name}
 
 -- a set of names, as its test
 abbrev pub NameSet : Type 0

@@ -1,6 +1,6 @@
 -- The rules as the code names them, and their printed names.
 use Rattle.std.specs.Prelude.{ℕ, List, codes}
-use Rattle.wb_meaning.specs.ModelFile.Meaning as pure
+use Rattle.model_files.specs.Meaning as pure
 use Rattle.ila_rules.specs.declared.rule.ModelRule.{ModelRule}
 use Rattle.ila_rules.specs.declared.rule.ModelRule.TheVariants as rules
 

@@ -1,11 +1,12 @@
 -- What the judging of a term needs of the names that are visible: their sorts, and which memory they are.
 use Rattle.std.specs.Prelude.{Bool, true, false, cond, not, ◌&&◌, ◌||◌, Option, Some, None, is_none, option_and_then}
-use Rattle.wb_meaning.specs.Value.{Name, same_name, Sort, truth, word, memory}
-use Rattle.wb_meaning.specs.Term.{is_width, some_if, extract_sort, extended_sort, ite_sort, store_sort, is_sort, same_sort}
-use Rattle.wb_meaning.specs.ModelFile.Written as written
-use Rattle.wb_meaning.specs.ModelFile.Written.{WrittenTerm}
-use Rattle.wb_meaning.specs.ModelFile.Scope.{unary_sort, binary_sort}
-use Rattle.wb_meaning.specs.ModelFile.Rules.{is_memory_sort}
+use Rattle.wb_values.specs.Value.{Name, same_name, Sort, truth, word, memory}
+use Rattle.wb_values.specs.Choice.{some_if}
+use Rattle.model_meaning.specs.Term.{is_width, extract_sort, extended_sort, ite_sort, store_sort, is_sort, same_sort}
+use Rattle.model_files.specs.Written as written
+use Rattle.model_files.specs.Written.{WrittenTerm}
+use Rattle.model_files.specs.Scope.{unary_sort, binary_sort}
+use Rattle.model_files.specs.Rules.{is_memory_sort}
 
 -- What is known of a name or a term: its sort where it has one, and the memory that it is with words stored to it, if it is one.
 pub record Brief : Type 0 where

@@ -4,8 +4,8 @@ use Rattle.std.specs.Borrow.{Bor}
 use Rattle.std.specs.Ordering.{nat_cmp}
 use Rattle.std.specs.Cmp.Lexicographic.{slice_cmp}
 use Rattle.std.specs.BTreeMap.{BTreeMap, get_by}
-use Rattle.wb_meaning.specs.Value.{Name}
-use Rattle.wb_meaning.specs.Verilog.Hierarchy.{first_of}
+use Rattle.wb_values.specs.Value.{Name}
+use Rattle.wb_values.specs.Choice.{first_of}
 use Rattle.ila_file.specs.View.{sort_view}
 use Rattle.ila_rules.specs.Seen.{Brief, LookUp, States, Role}
 use Rattle.ila_rules.specs.Seen as roles

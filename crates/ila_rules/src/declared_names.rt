@@ -2,7 +2,7 @@
 
 ghost use Rattle.std.specs.Prelude.{◌≡◌, IfOk, map, is_some};
 ghost use Rattle.ila_file.specs.View.{machine_view, instruction_view, child_view, state_view, definition_view, input_view, model_view};
-ghost use Rattle.wb_meaning.specs.ModelFile.Names.{is_model_name};
+ghost use Rattle.wb_values.specs.Names.{is_model_name};
 ghost use Rattle.ila_rules.specs.NameFlaws.{with_member, with_data, with_instruction, with_all_data, with_model_name, names_in, names_of_instruction, names_of_child, names_in_model};
 ghost use Rattle.ila_rules.specs.View.{known, names_view};
 

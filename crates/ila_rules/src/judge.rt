@@ -1,8 +1,8 @@
 //! The first rule that a written model breaks.
 
 ghost use Rattle.std.specs.Prelude.{◌≡◌, IfOk, Some, None, option_map, cond, is_some};
-ghost use Rattle.wb_meaning.specs.ModelFile.Meaning as meaning;
-ghost use Rattle.wb_meaning.specs.ModelFile.Meaning.{broken_rule};
+ghost use Rattle.model_files.specs.Meaning as meaning;
+ghost use Rattle.model_files.specs.Meaning.{broken_rule};
 ghost use Rattle.ila_file.specs.View.{model_view};
 ghost use Rattle.ila_rules.specs.Flaws.{model_flaws};
 ghost use Rattle.ila_rules.specs.Rule.{rule_view};

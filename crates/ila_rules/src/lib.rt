@@ -13,6 +13,3 @@ mod walk;
 
 pub use judge::broken_rule;
 pub use rule::{ModelRefusal, ModelRule};
-
-#[cfg(test)]
-mod tests;

@@ -1,7 +1,7 @@
 //! How deep children nest, and how many steps they may take.
 
 ghost use Rattle.std.specs.Prelude.{◌≡◌, IfOk, is_some, not};
-ghost use Rattle.wb_meaning.specs.ModelFile.Rules.{has_step_limits, instruction_has_step_limits, child_has_step_limits};
+ghost use Rattle.model_files.specs.Rules.{has_step_limits, instruction_has_step_limits, child_has_step_limits};
 ghost use Rattle.ila_file.specs.View.{machine_view, instruction_view, child_view};
 ghost use Rattle.ila_rules.specs.Depths.{nests_deeper, instruction_nests_deeper, child_nests_deeper};
 

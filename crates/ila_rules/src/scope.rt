@@ -1,7 +1,8 @@
 //! The names that are visible in a machine: one frame for the inputs, and one for each machine around.
 
 ghost use Rattle.std.specs.Prelude.{◌≡◌, IfOk, Some, None, option_map};
-ghost use Rattle.wb_meaning.specs.Term.{is_sort, some_if};
+ghost use Rattle.wb_values.specs.Choice.{some_if};
+ghost use Rattle.model_meaning.specs.Term.{is_sort};
 ghost use Rattle.ila_file.specs.View.{sort_view};
 ghost use Rattle.ila_rules.specs.Seen.{with_name, brief_declared};
 ghost use Rattle.ila_rules.specs.Flaws.{with_state};

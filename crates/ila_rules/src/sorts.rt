@@ -1,8 +1,9 @@
 //! Sorts of written terms.
 
 ghost use Rattle.std.specs.Prelude.{◌≡◌, Some, None, option_map};
-ghost use Rattle.wb_meaning.specs.Term.{is_width, is_sort, same_sort, some_if, bits_sort, same_bits_sort, word_sort, same_word_sort, compared, concat_sort, extract_sort, extended_sort, ite_sort, load_sort, store_sort};
-ghost use Rattle.wb_meaning.specs.ModelFile.Scope.{unary_sort, binary_sort};
+ghost use Rattle.wb_values.specs.Choice.{some_if};
+ghost use Rattle.model_meaning.specs.Term.{is_width, is_sort, same_sort, bits_sort, same_bits_sort, word_sort, same_word_sort, compared, concat_sort, extract_sort, extended_sort, ite_sort, load_sort, store_sort};
+ghost use Rattle.model_files.specs.Scope.{unary_sort, binary_sort};
 ghost use Rattle.ila_file.specs.View.{sort_view, unary_view, binary_view};
 ghost use Rattle.ila_file.specs.declared.written.WrittenSort.TheVariants.{Word, Memory};
 

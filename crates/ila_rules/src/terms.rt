@@ -1,8 +1,8 @@
 //! What the rules ask of a written term.
 
 ghost use Rattle.std.specs.Prelude.{◌≡◌, Some, None, option_map, ◌||◌, ◌&&◌, ◌^◌, nat_lt};
-ghost use Rattle.wb_meaning.specs.Term.{some_if};
-ghost use Rattle.wb_meaning.specs.ModelFile.Rules.{has_widths, has_fitting_constants};
+ghost use Rattle.wb_values.specs.Choice.{some_if};
+ghost use Rattle.model_files.specs.Rules.{has_widths, has_fitting_constants};
 ghost use Rattle.ila_file.specs.View.{sort_view, term_view};
 ghost use Rattle.ila_rules.specs.Seen.{sort_at, memory_at, uses_unknown, common_memory};
 ghost use Rattle.ila_rules.specs.View.{look_of, name_view};

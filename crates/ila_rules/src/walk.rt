@@ -1,7 +1,7 @@
 //! The way through the machines of a model file, which judges each of their parts where it stands.
 
 ghost use Rattle.std.specs.Prelude.{◌≡◌, ◌++◌, [], ◌∷◌, ◌-◌, map, IfOk, take, length, Some, None};
-ghost use Rattle.wb_meaning.specs.ModelFile.Written as written;
+ghost use Rattle.model_files.specs.Written as written;
 ghost use Rattle.ila_file.specs.View.{sort_view, input_view, state_view, states_view, definition_view, definitions_view, update_view, updates_view, fetch_view, term_view, machine_view, instruction_view, child_view, instructions_view};
 ghost use Rattle.ila_rules.specs.Seen.{definition, condition};
 ghost use Rattle.ila_rules.specs.Flaws.{with_term, state_flaws, input_flaws, definition_flaws, fetch_flaws, update_flaws, head_flaws, own_flaws, look_states, look_inputs, look_definitions, look_fetch, look_within, states_within, machine_flaws, instructions_flaws, instruction_flaws, child_flaws};

@@ -6,11 +6,11 @@ use Rattle.std.proofs.lemmas.Bool.Decides.{nat_tests}
 use Rattle.std.proofs.lemmas.Bool.{false≢true}
 use Rattle.std.proofs.lemmas.Slice.Eq.{bytes_eq-Decides}
 use Rattle.std.proofs.Math.Nat.{mul-le-mul_right}
-use Rattle.wb_meaning.specs.Term.{some_if}
+use Rattle.wb_values.specs.Choice.{some_if}
 use Rattle.ila_sim.specs.declared.names.Settable.{Settable}
-use Rattle.wb_meaning.specs.Value.{Name, same_name}
-use Rattle.wb_meaning.specs.Script as meaning
-use Rattle.wb_meaning.specs.Script.{settable_named, is_same_word, are_distinct_sets, if_distinct}
+use Rattle.wb_values.specs.Value.{Name, same_name}
+use Rattle.scripts.specs.Script as meaning
+use Rattle.scripts.specs.Script.{settable_named, is_same_word, are_distinct_sets, if_distinct}
 use Rattle.ila_sim.specs.declared.set.Set.{Set}
 use Rattle.ila_sim.specs.Names.{are_apart, settable_of}
 use Rattle.ila_sim.specs.Places.{called_at}

@@ -2,11 +2,11 @@
 use Rattle.std.proofs.Common.{◌≡◌, ℕ, zero, suc, ◌+◌, ◌<◌, Bool, true, false, cond, List, [], ◌∷◌, ◌++◌, map, length, take, drop, Option, Some, option_map, slice_get, is_none, refl, sym, ap, ◌∙◌, subst, arith, add-one, get_or, ◌≤◌}
 use Rattle.std.proofs.lemmas.Bool.{and_from, and_parts}
 use Rattle.std.specs.String.{string_bytes}
-use Rattle.wb_meaning.specs.Value.{Name, same_name, Sort, truth, word, memory, Entries, entry_of}
-use Rattle.wb_meaning.specs.Model.{StateDeclaration, InputDeclaration, Model, states_of, instructions_in, instruction_list, instruction_name}
-use Rattle.wb_meaning.specs.Model as pure
-use Rattle.wb_meaning.specs.Script.{settable, settable_named, settables_of}
-use Rattle.wb_meaning.specs.Simulation.{name_or_none}
+use Rattle.wb_values.specs.Value.{Name, same_name, Sort, truth, word, memory, Entries, entry_of}
+use Rattle.model_meaning.specs.Model.{StateDeclaration, InputDeclaration, Model, states_of, instructions_in, instruction_list, instruction_name}
+use Rattle.model_meaning.specs.Model as pure
+use Rattle.scripts.specs.Script.{settable, settable_named, settables_of}
+use Rattle.scripts.specs.Simulation.{name_or_none}
 use Rattle.wb_terms.specs.Graph.{Graph}
 use Rattle.ila_model.specs.declared.parts.Instruction.{Instruction}
 use Rattle.ila_model.specs.declared.parts.ChildId.{ChildId}

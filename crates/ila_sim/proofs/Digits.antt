@@ -2,7 +2,7 @@
 use Rattle.std.proofs.Common.{◌≡◌, ℕ, suc, ◌+◌, ◌*◌, ◌-◌, ◌≤◌, ◌<◌, List, [], ◌∷◌, length, drop, get_or, Some, None, arith, refl, subst}
 use Rattle.std.proofs.lemmas.Bool.Decides.{nat_tests}
 use Rattle.std.proofs.Math.Seq.{drop-cons}
-use Rattle.wb_meaning.specs.Script.{with_decimal_digits, with_either_digits, either_digit_value}
+use Rattle.scripts.specs.Script.{with_decimal_digits, with_either_digits, either_digit_value}
 use Rattle.ila_sim.specs.Cuts.{below}
 
 pub is_past : (limit n : ℕ) → below limit (Some n) ≡ None → limit ≤ n

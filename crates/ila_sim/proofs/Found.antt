@@ -3,10 +3,10 @@ use Rattle.std.proofs.Common.{◌≡◌, ℕ, zero, suc, ◌+◌, ◌^◌, ◌<�
 use Rattle.std.specs.Prelude.{option_map, IfSome, IsTrue}
 use Rattle.std.proofs.lemmas.Bool.Decides.{nat_tests}
 use Rattle.std.proofs.Math.Nat.{pow-le-pow_right}
-use Rattle.wb_meaning.specs.Value.{Name, same_name}
-use Rattle.wb_meaning.specs.Term.{some_if}
-use Rattle.wb_meaning.specs.Script as meaning
-use Rattle.wb_meaning.specs.Script.{settable_named, fitting, word_named, word_at_address, set_named, set_of, set_in, number_in, before_bracket, at_last}
+use Rattle.wb_values.specs.Value.{Name, same_name}
+use Rattle.wb_values.specs.Choice.{some_if}
+use Rattle.scripts.specs.Script as meaning
+use Rattle.scripts.specs.Script.{settable_named, fitting, word_named, word_at_address, set_named, set_of, set_in, number_in, before_bracket, at_last}
 use Rattle.ila_sim.specs.declared.names.Kind.{Kind}
 use Rattle.ila_sim.specs.declared.names.Kind.TheVariants.{Truth, Word, Memory}
 use Rattle.ila_sim.specs.declared.names.Settable.{Settable}

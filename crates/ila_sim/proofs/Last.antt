@@ -4,7 +4,7 @@ use Rattle.std.specs.Prelude.{◌==◌}
 use Rattle.std.proofs.Math.Seq.{drop-cons}
 use Rattle.std.proofs.lemmas.List.{length-drop}
 use Rattle.std.proofs.lemmas.Bool.Decides.{nat_tests}
-use Rattle.wb_meaning.specs.Script.{at_last, before_bracket}
+use Rattle.scripts.specs.Script.{at_last, before_bracket}
 use Rattle.ila_sim.specs.Cuts.{cut_at, below}
 
 pub is_last : (c : ℕ) (xs : List ℕ) (k d : ℕ) → k < length xs → (get_or xs k d == c) ≡ true → at_last c (drop (suc k) xs) ≡ None → at_last c xs ≡ Some (cut_at xs k)

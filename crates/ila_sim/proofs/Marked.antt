@@ -3,9 +3,9 @@ use Rattle.std.proofs.Common.{◌≡◌, ℕ, zero, suc, ◌+◌, ◌<◌, Bool,
 use Rattle.std.specs.Prelude.{◌==◌, replicate, slice_set}
 use Rattle.std.specs.List.{list_any, list_all}
 use Rattle.std.proofs.lemmas.List.{length-map}
-use Rattle.wb_meaning.specs.Script as meaning
-use Rattle.wb_meaning.specs.Script.{sets_name}
-use Rattle.wb_meaning.specs.Value.{same_name}
+use Rattle.scripts.specs.Script as meaning
+use Rattle.scripts.specs.Script.{sets_name}
+use Rattle.wb_values.specs.Value.{same_name}
 use Rattle.ila_sim.specs.declared.names.Settable.{Settable}
 use Rattle.ila_sim.specs.declared.set.Set.{Set}
 use Rattle.ila_sim.specs.Lines.{sets_view}

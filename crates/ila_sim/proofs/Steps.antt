@@ -3,12 +3,12 @@ use Rattle.std.proofs.Common.{◌≡◌, ℕ, suc, ◌+◌, Bool, true, List, []
 use Rattle.std.specs.Prelude.{decimal}
 use Rattle.std.specs.List.{list_all}
 use Rattle.std.proofs.lemmas.List.{drop_more}
-use Rattle.wb_meaning.specs.Value.{Value, Valuation}
-use Rattle.wb_meaning.specs.Model.{Model}
-use Rattle.wb_meaning.specs.Model as pure
-use Rattle.wb_meaning.specs.Instruction.{Trouble, stuck, too_long, HasTrouble}
-use Rattle.wb_meaning.specs.Script.{settables_of, inputs_of}
-use Rattle.wb_meaning.specs.Simulation.{Outcome, IsOutcome, trouble, state_after, AreOutcomes, spaced, outcome_text, outcome_lines}
+use Rattle.wb_values.specs.Value.{Value, Valuation}
+use Rattle.model_meaning.specs.Model.{Model}
+use Rattle.model_meaning.specs.Model as pure
+use Rattle.model_meaning.specs.Instruction.{Trouble, stuck, too_long, HasTrouble}
+use Rattle.scripts.specs.Script.{settables_of, inputs_of}
+use Rattle.scripts.specs.Simulation.{Outcome, IsOutcome, trouble, state_after, AreOutcomes, spaced, outcome_text, outcome_lines}
 use Rattle.ila_child.specs.State.{IsStateOf, state_valuation}
 use Rattle.ila_child.specs.Step.{IsAnswer, IsTroubled}
 use Rattle.ila_child.specs.declared.stepping.Stepped.{Stepped}

@@ -1,10 +1,10 @@
 -- Lemmas on the text of states and on texts put together.
 use Rattle.std.proofs.Common.{◌≡◌, ℕ, zero, suc, ◌+◌, ◌<◌, true, List, [], ◌∷◌, ◌++◌, length, get_or, drop, Some, option_map, slice_get, refl, sym, ap, ◌∙◌, subst, arith, append_assoc, add-one, ◌≤◌}
 use Rattle.std.proofs.lemmas.List.{drop_all}
-use Rattle.wb_meaning.specs.Value.{Name, Value, number, Valuation}
-use Rattle.wb_meaning.specs.Model.{StateDeclaration, Model, states_of}
-use Rattle.wb_meaning.specs.Script.{settables_of}
-use Rattle.wb_meaning.specs.Simulation.{state_text, states_text}
+use Rattle.wb_values.specs.Value.{Name, Value, number, Valuation}
+use Rattle.model_meaning.specs.Model.{StateDeclaration, Model, states_of}
+use Rattle.scripts.specs.Script.{settables_of}
+use Rattle.scripts.specs.Simulation.{state_text, states_text}
 use Rattle.ila_child.specs.State.{sorts_of_states, state_valuation}
 use Rattle.ila_sim.specs.Names.{are_apart}
 use Rattle.ila_sim.specs.Outcomes.{settables_by, values_text}

@@ -14,8 +14,8 @@ use Rattle.std.specs.BTreeSet.{BTreeSet}
 use Rattle.std.proofs.Math.Seq.{drop-cons}
 use Rattle.std.proofs.Common.{arith}
 use Rattle.std.proofs.lemmas.Bool.Decides.{nat_tests}
-use Rattle.wb_meaning.specs.Value.{Name, same_name}
-use Rattle.wb_meaning.specs.Verilog.Hierarchy.{first_of}
+use Rattle.wb_values.specs.Value.{Name, same_name}
+use Rattle.wb_values.specs.Choice.{first_of}
 use Rattle.ila_sim.specs.Places.{under_name, has_number}
 use Rattle.ila_sim.specs.Sets.{key_of, are_distinct_numbers}
 use Rattle.ila_sim.specs.declared.set.Set.{Set}

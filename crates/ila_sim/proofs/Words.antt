@@ -4,7 +4,7 @@ use Rattle.std.proofs.lemmas.Bool.{false≢true}
 use Rattle.std.proofs.lemmas.Bool.Decides.{nat_tests}
 use Rattle.std.specs.Prelude.{◌==◌}
 use Rattle.std.proofs.lemmas.List.{take_all, length-drop}
-use Rattle.wb_meaning.specs.Script.{is_blank, is_return, is_line_feed, words_of, lines_of, without_returns, pieces_at, with_byte, without_empty}
+use Rattle.scripts.specs.Script.{is_blank, is_return, is_line_feed, words_of, lines_of, without_returns, pieces_at, with_byte, without_empty}
 use Rattle.ila_sim.specs.Cuts.{length_before, after_blanks, without_last_return}
 
 words_front : (b : ℕ) (bs : List ℕ) (t : Bool) → is_blank b ≡ t → words_of bs ≡ words_of (after_blanks bs) → words_of (b ∷ bs) ≡ words_of (cond t (after_blanks bs) (b ∷ bs))

@@ -1,8 +1,8 @@
 -- Where a text is cut, and which numbers are kept.
 use Rattle.std.specs.Prelude.{ℕ, suc, ◌≡◌, nat_lt, cond, Bool, List, [], ◌∷◌, take, drop, length, Option, Some, None}
 use Rattle.std.specs.Borrow.{Bor}
-use Rattle.wb_meaning.specs.Term.{some_if}
-use Rattle.wb_meaning.specs.Script.{is_blank, is_return, lines_of, words_of, without_skipped}
+use Rattle.wb_values.specs.Choice.{some_if}
+use Rattle.scripts.specs.Script.{is_blank, is_return, lines_of, words_of, without_skipped}
 
 -- how many bytes stand before the first of a kind
 unfoldable pub length_before : (ℕ → Bool) → List ℕ → ℕ

@@ -1,7 +1,7 @@
 -- What the code's lines stand for.
 use Rattle.std.specs.Prelude.{Bool, List, map, Option, Some, None}
-use Rattle.wb_meaning.specs.Script as meaning
-use Rattle.wb_meaning.specs.Script.{Settables, state_line, input_line}
+use Rattle.scripts.specs.Script as meaning
+use Rattle.scripts.specs.Script.{Settables, state_line, input_line}
 use Rattle.ila_sim.specs.declared.line.Line.{Line}
 use Rattle.ila_sim.specs.declared.line.Line.TheVariants.{State, Input}
 use Rattle.ila_sim.specs.declared.line.Found.{Found}

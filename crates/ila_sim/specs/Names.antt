@@ -1,8 +1,8 @@
 -- What the code's names that a script may set stand for.
 use Rattle.std.specs.Prelude.{Bool, true, ◌&&◌, List, [], ◌∷◌, is_none}
-use Rattle.wb_meaning.specs.Script as meaning
-use Rattle.wb_meaning.specs.Script.{settable_named}
-use Rattle.wb_meaning.specs.Value.{Name}
+use Rattle.scripts.specs.Script as meaning
+use Rattle.scripts.specs.Script.{settable_named}
+use Rattle.wb_values.specs.Value.{Name}
 use Rattle.ila_sim.specs.declared.names.Kind.{Kind}
 use Rattle.ila_sim.specs.declared.names.Settable.{Settable}
 use Rattle.ila_sim.specs.Kinds.{addresses_of, fits_of}

@@ -1,11 +1,11 @@
 -- What settings make of values, and what the answers of the code's steps stand for.
 use Rattle.std.specs.Prelude.{ℕ, ◌≡◌, ⊤, Vec, List, [], ◌∷◌, ◌++◌, map, slice_set, slice_index_or}
 use Rattle.std.specs.Global.{Global}
-use Rattle.wb_meaning.specs.Value.{Sort, Value, number, Entries, Valuation}
-use Rattle.wb_meaning.specs.Model.{StateDeclaration, InputDeclaration, Model}
-use Rattle.wb_meaning.specs.Instruction.{stuck, too_long}
-use Rattle.wb_meaning.specs.Script.{Settable, settable, settables_of, Script, zero_value, with_word, inputs_of}
-use Rattle.wb_meaning.specs.Simulation.{Outcome, next, not_valid, no_instruction, several, trouble, AreOutcomes, IsSimulation, state_text, simulation_text}
+use Rattle.wb_values.specs.Value.{Sort, Value, number, Entries, Valuation}
+use Rattle.model_meaning.specs.Model.{StateDeclaration, InputDeclaration, Model}
+use Rattle.model_meaning.specs.Instruction.{stuck, too_long}
+use Rattle.scripts.specs.Script.{Settable, settable, settables_of, Script, zero_value, with_word, inputs_of}
+use Rattle.scripts.specs.Simulation.{Outcome, next, not_valid, no_instruction, several, trouble, AreOutcomes, IsSimulation, state_text, simulation_text}
 use Rattle.ila_child.specs.State.{IsStateOf, state_valuation}
 use Rattle.ila_child.specs.declared.stepping.Stepped.{Stepped}
 use Rattle.ila_child.specs.declared.stepping.Stepped.TheVariants.{Next, NotValid, NoInstruction, Several, ChildStuck, ChildTooLong}

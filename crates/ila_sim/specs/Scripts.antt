@@ -1,8 +1,8 @@
 -- What the code's scripts stand for.
 use Rattle.std.specs.Prelude.{ℕ, ◌≡◌, ⊤, IsTrue, List, map, codes, Result, Ok, Err}
 use Rattle.std.specs.List.{list_all}
-use Rattle.wb_meaning.specs.Script as meaning
-use Rattle.wb_meaning.specs.Script.{Settables, ScriptReading, is_script, bad_line, missing_input}
+use Rattle.scripts.specs.Script as meaning
+use Rattle.scripts.specs.Script.{Settables, ScriptReading, is_script, bad_line, missing_input}
 use Rattle.ila_sim.specs.declared.script.Script.{Script}
 use Rattle.ila_sim.specs.declared.refusal.ScriptKind.{ScriptKind}
 use Rattle.ila_sim.specs.declared.refusal.ScriptKind.TheVariants.{BadLine, MissingInput}

@@ -1,8 +1,8 @@
 -- What the code's settings stand for.
 use Rattle.std.specs.Prelude.{ℕ, zero, suc, ◌^◌, ◌*◌, ◌+◌, ◌==◌, nat_lt, true, false, Bool, not, ◌&&◌, List, [], ◌∷◌, Option, Some, None}
 use Rattle.std.specs.List.{list_any, list_all}
-use Rattle.wb_meaning.specs.Value.{Name}
-use Rattle.wb_meaning.specs.Script as meaning
+use Rattle.wb_values.specs.Value.{Name}
+use Rattle.scripts.specs.Script as meaning
 use Rattle.ila_sim.specs.declared.set.Set.{Set}
 use Rattle.ila_sim.specs.Places.{called_at}
 

@@ -1,6 +1,6 @@
 -- What the names that a script may set stand for.
 use Rattle.std.specs.Prelude.{map}
-use Rattle.wb_meaning.specs.Script.{Settables}
+use Rattle.scripts.specs.Script.{Settables}
 use Rattle.ila_sim.specs.declared.settables.Names.{Names}
 use Rattle.ila_sim.specs.Names.{settable_of}
 

@@ -1,8 +1,8 @@
 -- Pieces of the text that tells what a model did.
 use Rattle.std.specs.Prelude.{ℕ, ◌==◌, cond, List, [], ◌∷◌, ◌++◌, codes, decimal}
-use Rattle.wb_meaning.specs.Value.{Name, Value}
-use Rattle.wb_meaning.specs.Model.{Model, states_of}
-use Rattle.wb_meaning.specs.Simulation.{Outcome, spaced, name_of_instruction, outcome_text}
+use Rattle.wb_values.specs.Value.{Name, Value}
+use Rattle.model_meaning.specs.Model.{Model, states_of}
+use Rattle.scripts.specs.Simulation.{Outcome, spaced, name_of_instruction, outcome_text}
 use Rattle.ila_sim.specs.Outcomes.{values_text}
 
 -- ` cnt=7`

@@ -1,7 +1,7 @@
 -- What is answered about a script and a model.
 use Rattle.std.specs.Prelude.{◌≡◌}
-use Rattle.wb_meaning.specs.Model.{Model}
-use Rattle.wb_meaning.specs.Script.{ScriptReading, is_script, bad_line, missing_input}
+use Rattle.model_meaning.specs.Model.{Model}
+use Rattle.scripts.specs.Script.{ScriptReading, is_script, bad_line, missing_input}
 use Rattle.ila_sim.specs.declared.refusal.ScriptKind.TheVariants.{BadLine, MissingInput}
 use Rattle.ila_sim.specs.declared.whole.Simulation.{Simulation}
 use Rattle.ila_sim.specs.declared.whole.Simulation.TheVariants.{Text, Refused}

@@ -1,7 +1,7 @@
 //! The state in which a script begins, and the inputs that its lines give.
 
 ghost use Rattle.std.specs.Prelude.{◌≡◌, IfOk, IsTrue, map};
-ghost use Rattle.wb_meaning.specs.Script.{settables_of, initial_state, with_sets, inputs_of};
+ghost use Rattle.scripts.specs.Script.{settables_of, initial_state, with_sets, inputs_of};
 ghost use Rattle.wb_terms.specs.Environment.{as_value};
 ghost use Rattle.ila_model.specs.Model.{model_of};
 ghost use Rattle.ila_child.specs.State.{IsStateOf, AreInputsOf, state_valuation, input_valuation};

@@ -1,7 +1,7 @@
 //! Lines and words of a text, and its parts before and behind a byte.
 
 ghost use Rattle.std.specs.Prelude.{◌≡◌, ◌<◌, ◌≤◌, ◌∷◌, [], length, option_map, IfSome};
-ghost use Rattle.wb_meaning.specs.Script.{is_blank, is_line_feed, is_return, words_of, lines_of, is_skipped, at_last, without_skipped};
+ghost use Rattle.scripts.specs.Script.{is_blank, is_line_feed, is_return, words_of, lines_of, is_skipped, at_last, without_skipped};
 ghost use Rattle.std.specs.List.{list_any};
 ghost use Rattle.ila_sim.specs.Cuts.{length_before, after_blanks, cut_at, lines_left, room_left, without_last_return, IsNextWord, IsNextKept};
 
@@ -90,7 +90,7 @@ pub(crate) fn is_skipped(line: &[u8]) -> bool
 {
     match line {
         [] => true,
-        [first, rest @ ..] => *first == b'#' && !has_return(rest),
+        [first, ..] => *first == b'#',
     }
 }
 

@@ -1,8 +1,8 @@
 //! Names found by a table.
 
 ghost use Rattle.std.specs.Prelude.{◌≡◌, ◌<◌, ℕ, List, length, IfOk, IfSome, cond, Some, None, map, true, IsTrue};
-ghost use Rattle.wb_meaning.specs.Value.{same_name};
-ghost use Rattle.wb_meaning.specs.Verilog.Hierarchy.{first_of};
+ghost use Rattle.wb_values.specs.Value.{same_name};
+ghost use Rattle.wb_values.specs.Choice.{first_of};
 ghost use Rattle.ila_sim.specs.Names.{settable_of, are_apart};
 ghost use Rattle.ila_sim.specs.Places.{under_name, place_from};
 

@@ -6,24 +6,18 @@ mod cuts;
 mod index;
 mod line;
 mod missing;
-#[cfg(test)]
-mod models;
 mod names;
 mod naming;
 mod numbers;
 mod place;
 mod reading;
 mod refusal;
-#[cfg(test)]
-mod run_tests;
 mod running;
 mod script;
 mod set;
 mod sets;
 mod settables;
 mod stop;
-#[cfg(test)]
-mod tests;
 mod text;
 mod values;
 mod whole;

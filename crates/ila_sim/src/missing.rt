@@ -2,7 +2,7 @@
 
 ghost use Rattle.std.specs.Prelude.{◌≡◌, false, IfOk, IsTrue, length, map, replicate};
 ghost use Rattle.std.specs.List.{list_all};
-ghost use Rattle.wb_meaning.specs.Script.{sets_name};
+ghost use Rattle.scripts.specs.Script.{sets_name};
 ghost use Rattle.ila_sim.specs.Lines.{sets_view};
 ghost use Rattle.ila_sim.specs.Marks.{marks_of};
 ghost use Rattle.ila_sim.specs.Names.{settable_of, are_apart};

@@ -1,10 +1,10 @@
 //! The names that a script for a model may set.
 
 ghost use Rattle.std.specs.Prelude.{◌≡◌, ◌≤◌, ◌<◌, ◌^◌, IfOk, IsTrue, Some, length, map, slice_get};
-ghost use Rattle.wb_meaning.specs.Value.{Name};
-ghost use Rattle.wb_meaning.specs.Term.{is_sort};
-ghost use Rattle.wb_meaning.specs.Model.{states_of};
-ghost use Rattle.wb_meaning.specs.Script.{settable, settables_of};
+ghost use Rattle.wb_values.specs.Value.{Name};
+ghost use Rattle.model_meaning.specs.Term.{is_sort};
+ghost use Rattle.model_meaning.specs.Model.{states_of};
+ghost use Rattle.scripts.specs.Script.{settable, settables_of};
 ghost use Rattle.wb_terms.specs.Sort.{as_sort};
 ghost use Rattle.ila_model.specs.Model.{model_of};
 ghost use Rattle.ila_sim.specs.Kinds.{width_of, end_of};

@@ -2,7 +2,7 @@
 
 ghost use Rattle.std.specs.Prelude.{◌≡◌, ◌^◌, ◌*◌, ◌+◌, ◌∷◌, [], Some};
 ghost use Rattle.std.specs.List.{list_all};
-ghost use Rattle.wb_meaning.specs.Script.{is_decimal_digit, is_either_hexadecimal_digit, either_digit_value, with_decimal_digits, with_either_digits, decimal_in, hexadecimal_in, number_in};
+ghost use Rattle.scripts.specs.Script.{is_decimal_digit, is_either_hexadecimal_digit, either_digit_value, with_decimal_digits, with_either_digits, decimal_in, hexadecimal_in, number_in};
 ghost use Rattle.ila_sim.specs.Cuts.{below};
 
 /// A decimal number, or a hexadecimal one behind `0x`, where it is below 2^128.

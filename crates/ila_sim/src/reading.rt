@@ -2,7 +2,7 @@
 
 ghost use Rattle.std.specs.Prelude.{◌≡◌, None, Some, cond, codes, IfOk};
 ghost use Rattle.std.specs.Str.{is_utf8};
-ghost use Rattle.wb_meaning.specs.Script.{reading_from, script_reading, script_in, without_skipped, lines_of};
+ghost use Rattle.scripts.specs.Script.{reading_from, script_reading, script_in, without_skipped, lines_of};
 ghost use Rattle.ila_sim.specs.Reading.{IsReading};
 ghost use Rattle.ila_sim.specs.Scripts.{script_view, IsScriptWithin, IsAnswered, IsStopOf};
 ghost use Rattle.ila_sim.specs.Settables.{settables_view};

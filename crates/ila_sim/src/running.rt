@@ -1,8 +1,8 @@
 //! Scripts run on a model.
 
 ghost use Rattle.std.specs.Prelude.{◌≡◌, ◌++◌, ℕ, IfOk, OnOk, IsTrue, map};
-ghost use Rattle.wb_meaning.specs.Script.{settables_of, inputs_of};
-ghost use Rattle.wb_meaning.specs.Simulation.{IsOutcome, IsSimulation};
+ghost use Rattle.scripts.specs.Script.{settables_of, inputs_of};
+ghost use Rattle.scripts.specs.Simulation.{IsOutcome, IsSimulation};
 ghost use Rattle.ila_model.specs.Model.{model_of};
 ghost use Rattle.ila_child.specs.State.{IsStateOf, state_valuation};
 ghost use Rattle.ila_sim.specs.Lines.{sets_view};

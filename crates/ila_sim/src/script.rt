@@ -2,7 +2,7 @@
 
 ghost use Rattle.std.specs.Prelude.{◌≡◌, map, length, IsTrue, IfOk};
 ghost use Rattle.std.specs.List.{list_all};
-ghost use Rattle.wb_meaning.specs.Script.{line_in, inputs_in, script_in, without_skipped, lines_of};
+ghost use Rattle.scripts.specs.Script.{line_in, inputs_in, script_in, without_skipped, lines_of};
 ghost use Rattle.ila_sim.specs.Cuts.{lines_left};
 ghost use Rattle.ila_sim.specs.Reading.{IsReading};
 ghost use Rattle.ila_sim.specs.Lines.{found_view, line_view, sets_view, input_of, is_line_within};

@@ -1,7 +1,7 @@
 //! Settings of words to values.
 
 ghost use Rattle.std.specs.Prelude.{◌≡◌, ℕ, ◌<◌, ◌≤◌, ◌^◌, ◌-◌, ◌*◌, ◌+◌, Option, Some, None, option_map, IfOk, IfSome, map, length, IsTrue};
-ghost use Rattle.wb_meaning.specs.Script.{at_last, before_bracket, word_at_address, word_named, fitting, set_of, set_named, set_in, sets_in, all_sets, words_of, settable_named, are_distinct_sets};
+ghost use Rattle.scripts.specs.Script.{at_last, before_bracket, word_at_address, word_named, fitting, set_of, set_named, set_in, sets_in, all_sets, words_of, settable_named, are_distinct_sets};
 ghost use Rattle.ila_sim.specs.Cuts.{below, cut_at};
 ghost use Rattle.ila_sim.specs.Kinds.{width_of, addresses_of, fits_of};
 ghost use Rattle.ila_sim.specs.Names.{settable_of};

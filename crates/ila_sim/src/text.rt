@@ -1,10 +1,10 @@
 //! The text that tells what a model did.
 
 ghost use Rattle.std.specs.Prelude.{◌≡◌, ◌++◌, ◌<◌, cond, OnOk, IfOk, length, map, decimal, slice_index_or};
-ghost use Rattle.wb_meaning.specs.Value.{number};
-ghost use Rattle.wb_meaning.specs.Model.{states_of};
-ghost use Rattle.wb_meaning.specs.Instruction.{stuck, too_long};
-ghost use Rattle.wb_meaning.specs.Simulation.{words_text, state_text, name_of_instruction, trouble_text, outcome_text, simulation_text};
+ghost use Rattle.wb_values.specs.Value.{number};
+ghost use Rattle.model_meaning.specs.Model.{states_of};
+ghost use Rattle.model_meaning.specs.Instruction.{stuck, too_long};
+ghost use Rattle.scripts.specs.Simulation.{words_text, state_text, name_of_instruction, trouble_text, outcome_text, simulation_text};
 ghost use Rattle.wb_terms.specs.Environment.{as_value};
 ghost use Rattle.ila_model.specs.Model.{model_of};
 ghost use Rattle.ila_sim.specs.Outcomes.{outcome_view, values_text};

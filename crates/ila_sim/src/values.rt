@@ -1,8 +1,8 @@
 //! Settings put into lists of values.
 
 ghost use Rattle.std.specs.Prelude.{◌≡◌, ◌++◌, IfOk, OnOk, IsTrue, map, slice_set};
-ghost use Rattle.wb_meaning.specs.Term.{is_sort};
-ghost use Rattle.wb_meaning.specs.Script.{with_word, zero_value};
+ghost use Rattle.model_meaning.specs.Term.{is_sort};
+ghost use Rattle.scripts.specs.Script.{with_word, zero_value};
 ghost use Rattle.wb_terms.specs.Sort.{as_sort};
 ghost use Rattle.wb_terms.specs.Environment.{as_value};
 ghost use Rattle.ila_sim.specs.Outcomes.{with_set, with_all};

@@ -1,7 +1,7 @@
 //! A simulation from the text of its script to the text that tells it.
 
 ghost use Rattle.std.specs.Prelude.{IfOk};
-ghost use Rattle.wb_meaning.specs.Script.{settables_of, script_reading};
+ghost use Rattle.scripts.specs.Script.{settables_of, script_reading};
 ghost use Rattle.ila_model.specs.Model.{model_of};
 ghost use Rattle.ila_sim.specs.Whole.{IsSimulated};
 

@@ -3,12 +3,12 @@ use Rattle.std.proofs.Common.{◌≡◌, ℕ, zero, suc, ◌+◌, ◌≤◌, max
 use Rattle.std.specs.Prelude.{nat_le, nat_lt, ⊤, is_some}
 use Rattle.std.specs.List.{list_all}
 use Rattle.std.proofs.lemmas.Bool.{false≢true, and_parts, and_from, eq-eqb, leb-true, leb-false}
-use Rattle.wb_meaning.specs.Value as meaning
-use Rattle.wb_meaning.specs.Value.{Name, Sort, truth, word, memory, Entries, is_of_sort}
-use Rattle.wb_meaning.specs.Model.{StateDeclaration}
-use Rattle.wb_meaning.specs.ModelFile.Written.{WrittenInstruction, instruction, WrittenInstructions, no_instructions, and_then, WrittenMachine, machine, WrittenChild, no_child, child, machines_below, machines_of_child}
-use Rattle.wb_meaning.specs.ModelFile.Scope.{Visible, Scope, with_states, with_definitions, with_fetch, scope_within, terms_below, terms_of_child}
-use Rattle.wb_meaning.specs.ModelFile.Rules.{is_memory_sort, has_state_widths, has_fitting_initial_values, fits_sort, depth_below, depth_of_child, have_step_limits, child_has_step_limits}
+use Rattle.wb_values.specs.Value as meaning
+use Rattle.wb_values.specs.Value.{Name, Sort, truth, word, memory, Entries, is_of_sort}
+use Rattle.model_meaning.specs.Model.{StateDeclaration}
+use Rattle.model_files.specs.Written.{WrittenInstruction, instruction, WrittenInstructions, no_instructions, and_then, WrittenMachine, machine, WrittenChild, no_child, child, machines_below, machines_of_child}
+use Rattle.model_files.specs.Scope.{Visible, Scope, with_states, with_definitions, with_fetch, scope_within, terms_below, terms_of_child}
+use Rattle.model_files.specs.Rules.{is_memory_sort, has_state_widths, has_fitting_initial_values, fits_sort, depth_below, depth_of_child, have_step_limits, child_has_step_limits}
 use Rattle.wb_terms.specs.declared.values.Value.{Value}
 use Rattle.wb_terms.specs.Environment.{as_value}
 use Rattle.wb_terms.specs.Graph.{Graph}

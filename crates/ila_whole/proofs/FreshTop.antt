@@ -2,10 +2,10 @@
 use Rattle.std.proofs.Common.{◌≡◌, ℕ, Bool, true, false, ◌||◌, List, [], ◌∷◌, ◌++◌, map, Bor, None, refl, sym, ap, ◌∙◌, subst, append_assoc}
 use Rattle.std.specs.BTreeMap.{BTreeMap}
 use Rattle.std.proofs.lemmas.Bool.{false≢true}
-use Rattle.wb_meaning.specs.Value.{Name}
-use Rattle.wb_meaning.specs.ModelFile.Written.{WrittenModel, states_in}
-use Rattle.wb_meaning.specs.ModelFile.Keys.{is_among}
-use Rattle.wb_meaning.specs.ModelFile.Names.{all_data_names, has_twice}
+use Rattle.wb_values.specs.Value.{Name}
+use Rattle.model_files.specs.Written.{WrittenModel, states_in}
+use Rattle.model_files.specs.Keys.{is_among}
+use Rattle.model_files.specs.Names.{all_data_names, has_twice}
 use Rattle.wb_terms.specs.declared.nodes.TermId.{TermId}
 use Rattle.ila_build.specs.Standing.{IsFresh, under_name}
 use Rattle.ila_build.specs.Knowing.{defined_names}

@@ -4,7 +4,7 @@ use Rattle.std.specs.Prelude.{◌==◌, ⊤, slice_index_or}
 use Rattle.std.proofs.lemmas.Bool.{and_parts, eqb-true}
 use Rattle.std.proofs.lemmas.List.{length-replicate}
 use Rattle.std.proofs.Math.Seq.{get_or-append_seam}
-use Rattle.wb_meaning.specs.Value.{Name, Sort, truth, Entries}
+use Rattle.wb_values.specs.Value.{Name, Sort, truth, Entries}
 use Rattle.wb_terms.specs.Graph.{HasDistinctNames}
 use Rattle.ila_model.specs.declared.parts.Child.{Child}
 use Rattle.ila_model.specs.declared.parts.Parts.{Parts}

@@ -2,10 +2,10 @@
 use Rattle.std.proofs.Common.{◌≡◌, ℕ, zero, suc, Bool, true, false, cond, ◌||◌, List, Option, Some, None, inl, inr, refl, sym, ap, ◌∙◌, subst}
 use Rattle.std.specs.Prelude.{◌==◌, ◌⊎◌}
 use Rattle.std.proofs.lemmas.Bool.{false≢true, eqb-true, eq-eqb}
-use Rattle.wb_meaning.specs.Value.{Name, Entries, entry_of}
-use Rattle.wb_meaning.specs.Term.{Term}
-use Rattle.wb_meaning.specs.ModelFile.Written.{UnaryOperator, not, neg, BinaryOperator, and, or, xor, add, sub, mul, shl, lshr, ashr, eq, ult, ule, slt, sle, concat, load, Widening, zext, sext, WrittenTerm, name, constant_truth, const, unary, binary, extract, widen, ite, store}
-use Rattle.wb_meaning.specs.ModelFile.Scope.{Visible, unary_term, binary_term, widened_term, term_named, term_of}
+use Rattle.wb_values.specs.Value.{Name, Entries, entry_of}
+use Rattle.model_meaning.specs.Term.{Term}
+use Rattle.model_files.specs.Written.{UnaryOperator, not, neg, BinaryOperator, and, or, xor, add, sub, mul, shl, lshr, ashr, eq, ult, ule, slt, sle, concat, load, Widening, zext, sext, WrittenTerm, name, constant_truth, const, unary, binary, extract, widen, ite, store}
+use Rattle.model_files.specs.Scope.{Visible, unary_term, binary_term, widened_term, term_named, term_of}
 use Rattle.ila_model.specs.declared.parts.Child.{Child}
 use Rattle.ila_model.specs.declared.scopes.Scope.{Scope}
 use Rattle.ila_model.specs.declared.scopes.Scope.TheVariants.{Anywhere, Within, Nowhere}

@@ -2,14 +2,14 @@
 use Rattle.std.proofs.Common.{◌≡◌, ℕ, ◌≤◌, true, List, [], ◌∷◌, ◌++◌, length, map, drop, Bor, Option, None, option_map, refl, sym, ap, ◌∙◌, subst, arith, append_assoc}
 use Rattle.std.proofs.lemmas.List.{append-nil}
 use Rattle.std.specs.BTreeMap.{BTreeMap}
-use Rattle.wb_meaning.specs.Value.{Name, Sort, Entries}
-use Rattle.wb_meaning.specs.Model as pure
-use Rattle.wb_meaning.specs.Model.{StateDeclaration, InputDeclaration, Model, Machine}
-use Rattle.wb_meaning.specs.ModelFile.Written.{WrittenMachine, machine, WrittenModel, states_in}
-use Rattle.wb_meaning.specs.ModelFile.Scope.{Visible, Scope, declared, term_of, with_inputs, with_states, with_fetch, scope_within, terms_in}
-use Rattle.wb_meaning.specs.ModelFile.Rules.{depth_of}
-use Rattle.wb_meaning.specs.ModelFile.Meaning as file
-use Rattle.wb_meaning.specs.ModelFile.Meaning.{broken_rule}
+use Rattle.wb_values.specs.Value.{Name, Sort, Entries}
+use Rattle.model_meaning.specs.Model as pure
+use Rattle.model_meaning.specs.Model.{StateDeclaration, InputDeclaration, Model, Machine}
+use Rattle.model_files.specs.Written.{WrittenMachine, machine, WrittenModel, states_in}
+use Rattle.model_files.specs.Scope.{Visible, Scope, declared, term_of, with_inputs, with_states, with_fetch, scope_within, terms_in}
+use Rattle.model_files.specs.Rules.{depth_of}
+use Rattle.model_files.specs.Meaning as file
+use Rattle.model_files.specs.Meaning.{broken_rule}
 use Rattle.wb_terms.specs.declared.nodes.TermId.{TermId}
 use Rattle.wb_terms.specs.declared.values.Value.{Value}
 use Rattle.wb_terms.specs.Environment.{as_value}

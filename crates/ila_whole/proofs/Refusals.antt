@@ -1,10 +1,10 @@
 -- No put of a written model's parts is refused where no rule refuses the model.
 use Rattle.std.proofs.Common.{◌≡◌, ℕ, true, false, List, [], ◌++◌, map, Bor, Option, None, sym, subst}
 use Rattle.std.specs.BTreeMap.{BTreeMap}
-use Rattle.wb_meaning.specs.Model.{StateDeclaration, InputDeclaration}
-use Rattle.wb_meaning.specs.ModelFile.Written.{WrittenMachine, machine, WrittenModel, states_in}
-use Rattle.wb_meaning.specs.ModelFile.Names.{all_data_names, has_twice}
-use Rattle.wb_meaning.specs.ModelFile.Scope.{Scope, with_inputs, with_states, with_definitions, with_fetch, terms_in}
+use Rattle.model_meaning.specs.Model.{StateDeclaration, InputDeclaration}
+use Rattle.model_files.specs.Written.{WrittenMachine, machine, WrittenModel, states_in}
+use Rattle.model_files.specs.Names.{all_data_names, has_twice}
+use Rattle.model_files.specs.Scope.{Scope, with_inputs, with_states, with_definitions, with_fetch, terms_in}
 use Rattle.wb_terms.specs.declared.nodes.TermId.{TermId}
 use Rattle.wb_terms.specs.declared.store.PutStop.{PutStop}
 use Rattle.wb_terms.specs.Graph.{Graph}

@@ -5,12 +5,12 @@ use Rattle.std.specs.List.{list_all}
 use Rattle.std.proofs.lemmas.Bool.{and_from, and_parts}
 use Rattle.serde_json.specs.Data.{Data, null, boolean, number, string, array, object, Items, no_items, item, Members, no_members, member}
 use Rattle.serde_json.specs.Find.{get_member, as_bool, as_array, as_object, as_str}
-use Rattle.wb_meaning.specs.Value as meaning
-use Rattle.wb_meaning.specs.Value.{Name, same_name, Sort, truth, word, memory, Entries}
-use Rattle.wb_meaning.specs.Model.{StateDeclaration, InputDeclaration}
-use Rattle.wb_meaning.specs.ModelFile.Written.{WrittenTerm, WrittenInstruction, WrittenInstructions, WrittenMachine, machine, WrittenChild, WrittenModel, states_in, machines_below, machines_of_instruction, machines_of_child}
-use Rattle.wb_meaning.specs.ModelFile.Rules.{is_memory_sort}
-use Rattle.wb_meaning.specs.ModelFile.Shape.{required, sort_in, with_first, all_in, list_in, number_in, initial_in, private_initial_in, with_initial, state_from, declaration_in, state_in, private_state_in, input_from, input_in, instruction_from, with_instruction, machine_from, machine_in, child_from, instruction_in, child_under, child_in, instructions_under, instructions_in, all_instructions, model_from, model_in}
+use Rattle.wb_values.specs.Value as meaning
+use Rattle.wb_values.specs.Value.{Name, same_name, Sort, truth, word, memory, Entries}
+use Rattle.model_meaning.specs.Model.{StateDeclaration, InputDeclaration}
+use Rattle.model_files.specs.Written.{WrittenTerm, WrittenInstruction, WrittenInstructions, WrittenMachine, machine, WrittenChild, WrittenModel, states_in, machines_below, machines_of_instruction, machines_of_child}
+use Rattle.model_files.specs.Rules.{is_memory_sort}
+use Rattle.model_files.specs.Shape.{required, sort_in, with_first, all_in, list_in, number_in, initial_in, private_initial_in, with_initial, state_from, declaration_in, state_in, private_state_in, input_from, input_in, instruction_from, with_instruction, machine_from, machine_in, child_from, instruction_in, child_under, child_in, instructions_under, instructions_in, all_instructions, model_from, model_in}
 use Rattle.ila_whole.specs.Shaped.{is_top_state, is_private_state, is_plain_input, has_private_states, machines_inside, is_shaped}
 
 all_true : {A : Type 0} (P : A → Bool) (x : Option A) (xs : Option (List A)) → IfSome x (λ y. P y ≡ true) → IfSome xs (λ ys. list_all P ys ≡ true) → IfSome (with_first x xs) (λ ys. list_all P ys ≡ true)

@@ -3,9 +3,9 @@ use Rattle.std.proofs.Common.{◌≡◌, ℕ, List, [], ◌++◌, length, map, B
 use Rattle.std.specs.Prelude.{true, is_some, IfSome}
 use Rattle.std.proofs.lemmas.Bool.{false≢true}
 use Rattle.std.specs.BTreeMap.{BTreeMap}
-use Rattle.wb_meaning.specs.Model.{InputDeclaration}
-use Rattle.wb_meaning.specs.ModelFile.Written.{WrittenMachine, machine, WrittenModel, states_in}
-use Rattle.wb_meaning.specs.ModelFile.Scope.{Scope, with_inputs, with_states, with_definitions, with_fetch, scope_within}
+use Rattle.model_meaning.specs.Model.{InputDeclaration}
+use Rattle.model_files.specs.Written.{WrittenMachine, machine, WrittenModel, states_in}
+use Rattle.model_files.specs.Scope.{Scope, with_inputs, with_states, with_definitions, with_fetch, scope_within}
 use Rattle.wb_terms.specs.declared.nodes.TermId.{TermId}
 use Rattle.wb_terms.specs.Environment.{as_value}
 use Rattle.wb_terms.specs.Graph.{Graph, HasDistinctNames}

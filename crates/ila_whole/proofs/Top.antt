@@ -4,12 +4,12 @@ use Rattle.std.specs.Prelude.{nat_le, nat_lt, is_none}
 use Rattle.std.specs.List.{list_all}
 use Rattle.std.proofs.lemmas.Bool.{false≢true, and_parts, and_from}
 use Rattle.std.proofs.lemmas.List.{append-nil}
-use Rattle.wb_meaning.specs.Value as meaning
-use Rattle.wb_meaning.specs.Value.{Sort, truth, word, memory, Entries}
-use Rattle.wb_meaning.specs.Model.{StateDeclaration, InputDeclaration}
-use Rattle.wb_meaning.specs.ModelFile.Written.{WrittenMachine, machine, states_in, machines_in}
-use Rattle.wb_meaning.specs.ModelFile.Scope.{Scope, with_inputs, with_states, with_definitions, with_fetch, scope_within, terms_in}
-use Rattle.wb_meaning.specs.ModelFile.Rules.{is_memory_sort, has_state_widths, has_fitting_initial_values, fits_sort, depth_of, depth_below, has_step_limits}
+use Rattle.wb_values.specs.Value as meaning
+use Rattle.wb_values.specs.Value.{Sort, truth, word, memory, Entries}
+use Rattle.model_meaning.specs.Model.{StateDeclaration, InputDeclaration}
+use Rattle.model_files.specs.Written.{WrittenMachine, machine, states_in, machines_in}
+use Rattle.model_files.specs.Scope.{Scope, with_inputs, with_states, with_definitions, with_fetch, scope_within, terms_in}
+use Rattle.model_files.specs.Rules.{is_memory_sort, has_state_widths, has_fitting_initial_values, fits_sort, depth_of, depth_below, has_step_limits}
 use Rattle.wb_terms.specs.declared.values.Value.{Value}
 use Rattle.wb_terms.specs.Environment.{as_value}
 use Rattle.wb_terms.specs.Graph.{HasDistinctNames}

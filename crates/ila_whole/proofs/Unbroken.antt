@@ -2,10 +2,10 @@
 use Rattle.std.proofs.Common.{◌≡◌, ◌≤◌, Bool, true, false, cond, not, ◌&&◌, List, [], ◌∷◌, Option, Some, None, refl, sym}
 use Rattle.std.specs.List.{list_all, list_any}
 use Rattle.std.proofs.lemmas.Bool.{false≢true, and_parts, ltb-false}
-use Rattle.wb_meaning.specs.ModelFile.Written.{WrittenModel}
-use Rattle.wb_meaning.specs.ModelFile.Scope.{Placed, written_sort, all_terms}
-use Rattle.wb_meaning.specs.ModelFile.Rules.{has_bad_name, has_duplicate_name, has_unknown_name, has_bad_width, has_bad_sort, has_bad_number, has_memory_copy, has_too_deep_child, has_bad_steps, has_fitting_constants, is_unknown_at, takes_sort, depth_of}
-use Rattle.wb_meaning.specs.ModelFile.Meaning.{ModelRule, BadName, DuplicateName, UnknownName, BadWidth, BadSort, BadNumber, MemoryCopy, TooDeepChild, BadSteps, broken_rule}
+use Rattle.model_files.specs.Written.{WrittenModel}
+use Rattle.model_files.specs.Scope.{Placed, written_sort, all_terms}
+use Rattle.model_files.specs.Rules.{has_bad_name, has_duplicate_name, has_unknown_name, has_bad_width, has_bad_sort, has_bad_number, has_memory_copy, has_too_deep_child, has_bad_steps, has_fitting_constants, is_unknown_at, takes_sort, depth_of}
+use Rattle.model_files.specs.Meaning.{ModelRule, BadName, DuplicateName, UnknownName, BadWidth, BadSort, BadNumber, MemoryCopy, TooDeepChild, BadSteps, broken_rule}
 use Rattle.ila_build.specs.Knowing.{is_right, are_right}
 use Rattle.ila_build.proofs.Sorting.{or_parts}
 

@@ -5,13 +5,13 @@ use Rattle.std.proofs.lemmas.Bool.Decides.{nat_tests}
 use Rattle.std.proofs.lemmas.Bool.{false≢true, and_parts, and_from, eqb-true, eq-eqb, leb-true}
 use Rattle.std.proofs.Math.Seq.{get_or-append_seam}
 use Rattle.std.proofs.lemmas.Slice.Eq.{bytes_eq-Decides}
-use Rattle.wb_meaning.specs.Value.{Name, same_name, Sort, truth, word, memory, Entries, entry_of}
-use Rattle.wb_meaning.specs.Term.{same_sort, sort_of}
-use Rattle.wb_meaning.specs.Model.{StateDeclaration, InputDeclaration, state_named}
-use Rattle.wb_meaning.specs.ModelFile.Written.{WrittenTerm, WrittenInstruction, instruction, WrittenInstructions, no_instructions, and_then, WrittenMachine, machine, WrittenChild, no_child, child, machines_of_instruction}
-use Rattle.wb_meaning.specs.ModelFile.Scope.{Visible, Place, of_definition, of_fetch, of_condition, of_update, placed, declared, defined, term_of, written_sort, with_inputs, with_states, with_definitions, with_fetch, placed_definitions, placed_fetch, placed_updates}
-use Rattle.wb_meaning.specs.ModelFile.Rules.{uses_unknown_name, updates_no_state, takes_sort}
-use Rattle.wb_meaning.specs.ModelFile.Meaning.{with_update, updates_of}
+use Rattle.wb_values.specs.Value.{Name, same_name, Sort, truth, word, memory, Entries, entry_of}
+use Rattle.model_meaning.specs.Term.{same_sort, sort_of}
+use Rattle.model_meaning.specs.Model.{StateDeclaration, InputDeclaration, state_named}
+use Rattle.model_files.specs.Written.{WrittenTerm, WrittenInstruction, instruction, WrittenInstructions, no_instructions, and_then, WrittenMachine, machine, WrittenChild, no_child, child, machines_of_instruction}
+use Rattle.model_files.specs.Scope.{Visible, Place, of_definition, of_fetch, of_condition, of_update, placed, declared, defined, term_of, written_sort, with_inputs, with_states, with_definitions, with_fetch, placed_definitions, placed_fetch, placed_updates}
+use Rattle.model_files.specs.Rules.{uses_unknown_name, updates_no_state, takes_sort}
+use Rattle.model_files.specs.Meaning.{with_update, updates_of}
 use Rattle.wb_terms.specs.declared.nodes.TermId.{TermId}
 use Rattle.wb_terms.specs.Graph.{Graph, tree, HasDistinctNames}
 use Rattle.ila_model.specs.declared.parts.Update.{Update}

@@ -1,9 +1,9 @@
 -- What the shape of a model file gives besides what its rules ask: which declarations state initial values, and which are memories.
 use Rattle.std.specs.Prelude.{Bool, not, ◌&&◌, ◌||◌, List, is_some, is_none}
 use Rattle.std.specs.List.{list_all}
-use Rattle.wb_meaning.specs.Model.{StateDeclaration, InputDeclaration}
-use Rattle.wb_meaning.specs.ModelFile.Written.{WrittenMachine, machine, WrittenModel, states_in, machines_below}
-use Rattle.wb_meaning.specs.ModelFile.Rules.{is_memory_sort}
+use Rattle.model_meaning.specs.Model.{StateDeclaration, InputDeclaration}
+use Rattle.model_files.specs.Written.{WrittenMachine, machine, WrittenModel, states_in, machines_below}
+use Rattle.model_files.specs.Rules.{is_memory_sort}
 
 -- A memory states no initial value.
 abbrev pub is_top_state : StateDeclaration → Bool

@@ -1,7 +1,7 @@
 -- When the parts of a model are those of a written one.
 use Rattle.std.specs.Prelude.{◌≡◌, true, None}
-use Rattle.wb_meaning.specs.ModelFile.Written.{WrittenModel}
-use Rattle.wb_meaning.specs.ModelFile.Meaning.{broken_rule, model_of}
+use Rattle.model_files.specs.Written.{WrittenModel}
+use Rattle.model_files.specs.Meaning.{broken_rule, model_of}
 use Rattle.ila_model.specs.declared.parts.Parts.{Parts}
 use Rattle.ila_model.specs.Meaning.{model_from}
 use Rattle.ila_model.specs.Sorted.{is_well_sorted}

@@ -1,14 +1,14 @@
 //! The parts of a written model: its names are declared, and then its machine and its child programs are put.
 
 ghost use Rattle.std.specs.Prelude.{◌≡◌, ◌++◌, false, map, IfOk};
-ghost use Rattle.wb_meaning.specs.ModelFile.Written.{states_in};
+ghost use Rattle.model_files.specs.Written.{states_in};
 ghost use Rattle.ila_file.specs.View.{inputs_view, machine_view, model_view};
 ghost use Rattle.ila_build.specs.Declaring.{input_entry, state_entry};
 ghost use Rattle.ila_build.specs.Standing.{IsFresh, IsTable};
 ghost use Rattle.ila_build.specs.Knowing.{defined_names};
 ghost use Rattle.ila_build.specs.Building.{definitions_in, instructions_in};
 ghost use Rattle.ila_build.specs.Refusing.{IsUnrefused, names_below};
-ghost use Rattle.wb_meaning.specs.ModelFile.Names.{all_data_names, has_twice};
+ghost use Rattle.model_files.specs.Names.{all_data_names, has_twice};
 ghost use Rattle.ila_whole.specs.Whole.{ArePartsOf, AreSortedParts, IsFit};
 
 use ila_build::{

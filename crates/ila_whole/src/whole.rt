@@ -1,8 +1,8 @@
 //! The model that a written one stands for, where no rule refuses it.
 
 ghost use Rattle.std.specs.Prelude.{◌≡◌, true, None, IfOk};
-ghost use Rattle.wb_meaning.specs.ModelFile.Meaning as meaning;
-ghost use Rattle.wb_meaning.specs.ModelFile.Meaning.{broken_rule};
+ghost use Rattle.model_files.specs.Meaning as meaning;
+ghost use Rattle.model_files.specs.Meaning.{broken_rule};
 ghost use Rattle.ila_file.specs.View.{model_view};
 ghost use Rattle.ila_model.specs.Model.{model_of};
 ghost use Rattle.ila_whole.specs.Shaped.{is_shaped};

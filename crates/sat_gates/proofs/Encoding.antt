@@ -3,8 +3,8 @@ use Rattle.std.proofs.Common.{◌≡◌, ◌∙◌, ℕ, ◌+◌, ◌<◌, ◌�
 use Rattle.std.proofs.lemmas.List.{get_or-take, ext_get_or, length-take-le}
 use Rattle.std.specs.Prelude.{not as truth_not, is_some}
 use Rattle.std.proofs.lemmas.Bool.{false≢true, not-true, and_parts}
-use Rattle.wb_meaning.specs.Value.{Name, Sort, truth, word, memory, truth_value, as_truth, Valuation}
-use Rattle.wb_meaning.specs.Term.{Term, name, constant_truth, const, not, neg, and, or, xor, add, sub, mul, shl, lshr, ashr, eq, ult, ule, slt, sle, concat, extract, zext, sext, ite, load, store, sort_of, val}
+use Rattle.wb_values.specs.Value.{Name, Sort, truth, word, memory, truth_value, as_truth, Valuation}
+use Rattle.model_meaning.specs.Term.{Term, name, constant_truth, const, not, neg, and, or, xor, add, sub, mul, shl, lshr, ashr, eq, ult, ule, slt, sle, concat, extract, zext, sext, ite, load, store, sort_of, val}
 use Rattle.sat_gates.proofs.Using.{of_one, of_two, of_none}
 use Rattle.wb_terms.specs.Graph.{Graph, HasDistinctNames, tree}
 use Rattle.sat_base.specs.Formula.{Formula, variable_value}
@@ -80,12 +80,12 @@ bit_names (eq x y) b n s h = let p = and_parts _ _ b in of_two BitSort (names_in
 bit_names (ult x y) b n s h = let p = and_parts _ _ b in of_two BitSort (names_in x) (names_in y) (bit_names x p.0) (bit_names y p.1) n s h
 bit_names (ule x y) b n s h = let p = and_parts _ _ b in of_two BitSort (names_in x) (names_in y) (bit_names x p.0) (bit_names y p.1) n s h
 bit_names (concat x y) b n s h = let p = and_parts _ _ b in of_two BitSort (names_in x) (names_in y) (bit_names x p.0) (bit_names y p.1) n s h
-bit_names (mul x y) b n s h = absurd (false≢true b)
-bit_names (shl x y) b n s h = absurd (false≢true b)
-bit_names (lshr x y) b n s h = absurd (false≢true b)
-bit_names (ashr x y) b n s h = absurd (false≢true b)
-bit_names (slt x y) b n s h = absurd (false≢true b)
-bit_names (sle x y) b n s h = absurd (false≢true b)
+bit_names (mul x y) b n s h = let p = and_parts _ _ b in of_two BitSort (names_in x) (names_in y) (bit_names x p.0) (bit_names y p.1) n s h
+bit_names (shl x y) b n s h = let p = and_parts _ _ b in of_two BitSort (names_in x) (names_in y) (bit_names x p.0) (bit_names y p.1) n s h
+bit_names (lshr x y) b n s h = let p = and_parts _ _ b in of_two BitSort (names_in x) (names_in y) (bit_names x p.0) (bit_names y p.1) n s h
+bit_names (ashr x y) b n s h = let p = and_parts _ _ b in of_two BitSort (names_in x) (names_in y) (bit_names x p.0) (bit_names y p.1) n s h
+bit_names (slt x y) b n s h = let p = and_parts _ _ b in of_two BitSort (names_in x) (names_in y) (bit_names x p.0) (bit_names y p.1) n s h
+bit_names (sle x y) b n s h = let p = and_parts _ _ b in of_two BitSort (names_in x) (names_in y) (bit_names x p.0) (bit_names y p.1) n s h
 bit_names (load x y) b n s h = absurd (false≢true b)
 bit_names (extract i j x) b n s h = bit_names x b n s h
 bit_names (zext w x) b n s h = bit_names x b n s h

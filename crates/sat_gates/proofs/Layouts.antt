@@ -5,7 +5,7 @@ use Rattle.std.proofs.lemmas.Bool.{false≢true, cases_eq, cases_lt, eq-eqb, ne_
 use Rattle.std.proofs.lemmas.Nat.{div-add-mod', mod_below}
 use Rattle.std.proofs.lemmas.Slice.Eq.{bytes_eq-Decides}
 use Rattle.std.proofs.Math.Nat.{pow-succ'}
-use Rattle.wb_meaning.specs.Value.{Name, Sort, truth, word, memory, Value, truth_value, number, words, as_truth, as_number, Entries, Valuation, HasSort, entry_of, same_name}
+use Rattle.wb_values.specs.Value.{Name, Sort, truth, word, memory, Value, truth_value, number, words, as_truth, as_number, Entries, Valuation, HasSort, entry_of, same_name}
 use Rattle.wb_terms.specs.Graph.{HasDistinctNames}
 use Rattle.sat_base.specs.Formula.{variable_value}
 use Rattle.gate_words.specs.Binary.{digit, number_of}

@@ -5,8 +5,8 @@ use Rattle.std.proofs.lemmas.List.{get_or-set_same, get_or-set_other, get_or_pas
 use Rattle.std.proofs.lemmas.List.Elements.{Contains-append_left, Contains-append_right}
 use Rattle.std.proofs.lemmas.Option.{get_or_from_slice_get}
 use Rattle.std.proofs.lemmas.Bool.{cases_eq, cases_lt, false≢true, and_parts}
-use Rattle.wb_meaning.specs.Value.{Sort, Entries}
-use Rattle.wb_meaning.specs.Term.{Term}
+use Rattle.wb_values.specs.Value.{Sort, Entries}
+use Rattle.model_meaning.specs.Term.{Term}
 use Rattle.wb_terms.specs.declared.nodes.Node.{Node}
 use Rattle.wb_terms.specs.declared.nodes.Node.TheVariants.{Name as NameNode, Truth, Const, Not, And, Or, Xor, Neg, Add, Sub, Mul, Shl, Lshr, Ashr, Eq, Ult, Ule, Slt, Sle, Concat, Extract, Zext, Sext, Ite, Load, Store}
 use Rattle.wb_terms.specs.Graph.{Graph, tree, tree_at, tree_of, trees_of, tree_of_node, operands_of, AllBelow}
@@ -49,9 +49,6 @@ two : (ts : List Term) (t : Term) (x y : ℕ) → names_in t ≡ names_in (tree_
     → is_blastable t ≡ (is_blastable (tree_at ts x) && is_blastable (tree_at ts y)) → AreParts t ts (x ∷ y ∷ [])
 two ts t x y e f = (first t (tree_at ts x) (names_in (tree_at ts y)) e (λ h. (and_parts _ _ (sym f ∙ h)).0), (second t (tree_at ts y) (names_in (tree_at ts x)) e (λ h. (and_parts _ _ (sym f ∙ h)).1), tt))
 
-stopped : (ts : List Term) (t : Term) (x y : ℕ) → names_in t ≡ names_in (tree_at ts x) ++ names_in (tree_at ts y) → is_blastable t ≡ false → AreParts t ts (x ∷ y ∷ [])
-stopped ts t x y e f = (first t (tree_at ts x) (names_in (tree_at ts y)) e (λ h. absurd (false≢true (sym f ∙ h))), (second t (tree_at ts y) (names_in (tree_at ts x)) e (λ h. absurd (false≢true (sym f ∙ h))), tt))
-
 operand_parts : (ns : Entries Sort) (ts : List Term) (n : Node) → AreParts (tree_of ns ts n) ts (operands_of n)
 operand_parts ns ts (NameNode n) = tt
 operand_parts ns ts (Truth b) = tt
@@ -63,15 +60,15 @@ operand_parts ns ts (Or x y) = two ts _ x.0 y.0 refl refl
 operand_parts ns ts (Xor x y) = two ts _ x.0 y.0 refl refl
 operand_parts ns ts (Add x y) = two ts _ x.0 y.0 refl refl
 operand_parts ns ts (Sub x y) = two ts _ x.0 y.0 refl refl
-operand_parts ns ts (Mul x y) = stopped ts _ x.0 y.0 refl refl
-operand_parts ns ts (Shl x y) = stopped ts _ x.0 y.0 refl refl
-operand_parts ns ts (Lshr x y) = stopped ts _ x.0 y.0 refl refl
-operand_parts ns ts (Ashr x y) = stopped ts _ x.0 y.0 refl refl
+operand_parts ns ts (Mul x y) = two ts _ x.0 y.0 refl refl
+operand_parts ns ts (Shl x y) = two ts _ x.0 y.0 refl refl
+operand_parts ns ts (Lshr x y) = two ts _ x.0 y.0 refl refl
+operand_parts ns ts (Ashr x y) = two ts _ x.0 y.0 refl refl
 operand_parts ns ts (Eq x y) = two ts _ x.0 y.0 refl refl
 operand_parts ns ts (Ult x y) = two ts _ x.0 y.0 refl refl
 operand_parts ns ts (Ule x y) = two ts _ x.0 y.0 refl refl
-operand_parts ns ts (Slt x y) = stopped ts _ x.0 y.0 refl refl
-operand_parts ns ts (Sle x y) = stopped ts _ x.0 y.0 refl refl
+operand_parts ns ts (Slt x y) = two ts _ x.0 y.0 refl refl
+operand_parts ns ts (Sle x y) = two ts _ x.0 y.0 refl refl
 operand_parts ns ts (Concat x y) = two ts _ x.0 y.0 refl refl
 operand_parts ns ts (Extract h l x) = (one _ _ refl refl, tt)
 operand_parts ns ts (Zext w x) = (one _ _ refl refl, tt)

@@ -5,15 +5,16 @@ use Rattle.std.proofs.lemmas.Bool.{false≢true, eqb-true, leb-true, ltb-true, l
 use Rattle.std.proofs.Math.Nat.{pow-succ'}
 use Rattle.std.proofs.lemmas.Nat.{pow-add}
 use Rattle.std.proofs.lemmas.List.{length-append, length-drop, length-take-le, length-replicate, take_all, take_more, nil_from_length}
-use Rattle.wb_meaning.specs.Value.{Sort, truth, word, memory, Value, truth_value, number, words, as_truth, as_number}
-use Rattle.wb_meaning.specs.Term.{some_if, bits_sort, same_bits_sort, same_word_sort, compared, concat_sort, extract_sort, extended_sort, ite_sort, same_sort, width_of_sort, complement, conjunction, disjunction, exclusive_or, is_equal}
-use Rattle.wb_meaning.specs.Number.{word_add, word_sub, word_ult, word_ule, word_concat, word_extract, word_zext, word_sext, top_bit}
+use Rattle.wb_values.specs.Value.{Sort, truth, word, memory, Value, truth_value, number, words, as_truth, as_number}
+use Rattle.wb_values.specs.Choice.{some_if}
+use Rattle.model_meaning.specs.Term.{bits_sort, same_bits_sort, same_word_sort, compared, concat_sort, extract_sort, extended_sort, ite_sort, same_sort, width_of_sort, complement, conjunction, disjunction, exclusive_or, is_equal}
+use Rattle.wb_values.specs.Number.{word_add, word_sub, word_ult, word_ule, word_concat, word_extract, word_zext, word_sext, top_bit}
 use Rattle.gate_base.specs.Circuit.{differ}
 use Rattle.gate_words.specs.declared.chains.Cell.{Cell}
 use Rattle.gate_words.specs.declared.chains.Cell.TheVariants as cell
 use Rattle.gate_words.specs.Binary.{digit, number_of}
 use Rattle.gate_words.specs.Cells.{outputs, last_carry}
-use Rattle.gate_words.proofs.Numbers.{number_below, length-outputs, number-and, number-or, number-xor, number-not, choose_all, number-sum, number-difference, last-below, last-same, number-append, number-drop, number-take, number-zeros, number-ones}
+use Rattle.gate_words.proofs.Numbers.{number_below, length-outputs, number-and, number-or, number-xor, number-not, choose_all, number-sum, number-difference, last-below, last-same, number-append, number-drop, number-take, number-zeros, top_of, signed_fill}
 use Rattle.sat_gates.specs.Encodes.{Writes}
 use Rattle.sat_gates.specs.Blasting.{WritesOf}
 
@@ -88,6 +89,18 @@ writes_sub a b x y xs ys out s h k e =
       ap length e ∙ (length-outputs cell.Difference true xs ys l ∙ i),
       ap number_of e ∙ (number-difference xs ys l ∙ (ap (λ n. (n + (2 ^ length xs - number_of ys)) % 2 ^ length xs) p
           ∙ (ap (λ n. (as_number x + (2 ^ length xs - n)) % 2 ^ length xs) q ∙ ap (λ n. (as_number x + (2 ^ n - as_number y)) % 2 ^ n) w))),
+    ))
+
+-- an operator on two words of one width
+pub writes_word : (f : ℕ → ℕ → ℕ → ℕ) (a b : Option Sort) (x y : Value) (xs ys out : List Bool) → IsSome (same_word_sort a b) → WritesOf a x xs → WritesOf b y ys
+    → length out ≡ length xs → number_of out ≡ f (length xs) (number_of xs) (number_of ys)
+    → WritesOf (same_word_sort a b) (number (f (width_of_sort a) (as_number x) (as_number y))) out
+writes_word f a b x y xs ys out s h k l e =
+    let t = are_words a b s in
+    both_words a b (same_word_sort a b) x y xs ys out t h k (f (width_of_sort a) (as_number x) (as_number y)) (λ i j p q.
+    let w : length xs ≡ width_of_sort a = i ∙ sym (ap width_of_sort t.left) in (
+      l ∙ i,
+      e ∙ (ap (λ n. f n (number_of xs) (number_of ys)) w ∙ (ap (λ n. f (width_of_sort a) n (number_of ys)) p ∙ ap (f (width_of_sort a) (as_number x)) q)),
     ))
 
 -- bit by bit: on words the numbers, on truth values the one bit
@@ -212,6 +225,19 @@ pub writes_ule : (a b : Option Sort) (x y : Value) (xs ys : List Bool) (out : Bo
     → out ≡ last_carry cell.Below true xs ys → WritesOf (compared (same_word_sort a b)) (truth_value (word_ule (as_number x) (as_number y))) (out ∷ [])
 writes_ule a b x y xs ys out s h l e =
     compare_words a b x y xs ys true out (word_ule (as_number x) (as_number y)) s h l e (below_next (as_number x) (as_number y))
+
+-- a comparison that knows the width
+pub writes_signed : (f : ℕ → ℕ → ℕ → Bool) (a b : Option Sort) (x y : Value) (xs ys : List Bool) (out : Bool) → IsSome (compared (same_word_sort a b)) → WritesOf a x xs → WritesOf b y ys
+    → out ≡ f (length xs) (number_of xs) (number_of ys)
+    → WritesOf (compared (same_word_sort a b)) (truth_value (f (width_of_sort a) (as_number x) (as_number y))) (out ∷ [])
+writes_signed f a b x y xs ys out s h k e =
+    let t = are_words a b (compared_some (same_word_sort a b) s) in
+    let p = word_written t.bits x xs (subst (λ o. WritesOf o x xs) t.left h) in
+    let q = word_written t.bits y ys (subst (λ o. WritesOf o y ys) t.right k) in
+    let w : length xs ≡ width_of_sort a = p.0 ∙ sym (ap width_of_sort t.left) in
+    let v : out ≡ f (width_of_sort a) (as_number x) (as_number y) =
+    e ∙ (ap (λ n. f n (number_of xs) (number_of ys)) w ∙ (ap (λ n. f (width_of_sort a) n (number_of ys)) p.1 ∙ ap (f (width_of_sort a) (as_number x)) q.1)) in
+    subst (λ o. WritesOf o (truth_value (f (width_of_sort a) (as_number x) (as_number y))) (out ∷ [])) (sym (compared_truth (same_word_sort a b) s)) (ap (λ z. z ∷ []) v)
 
 -- a choice
 same_sort_true : (s t : Sort) → same_sort s t ≡ true → s ≡ t
@@ -344,44 +370,6 @@ writes_zext n a x xs out s g e =
       ap length e ∙ (length-append xs (replicate (n - length xs) false) ∙ omega (arith, length-replicate (n - length xs) false, p.0, t.order)),
       ap number_of e ∙ (number-append xs (replicate (n - length xs) false) ∙ (ap (λ k. k * 2 ^ length xs + number_of xs) (number-zeros (n - length xs)) ∙ omega (arith, p.1))),
     )
-
--- the last bit is the top bit
-pub top_written : (bs : List Bool) (b : Bool) → number_of (bs ++ b ∷ []) ≡ digit b * 2 ^ length bs + number_of bs
-top_written bs b = number-append bs (b ∷ []) ∙ ap (λ k. k * 2 ^ length bs + number_of bs) (let z : 0 * 2 + digit b ≡ digit b = omega arith in z)
-
--- the last bit of a word is its top bit
-top_cases : (b : Bool) (p lo : ℕ) → lo < p → nat_le (2 * p) (2 * (digit b * p + lo)) ≡ b
-top_cases true p lo h = le-leb _ _ (omega (arith, h, (let e : 1 * p ≡ p = omega arith in e)))
-top_cases false p lo h = lt-leb _ _ (omega (arith, h, (let e : 0 * p ≡ 0 = omega arith in e)))
-
-pub top_of : (bs : List Bool) → top_bit (length bs) (number_of bs) ≡ get_or bs (length bs - 1) false
-top_of bs = elim (cases_eq (length bs) 0) [
-  | inl e ↦ rw (nil_from_length bs e) refl
-  | inr e ↦
-      let n = length bs - 1 in
-      let b = get_or bs n false in
-      let long : length bs ≡ suc n = omega (arith, e) in
-      let whole : bs ≡ take n bs ++ b ∷ [] = sym (take_all (n + 1) bs (omega (arith, e))) ∙ take_more bs n false (omega (arith, e)) in
-      let front : length (take n bs) ≡ n = length-take-le n bs (omega arith) in
-      let low : number_of (take n bs) < 2 ^ n = subst (λ k. number_of (take n bs) < 2 ^ k) front (number_below (take n bs)) in
-      let value : number_of bs ≡ digit b * 2 ^ n + number_of (take n bs) =
-      ap number_of whole ∙ (top_written (take n bs) b ∙ ap (λ k. digit b * 2 ^ k + number_of (take n bs)) front) in
-      ap (λ k. nat_le (2 ^ k) (2 * number_of bs)) long ∙ (ap (λ k. nat_le k (2 * number_of bs)) (pow-succ' 2 n)
-      ∙ (ap (λ k. nat_le (2 * 2 ^ n) (2 * k)) value ∙ top_cases b (2 ^ n) (number_of (take n bs)) low))
-]
-
-signed_fill : (b : Bool) (x w n : ℕ) → w ≤ n → number_of (replicate (n - w) b) * 2 ^ w + x ≡ x + cond b (2 ^ n - 2 ^ w) 0
-signed_fill false x w n h = ap (λ k. k * 2 ^ w + x) (number-zeros (n - w)) ∙ omega arith
-signed_fill true x w n h =
-    let e : n - w + w ≡ n = omega (arith, h) in
-    let p : 2 ^ n ≡ 2 ^ (n - w) * 2 ^ w = sym (ap (λ k. 2 ^ k) e) ∙ pow-add 2 (n - w) w in
-    let q : (number_of (replicate (n - w) true) + 1) * 2 ^ w ≡ 2 ^ n = ap (λ k. k * 2 ^ w) (number-ones (n - w)) ∙ sym p in
-    filled (number_of (replicate (n - w) true)) (2 ^ w) (2 ^ n) x q
-  where
-    filled : (r u v y : ℕ) → (r + 1) * u ≡ v → r * u + y ≡ y + (v - u)
-    filled r u v y h =
-        let k : (r + 1) * u ≡ r * u + u = grind arith in
-        omega (arith, h, k)
 
 pub writes_sext : (n : ℕ) (a : Option Sort) (x : Value) (xs out : List Bool) → IsSome (extended_sort n a) → WritesOf a x xs
     → out ≡ xs ++ replicate (n - length xs) (get_or xs (length xs - 1) false) → WritesOf (extended_sort n a) (number (word_sext n (width_of_sort a) (as_number x))) out

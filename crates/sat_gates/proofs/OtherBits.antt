@@ -4,9 +4,10 @@ use Rattle.std.specs.Prelude.{IsSome}
 use Rattle.std.proofs.lemmas.Bool.{false≢true}
 use Rattle.std.proofs.lemmas.List.{length-map, map-append, length-append, length-replicate, take-map, drop-map, length-take-le, length-drop}
 use Rattle.std.proofs.lemmas.List.Elements.{All-nil, All-cons, All-append, All-replicate, All-take, All-drop}
-use Rattle.wb_meaning.specs.Value.{Sort, truth, word, memory, number, as_number}
-use Rattle.wb_meaning.specs.Term.{Term, const, neg, ite, concat, extract, zext, sext, sort_of, val, is_sort, some_if, word_sort, concat_sort, extract_sort, extended_sort, ite_sort, width_of_sort}
-use Rattle.wb_meaning.specs.Number.{word_neg}
+use Rattle.wb_values.specs.Value.{Sort, truth, word, memory, number, as_number}
+use Rattle.wb_values.specs.Choice.{some_if}
+use Rattle.model_meaning.specs.Term.{Term, const, neg, ite, concat, extract, zext, sext, sort_of, val, is_sort, word_sort, concat_sort, extract_sort, extended_sort, ite_sort, width_of_sort}
+use Rattle.wb_values.specs.Number.{word_neg}
 use Rattle.wb_terms.specs.Graph.{Graph, tree, leaf_at}
 use Rattle.sat_base.specs.Formula.{variable_value}
 use Rattle.sat_base.specs.Literal.{positive}

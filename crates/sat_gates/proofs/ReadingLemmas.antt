@@ -4,9 +4,9 @@ use Rattle.std.proofs.lemmas.List.{length_push, get_or_append_left, get_or_at, l
 use Rattle.std.proofs.lemmas.Bool.{cases_lt, false≢true, lt-ltb, eq-eqb, and_from}
 use Rattle.std.proofs.lemmas.Nat.{pow_below, pow_pos}
 use Rattle.std.specs.Prelude.{is_some}
-use Rattle.wb_meaning.specs.Value as meaning
-use Rattle.wb_meaning.specs.Value.{Name, Sort, truth, word, memory, Entries, Valuation, HasSort, truth_value, all_below, valuation_of, value_or_zero, entry_of}
-use Rattle.wb_meaning.specs.Term.{val}
+use Rattle.wb_values.specs.Value as meaning
+use Rattle.wb_values.specs.Value.{Name, Sort, truth, word, memory, Entries, Valuation, HasSort, truth_value, all_below, valuation_of, value_or_zero, entry_of}
+use Rattle.model_meaning.specs.Term.{val}
 use Rattle.wb_terms.specs.Graph.{Graph, tree, HasDistinctNames}
 use Rattle.sat_base.specs.Formula.{Formula, variable_value, Satisfies}
 use Rattle.gate_words.specs.Binary.{number_of}
@@ -19,7 +19,7 @@ use Rattle.sat_gates.proofs.Layouts.{IsBitSort, absent, same_itself, not_same, l
 use Rattle.wb_terms.specs.declared.values.Value.{Value}
 use Rattle.wb_terms.specs.Environment.{as_value, named, AreOfSorts}
 use Rattle.sat_gates.specs.Used.{entry_at}
-use Rattle.sat_gates.specs.Reading.{IsRead}
+use Rattle.sat_gates.specs.Reading.{IsRead, zero_of, IsZeroElsewhere}
 
 -- the values of so many names are read, each of its sort
 pub record AreRead (es : Entries Sort) (fs : List (Option ℕ)) (a : List Bool) (place : ℕ) (values : List Value) : Type 0 where
@@ -79,12 +79,29 @@ bits_read a (Some f) truth x t b r = r
 bits_read a (Some f) (word w) x t b r = r
 bits_read a (Some f) (memory c e) x t b r = absurd b
 
+-- the assignment restricts to the values that are read
+pub restricted : (g : Graph) (root : ℕ) (fs : List (Option ℕ)) (vars : ℕ) (a : List Bool) (vs : List Value) (d : Value) → HasDistinctNames g.names → is_blastable (tree g root) ≡ true
+    → IsNumbered g.names (names_in (tree g root)) fs vars → AreRead g.names fs a (length g.names) vs
+    → RestrictsTo (variables_of g.names fs) a (valuation_of (named g.names (map as_value vs))) (tree g root)
+restricted g root fs vars a vs d distinct blastable numbered h n s stands =
+    let u = numbered.declared n s stands in
+    let j = u.0 in
+    let e = entry_at g.names j in
+    let here : Contains (names_in (tree g root)) e = subst (Contains (names_in (tree g root))) (sym u.2) stands in
+    let some = (numbered.stands j u.1).1 here in
+    let bit : IsBitSort e.1 = bit_names (tree g root) blastable e.0 e.1 here in
+    let read = bits_read a (get_or fs j None) e.1 (as_value (get_or vs j d)) some bit (h.read j d u.1) in
+    let variables = look g.names fs j distinct u.1 (laid_count 0 g.names fs numbered.end numbered.laid_out) in
+    subst (λ (x : Name × Sort). Writes x.1 (valuation_of (named g.names (map as_value vs)) x.0) (map (variable_value a) (variables_of g.names fs x.0))) u.2
+    (subst (λ y. Writes e.1 y (map (variable_value a) (variables_of g.names fs e.0))) (sym (value_at g.names vs j d distinct u.1 h.count))
+    (subst (λ xs. Writes e.1 (as_value (get_or vs j d)) (map (variable_value a) xs)) (sym variables) read))
+
 pub falsified : (g : Graph) (root : ℕ) (fs : List (Option ℕ)) (f : Formula) (a : List Bool) (vs : List Value) (d : Value) → HasDistinctNames g.names → is_blastable (tree g root) ≡ true
     → Encodes f (variables_of g.names fs) (tree g root) → IsNumbered g.names (names_in (tree g root)) fs f.vars → length a ≡ f.vars → Satisfies a f
     → AreRead g.names fs a (length g.names) vs → val (tree g root) (valuation_of (named g.names (map as_value vs))) ≡ truth_value false
 falsified g root fs f a vs d distinct blastable encodes numbered whole satisfies h =
     let v = valuation_of (named g.names (map as_value vs)) in
-    (encodes.some v sorts).1 (a, record { whole = whole; satisfies = satisfies; restricts = restricts })
+    (encodes.some v sorts).1 (a, record { whole = whole; satisfies = satisfies; restricts = restricted g root fs f.vars a vs d distinct blastable numbered h })
   where
     sorts : GivesSorts (valuation_of (named g.names (map as_value vs))) (tree g root)
     sorts n s stands =
@@ -92,19 +109,21 @@ falsified g root fs f a vs d distinct blastable encodes numbered whole satisfies
         subst (λ (x : Name × Sort). HasSort (valuation_of (named g.names (map as_value vs)) x.0) x.1) u.2
         (subst (λ y. HasSort y (entry_at g.names u.0).1) (sym (value_at g.names vs u.0 d distinct u.1 h.count)) (h.of_sort u.0 d u.1))
 
-    restricts : RestrictsTo (variables_of g.names fs) a (valuation_of (named g.names (map as_value vs))) (tree g root)
-    restricts n s stands =
-        let u = numbered.declared n s stands in
-        let j = u.0 in
-        let e = entry_at g.names j in
-        let here : Contains (names_in (tree g root)) e = subst (Contains (names_in (tree g root))) (sym u.2) stands in
-        let some = (numbered.stands j u.1).1 here in
-        let bit : IsBitSort e.1 = bit_names (tree g root) blastable e.0 e.1 here in
-        let read = bits_read a (get_or fs j None) e.1 (as_value (get_or vs j d)) some bit (h.read j d u.1) in
-        let vars = look g.names fs j distinct u.1 (laid_count 0 g.names fs numbered.end numbered.laid_out) in
-        subst (λ (x : Name × Sort). Writes x.1 (valuation_of (named g.names (map as_value vs)) x.0) (map (variable_value a) (variables_of g.names fs x.0))) u.2
-        (subst (λ y. Writes e.1 y (map (variable_value a) (variables_of g.names fs e.0))) (sym (value_at g.names vs j d distinct u.1 h.count))
-        (subst (λ xs. Writes e.1 (as_value (get_or vs j d)) (map (variable_value a) xs)) (sym vars) read))
+-- a name without variables is read as zero
+unread : (a : List Bool) (o : Option ℕ) (s : Sort) (x : meaning.Value) → ¬ IsTrue (is_some o) → IsRead a o s x → x ≡ zero_of s
+unread a None s x none r = r
+unread a (Some first) s x none r = absurd (none refl)
+
+pub zero_elsewhere : (g : Graph) (root : ℕ) (fs : List (Option ℕ)) (vars : ℕ) (a : List Bool) (vs : List Value) (d : Value) → HasDistinctNames g.names
+    → IsNumbered g.names (names_in (tree g root)) fs vars → AreRead g.names fs a (length g.names) vs
+    → IsZeroElsewhere g.names (names_in (tree g root)) (valuation_of (named g.names (map as_value vs)))
+zero_elsewhere g root fs vars a vs d distinct numbered h j i away =
+    value_at g.names vs j d distinct i h.count
+    ∙ unread a (get_or fs j None) (entry_at g.names j).1 (as_value (get_or vs j d)) (λ some. away ((numbered.stands j i).0 some)) (h.read j d i)
+
+pub memory_read : (a : List Bool) (o : Option ℕ) (b d : ℕ) (ws : List ℕ) → ws ≡ replicate (2 ^ b) 0 → IsRead a o (memory b d) (meaning.words ws)
+memory_read a None b d ws e = ap meaning.words e
+memory_read a (Some first) b d ws e = tt
 
 -- numbers and memories
 pub read_below : (a : List Bool) (first n m : ℕ) → n ≤ m → number_of (map (variable_value a) (variables_from first n)) < 2 ^ m

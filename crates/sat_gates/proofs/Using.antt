@@ -5,8 +5,8 @@ use Rattle.std.proofs.lemmas.List.{get_or-set_same, get_or-set_other, get_or_pas
 use Rattle.std.proofs.lemmas.List.Elements.{Contains-append_cases}
 use Rattle.std.proofs.lemmas.Option.{get_or_from_slice_get}
 use Rattle.std.proofs.lemmas.Bool.{cases_eq, cases_lt, false≢true}
-use Rattle.wb_meaning.specs.Value.{Name, Sort, Entries}
-use Rattle.wb_meaning.specs.Term.{Term}
+use Rattle.wb_values.specs.Value.{Name, Sort, Entries}
+use Rattle.model_meaning.specs.Term.{Term}
 use Rattle.wb_terms.specs.declared.nodes.Node.{Node}
 use Rattle.wb_terms.specs.declared.nodes.Node.TheVariants.{Name as NameNode, Truth, Const, Not, And, Or, Xor, Neg, Add, Sub, Mul, Shl, Lshr, Ashr, Eq, Ult, Ule, Slt, Sle, Concat, Extract, Zext, Sext, Ite, Load, Store}
 use Rattle.wb_terms.specs.Graph.{Graph, tree, tree_at, tree_of, trees_of, tree_of_node, operands_of, names_of, AllBelow, IsOver}

@@ -1,12 +1,12 @@
 -- What holds of the bits of a term while others are still to come.
 use Rattle.std.specs.Prelude.{◌≡◌, ℕ, ◌+◌, ◌<◌, ◌≤◌, Bool, List, [], ◌∷◌, length, ⊤, Option, Some, None, slice_index_or, Contains, Vec}
 use Rattle.std.specs.Global.{Global}
-use Rattle.wb_meaning.specs.Value.{Sort, Value, Valuation}
-use Rattle.wb_meaning.specs.Term.{Term, sort_of, val}
+use Rattle.wb_values.specs.Value.{Sort, Value, Valuation}
+use Rattle.model_meaning.specs.Term.{Term, sort_of, val}
 use Rattle.gate_base.specs.declared.bits.Bit.{Bit}
 use Rattle.gate_base.specs.Circuit.{Circuit, Follows}
 use Rattle.gate_words.specs.Binary.{values, number_in, AreKnown}
-use Rattle.wb_meaning.specs.Number.{word_neg}
+use Rattle.wb_values.specs.Number.{word_neg}
 use Rattle.sat_gates.specs.Encodes.{Writes, Variables, RestrictsTo}
 use Rattle.wb_terms.specs.Graph.{Graph, tree}
 use Rattle.sat_gates.specs.Names.{names_in}

@@ -1,7 +1,7 @@
 -- When a formula in conjunctive normal form encodes a term.
 use Rattle.std.specs.Prelude.{◌≡◌, ◌↔◌, ℕ, Bool, false, List, [], ◌∷◌, map, length, Contains}
-use Rattle.wb_meaning.specs.Value.{Name, Sort, truth, word, Value, truth_value, number, Valuation, HasSort}
-use Rattle.wb_meaning.specs.Term.{Term, val}
+use Rattle.wb_values.specs.Value.{Name, Sort, truth, word, Value, truth_value, number, Valuation, HasSort}
+use Rattle.model_meaning.specs.Term.{Term, val}
 use Rattle.sat_base.specs.Formula.{Formula, variable_value, Satisfies}
 use Rattle.gate_words.specs.Binary.{number_of}
 use Rattle.sat_gates.specs.Names.{names_in}

@@ -1,6 +1,6 @@
 -- Which variables the bits of the names have.
 use Rattle.std.specs.Prelude.{◌≡◌, ◌↔◌, ℕ, zero, suc, ◌+◌, ◌<◌, ◌≤◌, Bool, cond, is_some, IsTrue, Contains, length, slice_index_or, List, [], ◌∷◌, Option, Some, None}
-use Rattle.wb_meaning.specs.Value.{Name, Sort, truth, word, memory, Entries, same_name}
+use Rattle.wb_values.specs.Value.{Name, Sort, truth, word, memory, Entries, same_name}
 use Rattle.sat_gates.specs.Encodes.{Variables}
 
 -- how many bits a value of the sort has

@@ -1,7 +1,7 @@
 -- Marks on the terms that a term stands on.
 use Rattle.std.specs.Prelude.{◌≡◌, ℕ, ◌+◌, ◌≤◌, Bool, true, false, List, [], ◌∷◌, length, slice_index_or, slice_set, ⊤, Contains}
-use Rattle.wb_meaning.specs.Value.{Name, Sort}
-use Rattle.wb_meaning.specs.Term.{Term}
+use Rattle.wb_values.specs.Value.{Name, Sort}
+use Rattle.model_meaning.specs.Term.{Term}
 use Rattle.wb_terms.specs.declared.nodes.Node.{Node}
 use Rattle.wb_terms.specs.Graph.{Graph, tree, operands_of}
 use Rattle.sat_gates.specs.Names.{names_in, is_blastable}

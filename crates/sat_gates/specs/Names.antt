@@ -1,7 +1,7 @@
 -- The names that stand in a term, and the terms that become formulas.
 use Rattle.std.specs.Prelude.{Bool, true, false, ◌&&◌, [], ◌∷◌, ◌++◌}
-use Rattle.wb_meaning.specs.Value.{Sort, memory, Entries}
-use Rattle.wb_meaning.specs.Term.{Term, name, constant_truth, const, not, neg, and, or, xor, add, sub, mul, shl, lshr, ashr, eq, ult, ule, slt, sle, concat, extract, zext, sext, ite, load, store}
+use Rattle.wb_values.specs.Value.{Sort, memory, Entries}
+use Rattle.model_meaning.specs.Term.{Term, name, constant_truth, const, not, neg, and, or, xor, add, sub, mul, shl, lshr, ashr, eq, ult, ule, slt, sle, concat, extract, zext, sext, ite, load, store}
 
 -- the names of a term with their sorts, from left to right, each as often as it stands there
 abbrev pub names_in : Term → Entries Sort
@@ -32,7 +32,7 @@ names_in (ite c x y) = names_in c ++ (names_in x ++ names_in y)
 names_in (load m i) = names_in m ++ names_in i
 names_in (store m i x) = names_in m ++ (names_in i ++ names_in x)
 
--- The terms that become formulas: no memory stands in them, nor a product, a shift or a signed comparison.
+-- The terms that become formulas: no memory stands in them.
 abbrev pub is_blastable : Term → Bool
 is_blastable (name n (memory a d)) = false
 is_blastable (name n s) = true
@@ -45,15 +45,15 @@ is_blastable (or x y) = is_blastable x && is_blastable y
 is_blastable (xor x y) = is_blastable x && is_blastable y
 is_blastable (add x y) = is_blastable x && is_blastable y
 is_blastable (sub x y) = is_blastable x && is_blastable y
-is_blastable (mul x y) = false
-is_blastable (shl x y) = false
-is_blastable (lshr x y) = false
-is_blastable (ashr x y) = false
+is_blastable (mul x y) = is_blastable x && is_blastable y
+is_blastable (shl x y) = is_blastable x && is_blastable y
+is_blastable (lshr x y) = is_blastable x && is_blastable y
+is_blastable (ashr x y) = is_blastable x && is_blastable y
 is_blastable (eq x y) = is_blastable x && is_blastable y
 is_blastable (ult x y) = is_blastable x && is_blastable y
 is_blastable (ule x y) = is_blastable x && is_blastable y
-is_blastable (slt x y) = false
-is_blastable (sle x y) = false
+is_blastable (slt x y) = is_blastable x && is_blastable y
+is_blastable (sle x y) = is_blastable x && is_blastable y
 is_blastable (concat x y) = is_blastable x && is_blastable y
 is_blastable (extract h l x) = is_blastable x
 is_blastable (zext n x) = is_blastable x

@@ -1,6 +1,6 @@
 -- Which of the declared names stand in a term.
 use Rattle.std.specs.Prelude.{◌≡◌, ℕ, ◌<◌, Bool, List, [], length, slice_index_or, Contains}
-use Rattle.wb_meaning.specs.Value.{Name, Sort, truth, Entries}
+use Rattle.wb_values.specs.Value.{Name, Sort, truth, Entries}
 use Rattle.wb_terms.specs.Graph.{Graph, tree}
 use Rattle.sat_gates.specs.Names.{names_in}
 use Rattle.sat_gates.specs.Marks.{IsMarked}

@@ -1,8 +1,8 @@
 //! The bits of terms, node by node.
 
 ghost use Rattle.std.specs.Prelude.{◌≡◌, ◌+◌, ◌<◌, ◌^◌, [], ◌∷◌, length, IfOk, IsSome, Some, true};
-ghost use Rattle.wb_meaning.specs.Value.{truth};
-ghost use Rattle.wb_meaning.specs.Term.{sort_of};
+ghost use Rattle.wb_values.specs.Value.{truth};
+ghost use Rattle.model_meaning.specs.Term.{sort_of};
 ghost use Rattle.wb_terms.specs.Graph.{tree, tree_of_node, operands_of, names_of, AllBelow};
 ghost use Rattle.gate_base.specs.Circuit.{Grows};
 ghost use Rattle.sat_gates.specs.Names.{is_blastable};
@@ -17,7 +17,8 @@ use crate::forms::{Form, form_of};
 use crate::layout::bit_count;
 use gate_base::{Bit, Builder};
 use gate_words::{
-    Cell, chained, constant, cut, extended, joined, literals, sign_of, single, zeros,
+    Cell, chained, constant, cut, extended, joined, literals, operated, sign_of, signed_at_most,
+    signed_below, single, zeros,
 };
 use sat_base::NoMemory;
 use std::alloc::Global;
@@ -55,6 +56,26 @@ fn put_node(
             let chain = chained(alloc, circuit, cell, Bit::Constant(carry), first, second)?;
             let last = single(alloc, chain.carry)?;
             Ok(last)
+        }
+        Form::Word(operator, x, y) => {
+            let first = bits[x.0].as_slice();
+            let second = bits[y.0].as_slice();
+            let word = operated(alloc, circuit, operator, first, second)?;
+            Ok(word)
+        }
+        Form::SignedBelow(x, y) => {
+            let first = bits[x.0].as_slice();
+            let second = bits[y.0].as_slice();
+            let below = signed_below(alloc, circuit, first, second)?;
+            let answer = single(alloc, below)?;
+            Ok(answer)
+        }
+        Form::SignedAtMost(x, y) => {
+            let first = bits[x.0].as_slice();
+            let second = bits[y.0].as_slice();
+            let at_most = signed_at_most(alloc, circuit, first, second)?;
+            let answer = single(alloc, at_most)?;
+            Ok(answer)
         }
         Form::Other => put_other(alloc, circuit, terms, root, firsts, bits, node),
     }

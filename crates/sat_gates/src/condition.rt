@@ -9,7 +9,7 @@ use sat_base::NoMemory;
 use std::alloc::Global;
 use wb_terms::{NameId, Node, Sort, TermId, Terms};
 
-/// Whether a term becomes a formula: no memory stands in it, nor a product, a shift or a signed comparison.
+/// Whether a term becomes a formula: no memory stands in it.
 pub fn can_blast(alloc: Global, terms: &Terms, id: TermId) -> Result<bool, NoMemory>
     requires { id.0 < length terms.now.nodes }
     ensures { IfOk result (λ can. can ≡ is_blastable (tree terms.now id.0)) }
@@ -42,12 +42,18 @@ fn can_blast_node(terms: &Terms, flags: &[bool], node: Node) -> bool
         | Node::Xor(x, y)
         | Node::Add(x, y)
         | Node::Sub(x, y)
+        | Node::Mul(x, y)
+        | Node::Shl(x, y)
+        | Node::Lshr(x, y)
+        | Node::Ashr(x, y)
         | Node::Eq(x, y)
         | Node::Ult(x, y)
         | Node::Ule(x, y)
+        | Node::Slt(x, y)
+        | Node::Sle(x, y)
         | Node::Concat(x, y) => flags[x.0] && flags[y.0],
         Node::Ite(x, y, z) => flags[x.0] && (flags[y.0] && flags[z.0]),
-        _ => false,
+        Node::Load(_, _) | Node::Store(_, _, _) => false,
     }
 }
 

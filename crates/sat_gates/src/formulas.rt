@@ -1,8 +1,8 @@
 //! From a term of truth sort to the formula that encodes it.
 
 ghost use Rattle.std.specs.Prelude.{◌≡◌, ◌<◌, ◌≤◌, ◌↔◌, ℕ, length, IfOk, Some, true, Contains, IsSome, None, slice_index_or};
-ghost use Rattle.wb_meaning.specs.Value.{truth};
-ghost use Rattle.wb_meaning.specs.Term.{sort_of};
+ghost use Rattle.wb_values.specs.Value.{truth};
+ghost use Rattle.model_meaning.specs.Term.{sort_of};
 ghost use Rattle.wb_terms.specs.Graph.{tree};
 ghost use Rattle.sat_gates.specs.Names.{names_in, is_blastable};
 ghost use Rattle.sat_gates.specs.Encodes.{Encodes};

@@ -1,17 +1,17 @@
 //! Values of names from an assignment.
 
 ghost use Rattle.std.specs.Prelude.{◌≡◌, ◌+◌, ◌<◌, ◌≤◌, ◌^◌, false, true, length, map, replicate, IfOk, IsTrue};
-ghost use Rattle.wb_meaning.specs.Value.{HasSort, truth_value};
-ghost use Rattle.wb_meaning.specs.Term.{is_sort};
+ghost use Rattle.wb_values.specs.Value.{HasSort, truth_value};
+ghost use Rattle.model_meaning.specs.Term.{is_sort};
 ghost use Rattle.wb_terms.specs.Sort.{as_sort};
 ghost use Rattle.wb_terms.specs.Graph.{tree};
-ghost use Rattle.wb_terms.specs.Environment.{Fits, as_value, value_of};
+ghost use Rattle.wb_terms.specs.Environment.{Fits, as_value, value_of, valuation};
 ghost use Rattle.sat_base.specs.Formula.{variable_value, Satisfies};
 ghost use Rattle.gate_words.specs.Binary.{number_of};
 ghost use Rattle.sat_gates.specs.Names.{names_in, is_blastable};
-ghost use Rattle.sat_gates.specs.Encodes.{Encodes};
+ghost use Rattle.sat_gates.specs.Encodes.{Encodes, RestrictsTo};
 ghost use Rattle.sat_gates.specs.Layout.{bit_count, variables_from, variables_of, IsNumbered};
-ghost use Rattle.sat_gates.specs.Reading.{IsRead, FitsBelow};
+ghost use Rattle.sat_gates.specs.Reading.{IsRead, FitsBelow, IsZeroElsewhere};
 
 use crate::formulas::Blasted;
 use sat_base::{Assignment, Lit, NoMemory};
@@ -35,6 +35,8 @@ pub fn read_back(
     requires satisfies { Satisfies assignment.now blasted.now.cnf }
     ensures fits { IfOk result (λ env. Fits terms.now env) }
     ensures falsifies { IfOk result (λ env. value_of terms.now env id.0 ≡ truth_value false) }
+    ensures read { IfOk result (λ env. RestrictsTo (variables_of terms.now.names blasted.now.map) assignment.now (valuation terms.now env) (tree terms.now id.0)) }
+    ensures absent { IfOk result (λ env. IsZeroElsewhere terms.now.names (names_in (tree terms.now id.0)) (valuation terms.now env)) }
 {
     let _vars = blasted.cnf.vars();
     let count = terms.name_count() as usize;

@@ -1,8 +1,8 @@
 -- A term whose formula no assignment satisfies is false under no values that fit.
 use Rattle.std.proofs.Common.{◌≡◌, ℕ, Bool, false, List, [], Option, Contains, subst}
 use Rattle.std.proofs.lemmas.List.Elements.{Contains-get_or}
-use Rattle.wb_meaning.specs.Value.{truth, truth_value, Valuation}
-use Rattle.wb_meaning.specs.Term.{val}
+use Rattle.wb_values.specs.Value.{truth, truth_value, Valuation}
+use Rattle.model_meaning.specs.Term.{val}
 use Rattle.wb_terms.specs.Graph.{Graph, tree}
 use Rattle.sat_base.specs.Formula.{Formula, Satisfies}
 use Rattle.sat_gates.specs.Names.{names_in}

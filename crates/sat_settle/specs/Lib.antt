@@ -1,1 +1,2 @@
+pub mod Refutation
 pub mod Settled

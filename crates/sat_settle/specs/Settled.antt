@@ -1,7 +1,7 @@
 -- What is known of a term of truth sort once it is settled.
 use Rattle.std.specs.Prelude.{◌≡◌, ℕ, false, Contains}
-use Rattle.wb_meaning.specs.Value.{Name, Sort, Entries, truth_value, Valuation, HasSort}
-use Rattle.wb_meaning.specs.Term.{val}
+use Rattle.wb_values.specs.Value.{Name, Sort, Entries, truth_value, Valuation, HasSort}
+use Rattle.model_meaning.specs.Term.{val}
 use Rattle.wb_terms.specs.Graph.{Graph, tree}
 use Rattle.wb_terms.specs.Environment.{Fits, value_of}
 use Rattle.sat_base.specs.Log.{IsSpent}
@@ -18,7 +18,7 @@ FitsNames names v = (n : Name) (s : Sort) → Contains names (n, s) → HasSort 
 -- It breaks under values that fit; or it is false under none; or a formula encodes it, and a log over the formula is spent on the budget.
 abbrev pub IsSettled : Graph → (id budget : ℕ) → Settled → Type 0
 IsSettled g id budget (Breaks env) = Fits g env × (value_of g env id ≡ truth_value false)
-IsSettled g id budget Holds = (v : Valuation) → FitsNames g.names v → ¬ (val (tree g id) v ≡ truth_value false)
+IsSettled g id budget (Holds _) = (v : Valuation) → FitsNames g.names v → ¬ (val (tree g id) v ≡ truth_value false)
 IsSettled g id budget (Spent b log) =
     Encodes b.cnf (variables_of g.names b.map) (tree g id) × IsNumbered g.names (names_in (tree g id)) b.map b.cnf.vars
     × IsSpent budget b.cnf log

@@ -1,16 +1,16 @@
 //! Settling a term: its formula, the solver's answer, and the check of a refutation.
 
 ghost use Rattle.std.specs.Prelude.{◌≡◌, ◌<◌, List, Bool, length, true, IfOk, Some};
-ghost use Rattle.wb_meaning.specs.Value.{truth};
-ghost use Rattle.wb_meaning.specs.Term.{sort_of};
+ghost use Rattle.wb_values.specs.Value.{truth};
+ghost use Rattle.model_meaning.specs.Term.{sort_of};
 ghost use Rattle.wb_terms.specs.Graph.{tree};
 ghost use Rattle.sat_base.specs.Formula.{Satisfies};
 ghost use Rattle.sat_base.specs.Log.{Refutes};
 ghost use Rattle.sat_gates.specs.Names.{is_blastable};
 ghost use Rattle.sat_settle.specs.Settled.{IsSettled};
 
+use crate::refuting::Checked;
 use sat_base::{Cnf, Log, NoMemory};
-use sat_check::{Checker, Verdict};
 use sat_gates::{Blasted, blast, read_back};
 use sat_solve::{Answer, solve};
 use std::alloc::Global;
@@ -21,8 +21,9 @@ use wb_terms::{Env, TermId, Terms};
 pub enum Settled {
     /// It is false under these values of the store's names.
     Breaks(Env),
-    /// It is true under all values: a checked log refutes its formula.
-    Holds,
+    /// It is true under all values. The checker found that a log refutes the formula that stands here: by the code that of the term, by
+    /// the type some formula.
+    Holds(Checked),
     /// The budget is spent: its formula, and as many lemmas over it as the budget allows.
     Spent(Blasted, Log),
 }
@@ -42,21 +43,20 @@ pub fn settle(alloc: Global, terms: &Terms, id: TermId, budget: u64) -> Result<S
             Ok(Settled::Breaks(values))
         }
         Answer::Refuted(log) => {
-            check_refutation(alloc, &blasted.cnf, &log)?;
-            Ok(Settled::Holds)
+            let refutation = check_refutation(alloc, blasted.cnf, log)?;
+            Ok(Settled::Holds(refutation))
         }
         Answer::Spent(log) => Ok(Settled::Spent(blasted, log)),
     }
 }
 
 /// Has the checker go over a log that refutes a formula. It never finds a step that does not follow.
-fn check_refutation(alloc: Global, cnf: &Cnf, log: &Log) -> Result<(), NoMemory>
-    requires { Refutes cnf.now log.now }
-    ensures { IfOk result (λ _. (a : List Bool) → ¬ Satisfies a cnf.now) }
+fn check_refutation(alloc: Global, cnf: Cnf, log: Log) -> Result<Checked, NoMemory>
+    requires { Refutes cnf log }
+    ensures { IfOk result (λ _. (a : List Bool) → ¬ Satisfies a cnf) }
 {
-    let mut checker = Checker::new(alloc, cnf, log)?;
-    match checker.check(cnf, log) {
-        Verdict::Yes => Ok(()),
-        Verdict::No(_) => unreachable!(),
+    match Checked::new(alloc, cnf, log)? {
+        Some(refutation) => Ok(refutation),
+        None => unreachable!(),
     }
 }

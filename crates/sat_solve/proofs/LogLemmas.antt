@@ -1,5 +1,6 @@
 -- A log behind one more lemma: what holds of all its steps, and that it refutes with the empty one.
-use Rattle.std.proofs.Common.{◌≡◌, ℕ, ◌<◌, ◌≤◌, List, [], ◌∷◌, ◌++◌, length, map, ⊎_elim, refl, sym, ap, ◌∙◌, subst, arith}
+use Rattle.std.proofs.Common.{◌≡◌, ℕ, zero, suc, Some, ◌<◌, ◌≤◌, List, [], ◌∷◌, ◌++◌, length, map, ⊎_elim, refl, sym, ap, ◌∙◌, subst, arith}
+use Rattle.std.specs.List.{slice_get}
 use Rattle.std.proofs.lemmas.Bool.{cases_lt}
 use Rattle.std.proofs.lemmas.List.{append_assoc, map-append, take-append-le, take_at, length_push}
 use Rattle.std.proofs.lemmas.List.Elements.{All-push}
@@ -8,7 +9,15 @@ use Rattle.sat_base.specs.Formula.{Formula, IsClauseOver}
 use Rattle.sat_base.specs.Propagation.{Follows, IsNew}
 use Rattle.sat_base.specs.Log.{earlier_clauses, FollowsAt, IsNewAt, Refutes, HasEachVariableOnce, IsSpent}
 use Rattle.sat_solve.specs.State.{known_clauses}
-use Rattle.sat_solve.proofs.Decided.{slice_get-left, slice_get-push}
+
+pub slice_get-left : {X : Type 0} (xs ys : List X) (k : ℕ) (x : X) → slice_get xs k ≡ Some x → slice_get (xs ++ ys) k ≡ Some x
+slice_get-left [] ys k x h = cc
+slice_get-left (y ∷ xs) ys zero x h = h
+slice_get-left (y ∷ xs) ys (suc k) x h = slice_get-left xs ys k x h
+
+pub slice_get-push : {X : Type 0} (xs : List X) (x : X) → slice_get (xs ++ x ∷ []) (length xs) ≡ Some x
+slice_get-push [] x = refl
+slice_get-push (y ∷ xs) x = slice_get-push xs x
 
 -- the known clauses behind one more lemma
 pub known_clauses-push : (f : Formula) (log : List Lemma) (s : Lemma) → known_clauses f (log ++ s ∷ []) ≡ known_clauses f log ++ s.lits ∷ []

@@ -5,6 +5,7 @@ use Rattle.std.proofs.lemmas.Bool.{false≢true, true≢false, true_from_ne_fals
 use Rattle.sat_base.specs.declared.literals.Lit.{Lit}
 use Rattle.sat_base.specs.Literal.{negation}
 use Rattle.sat_base.specs.Propagation.{IsNew}
+use Rattle.sat_solve.specs.Lesson.{IsStable}
 use Rattle.sat_solve.specs.declared.trail.Entry.{Entry}
 use Rattle.sat_solve.specs.Trail.{sign_at, IsTrueIn, IsFalseIn, IsSettled, IsClosed}
 use Rattle.sat_solve.proofs.Signs.{not-not, true_not_false}
@@ -59,6 +60,13 @@ settled_closed trail clause m settled others =
     let two_is : two.two ≢ m → ⊥ = λ apart. two.two_open (IsFalseIn-from trail two.two (others two.two two.two_in apart)) in
     one_is (λ e. two_is (λ f. two.differ (e ∙ sym f)))))
     settled
+
+-- where propagation has ended without a conflict, the false literals are closed under it
+pub IsStable-closed : (clauses : List (List Lit)) (trail : List Entry) → IsClosed clauses trail → IsStable clauses (is_false trail)
+IsStable-closed clauses trail closed = record {
+  no_conflict = λ c h all. settled_not_false trail c (closed c h) all;
+  closed = λ c m h own off rest. settled_closed trail c m (closed c h) rest;
+}
 
 -- The trail is what stands below the level of the conflict, where propagation had ended. Of the lemma
 -- nothing is asked but that `last` is not true there and its other literals are false there: so the

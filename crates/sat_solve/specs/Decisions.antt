@@ -1,25 +1,22 @@
--- The decisions of a trail, newest first.
-use Rattle.std.specs.Prelude.{ℕ, List, [], ◌∷◌, Option, Some, None}
-use Rattle.sat_base.specs.declared.literals.Lit.{Lit}
-use Rattle.sat_base.specs.Literal.{negation}
+-- The decisions of a trail, by their places, counted from the newest entry, which is 0.
+use Rattle.std.specs.Prelude.{◌≡◌, ℕ, ◌+◌, ◌<◌, ◌≤◌, List, Some, None, IsSome, slice_get}
 use Rattle.sat_solve.specs.declared.trail.Entry.{Entry}
 
--- one of two values, by whether there is a reason
-abbrev pub by_reason : {X : Type 0} → Option ℕ → X → X → X
-by_reason None decided propagated = decided
-by_reason (Some r) decided propagated = propagated
+-- the entry of this place has been decided
+abbrev pub IsDecisionAt : List Entry → ℕ → Type 0
+IsDecisionAt trail k = (e : Entry) × (slice_get trail k ≡ Some e) × (e.reason ≡ None)
 
--- the opposites of the decisions: the lemma of a conflict
-abbrev pub negated_decisions : List Entry → List Lit
-negated_decisions [] = []
-negated_decisions (e ∷ older) =
-    by_reason e.reason (negation e.lit ∷ negated_decisions older) (negated_decisions older)
+-- from one place on, up to another that is not meant, each entry has a reason
+abbrev pub IsUndecided : List Entry → (from to : ℕ) → Type 0
+IsUndecided trail from to = (k : ℕ) (e : Entry) → from ≤ k → k < to → slice_get trail k ≡ Some e → IsSome e.reason
 
-abbrev pub last_decision : List Entry → Option Lit
-last_decision [] = None
-last_decision (e ∷ older) = by_reason e.reason (Some e.lit) (last_decision older)
+-- the place is the one right below the last decision: what stands from there on is of lower levels
+pub record IsBelowLevel (trail : List Entry) (start : ℕ) : Type 0 where
+  pub place : ℕ
+  pub is : start ≡ place + 1
+  pub decided : IsDecisionAt trail place
+  pub newer : IsUndecided trail 0 place
 
--- the entries that are older than the last decision
-abbrev pub below_last_decision : List Entry → List Entry
-below_last_decision [] = []
-below_last_decision (e ∷ older) = by_reason e.reason older (below_last_decision older)
+-- some entry has the clause of this number as its reason
+abbrev pub IsReasonIn : List Entry → ℕ → Type 0
+IsReasonIn trail r = (k : ℕ) × (e : Entry) × (slice_get trail k ≡ Some e) × (e.reason ≡ Some r)

@@ -3,4 +3,12 @@ pub mod Kept
 pub mod State
 pub mod Found
 pub mod Decisions
+pub mod Marks
+pub mod Walk
+pub mod Lesson
+pub mod Codes
+pub mod Truth
+pub mod Held
+pub mod Watches
+pub mod Search
 pub mod RightAnswer

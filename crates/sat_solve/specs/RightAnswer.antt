@@ -3,6 +3,8 @@ use Rattle.std.specs.Prelude.{◌≡◌, ℕ, ◌≤◌, List, [], ◌∷◌, �
 use Rattle.sat_base.specs.declared.logs.Lemma.{Lemma}
 use Rattle.sat_base.specs.Formula.{Formula, Satisfies}
 use Rattle.sat_base.specs.Log.{Refutes, IsSpent}
+use Rattle.sat_solve.specs.State.{known_clauses}
+use Rattle.sat_solve.specs.Lesson.{PropagatesWithoutConflict}
 use Rattle.sat_solve.specs.declared.solver.Answer.{Answer}
 use Rattle.sat_solve.specs.declared.solver.Answer.TheVariants.{Model, Refuted, Spent}
 
@@ -13,8 +15,10 @@ EndsEmpty budget log =
 
 -- A model has one value for each variable and satisfies the formula. A log under Refuted refutes it
 -- and ends with the empty lemma, behind at most as many others as the budget. A log under Spent is
--- spent on the budget: that many lemmas, each of which follows and is new to unit propagation.
+-- spent on the budget: that many lemmas, each of which follows and is new to unit propagation. And
+-- propagation over the formula and all of them, from nothing, does not fail, or the log could have
+-- gone on to the empty lemma.
 abbrev pub IsRightAnswer : Formula → ℕ → Answer → Type 0
 IsRightAnswer f budget (Model values) = (length values ≡ f.vars) × Satisfies values f
 IsRightAnswer f budget (Refuted log) = Refutes f log × EndsEmpty budget log
-IsRightAnswer f budget (Spent log) = IsSpent budget f log
+IsRightAnswer f budget (Spent log) = IsSpent budget f log × PropagatesWithoutConflict (known_clauses f log)

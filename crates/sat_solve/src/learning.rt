@@ -1,134 +1,224 @@
 //! Learning: the lemma that a conflict teaches, the hints by which it follows, and the way back.
-ghost use Rattle.std.specs.Prelude.{◌≡◌, ◌≢◌, ℕ, ◌+◌, ◌<◌, [], ◌∷◌, length, IfOk, OnOk, All, Contains, slice_index_or, Bool, true, false};
-ghost use Rattle.sat_base.specs.declared.literals.Lit.{Lit};
+ghost use Rattle.std.specs.Prelude.{◌≡◌, ◌≢◌, ℕ, ◌+◌, ◌^◌, ◌<◌, ◌≤◌, [], ◌∷◌, length, drop, IfOk, OnOk, slice_get, Some, None, reverse};
 ghost use Rattle.sat_base.specs.Formula.{IsClauseOver};
+ghost use Rattle.sat_base.specs.Log.{HasEachVariableOnce};
 ghost use Rattle.sat_base.specs.Propagation.{Follows};
 ghost use Rattle.sat_solve.specs.State.{known_clauses, IsState};
 ghost use Rattle.sat_solve.specs.Found.{IsConflictAt};
-ghost use Rattle.sat_solve.specs.Decisions.{negated_decisions, last_decision, below_last_decision};
+ghost use Rattle.sat_solve.specs.Decisions.{IsUndecided, IsBelowLevel};
+ghost use Rattle.sat_solve.specs.Walk.{IsWalked, AreUnmarked};
+ghost use Rattle.sat_solve.specs.Search.{IsSearch};
+ghost use Rattle.sat_solve.specs.Lesson.{IsTaught, IsLesson, IsForcedFrom, IsDescended};
 
-use crate::propagation::clause;
+use crate::minimizing::Minimizer;
+use crate::order::Order;
 use crate::trail::{Entry, Trail};
+use crate::walk::{Walk, begin, below_level, keep, step, walk_all, walk_to_point};
+use crate::watches::{Watches, add};
 use sat_base::{Clause, Cnf, Hints, Lemma, Lit, Log, NoMemory};
 use std::alloc::Global;
 
-/// The lemma of a conflict: the decisions do not hold together.
+/// A lemma, and the place in the trail from which on it forces its first literal.
+#[derive(Drop)]
+pub struct Lesson {
+    pub lemma: Lemma,
+    pub back: usize,
+}
+
+/// What a conflict teaches: its first unique implication point, without what the rest implies.
+/// `base` is how many entries are taken to be older than all decisions: those are never kept.
 pub fn explain(
     alloc: Global,
     cnf: &Cnf,
     log: &Log,
     trail: &Trail,
     conflict: u64,
-) -> Result<Lemma, NoMemory>
+    base: usize,
+    order: &mut Order,
+) -> Result<Lesson, NoMemory>
     requires state { IsState cnf.now log.now trail.now }
     requires conflict { IsConflictAt (known_clauses cnf.now log.now) trail.now.entries conflict }
-    ensures lits { IfOk result (λ s. s.lits ≡ negated_decisions trail.now.entries) }
-    ensures known { IfOk result (λ s. IsClauseOver trail.now.vars s.lits) }
-    ensures follows { IfOk result (λ s. Follows (known_clauses cnf.now log.now) s.lits s.hints) }
+    ensures known { IfOk result (λ s. IsClauseOver trail.now.vars s.lemma.lits) }
+    ensures once { IfOk result (λ s. HasEachVariableOnce s.lemma.lits) }
+    ensures follows { IfOk result (λ s. Follows (known_clauses cnf.now log.now) s.lemma.lits s.lemma.hints) }
+    ensures undecided { IfOk result (λ s. IsUndecided trail.now.entries 0 (length trail.now.entries) → s.lemma.lits ≡ []) }
+    ensures taught { IfOk result (λ s. IsTaught (known_clauses cnf.now log.now) trail.now.entries s.lemma.lits s.back) }
 {
-    let lits = negate_decisions(alloc, trail)?;
-    let hints = walk_back(alloc, cnf, log, trail, conflict)?;
-    Ok(Lemma { lits, hints })
-}
-
-// The opposites of the decisions, newest first.
-fn negate_decisions(alloc: Global, trail: &Trail) -> Result<Clause, NoMemory>
-    ensures lits { IfOk result (λ c. c ≡ negated_decisions trail.now.entries) }
-    ensures known { IfOk result (λ c. IsClauseOver trail.now.vars c) }
-{
-    let mut lits = Clause::new(alloc);
-    for k in 0..trail.len() {
-        let entry = trail.newest(k);
-        if entry.reason.is_none() {
-            lits.push(entry.lit.negated())?;
+    let mut walk = begin(alloc, cnf, log, trail, conflict)?;
+    match below_level(trail) {
+        None => {
+            walk_all(cnf, log, trail, &mut walk)?;
+            Ok(finish(walk, 0))
+        }
+        Some(start) => {
+            let point = walk_to_point(cnf, log, trail, &mut walk, start)?;
+            keep_point(cnf, log, trail, &mut walk, point, start)?;
+            bump(order, walk.seen.as_slice());
+            let back = walk_below(alloc, cnf, log, trail, &mut walk, start, base)?;
+            Ok(finish(walk, back))
         }
     }
-    Ok(lits)
 }
 
-// The numbers of the clauses that lead to the conflict, in the order of the trail: goes back over
-// the trail, and marks the variables of the conflict's clause and of each reason that it uses.
-fn walk_back(
+// The variables have had a part in a lemma.
+fn bump(order: &mut Order, seen: &[u64]) {
+    for var in seen {
+        order.bump(*var);
+    }
+    order.decay();
+}
+
+// What the walk has gathered at its end.
+fn finish(walk: Walk, back: usize) -> Lesson
+    ensures lits { result.lemma.lits ≡ walk.lits.items }
+    ensures hints { result.lemma.hints ≡ reverse walk.numbers.items }
+    ensures back { result.back ≡ back }
+{
+    let Walk {
+        marks: _,
+        lits,
+        mut numbers,
+        seen: _,
+    } = walk;
+    numbers.reverse();
+    Lesson {
+        lemma: Lemma {
+            lits: Clause::from_vec(lits),
+            hints: Hints::from_vec(numbers),
+        },
+        back,
+    }
+}
+
+// Takes the opposite of the unique implication point into the lemma, and goes on below the level.
+fn keep_point(
+    cnf: &Cnf,
+    log: &Log,
+    trail: &Trail,
+    walk: &mut Walk,
+    point: usize,
+    start: usize,
+) -> Result<(), NoMemory>
+    requires state { IsState cnf.now log.now trail.now }
+    requires level { IsBelowLevel trail.now.entries start }
+    requires point { point < start }
+    requires walked { IsWalked (known_clauses cnf.now log.now) trail.now.entries trail.now.vars point walk.old.marks walk.old.lits.items walk.old.numbers.items }
+    requires lits { walk.old.lits.items ≡ [] }
+    requires alone { AreUnmarked trail.now.entries walk.old.marks (point + 1) start }
+    ensures walked { OnOk result (IsWalked (known_clauses cnf.now log.now) trail.now.entries trail.now.vars start walk.new.marks walk.new.lits.items walk.new.numbers.items) }
+    ensures point { OnOk result (IsForcedFrom trail.now.entries start start start walk.new.lits.items) }
+{
+    keep(cnf, log, trail, walk, point)?;
+    Ok(())
+}
+
+// Goes on from below the last decision to the end. Gives the place from which on the lemma forces its
+// first literal.
+fn walk_below(
     alloc: Global,
     cnf: &Cnf,
     log: &Log,
     trail: &Trail,
-    conflict: u64,
-) -> Result<Hints, NoMemory>
+    walk: &mut Walk,
+    start: usize,
+    base: usize,
+) -> Result<usize, NoMemory>
     requires state { IsState cnf.now log.now trail.now }
-    requires conflict { IsConflictAt (known_clauses cnf.now log.now) trail.now.entries conflict }
-    ensures { IfOk result (λ hints.
-        Follows (known_clauses cnf.now log.now) (negated_decisions trail.now.entries) hints) }
+    requires start { start ≤ length trail.now.entries }
+    requires walked { IsWalked (known_clauses cnf.now log.now) trail.now.entries trail.now.vars start walk.old.marks walk.old.lits.items walk.old.numbers.items }
+    requires point { IsForcedFrom trail.now.entries start start start walk.old.lits.items }
+    ensures known { IfOk result (λ back. IsClauseOver trail.now.vars walk.new.lits.items) }
+    ensures once { IfOk result (λ back. HasEachVariableOnce walk.new.lits.items) }
+    ensures follows { IfOk result (λ back. Follows (known_clauses cnf.now log.now) walk.new.lits.items (reverse walk.new.numbers.items)) }
+    ensures point { IfOk result (λ back. IsForcedFrom trail.now.entries start back (length trail.now.entries) walk.new.lits.items) }
 {
-    let mut marked = vec![in alloc; false; trail.vars() as usize]?;
-    let mut numbers = Vec::new(alloc);
-    mark(&mut marked, clause(cnf, log, conflict));
-    numbers.push(conflict)?;
-    for k in 0..trail.len() {
-        let entry = trail.newest(k);
-        match entry.reason {
-            Some(reason) => {
-                if marked[entry.lit.var as usize] {
-                    mark(&mut marked, clause(cnf, log, reason));
-                    numbers.push(reason)?;
-                }
-            }
-            None => {}
+    let mut minimizer = Minimizer::new(alloc, trail.vars(), base)?;
+    let mut back = start;
+    for k in start..trail.len() {
+        if walk.lits.len() > 1 && walk.marks.is_empty() {
+            return Ok(back);
         }
+        let var = trail.newest(k).lit.var;
+        let implied = walk.marks.contains(var)
+            && minimizer.is_implied(cnf, log, trail, &walk.marks, var);
+        step(cnf, log, trail, walk, k, implied)?;
+        back = lowered(cnf, log, trail, walk, k, start, back);
     }
-    numbers.reverse();
-    Ok(Hints::from_vec(numbers))
+    Ok(back)
 }
 
-// Marks the variables of the clause.
-fn mark(marked: &mut Vec<bool>, clause: &[Lit])
-    requires { All (λ l. l.var < length marked.old.items) clause.now }
-    ensures sized { length marked.new.items ≡ length marked.old.items }
-    ensures kept { (v : ℕ) → slice_index_or marked.old.items v false ≡ true
-        → slice_index_or marked.new.items v false ≡ true }
-    ensures all { (l : Lit) → Contains clause.now l
-        → slice_index_or marked.new.items l.var false ≡ true }
+// The place from which on the lemma forces its first literal, once the walk has gone over place `k`:
+// while there is no other literal, a decision is undone.
+fn lowered(
+    cnf: &Cnf,
+    log: &Log,
+    trail: &Trail,
+    walk: &Walk,
+    k: usize,
+    start: usize,
+    back: usize,
+) -> usize
+    requires state { IsState cnf.now log.now trail.now }
+    requires place { k < length trail.now.entries }
+    requires fits { k + 1 < 2 ^ 64 }
+    requires point { IsDescended trail.now.entries start back k walk.now.lits.items }
+    ensures point { IsForcedFrom trail.now.entries start result (k + 1) walk.now.lits.items }
+    ensures within { result ≤ k + 1 }
 {
-    for lit in clause {
-        marked[lit.var as usize] = true;
+    if walk.lits.len() > 1 {
+        return back;
+    }
+    match trail.newest(k).reason {
+        None => k + 1,
+        Some(_) => back,
     }
 }
 
-/// Adds the lemma to the log, goes back to before the last decision, and puts that decision's
-/// opposite on the trail, which the lemma forces there.
-pub fn learn(cnf: &Cnf, log: &mut Log, trail: &mut Trail, lemma: Lemma) -> Result<(), NoMemory>
-    requires state { IsState cnf.now log.old trail.old }
-    requires lits { lemma.lits ≡ negated_decisions trail.old.entries }
-    requires some { lemma.lits ≢ [] }
-    requires known { IsClauseOver trail.old.vars lemma.lits }
-    requires follows { Follows (known_clauses cnf.now log.old) lemma.lits lemma.hints }
-    ensures state { OnOk result (IsState cnf.now log.new trail.new) }
+/// Adds the lemma to the log, goes back to where it forces its first literal, and puts that on the
+/// trail.
+pub fn learn(
+    cnf: &Cnf,
+    log: &mut Log,
+    watches: &mut Watches,
+    trail: &mut Trail,
+    order: &mut Order,
+    lesson: Lesson,
+) -> Result<(), NoMemory>
+    requires search { IsSearch cnf.now log.old trail.old watches.old.arena watches.old.lists watches.old.head }
+    requires known { IsClauseOver trail.old.vars lesson.lemma.lits }
+    requires once { HasEachVariableOnce lesson.lemma.lits }
+    requires follows { Follows (known_clauses cnf.now log.old) lesson.lemma.lits lesson.lemma.hints }
+    requires taught { IsLesson (known_clauses cnf.now log.old) trail.old.entries lesson.lemma.lits lesson.back }
+    ensures search { OnOk result (IsSearch cnf.now log.new trail.new watches.new.arena watches.new.lists watches.new.head) }
     ensures longer { OnOk result (length log.new ≡ length log.old + 1) }
 {
     let number = (cnf.clauses().len() + log.len()) as u64;
     if number == u64::MAX {
         return Err(NoMemory);
     }
-    log.push(lemma)?;
-    if let Some(decision) = back_up(trail) {
-        trail.push(Entry {
-            lit: decision.negated(),
-            reason: Some(number),
-        })?;
-    }
+    let lits = lesson.lemma.lits.as_slice();
+    let first = lits[0];
+    let second = if lits.len() > 1 { lits[1] } else { first };
+    back_up(watches, trail, order, lesson.back);
+    trail.push(Entry {
+        lit: first,
+        reason: Some(number),
+    })?;
+    add(watches, lits, first, second)?;
+    log.push(lesson.lemma)?;
     Ok(())
 }
 
-// Takes entries off up to the last decision, and that one too. Gives its literal, if there is one.
-fn back_up(trail: &mut Trail) -> Option<Lit>
-    ensures decision { result ≡ last_decision trail.old.entries }
-    ensures after { trail.new
-        ≡ record { vars = trail.old.vars; entries = below_last_decision trail.old.entries } }
+/// Takes this many entries off.
+pub fn back_up(watches: &mut Watches, trail: &mut Trail, order: &mut Order, count: usize)
+    ensures trail { trail.new ≡ record { vars = trail.old.vars; entries = drop count trail.old.entries } }
+    ensures watches { watches.new ≡ record { arena = watches.old.arena; lists = watches.old.lists; head = length (drop count trail.old.entries) } }
 {
-    while let Some(entry) = trail.pop() {
-        if entry.reason.is_none() {
-            return Some(entry.lit);
+    for _ in 0..count {
+        match trail.pop() {
+            Some(entry) => order.release(entry.lit),
+            None => {}
         }
     }
-    None
+    watches.head = trail.len();
 }

@@ -4,9 +4,18 @@
 
 pub use solver::{Answer, solve};
 
+mod arena;
+mod clauses;
+mod codes;
 mod learning;
-mod propagation;
+mod lists;
+mod marks;
+mod minimizing;
+mod order;
+mod pace;
 mod solver;
 #[cfg(test)]
 mod tests;
 mod trail;
+mod walk;
+mod watches;

@@ -1,12 +1,16 @@
-//! The solver: propagates until nothing more follows, decides the lowest variable without a value,
-//! and at a conflict learns that the decisions do not hold together.
-ghost use Rattle.std.specs.Prelude.{◌<◌, [], IfOk};
+//! The solver: propagates until nothing more follows, decides a variable, and at a conflict learns a
+//! lemma and goes back to where that forces a literal.
+ghost use Rattle.std.specs.Prelude.{◌≡◌, ℕ, ◌<◌, ◌≤◌, [], IfOk, MatchOption, IsSome, None};
+ghost use Rattle.sat_solve.specs.Trail.{sign_at};
 ghost use Rattle.sat_solve.specs.State.{IsState};
+ghost use Rattle.sat_solve.specs.Search.{IsSearch};
 ghost use Rattle.sat_solve.specs.RightAnswer.{IsRightAnswer};
 
-use crate::learning::{explain, learn};
-use crate::propagation::propagate;
+use crate::learning::{back_up, explain, learn};
+use crate::order::Order;
+use crate::pace::Pace;
 use crate::trail::{Entry, Trail};
+use crate::watches::{Watches, load, propagate};
 use sat_base::{Assignment, Cnf, Lit, Log, NoMemory};
 use std::alloc::Global;
 
@@ -19,52 +23,132 @@ pub enum Answer {
     /// others.
     Refuted(Log),
     /// A log of `budget` lemmas, each of which follows and is new to unit propagation: the budget
-    /// is spent.
+    /// is spent. Propagation over the formula and all of them, from nothing, does not fail.
     Spent(Log),
 }
 
-/// Looks for a model or a refutation of the formula (DPLL with learning, as LRAT checks it without
-/// RAT steps). It learns at most `budget` lemmas, which is above 0, besides the empty one. Among its
-/// memory is a byte or two for each of the formula's variables: where that or more is wanting, it
-/// answers `NoMemory`.
+/// Looks for a model or a refutation of the formula (conflict-driven learning, as LRAT checks it
+/// without RAT steps; nothing is forgotten). It learns at most `budget` lemmas, which is above 0,
+/// besides the empty one. Among its memory are about a hundred bytes for each of the formula's
+/// variables: where that or more is wanting, it answers `NoMemory`.
 pub fn solve(alloc: Global, cnf: &Cnf, budget: u64) -> Result<Answer, NoMemory>
     requires { 0 < budget }
     ensures { IfOk result (IsRightAnswer cnf.now budget) }
 {
     let mut log = Log::new(alloc);
     let mut trail = start(alloc, cnf)?;
-    loop {
-        match propagate(cnf, &log, &mut trail)? {
-            Some(conflict) => {
-                let lemma = explain(alloc, cnf, &log, &trail, conflict)?;
-                if lemma.lits.is_empty() {
-                    log.push(lemma)?;
-                    return Ok(Answer::Refuted(log));
-                }
-                if log.len() as u64 == budget {
-                    return Ok(Answer::Spent(log));
-                }
-                learn(cnf, &mut log, &mut trail, lemma)?;
-            }
-            None => match trail.lowest_unassigned() {
-                Some(var) => trail.push(Entry {
-                    lit: Lit {
-                        var,
-                        negative: true,
-                    },
-                    reason: None,
-                })?,
-                None => return Ok(Answer::Model(trail.assignment(alloc)?)),
-            },
+    let (watches, found) = load(alloc, cnf, &mut trail)?;
+    let mut order = Order::new(alloc, cnf.vars())?;
+    match found {
+        Some(conflict) => {
+            let lesson = explain(alloc, cnf, &log, &trail, conflict, 0, &mut order)?;
+            log.push(lesson.lemma)?;
+            Ok(Answer::Refuted(log))
         }
+        None => search(alloc, cnf, budget, watches, trail, order),
     }
 }
 
 // The trail to begin with. To look at the clauses tells the proof that they are over the formula's
 // variables.
 fn start(alloc: Global, cnf: &Cnf) -> Result<Trail, NoMemory>
-    ensures { IfOk result (IsState cnf.now []) }
+    ensures state { IfOk result (IsState cnf.now []) }
+    ensures empty { IfOk result (λ t. t.entries ≡ []) }
 {
     let _ = cnf.clauses();
     Trail::new(alloc, cnf.vars())
+}
+
+// The search itself, from a log without lemmas.
+fn search(
+    alloc: Global,
+    cnf: &Cnf,
+    budget: u64,
+    mut watches: Watches,
+    mut trail: Trail,
+    mut order: Order,
+) -> Result<Answer, NoMemory>
+    requires { IsSearch cnf.now [] trail watches.arena watches.lists watches.head }
+    ensures { IfOk result (IsRightAnswer cnf.now budget) }
+{
+    let mut log = Log::new(alloc);
+    let mut pace = Pace::new();
+    let mut base = 0;
+    loop {
+        match propagate(alloc, cnf, &log, &mut watches, &mut trail)? {
+            Some(conflict) => {
+                let lesson = explain(alloc, cnf, &log, &trail, conflict, base, &mut order)?;
+                if lesson.lemma.lits.is_empty() {
+                    log.push(lesson.lemma)?;
+                    return Ok(Answer::Refuted(log));
+                }
+                if log.len() as u64 == budget {
+                    return Ok(Answer::Spent(log));
+                }
+                learn(cnf, &mut log, &mut watches, &mut trail, &mut order, lesson)?;
+            }
+            None => {
+                if pace.is_due(log.len() as u64) {
+                    restart(cnf, &log, &mut watches, &mut trail, &mut order, base);
+                } else {
+                    match decide(&trail, &mut order) {
+                        None => return Ok(Answer::Model(trail.assignment(alloc)?)),
+                        Some(lit) => {
+                            base = base_of(&trail, base);
+                            trail.push(Entry { lit, reason: None })?;
+                        }
+                    }
+                }
+            }
+        }
+    }
+}
+
+// How many entries are older than the first decision, once another has been made.
+fn base_of(trail: &Trail, base: usize) -> usize {
+    if trail.level() == 0 {
+        trail.len()
+    } else {
+        base
+    }
+}
+
+// The literal to decide next, if a variable has no value.
+fn decide(trail: &Trail, order: &mut Order) -> Option<Lit>
+    ensures { MatchOption result
+        ((v : ℕ) → v < trail.now.vars → IsSome (sign_at trail.now.entries v))
+        (λ l. (l.var < trail.now.vars) × (sign_at trail.now.entries l.var ≡ None)) }
+{
+    for _ in 0..trail.vars() {
+        match order.next() {
+            None => break,
+            Some(var) => {
+                if var < trail.vars() && trail.sign(var).is_none() {
+                    return Some(order.literal(var));
+                }
+            }
+        }
+    }
+    match trail.lowest_unassigned() {
+        None => None,
+        Some(var) => Some(order.literal(var)),
+    }
+}
+
+// Goes back to below the first decision, if `base` is still how many entries are older than that.
+fn restart(
+    cnf: &Cnf,
+    log: &Log,
+    watches: &mut Watches,
+    trail: &mut Trail,
+    order: &mut Order,
+    base: usize,
+)
+    requires { IsSearch cnf.now log.now trail.old watches.old.arena watches.old.lists watches.old.head }
+    ensures { IsSearch cnf.now log.now trail.new watches.new.arena watches.new.lists watches.new.head }
+{
+    let count = trail.len();
+    if base < count && trail.newest(count - 1 - base).reason.is_none() {
+        back_up(watches, trail, order, count - base);
+    }
 }

@@ -1,6 +1,9 @@
 //! The trail: the literals that are true, in the order in which they became so, with their reasons.
 ghost use Rattle.std.specs.Prelude.{◌≡◌, ℕ, ◌<◌, ◌≤◌, [], ◌∷◌, length, IfOk, OnOk, IfSome, IfNone, MatchOption, IsSome, slice_get, slice_index_or, not, Bool, false, true};
 ghost use Rattle.sat_solve.specs.Trail.{sign_at};
+ghost use Rattle.sat_solve.specs.Codes.{literal_of};
+ghost use Rattle.sat_solve.specs.Truth.{IsTruth};
+ghost use Rattle.sat_solve.specs.Decisions.{IsReasonIn};
 
 use sat_base::{Assignment, Lit, NoMemory};
 use std::alloc::Global;
@@ -13,12 +16,24 @@ pub struct Entry {
     pub reason: Option<u64>,
 }
 
+/// Whether a literal is true, false, or neither.
+#[derive(Clone, Copy, PartialEq, Eq)]
+pub enum Truth {
+    True,
+    False,
+    Open,
+}
+
 /// The literals that are true, none of a variable twice. Contracts see the number of variables and
 /// the entries, newest first.
 #[derive(Drop)]
 pub struct Trail {
     entries: Vec<Entry>,
     signs: Vec<Option<bool>>,
+    // How many of them are decisions, and at what place each variable stood when it last got a value. Nothing
+    // is proved of these two.
+    level: u64,
+    places: Vec<usize>,
 }
 
 impl Model for Trail {
@@ -40,6 +55,8 @@ impl Trail {
         Ok(Trail {
             entries: Vec::new(alloc),
             signs: vec![in alloc; None; vars as usize]?,
+            level: 0,
+            places: vec![in alloc; 0; vars as usize]?,
         })
     }
 
@@ -56,6 +73,11 @@ impl Trail {
         ensures small { length self.now.entries ≤ self.now.vars }
     {
         self.entries.len()
+    }
+
+    /// How many entries are taken to be decisions.
+    pub fn level(&self) -> u64 {
+        self.level
     }
 
     /// The entry of this number, counted from the newest, which is 0.
@@ -77,6 +99,23 @@ impl Trail {
         }
     }
 
+    /// The truth of the literal of this code.
+    #[inline]
+    pub fn truth(&self, code: u32) -> Truth
+        ensures { IsTruth self.now.entries (literal_of code) result }
+    {
+        match self.sign((code / 2) as u64) {
+            None => Truth::Open,
+            Some(sign) => {
+                if sign == (code % 2 == 1) {
+                    Truth::True
+                } else {
+                    Truth::False
+                }
+            }
+        }
+    }
+
     /// Adds a literal whose variable has no value.
     pub fn push(&mut self, entry: Entry) -> Result<(), NoMemory>
         requires known { entry.lit.var < self.old.vars }
@@ -85,9 +124,41 @@ impl Trail {
             (self.new ≡ record { vars = self.old.vars; entries = entry ∷ self.old.entries }) }
         ensures small { OnOk result (length self.new.entries ≤ self.new.vars) }
     {
+        let place = self.entries.len();
         self.entries.push(entry)?;
         self.signs[entry.lit.var as usize] = Some(entry.lit.negative);
+        self.level = self.level.wrapping_add(u64::from(entry.reason.is_none()));
+        if let Some(own) = self.places.get_mut(entry.lit.var as usize) {
+            *own = place;
+        }
         Ok(())
+    }
+
+    /// Where the entry of a variable stands, counted from the oldest, which is 0: a guess that is to be
+    /// checked.
+    #[inline]
+    pub fn place(&self, var: u64) -> usize {
+        match self.places.get(var as usize) {
+            Some(place) => *place,
+            None => 0,
+        }
+    }
+
+    /// The reason of the literal of a variable, if it has one.
+    pub fn reason(&self, var: u64) -> Option<u64>
+        ensures { IfSome result (IsReasonIn self.now.entries) }
+    {
+        let place = self.place(var);
+        let count = self.len();
+        if place >= count {
+            return None;
+        }
+        let entry = self.newest(count - 1 - place);
+        if entry.lit.var == var {
+            entry.reason
+        } else {
+            None
+        }
     }
 
     /// Takes the newest entry off.
@@ -98,6 +169,7 @@ impl Trail {
     {
         let entry = self.entries.pop()?;
         self.signs[entry.lit.var as usize] = None;
+        self.level = self.level.wrapping_sub(u64::from(entry.reason.is_none()));
         Some(entry)
     }
 

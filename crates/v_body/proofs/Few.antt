@@ -2,8 +2,8 @@
 use Rattle.std.proofs.Common.{◌≡◌, ℕ, suc, ◌≤◌, length, Bool, true, false, cond, List, [], ◌∷◌, map, Option, Some, None, is_none, refl, sym, ◌∙◌, arith}
 use Rattle.std.specs.Prelude.{nat_le}
 use Rattle.std.proofs.lemmas.Bool.Decides.{nat_tests}
-use Rattle.wb_meaning.specs.Verilog.Syntax.{Expressions, Statement, CaseItems}
-use Rattle.wb_meaning.specs.Verilog.Grammar.{count_defaults}
+use Rattle.verilog_trees.specs.Syntax.{Expressions, Statement, CaseItems}
+use Rattle.verilog_text.specs.Grammar.{count_defaults}
 use Rattle.v_body.specs.Statements.{CaseItem, item_before, as_items, has_few_defaults, are_items_of_case}
 
 one_less : (n : ℕ) → nat_le n 0 ≡ nat_le (suc n) 1

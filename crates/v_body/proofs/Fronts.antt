@@ -2,12 +2,12 @@
 use Rattle.std.proofs.Common.{◌≡◌, ℕ, suc, true, false, List, ◌∷◌, None, refl}
 use Rattle.std.specs.Prelude.{codes}
 use Rattle.std.specs.Str.{bytes_eq}
-use Rattle.wb_meaning.specs.Value.{Name}
-use Rattle.wb_meaning.specs.Words.{is_reserved}
-use Rattle.wb_meaning.specs.Verilog.Token.{Mark, left_parenthesis, left_brace, comma, semicolon, colon, question, equals, less_equals, Token, based, mark}
-use Rattle.wb_meaning.specs.Verilog.Syntax.{Expression, Expressions, Target, Statement, Statements, CaseItems, exact_case, wild_case}
-use Rattle.wb_meaning.specs.Verilog.Spelling.{plain, unsized, of_size, IsExpression, tighter, chosen, joined, prefixed, a_number, a_name, bracketed, concatenated, replicated, made_signed, made_unsigned, AreExpressions, last_one, and_more}
-use Rattle.wb_meaning.specs.Verilog.Grammar.{IsTarget, a_place, some_joined, IsAssignment, assigned, IsStatement, nothing, blocks, waits, tested, decided, selected, in_block, IsItemBefore, for_values, for_others, AreItems, last_item, and_items, AreStatements, no_statement, and_statements}
+use Rattle.wb_values.specs.Value.{Name}
+use Rattle.wb_values.specs.ReservedWords.{is_reserved}
+use Rattle.verilog_text.specs.Token.{Mark, left_parenthesis, left_brace, comma, semicolon, colon, question, equals, less_equals, Token, based, mark}
+use Rattle.verilog_trees.specs.Syntax.{Expression, Expressions, Target, Statement, Statements, CaseItems, exact_case, wild_case}
+use Rattle.verilog_text.specs.Spelling.{plain, unsized, of_size, IsExpression, tighter, chosen, joined, prefixed, a_number, a_name, bracketed, concatenated, replicated, made_signed, made_unsigned, AreExpressions, last_one, and_more}
+use Rattle.verilog_text.specs.Grammar.{IsTarget, a_place, some_joined, IsAssignment, assigned, IsStatement, nothing, blocks, waits, tested, decided, selected, in_block, IsItemBefore, for_values, for_others, AreItems, last_item, and_items, AreStatements, no_statement, and_statements}
 use Rattle.v_expr.specs.Ending.{is_same_mark}
 use Rattle.v_expr.specs.Reading.{after_mark}
 use Rattle.v_expr.proofs.Places.{other_mark}

@@ -1,9 +1,9 @@
 -- The arms of a ladder, read one after the other.
 use Rattle.std.proofs.Common.{◌≡◌, ℕ, zero, suc, ◌<◌, List, [], ◌∷◌, ◌++◌, length, Option, Some, None, refl, sym, ap, ◌∙◌, arith}
 use Rattle.std.specs.Prelude.{codes}
-use Rattle.wb_meaning.specs.Verilog.Token.{Token}
-use Rattle.wb_meaning.specs.Verilog.Syntax as tree
-use Rattle.wb_meaning.specs.Verilog.Syntax.{Expression, Statement}
+use Rattle.verilog_text.specs.Token.{Token}
+use Rattle.verilog_trees.specs.Syntax as tree
+use Rattle.verilog_trees.specs.Syntax.{Expression, Statement}
 use Rattle.v_expr.specs.Repeat.{◌>>=◌, choose, Read}
 use Rattle.v_expr.specs.View.{Fails}
 use Rattle.v_expr.specs.declared.stop.ExpressionStop.{ExpressionStop}

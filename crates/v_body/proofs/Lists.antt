@@ -1,6 +1,6 @@
 -- Lists with commas: what is read, and what is read again.
 use Rattle.std.proofs.Common.{◌≡◌, suc, ◌<◌, List, [], ◌∷◌, length, Some, refl, ap, ◌∙◌, subst, arith, false}
-use Rattle.wb_meaning.specs.Verilog.Token.{Mark, comma, Token, mark}
+use Rattle.verilog_text.specs.Token.{Mark, comma, Token, mark}
 use Rattle.v_expr.specs.Ending.{is_same_mark}
 use Rattle.v_expr.specs.Repeat.{Read, repeated}
 use Rattle.v_expr.specs.Reading.{after_mark}

@@ -1,12 +1,12 @@
 -- A target, a statement and an item each have at least one token, so each turn of a loop takes something.
 use Rattle.std.proofs.Common.{◌≡◌, ℕ, suc, ◌<◌, ◌≤◌, List, ◌∷◌, length, Option, ap, arith}
 use Rattle.std.specs.Prelude.{codes}
-use Rattle.wb_meaning.specs.Value.{Name}
-use Rattle.wb_meaning.specs.Verilog.Token.{Mark, right_parenthesis, right_brace, comma, semicolon, colon, equals, less_equals, Token, word, mark}
-use Rattle.wb_meaning.specs.Verilog.Syntax as tree
-use Rattle.wb_meaning.specs.Verilog.Syntax.{Expression, Expressions, Target, Targets, Statement, Statements, CaseItems, no_items}
-use Rattle.wb_meaning.specs.Verilog.Spelling.{a_name, AreExpressions, last_one, and_more}
-use Rattle.wb_meaning.specs.Verilog.Grammar.{IsTarget, a_place, some_joined, AreTargets, last_target, and_targets, IsAssignment, assigned, IsBlockName, unnamed, named, IsPerhapsColon, with_colon, without_colon, IsStatement, nothing, blocks, waits, tested, decided, selected, in_block, AreStatements, no_statement, and_statements, IsItemBefore, for_values, for_others, AreItems, last_item, and_items}
+use Rattle.wb_values.specs.Value.{Name}
+use Rattle.verilog_text.specs.Token.{Mark, right_parenthesis, right_brace, comma, semicolon, colon, equals, less_equals, Token, word, mark}
+use Rattle.verilog_trees.specs.Syntax as tree
+use Rattle.verilog_trees.specs.Syntax.{Expression, Expressions, Target, Targets, Statement, Statements, CaseItems, no_items}
+use Rattle.verilog_text.specs.Spelling.{a_name, AreExpressions, last_one, and_more}
+use Rattle.verilog_text.specs.Grammar.{IsTarget, a_place, some_joined, AreTargets, last_target, and_targets, IsAssignment, assigned, IsBlockName, unnamed, named, IsPerhapsColon, with_colon, without_colon, IsStatement, nothing, blocks, waits, tested, decided, selected, in_block, AreStatements, no_statement, and_statements, IsItemBefore, for_values, for_others, AreItems, last_item, and_items}
 use Rattle.v_expr.proofs.Repeat.{Shrinks}
 use Rattle.v_expr.proofs.Grow.{longer}
 use Rattle.v_body.specs.Targets.{target_in, target_at, assignment_at}

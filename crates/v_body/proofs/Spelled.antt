@@ -2,12 +2,12 @@
 use Rattle.std.proofs.Common.{◌≡◌, ℕ, zero, suc, ◌≤◌, Bool, true, false, cond, List, [], ◌∷◌, length, Option, Some, None, refl, sym, ap, ◌∙◌, subst, arith}
 use Rattle.std.specs.Prelude.{codes}
 use Rattle.std.proofs.lemmas.Bool.Decides.{nat_tests}
-use Rattle.wb_meaning.specs.Value.{Name}
-use Rattle.wb_meaning.specs.Verilog.Token.{Mark, left_parenthesis, right_parenthesis, left_brace, right_brace, comma, colon, semicolon, equals, less_equals, Token, word, mark}
-use Rattle.wb_meaning.specs.Verilog.Syntax as tree
-use Rattle.wb_meaning.specs.Verilog.Syntax.{Expression, Expressions, Target, CaseKind, exact_case, wild_case, Statement, Statements, CaseItems, no_items, arm, default_arm}
-use Rattle.wb_meaning.specs.Verilog.Spelling.{AreExpressions, last_one, and_more}
-use Rattle.wb_meaning.specs.Verilog.Grammar.{IsWhole, IsTarget, a_place, some_joined, AreTargets, last_target, and_targets, IsAssignment, assigned, has_open_if, case_word, count_defaults, IsBlockName, unnamed, named, IsPerhapsColon, with_colon, without_colon, IsStatement, nothing, blocks, waits, tested, decided, selected, in_block, AreStatements, no_statement, and_statements, IsItemBefore, for_values, for_others, AreItems, last_item, and_items}
+use Rattle.wb_values.specs.Value.{Name}
+use Rattle.verilog_text.specs.Token.{Mark, left_parenthesis, right_parenthesis, left_brace, right_brace, comma, colon, semicolon, equals, less_equals, Token, word, mark}
+use Rattle.verilog_trees.specs.Syntax as tree
+use Rattle.verilog_trees.specs.Syntax.{Expression, Expressions, Target, CaseKind, exact_case, wild_case, Statement, Statements, CaseItems, no_items, arm, default_arm}
+use Rattle.verilog_text.specs.Spelling.{AreExpressions, last_one, and_more}
+use Rattle.verilog_text.specs.Grammar.{IsWhole, IsTarget, a_place, some_joined, AreTargets, last_target, and_targets, IsAssignment, assigned, has_open_if, case_word, count_defaults, IsBlockName, unnamed, named, IsPerhapsColon, with_colon, without_colon, IsStatement, nothing, blocks, waits, tested, decided, selected, in_block, AreStatements, no_statement, and_statements, IsItemBefore, for_values, for_others, AreItems, last_item, and_items}
 use Rattle.v_expr.specs.Repeat.{choose, Read, repeated}
 use Rattle.v_expr.specs.Reading.{after_mark, as_expressions}
 use Rattle.v_expr.specs.Whole.{whole_at}

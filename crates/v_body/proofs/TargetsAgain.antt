@@ -1,11 +1,11 @@
 -- A target or assignment that is spelled so, in front of what does not go on with it, is read.
 use Rattle.std.proofs.Common.{◌≡◌, ℕ, zero, suc, ◌<◌, ◌≤◌, List, [], ◌∷◌, length, Some, refl, ap, ◌∙◌, arith}
-use Rattle.wb_meaning.specs.Value.{Name}
-use Rattle.wb_meaning.specs.Verilog.Token.{Mark, left_brace, right_brace, comma, Token, word, mark}
-use Rattle.wb_meaning.specs.Verilog.Syntax as tree
-use Rattle.wb_meaning.specs.Verilog.Syntax.{Expression, Selects, Target, Targets, no_targets, target}
-use Rattle.wb_meaning.specs.Verilog.Spelling.{IsIdentifier, AreSelects}
-use Rattle.wb_meaning.specs.Verilog.Grammar.{IsTarget, a_place, some_joined, AreTargets, last_target, and_targets, IsAssignment, assigned}
+use Rattle.wb_values.specs.Value.{Name}
+use Rattle.verilog_text.specs.Token.{Mark, left_brace, right_brace, comma, Token, word, mark}
+use Rattle.verilog_trees.specs.Syntax as tree
+use Rattle.verilog_trees.specs.Syntax.{Expression, Selects, Target, Targets, no_targets, target}
+use Rattle.verilog_text.specs.Spelling.{IsIdentifier, AreSelects}
+use Rattle.verilog_text.specs.Grammar.{IsTarget, a_place, some_joined, AreTargets, last_target, and_targets, IsAssignment, assigned}
 use Rattle.v_expr.specs.Ending.{EndsMark, Ends}
 use Rattle.v_expr.specs.Repeat.{Read}
 use Rattle.v_expr.specs.Reading.{after_mark}

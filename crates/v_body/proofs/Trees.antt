@@ -4,7 +4,7 @@ use Rattle.std.specs.declared.boxed.Box.{Box}
 use Rattle.std.specs.declared.vec.Vec.{Vec}
 use Rattle.std.specs.declared.alloc.Global.{Global}
 use Rattle.std.specs.Borrow.{Bor}
-use Rattle.wb_meaning.specs.Verilog.Syntax as pure
+use Rattle.verilog_trees.specs.Syntax as pure
 use Rattle.v_syntax.specs.declared.tree.Target.{Target, Joined, Row_of-Target, end_of-Target, more_of-Target, items-the_row-Target, items_hidden-the_row-Target-0}
 use Rattle.v_syntax.specs.declared.tree.Target.TheBlock.{hidden-the_row-Target-0}
 use Rattle.v_syntax.specs.declared.tree.Statement.{Statement, If, Case, Block, Row_of-Arm, end_of-Arm, more_of-Arm, items-the_row-Arm, items_hidden-the_row-Arm-0, Row_of-CaseItem, end_of-CaseItem, more_of-CaseItem, items-the_row-CaseItem, items_hidden-the_row-CaseItem-1, Row_of-Statement, end_of-Statement, more_of-Statement, items-the_row-Statement, items_hidden-the_row-Statement-2}
@@ -14,7 +14,7 @@ use Rattle.v_syntax.specs.declared.tree.CaseItem.{CaseItem, Values, Default}
 use Rattle.v_syntax.specs.declared.tree.CaseKind.{CaseKind as CodeKind}
 use Rattle.v_syntax.specs.declared.tree.Expression.{Expression as CodeExpression}
 use Rattle.v_syntax.specs.Tree.{tree_of, target_of, targets_of, statement_of, arms_before, statements_of, items_of, arm_before, or_empty, name_of_option, case_kind_of, expressions_of}
-use Rattle.wb_meaning.specs.Verilog.Token.{left_brace, right_brace, Token}
+use Rattle.verilog_text.specs.Token.{left_brace, right_brace, Token}
 use Rattle.v_expr.specs.Repeat.{Read}
 use Rattle.v_expr.specs.Reading.{after_mark, as_expressions}
 use Rattle.v_expr.proofs.Repeat.{some}

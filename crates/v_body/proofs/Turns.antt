@@ -1,10 +1,10 @@
 -- The turns of the reader's loops, and its levels.
 use Rattle.std.proofs.Common.{◌≡◌, ℕ, zero, suc, ◌<◌, ◌-◌, List, [], ◌∷◌, Option, Some, None, true, refl, sym, ap, ◌∙◌, arith}
 use Rattle.std.specs.Prelude.{codes}
-use Rattle.wb_meaning.specs.Value.{Name}
-use Rattle.wb_meaning.specs.Verilog.Token.{Mark, Token}
-use Rattle.wb_meaning.specs.Verilog.Syntax as tree
-use Rattle.wb_meaning.specs.Verilog.Syntax.{Expression, CaseKind, Statement}
+use Rattle.wb_values.specs.Value.{Name}
+use Rattle.verilog_text.specs.Token.{Mark, Token}
+use Rattle.verilog_trees.specs.Syntax as tree
+use Rattle.verilog_trees.specs.Syntax.{Expression, CaseKind, Statement}
 use Rattle.v_expr.specs.Repeat.{Read, repeated}
 use Rattle.v_expr.specs.Reading.{after_mark}
 use Rattle.v_expr.specs.View.{Fails}

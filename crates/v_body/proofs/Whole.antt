@@ -1,8 +1,8 @@
 -- Tokens spell at most one target, assignment and statement, and it ends at one place.
 use Rattle.std.proofs.Common.{◌≡◌, List, Some, sym, ap, ◌∙◌}
-use Rattle.wb_meaning.specs.Verilog.Token.{Token}
-use Rattle.wb_meaning.specs.Verilog.Syntax.{Statement}
-use Rattle.wb_meaning.specs.Verilog.Grammar.{IsStatement}
+use Rattle.verilog_text.specs.Token.{Token}
+use Rattle.verilog_trees.specs.Syntax.{Statement}
+use Rattle.verilog_text.specs.Grammar.{IsStatement}
 use Rattle.v_expr.specs.Repeat.{Read}
 use Rattle.v_expr.proofs.Repeat.{some_is}
 use Rattle.v_body.specs.Statements.{IsNearest, statement_at}

@@ -3,10 +3,10 @@ use Rattle.std.proofs.Common.{◌≡◌, Bool, true, false, cond, List, [], ◌�
 use Rattle.std.specs.Prelude.{codes}
 use Rattle.std.specs.Str.{bytes_eq}
 use Rattle.std.proofs.lemmas.Slice.Eq.{bytes_eq-Decides}
-use Rattle.wb_meaning.specs.Value.{Name}
-use Rattle.wb_meaning.specs.Words.{is_reserved}
-use Rattle.wb_meaning.specs.Verilog.Token.{Mark, Token, word, system, decimal, based, mark}
-use Rattle.wb_meaning.specs.Verilog.Spelling.{IsIdentifier}
+use Rattle.wb_values.specs.Value.{Name}
+use Rattle.wb_values.specs.ReservedWords.{is_reserved}
+use Rattle.verilog_text.specs.Token.{Mark, Token, word, system, decimal, based, mark}
+use Rattle.verilog_text.specs.Spelling.{IsIdentifier}
 use Rattle.v_expr.specs.Reading.{after_mark}
 use Rattle.v_expr.proofs.Repeat.{some_is}
 use Rattle.v_body.specs.Words.{is_word, after_word, name_at}

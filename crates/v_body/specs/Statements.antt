@@ -1,10 +1,10 @@
 -- Reading statements from tokens, from left to right: each function gives what stands at the front, and the rest.
 use Rattle.std.specs.Prelude.{◌≡◌, ℕ, zero, suc, Bool, true, false, cond, nat_le, List, [], ◌∷◌, length, codes, Option, Some, None, is_none}
-use Rattle.wb_meaning.specs.Value.{Name}
-use Rattle.wb_meaning.specs.Verilog.Token.{left_parenthesis, right_parenthesis, colon, semicolon, equals, less_equals, Token}
-use Rattle.wb_meaning.specs.Verilog.Syntax as tree
-use Rattle.wb_meaning.specs.Verilog.Syntax.{Expression, Expressions, CaseKind, exact_case, wild_case, Statement, Statements, no_statements, statement, CaseItems, no_items, arm, default_arm}
-use Rattle.wb_meaning.specs.Verilog.Grammar.{has_open_if, count_defaults}
+use Rattle.wb_values.specs.Value.{Name}
+use Rattle.verilog_text.specs.Token.{left_parenthesis, right_parenthesis, colon, semicolon, equals, less_equals, Token}
+use Rattle.verilog_trees.specs.Syntax as tree
+use Rattle.verilog_trees.specs.Syntax.{Expression, Expressions, CaseKind, exact_case, wild_case, Statement, Statements, no_statements, statement, CaseItems, no_items, arm, default_arm}
+use Rattle.verilog_text.specs.Grammar.{has_open_if, count_defaults}
 use Rattle.v_expr.specs.Repeat.{◌>>=◌, choose, Read, repeated}
 use Rattle.v_expr.specs.Reading.{after_mark, as_expressions}
 use Rattle.v_expr.specs.Whole.{whole_at}

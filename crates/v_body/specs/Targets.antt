@@ -1,8 +1,8 @@
 -- Reading targets and assignments from tokens, from left to right: each function gives what stands at the front, and the rest.
 use Rattle.std.specs.Prelude.{ℕ, zero, suc, List, [], ◌∷◌, length, Some, None}
-use Rattle.wb_meaning.specs.Verilog.Token.{Mark, left_brace, right_brace, Token}
-use Rattle.wb_meaning.specs.Verilog.Syntax as tree
-use Rattle.wb_meaning.specs.Verilog.Syntax.{Expression, Target, Targets, no_targets, target}
+use Rattle.verilog_text.specs.Token.{Mark, left_brace, right_brace, Token}
+use Rattle.verilog_trees.specs.Syntax as tree
+use Rattle.verilog_trees.specs.Syntax.{Expression, Target, Targets, no_targets, target}
 use Rattle.v_expr.specs.Repeat.{◌>>=◌, choose, Read}
 use Rattle.v_expr.specs.Reading.{after_mark}
 use Rattle.v_expr.specs.Whole.{whole_at, whole_selects_at}

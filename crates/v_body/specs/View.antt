@@ -1,6 +1,6 @@
 -- What the code's parts of statements stand for.
 use Rattle.std.specs.Prelude.{map, List, [], ◌∷◌, Option, Some, None}
-use Rattle.wb_meaning.specs.Verilog.Syntax as pure
+use Rattle.verilog_trees.specs.Syntax as pure
 use Rattle.v_syntax.specs.Tree.{tree_of, statement_of, arm_before}
 use Rattle.v_syntax.specs.declared.tree.Arm.{Arm}
 use Rattle.v_syntax.specs.declared.tree.CaseItem.{CaseItem, Values, Default}

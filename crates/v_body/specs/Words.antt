@@ -1,9 +1,9 @@
 -- Words of the grammar, names, and lists with commas, read from the front of tokens.
 use Rattle.std.specs.Prelude.{Bool, false, cond, List, [], ◌∷◌, Option, Some, None}
 use Rattle.std.specs.Str.{bytes_eq}
-use Rattle.wb_meaning.specs.Value.{Name}
-use Rattle.wb_meaning.specs.Words.{is_reserved}
-use Rattle.wb_meaning.specs.Verilog.Token.{Mark, comma, Token, word}
+use Rattle.wb_values.specs.Value.{Name}
+use Rattle.wb_values.specs.ReservedWords.{is_reserved}
+use Rattle.verilog_text.specs.Token.{Mark, comma, Token, word}
 use Rattle.v_expr.specs.Repeat.{◌>>=◌, Read, repeated}
 use Rattle.v_expr.specs.Reading.{after_mark}
 

@@ -1,9 +1,9 @@
 //! What reading targets, assignments and statements means, as laws without code.
 
 ghost use Rattle.std.specs.Prelude.{◌≡◌, ℕ, List, Some};
-ghost use Rattle.wb_meaning.specs.Verilog.Token.{Mark, Token};
-ghost use Rattle.wb_meaning.specs.Verilog.Syntax.{Expression, Target, Statement};
-ghost use Rattle.wb_meaning.specs.Verilog.Grammar.{IsTarget, IsAssignment, IsStatement};
+ghost use Rattle.verilog_text.specs.Token.{Mark, Token};
+ghost use Rattle.verilog_trees.specs.Syntax.{Expression, Target, Statement};
+ghost use Rattle.verilog_text.specs.Grammar.{IsTarget, IsAssignment, IsStatement};
 ghost use Rattle.v_expr.specs.Ending.{EndsMark, Ends};
 ghost use Rattle.v_body.specs.Targets.{target_at, assignment_at};
 ghost use Rattle.v_body.specs.Statements.{IsNearest, statement_at};

@@ -4,10 +4,6 @@
 pub mod laws;
 mod node;
 mod part;
-#[cfg(test)]
-mod shown;
 pub mod statement;
 pub mod target;
-#[cfg(test)]
-mod tests;
 pub mod word;

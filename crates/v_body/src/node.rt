@@ -1,7 +1,7 @@
 //! Statements from their parts.
 
 ghost use Rattle.std.specs.Prelude.{◌≡◌, map, Some, None, IfOk, IfErr};
-ghost use Rattle.wb_meaning.specs.Verilog.Syntax.{block, case};
+ghost use Rattle.verilog_trees.specs.Syntax.{block, case};
 ghost use Rattle.v_syntax.specs.Tree.{tree_of, statement_of, case_kind_of, name_of_option, or_empty};
 ghost use Rattle.v_expr.specs.declared.stop.ExpressionStop.TheVariants.{NoMemory};
 ghost use Rattle.v_body.specs.Statements.{as_items, as_statements};

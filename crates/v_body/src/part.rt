@@ -1,7 +1,7 @@
 //! The parts of statements that hold no statement.
 
 ghost use Rattle.std.specs.Prelude.{◌≡◌, false, map};
-ghost use Rattle.wb_meaning.specs.Verilog.Token.{colon};
+ghost use Rattle.verilog_text.specs.Token.{colon};
 ghost use Rattle.v_token.specs.View.{tokens_of};
 ghost use Rattle.v_syntax.specs.Tree.{tree_of, statement_of, name_of_option};
 ghost use Rattle.v_expr.specs.View.{Gives};

@@ -1,7 +1,7 @@
 //! Reading targets and assignments from tokens.
 
 ghost use Rattle.std.specs.Prelude.{◌≡◌, map};
-ghost use Rattle.wb_meaning.specs.Verilog.Token.{right_brace};
+ghost use Rattle.verilog_text.specs.Token.{right_brace};
 ghost use Rattle.v_token.specs.View.{mark_of, tokens_of};
 ghost use Rattle.v_syntax.specs.Tree.{tree_of, target_of};
 ghost use Rattle.v_expr.specs.View.{Gives};

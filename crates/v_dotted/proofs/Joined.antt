@@ -1,11 +1,11 @@
 -- Identifiers with dots between them are joined to one name, step by step.
 use Rattle.std.proofs.Common.{◌≡◌, Bool, true, false, cond, List, [], ◌∷◌, ◌++◌, Option, Some, None, Ok, Err, ◌<◌, ◌≤◌, length, refl, sym, ap, ◌∙◌, subst, append_assoc, ℕ, suc, arith}
 use Rattle.std.proofs.lemmas.List.{append-nil}
-use Rattle.wb_meaning.specs.Value.{Name}
-use Rattle.wb_meaning.specs.Words.{is_reserved}
-use Rattle.wb_meaning.specs.Verilog.Token.{left_parenthesis, right_parenthesis, left_bracket, right_bracket, left_brace, right_brace, comma, semicolon, colon, dot, hash, at, question, equals, plus_colon, minus_colon, plus, minus, star, double_star, slash, percent, exclamation, tilde, ampersand, tilde_ampersand, bar, tilde_bar, caret, tilde_caret, caret_tilde, double_ampersand, double_bar, less, less_equals, greater, greater_equals, double_less, double_greater, triple_less, triple_greater, double_equals, exclamation_equals, triple_equals, exclamation_double_equals, Mark, Token, word, system, decimal, based, mark}
-use Rattle.wb_meaning.specs.Verilog.Syntax.{Expression}
-use Rattle.wb_meaning.specs.Verilog.Grammar.{dotted_from, IsWhole}
+use Rattle.wb_values.specs.Value.{Name}
+use Rattle.wb_values.specs.ReservedWords.{is_reserved}
+use Rattle.verilog_text.specs.Token.{left_parenthesis, right_parenthesis, left_bracket, right_bracket, left_brace, right_brace, comma, semicolon, colon, dot, hash, at, question, equals, plus_colon, minus_colon, plus, minus, star, double_star, slash, percent, exclamation, tilde, ampersand, tilde_ampersand, bar, tilde_bar, caret, tilde_caret, caret_tilde, double_ampersand, double_bar, less, less_equals, greater, greater_equals, double_less, double_greater, triple_less, triple_greater, double_equals, exclamation_equals, triple_equals, exclamation_double_equals, Mark, Token, word, system, decimal, based, mark}
+use Rattle.verilog_trees.specs.Syntax.{Expression}
+use Rattle.verilog_text.specs.Grammar.{dotted_from, IsWhole}
 use Rattle.v_token.specs.declared.token.Token.{Token as CodeToken}
 use Rattle.v_token.specs.View.{tokens_of}
 use Rattle.v_syntax.specs.declared.tree.Expression.{Expression as CodeExpression}

@@ -1,12 +1,12 @@
 -- Dotted names as the reader joins them, and expressions that tokens spell as a whole.
 use Rattle.std.specs.Prelude.{◌≡◌, ℕ, cond, List, [], ◌∷◌, map, Option, Some, None, Result, Ok, Err}
 use Rattle.std.specs.String.{string_bytes}
-use Rattle.wb_meaning.specs.Value.{Name}
-use Rattle.wb_meaning.specs.Words.{is_reserved}
-use Rattle.wb_meaning.specs.Verilog.Token as pure
-use Rattle.wb_meaning.specs.Verilog.Token.{dot, word}
-use Rattle.wb_meaning.specs.Verilog.Syntax.{Expression as PureExpression}
-use Rattle.wb_meaning.specs.Verilog.Grammar.{IsWhole}
+use Rattle.wb_values.specs.Value.{Name}
+use Rattle.wb_values.specs.ReservedWords.{is_reserved}
+use Rattle.verilog_text.specs.Token as pure
+use Rattle.verilog_text.specs.Token.{dot, word}
+use Rattle.verilog_trees.specs.Syntax.{Expression as PureExpression}
+use Rattle.verilog_text.specs.Grammar.{IsWhole}
 use Rattle.v_token.specs.View.{token_of_kind}
 use Rattle.v_syntax.specs.declared.tree.Expression.{Expression}
 use Rattle.v_syntax.specs.Tree.{tree_of}

@@ -2,8 +2,8 @@
 
 ghost use Rattle.std.specs.Prelude.{◌≡◌, ◌<◌, ◌≤◌, ◌∷◌, None, Some, List, length, option_map, IfOk, IfErr};
 ghost use Rattle.std.specs.String.{string_bytes};
-ghost use Rattle.wb_meaning.specs.Verilog.Token.{word, Token as PureToken};
-ghost use Rattle.wb_meaning.specs.Verilog.Grammar.{dotted_from, with_dotted_names};
+ghost use Rattle.verilog_text.specs.Token.{word, Token as PureToken};
+ghost use Rattle.verilog_text.specs.Grammar.{dotted_from, with_dotted_names};
 ghost use Rattle.v_token.specs.View.{token_of, tokens_of};
 ghost use Rattle.v_syntax.specs.Tree.{tree_of};
 ghost use Rattle.v_expr.specs.View.{Gives};

@@ -1,8 +1,8 @@
 -- Tiers as one loop: operators of the first so many tiers behind an operand, each with a right operand of the tiers below it.
 use Rattle.std.proofs.Common.{◌≡◌, ℕ, zero, suc, ◌<◌, ◌≤◌, true, false, cond, List, length, Option, Some, None, refl, sym, ap, ◌∙◌, subst, arith, inl, inr}
 use Rattle.std.specs.Prelude.{◌-◌, ◌+◌, ◌==◌}
-use Rattle.wb_meaning.specs.Verilog.Token.{Token}
-use Rattle.wb_meaning.specs.Verilog.Syntax.{Expression}
+use Rattle.verilog_text.specs.Token.{Token}
+use Rattle.verilog_trees.specs.Syntax.{Expression}
 use Rattle.v_expr.specs.Repeat.{◌>>=◌, Read}
 use Rattle.v_expr.specs.Reading.{Reader, prefixed_at, joins_at, links_at, linked_at, chain_at, tier_at}
 use Rattle.std.proofs.lemmas.Bool.{cases_eq, eq-eqb}

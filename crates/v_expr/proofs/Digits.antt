@@ -5,7 +5,7 @@ use Rattle.std.specs.Prelude.{◌⊎◌}
 use Rattle.std.proofs.Math.Nat.{mod-add-mod, mod-lt, mod-le, mul-le-mul_left, mul-le-mul_right, mul_assoc}
 use Rattle.std.proofs.Math.Pow.{pow_mono}
 use Rattle.std.proofs.lemmas.Nat.{mul-mod_first, pow_pos, pow-add}
-use Rattle.wb_meaning.specs.Verilog.Spelling.{is_silent, is_z, filled_where, digits_from, bits_of_base, bits_of_digits, begins_with_z, filled_above}
+use Rattle.verilog_text.specs.Spelling.{is_silent, is_z, filled_where, digits_from, bits_of_base, bits_of_digits, begins_with_z, filled_above}
 use Rattle.v_expr.specs.Digits.{with_digit, with_bits}
 
 -- it does not matter whether a number was cut before one digit more

@@ -1,9 +1,9 @@
 -- An expression has at least one token, so each turn of a loop takes something; more turns than tokens change nothing.
 use Rattle.std.proofs.Common.{◌≡◌, ℕ, zero, suc, ◌<◌, ◌≤◌, List, ◌∷◌, length, Option, Some, None, refl, ap, ◌∙◌, arith}
-use Rattle.wb_meaning.specs.Verilog.Token.{right_parenthesis, right_bracket, left_brace, right_brace, comma, colon, question, Token, mark}
-use Rattle.wb_meaning.specs.Verilog.Syntax as tree
-use Rattle.wb_meaning.specs.Verilog.Syntax.{Number, Expression, Expressions, Select, Selects}
-use Rattle.wb_meaning.specs.Verilog.Spelling.{IsNumber, plain, unsized, of_size, IsExpression, tighter, chosen, joined, prefixed, a_number, a_name, bracketed, concatenated, replicated, made_signed, made_unsigned, AreExpressions, last_one, and_more, IsSelect, by_index, by_part, by_part_up, by_part_down, AreSelects, no_select, one_select, two_selects}
+use Rattle.verilog_text.specs.Token.{right_parenthesis, right_bracket, left_brace, right_brace, comma, colon, question, Token, mark}
+use Rattle.verilog_trees.specs.Syntax as tree
+use Rattle.verilog_trees.specs.Syntax.{Number, Expression, Expressions, Select, Selects}
+use Rattle.verilog_text.specs.Spelling.{IsNumber, plain, unsized, of_size, IsExpression, tighter, chosen, joined, prefixed, a_number, a_name, bracketed, concatenated, replicated, made_signed, made_unsigned, AreExpressions, last_one, and_more, IsSelect, by_index, by_part, by_part_up, by_part_down, AreSelects, no_select, one_select, two_selects}
 use Rattle.v_expr.specs.Repeat.{◌>>=◌, choose, Read}
 use Rattle.v_expr.specs.Reading.{after_mark, Reader, next_at, joins_at, links_at, linked_at, tier_at, choices_at, conditional_at}
 use Rattle.v_expr.proofs.Repeat.{Shrinks}

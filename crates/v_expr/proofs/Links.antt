@@ -6,7 +6,7 @@ use Rattle.std.specs.declared.alloc.Global.{Global}
 use Rattle.v_syntax.specs.declared.tree.Expression.{Expression, Binary, Test}
 use Rattle.v_syntax.specs.declared.tree.BinaryLink.{BinaryLink}
 use Rattle.v_syntax.specs.declared.tree.TestLink.{TestLink}
-use Rattle.wb_meaning.specs.Verilog.Syntax as pure
+use Rattle.verilog_trees.specs.Syntax as pure
 use Rattle.v_syntax.specs.Tree.{tree_of, combined, tested}
 use Rattle.v_syntax.specs.Chain.{linked, test_linked}
 use Rattle.v_syntax.proofs.Trees.{tree_of-Binary, tree_of-Test}

@@ -5,12 +5,12 @@ use Rattle.std.specs.Str.{bytes_eq}
 use Rattle.std.proofs.lemmas.Bool.{eqb-true}
 use Rattle.std.proofs.lemmas.Option.{cond_some}
 use Rattle.std.proofs.lemmas.Slice.Eq.{bytes_eq-Decides}
-use Rattle.wb_meaning.specs.Value.{Name}
-use Rattle.wb_meaning.specs.Words.{is_reserved}
-use Rattle.wb_meaning.specs.Verilog.Token.{Mark, left_parenthesis, right_parenthesis, left_bracket, right_bracket, left_brace, right_brace, comma, colon, question, plus_colon, minus_colon, Token, word, system, decimal, based, mark}
-use Rattle.wb_meaning.specs.Verilog.Syntax as tree
-use Rattle.wb_meaning.specs.Verilog.Syntax.{Number, Expression, Expressions, no_expressions, expression, Select, Selects, whole, one, two}
-use Rattle.wb_meaning.specs.Verilog.Spelling.{prefix_of, Operator, operator_of, IsNumber, plain, unsized, of_size, IsExpression, tighter, chosen, joined, prefixed, a_number, a_name, bracketed, concatenated, replicated, made_signed, made_unsigned, AreExpressions, last_one, and_more, IsSelect, by_index, by_part, by_part_up, by_part_down, AreSelects, no_select, one_select, two_selects}
+use Rattle.wb_values.specs.Value.{Name}
+use Rattle.wb_values.specs.ReservedWords.{is_reserved}
+use Rattle.verilog_text.specs.Token.{Mark, left_parenthesis, right_parenthesis, left_bracket, right_bracket, left_brace, right_brace, comma, colon, question, plus_colon, minus_colon, Token, word, system, decimal, based, mark}
+use Rattle.verilog_trees.specs.Syntax as tree
+use Rattle.verilog_trees.specs.Syntax.{Number, Expression, Expressions, no_expressions, expression, Select, Selects, whole, one, two}
+use Rattle.verilog_text.specs.Spelling.{prefix_of, Operator, operator_of, IsNumber, plain, unsized, of_size, IsExpression, tighter, chosen, joined, prefixed, a_number, a_name, bracketed, concatenated, replicated, made_signed, made_unsigned, AreExpressions, last_one, and_more, IsSelect, by_index, by_part, by_part_up, by_part_down, AreSelects, no_select, one_select, two_selects}
 use Rattle.v_expr.specs.Repeat.{◌>>=◌, choose, repeated}
 use Rattle.v_expr.specs.Reading.{after_mark, number_at, number_expression_at, more_parts_at, limit_at, Reader, as_expressions, next_at, parts_at, expressions_at, copies_at, concatenation_at, braces_at, inside_at, converted_at, conversion_at, second_at, limits_at, select_at, second_select_at, selects_at, named_at, alone_at, prefix_from, prefixed_at, joins_from, joins_at, links_at, linked_at, chain_at, tier_at, choices_at, conditional_at, expression_at}
 use Rattle.v_expr.proofs.Repeat.{some_is, Chain, chain_of}

@@ -1,7 +1,7 @@
 -- What the reader chooses by single tokens.
 use Rattle.std.proofs.Common.{◌≡◌, List, ◌∷◌, Some, None, refl}
-use Rattle.wb_meaning.specs.Verilog.Token.{right_parenthesis, left_parenthesis, mark, Token}
-use Rattle.wb_meaning.specs.Verilog.Syntax.{Expression}
+use Rattle.verilog_text.specs.Token.{right_parenthesis, left_parenthesis, mark, Token}
+use Rattle.verilog_trees.specs.Syntax.{Expression}
 use Rattle.v_expr.specs.Repeat.{◌>>=◌, Read}
 use Rattle.v_expr.specs.Reading.{Reader, inside_at, alone_at}
 use Rattle.v_expr.specs.Starting.{closed_at}

@@ -1,9 +1,9 @@
 -- The steps of the reader: each function's exits and the turns of its loops.
 use Rattle.std.proofs.Common.{◌≡◌, ℕ, zero, suc, ◌<◌, ◌≤◌, Bool, true, false, cond, List, [], ◌∷◌, ◌++◌, map, length, Option, Some, None, refl, sym, ap, ◌∙◌, subst, arith}
 use Rattle.std.specs.Prelude.{◌-◌, ◌==◌}
-use Rattle.wb_meaning.specs.Verilog.Token.{question, colon, left_brace, right_brace, left_bracket, right_bracket, Token}
-use Rattle.wb_meaning.specs.Verilog.Syntax as tree
-use Rattle.wb_meaning.specs.Verilog.Syntax.{Expression, Select, Selects, one, whole}
+use Rattle.verilog_text.specs.Token.{question, colon, left_brace, right_brace, left_bracket, right_bracket, Token}
+use Rattle.verilog_trees.specs.Syntax as tree
+use Rattle.verilog_trees.specs.Syntax.{Expression, Select, Selects, one, whole}
 use Rattle.v_syntax.specs.declared.tree.Expression.{Expression as CodeExpression}
 use Rattle.v_syntax.specs.declared.tree.Choice.{Choice}
 use Rattle.v_syntax.specs.Tree.{tree_of, expressions_of}

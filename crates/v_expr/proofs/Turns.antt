@@ -1,7 +1,7 @@
 -- The turns of the reader's loops.
 use Rattle.std.proofs.Common.{◌≡◌, List, [], ◌∷◌, ◌++◌, Option, Some, None, refl, sym, ap, ◌∙◌}
-use Rattle.wb_meaning.specs.Verilog.Token.{Token}
-use Rattle.wb_meaning.specs.Verilog.Syntax.{Expression}
+use Rattle.verilog_text.specs.Token.{Token}
+use Rattle.verilog_trees.specs.Syntax.{Expression}
 use Rattle.v_syntax.specs.declared.tree.PrefixOperator.{PrefixOperator}
 use Rattle.v_syntax.specs.Tree.{prefixed, all_prefixed}
 use Rattle.v_expr.specs.Repeat.{◌>>=◌, Read}

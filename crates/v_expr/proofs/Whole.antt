@@ -1,8 +1,8 @@
 -- Whole expressions and selects: what is read is spelled so, and what is spelled so is read, however deep it is.
 use Rattle.std.proofs.Common.{◌≡◌, ℕ, suc, ◌+◌, ◌<◌, ◌≤◌, List, ◌∷◌, length, Some, arith}
-use Rattle.wb_meaning.specs.Verilog.Token.{right_parenthesis, right_bracket, left_brace, right_brace, comma, colon, question, Token, mark}
-use Rattle.wb_meaning.specs.Verilog.Syntax.{Expression, Expressions, Select, Selects}
-use Rattle.wb_meaning.specs.Verilog.Spelling.{IsExpression, tighter, chosen, joined, prefixed, a_number, a_name, bracketed, concatenated, replicated, made_signed, made_unsigned, AreExpressions, last_one, and_more, IsSelect, by_index, by_part, by_part_up, by_part_down, AreSelects, no_select, one_select, two_selects}
+use Rattle.verilog_text.specs.Token.{right_parenthesis, right_bracket, left_brace, right_brace, comma, colon, question, Token, mark}
+use Rattle.verilog_trees.specs.Syntax.{Expression, Expressions, Select, Selects}
+use Rattle.verilog_text.specs.Spelling.{IsExpression, tighter, chosen, joined, prefixed, a_number, a_name, bracketed, concatenated, replicated, made_signed, made_unsigned, AreExpressions, last_one, and_more, IsSelect, by_index, by_part, by_part_up, by_part_down, AreSelects, no_select, one_select, two_selects}
 use Rattle.v_expr.specs.Reading.{expression_at}
 use Rattle.v_expr.specs.Ending.{Ends, nesting, nesting_of_parts, nesting_of_select, nesting_of_selects}
 use Rattle.v_expr.specs.Whole.{whole_at, whole_selects_at}

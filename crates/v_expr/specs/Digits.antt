@@ -1,6 +1,6 @@
 -- The bits of digits as the code counts them.
 use Rattle.std.specs.Prelude.{ℕ, ◌+◌, ◌*◌, cond}
-use Rattle.wb_meaning.specs.Verilog.Spelling.{digit_value, is_x, is_z, is_silent, filled_where}
+use Rattle.verilog_text.specs.Spelling.{digit_value, is_x, is_z, is_silent, filled_where}
 use Rattle.v_expr.specs.declared.number.DigitPart.{DigitPart}
 use Rattle.v_expr.specs.declared.number.DigitPart.TheVariants.{Value, Unknown, Wild}
 

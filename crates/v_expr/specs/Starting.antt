@@ -1,8 +1,8 @@
 -- What the reader chooses by single tokens, and what each choice reads.
 use Rattle.std.specs.Prelude.{List, Some, None}
-use Rattle.wb_meaning.specs.Verilog.Token.{Mark, right_parenthesis, right_bracket, Token}
-use Rattle.wb_meaning.specs.Verilog.Syntax as tree
-use Rattle.wb_meaning.specs.Verilog.Syntax.{Expression, Select, Selects}
+use Rattle.verilog_text.specs.Token.{Mark, right_parenthesis, right_bracket, Token}
+use Rattle.verilog_trees.specs.Syntax as tree
+use Rattle.verilog_trees.specs.Syntax.{Expression, Select, Selects}
 use Rattle.v_syntax.specs.declared.tree.Choice.{Choice}
 use Rattle.v_syntax.specs.Tree.{number_of, tree_of}
 use Rattle.v_syntax.specs.Chain.{chosen}

@@ -1,9 +1,9 @@
 -- What the code's values stand for, and what its functions give.
 use Rattle.std.specs.Prelude.{◌≡◌, ◌<◌, ◌≤◌, ℕ, ◌-◌, List, ◌++◌, Option, Some, None, Result, Ok, Err}
 use Rattle.std.specs.Borrow.{Bor}
-use Rattle.wb_meaning.specs.Verilog.Syntax as pure
-use Rattle.wb_meaning.specs.Verilog.Spelling.{Operator}
-use Rattle.wb_meaning.specs.Verilog.Token as pure_token
+use Rattle.verilog_trees.specs.Syntax as pure
+use Rattle.verilog_text.specs.Spelling.{Operator}
+use Rattle.verilog_text.specs.Token as pure_token
 use Rattle.v_token.specs.declared.token.Token.{Token}
 use Rattle.v_token.specs.View.{tokens_of}
 use Rattle.v_syntax.specs.declared.tree.PrefixOperator.{PrefixOperator}

@@ -1,7 +1,7 @@
 -- Reading a whole expression, or the selects behind a name, as deep as the tokens can be.
 use Rattle.std.specs.Prelude.{suc, List, length}
-use Rattle.wb_meaning.specs.Verilog.Token.{Token}
-use Rattle.wb_meaning.specs.Verilog.Syntax.{Selects}
+use Rattle.verilog_text.specs.Token.{Token}
+use Rattle.verilog_trees.specs.Syntax.{Selects}
 use Rattle.v_expr.specs.Repeat.{Read}
 use Rattle.v_expr.specs.Reading.{Reader, selects_at, expression_at}
 

@@ -1,15 +1,15 @@
 -- Tokens with the expressions that they spell, by hand: each level beside its neighbours, association, brackets, selects.
 use Rattle.std.specs.Prelude.{ℕ, List, [], ◌∷◌, codes, true, false}
-use Rattle.wb_meaning.specs.Verilog.Token as t
-use Rattle.wb_meaning.specs.Verilog.Token.{Token, word, system, decimal, mark}
-use Rattle.wb_meaning.specs.Verilog.Syntax.{Expression, number, name, whole, index, part_up, two as two_selects, concatenation, replication, as_signed, expression, no_expressions, unary, minus, complement, reduction, is_zero, all_ones, binary, add, subtract, multiply, bitwise_or, bitwise_xor, bitwise_and, shift, left, power, comparison, equal, less, logical, both, either, conditional}
+use Rattle.verilog_text.specs.Token as t
+use Rattle.verilog_text.specs.Token.{Token, word, system, decimal, mark}
+use Rattle.verilog_trees.specs.Syntax.{Expression, number, name, whole, index, part_up, two as two_selects, concatenation, replication, as_signed, expression, no_expressions, unary, minus, complement, reduction, is_zero, all_ones, binary, add, subtract, multiply, bitwise_or, bitwise_xor, bitwise_and, shift, left, power, comparison, equal, less, logical, both, either, conditional}
 
 -- what follows each of them
 abbrev pub end : List Token
 end = mark t.semicolon ∷ []
 
 abbrev literal : ℕ → Expression
-literal n = number (record { width = 32; sized = false; signed = true; value = n; unknown = 0; wild = 0 })
+literal n = number (record { width = 32; sized = false; signed = true; value = n; unknown = 0; wild = 0; has_unknown = false; has_wild = false })
 
 abbrev one : Expression
 one = literal 1

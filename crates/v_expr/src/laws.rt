@@ -1,9 +1,9 @@
 //! What reading expressions means, as laws without code.
 
 ghost use Rattle.std.specs.Prelude.{◌≡◌, ◌≤◌, ℕ, suc, List, Some, None};
-ghost use Rattle.wb_meaning.specs.Verilog.Syntax.{Expression, Selects};
-ghost use Rattle.wb_meaning.specs.Verilog.Token.{Token};
-ghost use Rattle.wb_meaning.specs.Verilog.Spelling.{IsExpression, AreSelects};
+ghost use Rattle.verilog_trees.specs.Syntax.{Expression, Selects};
+ghost use Rattle.verilog_text.specs.Token.{Token};
+ghost use Rattle.verilog_text.specs.Spelling.{IsExpression, AreSelects};
 ghost use Rattle.v_expr.specs.Ending.{Ends, nesting, nesting_of_selects};
 ghost use Rattle.v_expr.specs.Reading.{selects_at, expression_at};
 ghost use Rattle.v_expr.specs.Whole.{whole_at, whole_selects_at};

@@ -16,10 +16,3 @@ pub mod worked;
 
 pub use front::{expression, selects};
 pub use stop::ExpressionStop;
-
-#[cfg(test)]
-mod expression_tests;
-#[cfg(test)]
-mod shown;
-#[cfg(test)]
-mod tests;

@@ -1,7 +1,7 @@
 //! What stands behind the first expression of a select.
 
 ghost use Rattle.std.specs.Prelude.{◌≡◌, IfOk, IfErr};
-ghost use Rattle.wb_meaning.specs.Verilog.Syntax as pure;
+ghost use Rattle.verilog_trees.specs.Syntax as pure;
 ghost use Rattle.v_token.specs.View.{tokens_of};
 ghost use Rattle.v_syntax.specs.Tree.{tree_of, select_of};
 ghost use Rattle.v_expr.specs.Reading.{Reader, limits_at};

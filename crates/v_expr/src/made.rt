@@ -1,8 +1,8 @@
 //! What is made of what was read before and what is read behind it.
 
 ghost use Rattle.std.specs.Prelude.{◌≡◌};
-ghost use Rattle.wb_meaning.specs.Verilog.Token.{Token as PureToken};
-ghost use Rattle.wb_meaning.specs.Verilog.Syntax as pure;
+ghost use Rattle.verilog_text.specs.Token.{Token as PureToken};
+ghost use Rattle.verilog_trees.specs.Syntax as pure;
 ghost use Rattle.v_token.specs.View.{mark_of, tokens_of};
 ghost use Rattle.v_syntax.specs.Tree.{tree_of, select_of, selects_of};
 ghost use Rattle.v_expr.specs.Repeat.{Read};

@@ -1,7 +1,7 @@
 //! Expressions and what stands in their brackets: the functions that call one another, each with a bound on the levels of brackets.
 
 ghost use Rattle.std.specs.Prelude.{◌≡◌, map};
-ghost use Rattle.wb_meaning.specs.Verilog.Token.{comma};
+ghost use Rattle.verilog_text.specs.Token.{comma};
 ghost use Rattle.v_token.specs.View.{mark_of, tokens_of};
 ghost use Rattle.v_syntax.specs.Tree.{tree_of, select_of, selects_of};
 ghost use Rattle.v_expr.specs.Reading.{Reader, next_at, parts_at, expressions_at, braces_at, select_at, selects_at, alone_at, prefixed_at, tier_at, expression_at};

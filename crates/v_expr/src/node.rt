@@ -1,7 +1,7 @@
 //! Nodes of trees.
 
 ghost use Rattle.std.specs.Prelude.{◌≡◌, ◌∷◌, [], IfOk, IfErr};
-ghost use Rattle.wb_meaning.specs.Verilog.Syntax as pure;
+ghost use Rattle.verilog_trees.specs.Syntax as pure;
 ghost use Rattle.v_syntax.specs.Tree.{tree_of, all_prefixed, expressions_of};
 ghost use Rattle.v_syntax.specs.Chain.{linked, test_linked, chosen};
 ghost use Rattle.v_expr.specs.View.{joins_of};

@@ -1,7 +1,8 @@
 //! Numbers (1364-2005, 3.5.1), in time that is linear in their digits.
 
 ghost use Rattle.std.specs.Prelude.{◌≡◌, ℕ, ◌+◌, ◌-◌, ◌%◌, ◌^◌, ◌≤◌, ◌⊎◌, min, option_map, Some, None, ◌∷◌};
-ghost use Rattle.wb_meaning.specs.Verilog.Spelling.{is_decimal_digit, digit_value, is_x, is_z, is_silent, digits_from, decimal_value, base_of, bits_of_base, bits_of_digits, begins_with_z, filled_above, filled_where, width_of_size, kept_width, greatest_size, plain_number, number_in_base, behind_sign, based_number};
+ghost use Rattle.std.specs.List.{list_any};
+ghost use Rattle.verilog_text.specs.Spelling.{is_decimal_digit, digit_value, is_x, is_z, is_silent, digits_from, decimal_value, base_of, bits_of_base, bits_of_digits, begins_with_z, filled_above, filled_where, width_of_size, kept_width, greatest_size, plain_number, number_in_base, behind_sign, based_number};
 ghost use Rattle.v_syntax.specs.Tree.{number_of};
 ghost use Rattle.v_token.specs.View.{tokens_of};
 ghost use Rattle.v_expr.specs.Digits.{standing, with_digit, with_bits};
@@ -245,6 +246,20 @@ fn wild(base: u8, width: u32, text: &[u8]) -> u128
     wild_in(base, width, text) + above(bits_of_base(base), width, text)
 }
 
+/// Whether some digit is x.
+fn has_unknown(text: &[u8]) -> bool
+    ensures { result ≡ list_any is_x text.now }
+{
+    text.iter().any(|byte| is_x(*byte))
+}
+
+/// Whether some digit is z or `?`.
+fn has_wild(text: &[u8]) -> bool
+    ensures { result ≡ list_any is_z text.now }
+{
+    text.iter().any(|byte| is_z(*byte))
+}
+
 fn width_of_size(size: Option<u64>) -> u64
     ensures { result ≡ width_of_size size }
 {
@@ -264,6 +279,8 @@ fn number_in_base(size: Option<u64>, signed: bool, base: u8, text: &[u8]) -> Num
         value: value_in(base, kept, text),
         unknown: unknown_in(base, kept, text),
         wild: wild(base, kept, text),
+        has_unknown: has_unknown(text),
+        has_wild: has_wild(text),
     }
 }
 
@@ -312,6 +329,8 @@ fn plain_number(text: &[u8]) -> Number
         value: value_in(10, 32, text),
         unknown: 0,
         wild: 0,
+        has_unknown: false,
+        has_wild: false,
     }
 }
 

@@ -1,7 +1,7 @@
 //! Operators by their marks.
 
 ghost use Rattle.std.specs.Prelude.{◌≡◌, ◌≤◌, ◌-◌, option_map, ℕ, Some, IfSome, IfOk, IfErr};
-ghost use Rattle.wb_meaning.specs.Verilog.Spelling.{prefix_of, operator_of};
+ghost use Rattle.verilog_text.specs.Spelling.{prefix_of, operator_of};
 ghost use Rattle.v_syntax.specs.Tree.{prefixed};
 ghost use Rattle.v_token.specs.View.{mark_of, token_of, tokens_of};
 ghost use Rattle.v_expr.specs.Reading.{Reader, prefix_from, prefix_at, alone_at, prefixed_at, joins_from};

@@ -1,7 +1,7 @@
 //! What stands alone, by how it starts: a number, a name, brackets, braces or a conversion.
 
 ghost use Rattle.std.specs.Prelude.{◌≡◌, ◌∷◌, IfOk, IfErr};
-ghost use Rattle.wb_meaning.specs.Verilog.Token.{mark as a_mark};
+ghost use Rattle.verilog_text.specs.Token.{mark as a_mark};
 ghost use Rattle.v_token.specs.View.{mark_of, tokens_of};
 ghost use Rattle.v_syntax.specs.Tree.{tree_of};
 ghost use Rattle.v_expr.specs.Reading.{Reader, number_expression_at, named_at, converted_at, conversion_at, alone_at};

@@ -1,7 +1,7 @@
 -- Answers by their kind.
 use Rattle.std.proofs.Common.{◌≡◌, List, Result, Err, sym, ap, ◌∙◌}
-use Rattle.wb_meaning.specs.Verilog.Token as pure
-use Rattle.wb_meaning.specs.Verilog.Text as texts
+use Rattle.verilog_text.specs.Token as pure
+use Rattle.verilog_text.specs.Text as texts
 use Rattle.v_lex.specs.declared.stop.LexKind.{LexKind}
 use Rattle.v_lex.specs.declared.stop.LexStop.{LexStop}
 use Rattle.v_lex.specs.declared.stop.LexStop.TheVariants.{Refused, NoMemory}

@@ -6,10 +6,10 @@ use Rattle.std.specs.List.{list_all}
 use Rattle.std.specs.Char.{is_ascii}
 use Rattle.std.specs.Str.{IsAscii, IsUtf8}
 use Rattle.std.proofs.lemmas.Str.{IsUtf8-from_ascii}
-use Rattle.wb_meaning.specs.ModelFile.Names.{is_letter, is_digit, begins_with}
+use Rattle.wb_values.specs.Names.{is_letter, is_digit, begins_with}
 use Rattle.v_lex.specs.View.{rest_after, taken}
 use Rattle.v_lex.proofs.Texts.{token_text, some_rest}
-use Rattle.wb_meaning.specs.Verilog.Lexical.{is_word_byte, is_decimal_byte, is_blank_before, run_length, blank_length, is_base, runs_on, digits_length, base_length, behind_quote}
+use Rattle.verilog_text.specs.Lexical.{is_word_byte, is_decimal_byte, is_blank_before, run_length, blank_length, is_base, runs_on, digits_length, base_length, behind_quote}
 
 letter_below : (b : ℕ) → is_letter b ≡ true → is_ascii b ≡ true
 letter_below b h = grind (arith, nat_tests)

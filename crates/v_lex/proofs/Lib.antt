@@ -7,3 +7,5 @@ pub mod Encoded
 pub mod Answered
 pub mod Bytes
 pub mod Placed
+pub mod Quotes
+pub mod Sited

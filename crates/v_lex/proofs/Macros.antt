@@ -6,7 +6,7 @@ use Rattle.std.specs.Cmp.Lexicographic.{slice_cmp}
 use Rattle.std.specs.BTreeMap as tree
 use Rattle.std.specs.BTreeMap.{BTreeMap, get_by}
 use Rattle.std.proofs.lemmas.Map.Text.{btree_map_updates_str}
-use Rattle.wb_meaning.specs.Value.{Name, same_name}
+use Rattle.wb_values.specs.Value.{Name, same_name}
 use Rattle.v_lex.specs.declared.state.Span.{Span}
 use Rattle.v_lex.specs.Reading.{text_in, text_under}
 use Rattle.v_lex.specs.Placed.{flat, span_under}

@@ -12,13 +12,15 @@ use Rattle.std.proofs.Math.Seq.{take-length}
 use Rattle.std.proofs.lemmas.List.{length-map, length-drop, length-take, drop-drop, drop-take, take-take}
 use Rattle.std.proofs.lemmas.List.Elements.{All-append, All-cons, All-nil}
 use Rattle.std.proofs.lemmas.List.Quantifiers.{all_pairs_push}
-use Rattle.wb_meaning.specs.Value.{Name, same_name}
-use Rattle.wb_meaning.specs.Verilog.Text as texts
+use Rattle.wb_values.specs.Value.{Name, same_name}
+use Rattle.verilog_text.specs.Text as texts
 use Rattle.v_token.specs.declared.token.Token.{Token}
 use Rattle.v_lex.specs.View.{piece_of, taken}
 use Rattle.v_lex.specs.Reading.{front_in}
 use Rattle.v_lex.specs.Places.{AreShort, StandsAt, ComesTo, IsInMacro, IsSlice, IsOfMacro, EndsBefore, AreInOrder}
 use Rattle.v_lex.specs.Placed.{flat, span_under, IsMacroAt, IsMacroText, IsPlaced, IsReaderPlaced, Keeps, IsTextAt, reached, IsPieceAt, IsUse, IsTakenAt, IsFrontPart}
+use Rattle.v_lex.specs.Sites.{moved_on}
+use Rattle.v_lex.specs.Sited.{site_of, IsSited}
 use Rattle.v_lex.proofs.Turns.{front_behind}
 use Rattle.v_lex.specs.declared.piece.Piece.{Piece}
 use Rattle.v_lex.specs.declared.piece.Piece.TheVariants as code
@@ -159,6 +161,18 @@ defined_placed files file limit next old new n s behind h le at f b e m p =
     subst (λ v. IsPlaced files file next new.macros v.items) (sym e)
     (placed_texts files file next old.macros new.macros old.tokens.items n (Some s) m there (raised files file limit next old.macros old.tokens.items le p))
 
+-- the same where the span is made of the text and its place
+pub span_placed : (files : List (List ℕ)) (file limit next : ℕ) (old new : Reader) (n : Name) (s : Span) (w : List ℕ) (place behind : Place) → s.text.now ≡ w → s.place ≡ place
+    → AreShort files → limit ≤ next → IsMacroAt files behind.file (behind.start - length w) w → place.file ≡ behind.file → place.start ≡ behind.start - min (length w) 4294967295
+    → new.tokens ≡ old.tokens → ((q : Name) → span_under new.macros q ≡ cond (same_name n q) (Some s) (span_under old.macros q))
+    → IsReaderPlaced files file limit old → IsReaderPlaced files file next new
+span_placed files file limit next old new n s w place behind is_text is_place h le at f b e m p =
+    defined_placed files file limit next old new n s behind h le
+    (subst (λ (x : List ℕ). IsMacroAt files behind.file (behind.start - length x) x) (sym is_text) at)
+    (ap (λ x. x.file) is_place ∙ f)
+    (ap (λ x. x.start) is_place ∙ b ∙ ap (λ (x : List ℕ). behind.start - min (length x) 4294967295) (sym is_text))
+    e m p
+
 pub undefined_placed : (files : List (List ℕ)) (file limit next : ℕ) (old new : Reader) (n : Name) → limit ≤ next
     → new.tokens ≡ old.tokens → ((q : Name) → span_under new.macros q ≡ cond (same_name n q) None (span_under old.macros q))
     → IsReaderPlaced files file limit old → IsReaderPlaced files file next new
@@ -229,9 +243,9 @@ macro_piece : (files : List (List ℕ)) (file limit : ℕ) (p : Piece) (text res
     → IsFrontPart text p rest → IsPieceAt files file limit limit p text.place rest.place
 macro_piece files file limit code.Nothing text rest h at le q = omega arith
 macro_piece files file limit (code.Token k t) text rest h at le q =
-    let cut = token_cut text.text.now rest.text.now t.now le q.0 in
+    let cut = token_cut text.text.now rest.text.now t.now le q.0.0 in
     let there = macro_front files text.place.file text.place.start text.text.now t.now at (omega (arith, cut.0)) cut.1 in
-    (omega arith, there.0, inl there.1)
+    (omega arith, (there.0, q.0.1), inl there.1)
 macro_piece files file limit code.LeftOut text rest h at le q = omega arith
 macro_piece files file limit code.Misdirected text rest h at le q = omega arith
 macro_piece files file limit (code.Define n t) text rest h at le q =
@@ -267,9 +281,9 @@ file_piece : (files : List (List ℕ)) (levels file limit : ℕ) (p : Piece) (te
     → IsFrontPart text p rest → IsPieceAt files file limit (limit + (length text.text.now - length rest.text.now)) p text.place rest.place
 file_piece files levels file limit code.Nothing text rest r h i front le q = omega arith
 file_piece files levels file limit (code.Token k t) text rest r h i front le q =
-    let cut = token_cut text.text.now rest.text.now t.now le q.0 in (
+    let cut = token_cut text.text.now rest.text.now t.now le q.0.0 in (
       omega arith,
-      stands_front files text.place.file text.place.start text.text.now t.now (file_stands files levels file limit text r i) (omega (arith, cut.0)) cut.1,
+      (stands_front files text.place.file text.place.start text.text.now t.now (file_stands files levels file limit text r i) (omega (arith, cut.0)) cut.1, q.0.1),
       inr (i.5, i.6, omega (arith, cut.0)),
     )
 file_piece files levels file limit code.LeftOut text rest r h i front le q = omega arith
@@ -391,3 +405,39 @@ new_placed files m ts e t = subst (λ us. IsPlaced files 0 0 m us) (sym t) (reco
 pub handed_out : (P : List Token → Type 0) (r : Result (Vec Token Global) Stop) (v : Vec Token Global) → IfOk r (λ w. w ≡ v) → P v.items → IfOk r (λ w. P w.items)
 handed_out P (Ok w) v same h = subst (λ x. P x.items) (sym same) h
 handed_out P (Err e) v same h = tt
+
+-- ---- the places of the next piece
+
+pub text_stands : (is_macro : Bool) (levels : ℕ) (r : texts.Reading) (files : List (List ℕ)) (file limit : ℕ) (s : Span) → IsTextAt is_macro levels r files file limit s
+    → StandsAt files s.place.file s.place.start s.text.now
+text_stands true levels r files file limit s i = i.0
+text_stands false levels r files file limit s i = file_stands files levels file limit s r i
+
+pub site_behind : (files : List (List ℕ)) (p : Piece) (text rest : Span) → AreShort files → StandsAt files text.place.file text.place.start text.text.now → IsFrontPart text p rest
+    → moved_on (length text.text.now - length rest.text.now) (site_of text.place) ≡ site_of rest.place
+site_behind files p text rest h at q =
+    let start = sym (rest_start files p text rest h at q) in
+    λ i. record { file = sym q.1 i; start = start i }
+
+sited_by : (files : List (List ℕ)) (p : Piece) (text rest : Span) → AreShort files → StandsAt files text.place.file text.place.start text.text.now → length rest.text.now ≤ length text.text.now
+    → IsFrontPart text p rest → IsSited p text.place rest.place (length text.text.now - length rest.text.now)
+sited_by files code.Nothing text rest h at le q = tt
+sited_by files (code.Token k t) text rest h at le q = sym (token_cut text.text.now rest.text.now t.now le q.0.0).0
+sited_by files code.LeftOut text rest h at le q = tt
+sited_by files code.Misdirected text rest h at le q = tt
+sited_by files (code.Define n t) text rest h at le q =
+    let cut = definition_cut text.text.now rest.text.now q.0.0 t.now q.0.2.0 q.0.1 le q.0.2.1 in
+    let ends = ends_there files (code.Define n t) text rest t.now h at q cut.0 in
+    (sym q.1, omega (arith, ends, cut.0, short_start files text.place.file text.place.start text.text.now h at))
+sited_by files (code.Undefine n) text rest h at le q = tt
+sited_by files (code.IfDefined b n) text rest h at le q = tt
+sited_by files (code.ElseIf n) text rest h at le q = tt
+sited_by files code.Otherwise text rest h at le q = tt
+sited_by files code.EndIf text rest h at le q = tt
+sited_by files (code.Use n) text rest h at le q = tt
+
+pub sited : (is_macro : Bool) (files : List (List ℕ)) (p : Piece) (text rest : Span) (r : texts.Reading) → AreShort files → StandsAt files text.place.file text.place.start text.text.now
+    → front_in is_macro r text.text.now ≡ Some (Some (piece_of p, rest.text.now)) → IsFrontPart text p rest → IsSited p text.place rest.place (length text.text.now - length rest.text.now)
+sited is_macro files p text rest r h at front q =
+    let b = front_behind is_macro text.text.now rest.text.now (piece_of p) r front in
+    sited_by files p text rest h at (rest_behind text.text.now rest.text.now b.0 b.1).1 q

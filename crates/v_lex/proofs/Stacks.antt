@@ -4,8 +4,8 @@ use Rattle.std.specs.Prelude.{reverse, is_some}
 use Rattle.std.specs.List.{list_any}
 use Rattle.std.proofs.lemmas.List.{reverse-append}
 use Rattle.std.proofs.lemmas.List.Folds.{list_any-append}
-use Rattle.wb_meaning.specs.Verilog.Text as pure
-use Rattle.wb_meaning.specs.Verilog.Text.{is_same_opening, behind_nearest}
+use Rattle.verilog_text.specs.Text as pure
+use Rattle.verilog_text.specs.Text.{is_same_opening, behind_nearest}
 use Rattle.v_lex.specs.declared.opening.Opening.{Opening}
 use Rattle.v_lex.specs.Nesting.{opening_of, openings_of}
 

@@ -2,9 +2,9 @@
 use Rattle.std.proofs.Common.{◌≡◌, ℕ, suc, ◌+◌, ◌-◌, min, List, [], ◌∷◌, length, take, drop, Option, Some, None, refl, sym, ap, ◌∙◌, arith}
 use Rattle.std.specs.Prelude.{option_map, option_and_then, cond, Bool, true, false, zero}
 use Rattle.std.proofs.lemmas.List.{length-drop, take_min, drop-drop}
-use Rattle.wb_meaning.specs.ModelFile.Names.{begins_with, is_letter}
-use Rattle.wb_meaning.specs.Verilog.Token.{decimal}
-use Rattle.wb_meaning.specs.Verilog.Lexical.{Piece, is_line_blank, name_behind, is_word_byte, system_piece, system_at, ends_definition, passed_length, definition_length, token, run_length, is_decimal_byte, real_length, number_of, number_at}
+use Rattle.wb_values.specs.Names.{begins_with, is_letter}
+use Rattle.verilog_text.specs.Token.{decimal}
+use Rattle.verilog_text.specs.Lexical.{Piece, is_line_blank, name_behind, is_word_byte, system_piece, system_at, ends_definition, defined_length, definition_length, token, run_length, is_decimal_byte, real_length, number_of, number_at}
 use Rattle.v_lex.specs.View.{rest_after, after, at_front, name_after}
 
 cut_twice : (m n : ℕ) → m - (m - n) ≡ min n m
@@ -74,17 +74,17 @@ abbrev left_behind : ℕ → List ℕ → (ends : Bool) → (passed : Option ℕ
 left_behind b more ends passed = rest_after (b ∷ more) (cond ends (Some 0) (option_and_then (λ k. option_map suc (definition_length k more)) passed))
 
 left_there : (b : ℕ) (text more : List ℕ) (start : Option (List ℕ)) → text ≡ b ∷ more → start ≡ rest_after text (definition_length 0 text)
-    → start ≡ left_behind b more (ends_definition b more) (passed_length b more)
+    → start ≡ left_behind b more (ends_definition b more) (defined_length b more)
 unfolding definition_length
 left_there b text more start e there = there ∙ ap (λ (t : List ℕ). rest_after t (definition_length 0 t)) e
 
 -- one turn over a definition's text
 pub passed_on : (b : ℕ) (text more passed : List ℕ) (start : Option (List ℕ)) → text ≡ b ∷ more → start ≡ rest_after text (definition_length 0 text)
-    → ends_definition b more ≡ false → Some passed ≡ rest_after more (passed_length b more) → start ≡ rest_after passed (definition_length 0 passed)
+    → ends_definition b more ≡ false → Some passed ≡ rest_after more (defined_length b more) → start ≡ rest_after passed (definition_length 0 passed)
 passed_on b text more passed start e there goes took =
-    let n = some_rest more passed (passed_length b more) took in
+    let n = some_rest more passed (defined_length b more) took in
     left_there b text more start e there
-    ∙ ap (λ (t : Bool). left_behind b more t (passed_length b more)) goes
+    ∙ ap (λ (t : Bool). left_behind b more t (defined_length b more)) goes
     ∙ ap (λ (o : Option ℕ). left_behind b more false o) n.1
     ∙ rest_suc b more (definition_length n.0 more)
     ∙ behind_skipped n.0 more
@@ -92,17 +92,17 @@ passed_on b text more passed start e there goes took =
 
 -- nothing is passed
 pub not_passed : (b : ℕ) (text more : List ℕ) (start : Option (List ℕ)) → text ≡ b ∷ more → start ≡ rest_after text (definition_length 0 text)
-    → ends_definition b more ≡ false → None ≡ rest_after more (passed_length b more) → None ≡ start
+    → ends_definition b more ≡ false → None ≡ rest_after more (defined_length b more) → None ≡ start
 not_passed b text more start e there goes took =
     sym (left_there b text more start e there
-    ∙ ap (λ (t : Bool). left_behind b more t (passed_length b more)) goes
-    ∙ ap (λ (o : Option ℕ). left_behind b more false o) (no_rest more (passed_length b more) took))
+    ∙ ap (λ (t : Bool). left_behind b more t (defined_length b more)) goes
+    ∙ ap (λ (o : Option ℕ). left_behind b more false o) (no_rest more (defined_length b more) took))
 
 -- the text ends
 pub definition_ends : (b : ℕ) (text more : List ℕ) (start : Option (List ℕ)) → text ≡ b ∷ more → start ≡ rest_after text (definition_length 0 text)
     → ends_definition b more ≡ true → Some text ≡ start
 definition_ends b text more start e there ends =
-    ap (λ (t : List ℕ). Some t) e ∙ sym (left_there b text more start e there ∙ ap (λ (t : Bool). left_behind b more t (passed_length b more)) ends)
+    ap (λ (t : List ℕ). Some t) e ∙ sym (left_there b text more start e there ∙ ap (λ (t : Bool). left_behind b more t (defined_length b more)) ends)
 
 pub definition_empty : (text : List ℕ) (start : Option (List ℕ)) → length text ≡ 0 → start ≡ rest_after text (definition_length 0 text) → Some text ≡ start
 unfolding definition_length

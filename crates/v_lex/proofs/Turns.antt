@@ -3,8 +3,8 @@ use Rattle.std.proofs.Common.{◌≡◌, ℕ, zero, suc, ◌-◌, ◌<◌, Bool,
 use Rattle.std.specs.Prelude.{option_map, Vec}
 use Rattle.std.specs.Global.{Global}
 use Rattle.std.proofs.lemmas.List.{length-drop}
-use Rattle.wb_meaning.specs.Verilog.Lexical.{Piece, Front}
-use Rattle.wb_meaning.specs.Verilog.Text.{Reading, Outcome, Refusal, bad_token, then, with_piece, piece_then, front_at, text_from, macro_read, with_bad_directive, file_read, files_read}
+use Rattle.verilog_text.specs.Lexical.{Piece, Front}
+use Rattle.verilog_text.specs.Text.{Reading, Outcome, Refusal, bad_token, then, with_piece, piece_then, front_at, text_from, macro_read, with_bad_directive, file_read, files_read}
 use Rattle.v_lex.specs.View.{after}
 use Rattle.v_lex.specs.Reading.{front_in, refusal_of, IsFront, IsOutcome}
 use Rattle.v_lex.specs.declared.stop.Stop.{Stop}
@@ -22,7 +22,7 @@ inner_or d (Some (Some x)) = x
 inner_or d _ = d
 
 -- what a front that is found says of its length
-front_found : (bs rest : List ℕ) (p : Piece) (o : Front) → option_map (λ f. Some f) (after bs o) ≡ Some (Some (p, rest)) → (n : ℕ) × (o ≡ Some (p, n)) × (rest ≡ drop n bs)
+pub front_found : (bs rest : List ℕ) (p : Piece) (o : Front) → option_map (λ f. Some f) (after bs o) ≡ Some (Some (p, rest)) → (n : ℕ) × (o ≡ Some (p, n)) × (rest ≡ drop n bs)
 front_found bs rest p None e = absurd cc
 front_found bs rest p (Some f) e =
     let same : (f.0, drop f.1 bs) ≡ (p, rest) = ap (inner_or (p, rest)) e in

@@ -1,8 +1,8 @@
 -- What the call that gives the tokens of files says.
 use Rattle.std.specs.Prelude.{◌≡◌, List, Result, Ok, Err, ⊤, Vec}
 use Rattle.std.specs.Global.{Global}
-use Rattle.wb_meaning.specs.Verilog.Token as pure
-use Rattle.wb_meaning.specs.Verilog.Text as texts
+use Rattle.verilog_text.specs.Token as pure
+use Rattle.verilog_text.specs.Text as texts
 use Rattle.v_token.specs.View.{tokens_of}
 use Rattle.v_token.specs.declared.token.Token.{Token}
 use Rattle.v_lex.specs.Reading.{refusal_of}

@@ -1,7 +1,10 @@
 pub mod View
+pub mod Quotes
 pub mod Reading
 pub mod Nesting
 pub mod Notes
 pub mod Answer
 pub mod Places
+pub mod Sites
+pub mod Sited
 pub mod Placed

@@ -1,6 +1,6 @@
 -- What the stack of open constructs stands for.
 use Rattle.std.specs.Prelude.{List, map, reverse}
-use Rattle.wb_meaning.specs.Verilog.Text as pure
+use Rattle.verilog_text.specs.Text as pure
 use Rattle.v_lex.specs.declared.opening.Opening.{Opening}
 use Rattle.v_lex.specs.declared.opening.Opening.TheVariants as openings
 use Rattle.v_lex.specs.declared.opening.Step.{Step}

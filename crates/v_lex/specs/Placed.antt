@@ -5,10 +5,10 @@ use Rattle.std.specs.Ordering.{nat_cmp}
 use Rattle.std.specs.Cmp.Lexicographic.{slice_cmp}
 use Rattle.std.specs.BTreeMap.{BTreeMap, get_by}
 use Rattle.std.specs.List.{All, AllPairs}
-use Rattle.wb_meaning.specs.Value.{Name}
-use Rattle.wb_meaning.specs.Verilog.Text.{Reading}
+use Rattle.wb_values.specs.Value.{Name}
+use Rattle.verilog_text.specs.Text.{Reading}
 use Rattle.v_token.specs.declared.token.Token.{Token}
-use Rattle.v_lex.specs.View.{IsPart}
+use Rattle.v_lex.specs.View.{IsPart, IsTextOf}
 use Rattle.v_lex.specs.Places.{StandsAt, ComesTo, IsInMacro, IsSlice, IsOfMacro, EndsBefore, AreInOrder}
 use Rattle.v_lex.specs.declared.piece.Piece.{Piece}
 use Rattle.v_lex.specs.declared.piece.Piece.TheVariants as code
@@ -60,7 +60,7 @@ reached is_macro limit count = cond is_macro limit (limit + count)
 -- where the piece ends.
 abbrev pub IsPieceAt : List (List ℕ) → (file limit next : ℕ) → Piece → (here behind : Place) → Type 0
 IsPieceAt files file limit next (code.Token k t) here behind =
-    (limit ≤ next) × StandsAt files here.file here.start t.now
+    (limit ≤ next) × (StandsAt files here.file here.start t.now × IsTextOf k t.now)
     × (IsInMacro files here.file here.start (length t.now) ⊎ ((here.file ≡ file) × (here.start ≡ limit) × (limit + length t.now ≤ next)))
 IsPieceAt files file limit next (code.Define n t) here behind = (limit ≤ next) × IsMacroAt files behind.file (behind.start - length t.now) t.now
 IsPieceAt files file limit next _ here behind = limit ≤ next
@@ -68,7 +68,7 @@ IsPieceAt files file limit next _ here behind = limit ≤ next
 -- The text that is used is that one.
 abbrev pub IsUse : Result (Option Span) Stop → Option Span → Type 0
 IsUse (Ok (Some s)) o = o ≡ Some s
-IsUse (Ok None) o = ⊤
+IsUse (Ok None) o = o ≡ None
 IsUse (Err e) o = ⊤
 
 -- All stands in the files up to that place, and so does the text of a macro that is to be read.

@@ -1,9 +1,10 @@
 -- Where tokens stand in their files.
 use Rattle.std.specs.Prelude.{◌≡◌, ℕ, ◌+◌, ◌<◌, ◌≤◌, ◌⊎◌, false, List, length, take, drop, slice_get, Some, Ok}
-use Rattle.wb_meaning.specs.Value.{Name}
-use Rattle.wb_meaning.specs.Verilog.Lexical.{Piece, define}
-use Rattle.wb_meaning.specs.Verilog.Text.{Reading, first_reading, opened, without_byte_order_mark, files_read, with_piece, macro_read}
+use Rattle.wb_values.specs.Value.{Name}
+use Rattle.verilog_text.specs.Lexical.{Piece, define}
+use Rattle.verilog_text.specs.Text.{Reading, first_reading, opened, without_byte_order_mark, files_read, with_piece, macro_read}
 use Rattle.v_token.specs.declared.token.Token.{Token}
+use Rattle.v_lex.specs.View.{IsTextOf}
 use Rattle.v_lex.specs.Reading.{front_in}
 
 -- Files and places in them are told by numbers of 32 bits.
@@ -27,9 +28,9 @@ IsInMacro files file start count =
     (f text rest x : List ℕ) × (n : Name) × (r : Reading) × (slice_get files file ≡ Some f) × ComesTo files file r text × (front_in false r text ≡ Some (Some (define n x, rest)))
     × (length f ≤ start + length x + length rest) × (start + count + length rest ≤ length f)
 
--- A token's text is a slice of its file.
+-- A token's text is a slice of its file, and the text of what the token is.
 abbrev pub IsSlice : List (List ℕ) → Token → Type 0
-IsSlice files t = StandsAt files t.file t.start t.text.now
+IsSlice files t = StandsAt files t.file t.start t.text.now × IsTextOf t.kind t.text.now
 
 abbrev pub IsOfMacro : List (List ℕ) → Token → Type 0
 IsOfMacro files t = IsInMacro files t.file t.start (length t.text.now)

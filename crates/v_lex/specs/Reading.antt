@@ -5,10 +5,10 @@ use Rattle.std.specs.Borrow.{Bor}
 use Rattle.std.specs.Ordering.{nat_cmp}
 use Rattle.std.specs.Cmp.Lexicographic.{slice_cmp}
 use Rattle.std.specs.BTreeMap.{BTreeMap, get_by}
-use Rattle.wb_meaning.specs.Value.{Name}
-use Rattle.wb_meaning.specs.Verilog.Token as pure
-use Rattle.wb_meaning.specs.Verilog.Text as texts
-use Rattle.wb_meaning.specs.Verilog.Lexical as pieces
+use Rattle.wb_values.specs.Value.{Name}
+use Rattle.verilog_text.specs.Token as pure
+use Rattle.verilog_text.specs.Text as texts
+use Rattle.verilog_text.specs.Lexical as pieces
 use Rattle.v_token.specs.View.{tokens_of}
 use Rattle.v_token.specs.declared.token.Token.{Token}
 use Rattle.v_lex.specs.View.{piece_of, after}

@@ -1,11 +1,13 @@
 -- What the code's types stand for.
 use Rattle.std.specs.Prelude.{◌≡◌, ℕ, ◌-◌, Bool, not, List, [], ◌∷◌, length, take, drop, Option, Some, None, option_map, ⊤}
 use Rattle.std.proofs.Common.{Bor}
-use Rattle.wb_meaning.specs.Value.{Name}
-use Rattle.wb_meaning.specs.Verilog.Lexical as pieces
+use Rattle.wb_values.specs.Value.{Name}
+use Rattle.verilog_text.specs.Lexical as pieces
 use Rattle.v_lex.specs.declared.run.Run.{Run}
 use Rattle.v_lex.specs.declared.run.Run.TheVariants as runs
+use Rattle.verilog_text.specs.Token.{text_of}
 use Rattle.v_token.specs.View.{token_of_kind}
+use Rattle.v_token.specs.declared.token.TokenKind.{TokenKind}
 use Rattle.v_lex.specs.declared.piece.Piece.{Piece}
 use Rattle.v_lex.specs.declared.piece.Piece.TheVariants as code
 
@@ -59,9 +61,13 @@ name_after text n = option_map (λ k. (k.0, drop k.1 text)) n
 abbrev pub taken : List ℕ → (rest : List ℕ) → List ℕ
 taken text rest = take (length text - length rest) text
 
--- A token has that text; the piece is no definition.
+-- That is the text of a token of that kind: the spelling of an operator or a mark.
+abbrev pub IsTextOf : TokenKind → List ℕ → Type 0
+IsTextOf k t = t ≡ text_of (token_of_kind k t)
+
+-- A token has that text, and it is the token's; the piece is no definition.
 abbrev pub HasText : Piece → List ℕ → Type 0
-HasText (code.Token k t) w = t.now ≡ w
+HasText (code.Token k t) w = (t.now ≡ w) × IsTextOf k t.now
 HasText (code.Define n t) w = ⊥
 HasText _ w = ⊤
 
@@ -80,7 +86,7 @@ IsPlain _ = ⊤
 -- What a piece has of the text at whose front it stands: a token's text is all that is taken; the text of a definition stands in a
 -- directive and ends with it.
 abbrev pub IsPart : Piece → (text rest : List ℕ) → Type 0
-IsPart (code.Token k t) text rest = t.now ≡ taken text rest
+IsPart (code.Token k t) text rest = (t.now ≡ taken text rest) × IsTextOf k t.now
 IsPart (code.Define n t) text rest =
     (bs : List ℕ) × (text ≡ 96 ∷ bs) × ((j : ℕ) × (t.now ≡ taken (drop j bs) rest))
 IsPart _ text rest = ⊤

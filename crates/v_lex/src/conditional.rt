@@ -1,7 +1,7 @@
 //! The open conditionals.
 
 ghost use Rattle.std.specs.Prelude.{◌≡◌, ◌∷◌, IfOk, option_map, not};
-ghost use Rattle.wb_meaning.specs.Verilog.Text.{is_taken, leaves_out, first_branch, next_branch, is_defined};
+ghost use Rattle.verilog_text.specs.Text.{is_taken, leaves_out, first_branch, next_branch, is_defined};
 ghost use Rattle.v_lex.specs.Reading.{branch_of, conditional_of, conditionals_of, first_in, without_first};
 
 use crate::state::{Branch, Conditional};

@@ -1,8 +1,9 @@
 //! Directives at the front of a text.
 
-ghost use Rattle.std.specs.Prelude.{◌≡◌, Some, None, false, true, option_map, drop, codes, IfSome};
-ghost use Rattle.wb_meaning.specs.Value.{Name};
-ghost use Rattle.wb_meaning.specs.Verilog.Lexical.{Front, name_behind, named, undefine, if_defined, else_if, ends_definition, escape_length, passed_length, definition_length, definition_of, definition_at, conditional_at, is_line_word, directive_from, directive_of, directive_at, conditional_behind};
+ghost use Rattle.std.specs.Prelude.{◌≡◌, ◌∷◌, Some, None, false, true, option_map, drop, codes, IfSome, IsTrue};
+ghost use Rattle.wb_values.specs.Value.{Name};
+ghost use Rattle.verilog_text.specs.Lexical.{Front, name_behind, named, undefine, if_defined, else_if, or_zero, string_length, passed_length, continued_length, defined_length, ends_definition, definition_length, definition_of, definition_at, conditional_at, is_line_word, directive_from, directive_of, directive_at, conditional_behind};
+ghost use Rattle.v_lex.specs.Quotes.{are_alone};
 ghost use Rattle.v_lex.specs.View.{rest_after, front_of, after, or_front, name_after, HasDefinition, IsPlain};
 
 use crate::piece::Piece;
@@ -10,33 +11,65 @@ use crate::run::{Run, behind, split_run, taken_before};
 use crate::scan::{begins_with_byte, behind_closing, behind_string};
 use crate::words::begins_with_letter;
 
-/// What stands behind the bytes that a backslash takes along.
-#[tactic(auto, unfolding(wb_meaning::specs::Verilog::Lexical::escape_length))]
-fn behind_escape(more: &[u8]) -> &[u8]
-    ensures { result.now ≡ drop (escape_length more.now) more.now }
+/// What stands behind a quote and the string that it begins, if this is closed on its line; and in front of how many last bytes of
+/// that quotes have no partners.
+fn behind_quote(more: &[u8], alone: usize) -> (&[u8], usize)
+    requires { IsTrue (are_alone alone (34 ∷ more.now)) }
+    ensures rest { result.0.now ≡ drop (or_zero (string_length false more.now)) more.now }
+    ensures alone { IsTrue (are_alone result.1 result.0.now) }
 {
-    match more {
-        [] => more,
-        [b'\r', b'\n', ..] => behind(more, 2),
-        _ => behind(more, 1),
+    if alone <= more.len() {
+        return (more, alone);
+    }
+    match behind_string(more) {
+        Some(rest) => (rest, alone),
+        None => (more, split_run(Run::Line, more).1.len()),
     }
 }
 
-/// What stands behind all that is passed over with a byte, by what stands behind that byte.
-#[tactic(auto, unfolding(wb_meaning::specs::Verilog::Lexical::passed_length))]
-pub(crate) fn behind_passed(byte: u8, more: &[u8]) -> Option<&[u8]>
-    ensures { option_map (λ r. r.now) result ≡ rest_after more.now (passed_length byte more.now) }
+/// What stands behind all that is passed over with a byte, by what stands behind that byte; and in front of how many last bytes of that
+/// quotes have no partners.
+#[tactic(auto, unfolding(verilog_text::specs::Lexical::passed_length))]
+pub(crate) fn behind_passed(byte: u8, more: &[u8], alone: usize) -> Option<(&[u8], usize)>
+    requires { IsTrue (are_alone alone (byte ∷ more.now)) }
+    ensures rest { option_map (λ r. r.0.now) result ≡ rest_after more.now (passed_length byte more.now) }
+    ensures alone { IfSome result (λ r. IsTrue (are_alone r.1 r.0.now)) }
 {
     if byte == b'/' && begins_with_byte(more, b'*') {
-        return behind_closing(b'*', b'/', behind(more, 1));
+        let Some(rest) = behind_closing(b'*', b'/', behind(more, 1)) else {
+            return None;
+        };
+        return Some((rest, alone));
     }
     if byte == b'"' {
-        return Some(behind_string(more).unwrap_or(more));
+        return Some(behind_quote(more, alone));
     }
+    Some((more, alone))
+}
+
+/// What stands behind a line's end at the front, if there is one.
+#[tactic(auto, unfolding(verilog_text::specs::Lexical::continued_length))]
+fn behind_line_end(text: &[u8]) -> &[u8]
+    ensures { result.now ≡ drop (continued_length text.now) text.now }
+{
+    match text {
+        [b'\n', ..] => behind(text, 1),
+        [b'\r', b'\n', ..] => behind(text, 2),
+        _ => text,
+    }
+}
+
+/// The same for a byte of the text of a definition.
+#[tactic(auto, unfolding(verilog_text::specs::Lexical::defined_length))]
+fn behind_defined(byte: u8, more: &[u8], alone: usize) -> Option<(&[u8], usize)>
+    requires { IsTrue (are_alone alone (byte ∷ more.now)) }
+    ensures rest { option_map (λ r. r.0.now) result ≡ rest_after more.now (defined_length byte more.now) }
+    ensures alone { IfSome result (λ r. IsTrue (are_alone r.1 r.0.now)) }
+{
     if byte == b'\\' {
-        return Some(behind_escape(more));
+        return Some((behind_line_end(more), alone));
     }
-    Some(more)
+    behind_passed(byte, more, alone)
 }
 
 fn ends_definition(byte: u8, more: &[u8]) -> bool
@@ -50,6 +83,7 @@ fn behind_definition(text: &[u8]) -> Option<&[u8]>
     ensures { option_map (λ r. r.now) result ≡ rest_after text.now (definition_length 0 text.now) }
 {
     let mut rest = text;
+    let mut alone = text.len();
     loop {
         let Some((first, more)) = rest.split_first() else {
             return Some(rest);
@@ -57,15 +91,18 @@ fn behind_definition(text: &[u8]) -> Option<&[u8]>
         if ends_definition(*first, more) {
             return Some(rest);
         }
-        match behind_passed(*first, more) {
-            Some(passed) => rest = passed,
+        match behind_defined(*first, more, alone) {
+            Some((passed, alone_there)) => {
+                rest = passed;
+                alone = alone_there;
+            }
             None => return None,
         }
     }
 }
 
 /// The name behind a directive's word on its line, and what stands behind it.
-#[tactic(auto, unfolding(wb_meaning::specs::Verilog::Lexical::name_behind))]
+#[tactic(auto, unfolding(verilog_text::specs::Lexical::name_behind))]
 fn name_behind(text: &[u8]) -> Option<(&[u8], &[u8])>
     ensures { option_map (λ n. (n.0.now, n.1.now)) result ≡ name_after text.now (name_behind text.now) }
 {
@@ -125,7 +162,7 @@ fn definition_text<'t>(name: &'t [u8], text: &'t [u8]) -> Option<(Piece<'t>, &'t
     }
 }
 
-#[tactic(auto, unfolding(wb_meaning::specs::Verilog::Lexical::definition_at))]
+#[tactic(auto, unfolding(verilog_text::specs::Lexical::definition_at))]
 fn definition(text: &[u8]) -> Option<(Piece<'_>, &[u8])>
     ensures front { option_map front_of result ≡ after text.now (definition_at text.now) }
     ensures part { IfSome result (λ f. HasDefinition f.0 text.now f.1.now) }
@@ -137,7 +174,7 @@ fn definition(text: &[u8]) -> Option<(Piece<'_>, &[u8])>
 }
 
 /// The directive of a conditional, where the word is one of theirs.
-#[tactic(auto, unfolding(wb_meaning::specs::Verilog::Lexical::conditional_at))]
+#[tactic(auto, unfolding(verilog_text::specs::Lexical::conditional_at))]
 fn conditional<'t>(word: &[u8], text: &'t [u8]) -> Option<(Piece<'t>, &'t [u8])>
     ensures front { (other : Front) → after text.now (conditional_at word.now text.now other) ≡ or_front (option_map front_of result) (after text.now other) }
     ensures plain { IfSome result (λ f. IsPlain f.0) }
@@ -172,7 +209,7 @@ fn is_line_word(word: &[u8]) -> bool
 }
 
 /// The other directives, and uses of macros.
-#[tactic(auto, unfolding(wb_meaning::specs::Verilog::Lexical::directive_from))]
+#[tactic(auto, unfolding(verilog_text::specs::Lexical::directive_from))]
 fn other_directive<'t>(word: &'t [u8], text: &'t [u8]) -> Option<(Piece<'t>, &'t [u8])>
     ensures front { option_map front_of result ≡ after text.now (directive_from word.now text.now) }
     ensures part { IfSome result (λ f. HasDefinition f.0 text.now f.1.now) }
@@ -200,7 +237,7 @@ fn directive_of<'t>(word: &'t [u8], text: &'t [u8]) -> Option<(Piece<'t>, &'t [u
 }
 
 /// A directive or the use of a macro, by what stands behind its backquote.
-#[tactic(auto, unfolding(wb_meaning::specs::Verilog::Lexical::directive_at))]
+#[tactic(auto, unfolding(verilog_text::specs::Lexical::directive_at))]
 pub(crate) fn directive(text: &[u8]) -> Option<(Piece<'_>, &[u8])>
     ensures front { option_map front_of result ≡ after text.now (directive_at text.now) }
     ensures part { IfSome result (λ f. HasDefinition f.0 text.now f.1.now) }
@@ -213,7 +250,7 @@ pub(crate) fn directive(text: &[u8]) -> Option<(Piece<'_>, &[u8])>
 }
 
 /// The same in text that a conditional leaves out.
-#[tactic(auto, unfolding(wb_meaning::specs::Verilog::Lexical::conditional_behind))]
+#[tactic(auto, unfolding(verilog_text::specs::Lexical::conditional_behind))]
 pub(crate) fn left_out_directive(text: &[u8]) -> Option<(Piece<'_>, &[u8])>
     ensures front { option_map front_of result ≡ after text.now (conditional_behind text.now) }
     ensures plain { IfSome result (λ f. IsPlain f.0) }

@@ -1,19 +1,22 @@
 //! Reading files one after the other.
 
 ghost use Rattle.std.specs.Prelude.{◌≡◌, ◌-◌, ℕ, List, Some, map, min, length, take, slice_get, Ok, IfOk};
-ghost use Rattle.wb_meaning.specs.Verilog.Text.{first_reading, without_byte_order_mark, opened, closed, file_read, files_read, text_from, macro_read};
+ghost use Rattle.verilog_text.specs.Text.{first_reading, without_byte_order_mark, opened, closed, file_read, files_read, text_from, macro_read};
 ghost use Rattle.v_lex.specs.Reading.{reading_of, IsOutcome};
 ghost use Rattle.v_lex.specs.Places.{AreShort};
+ghost use Rattle.v_lex.specs.Sites.{first_sites, file_sites, files_sites};
+ghost use Rattle.v_lex.specs.Sited.{sites_of};
 ghost use Rattle.v_lex.specs.Placed.{Keeps, IsReaderPlaced};
 
 use crate::conditional::innermost;
 use crate::place::{Place, short};
+use crate::reading::whole_span;
 use crate::state::{Reader, Span};
 use crate::stop::Stop;
 use std::alloc::Global;
 use std::collections::BTreeMap;
 
-#[tactic(auto, unfolding(wb_meaning::specs::Verilog::Text::without_byte_order_mark))]
+#[tactic(auto, unfolding(verilog_text::specs::Text::without_byte_order_mark))]
 fn without_byte_order_mark(bytes: &[u8]) -> &[u8]
     ensures { result.now ≡ without_byte_order_mark bytes.now }
 {
@@ -30,13 +33,11 @@ fn file_span(number: u32, bytes: &[u8]) -> Span<'_>
     ensures start { result.place.start ≡ min (length bytes.now - length result.text.now) 4294967295 }
 {
     let text = without_byte_order_mark(bytes);
-    Span {
-        text,
-        place: Place {
-            file: number,
-            start: short(bytes.len().saturating_sub(text.len())),
-        },
-    }
+    let place = Place {
+        file: number,
+        start: short(bytes.len().saturating_sub(text.len())),
+    };
+    whole_span(text, place)
 }
 
 /// Where a file ends.
@@ -51,6 +52,7 @@ impl<'s> Reader<'s> {
     pub(crate) fn new(alloc: Global) -> Reader<'s>
         ensures reading { reading_of result ≡ first_reading }
         ensures places { (files : List (List ℕ)) → IsReaderPlaced files 0 0 result }
+        ensures sites { sites_of result ≡ first_sites }
     {
         Reader {
             macros: BTreeMap::new(alloc),
@@ -63,7 +65,7 @@ impl<'s> Reader<'s> {
         }
     }
 
-    #[tactic(auto, unfolding(wb_meaning::specs::Verilog::Text::opened))]
+    #[tactic(auto, unfolding(verilog_text::specs::Text::opened))]
     fn begin_file(&mut self)
         ensures reading { reading_of self.new ≡ opened (reading_of self.old) }
         ensures kept { Keeps self.old self.new }
@@ -71,7 +73,7 @@ impl<'s> Reader<'s> {
         self.conditionals.clear();
     }
 
-    #[tactic(auto, unfolding(wb_meaning::specs::Verilog::Text::closed))]
+    #[tactic(auto, unfolding(verilog_text::specs::Text::closed))]
     fn end_file(&mut self, place: Place)
         ensures reading { reading_of self.new ≡ closed (reading_of self.old) }
         ensures kept { Keeps self.old self.new }
@@ -81,10 +83,11 @@ impl<'s> Reader<'s> {
         }
     }
 
-    #[tactic(auto, unfolding(wb_meaning::specs::Verilog::Text::file_read))]
+    #[tactic(auto, unfolding(verilog_text::specs::Text::file_read))]
     fn read_file(&mut self, number: u32, bytes: &'s [u8]) -> Result<(), Stop>
         ensures outcome { IsOutcome result (reading_of self.new) (file_read bytes.now (reading_of self.old)) }
         ensures places { (files : List (List ℕ)) → AreShort files → slice_get files number ≡ Some bytes.now → files_read (take number files) first_reading ≡ Ok (reading_of self.old) → IsReaderPlaced files number 0 self.old → IfOk result (λ _. IsReaderPlaced files number (length bytes.now) self.new) }
+        ensures sites { (files : List (List ℕ)) → AreShort files → slice_get files number ≡ Some bytes.now → files_read (take number files) first_reading ≡ Ok (reading_of self.old) → IsReaderPlaced files number 0 self.old → IfOk result (λ _. file_sites number bytes.now (reading_of self.old) (sites_of self.old) ≡ sites_of self.new) }
     {
         self.begin_file();
         self.read_text(64, false, file_span(number, bytes))?;
@@ -92,10 +95,11 @@ impl<'s> Reader<'s> {
         Ok(())
     }
 
-    #[tactic(auto, unfolding(wb_meaning::specs::Verilog::Text::files_read))]
+    #[tactic(auto, unfolding(verilog_text::specs::Text::files_read))]
     pub(crate) fn read_files(&mut self, files: &'s [Vec<u8>]) -> Result<(), Stop>
         ensures outcome { IsOutcome result (reading_of self.new) (files_read (map (λ f. f.items) files.now) (reading_of self.old)) }
         ensures places { AreShort (map (λ f. f.items) files.now) → reading_of self.old ≡ first_reading → IsReaderPlaced (map (λ f. f.items) files.now) 0 0 self.old → IfOk result (λ _. IsReaderPlaced (map (λ f. f.items) files.now) (length files.now) 0 self.new) }
+        ensures sites { AreShort (map (λ f. f.items) files.now) → reading_of self.old ≡ first_reading → IsReaderPlaced (map (λ f. f.items) files.now) 0 0 self.old → IfOk result (λ _. files_sites 0 (map (λ f. f.items) files.now) (reading_of self.old) (sites_of self.old) ≡ sites_of self.new) }
     {
         for (number, file) in files.iter().enumerate() {
             self.read_file(short(number), file)?;

@@ -1,7 +1,8 @@
 //! The front of a text.
 
-ghost use Rattle.std.specs.Prelude.{◌≡◌, ◌∷◌, false, Some, None, option_map, slice_get, IfSome};
-ghost use Rattle.wb_meaning.specs.Verilog.Lexical.{left_out, mark_of_one, mark_of_two, mark_of_three, longest, mark_at, slash_at, is_star_alone, bracket_at, string_length, if_closed, read_at, left_out_at};
+ghost use Rattle.std.specs.Prelude.{◌≡◌, ◌∷◌, false, Some, None, option_map, slice_get, IfSome, IsTrue};
+ghost use Rattle.verilog_text.specs.Lexical.{left_out, mark_of_one, mark_of_two, mark_of_three, longest, mark_at, slash_at, is_star_alone, bracket_at, string_length, if_closed, read_at, left_out_at};
+ghost use Rattle.v_lex.specs.Quotes.{are_alone};
 ghost use Rattle.v_lex.specs.View.{front_of, after, at_front, taken, HasText, IsPart, IsPlain};
 
 use crate::ascii::ascii_before;
@@ -78,7 +79,7 @@ fn long_mark<'t>(
 }
 
 /// The longest mark at the front.
-#[tactic(auto, unfolding(wb_meaning::specs::Verilog::Lexical::mark_at))]
+#[tactic(auto, unfolding(verilog_text::specs::Lexical::mark_at))]
 fn mark(text: &[u8]) -> Option<(Piece<'_>, &[u8])>
     ensures front { option_map front_of result ≡ at_front mark_at text.now }
     ensures part { IfSome result (λ f. HasText f.0 (taken text.now f.1.now)) }
@@ -92,7 +93,7 @@ fn mark(text: &[u8]) -> Option<(Piece<'_>, &[u8])>
 }
 
 /// A comment or an operator, by what stands behind its slash.
-#[tactic(auto, unfolding(wb_meaning::specs::Verilog::Lexical::slash_at))]
+#[tactic(auto, unfolding(verilog_text::specs::Lexical::slash_at))]
 fn slash<'t>(text: &'t [u8], more: &'t [u8]) -> Option<(Piece<'t>, &'t [u8])>
     requires { text.now ≡ 47 ∷ more.now }
     ensures front { option_map front_of result ≡ after more.now (slash_at more.now) }
@@ -114,7 +115,7 @@ fn slash<'t>(text: &'t [u8], more: &'t [u8]) -> Option<(Piece<'t>, &'t [u8])>
     Some((alone, more))
 }
 
-#[tactic(auto, unfolding(wb_meaning::specs::Verilog::Lexical::is_star_alone))]
+#[tactic(auto, unfolding(verilog_text::specs::Lexical::is_star_alone))]
 fn is_star_alone(is_macro: bool, text: &[u8]) -> bool
     ensures { result ≡ is_star_alone is_macro text.now }
 {
@@ -122,7 +123,7 @@ fn is_star_alone(is_macro: bool, text: &[u8]) -> bool
 }
 
 /// An attribute or a bracket, by what stands behind the bracket.
-#[tactic(auto, unfolding(wb_meaning::specs::Verilog::Lexical::bracket_at))]
+#[tactic(auto, unfolding(verilog_text::specs::Lexical::bracket_at))]
 fn bracket<'t>(is_macro: bool, text: &'t [u8], more: &'t [u8]) -> Option<(Piece<'t>, &'t [u8])>
     requires { text.now ≡ 40 ∷ more.now }
     ensures front { option_map front_of result ≡ after more.now (bracket_at is_macro more.now) }
@@ -156,7 +157,7 @@ fn string(more: &[u8]) -> Option<(Piece<'_>, &[u8])>
 }
 
 /// The front of a text that is read, the text of a macro or a file.
-#[tactic(auto, unfolding(wb_meaning::specs::Verilog::Lexical::read_at))]
+#[tactic(auto, unfolding(verilog_text::specs::Lexical::read_at))]
 pub(crate) fn read_front(is_macro: bool, text: &[u8]) -> Option<(Piece<'_>, &[u8])>
     ensures front { option_map front_of result ≡ at_front (read_at is_macro) text.now }
     ensures part { IfSome result (λ f. IsPart f.0 text.now f.1.now) }
@@ -185,23 +186,28 @@ pub(crate) fn read_front(is_macro: bool, text: &[u8]) -> Option<(Piece<'_>, &[u8
     }
 }
 
-/// The front of a text that a conditional leaves out.
-#[tactic(auto, unfolding(wb_meaning::specs::Verilog::Lexical::left_out_at))]
-pub(crate) fn left_out_front(text: &[u8]) -> Option<(Piece<'_>, &[u8])>
-    ensures front { option_map front_of result ≡ at_front left_out_at text.now }
+/// The front of a text that a conditional leaves out, where quotes in front of so many last bytes have no partners; the same of the rest.
+#[tactic(auto, unfolding(verilog_text::specs::Lexical::left_out_at))]
+pub(crate) fn left_out_front(text: &[u8], alone: usize) -> Option<(Piece<'_>, &[u8], usize)>
+    requires { IsTrue (are_alone alone text.now) }
+    ensures front { option_map (λ f. front_of (f.0, f.1)) result ≡ at_front left_out_at text.now }
     ensures part { IfSome result (λ f. IsPlain f.0) }
+    ensures alone { IfSome result (λ f. IsTrue (are_alone f.2 f.1.now)) }
 {
     let Some((first, more)) = text.split_first() else {
         return None;
     };
     if *first == b'`' {
-        return left_out_directive(more);
+        let Some(found) = left_out_directive(more) else {
+            return None;
+        };
+        return Some((found.0, found.1, alone));
     }
     if *first == b'/' && begins_with_byte(more, b'/') {
-        return Some((Piece::Nothing, split_run(Run::Line, more).1));
+        return Some((Piece::Nothing, split_run(Run::Line, more).1, alone));
     }
-    match behind_passed(*first, more) {
-        Some(rest) => Some((Piece::Nothing, rest)),
+    match behind_passed(*first, more, alone) {
+        Some((rest, alone_there)) => Some((Piece::Nothing, rest, alone_there)),
         None => None,
     }
 }

@@ -26,6 +26,3 @@ pub use answer::{note_at, tokens};
 pub use note::Note;
 pub use stop::{LexKind, LexRefusal, LexStop};
 pub use v_token::token::{Mark, Token, TokenKind};
-
-#[cfg(test)]
-mod tests;

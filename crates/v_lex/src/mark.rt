@@ -1,16 +1,18 @@
 //! The marks at the front of a text.
 
-ghost use Rattle.std.specs.Prelude.{◌≡◌, true, ◌&&◌, option_map, IfSome};
+ghost use Rattle.std.specs.Prelude.{◌≡◌, ◌∷◌, [], true, ◌&&◌, option_map, IfSome};
 ghost use Rattle.std.specs.Char.{is_ascii};
-ghost use Rattle.wb_meaning.specs.Verilog.Lexical.{mark_of_one, mark_of_two, mark_of_three};
+ghost use Rattle.verilog_text.specs.Token.{spelling_of};
+ghost use Rattle.verilog_text.specs.Lexical.{mark_of_one, mark_of_two, mark_of_three};
 ghost use Rattle.v_token.specs.View.{mark_of};
 
 use v_token::token::Mark;
 
-#[tactic(auto, unfolding(wb_meaning::specs::Verilog::Lexical::mark_of_one))]
+#[tactic(auto, unfolding(verilog_text::specs::Lexical::mark_of_one))]
 pub(crate) fn single(byte: u8) -> Option<Mark>
     ensures mark { option_map mark_of result ≡ mark_of_one byte }
     ensures ascii { IfSome result (λ _. is_ascii byte ≡ true) }
+    ensures text { IfSome result (λ m. spelling_of (mark_of m) ≡ byte ∷ []) }
 {
     match byte {
         b'(' => Some(Mark::LeftParenthesis),
@@ -43,10 +45,11 @@ pub(crate) fn single(byte: u8) -> Option<Mark>
     }
 }
 
-#[tactic(auto, unfolding(wb_meaning::specs::Verilog::Lexical::mark_of_two))]
+#[tactic(auto, unfolding(verilog_text::specs::Lexical::mark_of_two))]
 pub(crate) fn double(byte: u8, next: u8) -> Option<Mark>
     ensures mark { option_map mark_of result ≡ mark_of_two byte next }
     ensures ascii { IfSome result (λ _. (is_ascii byte && is_ascii next) ≡ true) }
+    ensures text { IfSome result (λ m. spelling_of (mark_of m) ≡ byte ∷ next ∷ []) }
 {
     match (byte, next) {
         (b'+', b':') => Some(Mark::PlusColon),
@@ -68,10 +71,11 @@ pub(crate) fn double(byte: u8, next: u8) -> Option<Mark>
     }
 }
 
-#[tactic(auto, unfolding(wb_meaning::specs::Verilog::Lexical::mark_of_three))]
+#[tactic(auto, unfolding(verilog_text::specs::Lexical::mark_of_three))]
 pub(crate) fn triple(byte: u8, next: u8, third: u8) -> Option<Mark>
     ensures mark { option_map mark_of result ≡ mark_of_three byte next third }
     ensures ascii { IfSome result (λ _. (is_ascii byte && (is_ascii next && is_ascii third)) ≡ true) }
+    ensures text { IfSome result (λ m. spelling_of (mark_of m) ≡ byte ∷ next ∷ third ∷ []) }
 {
     match (byte, next, third) {
         (b'<', b'<', b'<') => Some(Mark::TripleLess),

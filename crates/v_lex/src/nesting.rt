@@ -2,7 +2,7 @@
 
 ghost use Rattle.std.specs.Prelude.{◌≡◌, ◌∷◌, ℕ, [], IfOk, is_some, option_map};
 ghost use Rattle.std.specs.List.{list_any};
-ghost use Rattle.wb_meaning.specs.Verilog.Text.{is_same_opening, or_all, behind_nearest, without_statements, without_choice, step_of_mark, step_of_word, step_of, open_behind, is_too_deep};
+ghost use Rattle.verilog_text.specs.Text.{is_same_opening, or_all, behind_nearest, without_statements, without_choice, step_of_mark, step_of_word, step_of, open_behind, is_too_deep};
 ghost use Rattle.v_token.specs.View.{mark_of, token_of, tokens_of};
 ghost use Rattle.v_lex.specs.Reading.{first_in, without_first};
 ghost use Rattle.v_lex.specs.Nesting.{opening_of, openings_of, step_view};
@@ -60,7 +60,7 @@ fn step_of_mark(mark: Mark) -> Step
     }
 }
 
-#[tactic(auto, unfolding(wb_meaning::specs::Verilog::Text::step_of_word))]
+#[tactic(auto, unfolding(verilog_text::specs::Text::step_of_word))]
 fn step_of_word(word: &[u8]) -> Step
     ensures { step_view result ≡ step_of_word word.now }
 {
@@ -148,7 +148,7 @@ fn end_choice(stack: &mut Vec<Opening>)
     }
 }
 
-#[tactic(auto, unfolding(wb_meaning::specs::Verilog::Text::open_behind))]
+#[tactic(auto, unfolding(verilog_text::specs::Text::open_behind))]
 fn take(stack: &mut Vec<Opening>, step: Step) -> Result<(), AllocError>
     ensures { IfOk result (λ _. openings_of stack.new.items ≡ open_behind (step_view step) (openings_of stack.old.items)) }
 {
@@ -171,7 +171,7 @@ fn take(stack: &mut Vec<Opening>, step: Step) -> Result<(), AllocError>
 }
 
 /// Where more than 200 constructs are open for the first time.
-#[tactic(auto, unfolding(wb_meaning::specs::Verilog::Text::is_too_deep))]
+#[tactic(auto, unfolding(verilog_text::specs::Text::is_too_deep))]
 pub(crate) fn too_deep(alloc: Global, tokens: &[Token]) -> Result<Option<Place>, AllocError>
     ensures { IfOk result (λ p. is_some p ≡ is_too_deep [] (tokens_of tokens.now)) }
 {

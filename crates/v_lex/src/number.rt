@@ -2,8 +2,8 @@
 
 ghost use Rattle.std.specs.Prelude.{◌≡◌, ◌==◌, ◌||◌, true, option_map, IfSome};
 ghost use Rattle.std.specs.List.{list_all, list_any};
-ghost use Rattle.wb_meaning.specs.ModelFile.Names.{is_digit, begins_with};
-ghost use Rattle.wb_meaning.specs.Verilog.Lexical.{fraction_length, signed_length, exponent_length, real_length, number_at, is_base, is_unknown_digit, is_hexadecimal_digit, is_digit_of, are_digits_of, digits_length, base_length, behind_quote, based_at};
+ghost use Rattle.wb_values.specs.Names.{is_digit, begins_with};
+ghost use Rattle.verilog_text.specs.Lexical.{fraction_length, signed_length, exponent_length, real_length, number_at, is_base, is_unknown_digit, is_hexadecimal_digit, is_digit_of, are_digits_of, digits_length, base_length, behind_quote, based_at};
 ghost use Rattle.v_lex.specs.View.{rest_after, front_of, at_front, taken, HasText};
 
 use crate::ascii::ascii_text;
@@ -22,7 +22,7 @@ fn begins_with_digit(text: &[u8]) -> bool
 }
 
 /// What stands behind the point and the digits of a real number.
-#[tactic(auto, unfolding(wb_meaning::specs::Verilog::Lexical::fraction_length))]
+#[tactic(auto, unfolding(verilog_text::specs::Lexical::fraction_length))]
 fn behind_fraction(text: &[u8]) -> Option<&[u8]>
     ensures { option_map (λ r. r.now) result ≡ rest_after text.now (fraction_length text.now) }
 {
@@ -37,7 +37,7 @@ fn behind_fraction(text: &[u8]) -> Option<&[u8]>
 }
 
 /// What stands behind digits, perhaps behind a sign.
-#[tactic(auto, unfolding(wb_meaning::specs::Verilog::Lexical::signed_length))]
+#[tactic(auto, unfolding(verilog_text::specs::Lexical::signed_length))]
 fn behind_signed(text: &[u8]) -> Option<&[u8]>
     ensures { option_map (λ r. r.now) result ≡ rest_after text.now (signed_length text.now) }
 {
@@ -52,7 +52,7 @@ fn behind_signed(text: &[u8]) -> Option<&[u8]>
 }
 
 /// What stands behind the exponent of a real number.
-#[tactic(auto, unfolding(wb_meaning::specs::Verilog::Lexical::exponent_length))]
+#[tactic(auto, unfolding(verilog_text::specs::Lexical::exponent_length))]
 fn behind_exponent(text: &[u8]) -> Option<&[u8]>
     ensures { option_map (λ r. r.now) result ≡ rest_after text.now (exponent_length text.now) }
 {
@@ -67,7 +67,7 @@ fn behind_exponent(text: &[u8]) -> Option<&[u8]>
 }
 
 /// What stands behind the fraction and the exponent that make a real number of the digits in front of them.
-#[tactic(auto, unfolding(wb_meaning::specs::Verilog::Lexical::real_length))]
+#[tactic(auto, unfolding(verilog_text::specs::Lexical::real_length))]
 fn behind_real(text: &[u8]) -> Option<&[u8]>
     ensures { option_map (λ r. r.now) result ≡ rest_after text.now (real_length text.now) }
 {
@@ -78,7 +78,7 @@ fn behind_real(text: &[u8]) -> Option<&[u8]>
 }
 
 /// A plain decimal or a real number, where a digit stands first.
-#[tactic(auto, unfolding(wb_meaning::specs::Verilog::Lexical::number_at))]
+#[tactic(auto, unfolding(verilog_text::specs::Lexical::number_at))]
 pub(crate) fn number(text: &[u8]) -> Option<(Piece<'_>, &[u8])>
     requires { begins_with is_digit text.now ≡ true }
     ensures front { option_map front_of result ≡ at_front number_at text.now }
@@ -122,7 +122,7 @@ fn is_hexadecimal_digit(byte: u8) -> bool
     is_digit(byte) || (97 <= byte && byte <= 102) || (65 <= byte && byte <= 70)
 }
 
-#[tactic(auto, unfolding(wb_meaning::specs::Verilog::Lexical::is_digit_of))]
+#[tactic(auto, unfolding(verilog_text::specs::Lexical::is_digit_of))]
 fn is_digit_of(base: u8, byte: u8) -> bool
     ensures { result ≡ is_digit_of base byte }
 {
@@ -159,7 +159,7 @@ fn has_no_other(base: u8, digits: &[u8]) -> bool
     digits.iter().all(|digit| is_digit_or_line(base, *digit))
 }
 
-#[tactic(auto, unfolding(wb_meaning::specs::Verilog::Lexical::are_digits_of))]
+#[tactic(auto, unfolding(verilog_text::specs::Lexical::are_digits_of))]
 fn are_digits_of(base: u8, digits: &[u8]) -> bool
     ensures { result ≡ are_digits_of base digits.now }
 {
@@ -167,7 +167,7 @@ fn are_digits_of(base: u8, digits: &[u8]) -> bool
 }
 
 /// What stands behind blanks and the digits of a base.
-#[tactic(auto, unfolding(wb_meaning::specs::Verilog::Lexical::digits_length))]
+#[tactic(auto, unfolding(verilog_text::specs::Lexical::digits_length))]
 fn behind_digits(is_macro: bool, base: u8, text: &[u8]) -> Option<&[u8]>
     ensures { option_map (λ r. r.now) result ≡ rest_after text.now (digits_length is_macro base text.now) }
 {
@@ -180,7 +180,7 @@ fn behind_digits(is_macro: bool, base: u8, text: &[u8]) -> Option<&[u8]>
 }
 
 /// What stands behind a base, blanks and digits.
-#[tactic(auto, unfolding(wb_meaning::specs::Verilog::Lexical::base_length))]
+#[tactic(auto, unfolding(verilog_text::specs::Lexical::base_length))]
 fn behind_base(is_macro: bool, text: &[u8]) -> Option<&[u8]>
     ensures { option_map (λ r. r.now) result ≡ rest_after text.now (base_length is_macro text.now) }
 {
@@ -195,7 +195,7 @@ fn behind_base(is_macro: bool, text: &[u8]) -> Option<&[u8]>
 }
 
 /// What stands behind a based number, by what stands behind its quote.
-#[tactic(auto, unfolding(wb_meaning::specs::Verilog::Lexical::behind_quote))]
+#[tactic(auto, unfolding(verilog_text::specs::Lexical::behind_quote))]
 fn behind_quote(is_macro: bool, text: &[u8]) -> Option<&[u8]>
     ensures { option_map (λ r. r.now) result ≡ rest_after text.now (behind_quote is_macro text.now) }
 {
@@ -210,7 +210,7 @@ fn behind_quote(is_macro: bool, text: &[u8]) -> Option<&[u8]>
 }
 
 /// A based number without its size, where a quote stands first.
-#[tactic(auto, unfolding(wb_meaning::specs::Verilog::Lexical::based_at))]
+#[tactic(auto, unfolding(verilog_text::specs::Lexical::based_at))]
 pub(crate) fn based(is_macro: bool, text: &[u8]) -> Option<(Piece<'_>, &[u8])>
     requires { begins_with (λ b. b == 39) text.now ≡ true }
     ensures front { option_map front_of result ≡ at_front (based_at is_macro) text.now }

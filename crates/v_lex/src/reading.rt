@@ -1,13 +1,16 @@
 //! Reading piece by piece.
 
-ghost use Rattle.std.specs.Prelude.{◌≡◌, ◌==◌, ◌||◌, ◌+◌, ◌++◌, ◌∷◌, [], nat_le, cond, ℕ, List, Some, None, option_map, length, IfOk, IfSome};
+ghost use Rattle.std.specs.Prelude.{◌≡◌, ◌==◌, ◌||◌, ◌+◌, ◌++◌, ◌∷◌, [], nat_le, cond, ℕ, List, Some, None, option_map, length, IfOk, IfSome, IsTrue};
 ghost use Rattle.std.specs.List.{list_all};
-ghost use Rattle.wb_meaning.specs.Value.{same_name};
-ghost use Rattle.wb_meaning.specs.Verilog.Text.{most_used, Reading, Outcome, with_bad_directive, with_left_out, with_macro, with_token, is_zero, is_based, is_defined, begun, continued, ended, with_text_of, with_piece, front_at, text_from, macro_read};
+ghost use Rattle.wb_values.specs.Value.{same_name};
+ghost use Rattle.verilog_text.specs.Text.{most_used, Reading, Outcome, with_bad_directive, with_left_out, with_macro, with_token, is_zero, is_based, is_defined, begun, continued, ended, with_text_of, with_piece, front_at, text_from, macro_read};
 ghost use Rattle.v_token.specs.View.{token_of_kind, token_of};
+ghost use Rattle.v_lex.specs.Quotes.{are_alone};
 ghost use Rattle.v_lex.specs.View.{piece_of, front_of, at_front, IsPart};
 ghost use Rattle.v_lex.specs.Reading.{reading_of, IsOutcome, Leaves, IsTaken, IsFront, front_in};
 ghost use Rattle.v_lex.specs.Places.{AreShort};
+ghost use Rattle.v_lex.specs.Sites.{Site, Sites, piece_sites, sites_from, macro_sites};
+ghost use Rattle.v_lex.specs.Sited.{site_of, sites_of, IsSited, LeavesSites};
 ghost use Rattle.v_lex.specs.Placed.{span_under, IsMacroText, IsReaderPlaced, Keeps, IsTextAt, reached, IsPieceAt, IsUse, IsTakenAt, IsFrontAt};
 
 use crate::conditional::{enter, first_branch, innermost, leave, leaves_out, next_branch};
@@ -50,7 +53,7 @@ fn is_based(kind: TokenKind, text: &[u8]) -> bool
 }
 
 /// The bytes of uses with those of one more, up to the most that there may be.
-#[tactic(auto, unfolding(wb_meaning::specs::Verilog::Text::most_used))]
+#[tactic(auto, unfolding(verilog_text::specs::Text::most_used))]
 fn total_used(used: usize, more: usize) -> Option<usize>
     ensures { result ≡ cond (nat_le (used + more) most_used) (Some (used + more)) None }
 {
@@ -59,6 +62,18 @@ fn total_used(used: usize, more: usize) -> Option<usize>
         Some(total)
     } else {
         None
+    }
+}
+
+/// A text at its place, of whose quotes nothing is known.
+pub(crate) fn whole_span(text: &[u8], place: Place) -> Span<'_>
+    ensures text { result.text.now ≡ text.now }
+    ensures place { result.place ≡ place }
+{
+    Span {
+        text,
+        place,
+        alone: text.len(),
     }
 }
 
@@ -84,7 +99,7 @@ impl<'s> Reader<'s> {
         }
     }
 
-    #[tactic(auto, unfolding(wb_meaning::specs::Verilog::Text::with_token, wb_meaning::specs::Verilog::Text::most_tokens))]
+    #[tactic(auto, unfolding(verilog_text::specs::Text::with_token, verilog_text::specs::Text::most_tokens))]
     fn push(&mut self, token: Token<'s>) -> Result<(), Stop>
         ensures outcome { IsOutcome result (reading_of self.new) (with_token (token_of token.entry) (reading_of self.old)) }
         ensures tokens { IfOk result (λ _. self.new.tokens.items ≡ self.old.tokens.items ++ token.entry ∷ []) }
@@ -123,7 +138,7 @@ impl<'s> Reader<'s> {
         }
     }
 
-    #[tactic(auto, unfolding(wb_meaning::specs::Verilog::Text::begun))]
+    #[tactic(auto, unfolding(verilog_text::specs::Text::begun))]
     fn begin(&mut self, holds: bool) -> Result<(), Stop>
         ensures reading { Leaves result (reading_of self.new) (begun holds (reading_of self.old)) }
         ensures kept { Keeps self.old self.new }
@@ -139,7 +154,7 @@ impl<'s> Reader<'s> {
         Ok(())
     }
 
-    #[tactic(auto, unfolding(wb_meaning::specs::Verilog::Text::continued))]
+    #[tactic(auto, unfolding(verilog_text::specs::Text::continued))]
     fn go_on(&mut self, is_last: bool, holds: bool, place: Place) -> Result<(), Stop>
         ensures reading { Leaves result (reading_of self.new) (continued is_last holds (reading_of self.old)) }
         ensures kept { Keeps self.old self.new }
@@ -164,7 +179,7 @@ impl<'s> Reader<'s> {
         Ok(())
     }
 
-    #[tactic(auto, unfolding(wb_meaning::specs::Verilog::Text::ended))]
+    #[tactic(auto, unfolding(verilog_text::specs::Text::ended))]
     fn end(&mut self, place: Place)
         ensures reading { reading_of self.new ≡ ended (reading_of self.old) }
         ensures kept { Keeps self.old self.new }
@@ -210,7 +225,7 @@ impl<'s> Reader<'s> {
     }
 
     /// Takes a piece; hands out the text of a macro that is used.
-    #[tactic(auto, unfolding(wb_meaning::specs::Verilog::Text::with_piece))]
+    #[tactic(auto, unfolding(verilog_text::specs::Text::with_piece))]
     fn take(
         &mut self,
         piece: Piece<'s>,
@@ -219,6 +234,7 @@ impl<'s> Reader<'s> {
     ) -> Result<Option<Span<'s>>, Stop>
         ensures taken { (read : List ℕ → Reading → Outcome) → IsTaken read result (reading_of self.new) (with_piece read (piece_of piece.entry) (reading_of self.old)) }
         ensures places { (files : List (List ℕ)) (file limit next : ℕ) → AreShort files → IsPieceAt files file limit next piece.entry here behind → IsReaderPlaced files file limit self.old → IsTakenAt result files file next self.new }
+        ensures sites { (add : Site → List ℕ → Reading → Sites → Sites) (count : ℕ) → IsSited piece.entry here behind count → LeavesSites add result self.new (piece_sites add (piece_of piece.entry) (site_of here) count (reading_of self.old) (sites_of self.old)) }
     {
         match piece {
             Piece::Nothing => Ok(None),
@@ -241,7 +257,7 @@ impl<'s> Reader<'s> {
             }
             Piece::Define(name, text) => {
                 let place = moved_back(behind, text);
-                self.define(name, Some(Span { text, place }))?;
+                self.define(name, Some(whole_span(text, place)))?;
                 Ok(None)
             }
             Piece::Undefine(name) => {
@@ -270,15 +286,24 @@ impl<'s> Reader<'s> {
         }
     }
 
-    #[tactic(auto, unfolding(wb_meaning::specs::Verilog::Text::front_at))]
-    fn pieces_front(&self, is_macro: bool, text: &'s [u8]) -> Option<(Piece<'s>, &'s [u8])>
-        ensures front { option_map front_of result ≡ at_front (front_at is_macro (reading_of self.now)) text.now }
+    #[tactic(auto, unfolding(verilog_text::specs::Text::front_at))]
+    fn pieces_front(
+        &self,
+        is_macro: bool,
+        text: &'s [u8],
+        alone: usize,
+    ) -> Option<(Piece<'s>, &'s [u8], usize)>
+        requires { IsTrue (are_alone alone text.now) }
+        ensures front { option_map (λ f. front_of (f.0, f.1)) result ≡ at_front (front_at is_macro (reading_of self.now)) text.now }
         ensures part { IfSome result (λ f. IsPart f.0 text.now f.1.now) }
+        ensures alone { IfSome result (λ f. IsTrue (are_alone f.2 f.1.now)) }
     {
         if leaves_out(&self.conditionals) {
-            left_out_front(text)
-        } else {
-            read_front(is_macro, text)
+            return left_out_front(text, alone);
+        }
+        match read_front(is_macro, text) {
+            Some((piece, rest)) => Some((piece, rest, alone)),
+            None => None,
         }
     }
 
@@ -289,10 +314,17 @@ impl<'s> Reader<'s> {
         if text.text.is_empty() {
             return Ok(None);
         }
-        match self.pieces_front(is_macro, text.text) {
-            Some((piece, rest)) => {
+        match self.pieces_front(is_macro, text.text, text.alone) {
+            Some((piece, rest, alone)) => {
                 let place = moved(text.place, text.text, rest);
-                Ok(Some((piece, Span { text: rest, place })))
+                Ok(Some((
+                    piece,
+                    Span {
+                        text: rest,
+                        place,
+                        alone,
+                    },
+                )))
             }
             None => Err(Stop::Refused(LexKind::BadToken, text.place)),
         }
@@ -308,6 +340,7 @@ impl<'s> Reader<'s> {
     ) -> Result<(), Stop>
         ensures outcome { IsOutcome result (reading_of self.new) (with_piece (macro_read levels) (piece_of piece.entry) (reading_of self.old)) }
         ensures places { (files : List (List ℕ)) (file limit next : ℕ) → AreShort files → IsPieceAt files file limit next piece.entry here behind → IsReaderPlaced files file limit self.old → IfOk result (λ _. IsReaderPlaced files file next self.new) }
+        ensures sites { (files : List (List ℕ)) (file limit next count : ℕ) → AreShort files → IsPieceAt files file limit next piece.entry here behind → IsReaderPlaced files file limit self.old → IsSited piece.entry here behind count → IfOk result (λ _. piece_sites (macro_sites levels) (piece_of piece.entry) (site_of here) count (reading_of self.old) (sites_of self.old) ≡ sites_of self.new) }
     {
         match self.take(piece, here, behind)? {
             Some(text) => self.read_macro(levels, text, here),
@@ -320,6 +353,7 @@ impl<'s> Reader<'s> {
     fn read_macro(&mut self, levels: u32, text: Span<'s>, place: Place) -> Result<(), Stop>
         ensures outcome { IsOutcome result (reading_of self.new) (macro_read levels text.entry.text.now (reading_of self.old)) }
         ensures places { (files : List (List ℕ)) (file limit : ℕ) → AreShort files → IsMacroText files text.entry → IsReaderPlaced files file limit self.old → IfOk result (λ _. IsReaderPlaced files file limit self.new) }
+        ensures sites { (files : List (List ℕ)) (file limit : ℕ) → AreShort files → IsMacroText files text.entry → IsReaderPlaced files file limit self.old → IfOk result (λ _. macro_sites levels (site_of text.entry.place) text.entry.text.now (reading_of self.old) (sites_of self.old) ≡ sites_of self.new) }
     {
         if levels == 0 {
             self.misdirect(place);
@@ -338,6 +372,7 @@ impl<'s> Reader<'s> {
     ) -> Result<(), Stop>
         ensures outcome { IsOutcome result (reading_of self.new) (text_from is_macro (macro_read levels) 0 text.entry.text.now (reading_of self.old)) }
         ensures places { (files : List (List ℕ)) (file limit : ℕ) → AreShort files → IsTextAt is_macro levels (reading_of self.old) files file limit text.entry → IsReaderPlaced files file limit self.old → IfOk result (λ _. IsReaderPlaced files file (reached is_macro limit (length text.entry.text.now)) self.new) }
+        ensures sites { (files : List (List ℕ)) (file limit : ℕ) → AreShort files → IsTextAt is_macro levels (reading_of self.old) files file limit text.entry → IsReaderPlaced files file limit self.old → IfOk result (λ _. sites_from is_macro (macro_read levels) (macro_sites levels) 0 (site_of text.entry.place) text.entry.text.now (reading_of self.old) (sites_of self.old) ≡ sites_of self.new) }
     {
         let mut rest = text;
         loop {

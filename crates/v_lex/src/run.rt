@@ -1,7 +1,7 @@
 //! Runs of bytes at the front of a text.
 
 ghost use Rattle.std.specs.Prelude.{◌≡◌, ◌-◌, length, take, drop};
-ghost use Rattle.wb_meaning.specs.Verilog.Lexical.{is_line_blank, is_blank, is_word_byte, is_decimal_byte, is_graphic, runs_on, is_decimal_base, run_length, is_blank_before, ends_line, blank_length};
+ghost use Rattle.verilog_text.specs.Lexical.{is_line_blank, is_blank, is_word_byte, is_decimal_byte, is_graphic, runs_on, is_decimal_base, run_length, is_blank_before, ends_line, blank_length};
 ghost use Rattle.v_lex.specs.View.{passes};
 
 use wb_names::{is_digit, is_letter};
@@ -72,7 +72,7 @@ fn passes(run: Run, byte: u8) -> bool
     }
 }
 
-#[tactic(auto, unfolding(wb_meaning::specs::Verilog::Lexical::run_length))]
+#[tactic(auto, unfolding(verilog_text::specs::Lexical::run_length))]
 fn run_length(run: Run, text: &[u8]) -> usize
     ensures { result ≡ run_length (passes run) text.now }
 {
@@ -139,7 +139,7 @@ pub(crate) fn is_blank_before(is_macro: bool, byte: u8, more: &[u8]) -> bool
 }
 
 /// What stands behind the blanks at the front.
-#[tactic(auto, unfolding(wb_meaning::specs::Verilog::Lexical::blank_length))]
+#[tactic(auto, unfolding(verilog_text::specs::Lexical::blank_length))]
 pub(crate) fn behind_blanks(is_macro: bool, text: &[u8]) -> &[u8]
     ensures { result.now ≡ drop (blank_length is_macro text.now) text.now }
 {

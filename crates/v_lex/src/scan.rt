@@ -1,8 +1,8 @@
 //! Ends of comments, attributes and strings.
 
 ghost use Rattle.std.specs.Prelude.{◌≡◌, ◌==◌, false, option_map};
-ghost use Rattle.wb_meaning.specs.ModelFile.Names.{begins_with};
-ghost use Rattle.wb_meaning.specs.Verilog.Lexical.{closing_length, string_length};
+ghost use Rattle.wb_values.specs.Names.{begins_with};
+ghost use Rattle.verilog_text.specs.Lexical.{closing_length, string_length};
 ghost use Rattle.v_lex.specs.View.{rest_after};
 
 /// Whether the text begins with the byte.
@@ -16,7 +16,7 @@ pub(crate) fn begins_with_byte(text: &[u8], byte: u8) -> bool
 }
 
 /// What stands behind the first place where the two bytes stand.
-#[tactic(auto, unfolding(wb_meaning::specs::Verilog::Lexical::closing_length))]
+#[tactic(auto, unfolding(verilog_text::specs::Lexical::closing_length))]
 pub(crate) fn behind_closing(first: u8, second: u8, text: &[u8]) -> Option<&[u8]>
     ensures { option_map (λ r. r.now) result ≡ rest_after text.now (closing_length first second false text.now) }
 {
@@ -31,7 +31,7 @@ pub(crate) fn behind_closing(first: u8, second: u8, text: &[u8]) -> Option<&[u8]
 }
 
 /// What stands behind the quote that ends a string on its line.
-#[tactic(auto, unfolding(wb_meaning::specs::Verilog::Lexical::string_length))]
+#[tactic(auto, unfolding(verilog_text::specs::Lexical::string_length))]
 pub(crate) fn behind_string(text: &[u8]) -> Option<&[u8]>
     ensures { option_map (λ r. r.now) result ≡ rest_after text.now (string_length false text.now) }
 {

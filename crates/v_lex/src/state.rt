@@ -1,5 +1,8 @@
 //! What is known behind a part of the files.
 
+ghost use Rattle.std.specs.Prelude.{◌≡◌, IsTrue};
+ghost use Rattle.v_lex.specs.Quotes.{are_alone};
+
 use crate::place::Place;
 use std::collections::BTreeMap;
 use v_token::token::Token;
@@ -11,6 +14,9 @@ pub(crate) struct Span<'s> {
     pub text: &'s [u8],
     /// Where they begin.
     pub place: Place,
+    /// Quotes in front of so many last bytes have no partners on their lines, so that none of these lines is searched twice.
+    pub alone: usize,
+    pub ghost are_alone: { IsTrue (are_alone alone text.now) },
 }
 
 /// What becomes of a conditional's text.

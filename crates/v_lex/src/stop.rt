@@ -52,7 +52,7 @@ impl<T: Drop> From<AllocFailed<T>> for Stop {
 pub struct LexRefusal {
     /// The first kind, in the order of the kinds, that the files have anywhere.
     pub kind: LexKind,
-    /// Where it stands: `file 0 line 3 column 7: ` and the word there. Files are counted from 0, lines and columns from 1.
+    /// Where it stands: the number of the file, from 0, and `line 3 column 7: ` with the word there, lines and columns from 1.
     pub note: Note,
 }
 

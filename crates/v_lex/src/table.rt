@@ -1,7 +1,7 @@
 //! The macros by their names.
 
 ghost use Rattle.std.specs.Prelude.{◌≡◌, ℕ, List, IfOk, cond, option_map};
-ghost use Rattle.wb_meaning.specs.Value.{same_name};
+ghost use Rattle.wb_values.specs.Value.{same_name};
 ghost use Rattle.v_lex.specs.Reading.{text_under};
 ghost use Rattle.v_lex.specs.Placed.{span_under};
 

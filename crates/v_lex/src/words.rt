@@ -4,9 +4,9 @@ ghost use Rattle.std.specs.Prelude.{◌≡◌, true, option_map, IfSome};
 ghost use Rattle.std.specs.Char.{is_ascii};
 ghost use Rattle.std.specs.Str.{bytes_eq};
 ghost use Rattle.std.specs.List.{list_all, list_any};
-ghost use Rattle.wb_meaning.specs.Words.{grammar_words};
-ghost use Rattle.wb_meaning.specs.ModelFile.Names.{begins_with, is_letter};
-ghost use Rattle.wb_meaning.specs.Verilog.Lexical.{is_word_byte, is_graphic, is_left_out, word_piece, word_at, system_piece, system_at, escaped_at};
+ghost use Rattle.wb_values.specs.ReservedWords.{grammar_words};
+ghost use Rattle.wb_values.specs.Names.{begins_with, is_letter};
+ghost use Rattle.verilog_text.specs.Lexical.{is_word_byte, is_graphic, is_left_out, word_piece, word_at, system_piece, system_at, escaped_at};
 ghost use Rattle.v_lex.specs.View.{piece_of, front_of, after, at_front, taken, HasText, IsPlain};
 
 use crate::ascii::ascii_text;
@@ -59,7 +59,7 @@ fn is_left_out(word: &[u8]) -> bool
     is_reserved_word(word) && !is_grammar_word(word)
 }
 
-#[tactic(auto, unfolding(wb_meaning::specs::Verilog::Lexical::word_piece))]
+#[tactic(auto, unfolding(verilog_text::specs::Lexical::word_piece))]
 fn word_piece(word: &[u8]) -> Piece<'_>
     requires { list_all is_ascii word.now ≡ true }
     ensures piece { piece_of result ≡ word_piece word.now }
@@ -73,7 +73,7 @@ fn word_piece(word: &[u8]) -> Piece<'_>
 }
 
 /// An identifier or a reserved word, where a letter or `_` stands first.
-#[tactic(auto, unfolding(wb_meaning::specs::Verilog::Lexical::word_at))]
+#[tactic(auto, unfolding(verilog_text::specs::Lexical::word_at))]
 pub(crate) fn word(text: &[u8]) -> Option<(Piece<'_>, &[u8])>
     requires { begins_with is_letter text.now ≡ true }
     ensures front { option_map front_of result ≡ at_front word_at text.now }
@@ -86,7 +86,7 @@ pub(crate) fn word(text: &[u8]) -> Option<(Piece<'_>, &[u8])>
     Some((word_piece(taken_before(text, rest)), rest))
 }
 
-#[tactic(auto, unfolding(wb_meaning::specs::Verilog::Lexical::system_piece))]
+#[tactic(auto, unfolding(verilog_text::specs::Lexical::system_piece))]
 fn system_piece(word: &[u8]) -> Piece<'_>
     ensures piece { piece_of result ≡ system_piece word.now }
     ensures text { HasText result word.now }
@@ -127,7 +127,7 @@ pub(crate) fn begins_with_letter(text: &[u8]) -> bool
 }
 
 /// A name with `$`, where `$` stands first.
-#[tactic(auto, unfolding(wb_meaning::specs::Verilog::Lexical::system_at))]
+#[tactic(auto, unfolding(verilog_text::specs::Lexical::system_at))]
 pub(crate) fn system(text: &[u8]) -> Option<(Piece<'_>, &[u8])>
     ensures front { option_map front_of result ≡ at_front system_at text.now }
     ensures part { IfSome result (λ f. HasText f.0 (taken text.now f.1.now)) }
@@ -143,7 +143,7 @@ pub(crate) fn system(text: &[u8]) -> Option<(Piece<'_>, &[u8])>
 }
 
 /// An escaped identifier, by what stands behind its backslash.
-#[tactic(auto, unfolding(wb_meaning::specs::Verilog::Lexical::escaped_at))]
+#[tactic(auto, unfolding(verilog_text::specs::Lexical::escaped_at))]
 pub(crate) fn escaped(more: &[u8]) -> Option<(Piece<'_>, &[u8])>
     ensures front { option_map front_of result ≡ after more.now (escaped_at more.now) }
     ensures part { IfSome result (λ f. IsPlain f.0) }

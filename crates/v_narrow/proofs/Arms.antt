@@ -4,8 +4,8 @@ use Rattle.std.specs.declared.boxed.Box.{Box}
 use Rattle.std.specs.declared.vec.Vec.{Vec}
 use Rattle.std.specs.declared.alloc.Global.{Global}
 use Rattle.std.specs.Borrow.{Bor}
-use Rattle.wb_meaning.specs.Verilog.Syntax as pure
-use Rattle.wb_meaning.specs.Verilog.Expression.{Scope, Object, width_of, widths_of, object_width, is_memory, no_values}
+use Rattle.verilog_trees.specs.Syntax as pure
+use Rattle.verilog_meaning.specs.Expression.{Scope, Object, width_of, widths_of, object_width, is_memory, no_values}
 use Rattle.v_syntax.specs.declared.tree.Number.{Number as CodeNumber}
 use Rattle.v_syntax.specs.declared.tree.PrefixOperator.{PrefixOperator}
 use Rattle.v_syntax.specs.declared.tree.PrefixOperator.TheVariants.{Plus}
@@ -20,9 +20,9 @@ use Rattle.v_syntax.specs.declared.tree.Expression.{Expression, Number, Name, Co
 use Rattle.v_syntax.specs.declared.tree.Select.{Select, Index, Part, PartUp, PartDown}
 use Rattle.v_syntax.specs.declared.tree.Selects.{Selects, Whole, One, Two}
 use Rattle.v_syntax.specs.Tree.{tree_of, prefixed, all_prefixed, combined, tested, expressions_of, select_of, selects_of}
-use Rattle.v_syntax.specs.Evaluation.{count_at, taken_at}
+use Rattle.v_value.specs.Evaluation.{count_at, taken_at}
 use Rattle.v_syntax.specs.Chain.{linked, test_linked, chosen}
-use Rattle.v_syntax.proofs.Selected.{count-is}
+use Rattle.v_value.proofs.Selected.{count-is}
 use Rattle.v_syntax.proofs.Trees.{tree_of-Concatenation, tree_of-Replication, tree_of-Binary, tree_of-Test, tree_of-Conditional}
 use Rattle.v_narrow.proofs.Decided.{whole-same}
 use Rattle.v_narrow.specs.Test.{is_width, number_test, is_object_narrow, narrow_test, all_test, select_test, narrow_at, select_at, selects_at, parts_test, links_test, tests_test, choices_test}

@@ -1,17 +1,17 @@
 -- How many bits selects take, over what the calls returned.
 use Rattle.std.proofs.Common.{◌≡◌, ℕ, ◌∙◌, ap, sym, subst, Bool, true, false, cond, ℤ, pos, negsuc}
-use Rattle.wb_meaning.specs.Verilog.Expression as meaning
-use Rattle.wb_meaning.specs.Verilog.Expression.{Scope}
+use Rattle.verilog_meaning.specs.Expression as meaning
+use Rattle.verilog_meaning.specs.Expression.{Scope}
 use Rattle.std.specs.declared.boxed.Box.{Box}
 use Rattle.std.specs.declared.alloc.Global.{Global}
 use Rattle.v_syntax.specs.declared.tree.Expression.{Expression}
 use Rattle.v_syntax.specs.declared.tree.Select.{Select, Index, Part, PartUp, PartDown}
 use Rattle.v_syntax.specs.Tree.{tree_of, select_of}
-use Rattle.v_syntax.specs.declared.select.Integer.{Integer}
-use Rattle.v_syntax.specs.Index.{integer_at, count_between}
-use Rattle.v_syntax.specs.Narrow.{IsNarrow, IsSelectNarrow, HasNarrowObjects}
-use Rattle.v_syntax.specs.Evaluation.{count_at, bound_at, taken_at}
-use Rattle.v_syntax.proofs.Taking as taking
+use Rattle.v_value.specs.declared.select.Integer.{Integer}
+use Rattle.v_value.specs.Index.{integer_at, count_between}
+use Rattle.v_value.specs.Narrow.{IsNarrow, IsSelectNarrow, HasNarrowObjects}
+use Rattle.v_value.specs.Evaluation.{count_at, bound_at, taken_at}
+use Rattle.v_value.proofs.Taking as taking
 use Rattle.v_narrow.specs.Test.{is_width}
 
 -- a constant that a call was given

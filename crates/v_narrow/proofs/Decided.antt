@@ -2,8 +2,8 @@
 use Rattle.std.proofs.Common.{◌≡◌, ℕ, zero, suc, ◌*◌, ◌≤◌, min, Bool, true, false, ◌&&◌, nat_le, refl, sym, ap, ◌∙◌, ⊎_elim, arith}
 use Rattle.std.proofs.lemmas.Bool.{cases_lt}
 use Rattle.std.proofs.lemmas.Bool.Decides.{Decides-and, nat_tests}
-use Rattle.wb_meaning.specs.Verilog.Expression.{Object, object_width}
-use Rattle.v_syntax.specs.Narrow.{IsWidth}
+use Rattle.verilog_meaning.specs.Expression.{Object, object_width}
+use Rattle.v_value.specs.Narrow.{IsWidth}
 use Rattle.v_narrow.specs.Test.{is_width, is_object_narrow}
 
 -- the test is true where the fact holds, and only there

@@ -5,16 +5,16 @@ use Rattle.std.proofs.Math.Nat.{pow-le-pow_right}
 use Rattle.std.proofs.lemmas.Nat.{pow_pos}
 use Rattle.std.proofs.lemmas.Slice.Eq.{bytes_eq-Decides}
 use Rattle.std.proofs.lemmas.Bool.Decides.{Decides-and, Decides-ltb}
-use Rattle.wb_meaning.specs.Value.{Name, same_name, entry_of, value_or_zero}
-use Rattle.wb_meaning.specs.Value as pure
-use Rattle.wb_meaning.specs.Verilog.Expression as meaning
-use Rattle.wb_meaning.specs.Verilog.Expression.{object_width, object_or_undeclared}
-use Rattle.v_syntax.specs.declared.scope.Declaration.{Declaration}
-use Rattle.v_syntax.specs.declared.scope.Value.{Value}
-use Rattle.v_syntax.specs.declared.scope.Value.TheVariants.{Number, Words}
-use Rattle.v_syntax.specs.declared.scope.Entry.{Entry}
-use Rattle.v_syntax.specs.Scope.{object_of, objects_of, value_of_entry, values_of}
-use Rattle.v_syntax.specs.Narrow.{IsNarrowObject, FitsObject}
+use Rattle.wb_values.specs.Value.{Name, same_name, entry_of, value_or_zero}
+use Rattle.wb_values.specs.Value as pure
+use Rattle.verilog_meaning.specs.Expression as meaning
+use Rattle.verilog_meaning.specs.Expression.{object_width, object_or_undeclared}
+use Rattle.v_value.specs.declared.scope.Declaration.{Declaration}
+use Rattle.v_value.specs.declared.scope.Value.{Value}
+use Rattle.v_value.specs.declared.scope.Value.TheVariants.{Number, Words}
+use Rattle.v_value.specs.declared.scope.Entry.{Entry}
+use Rattle.v_value.specs.Scope.{object_of, objects_of, value_of_entry, values_of}
+use Rattle.v_value.specs.Narrow.{IsNarrowObject, FitsObject}
 use Rattle.v_narrow.specs.Fitting.{AreDeclaredNarrow, AreEntriesFitting, number_fits, constant_fits, object_test, declared_test, words_fit, value_fits, entries_test}
 use Rattle.v_narrow.proofs.Decided.{Decides, at_most, object-decides}
 

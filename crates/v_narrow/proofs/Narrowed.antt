@@ -2,11 +2,11 @@
 use Rattle.std.proofs.Common.{◌≡◌, ◌^◌, Bool, true, false, ◌&&◌, refl, sym, ◌∙◌, List}
 use Rattle.std.proofs.lemmas.Bool.{false≢true}
 use Rattle.std.proofs.lemmas.Bool.Decides.{Decides-and, Decides-ltb}
-use Rattle.wb_meaning.specs.Verilog.Syntax.{Expression, number, name, concatenation, replication, as_signed, as_unsigned, unary, reduction, binary, shift, power, comparison, logical, conditional, Expressions, no_expressions, expression, Select, index, part, part_up, part_down, Selects, whole, one, two}
-use Rattle.wb_meaning.specs.Verilog.Expression.{Object, Scope, width_of, selects_width, widths_of}
+use Rattle.verilog_trees.specs.Syntax.{Expression, number, name, concatenation, replication, as_signed, as_unsigned, unary, reduction, binary, shift, power, comparison, logical, conditional, Expressions, no_expressions, expression, Select, index, part, part_up, part_down, Selects, whole, one, two}
+use Rattle.verilog_meaning.specs.Expression.{Object, Scope, width_of, selects_width, widths_of}
 use Rattle.v_syntax.specs.declared.tree.Expression.{Expression as CodeExpression}
 use Rattle.v_syntax.specs.Tree.{expressions_of}
-use Rattle.v_syntax.specs.Narrow.{IsWidth, IsNarrow, AreNarrow, IsSelectNarrow, AreSelectsNarrow, HasNarrowObjects}
+use Rattle.v_value.specs.Narrow.{IsWidth, IsNarrow, AreNarrow, IsSelectNarrow, AreSelectsNarrow, HasNarrowObjects}
 use Rattle.v_narrow.specs.Test.{is_width, narrow_test, all_test, select_test, selects_test, narrow_at, select_at, parts_test}
 use Rattle.v_narrow.proofs.Decided.{width-decides}
 use Rattle.v_narrow.proofs.Arms.{all_parts}

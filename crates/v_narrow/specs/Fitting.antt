@@ -1,13 +1,13 @@
 -- Objects and values, as the code's lists hold them: whether each of them fits words.
 use Rattle.std.specs.Prelude.{ℕ, ◌^◌, Bool, true, ◌&&◌, nat_lt, List, [], ◌∷◌, Option, Some, None}
-use Rattle.wb_meaning.specs.Verilog.Expression as meaning
-use Rattle.wb_meaning.specs.Verilog.Expression.{object_width}
-use Rattle.v_syntax.specs.declared.scope.Declaration.{Declaration}
-use Rattle.v_syntax.specs.declared.scope.Value.{Value}
-use Rattle.v_syntax.specs.declared.scope.Value.TheVariants.{Number, Words}
-use Rattle.v_syntax.specs.declared.scope.Entry.{Entry}
-use Rattle.v_syntax.specs.Scope.{object_of, value_of_entry}
-use Rattle.v_syntax.specs.Narrow.{IsNarrowObject, FitsObject}
+use Rattle.verilog_meaning.specs.Expression as meaning
+use Rattle.verilog_meaning.specs.Expression.{object_width}
+use Rattle.v_value.specs.declared.scope.Declaration.{Declaration}
+use Rattle.v_value.specs.declared.scope.Value.{Value}
+use Rattle.v_value.specs.declared.scope.Value.TheVariants.{Number, Words}
+use Rattle.v_value.specs.declared.scope.Entry.{Entry}
+use Rattle.v_value.specs.Scope.{object_of, value_of_entry}
+use Rattle.v_value.specs.Narrow.{IsNarrowObject, FitsObject}
 use Rattle.v_narrow.specs.Test.{is_object_narrow}
 
 -- Each declared object fits words.

@@ -1,8 +1,8 @@
 -- Whether an expression is narrow, as a test that computes. Counts of replications and bounds of part selects are read where no
 -- net or variable has a value; that wants all objects of the scope narrow, which a test of its own tells (Fitting.declared_test).
 use Rattle.std.specs.Prelude.{ℕ, ◌^◌, Bool, true, ◌&&◌, nat_le, nat_lt, List, [], ◌∷◌}
-use Rattle.wb_meaning.specs.Verilog.Syntax.{Expression, number, name, concatenation, replication, as_signed, as_unsigned, unary, reduction, binary, shift, power, comparison, logical, conditional, Expressions, no_expressions, expression, Select, index, part, part_up, part_down, Selects, whole, one, two}
-use Rattle.wb_meaning.specs.Verilog.Expression.{Object, Scope, object_width, width_of, widths_of, selects_width}
+use Rattle.verilog_trees.specs.Syntax.{Expression, number, name, concatenation, replication, as_signed, as_unsigned, unary, reduction, binary, shift, power, comparison, logical, conditional, Expressions, no_expressions, expression, Select, index, part, part_up, part_down, Selects, whole, one, two}
+use Rattle.verilog_meaning.specs.Expression.{Object, Scope, object_width, width_of, widths_of, selects_width}
 use Rattle.v_syntax.specs.declared.tree.BinaryLink.{BinaryLink}
 use Rattle.v_syntax.specs.declared.tree.TestLink.{TestLink}
 use Rattle.v_syntax.specs.declared.tree.Choice.{Choice}

@@ -1,15 +1,15 @@
 //! Whether expressions fit words, one after the other down the tree.
 ghost use Rattle.std.specs.Prelude.{◌≡◌, IsTrue, ◌&&◌, true};
-ghost use Rattle.v_syntax.specs.Scope.{object_of, scope_at};
+ghost use Rattle.v_value.specs.Scope.{object_of, scope_at};
 ghost use Rattle.v_syntax.specs.Tree.{tree_of, select_of, selects_of};
-ghost use Rattle.v_syntax.specs.Narrow.{IsNarrow};
+ghost use Rattle.v_value.specs.Narrow.{IsNarrow};
 ghost use Rattle.v_narrow.specs.Test.{number_test, narrow_at, select_at, selects_at, parts_test, links_test, tests_test, choices_test};
 ghost use Rattle.v_narrow.specs.Fitting.{declared_test};
 
 use crate::object::{are_declared_narrow, is_object_narrow};
 use crate::width::{one_fits, parts_fit, repeated_fit, two_fit};
-use v_syntax::scope::{Object, Scope};
 use v_syntax::tree::{BinaryLink, Choice, Expression, Number, Select, Selects, TestLink};
+use v_value::scope::{Object, Scope};
 
 /// A scope, and whether all its objects fit words.
 #[derive(Clone, Copy)]

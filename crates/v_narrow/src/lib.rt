@@ -3,8 +3,6 @@
 
 mod expression;
 mod object;
-#[cfg(test)]
-mod tests;
 mod width;
 
 pub use expression::is_narrow;

@@ -1,12 +1,12 @@
 //! Whether objects fit words, and values their objects.
 ghost use Rattle.std.specs.Prelude.{◌≡◌, ◌+◌, IsTrue, ◌↔◌};
-ghost use Rattle.wb_meaning.specs.Verilog.Expression.{object_width};
-ghost use Rattle.v_syntax.specs.Scope.{object_of, scope_at, valuation_in};
-ghost use Rattle.v_syntax.specs.Narrow.{HasNarrowObjects, HasFittingValues};
+ghost use Rattle.verilog_meaning.specs.Expression.{object_width};
+ghost use Rattle.v_value.specs.Scope.{object_of, scope_at, valuation_in};
+ghost use Rattle.v_value.specs.Narrow.{HasNarrowObjects, HasFittingValues};
 ghost use Rattle.v_narrow.specs.Test.{is_object_narrow};
 ghost use Rattle.v_narrow.specs.Fitting.{AreDeclaredNarrow, AreEntriesFitting, number_fits, constant_fits, object_test, declared_test, words_fit, value_fits, entries_test};
 
-use v_syntax::scope::{Declaration, Entry, Object, Scope, Value, Values};
+use v_value::scope::{Declaration, Entry, Object, Scope, Value, Values};
 
 /// How far apart the bounds of the object's range are: one less than its width.
 pub(crate) fn last_place(object: Object) -> u32

@@ -1,20 +1,20 @@
 //! Whether concatenations, replications and selects have 1 to 128 bits, once what stands in them is known to be narrow.
 ghost use Rattle.std.specs.Prelude.{◌≡◌, true, ◌&&◌, ◌*◌, ◌≤◌, ◌<◌, ◌^◌, min, cond};
-ghost use Rattle.wb_meaning.specs.Verilog.Expression.{widths_of, object_width, is_memory};
-ghost use Rattle.v_syntax.specs.Scope.{object_of, scope_at};
+ghost use Rattle.verilog_meaning.specs.Expression.{widths_of, object_width, is_memory};
+ghost use Rattle.v_value.specs.Scope.{object_of, scope_at};
 ghost use Rattle.v_syntax.specs.Tree.{tree_of, select_of, expressions_of};
-ghost use Rattle.v_syntax.specs.Index.{integer_at, count_between};
-ghost use Rattle.v_syntax.specs.Narrow.{IsNarrow, AreNarrow, IsSelectNarrow, HasNarrowObjects};
-ghost use Rattle.v_syntax.specs.Evaluation.{count_at, bound_at, taken_at};
+ghost use Rattle.v_value.specs.Index.{integer_at, count_between};
+ghost use Rattle.v_value.specs.Narrow.{IsNarrow, AreNarrow, IsSelectNarrow, HasNarrowObjects};
+ghost use Rattle.v_value.specs.Evaluation.{count_at, bound_at, taken_at};
 ghost use Rattle.v_narrow.specs.Test.{is_width, narrow_at, select_at, parts_test};
 
 use crate::expression::Checked;
 use crate::object::is_object_narrow;
-use v_syntax::scope::{Object, Scope};
-use v_syntax::select::Integer;
-use v_syntax::taken::integer_of;
 use v_syntax::tree::{Expression, Select};
-use v_syntax::width::width_of;
+use v_value::scope::{Object, Scope};
+use v_value::select::Integer;
+use v_value::taken::integer_of;
+use v_value::width::width_of;
 
 /// Whether so many bits are 1 to 128.
 fn is_width(bits: u128) -> bool

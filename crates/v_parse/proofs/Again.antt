@@ -1,12 +1,12 @@
 -- Declarations, instances and events: what is spelled so, in front of what does not go on with it, is read.
 use Rattle.std.proofs.Common.{◌≡◌, Bool, true, false, List, ◌∷◌, Option, Some, None, refl}
 use Rattle.std.specs.Prelude.{codes}
-use Rattle.wb_meaning.specs.Value.{Name}
-use Rattle.wb_meaning.specs.Verilog.Token.{left_parenthesis, right_parenthesis, left_bracket, right_bracket, comma, semicolon, colon, dot, hash, equals, star, Token, word, mark}
-use Rattle.wb_meaning.specs.Verilog.Syntax as tree
-use Rattle.wb_meaning.specs.Verilog.Syntax.{Expression, Target, EdgeKind, posedge, negedge, any_edge, Event, Events, Range, Direction, NetKind, PortDeclaration, Connections}
-use Rattle.wb_meaning.specs.Verilog.Spelling.{IsIdentifier}
-use Rattle.wb_meaning.specs.Verilog.Grammar.{AreParted, last_part, and_parts, IsFlag, IsName, a_name, IsWhole, IsRange, bounds, IsPerhapsRange, IsAssignment, direction_word, IsNetKind, no_kind, a_wire, a_variable, IsPort, a_port, IsSetting, set_to, parameter_word, IsWire, net, IsVariable, variable, IsEntry, empty_entry, an_entry, IsNamedEntry, under_name, AreConnections, named_entries, entries, IsInstance, an_instance, AreOverrides, no_overrides, overrides, edge_words, IsEvent, an_event, AreEvents, last_event, or_event, comma_event, IsControl, by_star, by_star_in_parentheses, by_events}
+use Rattle.wb_values.specs.Value.{Name}
+use Rattle.verilog_text.specs.Token.{left_parenthesis, right_parenthesis, left_bracket, right_bracket, comma, semicolon, colon, dot, hash, equals, star, Token, word, mark}
+use Rattle.verilog_trees.specs.Syntax as tree
+use Rattle.verilog_trees.specs.Syntax.{Expression, Target, EdgeKind, posedge, negedge, any_edge, Event, Events, Range, Direction, NetKind, PortDeclaration, Connections}
+use Rattle.verilog_text.specs.Spelling.{IsIdentifier}
+use Rattle.verilog_text.specs.Grammar.{AreParted, last_part, and_parts, IsFlag, IsName, a_name, IsWhole, IsRange, bounds, IsPerhapsRange, IsAssignment, direction_word, IsNetKind, no_kind, a_wire, a_variable, IsPort, a_port, IsSetting, set_to, parameter_word, IsWire, net, IsVariable, variable, IsEntry, empty_entry, an_entry, IsNamedEntry, under_name, AreConnections, named_entries, entries, IsInstance, an_instance, AreOverrides, no_overrides, overrides, edge_words, IsEvent, an_event, AreEvents, last_event, or_event, comma_event, IsControl, by_star, by_star_in_parentheses, by_events}
 use Rattle.v_expr.specs.Reading.{after_mark}
 use Rattle.v_expr.specs.Ending.{Ends}
 use Rattle.v_expr.specs.Whole.{whole_at}

@@ -2,13 +2,13 @@
 use Rattle.std.proofs.Common.{◌≡◌, Bool, true, false, List, [], ◌∷◌, Option, Some, None, refl, sym, ◌∙◌}
 use Rattle.std.specs.Prelude.{codes, ◌↔◌}
 use Rattle.std.proofs.lemmas.Bool.{false≢true}
-use Rattle.wb_meaning.specs.Value.{Name}
-use Rattle.wb_meaning.specs.Words.{is_reserved}
-use Rattle.wb_meaning.specs.Verilog.Token.{left_parenthesis, right_parenthesis, comma, semicolon, hash, at, Token, word, mark}
-use Rattle.wb_meaning.specs.Verilog.Syntax as tree
-use Rattle.wb_meaning.specs.Verilog.Syntax.{Expression, Direction, Range, PortDeclaration, ParameterDeclaration, Item, Ports, Module, Source}
-use Rattle.wb_meaning.specs.Verilog.Spelling.{IsIdentifier}
-use Rattle.wb_meaning.specs.Verilog.Grammar.{AreParted, AreInRow, IsFlag, IsPerhapsRange, IsName, IsPort, a_port, direction_word, IsSetting, IsParameter, a_parameter, parameter_word, IsInstance, IsItem, a_port_item, a_parameter_item, some_wires, some_variables, some_assignments, a_block, some_instances, IsWire, IsVariable, IsHeaderParameter, in_header, AreHeaderParameters, no_parameters, some_parameters, ArePorts, none_listed, empty_list, names_listed, ports_declared, IsModule, a_module, IsSource}
+use Rattle.wb_values.specs.Value.{Name}
+use Rattle.wb_values.specs.ReservedWords.{is_reserved}
+use Rattle.verilog_text.specs.Token.{left_parenthesis, right_parenthesis, comma, semicolon, hash, at, Token, word, mark}
+use Rattle.verilog_trees.specs.Syntax as tree
+use Rattle.verilog_trees.specs.Syntax.{Expression, Direction, Range, PortDeclaration, ParameterDeclaration, Item, Ports, Module, Source}
+use Rattle.verilog_text.specs.Spelling.{IsIdentifier}
+use Rattle.verilog_text.specs.Grammar.{AreParted, AreInRow, IsFlag, IsPerhapsRange, IsName, IsPort, a_port, direction_word, IsSetting, IsParameter, a_parameter, parameter_word, IsInstance, IsItem, a_port_item, a_parameter_item, some_wires, some_variables, some_assignments, a_block, some_instances, IsWire, IsVariable, IsHeaderParameter, in_header, AreHeaderParameters, no_parameters, some_parameters, ArePorts, none_listed, empty_list, names_listed, ports_declared, IsModule, a_module, IsSource}
 use Rattle.v_expr.specs.Reading.{after_mark}
 use Rattle.v_expr.specs.Ending.{Ends}
 use Rattle.v_expr.proofs.Repeat.{some, some_is}

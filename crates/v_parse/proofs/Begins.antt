@@ -3,13 +3,13 @@ use Rattle.std.proofs.Common.{◌≡◌, ℕ, suc, Bool, true, false, List, ◌�
 use Rattle.std.specs.Prelude.{codes}
 use Rattle.std.specs.Str.{bytes_eq}
 use Rattle.std.proofs.lemmas.Bool.{eqb-true}
-use Rattle.wb_meaning.specs.Value.{Name}
-use Rattle.wb_meaning.specs.Words.{is_reserved}
-use Rattle.wb_meaning.specs.Verilog.Token.{Mark, left_parenthesis, right_parenthesis, left_brace, comma, semicolon, question, hash, Token, word, system, mark}
-use Rattle.wb_meaning.specs.Verilog.Syntax.{Expression, Number, Event, Direction, input, output, EdgeKind, posedge, negedge, any_edge, Ports, Range, Connections}
-use Rattle.wb_meaning.specs.Verilog.Spelling.{prefix_of, IsIdentifier, IsNumber, plain, unsized, of_size, IsExpression, tighter, chosen, joined, prefixed, a_number, a_name, bracketed, concatenated, replicated, made_signed, made_unsigned}
-use Rattle.wb_meaning.specs.Verilog.Grammar as grammar
-use Rattle.wb_meaning.specs.Verilog.Grammar.{IsPerhaps, left_out, given, IsFlag, absent, present, IsName, IsSetting, set_to, IsWire, net, IsVariable, variable, IsInstance, an_instance, IsEvent, an_event, AreEvents, last_event, or_event, comma_event, direction_word, ArePorts, none_listed, empty_list, names_listed, ports_declared, edge_words}
+use Rattle.wb_values.specs.Value.{Name}
+use Rattle.wb_values.specs.ReservedWords.{is_reserved}
+use Rattle.verilog_text.specs.Token.{Mark, left_parenthesis, right_parenthesis, left_brace, comma, semicolon, question, hash, Token, word, system, mark}
+use Rattle.verilog_trees.specs.Syntax.{Expression, Number, Event, Direction, input, output, EdgeKind, posedge, negedge, any_edge, Ports, Range, Connections}
+use Rattle.verilog_text.specs.Spelling.{prefix_of, IsIdentifier, IsNumber, plain, unsized, of_size, IsExpression, tighter, chosen, joined, prefixed, a_number, a_name, bracketed, concatenated, replicated, made_signed, made_unsigned}
+use Rattle.verilog_text.specs.Grammar as grammar
+use Rattle.verilog_text.specs.Grammar.{IsPerhaps, left_out, given, IsFlag, absent, present, IsName, IsSetting, set_to, IsWire, net, IsVariable, variable, IsInstance, an_instance, IsEvent, an_event, AreEvents, last_event, or_event, comma_event, direction_word, ArePorts, none_listed, empty_list, names_listed, ports_declared, edge_words}
 use Rattle.v_expr.specs.Ending.{place, is_same_mark}
 use Rattle.v_expr.specs.Reading.{after_mark}
 use Rattle.v_expr.proofs.Repeat.{some}

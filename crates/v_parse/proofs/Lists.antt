@@ -1,9 +1,9 @@
 -- What may be left out and lists: what is read is spelled so, and what is spelled so is read.
 use Rattle.std.proofs.Common.{◌≡◌, suc, ◌<◌, ◌≤◌, Bool, List, [], ◌∷◌, ◌++◌, length, Option, Some, None, refl, sym, ap, ◌∙◌, subst, arith, map}
 use Rattle.std.proofs.lemmas.List.{map_push}
-use Rattle.wb_meaning.specs.Value.{Name}
-use Rattle.wb_meaning.specs.Verilog.Token.{Mark, comma, Token, word, mark}
-use Rattle.wb_meaning.specs.Verilog.Grammar.{AreParted, last_part, and_parts, AreInRow, no_more, one_more, IsPerhaps, left_out, given, IsFlag, absent, present, IsName, a_name}
+use Rattle.wb_values.specs.Value.{Name}
+use Rattle.verilog_text.specs.Token.{Mark, comma, Token, word, mark}
+use Rattle.verilog_text.specs.Grammar.{AreParted, last_part, and_parts, AreInRow, no_more, one_more, IsPerhaps, left_out, given, IsFlag, absent, present, IsName, a_name}
 use Rattle.v_expr.specs.Repeat.{choose, Read, repeated}
 use Rattle.v_expr.specs.Reading.{after_mark}
 use Rattle.v_expr.specs.View.{Fails}

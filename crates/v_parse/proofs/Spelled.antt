@@ -1,10 +1,10 @@
 -- Declarations, instances and events: what is read is spelled so.
 use Rattle.std.proofs.Common.{◌≡◌, suc, ◌<◌, ◌≤◌, Bool, List, [], ◌∷◌, length, Option, Some, refl, sym, ap, ◌∙◌, subst, arith}
 use Rattle.std.specs.Prelude.{codes}
-use Rattle.wb_meaning.specs.Value.{Name}
-use Rattle.wb_meaning.specs.Verilog.Token.{left_parenthesis, right_parenthesis, left_bracket, right_bracket, comma, colon, dot, hash, equals, star, Token, word, mark}
-use Rattle.wb_meaning.specs.Verilog.Syntax.{Expression, EdgeKind, Event, Range, Direction, ParameterDeclaration, Connections}
-use Rattle.wb_meaning.specs.Verilog.Grammar.{AreParted, IsPerhaps, IsName, a_name, IsWhole, IsRange, bounds, IsPerhapsRange, IsAssignment, direction_word, IsNetKind, no_kind, a_wire, a_variable, IsPort, a_port, IsSetting, set_to, parameter_word, IsParameter, a_parameter, IsWire, net, IsVariable, variable, IsEntry, empty_entry, an_entry, IsNamedEntry, under_name, AreConnections, named_entries, entries, IsInstance, an_instance, AreOverrides, no_overrides, overrides, edge_words, IsEvent, an_event, AreEvents, last_event, or_event, comma_event, IsControl, by_star, by_star_in_parentheses, by_events}
+use Rattle.wb_values.specs.Value.{Name}
+use Rattle.verilog_text.specs.Token.{left_parenthesis, right_parenthesis, left_bracket, right_bracket, comma, colon, dot, hash, equals, star, Token, word, mark}
+use Rattle.verilog_trees.specs.Syntax.{Expression, EdgeKind, Event, Range, Direction, ParameterDeclaration, Connections}
+use Rattle.verilog_text.specs.Grammar.{AreParted, IsPerhaps, IsName, a_name, IsWhole, IsRange, bounds, IsPerhapsRange, IsAssignment, direction_word, IsNetKind, no_kind, a_wire, a_variable, IsPort, a_port, IsSetting, set_to, parameter_word, IsParameter, a_parameter, IsWire, net, IsVariable, variable, IsEntry, empty_entry, an_entry, IsNamedEntry, under_name, AreConnections, named_entries, entries, IsInstance, an_instance, AreOverrides, no_overrides, overrides, edge_words, IsEvent, an_event, AreEvents, last_event, or_event, comma_event, IsControl, by_star, by_star_in_parentheses, by_events}
 use Rattle.v_expr.specs.Reading.{after_mark}
 use Rattle.v_expr.specs.Whole.{whole_at}
 use Rattle.v_expr.proofs.Repeat.{some_is, Chain}

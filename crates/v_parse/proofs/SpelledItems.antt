@@ -1,11 +1,11 @@
 -- Items, modules and sources: what is read is spelled so.
 use Rattle.std.proofs.Common.{◌≡◌, suc, ◌<◌, ◌≤◌, Bool, false, List, [], ◌∷◌, length, Some, refl, sym, ap, subst, arith}
 use Rattle.std.specs.Prelude.{codes}
-use Rattle.wb_meaning.specs.Value.{Name}
-use Rattle.wb_meaning.specs.Verilog.Token.{left_parenthesis, right_parenthesis, comma, semicolon, hash, at, equals, Token, word, mark}
-use Rattle.wb_meaning.specs.Verilog.Syntax as tree
-use Rattle.wb_meaning.specs.Verilog.Syntax.{Direction, ParameterDeclaration, Connections, Item, Ports, Source}
-use Rattle.wb_meaning.specs.Verilog.Grammar.{AreParted, AreInRow, IsName, a_name, IsPort, direction_word, IsParameter, parameter_word, IsAssignment, IsInstance, AreOverrides, IsItem, a_port_item, a_parameter_item, some_wires, some_variables, some_assignments, a_block, some_instances, IsWire, IsVariable, IsHeaderParameter, in_header, AreHeaderParameters, no_parameters, some_parameters, ArePorts, none_listed, empty_list, names_listed, ports_declared, IsModule, a_module, IsSource, IsStatement}
+use Rattle.wb_values.specs.Value.{Name}
+use Rattle.verilog_text.specs.Token.{left_parenthesis, right_parenthesis, comma, semicolon, hash, at, equals, Token, word, mark}
+use Rattle.verilog_trees.specs.Syntax as tree
+use Rattle.verilog_trees.specs.Syntax.{Direction, ParameterDeclaration, Connections, Item, Ports, Source}
+use Rattle.verilog_text.specs.Grammar.{AreParted, AreInRow, IsName, a_name, IsPort, direction_word, IsParameter, parameter_word, IsAssignment, IsInstance, AreOverrides, IsItem, a_port_item, a_parameter_item, some_wires, some_variables, some_assignments, a_block, some_instances, IsWire, IsVariable, IsHeaderParameter, in_header, AreHeaderParameters, no_parameters, some_parameters, ArePorts, none_listed, empty_list, names_listed, ports_declared, IsModule, a_module, IsSource, IsStatement}
 use Rattle.v_expr.specs.Reading.{after_mark}
 use Rattle.v_expr.proofs.Repeat.{some_is}
 use Rattle.v_expr.proofs.Places.{mark_spelled}

@@ -1,7 +1,7 @@
 -- The turns of a row's loop.
 use Rattle.std.proofs.Common.{◌≡◌, List, [], ◌∷◌, ◌++◌, Some, None, sym, ap, ◌∙◌, subst, map}
 use Rattle.std.proofs.lemmas.List.{map_push}
-use Rattle.wb_meaning.specs.Verilog.Token.{Token}
+use Rattle.verilog_text.specs.Token.{Token}
 use Rattle.v_expr.specs.Repeat.{Read, repeated}
 use Rattle.v_expr.proofs.Repeat.{Shrinks, with_front, with_nothing, goes_on, is_over}
 use Rattle.v_parse.specs.Lists.{ReaderOf, Passes}

@@ -1,8 +1,8 @@
 -- What the modules up to the end of the tokens say of the whole source.
 use Rattle.std.proofs.Common.{◌≡◌, List, Some, None, refl}
-use Rattle.wb_meaning.specs.Verilog.Token.{Token}
-use Rattle.wb_meaning.specs.Verilog.Syntax.{Source}
-use Rattle.wb_meaning.specs.Verilog.Grammar.{IsSource}
+use Rattle.verilog_text.specs.Token.{Token}
+use Rattle.verilog_trees.specs.Syntax.{Source}
+use Rattle.verilog_text.specs.Grammar.{IsSource}
 use Rattle.v_parse.specs.Reading.{modules_at, source_at}
 use Rattle.v_parse.proofs.SpelledItems.{source_spelled}
 use Rattle.v_parse.proofs.AgainItems.{no_source}

@@ -1,9 +1,9 @@
 -- Words, names and marks in front of tokens.
 use Rattle.std.proofs.Common.{◌≡◌, suc, true, List, ◌∷◌, length, Some, None, refl, ap}
-use Rattle.wb_meaning.specs.Value.{Name}
-use Rattle.wb_meaning.specs.Words.{is_reserved}
-use Rattle.wb_meaning.specs.Verilog.Token.{Mark, Token, word}
-use Rattle.wb_meaning.specs.Verilog.Spelling.{IsIdentifier}
+use Rattle.wb_values.specs.Value.{Name}
+use Rattle.wb_values.specs.ReservedWords.{is_reserved}
+use Rattle.verilog_text.specs.Token.{Mark, Token, word}
+use Rattle.verilog_text.specs.Spelling.{IsIdentifier}
 use Rattle.v_expr.specs.Reading.{after_mark}
 use Rattle.v_expr.proofs.Places.{mark_spelled}
 use Rattle.v_body.specs.Words.{after_word, name_at}

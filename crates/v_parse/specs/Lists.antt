@@ -1,7 +1,7 @@
 -- Reading what may be left out, and lists.
 use Rattle.std.specs.Prelude.{Bool, true, false, List, [], ◌∷◌, Option, Some, None}
-use Rattle.wb_meaning.specs.Value.{Name}
-use Rattle.wb_meaning.specs.Verilog.Token.{Mark, comma, Token}
+use Rattle.wb_values.specs.Value.{Name}
+use Rattle.verilog_text.specs.Token.{Mark, comma, Token}
 use Rattle.v_expr.specs.Repeat.{◌>>=◌, choose, Read, repeated}
 use Rattle.v_expr.specs.Reading.{after_mark}
 use Rattle.v_body.specs.Words.{after_word, name_at}

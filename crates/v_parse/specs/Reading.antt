@@ -1,10 +1,10 @@
 -- Reading declarations, items, modules and sources from left to right, as the reader does: each function gives what stands at the
 -- front, and the rest.
 use Rattle.std.specs.Prelude.{Bool, true, false, List, [], codes, Option, Some, None}
-use Rattle.wb_meaning.specs.Value.{Name}
-use Rattle.wb_meaning.specs.Verilog.Token.{left_parenthesis, right_parenthesis, left_bracket, right_bracket, comma, semicolon, colon, dot, hash, at, equals, star, Token}
-use Rattle.wb_meaning.specs.Verilog.Syntax as tree
-use Rattle.wb_meaning.specs.Verilog.Syntax.{Expression, Target, EdgeKind, Event, Events, Range, Direction, NetKind, PortDeclaration, ParameterDeclaration, Connections, Item, Ports, Module, Source}
+use Rattle.wb_values.specs.Value.{Name}
+use Rattle.verilog_text.specs.Token.{left_parenthesis, right_parenthesis, left_bracket, right_bracket, comma, semicolon, colon, dot, hash, at, equals, star, Token}
+use Rattle.verilog_trees.specs.Syntax as tree
+use Rattle.verilog_trees.specs.Syntax.{Expression, Target, EdgeKind, Event, Events, Range, Direction, NetKind, PortDeclaration, ParameterDeclaration, Connections, Item, Ports, Module, Source}
 use Rattle.v_expr.specs.Repeat.{◌>>=◌, choose, repeated}
 use Rattle.v_expr.specs.Reading.{after_mark}
 use Rattle.v_expr.specs.Whole.{whole_at}

@@ -1,9 +1,9 @@
 -- What the code's values stand for, and what reading a source gives.
 use Rattle.std.specs.Prelude.{◌≡◌, List, Option, Some, None, Result, Ok, Err}
-use Rattle.wb_meaning.specs.Value.{Name}
-use Rattle.wb_meaning.specs.Verilog.Syntax as pure
-use Rattle.wb_meaning.specs.Verilog.Token.{Token}
-use Rattle.wb_meaning.specs.Verilog.Grammar.{IsSource}
+use Rattle.wb_values.specs.Value.{Name}
+use Rattle.verilog_trees.specs.Syntax as pure
+use Rattle.verilog_text.specs.Token.{Token}
+use Rattle.verilog_text.specs.Grammar.{IsSource}
 use Rattle.v_syntax.specs.declared.module.Event.{Event}
 use Rattle.v_syntax.specs.declared.module.ParameterValue.{ParameterValue}
 use Rattle.v_syntax.specs.declared.module.NamedConnection.{NamedConnection}

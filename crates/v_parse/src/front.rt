@@ -1,7 +1,7 @@
 //! Words and marks in front of tokens, and the lists that are read behind them.
 
 ghost use Rattle.std.specs.Prelude.{◌≡◌, ◌∷◌, [], option_map, Some, IfOk};
-ghost use Rattle.wb_meaning.specs.Verilog.Token.{comma};
+ghost use Rattle.verilog_text.specs.Token.{comma};
 ghost use Rattle.v_token.specs.View.{mark_of, tokens_of};
 ghost use Rattle.v_expr.specs.Reading.{after_mark};
 ghost use Rattle.v_expr.specs.View.{Gives};

@@ -3,7 +3,7 @@
 ghost use Rattle.std.specs.Prelude.{◌≡◌, map, Some};
 ghost use Rattle.v_token.specs.View.{tokens_of};
 ghost use Rattle.v_syntax.specs.Source.{direction_of, item_of};
-ghost use Rattle.wb_meaning.specs.Verilog.Token.{equals};
+ghost use Rattle.verilog_text.specs.Token.{equals};
 ghost use Rattle.v_expr.specs.View.{Gives};
 ghost use Rattle.v_body.specs.Targets.{assignment_at};
 ghost use Rattle.v_parse.specs.Reading.{port_item_at, parameter_item_at, wires_item_at, variables_item_at, assignments_at, assign_item_at, always_item_at, instances_item_at, declared_item_at, item_at};

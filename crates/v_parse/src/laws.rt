@@ -1,9 +1,9 @@
 //! What reading a source means, as laws without code.
 
 ghost use Rattle.std.specs.Prelude.{◌≡◌, ◌↔◌, List, Some};
-ghost use Rattle.wb_meaning.specs.Verilog.Syntax.{Source};
-ghost use Rattle.wb_meaning.specs.Verilog.Token.{Token};
-ghost use Rattle.wb_meaning.specs.Verilog.Grammar.{IsSource};
+ghost use Rattle.verilog_trees.specs.Syntax.{Source};
+ghost use Rattle.verilog_text.specs.Token.{Token};
+ghost use Rattle.verilog_text.specs.Grammar.{IsSource};
 ghost use Rattle.v_parse.specs.Reading.{source_at};
 
 /// What is read is spelled so, and what is spelled so is read.

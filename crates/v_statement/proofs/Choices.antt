@@ -6,11 +6,11 @@ use Rattle.std.specs.declared.boxed.Box.{Box}
 use Rattle.std.specs.declared.vec.Vec.{Vec}
 use Rattle.std.specs.declared.alloc.Global.{Global}
 use Rattle.std.proofs.lemmas.Bool.Decides.{nat_tests}
-use Rattle.wb_meaning.specs.Value.{Valuation}
-use Rattle.wb_meaning.specs.Verilog.Syntax as pure
-use Rattle.wb_meaning.specs.Verilog.Syntax.{CaseKind, no_expressions, expression, case}
-use Rattle.wb_meaning.specs.Verilog.Expression.{Scope}
-use Rattle.wb_meaning.specs.Verilog.Statement.{Effect, unchanged, run, run_case, any_matches, wild_bits, greatest_width, items_width}
+use Rattle.wb_values.specs.Value.{Valuation}
+use Rattle.verilog_trees.specs.Syntax as pure
+use Rattle.verilog_trees.specs.Syntax.{CaseKind, no_expressions, expression, case}
+use Rattle.verilog_meaning.specs.Expression.{Scope}
+use Rattle.verilog_meaning.specs.Statement.{Effect, unchanged, run, run_case, any_matches, wild_bits, greatest_width, items_width}
 use Rattle.v_syntax.specs.declared.tree.PrefixOperator.{PrefixOperator}
 use Rattle.v_syntax.specs.declared.tree.PrefixOperator.TheVariants.{Plus}
 use Rattle.v_syntax.specs.declared.tree.BinaryOperator.{BinaryOperator}
@@ -24,11 +24,11 @@ use Rattle.v_syntax.specs.declared.tree.Expression.{Expression, Prefix, Binary, 
 use Rattle.v_syntax.specs.declared.tree.CaseItem.{CaseItem, Values, Default}
 use Rattle.v_syntax.specs.Tree.{tree_of, prefixed, all_prefixed, combined, tested, expressions_of}
 use Rattle.v_syntax.specs.Chain.{linked, test_linked, chosen}
-use Rattle.v_syntax.specs.Narrow.{AreNarrow}
+use Rattle.v_value.specs.Narrow.{AreNarrow}
 use Rattle.v_statement.specs.Statements.{IsNarrowStatement, AreNarrowItems}
 use Rattle.v_statement.specs.Effects.{item_list, statement_in, matching_from, AreValuesNarrow, chosen_item}
 use Rattle.v_syntax.proofs.Trees.{tree_of-Binary, tree_of-Test, tree_of-Conditional}
-use Rattle.v_syntax.proofs.Narrows.{narrow_width}
+use Rattle.v_value.proofs.Narrows.{narrow_width}
 
 not_none : (n : ℕ) → (suc n == 0) ≡ false
 not_none n = grind (arith, nat_tests)

@@ -4,7 +4,7 @@ use Rattle.std.proofs.Math.Pow.{pow_pos, pow_mono, pow-add, mod-mod-pow, shr_lt,
 use Rattle.std.proofs.Math.Nat.{add-mul-mod_self_right, mod-eq_of_lt, div-eq_of_lt, mod-lt, mod-add-div, mul_comm}
 use Rattle.std.proofs.lemmas.Nat.{mul-add-lt}
 use Rattle.std.proofs.lemmas.Bool.{cases_lt}
-use Rattle.wb_meaning.specs.Verilog.Statement.{with_bits_from}
+use Rattle.verilog_meaning.specs.Statement.{with_bits_from}
 
 -- a power as a product
 pub pow_split : (e w : ℕ) → e ≤ w → 2 ^ w ≡ 2 ^ (w - e) * 2 ^ e

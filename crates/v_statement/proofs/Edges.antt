@@ -1,15 +1,15 @@
 -- Updates of clocked blocks, one item after the other, and that their places fit.
 use Rattle.std.proofs.Common.{◌≡◌, ◌∙◌, ◌+◌, ℕ, refl, ap, sym, Bool, true, false, cond, List, [], ◌∷◌, ◌++◌, append_assoc, drop}
-use Rattle.wb_meaning.specs.Value as pure_value
-use Rattle.wb_meaning.specs.Value.{Name, Valuation}
-use Rattle.v_syntax.specs.declared.scope.Entry.{Entry}
-use Rattle.v_syntax.specs.declared.scope.Value.{Value}
-use Rattle.v_syntax.specs.Scope.{values_of, value_of_entry}
-use Rattle.wb_meaning.specs.Verilog.Syntax as pure
-use Rattle.wb_meaning.specs.Verilog.Syntax.{CaseKind, empty, blocking, nonblocking, if_then, if_else, case, block, no_statements, statement, no_items, arm, default_arm, Item, port, parameter, wires, variables, assign, always, instances}
-use Rattle.wb_meaning.specs.Verilog.Expression.{Scope, is_true}
-use Rattle.wb_meaning.specs.Verilog.Statement.{Effect, Update, unchanged, run, run_all, run_case, any_matches, places}
-use Rattle.wb_meaning.specs.Verilog.Register.{is_clocked, clocked_blocks, updates_of}
+use Rattle.wb_values.specs.Value as pure_value
+use Rattle.wb_values.specs.Value.{Name, Valuation}
+use Rattle.v_value.specs.declared.scope.Entry.{Entry}
+use Rattle.v_value.specs.declared.scope.Value.{Value}
+use Rattle.v_value.specs.Scope.{values_of, value_of_entry}
+use Rattle.verilog_trees.specs.Syntax as pure
+use Rattle.verilog_trees.specs.Syntax.{CaseKind, empty, blocking, nonblocking, if_then, if_else, case, block, no_statements, statement, no_items, arm, default_arm, Item, port, parameter, wires, variables, assign, always, instances}
+use Rattle.verilog_meaning.specs.Expression.{Scope, is_true}
+use Rattle.verilog_meaning.specs.Statement.{Effect, Update, unchanged, run, run_all, run_case, any_matches, places}
+use Rattle.verilog_meaning.specs.Register.{is_clocked, clocked_blocks, updates_of}
 use Rattle.v_statement.specs.Statements.{IsNarrowStatement, AreNarrowStatements, AreNarrowItems}
 use Rattle.v_statement.specs.Registers.{AreNarrowBlocks, AreNarrowUpdates}
 use Rattle.v_statement.proofs.Targets.{target-fits}

@@ -5,11 +5,11 @@ use Rattle.std.specs.declared.boxed.Box.{Box}
 use Rattle.std.specs.declared.vec.Vec.{Vec}
 use Rattle.std.specs.declared.alloc.Global.{Global}
 use Rattle.std.specs.Borrow.{Bor}
-use Rattle.wb_meaning.specs.Value.{Valuation}
-use Rattle.wb_meaning.specs.Verilog.Syntax as pure
-use Rattle.wb_meaning.specs.Verilog.Syntax.{CaseKind, empty, blocking, nonblocking, if_then, if_else, case, block, no_statements, statement, no_items, arm, default_arm}
-use Rattle.wb_meaning.specs.Verilog.Expression.{Scope, is_true}
-use Rattle.wb_meaning.specs.Verilog.Statement.{Effect, Update, unchanged, behind, run, run_all, run_case, any_matches, places}
+use Rattle.wb_values.specs.Value.{Valuation}
+use Rattle.verilog_trees.specs.Syntax as pure
+use Rattle.verilog_trees.specs.Syntax.{CaseKind, empty, blocking, nonblocking, if_then, if_else, case, block, no_statements, statement, no_items, arm, default_arm}
+use Rattle.verilog_meaning.specs.Expression.{Scope, is_true}
+use Rattle.verilog_meaning.specs.Statement.{Effect, Update, unchanged, behind, run, run_all, run_case, any_matches, places}
 use Rattle.v_syntax.specs.declared.tree.Statement.{Statement, If, Case, Block, Row_of-Arm, end_of-Arm, more_of-Arm, items-the_row-Arm, items_hidden-the_row-Arm-0, Row_of-CaseItem, end_of-CaseItem, more_of-CaseItem, items-the_row-CaseItem, items_hidden-the_row-CaseItem-1, Row_of-Statement, end_of-Statement, more_of-Statement, items-the_row-Statement, items_hidden-the_row-Statement-2}
 use Rattle.v_syntax.specs.declared.tree.CaseItem.TheBlock.{hidden-the_row-Arm-0, hidden-the_row-CaseItem-1, hidden-the_row-Statement-2}
 use Rattle.v_syntax.specs.declared.tree.Arm.{Arm}
@@ -17,10 +17,10 @@ use Rattle.v_syntax.specs.declared.tree.CaseItem.{CaseItem, Values, Default}
 use Rattle.v_syntax.specs.declared.tree.CaseKind.{CaseKind as CodeKind}
 use Rattle.v_syntax.specs.declared.tree.Expression.{Expression}
 use Rattle.v_syntax.specs.Tree.{tree_of, statement_of, arms_before, statements_of, items_of, arm_before, or_empty, name_of_option, case_kind_of, expressions_of}
-use Rattle.v_syntax.specs.Narrow.{IsNarrow, HasFittingValues}
+use Rattle.v_value.specs.Narrow.{IsNarrow, HasFittingValues}
 use Rattle.v_statement.specs.Statements.{IsNarrowStatement, statement_list, arm_list}
 use Rattle.v_statement.specs.declared.place.Update.{Update as CodeUpdate}
-use Rattle.v_syntax.specs.declared.scope.Values.{Values as CodeValues}
+use Rattle.v_value.specs.declared.scope.Values.{Values as CodeValues}
 use Rattle.v_statement.specs.Places.{update_of, updates_of}
 use Rattle.v_statement.specs.Effects.{effect_at, first_true, run_if_any, AreNarrowArms, item_list}
 use Rattle.v_statement.proofs.Written.{written_fits}

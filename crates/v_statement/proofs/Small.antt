@@ -1,22 +1,22 @@
 -- Statements of tests that fit words.
 use Rattle.std.proofs.Common.{◌≡◌, ◌≤◌, ◌<◌, ◌++◌, ◌∙◌, ℕ, ap, sym, subst, Bool, true, false, cond, List, [], ◌∷◌, arith}
 use Rattle.std.specs.Borrow.{Bor}
-use Rattle.wb_meaning.specs.Value.{Name}
-use Rattle.wb_meaning.specs.Verilog.Syntax as pure
-use Rattle.wb_meaning.specs.Verilog.Syntax.{number, one, place}
-use Rattle.wb_meaning.specs.Verilog.Expression.{Scope, Object, no_values, select_bits, is_memory, object_width}
+use Rattle.wb_values.specs.Value.{Name}
+use Rattle.verilog_trees.specs.Syntax as pure
+use Rattle.verilog_trees.specs.Syntax.{number, one, place}
+use Rattle.verilog_meaning.specs.Expression.{Scope, Object, no_values, select_bits, is_memory, object_width}
 use Rattle.v_syntax.specs.declared.tree.Expression.{Expression}
 use Rattle.v_syntax.specs.declared.tree.Select.{Select}
 use Rattle.v_syntax.specs.declared.tree.Selects.{Whole, One}
 use Rattle.v_syntax.specs.declared.tree.Target.{Place}
 use Rattle.v_syntax.specs.declared.tree.Statement.{Statement, Blocking}
 use Rattle.v_syntax.specs.Tree.{tree_of, select_of}
-use Rattle.v_syntax.specs.Narrow.{IsNarrow, HasNarrowObjects}
+use Rattle.v_value.specs.Narrow.{IsNarrow, HasNarrowObjects}
 use Rattle.v_statement.specs.Statements.{IsNarrowSelect, IsNarrowTarget, AreNarrowStatements, statement_list}
 
 -- an unsigned number of 8 bits
 abbrev pub byte : ℕ → pure.Expression
-byte x = number (record { width = 8; sized = true; signed = false; value = x; unknown = 0; wild = 0 })
+byte x = number (record { width = 8; sized = true; signed = false; value = x; unknown = 0; wild = 0; has_unknown = false; has_wild = false })
 
 abbrev pub IsSmallSelect : pure.Select → Type 0
 IsSmallSelect x = (s : Scope) → IsNarrowSelect s x × ((o : Object) → (select_bits s no_values o x).count ≤ 128)

@@ -4,8 +4,8 @@ use Rattle.std.proofs.Math.Nat.{mod-one, mod-eq_of_lt, mod-add-div}
 use Rattle.std.proofs.lemmas.Bool.{false≢true}
 use Rattle.std.proofs.lemmas.Bool.Decides.{nat_tests}
 use Rattle.std.proofs.lemmas.Int.{ints}
-use Rattle.wb_meaning.specs.Verilog.Expression.{Object, place_of_bit, Bits, bits_upward}
-use Rattle.wb_meaning.specs.Verilog.Statement.{with_bits_from, with_bits_at}
+use Rattle.verilog_meaning.specs.Expression.{Object, place_of_bit, Bits, bits_upward}
+use Rattle.verilog_meaning.specs.Statement.{with_bits_from, with_bits_at}
 
 -- where no bits are written
 pub none_written : (w old k x : ℕ) → old < 2 ^ w → with_bits_from w old k 0 x ≡ old

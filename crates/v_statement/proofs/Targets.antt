@@ -2,11 +2,11 @@
 use Rattle.std.proofs.Common.{◌≡◌, ℕ, ◌+◌, ◌∙◌, refl, ap, ap₂, sym, subst, ◌≤◌, Bool, true, false, cond, List, [], ◌∷◌, ◌++◌, zero-add, add-zero, add_assoc}
 use Rattle.std.specs.declared.vec.Vec.{Vec}
 use Rattle.std.specs.declared.alloc.Global.{Global}
-use Rattle.wb_meaning.specs.Value.{Name, Valuation}
-use Rattle.wb_meaning.specs.Verilog.Syntax as pure
-use Rattle.wb_meaning.specs.Verilog.Syntax.{Select, index, part, part_up, part_down, Selects, whole, one, two, place, joined, no_targets, target}
-use Rattle.wb_meaning.specs.Verilog.Expression.{Scope, is_memory, object_width, selects_width, select_index, select_bits, no_values, assigned_value}
-use Rattle.wb_meaning.specs.Verilog.Statement.{Place, Update, written, variable, indexed_cell, all_bits, place_of, places, all_places, places_width, target_width, targets_width}
+use Rattle.wb_values.specs.Value.{Name, Valuation}
+use Rattle.verilog_trees.specs.Syntax as pure
+use Rattle.verilog_trees.specs.Syntax.{Select, index, part, part_up, part_down, Selects, whole, one, two, place, joined, no_targets, target}
+use Rattle.verilog_meaning.specs.Expression.{Scope, is_memory, object_width, selects_width, select_index, select_bits, no_values, assigned_value}
+use Rattle.verilog_meaning.specs.Statement.{Place, Update, written, variable, indexed_cell, all_bits, place_of, places, all_places, places_width, target_width, targets_width}
 use Rattle.v_syntax.specs.declared.tree.Target.{Target, Joined, Row_of-Target, end_of-Target, more_of-Target, items-the_row-Target, items_hidden-the_row-Target-0}
 use Rattle.v_syntax.specs.declared.tree.Target.TheBlock.{hidden-the_row-Target-0}
 use Rattle.v_syntax.specs.Tree.{target_of, targets_of}

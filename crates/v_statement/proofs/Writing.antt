@@ -1,15 +1,15 @@
 -- What values hold after a number was written to a place of them.
 use Rattle.std.proofs.Common.{◌≡◌, ℕ, suc, ◌+◌, ◌<◌, Bool, true, false, cond, List, [], ◌∷◌, ◌++◌, length, refl, ap, sym, subst, ◌∙◌, Option, Some, None, arith, slice_index_or, slice_set}
 use Rattle.std.proofs.lemmas.Slice.Eq.{bytes_eq-Decides}
-use Rattle.wb_meaning.specs.Value as pure
-use Rattle.wb_meaning.specs.Value.{Name, number, same_name, entry_of, value_or_zero, with_value}
-use Rattle.wb_meaning.specs.Verilog.Expression.{Scope, Object, Bits}
-use Rattle.wb_meaning.specs.Verilog.Statement as meaning
-use Rattle.wb_meaning.specs.Verilog.Statement.{written_cell, written_place}
-use Rattle.v_syntax.specs.Narrow.{FitsObject, HasFittingValues}
-use Rattle.v_syntax.specs.declared.scope.Entry.{Entry}
-use Rattle.v_syntax.specs.declared.scope.Value.{Value}
-use Rattle.v_syntax.specs.Scope.{values_of, value_of_entry, valuation_at}
+use Rattle.wb_values.specs.Value as pure
+use Rattle.wb_values.specs.Value.{Name, number, same_name, entry_of, value_or_zero, with_value}
+use Rattle.verilog_meaning.specs.Expression.{Scope, Object, Bits}
+use Rattle.verilog_meaning.specs.Statement as meaning
+use Rattle.verilog_meaning.specs.Statement.{written_cell, written_place}
+use Rattle.v_value.specs.Narrow.{FitsObject, HasFittingValues}
+use Rattle.v_value.specs.declared.scope.Entry.{Entry}
+use Rattle.v_value.specs.declared.scope.Value.{Value}
+use Rattle.v_value.specs.Scope.{values_of, value_of_entry, valuation_at}
 use Rattle.v_statement.specs.Places.{index_from}
 
 same_is : (m n : Name) → same_name m n ≡ true → m ≡ n

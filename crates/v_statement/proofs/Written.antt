@@ -8,10 +8,10 @@ use Rattle.std.proofs.lemmas.Nat.{mod-pow-add, div-mul-add}
 use Rattle.std.proofs.lemmas.Bool.{cases_lt}
 use Rattle.std.proofs.lemmas.Slice.Eq.{bytes_eq-Decides}
 use Rattle.std.specs.Option.{SomeIff}
-use Rattle.wb_meaning.specs.Value.{Name, Value, number, words, same_name, as_number, as_words, Valuation, with_value}
-use Rattle.wb_meaning.specs.Verilog.Expression.{Scope, Object, object_width, Bits}
-use Rattle.wb_meaning.specs.Verilog.Statement.{Cell, variable, word_cell, no_cell, Place, with_bits_at, with_bits, written_cell, written_place, written, places_width}
-use Rattle.v_syntax.specs.Narrow.{FitsObject, HasFittingValues}
+use Rattle.wb_values.specs.Value.{Name, Value, number, words, same_name, as_number, as_words, Valuation, with_value}
+use Rattle.verilog_meaning.specs.Expression.{Scope, Object, object_width, Bits}
+use Rattle.verilog_meaning.specs.Statement.{Cell, variable, word_cell, no_cell, Place, with_bits_at, with_bits, written_cell, written_place, written, places_width}
+use Rattle.v_value.specs.Narrow.{FitsObject, HasFittingValues}
 use Rattle.v_statement.specs.declared.place.Place.{Place as CodePlace}
 use Rattle.v_statement.specs.Places.{place_of, places_of}
 

@@ -1,18 +1,18 @@
 -- What runs of statements leave, over the code's values and the lists of a statement's parts.
 use Rattle.std.specs.Prelude.{ℕ, ◌+◌, max, ◌&&◌, Bool, cond, List, [], ◌∷◌, Option, Some, None}
-use Rattle.wb_meaning.specs.Value.{Valuation}
-use Rattle.wb_meaning.specs.Verilog.Syntax as pure
-use Rattle.wb_meaning.specs.Verilog.Syntax.{CaseKind, no_items, arm, default_arm}
-use Rattle.wb_meaning.specs.Verilog.Expression.{Scope, width_of, sign_of, value_of, is_true}
-use Rattle.wb_meaning.specs.Verilog.Statement.{Effect, unchanged, run, any_matches, items_width, items_signed}
-use Rattle.v_syntax.specs.declared.scope.Values.{Values}
+use Rattle.wb_values.specs.Value.{Valuation}
+use Rattle.verilog_trees.specs.Syntax as pure
+use Rattle.verilog_trees.specs.Syntax.{CaseKind, no_items, arm, default_arm}
+use Rattle.verilog_meaning.specs.Expression.{Scope, width_of, sign_of, value_of, is_true}
+use Rattle.verilog_meaning.specs.Statement.{Effect, unchanged, run, any_matches, items_width, items_signed}
+use Rattle.v_value.specs.declared.scope.Values.{Values}
 use Rattle.v_statement.specs.declared.place.Update.{Update as CodeUpdate}
 use Rattle.v_syntax.specs.declared.tree.Arm.{Arm}
 use Rattle.v_syntax.specs.declared.tree.CaseItem.{CaseItem, Values as ValuesOf, Default}
-use Rattle.v_syntax.specs.Scope.{valuation_at}
+use Rattle.v_value.specs.Scope.{valuation_at}
 use Rattle.v_syntax.specs.Tree.{tree_of, statement_of, expressions_of}
 use Rattle.v_statement.specs.Places.{updates_of}
-use Rattle.v_syntax.specs.Narrow.{IsNarrow, AreNarrow}
+use Rattle.v_value.specs.Narrow.{IsNarrow, AreNarrow}
 use Rattle.v_statement.specs.Statements.{IsNarrowStatement}
 
 -- values with the updates that wait

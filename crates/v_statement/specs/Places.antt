@@ -1,15 +1,15 @@
 -- The places and updates that the code's values stand for.
 use Rattle.std.specs.Prelude.{ℕ, cond, List, [], ◌∷◌, Option, Some, None, pos, ◌-ℤ◌, ◌+◌}
-use Rattle.wb_meaning.specs.Value.{Name, same_name}
-use Rattle.wb_meaning.specs.Verilog.Expression as expression
-use Rattle.wb_meaning.specs.Verilog.Statement as meaning
-use Rattle.v_syntax.specs.Index.{integer_at}
+use Rattle.wb_values.specs.Value.{Name, same_name}
+use Rattle.verilog_meaning.specs.Expression as expression
+use Rattle.verilog_meaning.specs.Statement as meaning
+use Rattle.v_value.specs.Index.{integer_at}
 use Rattle.v_statement.specs.declared.place.Bits.{Bits}
 use Rattle.v_statement.specs.declared.place.Cell.{Cell}
 use Rattle.v_statement.specs.declared.place.Cell.TheVariants.{Variable, Word, Nowhere}
 use Rattle.v_statement.specs.declared.place.Place.{Place}
 use Rattle.v_statement.specs.declared.place.Update.{Update}
-use Rattle.v_syntax.specs.declared.scope.Entry.{Entry}
+use Rattle.v_value.specs.declared.scope.Entry.{Entry}
 
 abbrev pub bits_of : Bits → expression.Bits
 bits_of b =

@@ -1,8 +1,8 @@
 -- Clocked blocks whose statements fit words, and updates whose places do.
 use Rattle.std.specs.Prelude.{◌≤◌, List, [], ◌∷◌, map}
-use Rattle.wb_meaning.specs.Verilog.Syntax as pure
-use Rattle.wb_meaning.specs.Verilog.Expression.{Scope}
-use Rattle.wb_meaning.specs.Verilog.Statement.{Update, places_width}
+use Rattle.verilog_trees.specs.Syntax as pure
+use Rattle.verilog_meaning.specs.Expression.{Scope}
+use Rattle.verilog_meaning.specs.Statement.{Update, places_width}
 use Rattle.v_syntax.specs.declared.module.Event.{Event}
 use Rattle.v_syntax.specs.Source.{edge_of}
 use Rattle.v_statement.specs.Statements.{IsNarrowStatement}

@@ -1,14 +1,14 @@
 -- Statements whose values fit words: each expression in them does, and each target has at most 128 bits.
 use Rattle.std.specs.Prelude.{◌≤◌, List, [], ◌∷◌, Option, Some}
-use Rattle.wb_meaning.specs.Verilog.Syntax.{Select, index, part, part_up, part_down, Selects, whole, one, two, Target, place, joined, Targets, no_targets, target, Statement, empty, blocking, nonblocking, if_then, if_else, case, block, Statements, no_statements, statement, CaseItems, no_items, arm, default_arm}
-use Rattle.wb_meaning.specs.Verilog.Expression.{Scope}
-use Rattle.wb_meaning.specs.Verilog.Statement.{target_width}
-use Rattle.wb_meaning.specs.Value.{Valuation}
+use Rattle.verilog_trees.specs.Syntax.{Select, index, part, part_up, part_down, Selects, whole, one, two, Target, place, joined, Targets, no_targets, target, Statement, empty, blocking, nonblocking, if_then, if_else, case, block, Statements, no_statements, statement, CaseItems, no_items, arm, default_arm}
+use Rattle.verilog_meaning.specs.Expression.{Scope}
+use Rattle.verilog_meaning.specs.Statement.{target_width}
+use Rattle.wb_values.specs.Value.{Valuation}
 use Rattle.v_syntax.specs.declared.tree.Target.{Target as CodeTarget}
 use Rattle.v_syntax.specs.declared.tree.Statement.{Statement as CodeStatement}
 use Rattle.v_syntax.specs.declared.tree.Arm.{Arm}
 use Rattle.v_syntax.specs.Tree.{tree_of, target_of, statement_of, arm_before}
-use Rattle.v_syntax.specs.Narrow.{IsNarrow, AreNarrow, HasNarrowObjects, HasFittingValues}
+use Rattle.v_value.specs.Narrow.{IsNarrow, AreNarrow, HasNarrowObjects, HasFittingValues}
 
 -- objects and values that fit words
 abbrev pub IsReadyFor : Scope → Valuation → Type 0

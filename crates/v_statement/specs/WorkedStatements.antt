@@ -1,8 +1,8 @@
 -- Statements whose effects are known.
-use Rattle.std.specs.Prelude.{ℕ, true, false, [], ◌∷◌, Some, None}
-use Rattle.wb_meaning.specs.Value.{Name, number as a_number, words, Valuation, valuation_of}
-use Rattle.wb_meaning.specs.Verilog.Syntax.{Expression, number, no_expressions, expression, Select, index, part, part_up, part_down, whole, one, two, place, joined, no_targets, target, Statement, blocking, nonblocking, block, no_statements, statement, CaseItems, no_items, arm, default_arm, name}
-use Rattle.wb_meaning.specs.Verilog.Expression.{Object, Scope, scope_of, undeclared}
+use Rattle.std.specs.Prelude.{ℕ, true, false, not, ◌==◌, [], ◌∷◌, Some, None}
+use Rattle.wb_values.specs.Value.{Name, number as a_number, words, Valuation, valuation_of}
+use Rattle.verilog_trees.specs.Syntax.{Expression, number, no_expressions, expression, Select, index, part, part_up, part_down, whole, one, two, place, joined, no_targets, target, Statement, blocking, nonblocking, block, no_statements, statement, CaseItems, no_items, arm, default_arm, name}
+use Rattle.verilog_meaning.specs.Expression.{Object, Scope, scope_of, undeclared}
 
 abbrev pub a : Name
 a = 97 ∷ []
@@ -23,20 +23,20 @@ abbrev pub w : Name
 w = 119 ∷ []
 
 abbrev pub byte : Object
-byte = record { signed = false; left = 7; right = 0; addresses = None; constant = None }
+byte = record undeclared { is_declared = true; has_range = true; left = 7 }
 
 abbrev pub ascending_byte : Object
-ascending_byte = record { signed = false; left = 0; right = 7; addresses = None; constant = None }
+ascending_byte = record byte { left = 0; right = 7 }
 
 -- reg [7:0] a, b, q; reg [0:7] w; reg k; reg [7:0] m [0:4];
 abbrev pub names : Scope
 names =
     scope_of
-    ((a, byte) ∷ (b, byte) ∷ (q, byte) ∷ (w, ascending_byte) ∷ (k, undeclared) ∷ (m, record { signed = false; left = 7; right = 0; addresses = Some (0, 4); constant = None }) ∷ [])
+    ((a, byte) ∷ (b, byte) ∷ (q, byte) ∷ (w, ascending_byte) ∷ (k, record undeclared { is_declared = true }) ∷ (m, record byte { addresses = Some (0, 4) }) ∷ [])
 
 -- an unsigned number of w bits, with these z and ? bits
 abbrev pub digits : ℕ → ℕ → ℕ → Expression
-digits w x wild = number (record { width = w; sized = true; signed = false; value = x; unknown = 0; wild = wild })
+digits w x wild = number (record { width = w; sized = true; signed = false; value = x; unknown = 0; wild = wild; has_unknown = false; has_wild = not (wild == 0) })
 
 -- begin q <= 1; q <= 2; end
 abbrev pub assigned_twice : Statement
@@ -98,7 +98,7 @@ fives_with x = valuation_of ((q, a_number 85) ∷ (w, a_number 85) ∷ (b, a_num
 -- q[-2 +: 4] = 11;
 abbrev pub from_minus_two : Statement
 from_minus_two =
-    part_set q (part_up (number (record { width = 8; sized = true; signed = true; value = 254; unknown = 0; wild = 0 })) (digits 8 4 0)) (digits 4 11 0)
+    part_set q (part_up (number (record { width = 8; sized = true; signed = true; value = 254; unknown = 0; wild = 0; has_unknown = false; has_wild = false })) (digits 8 4 0)) (digits 4 11 0)
 
 -- m[i][3:0] <= 12;
 abbrev pub low_half_stored_at : ℕ → Statement

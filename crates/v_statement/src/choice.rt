@@ -1,18 +1,18 @@
 //! Which item of a case is run (1364-2005, 9.5): the first that matches, else the default.
 ghost use Rattle.std.specs.Prelude.{◌≡◌, ◌≤◌, ◌<◌, ◌^◌, ◌==◌, max, length, None, IfSome, if◌then◌else◌};
-ghost use Rattle.wb_meaning.specs.Verilog.Expression.{width_of, sign_of};
-ghost use Rattle.wb_meaning.specs.Verilog.Statement.{wild_bits, matches, any_matches, greatest_width, all_signed, items_width, items_signed};
-ghost use Rattle.v_syntax.specs.Scope.{scope_at, valuation_at};
+ghost use Rattle.verilog_meaning.specs.Expression.{width_of, sign_of};
+ghost use Rattle.verilog_meaning.specs.Statement.{wild_bits, matches, any_matches, greatest_width, all_signed, items_width, items_signed};
+ghost use Rattle.v_value.specs.Scope.{scope_at, valuation_at};
 ghost use Rattle.v_syntax.specs.Tree.{tree_of, case_kind_of, expressions_of};
-ghost use Rattle.v_syntax.specs.Narrow.{IsNarrow, AreNarrow};
+ghost use Rattle.v_value.specs.Narrow.{IsNarrow, AreNarrow};
 ghost use Rattle.v_statement.specs.Statements.{IsReadyFor};
 ghost use Rattle.v_statement.specs.Effects.{item_list, AreValuesNarrow, matching_from, chosen_item};
 
 use crate::evaluation::value_of;
-use v_syntax::scope::{Entry, Scope};
-use v_syntax::sign::sign_of;
 use v_syntax::tree::{CaseItem, CaseKind, Expression};
-use v_syntax::width::width_of;
+use v_value::scope::{Entry, Scope};
+use v_value::sign::sign_of;
+use v_value::width::width_of;
 
 /// This number where no link stands behind it, else 0.
 fn alone<T>(links: &[T], wild: u128) -> u128

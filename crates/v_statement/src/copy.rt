@@ -1,9 +1,9 @@
 //! Copies of values.
 ghost use Rattle.std.specs.Prelude.{◌≡◌, IfOk};
-ghost use Rattle.v_syntax.specs.Scope.{value_of_entry, values_of};
+ghost use Rattle.v_value.specs.Scope.{value_of_entry, values_of};
 
 use std::alloc::{AllocError, Global};
-use v_syntax::scope::{Entry, Value, Values};
+use v_value::scope::{Entry, Value, Values};
 
 /// A copy of a value.
 fn copied_value(alloc: Global, value: &Value) -> Result<Value, AllocError>

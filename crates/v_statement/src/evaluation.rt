@@ -1,20 +1,20 @@
 //! What statements read: the values that assignments give, conditions, and indexes.
 ghost use Rattle.std.specs.Prelude.{◌≡◌, true, ◌≤◌, ◌<◌, ◌^◌};
-ghost use Rattle.wb_meaning.specs.Verilog.Expression.{width_of, value_of, integer_of as meaning_integer, is_true, assigned_value, no_values};
-ghost use Rattle.v_syntax.specs.Scope.{scope_at, valuation_at};
+ghost use Rattle.verilog_meaning.specs.Expression.{width_of, value_of, integer_of as meaning_integer, is_true, assigned_value, no_values};
+ghost use Rattle.v_value.specs.Scope.{scope_at, valuation_at};
 ghost use Rattle.v_syntax.specs.Tree.{tree_of};
-ghost use Rattle.v_syntax.specs.Narrow.{IsNarrow, HasNarrowObjects};
-ghost use Rattle.v_syntax.specs.Index.{integer_at};
+ghost use Rattle.v_value.specs.Narrow.{IsNarrow, HasNarrowObjects};
+ghost use Rattle.v_value.specs.Index.{integer_at};
 ghost use Rattle.v_statement.specs.Statements.{IsReadyFor};
 
 use crate::place::lowest;
-use v_syntax::scope::{Entry, Scope};
-use v_syntax::select::Integer;
-use v_syntax::sign::sign_of;
-use v_syntax::taken::integer_of;
 use v_syntax::tree::Expression;
-use v_syntax::value::value_in_context;
-use v_syntax::width::width_of;
+use v_value::scope::{Entry, Scope};
+use v_value::select::Integer;
+use v_value::sign::sign_of;
+use v_value::taken::integer_of;
+use v_value::value::value_in_context;
+use v_value::width::width_of;
 
 /// The value of the expression in a context of this width and sign.
 pub(crate) fn value_of(

@@ -9,7 +9,5 @@ pub mod register;
 mod select;
 pub mod statement;
 pub mod target;
-#[cfg(test)]
-mod tests;
 pub mod worked_statements;
 pub mod write;

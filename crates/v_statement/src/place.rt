@@ -1,10 +1,10 @@
 //! Places: some bits of a net, a variable or a word of a memory, and what a number written there leaves.
 ghost use Rattle.std.specs.Prelude.{◌≡◌, ◌%◌, ◌^◌, ◌<◌, ◌≤◌, pos, ◌-ℤ◌};
-ghost use Rattle.wb_meaning.specs.Verilog.Statement.{with_bits_from, with_bits_at, with_bits};
-ghost use Rattle.v_syntax.specs.Index.{integer_at};
+ghost use Rattle.verilog_meaning.specs.Statement.{with_bits_from, with_bits_at, with_bits};
+ghost use Rattle.v_value.specs.Index.{integer_at};
 ghost use Rattle.v_statement.specs.Places.{bits_of};
 
-use v_syntax::select::Integer;
+use v_value::select::Integer;
 
 /// So many bits side by side, from a place upward, or downward from it, which is then the place of the highest of them.
 /// Places are counted from 0 at the low end; those below 0 and from the width on are out of range.

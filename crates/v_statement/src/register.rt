@@ -1,8 +1,8 @@
 //! What the clocked blocks of one module leave at the clock's edge.
 ghost use Rattle.std.specs.Prelude.{◌≡◌, ◌≤◌, ◌++◌, ◌∷◌, [], OnOk, OnErr, map};
-ghost use Rattle.wb_meaning.specs.Verilog.Statement.{run, with_updates};
-ghost use Rattle.wb_meaning.specs.Verilog.Register.{is_edge, has_edge, is_clocked, clocked_blocks, updates_of as updates_of_blocks, after_edge};
-ghost use Rattle.v_syntax.specs.Scope.{scope_at, valuation_at};
+ghost use Rattle.verilog_meaning.specs.Statement.{run, with_updates};
+ghost use Rattle.verilog_meaning.specs.Register.{is_edge, has_edge, is_clocked, clocked_blocks, updates_of as updates_of_blocks, after_edge};
+ghost use Rattle.v_value.specs.Scope.{scope_at, valuation_at};
 ghost use Rattle.v_syntax.specs.Source.{edge_of, events_of, item_of};
 ghost use Rattle.v_statement.specs.Places.{updates_of};
 ghost use Rattle.v_syntax.specs.Tree.{statement_of};
@@ -15,8 +15,8 @@ use crate::statement::run_statement;
 use crate::write::write;
 use std::alloc::{AllocError, Global};
 use v_syntax::module::{EdgeKind, Event, Events, Item};
-use v_syntax::scope::{Entry, Scope, Values};
 use v_syntax::tree::Statement;
+use v_value::scope::{Entry, Scope, Values};
 
 /// Whether the event is an edge.
 fn is_edge(kind: EdgeKind) -> bool

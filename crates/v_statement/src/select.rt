@@ -1,16 +1,16 @@
 //! What selects take of an object: some of its bits, or a word of a memory (1364-2005, 5.2).
 ghost use Rattle.std.specs.Prelude.{◌≡◌, true, ◌<◌, ◌≤◌, ◌^◌, ◌+◌};
-ghost use Rattle.wb_meaning.specs.Verilog.Expression as meaning;
-ghost use Rattle.wb_meaning.specs.Verilog.Statement.{indexed_cell, all_bits};
-ghost use Rattle.v_syntax.specs.Scope.{object_of};
-ghost use Rattle.v_syntax.specs.Narrow.{IsNarrowObject};
-ghost use Rattle.v_syntax.specs.Index.{integer_at, count_between};
+ghost use Rattle.verilog_meaning.specs.Expression as meaning;
+ghost use Rattle.verilog_meaning.specs.Statement.{indexed_cell, all_bits};
+ghost use Rattle.v_value.specs.Scope.{object_of};
+ghost use Rattle.v_value.specs.Narrow.{IsNarrowObject};
+ghost use Rattle.v_value.specs.Index.{integer_at, count_between};
 ghost use Rattle.v_statement.specs.Places.{bits_of, cell_of};
 
 use crate::place::{Bits, Cell};
-use v_syntax::scope::Object;
-use v_syntax::select::{Integer, count_between, place_of_bit};
-use v_syntax::width::object_width;
+use v_value::scope::Object;
+use v_value::select::{Integer, count_between, place_of_bit};
+use v_value::width::object_width;
 
 /// The word of a memory that an index names.
 pub(crate) fn indexed_cell(object: Object, index: Integer) -> Cell

@@ -1,12 +1,12 @@
 //! Runs of statements (1364-2005, 9.2 to 9.5): blocking assignments change the values, nonblocking ones add updates.
 ghost use Rattle.std.specs.Prelude.{◌≡◌, ◌≤◌, ◌<◌, ◌^◌, ◌++◌, ◌∷◌, [], IfOk, OnOk, OnErr, is_some};
-ghost use Rattle.wb_meaning.specs.Verilog.Syntax.{case as meaning_case};
-ghost use Rattle.wb_meaning.specs.Verilog.Expression.{assigned_value};
-ghost use Rattle.wb_meaning.specs.Verilog.Statement.{places, written, target_width, run, run_all, behind};
-ghost use Rattle.v_syntax.specs.Scope.{scope_at, valuation_at};
+ghost use Rattle.verilog_trees.specs.Syntax.{case as meaning_case};
+ghost use Rattle.verilog_meaning.specs.Expression.{assigned_value};
+ghost use Rattle.verilog_meaning.specs.Statement.{places, written, target_width, run, run_all, behind};
+ghost use Rattle.v_value.specs.Scope.{scope_at, valuation_at};
 ghost use Rattle.v_syntax.specs.Tree.{tree_of, target_of, statement_of, case_kind_of};
 ghost use Rattle.v_statement.specs.Places.{places_of as places_view, update_of as update_view, updates_of};
-ghost use Rattle.v_syntax.specs.Narrow.{IsNarrow};
+ghost use Rattle.v_value.specs.Narrow.{IsNarrow};
 ghost use Rattle.v_statement.specs.Statements.{IsReadyFor, IsNarrowTarget, IsNarrowStatement, AreNarrowStatements, AreNarrowItems, statement_list};
 ghost use Rattle.v_statement.specs.Effects.{effect_at, first_true, run_if_any, AreNarrowArms, item_list, statement_in};
 
@@ -17,8 +17,8 @@ use crate::place::{Place, Update};
 use crate::target::{add_places, places_width};
 use crate::write::write;
 use std::alloc::{AllocError, Global};
-use v_syntax::scope::{Entry, Scope, Values};
 use v_syntax::tree::{Arm, CaseItem, CaseKind, Expression, Statement, Target};
+use v_value::scope::{Entry, Scope, Values};
 
 /// The places of a target.
 fn places_of<'s>(

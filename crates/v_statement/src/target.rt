@@ -1,10 +1,10 @@
 //! The places that the targets of assignments mean.
 ghost use Rattle.std.specs.Prelude.{◌≡◌, ◌≤◌, ◌++◌, [], ◌∷◌, OnOk};
-ghost use Rattle.wb_meaning.specs.Verilog.Expression.{no_values, select_index, select_bits, selects_width};
-ghost use Rattle.wb_meaning.specs.Verilog.Statement.{place_of as meaning_place, places, all_places, places_width, target_width, targets_width};
-ghost use Rattle.v_syntax.specs.Scope.{object_of, scope_at, valuation_at};
+ghost use Rattle.verilog_meaning.specs.Expression.{no_values, select_index, select_bits, selects_width};
+ghost use Rattle.verilog_meaning.specs.Statement.{place_of as meaning_place, places, all_places, places_width, target_width, targets_width};
+ghost use Rattle.v_value.specs.Scope.{object_of, scope_at, valuation_at};
 ghost use Rattle.v_syntax.specs.Tree.{selects_of, select_of, target_of};
-ghost use Rattle.v_syntax.specs.Index.{integer_at};
+ghost use Rattle.v_value.specs.Index.{integer_at};
 ghost use Rattle.v_statement.specs.Places.{bits_of, place_of, places_of};
 ghost use Rattle.v_statement.specs.Statements.{IsReadyFor, IsNarrowSelect, AreNarrowSelects, HasNarrowSelects, HaveNarrowSelects, target_list};
 
@@ -14,10 +14,10 @@ use crate::select::{
     all_bits, bit_at, bits_between, bits_downward, bits_upward, count_of, indexed_cell,
 };
 use std::alloc::AllocError;
-use v_syntax::scope::{Entry, Object, Scope};
-use v_syntax::select::Integer;
-use v_syntax::taken::integer_of;
 use v_syntax::tree::{Select, Selects, Target};
+use v_value::scope::{Entry, Object, Scope};
+use v_value::select::Integer;
+use v_value::taken::integer_of;
 
 /// The number of an index by its own sign; of a part select, which is no index, one that is out of range.
 fn select_index(scope: &Scope<'_>, values: &[Entry<'_>], select: &Select<'_>) -> Integer

@@ -1,10 +1,10 @@
 //! Worked statements: what the definitions give for statements whose effects are known.
 ghost use Rattle.std.specs.Prelude.{◌≡◌, [], ◌∷◌};
-ghost use Rattle.wb_meaning.specs.Value.{number, words, valuation_of};
-ghost use Rattle.wb_meaning.specs.Verilog.Syntax.{exact_case, wild_case, case};
-ghost use Rattle.wb_meaning.specs.Verilog.Expression.{no_values};
-ghost use Rattle.wb_meaning.specs.Verilog.Statement.{run};
-ghost use Rattle.wb_meaning.specs.Verilog.Register.{after_edge};
+ghost use Rattle.wb_values.specs.Value.{number, words, valuation_of};
+ghost use Rattle.verilog_trees.specs.Syntax.{exact_case, wild_case, case};
+ghost use Rattle.verilog_meaning.specs.Expression.{no_values};
+ghost use Rattle.verilog_meaning.specs.Statement.{run};
+ghost use Rattle.verilog_meaning.specs.Register.{after_edge};
 ghost use Rattle.v_statement.specs.WorkedStatements as worked;
 
 /// `begin q <= 1; q <= 2; end` leaves 2, and two blocks `a <= b;` and `b <= a;` swap their values.

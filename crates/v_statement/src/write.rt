@@ -1,15 +1,15 @@
 //! Writing numbers to places of values.
 ghost use Rattle.std.specs.Prelude.{◌≡◌, ◌≤◌, ◌<◌, ◌+◌, ◌^◌, OnOk, OnErr, length, slice_set, slice_index, vec_len, vec_capacity};
-ghost use Rattle.wb_meaning.specs.Verilog.Expression.{object_width};
-ghost use Rattle.wb_meaning.specs.Verilog.Statement.{with_bits, written_cell, written_place, written, places_width};
-ghost use Rattle.v_syntax.specs.Narrow.{FitsObject, IsNarrowObject, HasNarrowObjects, HasFittingValues};
-ghost use Rattle.v_syntax.specs.Scope.{object_of, scope_at, value_of_entry, valuation_at};
+ghost use Rattle.verilog_meaning.specs.Expression.{object_width};
+ghost use Rattle.verilog_meaning.specs.Statement.{with_bits, written_cell, written_place, written, places_width};
+ghost use Rattle.v_value.specs.Narrow.{FitsObject, IsNarrowObject, HasNarrowObjects, HasFittingValues};
+ghost use Rattle.v_value.specs.Scope.{object_of, scope_at, value_of_entry, valuation_at};
 ghost use Rattle.v_statement.specs.Places.{bits_of, cell_of, place_of, places_of, index_from};
 
 use crate::place::{Bits, Cell, Place, with_bits};
 use std::alloc::{AllocError, Global};
-use v_syntax::scope::{Entry, Object, Scope, Value, Values};
-use v_syntax::width::object_width;
+use v_value::scope::{Entry, Object, Scope, Value, Values};
+use v_value::width::object_width;
 
 /// The index of the first entry under the name.
 fn index_of(entries: &[Entry<'_>], name: &str) -> Option<usize>

@@ -3,8 +3,8 @@ use Rattle.std.proofs.Common.{◌≡◌, ◌∙◌, refl, ap}
 use Rattle.std.specs.declared.boxed.Box.{Box}
 use Rattle.std.specs.declared.vec.Vec.{Vec}
 use Rattle.std.specs.declared.alloc.Global.{Global}
-use Rattle.wb_meaning.specs.Verilog.Syntax as pure
-use Rattle.wb_meaning.specs.Verilog.Syntax.{concatenation, replication, expression, conditional}
+use Rattle.verilog_trees.specs.Syntax as pure
+use Rattle.verilog_trees.specs.Syntax.{concatenation, replication, expression, conditional}
 use Rattle.v_syntax.specs.declared.tree.BinaryLink.{BinaryLink}
 use Rattle.v_syntax.specs.declared.tree.TestLink.{TestLink}
 use Rattle.v_syntax.specs.declared.tree.Choice.{Choice}

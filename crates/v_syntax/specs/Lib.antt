@@ -1,9 +1,3 @@
 pub mod Tree
 pub mod Source
-pub mod Scope
 pub mod Chain
-pub mod Operators
-pub mod Narrow
-pub mod Evaluation
-pub mod Worked
-pub mod Index

@@ -2,7 +2,7 @@
 use Rattle.std.specs.Prelude.{Option, Some, None, map}
 use Rattle.std.specs.declared.boxed.Box.{Box}
 use Rattle.std.specs.declared.alloc.Global.{Global}
-use Rattle.wb_meaning.specs.Verilog.Syntax as pure
+use Rattle.verilog_trees.specs.Syntax as pure
 use Rattle.v_syntax.specs.declared.tree.Expression.{Expression}
 use Rattle.v_syntax.specs.declared.module.EdgeKind.{EdgeKind}
 use Rattle.v_syntax.specs.declared.module.EdgeKind.TheVariants.{Posedge, Negedge, AnyEdge}

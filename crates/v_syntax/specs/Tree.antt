@@ -1,9 +1,9 @@
 -- The pure trees that the code's flat expressions, targets and statements stand for.
 use Rattle.std.specs.Prelude.{ℕ, List, [], ◌∷◌, Option, Some, None}
 use Rattle.std.specs.Borrow.{Bor}
-use Rattle.wb_meaning.specs.Value.{Name}
-use Rattle.wb_meaning.specs.Verilog.Syntax as pure
-use Rattle.wb_meaning.specs.Verilog.Syntax.{number, name, concatenation, replication, as_signed, as_unsigned, unary, reduction, binary, shift, power, comparison, logical, conditional, no_expressions, expression, index, part, part_up, part_down, whole, one, two, place, joined, no_targets, target, exact_case, wild_case, empty, blocking, nonblocking, if_then, if_else, case, block, no_statements, statement, no_items, arm, default_arm}
+use Rattle.wb_values.specs.Value.{Name}
+use Rattle.verilog_trees.specs.Syntax as pure
+use Rattle.verilog_trees.specs.Syntax.{number, name, concatenation, replication, as_signed, as_unsigned, unary, reduction, binary, shift, power, comparison, logical, conditional, no_expressions, expression, index, part, part_up, part_down, whole, one, two, place, joined, no_targets, target, exact_case, wild_case, empty, blocking, nonblocking, if_then, if_else, case, block, no_statements, statement, no_items, arm, default_arm}
 use Rattle.v_syntax.specs.declared.tree.Number.{Number as CodeNumber}
 use Rattle.v_syntax.specs.declared.tree.PrefixOperator.{PrefixOperator}
 use Rattle.v_syntax.specs.declared.tree.PrefixOperator.TheVariants.{Plus, Minus, Complement, IsZero, AllOnes, NotAllOnes, AnyOne, NoOne, OddOnes, EvenOnes}
@@ -21,7 +21,7 @@ use Rattle.v_syntax.specs.declared.tree.CaseItem.{Values, Default}
 use Rattle.v_syntax.specs.declared.tree.Statement.{Statement, Empty, Blocking, Nonblocking, If', Case', Block', Row_of-Arm, end_of-Arm, more_of-Arm, Held-Statement-If-1, None', Some', Row_of-CaseItem, end_of-CaseItem, more_of-CaseItem, Row_of-Statement, end_of-Statement, more_of-Statement}
 
 abbrev pub number_of : CodeNumber → pure.Number
-number_of n = record { width = n.width; sized = n.sized; signed = n.signed; value = n.value; unknown = n.unknown; wild = n.wild }
+number_of n = record { width = n.width; sized = n.sized; signed = n.signed; value = n.value; unknown = n.unknown; wild = n.wild; has_unknown = n.has_unknown; has_wild = n.has_wild }
 
 -- an operator before an operand
 abbrev pub prefixed : PrefixOperator → pure.Expression → pure.Expression

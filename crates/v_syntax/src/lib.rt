@@ -1,15 +1,5 @@
-//! Syntax trees of Verilog sources, and plain programs that say what their expressions are worth.
+//! Syntax trees of Verilog sources: flat trees that borrow their text, with views into the pure trees.
 #![tactic(auto)]
 
-mod arithmetic;
-pub mod expression;
 pub mod module;
-pub mod scope;
-pub mod select;
-pub mod sign;
-pub mod taken;
 pub mod tree;
-pub mod value;
-pub mod width;
-mod word;
-pub mod worked;

@@ -15,6 +15,10 @@ pub struct Number {
     pub unknown: u128,
     /// The bits of z and `?` digits.
     pub wild: u128,
+    /// Whether some digit is x, of all digits as written.
+    pub has_unknown: bool,
+    /// Whether some digit is z or `?`, of all digits as written.
+    pub has_wild: bool,
 }
 
 /// The operators before an operand (1364-2005, 5.1.2).

@@ -1,6 +1,5 @@
-//! Small texts from bytes to a tree or to the kind that refuses them.
+//! Texts from bytes to trees and values. (Small texts with the kind that refuses them stand in the program test_commands.)
 
-mod places;
 mod tables;
 
 use std::alloc::{AllocError, Global};
@@ -8,12 +7,12 @@ use std::process::Abort;
 use std::test::Fail;
 use v_dotted::{dotted_tokens, whole_expression};
 use v_expr::expression;
-use v_lex::{LexKind, LexStop, Note, note_at, tokens};
+use v_lex::{LexKind, LexStop, tokens};
 use v_narrow::{are_objects_narrow, is_narrow, values_fit};
 use v_parse::{ParseStop, parse};
-use v_syntax::expression::assigned_value;
-use v_syntax::scope::{Scope, Values};
 use v_syntax::tree::Expression;
+use v_value::expression::assigned_value;
+use v_value::scope::{Scope, Values};
 
 /// What a text is read as: a tree, or the kind that refuses it.
 #[derive(Clone, Copy, PartialEq, Eq, Debug)]
@@ -50,117 +49,6 @@ fn kind_of(alloc: Global, text: &[u8]) -> Result<Kind, AllocError> {
         Err(ParseStop::Refused(_)) => Ok(Kind::Syntax),
         Err(ParseStop::NoMemory) => Err(AllocError),
     }
-}
-
-fn check(rt: &impl Abort, alloc: Global, rows: &[(&str, Kind)]) -> Result<(), Fail> {
-    for (text, kind) in rows {
-        let found = kind_of(alloc, text.as_bytes())?;
-        assert_eq!(rt; found, *kind, "{text}");
-    }
-    Ok(())
-}
-
-#[test]
-fn modules(rt: HostRuntime) -> Result<(), Fail> {
-    check(&rt, rt.alloc(), &tables::MODULES)
-}
-
-#[test]
-fn first_items(rt: HostRuntime) -> Result<(), Fail> {
-    check(&rt, rt.alloc(), &tables::FIRST_ITEMS)
-}
-
-#[test]
-fn more_items(rt: HostRuntime) -> Result<(), Fail> {
-    check(&rt, rt.alloc(), &tables::MORE_ITEMS)
-}
-
-#[test]
-fn statements(rt: HostRuntime) -> Result<(), Fail> {
-    check(&rt, rt.alloc(), &tables::STATEMENTS)
-}
-
-#[test]
-fn first_expressions(rt: HostRuntime) -> Result<(), Fail> {
-    check(&rt, rt.alloc(), &tables::FIRST_EXPRESSIONS)
-}
-
-#[test]
-fn more_expressions(rt: HostRuntime) -> Result<(), Fail> {
-    check(&rt, rt.alloc(), &tables::MORE_EXPRESSIONS)
-}
-
-#[test]
-fn numbers(rt: HostRuntime) -> Result<(), Fail> {
-    check(&rt, rt.alloc(), &tables::NUMBERS)
-}
-
-#[test]
-fn first_texts(rt: HostRuntime) -> Result<(), Fail> {
-    check(&rt, rt.alloc(), &tables::FIRST_TEXTS)
-}
-
-#[test]
-fn more_texts(rt: HostRuntime) -> Result<(), Fail> {
-    check(&rt, rt.alloc(), &tables::MORE_TEXTS)
-}
-
-/// The note that leads to the first token that does not fit, where the tokens of the files are no source.
-fn place_in(alloc: Global, files: &[Vec<u8>]) -> Result<Option<Note>, AllocError> {
-    let Ok(tokens) = tokens(alloc, files) else {
-        return Ok(None);
-    };
-    match parse(alloc, &tokens) {
-        Ok(_) => Ok(None),
-        Err(ParseStop::Refused(left)) => {
-            let first = tokens.len().saturating_sub(left);
-            Ok(note_at(alloc, files, tokens.get(first).copied()))
-        }
-        Err(ParseStop::NoMemory) => Err(AllocError),
-    }
-}
-
-fn check_place(rt: &impl Abort, alloc: Global, files: &[Vec<u8>], place: &str) -> Result<(), Fail> {
-    let note = place_in(alloc, files)?.ok_or("no place")?;
-    assert_eq!(rt; note.as_bytes(), place.as_bytes());
-    Ok(())
-}
-
-fn check_places(rt: &impl Abort, alloc: Global, rows: &[(&str, &str)]) -> Result<(), Fail> {
-    for (text, place) in rows {
-        let files = vec![in alloc; Vec::from_slice(alloc, text.as_bytes())?]?;
-        check_place(rt, alloc, &files, place)?;
-    }
-    Ok(())
-}
-
-#[test]
-fn places_in_headers(rt: HostRuntime) -> Result<(), Fail> {
-    check_places(&rt, rt.alloc(), &places::HEADERS)
-}
-
-#[test]
-fn places_in_declarations(rt: HostRuntime) -> Result<(), Fail> {
-    check_places(&rt, rt.alloc(), &places::DECLARATIONS)
-}
-
-#[test]
-fn places_in_blocks(rt: HostRuntime) -> Result<(), Fail> {
-    check_places(&rt, rt.alloc(), &places::BLOCKS)
-}
-
-/// A place behind the first file, and one at the end of the last.
-#[test]
-fn places_in_files(rt: HostRuntime) -> Result<(), Fail> {
-    let alloc = rt.alloc();
-    let first = Vec::from_slice(alloc, b"module m;\nendmodule\n")?;
-    let second = Vec::from_slice(alloc, b"\nmodule n;\n  wire a b;\nendmodule")?;
-    let files = vec![in alloc; first, second]?;
-    check_place(&rt, alloc, &files, "file 1 line 3 column 10: b;")?;
-    let first = Vec::from_slice(alloc, b"module m;\n")?;
-    let second = Vec::from_slice(alloc, b"wire a;\n")?;
-    let files = vec![in alloc; first, second]?;
-    check_place(&rt, alloc, &files, "file 1 line 2 column 1: ")
 }
 
 /// The value of a text's expression in an assignment to 32 bits, where it is an expression without names.

@@ -1,6 +1,6 @@
 -- The pure tokens that the code's stand for.
 use Rattle.std.specs.Prelude.{ℕ, List, map}
-use Rattle.wb_meaning.specs.Verilog.Token as pure
+use Rattle.verilog_text.specs.Token as pure
 use Rattle.v_token.specs.declared.token.Mark.{Mark}
 use Rattle.v_token.specs.declared.token.Mark.TheVariants as marks
 use Rattle.v_token.specs.declared.token.TokenKind.{TokenKind}

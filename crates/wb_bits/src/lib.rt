@@ -2,7 +2,7 @@
 #![tactic(auto)]
 
 ghost use Rattle.std.specs.Prelude.{◌≡◌, ℕ, ◌+◌, ◌-◌, ◌%◌, ◌^◌, ◌<◌, ◌≤◌, min};
-ghost use Rattle.wb_meaning.specs.Number.{top_bit, word_not, word_and, word_or, word_xor, word_neg, word_add, word_sub, word_mul, word_shl, word_lshr, word_ashr, word_eq, word_ult, word_ule, word_slt, word_sle, word_concat, word_extract, word_zext, word_sext};
+ghost use Rattle.wb_values.specs.Number.{top_bit, word_not, word_and, word_or, word_xor, word_neg, word_add, word_sub, word_mul, word_shl, word_lshr, word_ashr, word_eq, word_ult, word_ule, word_slt, word_sle, word_concat, word_extract, word_zext, word_sext};
 
 /// The largest width of a word, in bits.
 pub const MAX_WIDTH: u32 = 128;

@@ -1,8 +1,8 @@
 -- Chains with a link more at their end fit words where the rest does.
 use Rattle.std.proofs.Common.{◌≡◌, ℕ, refl, ap, sym, subst, List, [], ◌∷◌, ◌++◌, Option, Some, None}
-use Rattle.wb_meaning.specs.Verilog.Syntax as pure
-use Rattle.wb_meaning.specs.Verilog.Syntax.{conditional}
-use Rattle.wb_meaning.specs.Verilog.Expression.{Scope}
+use Rattle.verilog_trees.specs.Syntax as pure
+use Rattle.verilog_trees.specs.Syntax.{conditional}
+use Rattle.verilog_meaning.specs.Expression.{Scope}
 use Rattle.v_syntax.specs.declared.tree.PrefixOperator.{PrefixOperator}
 use Rattle.v_syntax.specs.declared.tree.PrefixOperator.TheVariants.{Minus}
 use Rattle.v_syntax.specs.declared.tree.BinaryOperator.TheVariants.{Add}
@@ -16,7 +16,7 @@ use Rattle.v_syntax.specs.declared.tree.Target.{Place}
 use Rattle.v_syntax.specs.declared.tree.Statement.{Blocking}
 use Rattle.v_syntax.specs.Tree.{tree_of, statement_of, prefixed, all_prefixed, combined, arm_before, or_empty}
 use Rattle.v_syntax.specs.Chain.{linked, chosen}
-use Rattle.v_syntax.specs.Narrow.{IsNarrow, HasNarrowObjects}
+use Rattle.v_value.specs.Narrow.{IsNarrow, HasNarrowObjects}
 use Rattle.v_statement.specs.Statements.{IsNarrowStatement, arm_list}
 use Rattle.wb_deep.specs.Small.{IsSmall, IsSmallStatement}
 

@@ -1,9 +1,9 @@
 -- Trees that fit words in every scope.
-use Rattle.wb_meaning.specs.Verilog.Expression.{Scope}
+use Rattle.verilog_meaning.specs.Expression.{Scope}
 use Rattle.v_syntax.specs.declared.tree.Expression.{Expression}
 use Rattle.v_syntax.specs.declared.tree.Statement.{Statement}
 use Rattle.v_syntax.specs.Tree.{tree_of, statement_of}
-use Rattle.v_syntax.specs.Narrow.{IsNarrow, HasNarrowObjects}
+use Rattle.v_value.specs.Narrow.{IsNarrow, HasNarrowObjects}
 use Rattle.v_statement.specs.Statements.{IsNarrowStatement}
 
 abbrev pub IsSmall : Expression → Type 0

@@ -6,10 +6,10 @@ ghost use Rattle.wb_deep.specs.Small.{IsSmall};
 use std::alloc::{AllocError, Global};
 use std::process::Abort;
 use std::test::Fail;
-use v_syntax::expression::self_value;
-use v_syntax::scope::{Scope, Values};
 use v_syntax::tree::{BinaryLink, BinaryOperator, Choice, Expression, Number, PrefixOperator};
-use v_syntax::width::width_of;
+use v_value::expression::self_value;
+use v_value::scope::{Scope, Values};
+use v_value::width::width_of;
 
 /// How many operators stand in a chain.
 const OPERATORS: usize = 1_000_000;
@@ -29,6 +29,8 @@ pub(crate) fn number<'s>(value: u128) -> Expression<'s>
         value,
         unknown: 0,
         wild: 0,
+        has_unknown: false,
+        has_wild: false,
     })
 }
 

@@ -7,8 +7,8 @@ use crate::expressions::number;
 use std::alloc::{AllocError, Global};
 use std::test::Fail;
 use v_statement::statement::run;
-use v_syntax::scope::{Scope, Value, Values};
 use v_syntax::tree::{Arm, Selects, Statement, Target};
+use v_value::scope::{Scope, Value, Values};
 
 /// How many arms stand before the last one.
 const ARMS: usize = 100_000;

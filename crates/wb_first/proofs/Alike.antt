@@ -2,10 +2,10 @@
 use Rattle.std.proofs.Common.{◌≡◌, ℕ, ◌%◌, ◌^◌, Bool, true, false, cond, ◌&&◌, List, [], ◌∷◌, ◌++◌, sym, refl, ap, ◌∙◌}
 use Rattle.std.specs.Prelude.{max}
 use mathlib.Core.Path.{ap₂}
-use Rattle.wb_meaning.specs.Value.{Name, Valuation}
-use Rattle.wb_meaning.specs.Verilog.Syntax.{whole, add, equal}
-use Rattle.wb_meaning.specs.Verilog.Expression.{Scope, width_of, sign_of, value_of, is_true, assigned_value, is_nonzero, widened, selects_width, whole_value, binary_value, comparison_value, integer_from, bit}
-use Rattle.wb_meaning.specs.Verilog.Statement.{variable, all_bits, run, run_all, Effect, unchanged}
+use Rattle.wb_values.specs.Value.{Name, Valuation}
+use Rattle.verilog_trees.specs.Syntax.{whole, add, equal}
+use Rattle.verilog_meaning.specs.Expression.{Scope, width_of, sign_of, value_of, is_true, assigned_value, is_nonzero, widened, selects_width, whole_value, binary_value, comparison_value, integer_from, bit}
+use Rattle.verilog_meaning.specs.Statement.{variable, all_bits, run, run_all, Effect, unchanged}
 use Rattle.first_text.specs.Tree.{Primary, identifier, decimal, primary_tree, Term, single, sum, equality, term_tree, Action, set, sequence, when, when_else, Actions, no_actions, action, action_tree, actions_tree}
 use Rattle.wb_first.specs.Accepted.{all_names, primary_names, term_names, read_names, all_read_names}
 

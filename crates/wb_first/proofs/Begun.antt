@@ -1,11 +1,11 @@
 -- The run that begins with values of registers and inputs.
 use Rattle.std.proofs.Common.{◌≡◌, ℕ, zero, suc, ◌<◌, ◌≤◌, true, false, cond, [], subst, sym, refl, arith}
-use Rattle.wb_meaning.specs.Value.{Name, number, Valuation}
-use Rattle.wb_meaning.specs.Verilog.Syntax.{input}
-use Rattle.wb_meaning.specs.Verilog.Settled.{IsValueOf, IsPort, IsSettled}
-use Rattle.wb_meaning.specs.Verilog.Next.{AreInputs, IsNext}
-use Rattle.wb_meaning.specs.Verilog.Hierarchy.{placed_scope}
-use Rattle.wb_meaning.specs.Run.{Run, IsRun}
+use Rattle.wb_values.specs.Value.{Name, number, Valuation}
+use Rattle.verilog_trees.specs.Syntax.{input}
+use Rattle.verilog_meaning.specs.Settled.{IsValueOf, IsPort, IsSettled}
+use Rattle.verilog_meaning.specs.Next.{AreInputs, IsNext}
+use Rattle.verilog_meaning.specs.Hierarchy.{placed_scope}
+use Rattle.refinement.specs.Run.{Run, IsRun}
 use Rattle.first_text.specs.Tree.{module_tree}
 use Rattle.wb_first.specs.Names.{First, setting_of, scope_of_first, is_input, is_declared, is_register}
 use Rattle.wb_first.specs.Accepted.{is_source}

@@ -5,8 +5,8 @@ use Rattle.std.specs.Int.{bit_at}
 use Rattle.std.proofs.lemmas.Nat.Bits.{same_from_bits_below}
 use Rattle.std.proofs.Math.Nat.{div-eq_of_lt, mod-eq_of_lt}
 use Rattle.std.proofs.lemmas.Bool.Decides.{nat_tests}
-use Rattle.wb_meaning.specs.Verilog.Register.{is_set}
-use Rattle.wb_meaning.specs.Verilog.Statement.{with_bits_from}
+use Rattle.verilog_meaning.specs.Register.{is_set}
+use Rattle.verilog_meaning.specs.Statement.{with_bits_from}
 
 bit_below : (x b : ℕ) → bit_at x b < 2
 bit_below x b = omega arith

@@ -1,15 +1,15 @@
 -- What is met on the values of a run holds of it: hypotheses that are met, and claims that hold are met.
 use Rattle.std.proofs.Common.{◌≡◌, ◌≢◌, ℕ, zero, suc, Bool, true, false, cond, List, [], ◌∷◌, subst, sym, refl, ap, ◌∙◌, Option, Some, None, arith, eq-eqb}
 use Rattle.std.specs.Prelude.{is_some, IsTrue, slice_get}
-use Rattle.wb_meaning.specs.Value.{Name, same_name, Sort, truth, word, memory, Value, number, truth_value, Valuation, Entries, entry_of}
-use Rattle.wb_meaning.specs.Model.{Instruction, instruction, instructions_in, valid_of, decode_of, holds, updated, point_of, StateDeclaration, state_named, states_of, child_of, no_child, child}
-use Rattle.wb_meaning.specs.Instruction.{DoesInstruction, Does, state_in}
-use Rattle.wb_meaning.specs.Verilog.Syntax.{Expression}
-use Rattle.wb_meaning.specs.Verilog.Expression.{is_true, self_value}
-use Rattle.wb_meaning.specs.Map.{Setting, mapped_value, mapped_or_zero, sort_of_state, map_scope}
-use Rattle.wb_meaning.specs.Run.{Run, IsRun}
-use Rattle.wb_meaning.specs.Refinement.{state_at, inputs_at}
-use Rattle.wb_meaning.specs.Obligation.{Fact, reset_active, reset_inactive, assumed, invariant, start, no_start, decoded, commit, no_commit, initial, same, one_decodes, ends, result_of, never, Means, MeansAll}
+use Rattle.wb_values.specs.Value.{Name, same_name, Sort, truth, word, memory, Value, number, truth_value, Valuation, Entries, entry_of}
+use Rattle.model_meaning.specs.Model.{Instruction, instruction, instructions_in, valid_of, decode_of, holds, updated, point_of, StateDeclaration, state_named, states_of, child_of, no_child, child}
+use Rattle.model_meaning.specs.Instruction.{DoesInstruction, Does, state_in}
+use Rattle.verilog_trees.specs.Syntax.{Expression}
+use Rattle.verilog_meaning.specs.Expression.{is_true, self_value}
+use Rattle.refinement.specs.Map.{Setting, mapped_value, mapped_or_zero, sort_of_state, map_scope}
+use Rattle.refinement.specs.Run.{Run, IsRun}
+use Rattle.refinement.specs.Refinement.{state_at, inputs_at}
+use Rattle.refinement.specs.Obligation.{Fact, reset_active, reset_inactive, assumed, invariant, start, no_start, decoded, commit, no_commit, initial, same, one_decodes, ends, result_of, never, Means, MeansAll}
 use Rattle.wb_first.specs.Names.{First, setting_of}
 use Rattle.wb_first.specs.Accepted.{fits_sort, state_sort, states_are_mapped, has_no_child, updates_of}
 use Rattle.wb_first.specs.Decided.{same_value, first_valuation, second_valuation, state_of, start_point, is_reset, starts, decodes_option, decodes_number, commits_number, initial_met, decode_count, result_at, is_met, all_met}

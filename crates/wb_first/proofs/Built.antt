@@ -5,14 +5,14 @@ use Rattle.std.proofs.lemmas.Bool.Decides.{nat_tests}
 use Rattle.std.proofs.Math.Nat.{mod-lt, div-one, div-eq_of_lt}
 use Rattle.std.proofs.lemmas.Nat.{pow_pos}
 use Rattle.std.proofs.Math.Pow.{pow_mono}
-use Rattle.wb_meaning.specs.Value.{Name, same_name, Value, number, as_number, Valuation, Entries, entry_of}
-use Rattle.wb_meaning.specs.Verilog.Syntax.{place, whole, Direction, input, output}
-use Rattle.wb_meaning.specs.Verilog.Expression.{Scope, width_of, sign_of, value_of, assigned_value}
-use Rattle.wb_meaning.specs.Verilog.Statement.{variable, all_bits, written, written_cell, places, target_width, with_bits_from}
-use Rattle.wb_meaning.specs.Verilog.Register.{is_bit_of, value_bit, is_set, clocked_blocks, after_edge}
-use Rattle.wb_meaning.specs.Verilog.Hierarchy.{placed_scope}
-use Rattle.wb_meaning.specs.Verilog.Settled.{inside, IsDeclared, IsValueOf, HasAssigned, HasRunAll, is_counted, one_may_reach, IsDriven, IsSettledIn, IsSettled, IsPort}
-use Rattle.wb_meaning.specs.Verilog.Next.{AreRegisters, IsNext}
+use Rattle.wb_values.specs.Value.{Name, same_name, Value, number, as_number, Valuation, Entries, entry_of}
+use Rattle.verilog_trees.specs.Syntax.{place, whole, Direction, input, output}
+use Rattle.verilog_meaning.specs.Expression.{Scope, width_of, sign_of, value_of, assigned_value}
+use Rattle.verilog_meaning.specs.Statement.{variable, all_bits, written, written_cell, places, target_width, with_bits_from}
+use Rattle.verilog_meaning.specs.Register.{is_bit_of, value_bit, is_set, clocked_blocks, after_edge}
+use Rattle.verilog_meaning.specs.Hierarchy.{placed_scope}
+use Rattle.verilog_meaning.specs.Settled.{inside, IsDeclared, IsValueOf, HasAssigned, HasRunAll, is_counted, one_may_reach, IsDriven, IsSettledIn, IsSettled, IsPort}
+use Rattle.verilog_meaning.specs.Next.{AreRegisters, IsNext}
 use Rattle.first_text.specs.Tree.{Term, term_tree, Part, register, assignment, clocked, FirstModule, module_tree, Port}
 use Rattle.wb_first.specs.Names.{First, scope_of_first, bits_of_name, is_input, is_output, is_variable, is_variable_among, is_declared, is_register, assigned, port_named, has_direction, same_direction}
 use Rattle.wb_first.specs.Accepted.{all_names, keys, term_names, is_source, is_net, is_among, are_distinct, variables_agree, is_accepted}

@@ -1,11 +1,11 @@
 -- What values of registers and inputs decide, as it is claimed.
 use Rattle.std.proofs.Common.{◌≡◌, ℕ, Bool, true, false, cond, not, ◌||◌, [], subst, sym, refl, ◌∙◌, arith}
 use mathlib.Core.Path.{ap₂}
-use Rattle.wb_meaning.specs.Value.{Name, same_name, Valuation}
-use Rattle.wb_meaning.specs.Model.{Instruction, instruction_name, instructions_in}
-use Rattle.wb_meaning.specs.Instruction.{IsInstruction}
-use Rattle.wb_meaning.specs.Run.{Run, IsRun}
-use Rattle.wb_meaning.specs.Obligation.{ended_at, MeansAll, Obligation, Falsifies, IsWholeCommand, obligations, bound_named}
+use Rattle.wb_values.specs.Value.{Name, same_name, Valuation}
+use Rattle.model_meaning.specs.Model.{Instruction, instruction_name, instructions_in}
+use Rattle.model_meaning.specs.Instruction.{IsInstruction}
+use Rattle.refinement.specs.Run.{Run, IsRun}
+use Rattle.refinement.specs.Obligation.{ended_at, MeansAll, Obligation, Falsifies, IsWholeCommand, obligations, bound_named}
 use Rattle.wb_first.specs.Names.{First, setting_of, scope_of_first, is_input, is_declared, is_register}
 use Rattle.wb_first.specs.Accepted.{is_accepted, is_data, is_among, entry_names}
 use Rattle.wb_first.specs.Decided.{start_point, first_of_values, second_of_values, first_valuation, second_valuation, is_met, all_met, is_broken, is_broken_by, is_whole_command, is_command_by}

@@ -3,13 +3,13 @@ use Rattle.std.proofs.Common.{◌≡◌, ℕ, zero, suc, Bool, true, false, not,
 use Rattle.std.specs.Prelude.{is_some, ◌==◌, IsTrue, slice_get}
 use Rattle.std.proofs.lemmas.Bool.Decides.{nat_tests}
 use mathlib.Core.Path.{ap₂}
-use Rattle.wb_meaning.specs.Value.{Name, Value, as_number, Valuation}
-use Rattle.wb_meaning.specs.Model.{Instruction, instruction_name, instructions_in, valid_of, decode_of, holds, updated, point_of, state_named, states_of}
-use Rattle.wb_meaning.specs.Instruction.{IsInstruction}
-use Rattle.wb_meaning.specs.Map.{Setting, InstructionMap, instruction_map, condition_holds, mapped_inputs}
-use Rattle.wb_meaning.specs.Run.{Run, IsRun, IsResetAt}
-use Rattle.wb_meaning.specs.Refinement.{state_at, inputs_at, CommitsAt}
-use Rattle.wb_meaning.specs.Obligation.{Fact, reset_active, reset_inactive, assumed, invariant, start, no_start, decoded, commit, no_commit, initial, same, one_decodes, ends, result_of, never, Means, MeansAll, Obligation, Holds}
+use Rattle.wb_values.specs.Value.{Name, Value, as_number, Valuation}
+use Rattle.model_meaning.specs.Model.{Instruction, instruction_name, instructions_in, valid_of, decode_of, holds, updated, point_of, state_named, states_of}
+use Rattle.model_meaning.specs.Instruction.{IsInstruction}
+use Rattle.refinement.specs.Map.{Setting, InstructionMap, instruction_map, condition_holds, mapped_inputs}
+use Rattle.refinement.specs.Run.{Run, IsRun, IsResetAt}
+use Rattle.refinement.specs.Refinement.{state_at, inputs_at, CommitsAt}
+use Rattle.refinement.specs.Obligation.{Fact, reset_active, reset_inactive, assumed, invariant, start, no_start, decoded, commit, no_commit, initial, same, one_decodes, ends, result_of, never, Means, MeansAll, Obligation, Holds}
 use Rattle.wb_first.specs.Names.{First, setting_of, is_declared}
 use Rattle.wb_first.specs.Accepted.{updates_of}
 use Rattle.wb_first.specs.Cycle.{settled, next_registers}

@@ -1,7 +1,7 @@
 -- Each declared name is among those that are listed.
 use Rattle.std.proofs.Common.{◌≡◌, Bool, true, false, cond, ◌||◌, List, [], ◌∷◌, ◌++◌, sym, refl, ◌∙◌, Some, inl, inr}
 use Rattle.std.specs.Prelude.{is_some}
-use Rattle.wb_meaning.specs.Value.{Name, same_name}
+use Rattle.wb_values.specs.Value.{Name, same_name}
 use Rattle.first_text.specs.Tree.{FirstModule, Port, Part, register, assignment, clocked}
 use Rattle.wb_first.specs.Names.{is_declared, is_variable, is_variable_among, port_named}
 use Rattle.wb_first.specs.Accepted.{is_among, declared_names, port_names, variable_names, new_names}

@@ -4,11 +4,11 @@ use mathlib.Core.Path.{ap₂}
 use Rattle.std.proofs.lemmas.Slice.Eq.{bytes_eq-Decides}
 use Rattle.std.proofs.Math.Nat.{mod-lt}
 use Rattle.std.proofs.lemmas.Nat.{pow_pos}
-use Rattle.wb_meaning.specs.Value.{Name, same_name, Value, number, as_number, Valuation}
-use Rattle.wb_meaning.specs.Verilog.Expression.{Scope, object_width}
-use Rattle.wb_meaning.specs.Verilog.Statement.{variable, all_bits, run, run_all, Effect, Update, written, written_cell, with_update, with_updates, with_bits}
-use Rattle.wb_meaning.specs.Verilog.Register.{updates_of, after_edge}
-use Rattle.wb_meaning.specs.Verilog.Expression.{is_true}
+use Rattle.wb_values.specs.Value.{Name, same_name, Value, number, as_number, Valuation}
+use Rattle.verilog_meaning.specs.Expression.{Scope, object_width}
+use Rattle.verilog_meaning.specs.Statement.{variable, all_bits, run, run_all, Effect, Update, written, written_cell, with_update, with_updates, with_bits}
+use Rattle.verilog_meaning.specs.Register.{updates_of, after_edge}
+use Rattle.verilog_meaning.specs.Expression.{is_true}
 use Rattle.first_text.specs.Tree.{term_tree, Action, set, sequence, when, when_else, Actions, no_actions, action, action_tree, actions_tree}
 use Rattle.wb_first.specs.Accepted.{all_names, set_names, all_set_names, read_names}
 use Rattle.wb_first.proofs.Alike.{all_left, all_right, and_left, updates_same}

@@ -2,12 +2,12 @@
 use Rattle.std.proofs.Common.{◌≡◌, ◌≢◌, ℕ, zero, suc, Bool, true, false, cond, not, ◌||◌, List, [], ◌∷◌, subst, sym, refl, ap, ◌∙◌, Some, None, arith}
 use Rattle.std.specs.Prelude.{is_some, ◌==◌, slice_get}
 use Rattle.std.proofs.lemmas.Bool.Decides.{nat_tests}
-use Rattle.wb_meaning.specs.Value.{Name, same_name, Value, number, truth_value, words, Valuation}
-use Rattle.wb_meaning.specs.Model.{Instruction, instruction, decode_of, holds, updated, child_of, no_child, child}
-use Rattle.wb_meaning.specs.Instruction.{DoesInstruction}
-use Rattle.wb_meaning.specs.Map.{InstructionMap, instruction_map}
+use Rattle.wb_values.specs.Value.{Name, same_name, Value, number, truth_value, words, Valuation}
+use Rattle.model_meaning.specs.Model.{Instruction, instruction, decode_of, holds, updated, child_of, no_child, child}
+use Rattle.model_meaning.specs.Instruction.{DoesInstruction}
+use Rattle.refinement.specs.Map.{InstructionMap, instruction_map}
 use Rattle.first_text.specs.Tree.{FirstModule}
-use Rattle.wb_meaning.specs.Verilog.Syntax.{input}
+use Rattle.verilog_trees.specs.Syntax.{input}
 use Rattle.wb_first.specs.Names.{First, is_input, is_declared, port_named, has_direction, is_variable}
 use Rattle.wb_first.specs.Accepted.{is_map_expression, entries_are_accepted, no_children, has_no_child, updates_of}
 use Rattle.wb_first.specs.Decided.{same_value, decode_count}

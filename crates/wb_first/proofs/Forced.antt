@@ -5,13 +5,13 @@ use Rattle.std.proofs.lemmas.Bool.Decides.{nat_tests}
 use Rattle.std.proofs.lemmas.Slice.Eq.{bytes_eq-Decides}
 use Rattle.std.proofs.Math.Nat.{mod-lt, div-one}
 use Rattle.std.proofs.lemmas.Nat.{pow_pos}
-use Rattle.wb_meaning.specs.Value.{Name, same_name, Value, number, truth_value, words, as_number, Valuation, Entries, entry_of}
-use Rattle.wb_meaning.specs.Verilog.Syntax.{Statement}
-use Rattle.wb_meaning.specs.Verilog.Expression.{Scope, object_width, is_memory, width_of, sign_of, value_of, assigned_value}
-use Rattle.wb_meaning.specs.Verilog.Statement.{variable, all_bits, written_cell, with_bits_from}
-use Rattle.wb_meaning.specs.Verilog.Register.{may_assign, may_assign_in_all, one_may_assign, is_bit_of, word_count, value_bit, is_set, clocked_blocks, after_edge}
-use Rattle.wb_meaning.specs.Verilog.Settled.{IsDeclared, IsValueOf, HasAssigned, is_counted, one_may_reach, IsDriven, IsSettledIn, IsSettled}
-use Rattle.wb_meaning.specs.Verilog.Next.{AreRegisters, IsNext}
+use Rattle.wb_values.specs.Value.{Name, same_name, Value, number, truth_value, words, as_number, Valuation, Entries, entry_of}
+use Rattle.verilog_trees.specs.Syntax.{Statement}
+use Rattle.verilog_meaning.specs.Expression.{Scope, object_width, is_memory, width_of, sign_of, value_of, assigned_value}
+use Rattle.verilog_meaning.specs.Statement.{variable, all_bits, written_cell, with_bits_from}
+use Rattle.verilog_meaning.specs.Register.{may_assign, may_assign_in_all, one_may_assign, is_bit_of, word_count, value_bit, is_set, clocked_blocks, after_edge}
+use Rattle.verilog_meaning.specs.Settled.{IsDeclared, IsValueOf, HasAssigned, is_counted, one_may_reach, IsDriven, IsSettledIn, IsSettled}
+use Rattle.verilog_meaning.specs.Next.{AreRegisters, IsNext}
 use Rattle.first_text.specs.Tree.{Term, term_tree, Action, set, sequence, when, when_else, Actions, no_actions, action, action_tree, actions_tree, Part, register, assignment, clocked, part_trees, FirstModule}
 use Rattle.wb_first.specs.Names.{First, scope_of_first, bits_of_name, is_input, is_variable, is_declared, is_register, is_set_among, sets, one_sets, assigned, blocks_among}
 use Rattle.wb_first.specs.Accepted.{all_names, term_names, terms_read, is_source, is_data, is_target, is_read, has_one_block, read_names, set_names, is_driven}

@@ -2,10 +2,10 @@
 use Rattle.std.proofs.Common.{◌≡◌, ℕ, zero, suc, Bool, true, false, cond, ◌||◌, List, [], ◌∷◌, ◌++◌, subst, sym, refl, ap, ◌∙◌, Some, arith}
 use Rattle.std.specs.Prelude.{is_some, ◌==◌, IsTrue, slice_get, length, codes, decimal}
 use Rattle.std.proofs.lemmas.Bool.Decides.{nat_tests}
-use Rattle.wb_meaning.specs.Value.{Name, same_name}
-use Rattle.wb_meaning.specs.Model.{Instruction, instruction_name, instructions_in, StateDeclaration, state_named, states_of, child_of, Child, no_child, child}
-use Rattle.wb_meaning.specs.Map.{InstructionMap, instruction_map}
-use Rattle.wb_meaning.specs.Obligation.{Fact, reset_active, reset_inactive, no_start, initial, same, result_of, Obligation, for_each, invariant_obligations, state_obligations, with_initial_values, reset_obligations, idle_obligations, decode_obligation, not_ended, ended_at, child_obligations, bound_obligation, commit_obligations, instruction_obligations, all_instruction_obligations, obligations, bound_named, bound_in}
+use Rattle.wb_values.specs.Value.{Name, same_name}
+use Rattle.model_meaning.specs.Model.{Instruction, instruction_name, instructions_in, StateDeclaration, state_named, states_of, child_of, Child, no_child, child}
+use Rattle.refinement.specs.Map.{InstructionMap, instruction_map}
+use Rattle.refinement.specs.Obligation.{Fact, reset_active, reset_inactive, no_start, initial, same, result_of, Obligation, for_each, invariant_obligations, state_obligations, with_initial_values, reset_obligations, idle_obligations, decode_obligation, not_ended, ended_at, child_obligations, bound_obligation, commit_obligations, instruction_obligations, all_instruction_obligations, obligations, bound_named, bound_in}
 use Rattle.wb_first.specs.Names.{First}
 use Rattle.wb_first.specs.Accepted.{is_among, all_names, entry_names, instruction_names, has_no_child, no_children}
 use Rattle.wb_first.proofs.Alike.{and_left, and_right}

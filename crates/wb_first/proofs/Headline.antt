@@ -2,11 +2,11 @@
 use Rattle.std.proofs.Common.{◌≡◌, ℕ, zero, suc, ◌≤◌, true, List, [], ◌∷◌, refl, Some, arith}
 use Rattle.std.specs.Prelude.{slice_get, ◌==◌}
 use Rattle.std.proofs.lemmas.Bool.Decides.{nat_tests}
-use Rattle.wb_meaning.specs.Model.{instruction_name, instructions_in}
-use Rattle.wb_meaning.specs.Map.{Setting}
-use Rattle.wb_meaning.specs.Obligation.{Obligation, Holds, obligations}
-use Rattle.wb_meaning.specs.Soundness.{AllHold, IsComplete}
-use Rattle.wb_meaning.proofs.Refined.{refined}
+use Rattle.model_meaning.specs.Model.{instruction_name, instructions_in}
+use Rattle.refinement.specs.Map.{Setting}
+use Rattle.refinement.specs.Obligation.{Obligation, Holds, obligations}
+use Rattle.refinement.specs.Soundness.{AllHold, IsComplete}
+use Rattle.soundness.proofs.Refined.{refined}
 use Rattle.wb_first.specs.Names.{First, setting_of}
 use Rattle.wb_first.specs.Accepted.{is_among, entry_names}
 use Rattle.wb_first.specs.Claims.{HoldingRefines}

@@ -1,10 +1,10 @@
 -- Values of registers and inputs give what a run with these values gives.
 use Rattle.std.proofs.Common.{◌≡◌, Bool, true, false, cond, not, ◌&&◌, refl, ap, Option, Some, None}
 use mathlib.Core.Path.{fun_ext}
-use Rattle.wb_meaning.specs.Value.{Name, same_name, number, Valuation, entry_of}
-use Rattle.wb_meaning.specs.Verilog.Expression.{assigned_value}
-use Rattle.wb_meaning.specs.Verilog.Register.{after_edge, clocked_blocks}
-use Rattle.wb_meaning.specs.Run.{Run}
+use Rattle.wb_values.specs.Value.{Name, same_name, number, Valuation, entry_of}
+use Rattle.verilog_meaning.specs.Expression.{assigned_value}
+use Rattle.verilog_meaning.specs.Register.{after_edge, clocked_blocks}
+use Rattle.refinement.specs.Run.{Run}
 use Rattle.first_text.specs.Tree.{Term, term_tree, module_tree}
 use Rattle.wb_first.specs.Names.{First, scope_of_first, bits_of_name, is_input, is_declared, is_register, assigned}
 use Rattle.wb_first.specs.Accepted.{is_data}

@@ -1,12 +1,12 @@
 -- The map's expressions depend on the declared names alone, and those of states on the registers alone.
 use Rattle.std.proofs.Common.{◌≡◌, Bool, true, false, cond, not, ◌&&◌, ◌||◌, List, [], ◌∷◌, subst, refl, ap, Option, Some, None}
 use mathlib.Core.Path.{fun_ext}
-use Rattle.wb_meaning.specs.Value.{Name, same_name, Sort, truth, word, memory, number, truth_value, words, as_words, Valuation, Entries, entry_of}
-use Rattle.wb_meaning.specs.Model.{states_of, state_named}
-use Rattle.wb_meaning.specs.Verilog.Syntax.{Expression, name, Selects, whole, one, two, Select, concatenation, replication, as_signed, as_unsigned, unary, reduction, binary, shift, power, comparison, logical, conditional}
-use Rattle.wb_meaning.specs.Verilog.Syntax as verilog
-use Rattle.wb_meaning.specs.Verilog.Expression.{width_of, sign_of, self_value, is_nonzero, widened, selects_width, whole_value}
-use Rattle.wb_meaning.specs.Map.{map_scope, condition_holds, mapped_memory, mapped_value, mapped_or_zero, mapped_state, mapped_inputs, sort_of_state, sort_of_input}
+use Rattle.wb_values.specs.Value.{Name, same_name, Sort, truth, word, memory, number, truth_value, words, as_words, Valuation, Entries, entry_of}
+use Rattle.model_meaning.specs.Model.{states_of, state_named}
+use Rattle.verilog_trees.specs.Syntax.{Expression, name, Selects, whole, one, two, Select, concatenation, replication, as_signed, as_unsigned, unary, reduction, binary, shift, power, comparison, logical, conditional}
+use Rattle.verilog_trees.specs.Syntax as verilog
+use Rattle.verilog_meaning.specs.Expression.{width_of, sign_of, self_value, is_nonzero, widened, selects_width, whole_value}
+use Rattle.refinement.specs.Map.{map_scope, condition_holds, mapped_memory, mapped_value, mapped_or_zero, mapped_state, mapped_inputs, sort_of_state, sort_of_input}
 use Rattle.first_text.specs.Tree.{Term}
 use Rattle.wb_first.specs.Names.{First, setting_of, scope_of_first, bits_of_name, is_input, is_declared, is_register, assigned}
 use Rattle.wb_first.specs.Accepted.{all_names, term_names, is_source, is_map_expression, term_reads_no_input, is_input_free, states_are_mapped, inputs_are_mapped}

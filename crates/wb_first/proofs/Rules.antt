@@ -1,8 +1,8 @@
 -- The rules that an accepted model, map and module keep, one by one.
 use Rattle.std.proofs.Common.{◌≡◌, Bool, true, false, not, ◌&&◌, refl}
 use Rattle.std.specs.Prelude.{◌==◌, length}
-use Rattle.wb_meaning.specs.Value.{same_name}
-use Rattle.wb_meaning.specs.Model.{states_of, instructions_in}
+use Rattle.wb_values.specs.Value.{same_name}
+use Rattle.model_meaning.specs.Model.{states_of, instructions_in}
 use Rattle.wb_first.specs.Names.{First, bits_of_name, is_input, assigned, blocks_among}
 use Rattle.wb_first.specs.Accepted.{is_accepted, is_accepted_module, is_accepted_map, is_accepted_model, has_plain_names, all_names, is_among, keys, terms_read, is_source, is_net, is_kept, has_one_block, is_map_expression, states_are_mapped, all_states_mapped, inputs_are_mapped, all_inputs_mapped, entries_are_accepted, entry_names, instruction_names, port_names, no_children}
 use Rattle.wb_first.proofs.Alike.{and_left, and_right}

@@ -1,13 +1,13 @@
 -- What the tree of a module of the profile has: no parameters, no instances, no memories, one kind of block.
 use Rattle.std.proofs.Common.{◌≡◌, Bool, true, false, cond, ◌||◌, List, [], ◌∷◌, ◌++◌, sym, refl, ap, ◌∙◌, Option, Some, None}
 use Rattle.std.specs.Prelude.{is_some, option_map}
-use Rattle.wb_meaning.specs.Value.{Name, same_name, Entries, entry_of}
-use Rattle.wb_meaning.specs.Verilog.Syntax.{Expression, Statement, Target, place, whole, Range, input, output}
-use Rattle.wb_meaning.specs.Verilog.Expression.{Scope, scope_of}
-use Rattle.wb_meaning.specs.Verilog.Register.{clocked_blocks, combinational_blocks}
-use Rattle.wb_meaning.specs.Verilog.Hierarchy.{Declaration, declarations, port_declarations, item_declarations, declaration_of, both_declarations, ranged_object, body_parameters, constants_of, no_overrides, instance_named, Placed, placed_below}
-use Rattle.wb_meaning.specs.Verilog.Settled.{assignments, at_path, Design, is_declared_among, declared_ports, item_ports, port_directions, IsPort}
-use Rattle.wb_meaning.specs.Map.{design_of}
+use Rattle.wb_values.specs.Value.{Name, same_name, Entries, entry_of}
+use Rattle.verilog_trees.specs.Syntax.{Expression, Statement, Target, place, whole, Range, input, output}
+use Rattle.verilog_meaning.specs.Expression.{Scope, scope_of, object_or_undeclared}
+use Rattle.verilog_meaning.specs.Register.{clocked_blocks, combinational_blocks}
+use Rattle.verilog_meaning.specs.Hierarchy.{Declaration, declarations, port_declarations, item_declarations, declaration_of, both_declarations, and_later, declared_object, ranged_object, body_parameters, constants_of, no_overrides, instance_named, Placed, placed_below}
+use Rattle.verilog_meaning.specs.Settled.{assignments, at_path, Design, is_declared_among, declared_ports, item_ports, port_directions, IsPort}
+use Rattle.refinement.specs.Map.{design_of}
 use Rattle.first_text.specs.Tree.{Term, term_tree, Action, action_tree, Port, port_trees, Part, register, assignment, clocked, part_trees, FirstModule, module_tree}
 use Rattle.wb_first.specs.Names.{First, setting_of, scope_of_first, port_named, is_declared, is_input, has_direction, same_direction, is_variable_among, assigned_among, blocks_among}
 
@@ -62,6 +62,14 @@ pub record IsPlain (d : Declaration) : Type 0 where
 both_plain : (d e : Declaration) → IsPlain d → IsPlain e → IsPlain (both_declarations d e)
 both_plain d e p q = record { no_memory = rw (p.no_memory) q.no_memory; unsigned = rw (p.unsigned) q.unsigned }
 
+abbrev pub IsPlainIfAny : Option Declaration → Type 0
+IsPlainIfAny None = Unit {0}
+IsPlainIfAny (Some d) = IsPlain d
+
+later_plain : (d : Declaration) (o : Option Declaration) → IsPlain d → IsPlainIfAny o → IsPlain (and_later d o)
+later_plain d None p q = p
+later_plain d (Some e) p q = both_plain d e p q
+
 abbrev AllPlain : List Declaration → Type 0
 AllPlain [] = Unit {0}
 AllPlain (d ∷ ds) = IsPlain d × AllPlain ds
@@ -80,21 +88,26 @@ items_plain (register b n ∷ ps) = (record { no_memory = refl; unsigned = refl 
 items_plain (assignment n e ∷ ps) = items_plain ps
 items_plain (clocked s a ∷ ps) = items_plain ps
 
-found_plain : (ds : List Declaration) (n : Name) → AllPlain ds → IsPlain (declaration_of ds n)
-found_plain [] n p = record { no_memory = refl; unsigned = refl }
+found_plain : (ds : List Declaration) (n : Name) → AllPlain ds → IsPlainIfAny (declaration_of ds n)
+found_plain [] n p = tt
 found_plain (d ∷ ds) n p =
-    elim (same_name d.of_name n) as (λ b. IsPlain (cond b (both_declarations d (declaration_of ds n)) (declaration_of ds n))) [
-      | true ↦ both_plain d (declaration_of ds n) p.0 (found_plain ds n p.1)
+    elim (same_name d.of_name n) as (λ b. IsPlainIfAny (cond b (Some (and_later d (declaration_of ds n))) (declaration_of ds n))) [
+      | true ↦ later_plain d (declaration_of ds n) p.0 (found_plain ds n p.1)
       | false ↦ found_plain ds n p.1
     ]
 
-pub plain : (m : FirstModule) (n : Name) → IsPlain (declaration_of (declarations (module_tree m)) n)
+pub plain : (m : FirstModule) (n : Name) → IsPlainIfAny (declaration_of (declarations (module_tree m)) n)
 plain m n =
     found_plain (declarations (module_tree m)) n
     (plain_append (port_declarations (port_trees m.ports)) (item_declarations (part_trees m.parts)) (ports_plain m.ports) (items_plain m.parts))
 
+plain_memory : (o : Option Declaration) → IsPlainIfAny o
+    → (object_or_undeclared (option_map (declared_object (scope_of [])) o)).addresses ≡ None
+plain_memory None p = refl
+plain_memory (Some d) p = rw (p.no_memory) refl
+
 pub not_memory : (m : FirstModule) (n : Name) → (scope_of_first m n).addresses ≡ None
-not_memory m n = rw (plain m n).no_memory refl
+not_memory m n = plain_memory (declaration_of (declarations (module_tree m)) n) (plain m n)
 
 -- a name's sign and value depend on no parameter
 range_sign : (s : Scope) (signed : Bool) (r : Option Range) → (ranged_object s signed r).signed ≡ signed
@@ -105,14 +118,19 @@ range_constant : (s : Scope) (signed : Bool) (r : Option Range) → (ranged_obje
 range_constant s signed None = refl
 range_constant s signed (Some r) = refl
 
+plain_sign : (o : Option Declaration) → IsPlainIfAny o → (object_or_undeclared (option_map (declared_object (scope_of [])) o)).signed ≡ false
+plain_sign None p = refl
+plain_sign (Some d) p = range_sign (scope_of []) d.signed d.range ∙ p.unsigned
+
 pub not_signed : (m : FirstModule) (n : Name) → (scope_of_first m n).signed ≡ false
-not_signed m n =
-    range_sign (scope_of []) (declaration_of (declarations (module_tree m)) n).signed (declaration_of (declarations (module_tree m)) n).range
-    ∙ (plain m n).unsigned
+not_signed m n = plain_sign (declaration_of (declarations (module_tree m)) n) (plain m n)
+
+plain_constant : (o : Option Declaration) → (object_or_undeclared (option_map (declared_object (scope_of [])) o)).constant ≡ None
+plain_constant None = refl
+plain_constant (Some d) = range_constant (scope_of []) d.signed d.range
 
 pub not_constant : (m : FirstModule) (n : Name) → (scope_of_first m n).constant ≡ None
-not_constant m n =
-    range_constant (scope_of []) (declaration_of (declarations (module_tree m)) n).signed (declaration_of (declarations (module_tree m)) n).range
+not_constant m n = plain_constant (declaration_of (declarations (module_tree m)) n)
 
 -- ---- the one module
 

@@ -6,16 +6,17 @@ use Rattle.std.proofs.Math.Nat.{mod-lt}
 use Rattle.std.proofs.lemmas.Nat.{pow_pos}
 use Rattle.std.proofs.lemmas.Bool.Decides.{nat_tests}
 use Rattle.std.proofs.lemmas.Bool.{false≢true}
-use Rattle.wb_meaning.specs.Value.{Name, same_name, Sort, truth, word, memory, Value, truth_value, number, words, as_number, HasSort, Valuation, Entries, entry_of}
-use Rattle.wb_meaning.specs.Number.{word_not, word_add, top_bit}
-use Rattle.wb_meaning.specs.Term as terms
-use Rattle.wb_meaning.specs.Term.{Term, some_if, is_sort, is_width, same_sort, bits_sort, same_bits_sort, same_word_sort, compared, sort_of, width_of_sort, complement, conjunction, val}
-use Rattle.wb_meaning.specs.Model as models
-use Rattle.wb_meaning.specs.Model.{StateDeclaration, InputDeclaration, Instruction, states_of, state_named, instructions_in, updated}
-use Rattle.wb_meaning.specs.Verilog.Syntax.{Expression, name, whole, one, two, concatenation, replication, as_signed, as_unsigned, unary, reduction, binary, shift, power, comparison, logical, conditional}
-use Rattle.wb_meaning.specs.Verilog.Syntax as verilog
-use Rattle.wb_meaning.specs.Verilog.Expression.{Object, object_width, widened, whole_value, self_value}
-use Rattle.wb_meaning.specs.Map.{parts_of, with_character, object_at, object_in, map_scope, mapped_value, mapped_or_zero, mapped_state, mapped_inputs, sort_of_input}
+use Rattle.wb_values.specs.Value.{Name, same_name, Sort, truth, word, memory, Value, truth_value, number, words, as_number, HasSort, Valuation, Entries, entry_of}
+use Rattle.wb_values.specs.Number.{word_not, word_add, top_bit}
+use Rattle.model_meaning.specs.Term as terms
+use Rattle.wb_values.specs.Choice.{some_if}
+use Rattle.model_meaning.specs.Term.{Term, is_sort, is_width, same_sort, bits_sort, same_bits_sort, same_word_sort, compared, sort_of, width_of_sort, complement, conjunction, val}
+use Rattle.model_meaning.specs.Model as models
+use Rattle.model_meaning.specs.Model.{StateDeclaration, InputDeclaration, Instruction, states_of, state_named, instructions_in, updated}
+use Rattle.verilog_trees.specs.Syntax.{Expression, name, whole, one, two, concatenation, replication, as_signed, as_unsigned, unary, reduction, binary, shift, power, comparison, logical, conditional}
+use Rattle.verilog_trees.specs.Syntax as verilog
+use Rattle.verilog_meaning.specs.Expression.{Object, object_width, widened, whole_value, self_value}
+use Rattle.refinement.specs.Map.{parts_of, with_character, object_at, object_in, map_scope, mapped_value, mapped_or_zero, mapped_state, mapped_inputs, sort_of_input}
 use Rattle.wb_first.specs.Names.{First, setting_of, scope_of_first, bits_of_name, is_declared}
 use Rattle.wb_first.specs.Accepted.{is_accepted, is_accepted_module, is_accepted_map, is_accepted_model, has_plain_names, has_dot, is_map_expression, map_width, fits_sort, state_sort, inputs_are_mapped, all_states_mapped, all_inputs_mapped, declared_sort, is_sort_of, has_declared_names, is_term_of, are_updates, updates_of, are_instructions, are_states}
 use Rattle.wb_first.specs.Decided.{start_point, result_at}

@@ -1,6 +1,6 @@
 -- A register is one of the targets of the clocked block.
 use Rattle.std.proofs.Common.{◌≡◌, Bool, true, false, ◌||◌, List, [], ◌∷◌, subst, sym, refl, ap, ◌∙◌, ◌⊎◌, inl, inr}
-use Rattle.wb_meaning.specs.Value.{Name, same_name}
+use Rattle.wb_values.specs.Value.{Name, same_name}
 use Rattle.first_text.specs.Tree.{Part, register, assignment, clocked, Action, set, sequence, when, when_else, Actions, no_actions, action}
 use Rattle.wb_first.specs.Names.{First, is_register, is_input, is_variable, sets, one_sets, is_set_among, blocks_among}
 use Rattle.wb_first.specs.Accepted.{all_names, set_names, all_set_names, is_data, is_source, is_target, has_one_block}

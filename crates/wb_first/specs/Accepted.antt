@@ -1,12 +1,12 @@
 -- Which model, map and module are accepted in the first profile: one test for each rule.
 use Rattle.std.specs.Prelude.{ℕ, ◌^◌, Bool, true, false, cond, not, ◌&&◌, ◌||◌, ◌==◌, nat_le, nat_lt, List, [], ◌∷◌, ◌++◌, length, Option, Some, None, is_some}
-use Rattle.wb_meaning.specs.Value.{Name, same_name, Sort, truth, word, Value, is_of_sort, Entries, entry_of}
-use Rattle.wb_meaning.specs.Term as terms
-use Rattle.wb_meaning.specs.Term.{Term, same_sort, sort_of}
-use Rattle.wb_meaning.specs.Model.{StateDeclaration, InputDeclaration, states_of, valid_of, instructions_in, Instruction, instruction, instruction_name, decode_of, child_of, Child, no_child, child}
-use Rattle.wb_meaning.specs.Verilog.Syntax.{Number, Expression, name, number, whole}
-use Rattle.wb_meaning.specs.Verilog.Expression.{width_of}
-use Rattle.wb_meaning.specs.Map.{InstructionMap, sort_of_input}
+use Rattle.wb_values.specs.Value.{Name, same_name, Sort, truth, word, Value, is_of_sort, Entries, entry_of}
+use Rattle.model_meaning.specs.Term as terms
+use Rattle.model_meaning.specs.Term.{Term, same_sort, sort_of}
+use Rattle.model_meaning.specs.Model.{StateDeclaration, InputDeclaration, states_of, valid_of, instructions_in, Instruction, instruction, instruction_name, decode_of, child_of, Child, no_child, child}
+use Rattle.verilog_trees.specs.Syntax.{Number, Expression, name, number, whole}
+use Rattle.verilog_meaning.specs.Expression.{width_of}
+use Rattle.refinement.specs.Map.{InstructionMap, sort_of_input}
 use Rattle.first_text.specs.Tree.{Primary, identifier, decimal, single, sum, equality, Action, set, sequence, when, when_else, Actions, no_actions, action, Bounds, Port, Part, register, FirstModule}
 use Rattle.first_text.specs.Tree as trees
 use Rattle.wb_first.specs.Names.{First, scope_of_first, bits_of_name, port_named, is_input, is_output, is_variable, is_declared, is_register, assigned, blocks_among}

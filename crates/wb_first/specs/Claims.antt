@@ -1,11 +1,11 @@
 -- What values of registers and inputs decide.
 use Rattle.std.specs.Prelude.{◌≡◌, ◌↔◌, ℕ, ◌<◌, ◌^◌, true, false, slice_get, Some}
-use Rattle.wb_meaning.specs.Value.{Name, number, Valuation, Sort, HasSort}
-use Rattle.wb_meaning.specs.Model.{Instruction, instruction_name, states_of}
-use Rattle.wb_meaning.specs.Instruction.{IsInstruction}
-use Rattle.wb_meaning.specs.Run.{Run, IsRun}
-use Rattle.wb_meaning.specs.Obligation.{Obligation, Holds, Falsifies, IsWholeCommand, obligations, bound_named}
-use Rattle.wb_meaning.specs.Soundness.{AllHold, EveryRunRefines}
+use Rattle.wb_values.specs.Value.{Name, number, Valuation, Sort, HasSort}
+use Rattle.model_meaning.specs.Model.{Instruction, instruction_name, states_of}
+use Rattle.model_meaning.specs.Instruction.{IsInstruction}
+use Rattle.refinement.specs.Run.{Run, IsRun}
+use Rattle.refinement.specs.Obligation.{Obligation, Holds, Falsifies, IsWholeCommand, obligations, bound_named}
+use Rattle.refinement.specs.Soundness.{AllHold, EveryRunRefines}
 use Rattle.wb_first.specs.Names.{First, setting_of, bits_of_name, is_register, is_input}
 use Rattle.wb_first.specs.Accepted.{is_accepted, is_data, is_source, declared_sort, state_sort}
 use Rattle.wb_first.specs.Decided.{start_point, state_of, result_at, first_of_values, second_of_values, is_broken_by, is_command_by}

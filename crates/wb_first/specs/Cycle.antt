@@ -1,8 +1,8 @@
 -- One cycle of a module of the first profile: the valuation that its registers and inputs give, and the registers behind the edge.
 use Rattle.std.specs.Prelude.{cond, not, ◌&&◌, Option, Some, None}
-use Rattle.wb_meaning.specs.Value.{Name, same_name, Value, number, Valuation, entry_of}
-use Rattle.wb_meaning.specs.Verilog.Expression.{assigned_value}
-use Rattle.wb_meaning.specs.Verilog.Register.{after_edge, clocked_blocks}
+use Rattle.wb_values.specs.Value.{Name, same_name, Value, number, Valuation, entry_of}
+use Rattle.verilog_meaning.specs.Expression.{assigned_value}
+use Rattle.verilog_meaning.specs.Register.{after_edge, clocked_blocks}
 use Rattle.first_text.specs.Tree.{Term, term_tree, module_tree}
 use Rattle.wb_first.specs.Names.{First, scope_of_first, bits_of_name, is_input, is_register, assigned}
 

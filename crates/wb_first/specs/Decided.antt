@@ -1,9 +1,9 @@
 -- Obligations of the first profile on values of registers and inputs: whether values break one, and whether they are a whole command.
 use Rattle.std.specs.Prelude.{ℕ, suc, Bool, true, false, cond, not, ◌&&◌, ◌==◌, List, [], ◌∷◌, Option, Some, None, slice_get}
-use Rattle.wb_meaning.specs.Value.{Name, Value, truth_value, number, as_number, Valuation}
-use Rattle.wb_meaning.specs.Model.{Instruction, instruction_name, instructions_in, valid_of, decode_of, holds, updated, point_of, StateDeclaration, state_named, states_of}
-use Rattle.wb_meaning.specs.Map.{InstructionMap, instruction_map, condition_holds, mapped_state, mapped_inputs}
-use Rattle.wb_meaning.specs.Obligation.{Fact, reset_active, reset_inactive, assumed, invariant, start, no_start, decoded, commit, no_commit, initial, same, one_decodes, ends, result_of, never, Obligation, ended_at}
+use Rattle.wb_values.specs.Value.{Name, Value, truth_value, number, as_number, Valuation}
+use Rattle.model_meaning.specs.Model.{Instruction, instruction_name, instructions_in, valid_of, decode_of, holds, updated, point_of, StateDeclaration, state_named, states_of}
+use Rattle.refinement.specs.Map.{InstructionMap, instruction_map, condition_holds, mapped_state, mapped_inputs}
+use Rattle.refinement.specs.Obligation.{Fact, reset_active, reset_inactive, assumed, invariant, start, no_start, decoded, commit, no_commit, initial, same, one_decodes, ends, result_of, never, Obligation, ended_at}
 use Rattle.wb_first.specs.Names.{First, setting_of}
 use Rattle.wb_first.specs.Accepted.{updates_of}
 use Rattle.wb_first.specs.Cycle.{settled, next_registers}

@@ -1,11 +1,11 @@
 -- The names of a module of the first profile: what is declared of them, and where they are used.
 use Rattle.std.specs.Prelude.{ℕ, Bool, true, false, cond, ◌||◌, List, [], ◌∷◌, Option, Some, None, is_some}
-use Rattle.wb_meaning.specs.Value.{Name, same_name, Entries}
-use Rattle.wb_meaning.specs.Model.{Model}
-use Rattle.wb_meaning.specs.Verilog.Syntax.{Direction, input, output}
-use Rattle.wb_meaning.specs.Verilog.Expression.{Scope, object_width}
-use Rattle.wb_meaning.specs.Verilog.Hierarchy.{module_scope}
-use Rattle.wb_meaning.specs.Map.{Map, Setting}
+use Rattle.wb_values.specs.Value.{Name, same_name, Entries}
+use Rattle.model_meaning.specs.Model.{Model}
+use Rattle.verilog_trees.specs.Syntax.{Direction, input, output}
+use Rattle.verilog_meaning.specs.Expression.{Scope, object_width}
+use Rattle.verilog_meaning.specs.Hierarchy.{module_scope}
+use Rattle.refinement.specs.Map.{Map, Setting}
 use Rattle.first_text.specs.Tree.{Term, Action, set, sequence, when, when_else, Actions, no_actions, action, Port, Part, register, assignment, clocked, FirstModule, module_tree}
 
 -- a model, a map and one module

@@ -8,3 +8,4 @@ pub mod Widths
 pub mod Settled
 pub mod OneOutcome
 pub mod Outcomes
+pub mod SomeOutcome

@@ -4,7 +4,7 @@ use Rattle.std.proofs.Math.Nat.{mod-lt, div-le_self}
 use Rattle.std.proofs.Math.Pow.{pow_pos, pow_mono}
 use Rattle.std.proofs.lemmas.Nat.{mul-add-lt, pow-add, shr_below}
 use Rattle.std.proofs.lemmas.Bool.Decides.{nat_tests}
-use Rattle.wb_meaning.specs.Number.{top_bit, word_not, word_neg, word_add, word_sub, word_mul, word_shl, word_lshr, word_ashr, word_concat, word_sext}
+use Rattle.wb_values.specs.Number.{top_bit, word_not, word_neg, word_add, word_sub, word_mul, word_shl, word_lshr, word_ashr, word_concat, word_sext}
 
 pub not_below : (w x : ℕ) → word_not w x < 2 ^ w
 not_below w x = let p : 0 < 2 ^ w = pow_pos w in omega arith

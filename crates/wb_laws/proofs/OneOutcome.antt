@@ -1,11 +1,11 @@
 -- A step has no trouble, and trouble is one.
 use Rattle.std.proofs.Common.{◌≡◌, ℕ, zero, suc, ◌<◌, ◌≤◌, ◌⊎◌, inl, inr, arith, subst, sym, refl, ap, ◌∙◌}
 use Rattle.std.specs.Prelude.{IsTrue, IsFalse}
-use Rattle.wb_meaning.specs.Value.{Valuation}
-use Rattle.wb_meaning.specs.Model.{Machine, machine, Instruction, instruction, Instructions, no_instructions, and_then, Child, no_child, child, valid_of, holds, decode_of, updated, entered, states_of}
-use Rattle.wb_meaning.specs.Instruction.{Reaches, NoneDecodes, SomeDecodes, DoesInstruction, DoesChild, DoesStep, DoesOne, Trouble, too_long, InstructionTrouble, ChildTrouble, StepTrouble, OneTrouble}
-use Rattle.wb_meaning.proofs.OneInstruction.{both_ways}
-use Rattle.wb_meaning.proofs.OneResult.{same_step}
+use Rattle.wb_values.specs.Value.{Valuation}
+use Rattle.model_meaning.specs.Model.{Machine, machine, Instruction, instruction, Instructions, no_instructions, and_then, Child, no_child, child, valid_of, holds, decode_of, updated, entered, states_of}
+use Rattle.model_meaning.specs.Instruction.{Reaches, NoneDecodes, SomeDecodes, DoesInstruction, DoesChild, DoesStep, DoesOne, Trouble, too_long, InstructionTrouble, ChildTrouble, StepTrouble, OneTrouble}
+use Rattle.model_meaning.proofs.OneInstruction.{both_ways}
+use Rattle.model_meaning.proofs.OneResult.{same_step}
 
 -- a step begins where the valid condition holds
 valid_before : (m : Machine) (p q : Valuation) → DoesStep m p q → IsTrue (holds (valid_of m) p)

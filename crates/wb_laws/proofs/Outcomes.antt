@@ -2,13 +2,13 @@
 use Rattle.std.proofs.Common.{◌≡◌, ◌≢◌, ℕ, ◌<◌, ◌⊎◌, inl, inr, arith, subst, sym, refl, ap, ◌∙◌, zero, suc, List, [], ◌∷◌, Some, None, map}
 use Rattle.std.specs.Prelude.{slice_get, IsTrue}
 use Rattle.std.specs.declared.option.Option.{Option}
-use Rattle.wb_meaning.specs.Value.{Valuation}
-use Rattle.wb_meaning.specs.Model.{Machine, machine, Model, Instruction, Instructions, no_instructions, and_then, holds, valid_of, decode_of, instruction_list, instructions_in, point_of}
-use Rattle.wb_meaning.specs.Instruction.{NoneDecodes, DoesOne, DoesStep, Steps, IsStarted, AreFirstTwoDecoded, Trouble, InstructionTrouble, IsModelRun}
-use Rattle.wb_meaning.specs.Simulation.{Outcome, next, not_valid, no_instruction, several, trouble, IsOutcome, state_after, AreOutcomes, IsSimulation}
-use Rattle.wb_meaning.specs.Script.{Script, first_state, inputs_of}
-use Rattle.wb_meaning.proofs.OneResult.{one_next_state}
-use Rattle.wb_meaning.proofs.OneInstruction.{both_ways, step_by_decoded}
+use Rattle.wb_values.specs.Value.{Valuation}
+use Rattle.model_meaning.specs.Model.{Machine, machine, Model, Instruction, Instructions, no_instructions, and_then, holds, valid_of, decode_of, instruction_list, instructions_in, point_of}
+use Rattle.model_meaning.specs.Instruction.{NoneDecodes, DoesOne, DoesStep, Steps, IsStarted, AreFirstTwoDecoded, Trouble, InstructionTrouble, IsModelRun}
+use Rattle.scripts.specs.Simulation.{Outcome, next, not_valid, no_instruction, several, trouble, IsOutcome, state_after, AreOutcomes, IsSimulation}
+use Rattle.scripts.specs.Script.{Script, first_state, inputs_of}
+use Rattle.model_meaning.proofs.OneResult.{one_next_state}
+use Rattle.model_meaning.proofs.OneInstruction.{both_ways, step_by_decoded}
 use Rattle.wb_laws.specs.Simulations.{states_behind}
 use Rattle.wb_laws.proofs.OneOutcome.{no_instruction_trouble, same_instruction_trouble}
 

@@ -1,9 +1,9 @@
 -- What a run's refinement says of its first cycles, and of cycles under reset.
 use Rattle.std.proofs.Common.{ℕ, zero, suc, ◌+◌, ◌<◌, ◌≤◌, ◌⊎◌, inl, inr, arith}
-use Rattle.wb_meaning.specs.Value.{Valuation}
-use Rattle.wb_meaning.specs.Map.{Setting}
-use Rattle.wb_meaning.specs.Run.{Run}
-use Rattle.wb_meaning.specs.Refinement.{EndsAt, HasState, CommitsAt}
+use Rattle.wb_values.specs.Value.{Valuation}
+use Rattle.refinement.specs.Map.{Setting}
+use Rattle.refinement.specs.Run.{Run}
+use Rattle.refinement.specs.Refinement.{EndsAt, HasState, CommitsAt}
 use Rattle.wb_laws.specs.Runs.{RunShorterThanTheResetRefines, PrefixRefines}
 
 reset_within : (s : Setting) (run : Run) (cycles n t : ℕ) (q : Valuation) → HasState s run cycles n q t → s.map.reset_cycles ≤ cycles

@@ -1,12 +1,12 @@
 -- Idle cycles come one after the other, each determined by the one before: so each has one count and one state.
 use Rattle.std.proofs.Common.{◌≡◌, ◌≢◌, ℕ, zero, suc, ◌<◌, ◌≤◌, ◌⊎◌, inl, inr, arith, subst, sym, refl, ap, ◌∙◌}
-use Rattle.wb_meaning.specs.Value.{Valuation}
-use Rattle.wb_meaning.specs.Model.{Model}
-use Rattle.wb_meaning.specs.Instruction.{IsStarted, Steps}
-use Rattle.wb_meaning.specs.Map.{Setting}
-use Rattle.wb_meaning.specs.Run.{Run}
-use Rattle.wb_meaning.specs.Refinement.{state_at, inputs_at, StartsAt, IsCommandOf, EndsAt, IsIdle, HasState}
-use Rattle.wb_meaning.proofs.OneResult.{one_next_state}
+use Rattle.wb_values.specs.Value.{Valuation}
+use Rattle.model_meaning.specs.Model.{Model}
+use Rattle.model_meaning.specs.Instruction.{IsStarted, Steps}
+use Rattle.refinement.specs.Map.{Setting}
+use Rattle.refinement.specs.Run.{Run}
+use Rattle.refinement.specs.Refinement.{state_at, inputs_at, StartsAt, IsCommandOf, EndsAt, IsIdle, HasState}
+use Rattle.model_meaning.proofs.OneResult.{one_next_state}
 use Rattle.wb_laws.specs.Runs.{IdleCycleHasOneCount, IdleCycleHasOneState}
 
 -- Places one after the other.

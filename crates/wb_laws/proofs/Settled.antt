@@ -3,11 +3,12 @@ use Rattle.std.proofs.Common.{◌≡◌, ℕ, ◌^◌, ◌<◌, ◌≤◌, Bool,
 use Rattle.std.specs.Prelude.{IsTrue, is_some, option_map, option_and_then}
 use Rattle.std.proofs.Math.Nat.{mod-lt}
 use Rattle.std.proofs.Math.Pow.{pow_pos, pow_mono}
-use Rattle.wb_meaning.specs.Value.{Name, Value, truth_value, number as a_number, words, same_name, Valuation, Entries, entry_of}
-use Rattle.wb_meaning.specs.Verilog.Syntax.{Expression, number, name, concatenation, replication, as_signed, as_unsigned, unary, reduction, binary, shift, power, comparison, logical, conditional, Expressions, no_expressions, expression, Selects, whole, one, two, Range, ParameterDeclaration, Module, Source}
-use Rattle.wb_meaning.specs.Verilog.Expression.{Object, Scope, undeclared, object_or_undeclared, scope_of, object_width, no_values, width_of, sign_of, self_value}
-use Rattle.wb_meaning.specs.Verilog.Hierarchy.{ranged_object, constant_object, parameter_object, overridden_object, Overrides, one_parameter, override_of, with_values, with_parameters, all_parameters, constants_of, declarations, declaration_of, declared_object, object_or, module_scope, Placed, placed_scope, module_named, Instance, instance_named, connected, overridable, overrides_of, placed_instance, placed_below, no_overrides, placed_at}
-use Rattle.wb_meaning.specs.Verilog.Settled.{inside, IsDeclared, IsValueOf}
+use Rattle.wb_values.specs.Choice.{first_of}
+use Rattle.wb_values.specs.Value.{Name, Value, truth_value, number as a_number, words, same_name, Valuation, Entries, entry_of}
+use Rattle.verilog_trees.specs.Syntax.{Expression, number, name, concatenation, replication, as_signed, as_unsigned, unary, reduction, binary, shift, power, comparison, logical, conditional, Expressions, no_expressions, expression, Selects, whole, one, two, Range, ParameterDeclaration, Module, Source}
+use Rattle.verilog_meaning.specs.Expression.{Object, Scope, undeclared, object_or_undeclared, scope_of, object_width, no_values, width_of, sign_of, self_value}
+use Rattle.verilog_meaning.specs.Hierarchy.{ranged_object, constant_object, parameter_object, overridden_object, Overrides, one_parameter, override_of, with_values, with_parameters, all_parameters, constants_of, declarations, declaration_of, Declaration, declared_object, module_scope, Placed, placed_scope, module_named, Instance, instance_named, connected, overridable, overrides_of, placed_instance, placed_below, no_overrides, placed_at}
+use Rattle.verilog_meaning.specs.Settled.{inside, IsDeclared, IsValueOf}
 use Rattle.wb_laws.specs.Widths.{ReadFits, LeavesFit, AllLeavesFit}
 use Rattle.wb_laws.specs.Settled.{LeavesAre, AllLeavesAre, NumbersFit, ValuesFit, ParametersFit, HasFittingNumbers, SourceHasFittingNumbers, IsKnown, SettledValueFitsItsWidth}
 use Rattle.wb_laws.proofs.Widths.{value_fits}
@@ -106,13 +107,13 @@ plain_declared s signed (Some r) = refl
 
 of_module : (m : Module) (es : Entries Object) → AreParameters es → HasFittingConstants (module_scope m es)
 of_module m es h n i =
-    found (entry_of es n) (declared_object (scope_of es) (declaration_of (declarations m) n)) (λ o e. entry_is es n o h e)
-    (plain_declared (scope_of es) (declaration_of (declarations m) n).signed (declaration_of (declarations m) n).range) i
+    found (entry_of es n) (declaration_of (declarations m) n) (λ o e. entry_is es n o h e) i
   where
-    found : (x : Option Object) (other : Object) → ((o : Object) → x ≡ Some o → IsParameter o) → other.constant ≡ None → (i' : Selects)
-        → ReadFits (object_or x other) (a_number 0) i'
-    found None other k e i' = nothing_read other i' e
-    found (Some o) other k e i' = parameter_read o (a_number 0) i' (k o refl)
+    found : (x : Option Object) (d : Option Declaration) → ((o : Object) → x ≡ Some o → IsParameter o) → (i' : Selects)
+        → ReadFits (object_or_undeclared (first_of x (option_map (declared_object (scope_of es)) d))) (a_number 0) i'
+    found None None k i' = nothing_read undeclared i' refl
+    found None (Some d) k i' = nothing_read (declared_object (scope_of es) d) i' (plain_declared (scope_of es) d.signed d.range)
+    found (Some o) d k i' = parameter_read o (a_number 0) i' (k o refl)
 
 -- parameters
 
@@ -224,16 +225,18 @@ placed_is source top (u ∷ around) p f e = found (placed_at source top around) 
 settled_read : (p : Placed) (v : Valuation) → AreParameters p.constants → ((n : Name) → IsDeclared p n → IsValueOf (placed_scope p n) (v n))
     → (n : Name) (i : Selects) → IsKnown p n → ReadFits (placed_scope p n) (v n) i
 settled_read p v h f n i known =
-    found (entry_of p.constants n) (declared_object (scope_of p.constants) (declaration_of (declarations p.of_module) n))
-    (λ o e. entry_is p.constants n o h e)
-    (plain_declared (scope_of p.constants) (declaration_of (declarations p.of_module) n).signed (declaration_of (declarations p.of_module) n).range)
-    (f n) known
+    found (entry_of p.constants n) (declaration_of (declarations p.of_module) n) (λ o e. entry_is p.constants n o h e) (f n) known
   where
-    found : (x : Option Object) (other : Object) → ((o : Object) → x ≡ Some o → IsParameter o) → other.constant ≡ None
-        → (IsDeclared p n → IsValueOf (object_or x other) (v n)) → IsTrue (is_some x) ⊎ IsDeclared p n → ReadFits (object_or x other) (v n) i
-    found None other k e g (inl t) = cc
-    found None other k e g (inr d) = value_read other (v n) i e (g d)
-    found (Some o) other k e g t = parameter_read o (v n) i (k o refl)
+    object : Option Object → Option Declaration → Object
+    object x d = object_or_undeclared (first_of x (option_map (declared_object (scope_of p.constants)) d))
+
+    found : (x : Option Object) (d : Option Declaration) → ((o : Object) → x ≡ Some o → IsParameter o)
+        → (IsDeclared p n → IsValueOf (object x d) (v n)) → IsTrue (is_some x) ⊎ IsDeclared p n → ReadFits (object x d) (v n) i
+    found None d k g (inl t) = cc
+    found None None k g (inr declared) = value_read undeclared (v n) i refl (g declared)
+    found None (Some d) k g (inr declared) =
+        value_read (declared_object (scope_of p.constants) d) (v n) i (plain_declared (scope_of p.constants) d.signed d.range) (g declared)
+    found (Some o) d k g t = parameter_read o (v n) i (k o refl)
 
 pub settled_value_fits : SettledValueFitsItsWidth
 settled_value_fits d registers inputs v path p e f settled at l =

@@ -1,7 +1,7 @@
 -- An instruction without a child does what its updates say, and nothing else.
 use Rattle.std.proofs.Common.{refl, ap, ◌∙◌}
-use Rattle.wb_meaning.specs.Model.{point_of, updated}
-use Rattle.wb_meaning.specs.Instruction.{state_in}
+use Rattle.model_meaning.specs.Model.{point_of, updated}
+use Rattle.model_meaning.specs.Instruction.{state_in}
 use Rattle.wb_laws.specs.Instructions.{InstructionWithoutChildIsItsUpdate}
 
 pub update_alone : InstructionWithoutChildIsItsUpdate

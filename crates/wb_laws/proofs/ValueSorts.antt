@@ -8,9 +8,10 @@ use Rattle.std.specs.Int.Bits.{and_lt}
 use Rattle.std.proofs.lemmas.Grind.{get_or_default_zero}
 use Rattle.std.proofs.lemmas.Nat.{or_lt, xor_lt}
 use Rattle.std.proofs.lemmas.Bool.{false≢true}
-use Rattle.wb_meaning.specs.Value.{Value, Sort, truth, word, memory, truth_value, number, words, all_below, HasSort, Valuation, as_truth, as_words, as_number}
-use Rattle.wb_meaning.specs.Number.{word_not, word_neg, word_add, word_sub, word_mul, word_shl, word_lshr, word_ashr, word_concat, word_extract, word_sext}
-use Rattle.wb_meaning.specs.Term.{Term, name, constant_truth, const, not, neg, and, or, xor, add, sub, mul, shl, lshr, ashr, eq, ult, ule, slt, sle, concat, extract, zext, sext, ite, load, store, is_width, is_sort, same_sort, some_if, bits_sort, same_bits_sort, word_sort, same_word_sort, compared, concat_sort, extract_sort, extended_sort, ite_sort, load_sort, store_sort, sort_of, width_of_sort, complement, conjunction, disjunction, exclusive_or, val}
+use Rattle.wb_values.specs.Value.{Value, Sort, truth, word, memory, truth_value, number, words, all_below, HasSort, Valuation, as_truth, as_words, as_number}
+use Rattle.wb_values.specs.Number.{word_not, word_neg, word_add, word_sub, word_mul, word_shl, word_lshr, word_ashr, word_concat, word_extract, word_sext}
+use Rattle.wb_values.specs.Choice.{some_if}
+use Rattle.model_meaning.specs.Term.{Term, name, constant_truth, const, not, neg, and, or, xor, add, sub, mul, shl, lshr, ashr, eq, ult, ule, slt, sle, concat, extract, zext, sext, ite, load, store, is_width, is_sort, same_sort, bits_sort, same_bits_sort, word_sort, same_word_sort, compared, concat_sort, extract_sort, extended_sort, ite_sort, load_sort, store_sort, sort_of, width_of_sort, complement, conjunction, disjunction, exclusive_or, val}
 use Rattle.wb_laws.specs.Terms.{NamesFit, TermFitsItsSort}
 use Rattle.wb_laws.proofs.Numbers.{not_below, neg_below, add_below, sub_below, mul_below, shl_below, lshr_below, ashr_below, sext_below, wider, concat_below}
 use Rattle.wb_laws.proofs.Memories.{memory_word, length-memory, both, both_from, same_number, test_of, below, all_below-set}

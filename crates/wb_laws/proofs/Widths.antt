@@ -5,10 +5,10 @@ use Rattle.std.specs.Int.Bits.{and_lt}
 use Rattle.std.proofs.Math.Nat.{mod-lt}
 use Rattle.std.proofs.Math.Pow.{pow_pos, pow_mono}
 use Rattle.std.proofs.lemmas.Nat.{or_lt, xor_lt, mul-add-lt, pow-add}
-use Rattle.wb_meaning.specs.Value.{Value, as_words, Valuation}
-use Rattle.wb_meaning.specs.Number.{word_xor}
-use Rattle.wb_meaning.specs.Verilog.Syntax.{UnaryOperator, plus, minus, complement, BinaryOperator, add, subtract, multiply, divide, modulo, bitwise_and, bitwise_or, bitwise_xor, bitwise_xnor, ShiftOperator, left, right, arithmetic_right, Expression, number, name, concatenation, replication, as_signed, as_unsigned, unary, reduction, binary, shift, power, comparison, logical, conditional, Expressions, no_expressions, expression, Select, index, part, part_up, part_down, Selects, whole, one, two}
-use Rattle.wb_meaning.specs.Verilog.Expression.{Object, Scope, object_width, is_memory, no_values, word_number, word_at, word_of, bits_from, bits_of, widened, bit, bits_of_integer, repeated, unary_value, binary_value, shift_value, sign_of, selects_width, selected, select_index, select_bits, whole_value, width_of, widths_of, value_of, joined_value}
+use Rattle.wb_values.specs.Value.{Value, as_words, Valuation}
+use Rattle.wb_values.specs.Number.{word_xor}
+use Rattle.verilog_trees.specs.Syntax.{UnaryOperator, plus, minus, complement, BinaryOperator, add, subtract, multiply, divide, modulo, bitwise_and, bitwise_or, bitwise_xor, bitwise_xnor, ShiftOperator, left, right, arithmetic_right, Expression, number, name, concatenation, replication, as_signed, as_unsigned, unary, reduction, binary, shift, power, comparison, logical, conditional, Expressions, no_expressions, expression, Select, index, part, part_up, part_down, Selects, whole, one, two}
+use Rattle.verilog_meaning.specs.Expression.{Object, Scope, object_width, is_memory, no_values, word_number, word_at, word_of, bits_from, bits_of, widened, bit, bits_of_integer, repeated, unary_value, binary_value, shift_value, sign_of, selects_width, selected, select_index, select_bits, whole_value, width_of, widths_of, value_of, joined_value}
 use Rattle.wb_laws.specs.Widths.{ReadFits, LeavesFit, AllLeavesFit, ValueFitsItsWidth, ValueFitsItsContext}
 use Rattle.wb_laws.proofs.Numbers.{not_below, neg_below, add_below, sub_below, mul_below, shl_below, lshr_below, ashr_below, sext_below}
 

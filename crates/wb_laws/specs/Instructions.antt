@@ -1,9 +1,9 @@
 -- What an instruction without a child program does.
 use Rattle.std.specs.Prelude.{◌≡◌, ◌↔◌}
-use Rattle.wb_meaning.specs.Value.{Name, Valuation, Entries}
-use Rattle.wb_meaning.specs.Term.{Term}
-use Rattle.wb_meaning.specs.Model.{Model, instruction, no_child, point_of, updated}
-use Rattle.wb_meaning.specs.Instruction.{Does, state_in}
+use Rattle.wb_values.specs.Value.{Name, Valuation, Entries}
+use Rattle.model_meaning.specs.Term.{Term}
+use Rattle.model_meaning.specs.Model.{Model, instruction, no_child, point_of, updated}
+use Rattle.model_meaning.specs.Instruction.{Does, state_in}
 
 -- An instruction without a child leads from q under w to one state and no other: the model's states as its updates give them,
 -- all of which read q and w.

@@ -1,9 +1,9 @@
 -- Idle cycles, the model's states at them, and refinement in runs of several lengths.
 use Rattle.std.specs.Prelude.{◌≡◌, ℕ, ◌<◌, ◌≤◌}
-use Rattle.wb_meaning.specs.Value.{Valuation}
-use Rattle.wb_meaning.specs.Map.{Setting}
-use Rattle.wb_meaning.specs.Run.{Run}
-use Rattle.wb_meaning.specs.Refinement.{IsIdle, HasState, Refines}
+use Rattle.wb_values.specs.Value.{Valuation}
+use Rattle.refinement.specs.Map.{Setting}
+use Rattle.refinement.specs.Run.{Run}
+use Rattle.refinement.specs.Refinement.{IsIdle, HasState, Refines}
 
 -- A run that is over before its reset refines every model: nothing is said of cycles under reset.
 abbrev pub RunShorterThanTheResetRefines : Type 0

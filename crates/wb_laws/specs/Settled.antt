@@ -1,10 +1,10 @@
 -- Values of expressions in a design that has settled.
 use Rattle.std.specs.Prelude.{◌≡◌, ◌^◌, ◌<◌, List, [], ◌∷◌, Some, is_some, IsTrue, ◌⊎◌, ⊤}
-use Rattle.wb_meaning.specs.Value.{Name, Valuation, entry_of}
-use Rattle.wb_meaning.specs.Verilog.Syntax.{Expression, number, name, concatenation, replication, as_signed, as_unsigned, unary, reduction, binary, shift, power, comparison, logical, conditional, Expressions, no_expressions, expression, ParameterDeclaration, Module, Source}
-use Rattle.wb_meaning.specs.Verilog.Expression.{width_of, self_value}
-use Rattle.wb_meaning.specs.Verilog.Hierarchy.{all_parameters, Placed, placed_scope, module_named, Instance, instance_named, connected}
-use Rattle.wb_meaning.specs.Verilog.Settled.{Design, at_path, inside, IsDeclared, IsSettled}
+use Rattle.wb_values.specs.Value.{Name, Valuation, entry_of}
+use Rattle.verilog_trees.specs.Syntax.{Expression, number, name, concatenation, replication, as_signed, as_unsigned, unary, reduction, binary, shift, power, comparison, logical, conditional, Expressions, no_expressions, expression, ParameterDeclaration, Module, Source}
+use Rattle.verilog_meaning.specs.Expression.{width_of, self_value}
+use Rattle.verilog_meaning.specs.Hierarchy.{all_parameters, Placed, placed_scope, module_named, Instance, instance_named, connected}
+use Rattle.verilog_meaning.specs.Settled.{Design, at_path, inside, IsDeclared, IsSettled}
 
 abbrev mutual
   -- The numbers whose bits may come into the expression's value fit their widths, and its names are all of a kind.

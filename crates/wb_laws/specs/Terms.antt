@@ -1,7 +1,7 @@
 -- Values of terms and their sorts.
 use Rattle.std.specs.Prelude.{◌≡◌, Some, ⊤}
-use Rattle.wb_meaning.specs.Value.{Sort, HasSort, Valuation}
-use Rattle.wb_meaning.specs.Term.{Term, name, constant_truth, const, not, neg, and, or, xor, add, sub, mul, shl, lshr, ashr, eq, ult, ule, slt, sle, concat, extract, zext, sext, ite, load, store, sort_of, val}
+use Rattle.wb_values.specs.Value.{Sort, HasSort, Valuation}
+use Rattle.model_meaning.specs.Term.{Term, name, constant_truth, const, not, neg, and, or, xor, add, sub, mul, shl, lshr, ashr, eq, ult, ule, slt, sle, concat, extract, zext, sext, ite, load, store, sort_of, val}
 
 -- Each name of the term stands for a value of the sort with which it occurs.
 abbrev pub NamesFit : Valuation → Term → Type 0

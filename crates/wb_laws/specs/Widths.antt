@@ -1,8 +1,8 @@
 -- Values of Verilog expressions and their widths.
 use Rattle.std.specs.Prelude.{ℕ, ◌^◌, ◌≤◌, ◌<◌, slice_index, Bool, IsTrue, ⊤}
-use Rattle.wb_meaning.specs.Value.{Value, as_words, Valuation}
-use Rattle.wb_meaning.specs.Verilog.Syntax.{Expression, number, name, concatenation, replication, as_signed, as_unsigned, unary, reduction, binary, shift, power, comparison, logical, conditional, Expressions, no_expressions, expression, Selects, whole, one, two}
-use Rattle.wb_meaning.specs.Verilog.Expression.{Object, Scope, object_width, is_memory, whole_value, width_of, value_of, self_value}
+use Rattle.wb_values.specs.Value.{Value, as_words, Valuation}
+use Rattle.verilog_trees.specs.Syntax.{Expression, number, name, concatenation, replication, as_signed, as_unsigned, unary, reduction, binary, shift, power, comparison, logical, conditional, Expressions, no_expressions, expression, Selects, whole, one, two}
+use Rattle.verilog_meaning.specs.Expression.{Object, Scope, object_width, is_memory, whole_value, width_of, value_of, self_value}
 
 -- What is read whole fits the object's bits: the number of a net, a variable or a parameter, or each word of a memory.
 -- A select of bits may be of any number.

@@ -2,7 +2,7 @@
 ghost use Rattle.wb_laws.specs.Instructions.{InstructionWithoutChildIsItsUpdate};
 ghost use Rattle.wb_laws.specs.Runs.{RunShorterThanTheResetRefines, PrefixRefines, IdleCycleHasOneCount, IdleCycleHasOneState};
 ghost use Rattle.wb_laws.specs.Settled.{SettledValueFitsItsWidth};
-ghost use Rattle.wb_laws.specs.Simulations.{OutcomeIsUnique, SimulationIsUnique, SimulationIsARun};
+ghost use Rattle.wb_laws.specs.Simulations.{OutcomeIsUnique, OutcomeExists, SimulationIsUnique, SimulationExists, SimulationIsARun};
 ghost use Rattle.wb_laws.specs.Terms.{TermFitsItsSort};
 ghost use Rattle.wb_laws.specs.Widths.{ValueFitsItsWidth, ValueFitsItsContext};
 
@@ -50,6 +50,16 @@ pub fn a_settled_value_fits_its_width()
 /// At a state under inputs a model has one outcome: the causes of the outcomes exclude each other.
 pub fn an_outcome_is_unique()
     ensures { OutcomeIsUnique }
+{}
+
+/// At each state under inputs a model has an outcome: with the law above, what a step answers is a function of both.
+pub fn a_model_has_an_outcome()
+    ensures { OutcomeExists }
+{}
+
+/// Each script has a simulation.
+pub fn a_script_has_a_simulation()
+    ensures { SimulationExists }
 {}
 
 /// A script has one simulation, and its states are those of a run of the model.

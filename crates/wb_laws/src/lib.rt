@@ -1,4 +1,4 @@
-//! Laws that a reader expects of the definitions in `wb_meaning`. The functions have no code: each carries one law.
+//! Laws that a reader expects of the definitions. The functions have no code: each carries one law.
 #![tactic(auto)]
 
 pub mod laws;

@@ -2,7 +2,7 @@
 
 ghost use Rattle.std.specs.Prelude.{◌≡◌};
 ghost use Rattle.std.specs.List.{list_all};
-ghost use Rattle.wb_meaning.specs.ModelFile.Names.{is_letter, is_digit, is_name_byte, begins_with, begins_with_wb, is_kept_word, is_model_name};
+ghost use Rattle.wb_values.specs.Names.{is_letter, is_digit, is_name_byte, begins_with, begins_with_wb, is_kept_word, is_model_name};
 
 use crate::words::is_reserved_word;
 

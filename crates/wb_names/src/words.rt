@@ -3,7 +3,7 @@
 ghost use Rattle.std.specs.Prelude.{◌≡◌, ◌||◌};
 ghost use Rattle.std.specs.Str.{bytes_eq};
 ghost use Rattle.std.specs.List.{list_any};
-ghost use Rattle.wb_meaning.specs.Words.{is_reserved};
+ghost use Rattle.wb_values.specs.ReservedWords.{is_reserved};
 
 /// The words of the Verilog subset that the workbench reads.
 const GRAMMAR_WORDS: [&str; 22] = [

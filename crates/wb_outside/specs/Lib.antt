@@ -1,3 +1,4 @@
 pub mod Outside
 pub mod MemShelf
 pub mod MemSink
+pub mod StdSink

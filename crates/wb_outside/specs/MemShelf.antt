@@ -7,12 +7,13 @@ use Rattle.std.specs.List.{find, list_any}
 use Rattle.std.specs.Str.{bytes_eq}
 use Rattle.wb_outside.specs.Outside.{next_count}
 
--- its files, each a name and its bytes, the numbers of the reads that are to fail, the names read so far, and its faults
+-- its files, each a name and its bytes, the numbers of the reads that are to fail, the names read so far, its faults, and how many names were read when the last of them came, its own among them (0 before the first)
 pub record ShelfState : Type 0 where
   pub files : List (List ℕ × List ℕ)
   pub failing : List ℕ
   pub asked : List (List ℕ)
   pub faults : ℕ
+  pub last_fault : ℕ
 
 -- the bytes of the first file with this name
 abbrev pub bytes_named : List (List ℕ × List ℕ) → List ℕ → Option (List ℕ)
@@ -36,4 +37,8 @@ after_read shelf name = record shelf { asked = shelf.asked ++ name ∷ [] }
 
 -- the shelf behind a read of this name that failed
 abbrev pub after_fault : ShelfState → List ℕ → ShelfState
-after_fault shelf name = record shelf { asked = shelf.asked ++ name ∷ []; faults = next_count shelf.faults }
+after_fault shelf name = record shelf {
+  asked = shelf.asked ++ name ∷ [];
+  faults = next_count shelf.faults;
+  last_fault = length shelf.asked + 1;
+}

@@ -1,11 +1,11 @@
 //! The real files as a shelf. It tells nothing of what they hold.
-ghost use Rattle.std.specs.Prelude.{◌≡◌, ◌≤◌, ℕ, None, take, is_ok, if◌then◌else◌};
+ghost use Rattle.std.specs.Prelude.{◌≡◌, ◌≤◌, ◌+◌, ℕ, None, length, IfOk, OnOk, IsErrOf};
 ghost use Rattle.wb_outside.specs.Outside.{last_count, next_count};
 
-use super::{ReadStop, Shelf};
+use super::streams::stop_of;
+use super::{ReadStop, Shelf, read_limited};
 use std::alloc::Global;
 use std::fs;
-use std::io::{ErrorKind, Read};
 use std::marker::Model;
 use std::rt::Files;
 
@@ -35,7 +35,7 @@ impl<R: Files> FileShelf<R> {
         FileShelf { files, faults: 0 }
     }
 
-    /// How many of the reads gave an error.
+    /// How many of the reads were faults.
     pub fn fault_count(&self) -> u64
         ensures { result ≡ self.now }
     {
@@ -50,14 +50,19 @@ impl<R: Files> Shelf for FileShelf<R> {
 
     ghost faults = { λ shelf. shelf };
 
-    // Each error that it answers is counted, want of memory too. A file that is missing is a fault.
+    ghost last_fault = { λ _. None };
+
+    // Each error is a fault, but for out of memory. A file that is missing is a fault.
     fn read(&mut self, alloc: Global, name: &str, limit: u64) -> Result<Vec<u8>, ReadStop>
-        ensures count { self.new ≡ (if is_ok result then self.old else next_count self.old) }
+        ensures bounded { IfOk result (λ bytes. length bytes.items ≤ limit + 1) }
+        ensures ok_count { OnOk result (self.new ≡ self.old) }
+        ensures failed_count { IsErrOf result ReadStop.Failed → self.new ≡ next_count self.old }
+        ensures no_memory_count { IsErrOf result ReadStop.NoMemory → self.new ≡ self.old }
         ensures never_falls { self.old ≤ self.new }
         ensures in_range { self.new ≤ last_count }
     {
         let answer = read_file(&self.files, alloc, name, limit);
-        if answer.is_err() {
+        if matches!(&answer, Err(ReadStop::Failed)) {
             self.faults = self.faults.saturating_add(1);
         }
         answer
@@ -70,14 +75,11 @@ fn read_file<R: Files>(
     alloc: Global,
     name: &str,
     limit: u64,
-) -> Result<Vec<u8>, ReadStop> {
-    let Ok(file) = fs::open(files, name) else {
-        return Err(ReadStop::Failed);
-    };
-    let mut bytes = Vec::new(alloc);
-    match file.take(limit.saturating_add(1)).read_to_end(&mut bytes) {
-        Ok(_) => Ok(bytes),
-        Err(error) if error.kind() == ErrorKind::OutOfMemory => Err(ReadStop::NoMemory),
-        Err(_) => Err(ReadStop::Failed),
+) -> Result<Vec<u8>, ReadStop>
+    ensures bounded { IfOk result (λ bytes. length bytes.items ≤ limit + 1) }
+{
+    match fs::open(files, name) {
+        Ok(mut file) => read_limited(&mut file, alloc, limit),
+        Err(error) => Err(stop_of(&error)),
     }
 }

@@ -6,6 +6,7 @@ mod memory_shelf;
 mod memory_sink;
 mod reading;
 mod standard_sink;
+mod streams;
 #[cfg(test)]
 mod tests;
 mod writing;
@@ -15,4 +16,5 @@ pub use memory_shelf::MemShelf;
 pub use memory_sink::MemSink;
 pub use reading::{NoMemory, ReadStop, Shelf, read_all};
 pub use standard_sink::StdSink;
+pub use streams::{read_limited, write_whole};
 pub use writing::{Sink, WriteStop};

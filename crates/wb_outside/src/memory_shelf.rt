@@ -1,5 +1,5 @@
 //! A shelf in memory that tells all, whose reads fail as a list says.
-ghost use Rattle.std.specs.Prelude.{◌≡◌, ◌+◌, ◌≤◌, [], take, map, None, Some, IfOk, OnOk, OnErr, IsErrOf, string_bytes};
+ghost use Rattle.std.specs.Prelude.{◌≡◌, ◌+◌, ◌≤◌, [], take, length, map, None, Some, IfOk, IfSome, OnOk, OnErr, IsErrOf, string_bytes};
 ghost use Rattle.std.specs.Option.{option_map, option_copied};
 ghost use Rattle.wb_outside.specs.Outside.{last_count};
 ghost use Rattle.wb_outside.specs.MemShelf.{files_of, bytes_named, is_listed, found, after_read, after_fault};
@@ -16,6 +16,7 @@ pub struct MemShelf {
     failing: Vec<u64>,
     asked: Vec<String>,
     faults: u64,
+    last_fault: usize,
 }
 
 impl Model for MemShelf {
@@ -30,6 +31,7 @@ impl Model for MemShelf {
       failing = shelf.failing.items;
       asked = map string_bytes shelf.asked.items;
       faults = shelf.faults;
+      last_fault = shelf.last_fault;
     } };
 
     ghost invariant = { λ shelf. shelf.faults ≤ last_count };
@@ -51,6 +53,7 @@ impl MemShelf {
           failing = failing.items;
           asked = [];
           faults = 0;
+          last_fault = 0;
         }) }
     {
         let asked = Vec::with_capacity(alloc, files.len())?;
@@ -59,6 +62,7 @@ impl MemShelf {
             failing,
             asked,
             faults: 0,
+            last_fault: 0,
         })
     }
 
@@ -81,6 +85,7 @@ impl MemShelf {
         ensures in_range { self.now.faults ≤ last_count }
         ensures found { IfOk result (λ answer.
             option_map (λ bytes. bytes.items) answer ≡ option_map (take (limit + 1)) (found self.now name.now)) }
+        ensures bounded { IfOk result (λ answer. IfSome answer (λ bytes. length bytes.items ≤ limit + 1)) }
     {
         if next_is_listed(&self.failing, self.asked.len()) {
             return Ok(None);
@@ -109,6 +114,8 @@ impl Shelf for MemShelf {
 
     ghost faults = { λ shelf. shelf.faults };
 
+    ghost last_fault = { λ shelf. Some shelf.last_fault };
+
     fn read(&mut self, alloc: Global, name: &str, limit: u64) -> Result<Vec<u8>, ReadStop>
         ensures ok { IfOk result (λ bytes. option_map (take (limit + 1)) (found self.old name.now) ≡ Some bytes.items) }
         ensures ok_after { OnOk result (self.new ≡ after_read self.old name.now) }
@@ -118,6 +125,7 @@ impl Shelf for MemShelf {
         ensures never_falls { self.old.faults ≤ self.new.faults }
         ensures in_range { self.new.faults ≤ last_count }
         ensures first_bytes { IfOk result (λ bytes. option_map (take (limit + 1)) (bytes_named self.old.files name.now) ≡ Some bytes.items) }
+        ensures bounded { IfOk result (λ bytes. length bytes.items ≤ limit + 1) }
     {
         let answer = self.serve(alloc, name, limit)?;
         self.note(alloc, name)?;
@@ -125,6 +133,7 @@ impl Shelf for MemShelf {
             Some(bytes) => Ok(bytes),
             None => {
                 self.faults = self.faults.saturating_add(1);
+                self.last_fault = self.asked.len();
                 Err(ReadStop::Failed)
             }
         }
@@ -153,7 +162,8 @@ fn file_named<'a>(files: &'a [(String, Vec<u8>)], name: &str) -> Option<&'a [u8]
 
 // The bytes up to one more than the limit.
 fn first_bytes(bytes: &[u8], limit: u64) -> &[u8]
-    ensures { result.now ≡ take (limit + 1) bytes.now }
+    ensures start { result.now ≡ take (limit + 1) bytes.now }
+    ensures bounded { length result.now ≤ limit + 1 }
 {
     if limit < bytes.len() as u64 {
         &bytes[..limit as usize + 1]

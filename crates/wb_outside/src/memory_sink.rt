@@ -81,6 +81,8 @@ impl Sink for MemSink {
 
     ghost faults = { λ sink. sink.faults };
 
+    ghost writes = { λ sink. sink.writes };
+
     fn write(&mut self, piece: &[u8]) -> Result<(), WriteStop>
         ensures answer { result ≡ (if is_fault self.old piece.now then Err WriteStop.Failed else Ok tt) }
         ensures after { self.new ≡ after_write self.old piece.now }

@@ -132,3 +132,104 @@ fn an_output_that_takes_nothing_is_a_fault(rt: HostRuntime) {
     let mut output = StdSink::new(&rt);
     assert!(rt; output.write(b"").is_ok());
 }
+
+const MIB: usize = 1_048_576;
+
+#[test]
+fn large_files_and_many_names_find_memory(rt: HostRuntime) -> Result<(), Fail> {
+    let alloc = rt.alloc();
+    let large = vec![in alloc; b'z'; MIB]?;
+    let mut files = Vec::new(alloc);
+    files.push(named(alloc, "small", b"s")?)?;
+    files.push(named(alloc, "large", &large)?)?;
+    let mut shelf = MemShelf::new(alloc, files, Vec::new(alloc))?;
+    for (limit, length) in [(u64::MAX, MIB), (1_048_576, MIB), (1_048_575, MIB), (9, 10)] {
+        let answer = shelf.read(alloc, "large", limit);
+        assert!(rt; answer.is_ok_and(|bytes| bytes.len() == length), "{limit}");
+    }
+    let mut names = Vec::new(alloc);
+    for _ in 0..1_000 {
+        names.push(String::from_str(alloc, "small")?)?;
+    }
+    let answer = read_all(&mut shelf, alloc, &names, 9);
+    assert!(rt; answer.is_ok_and(|contents| contents.len() == 1_000));
+    assert_eq!(rt; shelf.names().len(), 1_004);
+    assert_eq!(rt; shelf.fault_count(), 0);
+
+    let mut sink = MemSink::new(alloc, 1_048_576, Vec::new(alloc))?;
+    assert!(rt; sink.write(&large).is_ok());
+    assert!(rt; sink.bytes() == large.as_slice());
+
+    let mut real = FileShelf::new(&rt);
+    let answer = real.read(alloc, "/dev/zero", 1_048_575);
+    assert!(rt; answer.is_ok_and(|bytes| bytes.len() == MIB));
+    Ok(())
+}
+
+// A reader of one byte at a time, whose second read gives an error of this kind.
+#[derive(Drop)]
+struct Halting<'a> {
+    rest: &'a [u8],
+    reads: u64,
+    kind: io::ErrorKind,
+}
+
+impl io::Read for Halting<'_> {
+    fn read(&mut self, buf: &mut [u8]) -> io::Result<usize> {
+        self.reads = self.reads.saturating_add(1);
+        if self.reads == 2 {
+            return Err(io::Error::from(self.kind));
+        }
+        match self.rest {
+            [first, rest @ ..] if !buf.is_empty() => {
+                buf[0] = *first;
+                self.rest = rest;
+                Ok(1)
+            }
+            _ => Ok(0),
+        }
+    }
+}
+
+#[test]
+fn an_error_of_a_reader_is_told_by_its_kind(rt: HostRuntime) -> Result<(), Fail> {
+    let alloc = rt.alloc();
+    let rows: [(io::ErrorKind, Result<&[u8], ReadStop>); 4] = [
+        (io::ErrorKind::Interrupted, Ok(b"abc")),
+        (io::ErrorKind::OutOfMemory, Err(ReadStop::NoMemory)),
+        (io::ErrorKind::BrokenPipe, Err(ReadStop::Failed)),
+        (io::ErrorKind::TimedOut, Err(ReadStop::Failed)),
+    ];
+    for (index, (kind, wanted)) in rows.into_iter().enumerate() {
+        let mut reader = Halting {
+            rest: b"abcd",
+            reads: 0,
+            kind,
+        };
+        let answer = read_limited(&mut reader, alloc, 2);
+        match (&answer, wanted) {
+            (Ok(bytes), Ok(wanted)) => assert_eq!(rt; bytes.as_slice(), wanted, "row {index}"),
+            (Err(stop), Err(wanted)) => assert_eq!(rt; *stop, wanted, "row {index}"),
+            _ => panic!(rt; "row {index}"),
+        }
+    }
+    Ok(())
+}
+
+#[test]
+fn a_large_text_is_read_and_written_in_pieces(rt: HostRuntime) -> Result<(), Fail> {
+    let alloc = rt.alloc();
+    let large = vec![in alloc; b'z'; MIB]?;
+    for (limit, length) in [(u64::MAX, MIB), (1_048_575, MIB), (100_000, 100_001)] {
+        let mut reader = large.as_slice();
+        let answer = read_limited(&mut reader, alloc, limit);
+        assert!(rt; answer.is_ok_and(|bytes| bytes.len() == length), "{limit}");
+    }
+    let mut held = Vec::new(alloc);
+    assert!(rt; write_whole(&mut held, &large).is_ok());
+    assert!(rt; held == large);
+    let narrow = Narrow;
+    let mut sink = StdSink::new(&narrow);
+    assert!(rt; sink.write(&large).is_ok());
+    Ok(())
+}

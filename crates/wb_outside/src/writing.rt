@@ -1,7 +1,7 @@
 //! What a sink is: a place that takes bytes piece by piece, and what each write tells of it.
 ghost use Rattle.std.specs.Prelude.{◌≡◌, ◌≤◌, ℕ, List, OnOk, OnErr};
 ghost use Rattle.std.specs.declared.option.Option.{Option};
-ghost use Rattle.wb_outside.specs.Outside.{Rose, last_count, with_appended, GrewByPrefix};
+ghost use Rattle.wb_outside.specs.Outside.{Rose, last_count, next_count, with_appended, GrewByPrefix};
 
 /// Why a write did not take its whole piece.
 #[derive(Clone, Copy, Debug, PartialEq, Eq)]
@@ -18,7 +18,11 @@ pub trait Sink {
     // How many faults there were; it stops at the last value of a u64.
     ghost faults: { Self → ℕ };
 
-    /// Writes the piece behind what was written. It takes no memory.
+    // How many writes there were; it stops at the last value of a u64.
+    ghost writes: { Self → ℕ };
+
+    /// Writes the piece behind what was written, and is counted as one write, whatever it answers.
+    /// It takes no memory.
     ///
     /// # Errors
     ///
@@ -30,5 +34,8 @@ pub trait Sink {
 
         ensures never_falls { faults self.old ≤ faults self.new }
         ensures in_range { faults self.new ≤ last_count }
-        ensures failed_rose { OnErr result (Rose (faults self.old) (faults self.new)) };
+        ensures failed_rose { OnErr result (Rose (faults self.old) (faults self.new)) }
+        ensures ok_stays { OnOk result (faults self.new ≡ faults self.old) }
+
+        ensures counted { writes self.new ≡ next_count (writes self.old) };
 }

@@ -4,8 +4,9 @@ use Rattle.std.specs.Prelude.{◌==◌, vec_len}
 use Rattle.std.proofs.lemmas.List.{length-map, get_or-map}
 use Rattle.std.proofs.lemmas.Cmp.{nat_list_eq_equiv}
 use Rattle.std.proofs.lemmas.Bool.Decides.{nat_tests}
-use Rattle.wb_meaning.specs.Value.{Name, Sort, truth, memory, Value, words, Entries, entry_of, value_or_zero, valuation_of, same_name, HasSort, all_below}
-use Rattle.wb_meaning.specs.Term.{is_sort, some_if, sort_of, val}
+use Rattle.wb_values.specs.Value.{Name, Sort, truth, memory, Value, words, Entries, entry_of, value_or_zero, valuation_of, same_name, HasSort, all_below}
+use Rattle.wb_values.specs.Choice.{some_if}
+use Rattle.model_meaning.specs.Term.{is_sort, sort_of, val}
 use Rattle.wb_terms.specs.declared.values.Value.{Value as CodeValue}
 use Rattle.wb_terms.specs.declared.values.Env.{Env}
 use Rattle.wb_terms.specs.declared.sorts.Sort.{Sort as CodeSort}

@@ -5,8 +5,9 @@ use Rattle.std.proofs.Math.ListN.{length-set}
 use Rattle.std.proofs.Math.Pow.{pow-lt}
 use Rattle.std.proofs.lemmas.Bool.{false≢true}
 use Rattle.std.proofs.lemmas.Bool.Decides.{nat_tests}
-use Rattle.wb_meaning.specs.Value.{Value, Sort, truth, word, memory, truth_value, number, words, all_below, as_words, as_number}
-use Rattle.wb_meaning.specs.Term.{is_sort, is_width, some_if, load_sort, store_sort}
+use Rattle.wb_values.specs.Value.{Value, Sort, truth, word, memory, truth_value, number, words, all_below, as_words, as_number}
+use Rattle.wb_values.specs.Choice.{some_if}
+use Rattle.model_meaning.specs.Term.{is_sort, is_width, load_sort, store_sort}
 use Rattle.wb_terms.specs.Held.{IsHeldBy}
 use Rattle.wb_terms.specs.Environment.{HasSortOf}
 use Rattle.wb_terms.proofs.InRange.{IsInRange}

@@ -4,8 +4,8 @@ use Rattle.std.proofs.lemmas.List.{append-nil, take_all, map-append, length-map,
 use Rattle.std.proofs.Math.Seq.{get_or-append_seam, take-append_seam, take-length}
 use Rattle.std.proofs.Math.ListN.{get_or-append}
 use Rattle.std.proofs.lemmas.Cmp.{nat_list_eq_equiv}
-use Rattle.wb_meaning.specs.Value.{Name, Sort, truth, Entries, entry_of, same_name}
-use Rattle.wb_meaning.specs.Term.{Term, name, not, neg, and, or, xor, add, sub, mul, shl, lshr, ashr, eq, ult, ule, slt, sle, concat, extract, zext, sext, ite, load, store, is_sort, sort_of}
+use Rattle.wb_values.specs.Value.{Name, Sort, truth, Entries, entry_of, same_name}
+use Rattle.model_meaning.specs.Term.{Term, name, not, neg, and, or, xor, add, sub, mul, shl, lshr, ashr, eq, ult, ule, slt, sle, concat, extract, zext, sext, ite, load, store, is_sort, sort_of}
 use Rattle.wb_terms.specs.declared.store.Entry.{Entry}
 use Rattle.wb_terms.specs.declared.store.Declared.{Declared}
 use Rattle.wb_terms.specs.declared.nodes.Node.{Node}

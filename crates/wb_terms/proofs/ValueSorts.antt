@@ -9,9 +9,10 @@ use Rattle.std.proofs.lemmas.Grind.{get_or_default_zero}
 use Rattle.std.proofs.lemmas.Nat.{or_lt, xor_lt, mul-add-lt, pow-add, shr_below}
 use Rattle.std.proofs.lemmas.Bool.{false≢true}
 use Rattle.std.proofs.lemmas.Bool.Decides.{nat_tests}
-use Rattle.wb_meaning.specs.Value.{Value, Sort, truth, word, memory, truth_value, number, words, all_below, HasSort, Valuation, as_truth, as_words, as_number}
-use Rattle.wb_meaning.specs.Number.{top_bit, word_not, word_neg, word_add, word_sub, word_mul, word_shl, word_lshr, word_ashr, word_concat, word_extract, word_sext}
-use Rattle.wb_meaning.specs.Term.{Term, name, constant_truth, const, not, neg, and, or, xor, add, sub, mul, shl, lshr, ashr, eq, ult, ule, slt, sle, concat, extract, zext, sext, ite, load, store, is_width, is_sort, same_sort, some_if, bits_sort, same_bits_sort, word_sort, same_word_sort, compared, concat_sort, extract_sort, extended_sort, ite_sort, load_sort, store_sort, sort_of, width_of_sort, complement, conjunction, disjunction, exclusive_or, val}
+use Rattle.wb_values.specs.Value.{Value, Sort, truth, word, memory, truth_value, number, words, all_below, HasSort, Valuation, as_truth, as_words, as_number}
+use Rattle.wb_values.specs.Number.{top_bit, word_not, word_neg, word_add, word_sub, word_mul, word_shl, word_lshr, word_ashr, word_concat, word_extract, word_sext}
+use Rattle.wb_values.specs.Choice.{some_if}
+use Rattle.model_meaning.specs.Term.{Term, name, constant_truth, const, not, neg, and, or, xor, add, sub, mul, shl, lshr, ashr, eq, ult, ule, slt, sle, concat, extract, zext, sext, ite, load, store, is_width, is_sort, same_sort, bits_sort, same_bits_sort, word_sort, same_word_sort, compared, concat_sort, extract_sort, extended_sort, ite_sort, load_sort, store_sort, sort_of, width_of_sort, complement, conjunction, disjunction, exclusive_or, val}
 use Rattle.wb_terms.proofs.EnvironmentLemmas.{memory_word, length-memory}
 use Rattle.wb_terms.proofs.HeldLemmas.{both, both_from, same_number, test_of, below, all_below-set}
 

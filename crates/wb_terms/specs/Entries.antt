@@ -1,9 +1,9 @@
 -- How the store keeps its names and terms, and what is true of every store.
 use Rattle.std.specs.Prelude.{◌≡◌, ◌++◌, List, [], ◌∷◌, map, length, ⊤, Some, IsTrue}
 use Rattle.std.specs.String.{string_bytes}
-use Rattle.wb_meaning.specs.Value as meaning
-use Rattle.wb_meaning.specs.Value.{Name, Entries}
-use Rattle.wb_meaning.specs.Term.{Term, is_sort, sort_of}
+use Rattle.wb_values.specs.Value as meaning
+use Rattle.wb_values.specs.Value.{Name, Entries}
+use Rattle.model_meaning.specs.Term.{Term, is_sort, sort_of}
 use Rattle.wb_terms.specs.declared.store.Declared.{Declared}
 use Rattle.wb_terms.specs.declared.store.Entry.{Entry}
 use Rattle.wb_terms.specs.declared.nodes.Node.{Node}

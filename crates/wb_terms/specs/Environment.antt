@@ -1,8 +1,8 @@
 -- Environments: the values of the declared names, and what a term of a store means under them.
 use Rattle.std.specs.Prelude.{ℕ, ◌<◌, ◌^◌, List, [], ◌∷◌, map, ⊤, Option, Some, None}
-use Rattle.wb_meaning.specs.Value as meaning
-use Rattle.wb_meaning.specs.Value.{Sort, truth, word, memory, truth_value, number, words, Entries, Valuation, HasSort, valuation_of}
-use Rattle.wb_meaning.specs.Term.{val}
+use Rattle.wb_values.specs.Value as meaning
+use Rattle.wb_values.specs.Value.{Sort, truth, word, memory, truth_value, number, words, Entries, Valuation, HasSort, valuation_of}
+use Rattle.model_meaning.specs.Term.{val}
 use Rattle.wb_terms.specs.declared.values.Value.{Value}
 use Rattle.wb_terms.specs.declared.values.Value.TheVariants.{Truth, Number, Words}
 use Rattle.wb_terms.specs.declared.values.Env.{Env}

@@ -1,7 +1,7 @@
 -- A store of terms as contracts see it: the declared names with their sorts, the nodes in the order in which they were put, and the tree that each node stands for.
 use Rattle.std.specs.Prelude.{ℕ, ◌<◌, ◌≡◌, ◌++◌, false, List, [], ◌∷◌, length, ⊤, None, slice_index_or}
-use Rattle.wb_meaning.specs.Value.{Sort, truth, Entries, entry_of}
-use Rattle.wb_meaning.specs.Term.{Term, name, constant_truth, const, not, neg, and, or, xor, add, sub, mul, shl, lshr, ashr, eq, ult, ule, slt, sle, concat, extract, zext, sext, ite, load, store}
+use Rattle.wb_values.specs.Value.{Sort, truth, Entries, entry_of}
+use Rattle.model_meaning.specs.Term.{Term, name, constant_truth, const, not, neg, and, or, xor, add, sub, mul, shl, lshr, ashr, eq, ult, ule, slt, sle, concat, extract, zext, sext, ite, load, store}
 use Rattle.wb_terms.specs.declared.nodes.Node.{Node}
 use Rattle.wb_terms.specs.declared.nodes.Node.TheVariants.{Name, Truth, Const, Not, And, Or, Xor, Neg, Add, Sub, Mul, Shl, Lshr, Ashr, Eq, Ult, Ule, Slt, Sle, Concat, Extract, Zext, Sext, Ite, Load, Store}
 

@@ -1,7 +1,7 @@
 -- What the scratch keeps of a term: its value as a word. A truth value is a word of one bit, and a memory, which has no number, is 0.
 use Rattle.std.specs.Prelude.{ℕ, ◌<◌, ◌≤◌, ◌≡◌, ◌^◌, cond, List, length, Option, Some, IsTrue, slice_index_or}
-use Rattle.wb_meaning.specs.Value.{Value, Sort, truth, word, memory, truth_value, number, words, all_below}
-use Rattle.wb_meaning.specs.Term.{sort_of}
+use Rattle.wb_values.specs.Value.{Value, Sort, truth, word, memory, truth_value, number, words, all_below}
+use Rattle.model_meaning.specs.Term.{sort_of}
 use Rattle.wb_bits.specs.declared.Word.{Word}
 use Rattle.wb_terms.specs.declared.values.Env.{Env}
 use Rattle.wb_terms.specs.Graph.{Graph, tree}

@@ -1,5 +1,5 @@
 -- What a sort of the code stands for.
-use Rattle.wb_meaning.specs.Value as meaning
+use Rattle.wb_values.specs.Value as meaning
 use Rattle.wb_terms.specs.declared.sorts.Sort.{Sort}
 use Rattle.wb_terms.specs.declared.sorts.Sort.TheVariants.{Truth, Word, Memory}
 

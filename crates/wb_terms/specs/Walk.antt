@@ -1,7 +1,7 @@
 -- A read of a memory term goes from store to store until it finds its word.
 use Rattle.std.specs.Prelude.{ℕ, ◌<◌, ◌≡◌, slice_index, Option, Some}
-use Rattle.wb_meaning.specs.Value.{Sort, memory, as_words}
-use Rattle.wb_meaning.specs.Term.{sort_of}
+use Rattle.wb_values.specs.Value.{Sort, memory, as_words}
+use Rattle.model_meaning.specs.Term.{sort_of}
 use Rattle.wb_terms.specs.declared.values.Env.{Env}
 use Rattle.wb_terms.specs.declared.evaluation.Read.{Read}
 use Rattle.wb_terms.specs.declared.evaluation.Read.TheVariants.{Found, In}

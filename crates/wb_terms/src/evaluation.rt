@@ -1,8 +1,8 @@
 //! The value of a term under an environment, term by term in ascending order.
 
 ghost use Rattle.std.specs.Prelude.{◌≡◌, ◌+◌, ◌<◌, ◌≤◌, ℕ, length, slice_index, cond, if◌then◌else◌, ◌==◌, IfOk, IsTrue};
-ghost use Rattle.wb_meaning.specs.Value.{HasSort, numeral_of, as_words};
-ghost use Rattle.wb_meaning.specs.Term.{is_sort, sort_of};
+ghost use Rattle.wb_values.specs.Value.{HasSort, numeral_of, as_words};
+ghost use Rattle.model_meaning.specs.Term.{is_sort, sort_of};
 ghost use Rattle.wb_terms.specs.Sort.{as_sort};
 ghost use Rattle.wb_terms.specs.Graph.{tree};
 ghost use Rattle.wb_terms.specs.Environment.{Fits, as_value, value_of, HasSortOf, IsAddressOf};

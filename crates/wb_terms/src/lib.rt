@@ -6,8 +6,6 @@ mod nodes;
 mod passes;
 mod sorts;
 mod store;
-#[cfg(test)]
-mod tests;
 mod values;
 
 pub use evaluation::{Scratch, eval, eval_at};

@@ -1,8 +1,8 @@
 //! The values of all terms of a store under an environment, by one pass, and cheap reads of them.
 
 ghost use Rattle.std.specs.Prelude.{◌≡◌, ◌<◌, ◌≤◌, length, slice_index, IfOk};
-ghost use Rattle.wb_meaning.specs.Value.{numeral_of, as_words};
-ghost use Rattle.wb_meaning.specs.Term.{sort_of};
+ghost use Rattle.wb_values.specs.Value.{numeral_of, as_words};
+ghost use Rattle.model_meaning.specs.Term.{sort_of};
 ghost use Rattle.wb_terms.specs.Graph.{tree};
 ghost use Rattle.wb_terms.specs.Environment.{Fits, value_of, HasSortOf, IsAddressOf};
 ghost use Rattle.wb_terms.specs.Held.{AreHeld, Holds};

@@ -1,8 +1,9 @@
 //! The sorts of terms, and the sort that each form gives for the sorts of its operands.
 
 ghost use Rattle.std.specs.Prelude.{◌≡◌, ◌^◌, ◌&&◌, nat_lt, option_map};
-ghost use Rattle.wb_meaning.specs.Value.{word};
-ghost use Rattle.wb_meaning.specs.Term.{some_if, is_width, is_sort, bits_sort, same_bits_sort, word_sort, same_word_sort, compared, concat_sort, extract_sort, extended_sort, ite_sort, load_sort, store_sort};
+ghost use Rattle.wb_values.specs.Value.{word};
+ghost use Rattle.wb_values.specs.Choice.{some_if};
+ghost use Rattle.model_meaning.specs.Term.{is_width, is_sort, bits_sort, same_bits_sort, word_sort, same_word_sort, compared, concat_sort, extract_sort, extended_sort, ite_sort, load_sort, store_sort};
 ghost use Rattle.wb_terms.specs.Sort.{as_sort};
 
 use wb_bits::{MAX_WIDTH, mask};

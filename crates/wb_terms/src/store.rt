@@ -1,8 +1,8 @@
 //! The store of terms: names are declared, terms are put on earlier ones, and each keeps its sort.
 
 ghost use Rattle.std.specs.Prelude.{◌≡◌, ◌<◌, ◌↔◌, [], ◌∷◌, ◌++◌, false, length, take, IfOk, OnOk, OnErr, IsSome, IsTrue, option_map, string_bytes, slice_get, slice_index_or};
-ghost use Rattle.wb_meaning.specs.Value.{truth, entry_of};
-ghost use Rattle.wb_meaning.specs.Term.{is_sort, sort_of};
+ghost use Rattle.wb_values.specs.Value.{truth, entry_of};
+ghost use Rattle.model_meaning.specs.Term.{is_sort, sort_of};
 ghost use Rattle.wb_terms.specs.Sort.{as_sort};
 ghost use Rattle.wb_terms.specs.Graph.{IsOver, HasDistinctNames, tree, trees_of, tree_of_node, with_name, with_node};
 

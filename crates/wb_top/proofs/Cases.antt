@@ -11,18 +11,18 @@ use Rattle.first_json.specs.ModelView.{first_model_of}
 use Rattle.first_json.specs.View.{map_of}
 use Rattle.first_json.specs.declared.model.FirstModel.{FirstModel}
 use Rattle.first_json.specs.declared.map.FirstMap.{FirstMap}
-use Rattle.wb_meaning.specs.Model.{Model}
-use Rattle.wb_meaning.specs.Map.{Map}
+use Rattle.model_meaning.specs.Model.{Model}
+use Rattle.refinement.specs.Map.{Map}
 use Rattle.wb_first.specs.Names.{First}
 use Rattle.wb_first.specs.Accepted.{is_accepted}
 use Rattle.wb_first.specs.View.{first_of}
-use Rattle.wb_meaning.specs.ModelFile.Meaning.{ModelRule, reading_of}
+use Rattle.model_files.specs.Meaning.{ModelRule, reading_of}
 use Rattle.ila_rules.specs.Rule.{rule_name}
 use Rattle.ila_json.specs.Reading.{refusal_in}
-use Rattle.wb_meaning.specs.Verilog.Token.{Token}
-use Rattle.wb_meaning.specs.Verilog.Syntax.{Source, Module}
-use Rattle.wb_meaning.specs.Verilog.Text.{Refusal, tokens_in}
-use Rattle.wb_meaning.specs.Verilog.Grammar.{IsSource, IsTreeOf}
+use Rattle.verilog_text.specs.Token.{Token}
+use Rattle.verilog_trees.specs.Syntax.{Source, Module}
+use Rattle.verilog_text.specs.Text.{Refusal, tokens_in}
+use Rattle.verilog_text.specs.Grammar.{IsSource, IsTreeOf}
 use Rattle.wb_top.specs.Files.{IsKindOfText, IsFirstKind, IsKind, IsCaseOf, text_kind}
 use Rattle.wb_top.specs.Outcome.{Told, IsChecked, IsReported}
 use Rattle.wb_top.specs.declared.status.Status.{Status}

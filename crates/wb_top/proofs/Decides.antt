@@ -2,11 +2,11 @@
 use Rattle.std.proofs.Common.{◌≡◌, ◌∙◌, ◌<◌, ℕ, Bool, true, false, true≢false, cond, nat_lt, List, [], ◌∷◌, arith, refl, subst, sym}
 use Rattle.std.proofs.lemmas.Bool.{lt-ltb}
 use Rattle.std.proofs.lemmas.Bool.Decides.{nat_tests}
-use Rattle.wb_meaning.specs.Map.{Setting}
-use Rattle.wb_meaning.specs.Obligation.{Obligation, obligations}
-use Rattle.wb_meaning.specs.Encoding.{Spent}
-use Rattle.wb_meaning.specs.Report.{IsReport, Verdict, proved, failed, unknown, AreVerdicts, count_failed, count_unknown, Ending, all_proved, some_unknown, some_failed}
-use Rattle.wb_meaning.specs.Soundness.{AllHold}
+use Rattle.refinement.specs.Map.{Setting}
+use Rattle.refinement.specs.Obligation.{Obligation, obligations}
+use Rattle.reports.specs.Encoding.{Spent}
+use Rattle.reports.specs.Report.{IsReport, Verdict, proved, failed, unknown, AreVerdicts, count_failed, count_unknown, Ending, all_proved, some_unknown, some_failed}
+use Rattle.refinement.specs.Soundness.{AllHold}
 
 each_proved : (s : Setting) (budget : ℕ) (os : List Obligation) (vs : List Verdict) → AreVerdicts s budget os vs → ¬ (0 < count_failed vs)
     → ¬ (0 < count_unknown vs) → AllHold s os

@@ -1,7 +1,7 @@
 -- From a check that ends well to the claim about every run.
 use Rattle.std.proofs.Common.{◌≡◌, ◌≢◌, ◌∙◌, ℕ, List, ap, sym, subst, Some, None}
 use Rattle.std.specs.declared.option.Option.{Option}
-use Rattle.wb_meaning.specs.Value.{Name}
+use Rattle.wb_values.specs.Value.{Name}
 use Rattle.wb_top.specs.declared.verb.Verb.TheVariants.{Check}
 use Rattle.wb_top.specs.declared.status.Status.{Status}
 use Rattle.wb_top.specs.declared.status.Status.TheVariants.{Done, WriteFault, Limit}

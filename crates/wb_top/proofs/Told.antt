@@ -4,7 +4,7 @@ use Rattle.std.proofs.lemmas.List.{take_all, length-take}
 use Rattle.std.proofs.Math.Seq.{take-length}
 use Rattle.std.specs.declared.option.Option.{Option}
 use Rattle.std.specs.Option.{option_map}
-use Rattle.wb_meaning.specs.Value.{Name}
+use Rattle.wb_values.specs.Value.{Name}
 use Rattle.wb_outside.specs.Outside.{with_appended, GrewByPrefix, AreStartsOf}
 use Rattle.wb_top.specs.declared.verb.Verb.{Verb}
 use Rattle.wb_top.specs.declared.verb.Verb.TheVariants.{Check, Simulate}

@@ -1,6 +1,6 @@
 -- Which names a call asks a shelf for.
 use Rattle.std.specs.Prelude.{◌≡◌, List, [], Option, Some, None}
-use Rattle.wb_meaning.specs.Value.{Name}
+use Rattle.wb_values.specs.Value.{Name}
 use Rattle.wb_outside.specs.Outside.{with_appended, GrewByPrefix}
 use Rattle.wb_top.specs.Words.{Command}
 

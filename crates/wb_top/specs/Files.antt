@@ -1,11 +1,11 @@
 -- How files are refused, and which model, map and module the bytes of files stand for in the first profile.
 use Rattle.std.specs.Prelude.{◌≡◌, ℕ, suc, Bool, cond, nat_le, List, [], ◌∷◌, length, map, Option, Some, None, Result, Ok, Err, codes, IfSome, IsTrue}
-use Rattle.wb_meaning.specs.Value.{Name}
-use Rattle.wb_meaning.specs.ModelFile.Meaning.{ModelRule, reading_of}
-use Rattle.wb_meaning.specs.Verilog.Token.{Token}
-use Rattle.wb_meaning.specs.Verilog.Text.{Refusal, not_text, bad_token, bad_directive, unsupported, too_deep, tokens_in}
-use Rattle.wb_meaning.specs.Verilog.Syntax.{Source}
-use Rattle.wb_meaning.specs.Verilog.Grammar.{IsSource, IsTreeOf}
+use Rattle.wb_values.specs.Value.{Name}
+use Rattle.model_files.specs.Meaning.{ModelRule, reading_of}
+use Rattle.verilog_text.specs.Token.{Token}
+use Rattle.verilog_text.specs.Text.{Refusal, not_text, bad_token, bad_directive, unsupported, too_deep, tokens_in}
+use Rattle.verilog_trees.specs.Syntax.{Source}
+use Rattle.verilog_text.specs.Grammar.{IsSource, IsTreeOf}
 use Rattle.ila_rules.specs.Rule.{rule_name}
 use Rattle.ila_json.specs.Reading.{refusal_in}
 use Rattle.first_text.specs.Tree.{module_tree}

@@ -2,10 +2,10 @@
 use Rattle.std.specs.Prelude.{◌≡◌, ℕ, false, List, [], Option, Some, None}
 use Rattle.clap.specs.Words.{takes}
 use Rattle.wb_words.specs.Application.{workbench_app}
-use Rattle.wb_meaning.specs.Value.{Name}
-use Rattle.wb_meaning.specs.Encoding.{Spent}
-use Rattle.wb_meaning.specs.Report.{IsReport, all_proved, some_unknown, some_failed}
-use Rattle.wb_meaning.specs.Soundness.{EveryRunRefines}
+use Rattle.wb_values.specs.Value.{Name}
+use Rattle.reports.specs.Encoding.{Spent}
+use Rattle.reports.specs.Report.{IsReport, all_proved, some_unknown, some_failed}
+use Rattle.refinement.specs.Soundness.{EveryRunRefines}
 use Rattle.wb_outside.specs.Outside.{with_appended, GrewByPrefix}
 use Rattle.wb_first.specs.Names.{First, setting_of}
 use Rattle.wb_top.specs.declared.verb.Verb.{Verb}
@@ -81,7 +81,8 @@ WrotePrefix held words spent before after =
 abbrev pub AskForCheck : List Name → Type 0
 AskForCheck words = (c : Command) × (command_of words ≡ Some c) × (budget : ℕ) × (c.verb ≡ Check budget)
 
--- Every run of the design refines the model, for the model, the map and the module that the files named in the words stand for.
+-- Every run of the design refines the model, for the model, the map and the module that the contents of the files named in the words
+-- stand for: those that are held, where it is told what is held.
 abbrev pub Headline : Option (Name → Option (List ℕ)) → List Name → Type 0
 Headline held words =
     (c : Command) × (command_of words ≡ Some c) × (contents : List (List ℕ)) × AreHeld held c.files contents

@@ -3,7 +3,7 @@ use Rattle.std.specs.Prelude.{map}
 use Rattle.first_report.specs.Spending.{spent_view}
 use Rattle.first_report.specs.declared.totals.Ending.{Ending}
 use Rattle.first_report.specs.declared.totals.Ending.TheVariants.{AllProved, SomeUnknown, SomeFailed}
-use Rattle.wb_meaning.specs.Encoding as encoding
+use Rattle.reports.specs.Encoding as encoding
 use Rattle.std.specs.Prelude.{List}
 use Rattle.wb_top.specs.Outcome.{Told}
 use Rattle.wb_top.specs.declared.answer.Outcome.{Outcome}

@@ -1,9 +1,9 @@
 -- What a model file and a script say together, and what a simulation of them ends with.
 use Rattle.std.specs.Prelude.{◌≡◌, ℕ, List, [], ◌∷◌, codes}
-use Rattle.wb_meaning.specs.Model.{Model}
-use Rattle.wb_meaning.specs.ModelFile.Meaning.{ModelReading, stands_for, refused_by, reading_of}
-use Rattle.wb_meaning.specs.Script.{Script, ScriptReading, is_script, bad_line, missing_input, script_reading, settables_of}
-use Rattle.wb_meaning.specs.Simulation.{Outcome, IsSimulation, simulation_text}
+use Rattle.model_meaning.specs.Model.{Model}
+use Rattle.model_files.specs.Meaning.{ModelReading, stands_for, refused_by, reading_of}
+use Rattle.scripts.specs.Script.{Script, ScriptReading, is_script, bad_line, missing_input, script_reading, settables_of}
+use Rattle.scripts.specs.Simulation.{Outcome, IsSimulation, simulation_text}
 use Rattle.ila_rules.specs.Rule.{rule_name}
 use Rattle.wb_top.specs.Texts.{IsRefusalBy}
 use Rattle.wb_top.specs.declared.status.Status.{Status}

@@ -1,6 +1,6 @@
 -- The words of a command, and the files that it names.
 use Rattle.std.specs.Prelude.{ℕ, Bool, ◌&&◌, ◌==◌, nat_le, nat_lt, List, [], ◌∷◌, Option, option_map}
-use Rattle.wb_meaning.specs.Value.{Name}
+use Rattle.wb_values.specs.Value.{Name}
 use Rattle.wb_words.specs.Requests.{Request, check, simulate, request_of}
 use Rattle.wb_top.specs.declared.verb.Verb.{Verb}
 use Rattle.wb_top.specs.declared.verb.Verb.TheVariants.{Check, Simulate}

@@ -44,9 +44,14 @@ impl Outcome {
     }
 }
 
-/// The answer to a command on the contents of its files, in the order in which they were read. Of a file that is too long the
-/// first bytes past the limit are enough.
-pub(crate) fn answer(alloc: Global, verb: Verb, contents: &[Vec<u8>]) -> Result<Outcome, NoMemory>
+/// The answer to a command on the contents of its files, in the order in which they were read, with their names. Of a file that is
+/// too long the first bytes past the limit are enough.
+pub(crate) fn answer(
+    alloc: Global,
+    verb: Verb,
+    names: &[String],
+    contents: &[Vec<u8>],
+) -> Result<Outcome, NoMemory>
     requires { IsTrue (is_command verb (length contents.now)) }
     ensures { IfOk result (λ o. IsAnswer verb (map (λ bytes. bytes.items) contents.now) o.status (told_of o)) }
 {
@@ -56,20 +61,25 @@ pub(crate) fn answer(alloc: Global, verb: Verb, contents: &[Vec<u8>]) -> Result<
             Ok(Outcome::plain(alloc, Status::Limit, text))
         }
         None => {
-            let outcome = ended(alloc, verb, contents)?;
+            let outcome = ended(alloc, verb, names, contents)?;
             Ok(outcome)
         }
     }
 }
 
 /// The answer to a command on files of which none is too long.
-fn ended(alloc: Global, verb: Verb, contents: &[Vec<u8>]) -> Result<Outcome, NoMemory>
+fn ended(
+    alloc: Global,
+    verb: Verb,
+    names: &[String],
+    contents: &[Vec<u8>],
+) -> Result<Outcome, NoMemory>
     requires { IsTrue (is_command verb (length contents.now)) }
     ensures { IfOk result (λ o. IsEnd verb (map (λ bytes. bytes.items) contents.now) o.status (told_of o)) }
 {
     match verb {
         Verb::Check(budget) => match contents {
-            [model, map, designs @ ..] => checked(alloc, model, map, designs, budget),
+            [model, map, designs @ ..] => checked(alloc, names, model, map, designs, budget),
             _ => unreachable!(),
         },
         Verb::Simulate => match contents {
@@ -81,6 +91,7 @@ fn ended(alloc: Global, verb: Verb, contents: &[Vec<u8>]) -> Result<Outcome, NoM
 
 fn checked(
     alloc: Global,
+    names: &[String],
     model: &[u8],
     map_file: &[u8],
     designs: &[Vec<u8>],
@@ -103,11 +114,11 @@ fn checked(
             Ok(Outcome::plain(alloc, Status::Refused, text))
         }
         Judged::RefusedText(broken) => {
-            let text = refusal_of_text(alloc, &broken)?;
+            let text = refusal_of_text(alloc, names, &broken)?;
             Ok(Outcome::plain(alloc, Status::Refused, text))
         }
         Judged::RefusedTree(note) => {
-            let text = refusal_of_tree(alloc, &note)?;
+            let text = refusal_of_tree(alloc, names, &note)?;
             Ok(Outcome::plain(alloc, Status::Refused, text))
         }
     }

@@ -1,9 +1,9 @@
 //! Whether files are a case of the first profile, and which kind refuses the model file or the Verilog files.
 
 ghost use Rattle.std.specs.Prelude.{◌≡◌, ◌∷◌, [], None, Ok, IfOk, IfSome, IfNone, map};
-ghost use Rattle.wb_meaning.specs.ModelFile.Meaning.{reading_of};
-ghost use Rattle.wb_meaning.specs.Verilog.Text.{tokens_in};
-ghost use Rattle.wb_meaning.specs.Verilog.Grammar.{IsTreeOf};
+ghost use Rattle.model_files.specs.Meaning.{reading_of};
+ghost use Rattle.verilog_text.specs.Text.{tokens_in};
+ghost use Rattle.verilog_text.specs.Grammar.{IsTreeOf};
 ghost use Rattle.first_text.specs.Tree.{FirstModule as PureModule, module_tree};
 ghost use Rattle.first_text.specs.View.{first_module_of};
 ghost use Rattle.first_tree.specs.Profile.{IsWithinProfile};

@@ -1,11 +1,11 @@
 //! What a report decides, as laws: each is the contract of a function without code.
 
 ghost use Rattle.std.specs.Prelude.{ℕ, List};
-ghost use Rattle.wb_meaning.specs.Map.{Setting};
-ghost use Rattle.wb_meaning.specs.Obligation.{obligations};
-ghost use Rattle.wb_meaning.specs.Encoding.{Spent};
-ghost use Rattle.wb_meaning.specs.Report.{IsReport, all_proved, some_failed};
-ghost use Rattle.wb_meaning.specs.Soundness.{AllHold};
+ghost use Rattle.refinement.specs.Map.{Setting};
+ghost use Rattle.refinement.specs.Obligation.{obligations};
+ghost use Rattle.reports.specs.Encoding.{Spent};
+ghost use Rattle.reports.specs.Report.{IsReport, all_proved, some_failed};
+ghost use Rattle.refinement.specs.Soundness.{AllHold};
 
 /// Where a report ends with all proved, every obligation holds; where it ends with a failed line, some obligation does not.
 pub fn a_report_decides()

@@ -17,6 +17,3 @@ mod words;
 
 pub use status::{Ended, Status};
 pub use top::workbench;
-
-#[cfg(test)]
-mod tests;

@@ -1,7 +1,7 @@
 //! The outcome of a call, before it is written.
 
 ghost use Rattle.std.specs.Prelude.{◌≡◌, ◌≢◌, ◌≤◌, IfOk, OnOk, OnErr, IsErrOf, IsSome, map, string_bytes};
-ghost use Rattle.wb_outside.specs.Outside.{Rose, with_appended, GrewByPrefix};
+ghost use Rattle.wb_outside.specs.Outside.{Rose, next_count, with_appended, GrewByPrefix};
 ghost use Rattle.wb_top.specs.Outcome.{IsOutcome};
 ghost use Rattle.wb_top.specs.Showing.{told_of};
 ghost use Rattle.wb_top.specs.Words.{command_of};
@@ -37,7 +37,7 @@ pub(crate) fn outcome<S: Shelf>(
     match wanted(alloc, words)? {
         Some(wanted) => {
             let contents = read_all(shelf, alloc, &wanted.files, MOST_BYTES)?;
-            let outcome = answer(alloc, wanted.verb, &contents)?;
+            let outcome = answer(alloc, wanted.verb, &wanted.files, &contents)?;
             Ok(outcome)
         }
         None => {
@@ -55,6 +55,7 @@ pub(crate) fn written<K: Sink>(outcome: &Outcome, out: &mut K) -> Status
     ensures prefix { result ≡ Status.WriteFault → GrewByPrefix (K.written out.old) (K.written out.new) outcome.now.text.items }
     ensures rose { result ≡ Status.WriteFault → Rose (K.faults out.old) (K.faults out.new) }
     ensures never_falls { K.faults out.old ≤ K.faults out.new }
+    ensures one_write { K.writes out.new ≡ next_count (K.writes out.old) }
 {
     match out.write(&outcome.text) {
         Ok(()) => outcome.status,

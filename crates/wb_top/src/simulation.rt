@@ -1,7 +1,7 @@
 //! What a model does under a script, from the bytes of both.
 
 ghost use Rattle.std.specs.Prelude.{◌≡◌, [], IfOk};
-ghost use Rattle.wb_meaning.specs.Script.{script_reading, settables_of};
+ghost use Rattle.scripts.specs.Script.{script_reading, settables_of};
 ghost use Rattle.ila_model.specs.Model.{model_of};
 ghost use Rattle.wb_top.specs.Showing.{told_of};
 ghost use Rattle.wb_top.specs.Simulated.{pair_of, with_script, IsSimulated};

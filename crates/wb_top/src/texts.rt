@@ -12,7 +12,7 @@ use crate::stop::NoMemory;
 use ila_rules::ModelRefusal;
 use ila_sim::ScriptRefusal;
 use itoa::Buffer;
-use std::alloc::Global;
+use std::alloc::{AllocError, Global};
 use v_lex::{LexKind, LexRefusal, Note};
 
 /// The text for words that ask for nothing that the program does.
@@ -52,21 +52,50 @@ pub(crate) fn refusal_of_script(alloc: Global, refusal: &ScriptRefusal) -> Resul
     )
 }
 
+/// The most bytes of a file's name that a note shows.
+const MOST_OF_NAME: usize = 32;
+
+/// The name of a Verilog file as a note shows it, by its number among the Verilog files: the end of a long name.
+fn shown_name(names: &[String], number: u32) -> &[u8] {
+    match names.get((number as usize).saturating_add(2)) {
+        Some(name) => {
+            let bytes = name.as_bytes();
+            &bytes[bytes.len().saturating_sub(MOST_OF_NAME)..]
+        }
+        None => b"".as_slice(),
+    }
+}
+
+/// The note with the name of its file before it. The names are those of all files that are read: of the model, of the map, and then
+/// of each Verilog file.
+fn with_name(alloc: Global, names: &[String], note: &Note) -> Result<Note, NoMemory> {
+    match note.named(alloc, shown_name(names, note.file)) {
+        Some(note) => Ok(note),
+        None => Err(AllocError),
+    }
+}
+
 /// The text for a Verilog file whose text is refused.
-pub(crate) fn refusal_of_text(alloc: Global, broken: &LexRefusal) -> Result<Vec<u8>, NoMemory>
+pub(crate) fn refusal_of_text(
+    alloc: Global,
+    names: &[String],
+    broken: &LexRefusal,
+) -> Result<Vec<u8>, NoMemory>
     ensures { IfOk result (λ text. IsRefusalBy (text_kind (refusal_of broken.now.kind)) text.items) }
 {
-    refusal_text_by(
-        alloc,
-        text_kind(broken.kind).as_bytes(),
-        broken.note.as_bytes(),
-    )
+    let note = with_name(alloc, names, &broken.note)?;
+    refusal_text_by(alloc, text_kind(broken.kind).as_bytes(), note.as_bytes())
 }
 
 /// The text for Verilog files whose tokens have no tree.
-pub(crate) fn refusal_of_tree(alloc: Global, note: &Note) -> Result<Vec<u8>, NoMemory>
+pub(crate) fn refusal_of_tree(
+    alloc: Global,
+    names: &[String],
+    note: &Note,
+) -> Result<Vec<u8>, NoMemory>
     ensures { IfOk result (λ text. IsRefusalBy (codes "V6 Syntax") text.items) }
 {
+    let note = with_name(alloc, names, note)?;
     refusal_text_by(alloc, b"V6 Syntax", note.as_bytes())
 }
 

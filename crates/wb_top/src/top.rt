@@ -1,7 +1,7 @@
 //! The top call.
 
 ghost use Rattle.std.specs.Prelude.{◌≡◌, ◌≤◌, ◌≢◌, [], IsSome, map, string_bytes};
-ghost use Rattle.wb_outside.specs.Outside.{Rose};
+ghost use Rattle.wb_outside.specs.Outside.{Rose, next_count};
 ghost use Rattle.wb_top.specs.Asked.{AskedAll, AskedSome};
 ghost use Rattle.wb_top.specs.Outcome.{AskForCheck, Headline, Wrote, WrotePrefix};
 ghost use Rattle.wb_top.specs.Showing.{shown_by};
@@ -16,7 +16,7 @@ use wb_outside::{Shelf, Sink};
 /// Does what the words ask for: reads the files that they name from the shelf, and writes the outcome's text by one write.
 ///
 /// The words are `PROGRAM check --model MODEL --map MAP [--budget N] VERILOG..` or `PROGRAM simulate --model MODEL --script SCRIPT`;
-/// all others end with `Usage`.
+/// all others end with `Usage`, or out of memory.
 pub fn workbench<S: Shelf, K: Sink>(
     alloc: Global,
     words: &[String],
@@ -38,6 +38,11 @@ pub fn workbench<S: Shelf, K: Sink>(
     ensures write_fault { result.status ≡ Status.WriteFault → WrotePrefix (S.holds shelf.old) (map string_bytes words.now) (shown_by result) (K.written out.old) (K.written out.new) }
     ensures read_fault { result.status ≡ Status.ReadFault → (K.written out.new ≡ K.written out.old) × (shown_by result ≡ []) }
     ensures no_memory { result.status ≡ Status.NoMemory → (K.written out.new ≡ K.written out.old) × (shown_by result ≡ []) }
+
+    // An outcome is written by one write, and nothing is written where there is none.
+    ensures one_write { result.status ≢ Status.ReadFault → result.status ≢ Status.NoMemory → K.writes out.new ≡ next_count (K.writes out.old) }
+    ensures read_fault_unwritten { result.status ≡ Status.ReadFault → K.writes out.new ≡ K.writes out.old }
+    ensures no_memory_unwritten { result.status ≡ Status.NoMemory → K.writes out.new ≡ K.writes out.old }
 
     // Faults come from outside alone.
     ensures read_command { result.status ≡ Status.ReadFault → IsSome (command_of (map string_bytes words.now)) }

@@ -10,6 +10,3 @@ mod words;
 pub use requests::{Check, Request, Simulate};
 pub use stop::WordsStop;
 pub use words::request;
-
-#[cfg(test)]
-mod tests;

@@ -1,7 +1,7 @@
 use Rattle.std.proofs.Common.{◌≡◌, map, sym, ap, ◌∙◌}
-use Rattle.wb_meaning.specs.Value.{entry_of}
-use Rattle.wb_meaning.specs.Map.{sort_of_input}
-use Rattle.wb_meaning.specs.Verilog.Hierarchy.{first_of}
+use Rattle.wb_values.specs.Value.{entry_of}
+use Rattle.refinement.specs.Map.{sort_of_input}
+use Rattle.wb_values.specs.Choice.{first_of}
 use Rattle.wb_first.specs.Names.{port_named, is_variable_among, assigned_among}
 use Rattle.wb_first.specs.Accepted.{is_among, set_names, state_sort}
 use Rattle.first_json.specs.ModelView.{state_view, input_view}

@@ -1,6 +1,6 @@
 -- The shifted word and the ones above it share no bit, and fit.
 use Rattle.std.proofs.Common.{◌≡◌, ◌+◌, ◌-◌, ◌/◌, ◌^◌, ◌<◌, ◌≤◌, min, true, cond, bit_or, sym, ap, subst, ◌∙◌, arith}
-use Rattle.wb_meaning.specs.Number.{top_bit}
+use Rattle.wb_values.specs.Number.{top_bit}
 use Rattle.wb_bits.proofs.Powers.{or_ashr, ashr_fits}
 use Rattle.wb_bits.proofs.ashr.Goals as goal
 

@@ -1,6 +1,6 @@
 -- The word and the ones above it share no bit, and fit.
 use Rattle.std.proofs.Common.{◌≡◌, ◌+◌, ◌-◌, ◌^◌, true, cond, sym, ap, ◌∙◌, arith}
-use Rattle.wb_meaning.specs.Number.{top_bit}
+use Rattle.wb_values.specs.Number.{top_bit}
 use Rattle.wb_bits.proofs.Powers.{or_fill, fill_fits}
 use Rattle.wb_bits.proofs.sext.Goals as goal
 

@@ -1,6 +1,6 @@
 use Rattle.std.proofs.Common.{◌≡◌, ℕ, List, map, drop}
 use Rattle.std.specs.Prelude.{option_map}
-use Rattle.wb_meaning.specs.Verilog.Hierarchy.{first_of}
+use Rattle.wb_values.specs.Choice.{first_of}
 use Rattle.first_accept.specs.Tables.{under_name}
 use Rattle.wb_first.specs.Accepted.{state_sort}
 use Rattle.first_json.specs.ModelView.{sort_view, state_view}

@@ -1,5 +1,5 @@
 use Rattle.std.proofs.Common.{◌≡◌, ◌+◌, sym, ap, ◌∙◌, arith}
-use Rattle.wb_meaning.specs.Verilog.Expression.{distance}
+use Rattle.verilog_meaning.specs.Expression.{distance}
 use Rattle.first_text.specs.View.{bounds_of}
 use Rattle.first_accept.specs.Known.{bounds_width, bound_value}
 use Rattle.first_accept.proofs.Widths.{width_none, width_some}

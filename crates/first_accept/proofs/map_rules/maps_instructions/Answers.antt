@@ -1,7 +1,7 @@
 use Rattle.std.proofs.Common.{◌≡◌, refl, false, true, List, ℕ, sym, ap, ◌∙◌, map}
 use Rattle.wb_first.specs.Accepted.{instruction_names, entry_names, entries_are_accepted}
 use Rattle.first_json.specs.View.{instruction_map_of}
-use Rattle.wb_meaning.specs.Model.{instructions_in}
+use Rattle.model_meaning.specs.Model.{instructions_in}
 use Rattle.first_json.specs.ModelView.{instruction_view}
 use Rattle.first_accept.specs.View.{first_in}
 use Rattle.first_accept.specs.Known.{texts, is_each_once}

@@ -1,5 +1,5 @@
 use Rattle.std.proofs.Common.{◌≡◌, map, take}
-use Rattle.wb_meaning.specs.Value.{number}
+use Rattle.wb_values.specs.Value.{number}
 use Rattle.wb_terms.specs.Environment.{as_value}
 use Rattle.first_check.proofs.findings.numbers.Given as goal
 

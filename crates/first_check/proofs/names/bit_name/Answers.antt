@@ -2,7 +2,7 @@ use Rattle.std.proofs.Common.{◌∙◌, ◌≡◌, [], ap, sym}
 use Rattle.std.proofs.lemmas.List.Elements.{Contains-get_or}
 use Rattle.std.specs.Prelude.{slice_index_or}
 use Rattle.std.specs.String.{string_bytes}
-use Rattle.wb_meaning.specs.Value.{truth}
+use Rattle.wb_values.specs.Value.{truth}
 use Rattle.wb_first.specs.Names.{bits_of_name, is_register}
 use Rattle.wb_first.specs.CaseView.{case_of}
 use Rattle.first_check.proofs.Counted.{is_word_sort}

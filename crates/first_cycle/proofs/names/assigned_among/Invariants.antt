@@ -1,5 +1,5 @@
 use Rattle.std.proofs.Common.{◌≡◌, drop, map}
-use Rattle.wb_meaning.specs.Value.{entry_of}
+use Rattle.wb_values.specs.Value.{entry_of}
 use Rattle.first_text.specs.View.{part_of}
 use Rattle.wb_first.specs.Names.{assigned_among}
 use Rattle.first_cycle.proofs.names.assigned_among.Given as goal

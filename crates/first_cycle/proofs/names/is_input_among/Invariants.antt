@@ -1,5 +1,5 @@
 use Rattle.std.proofs.Common.{◌≡◌, drop, map}
-use Rattle.wb_meaning.specs.Verilog.Syntax.{input}
+use Rattle.verilog_trees.specs.Syntax.{input}
 use Rattle.first_text.specs.View.{port_of}
 use Rattle.wb_first.specs.Names.{port_named, has_direction}
 use Rattle.first_cycle.proofs.names.is_input_among.Given as goal

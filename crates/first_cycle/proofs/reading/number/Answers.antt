@@ -1,7 +1,7 @@
 use Rattle.std.proofs.Common.{◌≡◌, true, ◌∙◌, ap, sym, subst}
 use Rattle.std.specs.String.{string_bytes}
-use Rattle.wb_meaning.specs.Verilog.Expression.{self_value}
-use Rattle.wb_meaning.specs.Map.{map_scope}
+use Rattle.verilog_meaning.specs.Expression.{self_value}
+use Rattle.refinement.specs.Map.{map_scope}
 use Rattle.first_json.specs.View.{expression_of}
 use Rattle.wb_first.specs.Names.{setting_of}
 use Rattle.wb_first.specs.Accepted.{is_map_expression}

@@ -1,5 +1,5 @@
 use Rattle.std.proofs.Common.{◌≡◌, drop, map}
-use Rattle.wb_meaning.specs.Value.{valuation_of}
+use Rattle.wb_values.specs.Value.{valuation_of}
 use Rattle.first_cycle.specs.Values.{entry_of_named}
 use Rattle.first_cycle.proofs.values.number_among.Given as goal
 

@@ -1,5 +1,5 @@
 use Rattle.std.proofs.Common.{◌≡◌, map, drop}
-use Rattle.wb_meaning.specs.Map.{instruction_map}
+use Rattle.refinement.specs.Map.{instruction_map}
 use Rattle.first_json.specs.View.{instruction_map_of}
 use Rattle.first_facts.specs.Commit.{commit_of}
 use Rattle.first_facts.proofs.lookup.commit_named.Given as goal

@@ -1,5 +1,5 @@
 use Rattle.std.proofs.Common.{◌≡◌, map, drop}
-use Rattle.wb_meaning.specs.Value.{entry_of}
+use Rattle.wb_values.specs.Value.{entry_of}
 use Rattle.first_json.specs.View.{entry_of_mapped}
 use Rattle.first_facts.proofs.lookup.expression_named.Given as goal
 

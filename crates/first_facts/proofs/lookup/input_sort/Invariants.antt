@@ -1,5 +1,5 @@
 use Rattle.std.proofs.Common.{◌≡◌, map, drop}
-use Rattle.wb_meaning.specs.Map.{sort_of_input}
+use Rattle.refinement.specs.Map.{sort_of_input}
 use Rattle.first_json.specs.ModelView.{input_view}
 use Rattle.first_facts.proofs.lookup.input_sort.Given as goal
 

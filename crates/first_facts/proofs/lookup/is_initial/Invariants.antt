@@ -1,5 +1,5 @@
 use Rattle.std.proofs.Common.{◌≡◌, map, drop}
-use Rattle.wb_meaning.specs.Model.{state_named}
+use Rattle.model_meaning.specs.Model.{state_named}
 use Rattle.wb_first.specs.Decided.{initial_met}
 use Rattle.first_json.specs.ModelView.{state_view, value_view}
 use Rattle.first_facts.proofs.lookup.is_initial.Given as goal

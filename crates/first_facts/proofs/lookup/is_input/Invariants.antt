@@ -1,5 +1,5 @@
 use Rattle.std.proofs.Common.{◌≡◌, map, drop}
-use Rattle.wb_meaning.specs.Model.{is_input}
+use Rattle.model_meaning.specs.Model.{is_input}
 use Rattle.first_json.specs.ModelView.{input_view}
 use Rattle.first_facts.proofs.lookup.is_input.Given as goal
 

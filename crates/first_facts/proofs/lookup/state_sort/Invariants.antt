@@ -1,6 +1,6 @@
 use Rattle.std.proofs.Common.{◌≡◌, map, drop}
-use Rattle.wb_meaning.specs.Model.{state_named}
-use Rattle.wb_meaning.specs.Map.{sort_of_state}
+use Rattle.model_meaning.specs.Model.{state_named}
+use Rattle.refinement.specs.Map.{sort_of_state}
 use Rattle.first_json.specs.ModelView.{state_view}
 use Rattle.first_facts.proofs.lookup.state_sort.Given as goal
 

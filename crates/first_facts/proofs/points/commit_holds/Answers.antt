@@ -1,6 +1,6 @@
 -- The commit is one of the map's expressions.
 use Rattle.std.proofs.Common.{map, ap, ◌∙◌, string_bytes}
-use Rattle.wb_meaning.specs.Map.{instruction_map}
+use Rattle.refinement.specs.Map.{instruction_map}
 use Rattle.first_json.specs.View.{expression_of, instruction_map_of}
 use Rattle.wb_first.specs.CaseView.{case_of}
 use Rattle.first_facts.specs.Commit.{commit_of}

@@ -1,6 +1,6 @@
 -- The expression is one of the map's.
 use Rattle.std.proofs.Common.{option_map, map, sym, ap, ◌∙◌}
-use Rattle.wb_meaning.specs.Value.{entry_of}
+use Rattle.wb_values.specs.Value.{entry_of}
 use Rattle.first_json.specs.View.{expression_of, entry_of_mapped}
 use Rattle.wb_first.specs.CaseView.{case_of}
 use Rattle.first_facts.proofs.Rules.{state_expression}

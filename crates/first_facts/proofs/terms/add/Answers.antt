@@ -1,7 +1,7 @@
 -- The sum wraps at 128 bits and is cut to the width.
 use Rattle.std.proofs.Common.{option_map, ap}
-use Rattle.wb_meaning.specs.Value.{number, as_number}
-use Rattle.wb_meaning.specs.Term.{width_of_sort}
+use Rattle.wb_values.specs.Value.{number, as_number}
+use Rattle.model_meaning.specs.Term.{width_of_sort}
 use Rattle.first_json.specs.ModelView.{sort_view, value_view}
 use Rattle.first_facts.proofs.Sums.{sum_cut}
 use Rattle.first_facts.proofs.terms.add.Goals as goal

@@ -1,5 +1,5 @@
 use Rattle.std.proofs.Common.{◌≡◌, map, drop}
-use Rattle.wb_meaning.specs.Model.{updated}
+use Rattle.model_meaning.specs.Model.{updated}
 use Rattle.first_json.specs.ModelView.{update_view}
 use Rattle.first_facts.proofs.terms.updated.Given as goal
 

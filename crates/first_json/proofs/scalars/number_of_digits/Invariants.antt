@@ -1,6 +1,6 @@
 use Rattle.std.proofs.Common.{◌≡◌, ◌<◌, ◌≤◌, ◌^◌, length, drop}
 use Rattle.std.specs.List.{list_all}
-use Rattle.wb_meaning.specs.ModelFile.Shape.{with_hexadecimal_digits, is_hexadecimal_digit}
+use Rattle.model_files.specs.Shape.{with_hexadecimal_digits, is_hexadecimal_digit}
 use Rattle.first_json.proofs.scalars.number_of_digits.Given as goal
 
 abbrev pub invariant-loop-digit : goal.invariant-loop-digit

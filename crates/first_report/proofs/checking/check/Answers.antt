@@ -1,7 +1,7 @@
 use Rattle.std.proofs.Common.{◌≡◌, ◌++◌, ℕ, List, length, map, sym, ap, ◌∙◌, arith}
 use Rattle.std.specs.Prelude.{count_by}
 use Rattle.std.proofs.lemmas.List.{length-map}
-use Rattle.wb_meaning.specs.Obligation.{obligations}
+use Rattle.refinement.specs.Obligation.{obligations}
 use Rattle.first_json.specs.ModelView.{instruction_view}
 use Rattle.first_facts.specs.View.{obligation_of}
 use Rattle.first_facts.specs.declared.facts.Obligation.{Obligation}

@@ -1,6 +1,6 @@
 use Rattle.std.proofs.Common.{◌++◌, ap, ◌∙◌}
-use Rattle.wb_meaning.specs.Value.{Valuation}
-use Rattle.wb_meaning.specs.Report.{trace_text}
+use Rattle.wb_values.specs.Value.{Valuation}
+use Rattle.reports.specs.Report.{trace_text}
 use Rattle.first_trace.specs.Traced.{trace_by}
 use Rattle.first_report.proofs.Parts.{failed_parts}
 use Rattle.first_report.proofs.lines.append_failed.Goals as goal

@@ -1,6 +1,6 @@
 use Rattle.std.proofs.Common.{[], ◌∷◌, ◌++◌, List, ℕ, sym, ap, ◌∙◌}
 use Rattle.std.specs.Prelude.{codes}
-use Rattle.wb_meaning.specs.Report.{trace_text}
+use Rattle.reports.specs.Report.{trace_text}
 use Rattle.first_trace.specs.Traced.{trace_by}
 use Rattle.first_check.specs.Found.{values_in}
 use Rattle.first_check.specs.declared.findings.Finding.{Finding}

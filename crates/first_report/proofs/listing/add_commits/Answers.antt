@@ -1,6 +1,6 @@
 use Rattle.std.proofs.Common.{ℕ, ◌<◌, ◌++◌, length, ap, ◌∙◌, arith}
-use Rattle.wb_meaning.specs.Obligation.{Obligation, commit, result_of}
-use Rattle.wb_meaning.specs.Value.{Name}
+use Rattle.refinement.specs.Obligation.{Obligation, commit, result_of}
+use Rattle.wb_values.specs.Value.{Name}
 use Rattle.first_json.specs.ModelView.{state_view}
 use Rattle.first_facts.specs.View.{obligation_of}
 use Rattle.first_report.specs.Listed.{commit_lines, started_with}

@@ -1,6 +1,6 @@
 use Rattle.std.proofs.Common.{◌<◌, [], ◌∷◌, ◌++◌, length, codes, ap, ◌∙◌, arith}
-use Rattle.wb_meaning.specs.Obligation.{Obligation, reset_inactive, no_start, same}
-use Rattle.wb_meaning.specs.Value.{Name}
+use Rattle.refinement.specs.Obligation.{Obligation, reset_inactive, no_start, same}
+use Rattle.wb_values.specs.Value.{Name}
 use Rattle.first_json.specs.ModelView.{state_view}
 use Rattle.first_facts.specs.View.{obligation_of}
 use Rattle.first_report.specs.Listed.{idle_lines}

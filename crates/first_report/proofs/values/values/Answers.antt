@@ -1,6 +1,6 @@
 use Rattle.std.proofs.Common.{◌∙◌, ◌≤◌, ◌-◌, cond, ap, length, arith, get_or}
 use Rattle.std.proofs.Math.Nat.{min-le_left, min-le_right}
-use Rattle.wb_meaning.specs.Value.{valuation_of, number, same_name}
+use Rattle.wb_values.specs.Value.{valuation_of, number, same_name}
 use Rattle.first_report.proofs.Named.{none_left, one_before}
 use Rattle.first_report.proofs.values.values.Goals as goal
 

@@ -1,5 +1,5 @@
 use Rattle.std.proofs.Common.{◌≡◌, drop}
-use Rattle.wb_meaning.specs.Value.{valuation_of}
+use Rattle.wb_values.specs.Value.{valuation_of}
 use Rattle.first_check.specs.Found.{values_in}
 use Rattle.first_report.proofs.values.values.Given as goal
 

@@ -1,6 +1,6 @@
 use Rattle.std.proofs.Common.{◌≡◌, length}
-use Rattle.wb_meaning.specs.Value.{Sort}
-use Rattle.wb_meaning.specs.Term.{Term}
+use Rattle.wb_values.specs.Value.{Sort}
+use Rattle.model_meaning.specs.Term.{Term}
 use Rattle.first_store.proofs.Chains.{IsWalked, IsCompared}
 use Rattle.first_store.proofs.equality.equal.Given as goal
 

@@ -1,8 +1,8 @@
 use Rattle.std.proofs.Common.{◌≡◌, ◌<◌, true, sym, subst, arith, refl, length}
 use Rattle.std.specs.Prelude.{IsSome}
 use Rattle.std.proofs.lemmas.Bool.Decides.{nat_tests}
-use Rattle.wb_meaning.specs.Value.{Sort, truth, Value, Valuation}
-use Rattle.wb_meaning.specs.Term.{eq, is_equal}
+use Rattle.wb_values.specs.Value.{Sort, truth, Value, Valuation}
+use Rattle.model_meaning.specs.Term.{eq, is_equal}
 use Rattle.wb_terms.specs.Graph.{tree}
 use Rattle.wb_first.specs.Names.{First}
 use Rattle.first_store.specs.Meaning.{IsOfSort, Means, MeansTruth}

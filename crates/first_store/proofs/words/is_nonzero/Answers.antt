@@ -1,7 +1,7 @@
 use Rattle.std.proofs.Common.{ℕ, Bool, not, ap}
-use Rattle.wb_meaning.specs.Value.{Valuation, truth, word, number, truth_value}
-use Rattle.wb_meaning.specs.Term.{is_equal}
-use Rattle.wb_meaning.specs.Verilog.Expression.{is_nonzero}
+use Rattle.wb_values.specs.Value.{Valuation, truth, word, number, truth_value}
+use Rattle.model_meaning.specs.Term.{is_equal}
+use Rattle.verilog_meaning.specs.Expression.{is_nonzero}
 use Rattle.wb_terms.specs.Graph.{tree}
 use Rattle.wb_first.specs.Names.{First}
 use Rattle.first_store.specs.Meaning.{MeansNumber, MeansTruth}

@@ -1,6 +1,6 @@
 use Rattle.std.proofs.Common.{◌≡◌, ◌<◌, ◌≤◌, ◌^◌, ◌%◌, ℕ, subst, arith, refl, length}
-use Rattle.wb_meaning.specs.Value.{Valuation}
-use Rattle.wb_meaning.specs.Term.{zext}
+use Rattle.wb_values.specs.Value.{Valuation}
+use Rattle.model_meaning.specs.Term.{zext}
 use Rattle.wb_terms.specs.Graph.{tree}
 use Rattle.wb_first.specs.Names.{First}
 use Rattle.wb_first.specs.Claims.{AreValues}

@@ -1,5 +1,5 @@
 use Rattle.std.proofs.Common.{map, ap}
-use Rattle.wb_meaning.specs.Value.{as_number}
+use Rattle.wb_values.specs.Value.{as_number}
 use Rattle.first_text.specs.View.{part_of}
 use Rattle.wb_first.specs.CaseView.{case_of}
 use Rattle.wb_first.specs.Decided.{first_of_values}

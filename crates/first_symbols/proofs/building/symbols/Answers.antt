@@ -1,5 +1,5 @@
 use Rattle.std.proofs.Common.{ap, sym, subst, ◌∙◌}
-use Rattle.wb_meaning.specs.Value.{as_number, Entries, Sort}
+use Rattle.wb_values.specs.Value.{as_number, Entries, Sort}
 use Rattle.wb_first.specs.CaseView.{case_of}
 use Rattle.wb_first.specs.Decided.{first_of_values, second_of_values}
 use Rattle.wb_first.specs.declared.case.FirstCase.{FirstCase}

@@ -1,5 +1,5 @@
 use Rattle.std.proofs.Common.{◌≡◌, ℕ, List, map, drop}
-use Rattle.wb_meaning.specs.Verilog.Hierarchy.{first_of}
+use Rattle.wb_values.specs.Choice.{first_of}
 use Rattle.first_symbols.specs.Table.{under_name}
 use Rattle.first_cycle.specs.Widths.{port_bounds}
 use Rattle.first_text.specs.View.{port_of, bounds_of}

@@ -1,6 +1,6 @@
 use Rattle.std.proofs.Common.{◌≡◌, ℕ, List, map, drop, Bor}
 use Rattle.std.specs.Prelude.{option_map}
-use Rattle.wb_meaning.specs.Verilog.Hierarchy.{first_of}
+use Rattle.wb_values.specs.Choice.{first_of}
 use Rattle.first_symbols.specs.Table.{under_name}
 use Rattle.wb_first.specs.Names.{port_named}
 use Rattle.first_text.specs.View.{port_of}

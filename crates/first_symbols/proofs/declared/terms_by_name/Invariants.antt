@@ -1,8 +1,8 @@
 use Rattle.std.proofs.Common.{◌≡◌, ℕ, List, map, drop, Bor}
 use Rattle.std.specs.Prelude.{option_map}
-use Rattle.wb_meaning.specs.Verilog.Hierarchy.{first_of}
+use Rattle.wb_values.specs.Choice.{first_of}
 use Rattle.first_symbols.specs.Table.{under_name}
-use Rattle.wb_meaning.specs.Value.{entry_of}
+use Rattle.wb_values.specs.Value.{entry_of}
 use Rattle.wb_first.specs.Names.{assigned_among}
 use Rattle.first_text.specs.View.{part_of, term_of}
 use Rattle.first_text.specs.declared.tree.Term.{Term}

@@ -1,6 +1,6 @@
 use Rattle.std.proofs.Common.{drop, ap, sym, ◌∙◌, rules, arith, refl}
 use Rattle.std.proofs.Math.ListN.{drop_of_length-le}
-use Rattle.wb_meaning.specs.Value.{truth}
+use Rattle.wb_values.specs.Value.{truth}
 use Rattle.first_text.specs.Tree as trees
 use Rattle.first_text.specs.View.{term_of, action_of, actions_of}
 use Rattle.wb_first.specs.Accepted.{read_names, all_read_names}

@@ -1,5 +1,5 @@
 use Rattle.std.proofs.Common.{sym}
-use Rattle.wb_meaning.specs.Value.{word, truth}
+use Rattle.wb_values.specs.Value.{word, truth}
 use Rattle.first_text.specs.View.{term_of}
 use Rattle.first_store.proofs.Growing.{Grows-trans, IsOfSort-kept}
 use Rattle.first_symbols.specs.Table.{ids_of}

@@ -1,6 +1,6 @@
 use Rattle.std.proofs.Common.{drop, map, arith, refl}
 use Rattle.std.proofs.Math.ListN.{drop_of_length-le}
-use Rattle.wb_meaning.specs.Value.{truth}
+use Rattle.wb_values.specs.Value.{truth}
 use Rattle.first_text.specs.View.{part_of}
 use Rattle.first_cycle.specs.Updates.{part_updates, block_updates}
 use Rattle.first_store.proofs.Growing.{IsOfSort-kept}

@@ -1,4 +1,4 @@
-use Rattle.wb_meaning.specs.Value.{truth, truth_value, word, number}
+use Rattle.wb_values.specs.Value.{truth, truth_value, word, number}
 use Rattle.first_store.proofs.Growing.{Grows-trans, IsOfSort-kept, Means-kept}
 use Rattle.first_symbols.proofs.Given.{one_fits, bit_means}
 use Rattle.first_symbols.proofs.expressions.bit.Goals as goal

@@ -1,6 +1,6 @@
 use Rattle.std.proofs.Common.{◌≡◌, true, drop, ◌⊎◌}
 use Rattle.std.specs.Prelude.{is_some}
-use Rattle.wb_meaning.specs.Value.{Name}
+use Rattle.wb_values.specs.Value.{Name}
 use Rattle.wb_first.specs.CaseView.{case_of}
 use Rattle.wb_first.specs.Accepted.{is_among}
 use Rattle.first_symbols.specs.Filling.{texts}

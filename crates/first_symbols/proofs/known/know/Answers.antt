@@ -1,6 +1,6 @@
 use Rattle.std.proofs.Common.{map, ap, ◌∙◌}
-use Rattle.wb_meaning.specs.Value.{entry_of}
-use Rattle.wb_meaning.specs.Verilog.Hierarchy.{first_of}
+use Rattle.wb_values.specs.Value.{entry_of}
+use Rattle.wb_values.specs.Choice.{first_of}
 use Rattle.wb_first.specs.Names.{port_named, is_set_among, assigned_among}
 use Rattle.first_text.specs.View.{port_of, part_of}
 use Rattle.first_cycle.specs.Widths.{port_bounds, part_bounds}

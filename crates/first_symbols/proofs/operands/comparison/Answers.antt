@@ -1,5 +1,5 @@
 use Rattle.std.proofs.Common.{◌^◌, ◌%◌, false}
-use Rattle.wb_meaning.specs.Value.{word, number}
+use Rattle.wb_values.specs.Value.{word, number}
 use Rattle.first_store.proofs.Growing.{IsOfSort-kept, Means-kept}
 use Rattle.first_symbols.specs.Reading.{number_at}
 use Rattle.first_symbols.proofs.Read.{IsOperand-kept, IsRead-kept, same_means, widest_in_range}

@@ -1,5 +1,5 @@
 use Rattle.std.proofs.Common.{ℕ, ◌<◌, ◌^◌, ◌%◌}
-use Rattle.wb_meaning.specs.Value.{Valuation, as_number}
+use Rattle.wb_values.specs.Value.{Valuation, as_number}
 use Rattle.first_text.specs.Tree.{Primary}
 use Rattle.wb_first.specs.Names.{First}
 use Rattle.wb_first.specs.Claims.{AreValues}

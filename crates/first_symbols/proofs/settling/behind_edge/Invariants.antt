@@ -1,5 +1,5 @@
 use Rattle.std.proofs.Common.{ℕ, drop, cond}
-use Rattle.wb_meaning.specs.Value.{Name, Valuation}
+use Rattle.wb_values.specs.Value.{Name, Valuation}
 use Rattle.wb_first.specs.CaseView.{case_of}
 use Rattle.wb_first.specs.Names.{is_register}
 use Rattle.first_store.specs.Meaning.{Grows}

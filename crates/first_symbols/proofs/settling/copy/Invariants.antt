@@ -1,5 +1,5 @@
 use Rattle.std.proofs.Common.{ℕ, drop}
-use Rattle.wb_meaning.specs.Value.{Name, Valuation}
+use Rattle.wb_values.specs.Value.{Name, Valuation}
 use Rattle.wb_terms.specs.Graph.{Graph}
 use Rattle.wb_first.specs.Names.{First}
 use Rattle.first_symbols.specs.Filling.{texts, AreAllNames}

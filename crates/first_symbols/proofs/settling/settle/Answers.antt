@@ -1,6 +1,6 @@
 use Rattle.std.proofs.Common.{drop, ap, arith}
 use Rattle.std.proofs.Math.ListN.{drop_of_length-le}
-use Rattle.wb_meaning.specs.Value.{as_number}
+use Rattle.wb_values.specs.Value.{as_number}
 use Rattle.wb_first.specs.CaseView.{case_of}
 use Rattle.wb_first.specs.Cycle.{held, settled}
 use Rattle.first_store.proofs.Growing.{Grows-trans}

@@ -1,5 +1,5 @@
 use Rattle.std.proofs.Common.{drop}
-use Rattle.wb_meaning.specs.Value.{Valuation, as_number}
+use Rattle.wb_values.specs.Value.{Valuation, as_number}
 use Rattle.wb_first.specs.CaseView.{case_of}
 use Rattle.wb_first.specs.Cycle.{held, settled}
 use Rattle.first_store.specs.Meaning.{Grows}

@@ -1,5 +1,5 @@
 use Rattle.std.proofs.Common.{sym}
-use Rattle.wb_meaning.specs.Value.{as_number}
+use Rattle.wb_values.specs.Value.{as_number}
 use Rattle.wb_first.specs.CaseView.{case_of}
 use Rattle.wb_first.specs.Cycle.{settled}
 use Rattle.first_symbols.specs.Table.{ids_of}

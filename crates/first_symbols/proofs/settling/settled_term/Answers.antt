@@ -1,5 +1,5 @@
 use Rattle.std.proofs.Common.{◌≡◌, sym, subst, Some}
-use Rattle.wb_meaning.specs.Value.{as_number, entry_of}
+use Rattle.wb_values.specs.Value.{as_number, entry_of}
 use Rattle.first_text.specs.View.{term_of}
 use Rattle.wb_first.specs.CaseView.{case_of}
 use Rattle.wb_first.specs.Names.{bits_of_name, assigned}

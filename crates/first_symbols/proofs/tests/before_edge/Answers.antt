@@ -1,4 +1,4 @@
-use Rattle.wb_meaning.specs.Value.{word, truth}
+use Rattle.wb_values.specs.Value.{word, truth}
 use Rattle.first_store.proofs.Growing.{Grows-trans, IsOfSort-kept}
 use Rattle.first_symbols.specs.Table.{ids_of}
 use Rattle.first_symbols.proofs.Standing.{AreWords-with, AreWords-none}

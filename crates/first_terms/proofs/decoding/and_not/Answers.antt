@@ -1,8 +1,8 @@
-use Rattle.wb_meaning.specs.Value.{truth_value}
+use Rattle.wb_values.specs.Value.{truth_value}
 use Rattle.std.proofs.lemmas.Result.{IfOk-weaker}
 use Rattle.first_store.proofs.Growing.{Grows-trans, Means-kept, IsOfSort-kept}
 use Rattle.std.proofs.Common.{not}
-use Rattle.wb_meaning.specs.Value.{truth}
+use Rattle.wb_values.specs.Value.{truth}
 use Rattle.first_terms.proofs.decoding.and_not.Goals as goal
 
 pub negation-requires : goal.negation-requires

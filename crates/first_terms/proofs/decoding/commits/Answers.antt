@@ -1,5 +1,5 @@
 use Rattle.first_terms.proofs.FactParts.{commit_some, commit_none}
-use Rattle.wb_meaning.specs.Model.{instructions_in}
+use Rattle.model_meaning.specs.Model.{instructions_in}
 use Rattle.first_terms.proofs.Found.{instruction_some, instruction_none, slot_some, slot_none}
 use Rattle.std.proofs.lemmas.Result.{IfOk-weaker}
 use Rattle.first_store.proofs.Growing.{Grows-refl}

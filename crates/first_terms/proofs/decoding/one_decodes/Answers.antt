@@ -1,13 +1,13 @@
-use Rattle.wb_meaning.specs.Value.{truth_value}
+use Rattle.wb_values.specs.Value.{truth_value}
 use Rattle.first_terms.specs.Asked.{held_at}
-use Rattle.wb_meaning.specs.Model.{valid_of}
+use Rattle.model_meaning.specs.Model.{valid_of}
 use Rattle.first_terms.proofs.FactParts.{one_met}
-use Rattle.wb_meaning.specs.Model.{instructions_in}
+use Rattle.model_meaning.specs.Model.{instructions_in}
 use Rattle.std.proofs.Common.{sym, subst}
 use Rattle.std.proofs.lemmas.Result.{IfOk-weaker}
 use Rattle.first_store.proofs.Growing.{Grows-trans, Means-kept, IsOfSort-kept}
 use Rattle.std.proofs.Common.{◌==◌}
-use Rattle.wb_meaning.specs.Value.{truth}
+use Rattle.wb_values.specs.Value.{truth}
 use Rattle.first_store.specs.Meaning.{Means}
 use Rattle.first_terms.specs.Asked.{decoded_count}
 use Rattle.first_terms.specs.Shared.{ArePrepared}

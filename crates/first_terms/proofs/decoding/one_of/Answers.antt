@@ -1,11 +1,11 @@
-use Rattle.wb_meaning.specs.Value.{truth_value}
+use Rattle.wb_values.specs.Value.{truth_value}
 use Rattle.first_terms.proofs.Counted.{IsCounted, counted_start, counted_turn, counted_end, head_decode}
 use Rattle.std.proofs.Common.{drop}
 use Rattle.first_terms.proofs.Items.{left_item, left_none}
 use Rattle.std.proofs.Common.{arith, subst}
 use Rattle.first_store.proofs.Growing.{Grows-trans, Means-kept, IsOfSort-kept}
 use Rattle.std.proofs.Common.{◌+◌, true}
-use Rattle.wb_meaning.specs.Value.{truth}
+use Rattle.wb_values.specs.Value.{truth}
 use Rattle.first_terms.proofs.decoding.one_of.Goals as goal
 
 pub returns-in_err-none-clause-grows : goal.returns-in_err-none-clause-grows

@@ -1,5 +1,5 @@
 use Rattle.std.proofs.Common.{List, drop}
-use Rattle.wb_meaning.specs.Model.{Instruction}
+use Rattle.model_meaning.specs.Model.{Instruction}
 use Rattle.wb_first.specs.Names.{First}
 use Rattle.first_store.specs.Meaning.{Grows, Means}
 use Rattle.first_terms.specs.Shared.{ArePrepared}

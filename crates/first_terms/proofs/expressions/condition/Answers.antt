@@ -3,7 +3,7 @@ use Rattle.first_terms.proofs.MapExpressions.{condition_is}
 use Rattle.std.proofs.Common.{sym, subst}
 use Rattle.std.proofs.lemmas.Result.{IfOk-weaker}
 use Rattle.first_store.proofs.Growing.{Grows-trans}
-use Rattle.wb_meaning.specs.Value.{word}
+use Rattle.wb_values.specs.Value.{word}
 use Rattle.wb_first.specs.Accepted.{map_width}
 use Rattle.first_json.specs.View.{expression_of}
 use Rattle.first_store.specs.Meaning.{IsOfSort, MeansNumber}

@@ -4,7 +4,7 @@ use Rattle.std.proofs.Common.{sym, subst}
 use Rattle.std.proofs.lemmas.Result.{IfOk-weaker}
 -- NOTE from the lead, 14:46: to be in time, helper 8 (/tmp/h8) proves the module facts; leave it, prove expressions, mapping, modelled, decoding (in this order), keep the lemma files as they are or only add to them, and commit those modules' proofs when done.
 use Rattle.std.proofs.Common.{◌≡◌, true}
-use Rattle.wb_meaning.specs.Value.{is_of_sort}
+use Rattle.wb_values.specs.Value.{is_of_sort}
 use Rattle.first_json.specs.ModelView.{value_view}
 use Rattle.first_store.specs.Meaning.{IsOfSort, Means}
 use Rattle.first_terms.proofs.facts.constant_like.Goals as goal

@@ -1,5 +1,5 @@
-use Rattle.wb_meaning.specs.Term.{is_equal}
-use Rattle.wb_meaning.specs.Value.{truth, truth_value}
+use Rattle.model_meaning.specs.Term.{is_equal}
+use Rattle.wb_values.specs.Value.{truth, truth_value}
 use Rattle.first_terms.proofs.Constants.{value_kind}
 use Rattle.first_terms.proofs.Compared.{equal_same}
 use Rattle.std.proofs.Common.{ap}

@@ -1,4 +1,4 @@
-use Rattle.wb_meaning.specs.Model.{state_named}
+use Rattle.model_meaning.specs.Model.{state_named}
 use Rattle.first_terms.proofs.Updating.{result_kind, some_found}
 use Rattle.first_terms.proofs.SortKinds.{behind_kind, sort_named}
 use Rattle.first_terms.proofs.FactParts.{result_met}
@@ -7,7 +7,7 @@ use Rattle.std.proofs.lemmas.Result.{IfOk-weaker}
 use Rattle.first_store.proofs.Growing.{Grows-trans, Means-kept, IsOfSort-kept}
 -- NOTE from the lead, 14:46: to be in time, helper 8 (/tmp/h8) proves the module facts; leave it, prove expressions, mapping, modelled, decoding (in this order), keep the lemma files as they are or only add to them, and commit those modules' proofs when done.
 use Rattle.std.proofs.Common.{Some, slice_get}
-use Rattle.wb_meaning.specs.Model.{instructions_in, states_of}
+use Rattle.model_meaning.specs.Model.{instructions_in, states_of}
 use Rattle.first_terms.specs.Asked.{state_behind, result_of_at}
 use Rattle.first_terms.proofs.facts.is_result.Goals as goal
 

@@ -8,7 +8,7 @@ use Rattle.std.proofs.Common.{sym, ap, ◌∙◌, subst}
 use Rattle.std.proofs.lemmas.Result.{IfOk-weaker}
 -- NOTE from the lead, 14:46: to be in time, helper 8 (/tmp/h8) proves the module facts; leave it, prove expressions, mapping, modelled, decoding (in this order), keep the lemma files as they are or only add to them, and commit those modules' proofs when done.
 use Rattle.std.proofs.Common.{◌≡◌, Some}
-use Rattle.wb_meaning.specs.Model.{states_of}
+use Rattle.model_meaning.specs.Model.{states_of}
 use Rattle.wb_first.specs.Accepted.{state_sort}
 use Rattle.first_store.specs.Meaning.{Means}
 use Rattle.first_terms.specs.Asked.{state_behind}

@@ -1,11 +1,11 @@
 use Rattle.first_terms.proofs.Found.{none_some}
 use Rattle.first_terms.proofs.Updating.{updating}
-use Rattle.wb_meaning.specs.Model.{instructions_in}
+use Rattle.model_meaning.specs.Model.{instructions_in}
 use Rattle.first_terms.proofs.Found.{instruction_none, slot_some, slot_none}
 use Rattle.std.proofs.Common.{sym, ◌∙◌}
 use Rattle.std.proofs.lemmas.Result.{IfOk-weaker}
 -- NOTE from the lead, 14:46: to be in time, helper 8 (/tmp/h8) proves the module facts; leave it, prove expressions, mapping, modelled, decoding (in this order), keep the lemma files as they are or only add to them, and commit those modules' proofs when done.
-use Rattle.wb_meaning.specs.Model.{instructions_in}
+use Rattle.model_meaning.specs.Model.{instructions_in}
 use Rattle.first_store.specs.Meaning.{Means}
 use Rattle.first_terms.proofs.facts.result.Goals as goal
 

@@ -11,7 +11,7 @@ use Rattle.std.proofs.lemmas.Result.{IfOk-weaker}
 use Rattle.first_store.proofs.Growing.{Grows-refl, Means-same}
 -- NOTE from the lead, 14:46: to be in time, helper 8 (/tmp/h8) proves the module facts; leave it, prove expressions, mapping, modelled, decoding (in this order), keep the lemma files as they are or only add to them, and commit those modules' proofs when done.
 use Rattle.std.proofs.Common.{◌≡◌, Some, option_map, Bor}
-use Rattle.wb_meaning.specs.Model.{states_of}
+use Rattle.model_meaning.specs.Model.{states_of}
 use Rattle.wb_first.specs.Accepted.{state_sort}
 use Rattle.first_store.specs.Meaning.{Means}
 use Rattle.first_terms.specs.Asked.{result_of_at}

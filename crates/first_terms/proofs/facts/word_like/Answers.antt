@@ -1,10 +1,10 @@
-use Rattle.wb_meaning.specs.Value.{word}
+use Rattle.wb_values.specs.Value.{word}
 use Rattle.std.specs.Prelude.{◌<◌, ◌^◌}
 use Rattle.std.proofs.Common.{sym, subst}
 use Rattle.std.proofs.lemmas.Result.{IfOk-weaker}
 -- NOTE from the lead, 14:46: to be in time, helper 8 (/tmp/h8) proves the module facts; leave it, prove expressions, mapping, modelled, decoding (in this order), keep the lemma files as they are or only add to them, and commit those modules' proofs when done.
 use Rattle.std.proofs.Common.{◌<◌, ◌^◌}
-use Rattle.wb_meaning.specs.Value.{word}
+use Rattle.wb_values.specs.Value.{word}
 use Rattle.first_store.specs.Meaning.{IsOfSort, MeansNumber}
 use Rattle.first_terms.proofs.facts.word_like.Goals as goal
 

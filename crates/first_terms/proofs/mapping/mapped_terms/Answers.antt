@@ -1,7 +1,7 @@
 use Rattle.std.proofs.Common.{None}
 use Rattle.std.proofs.Common.{cond}
-use Rattle.wb_meaning.specs.Verilog.Hierarchy.{first_of}
-use Rattle.wb_meaning.specs.Value.{same_name}
+use Rattle.wb_values.specs.Choice.{first_of}
+use Rattle.wb_values.specs.Value.{same_name}
 use Rattle.first_terms.proofs.Entries.{sort_there, filled_start, empty_name}
 use Rattle.first_terms.proofs.Moved.{symbols_grown}
 use Rattle.std.proofs.Common.{List, drop}

@@ -1,6 +1,6 @@
 use Rattle.std.proofs.Common.{◌≡◌, true, map, drop}
 use Rattle.std.specs.Prelude.{option_map}
-use Rattle.wb_meaning.specs.Value.{Valuation}
+use Rattle.wb_values.specs.Value.{Valuation}
 use Rattle.wb_first.specs.Names.{First}
 use Rattle.first_json.specs.ModelView.{sort_view}
 use Rattle.first_json.specs.View.{entry_of_mapped}

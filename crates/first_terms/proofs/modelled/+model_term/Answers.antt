@@ -1,7 +1,7 @@
 use Rattle.first_terms.proofs.Moved.{point_grown}
 use Rattle.std.specs.String.{string_bytes}
-use Rattle.wb_meaning.specs.Value.{as_number}
-use Rattle.wb_meaning.specs.Term as terms
+use Rattle.wb_values.specs.Value.{as_number}
+use Rattle.model_meaning.specs.Term as terms
 use Rattle.first_json.specs.declared.model.FirstTerm.{FirstTerm, the_lemmas}
 use Rattle.first_terms.proofs.ModelTerms.{term_kind, term_bits, as_word}
 use Rattle.first_terms.proofs.ModelSteps.{name_of_term, pair_of_and, pair_of_add, width_of_add, pair_of_eq, one_of_not, name_at, truth_at, const_at, not_at, and_at, add_at, eq_at}
@@ -9,7 +9,7 @@ use Rattle.std.proofs.Common.{sym, ap, ◌∙◌, subst}
 use Rattle.std.proofs.lemmas.Result.{IfOk-weaker}
 use Rattle.first_store.proofs.Growing.{Grows-refl, Grows-trans, Means-kept}
 use Rattle.std.proofs.Common.{rules, ◌≡◌, Some}
-use Rattle.wb_meaning.specs.Term.{complement, conjunction, width_of_sort, sort_of, const}
+use Rattle.model_meaning.specs.Term.{complement, conjunction, width_of_sort, sort_of, const}
 use Rattle.first_json.specs.ModelView.{term_view}
 use Rattle.wb_first.specs.Accepted.{declared_sort}
 use Rattle.first_store.specs.Meaning.{IsOfSort, Means}

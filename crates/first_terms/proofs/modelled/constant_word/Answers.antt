@@ -1,8 +1,8 @@
-use Rattle.wb_meaning.specs.Value.{number}
+use Rattle.wb_values.specs.Value.{number}
 use Rattle.first_terms.proofs.ModelTerms.{const_fits}
 use Rattle.std.proofs.lemmas.Result.{IfOk-weaker}
 use Rattle.std.proofs.Common.{arith, sym, subst}
-use Rattle.wb_meaning.specs.Value.{number}
+use Rattle.wb_values.specs.Value.{number}
 use Rattle.first_store.specs.Meaning.{Means}
 use Rattle.first_terms.proofs.modelled.constant_word.Goals as goal
 

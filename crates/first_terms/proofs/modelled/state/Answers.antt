@@ -1,6 +1,6 @@
 use Rattle.first_terms.proofs.Found.{found, missing}
 use Rattle.wb_first.specs.Accepted.{state_sort}
-use Rattle.wb_meaning.specs.Model.{states_of}
+use Rattle.model_meaning.specs.Model.{states_of}
 use Rattle.first_store.specs.Meaning.{Means}
 use Rattle.first_terms.specs.Asked.{state_before}
 use Rattle.first_terms.proofs.modelled.state.Goals as goal

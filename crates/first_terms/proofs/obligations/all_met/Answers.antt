@@ -1,5 +1,5 @@
 use Rattle.first_terms.proofs.Items.{get_or-any}
-use Rattle.wb_meaning.specs.Value.{truth}
+use Rattle.wb_values.specs.Value.{truth}
 use Rattle.first_facts.specs.declared.facts.Fact.{Fact}
 use Rattle.std.proofs.Common.{List, slice_index_or}
 use Rattle.first_terms.proofs.Moved.{case_grown}

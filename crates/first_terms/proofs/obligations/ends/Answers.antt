@@ -1,9 +1,9 @@
-use Rattle.wb_meaning.specs.Value.{truth, truth_value}
+use Rattle.wb_values.specs.Value.{truth, truth_value}
 use Rattle.first_terms.proofs.Moved.{case_grown}
 use Rattle.std.proofs.lemmas.Result.{IfOk-weaker}
 use Rattle.first_store.proofs.Growing.{Grows-trans, Means-kept, IsOfSort-kept}
 -- NOTE from the lead, 14:46: to be in time, the lead (/tmp/me4) proves the module obligations; leave it, prove expressions, mapping, modelled, decoding (in this order), keep the lemma files as they are or only add to them, and commit those modules' proofs when done.
-use Rattle.wb_meaning.specs.Obligation.{decoded, commit}
+use Rattle.refinement.specs.Obligation.{decoded, commit}
 use Rattle.first_terms.specs.Asked.{met_at}
 use Rattle.first_terms.proofs.obligations.ends.Goals as goal
 

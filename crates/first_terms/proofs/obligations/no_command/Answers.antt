@@ -1,7 +1,7 @@
 use Rattle.wb_first.specs.Decided.{first_of_values}
 use Rattle.first_terms.proofs.Whole.{command_is}
 use Rattle.first_terms.specs.Asked.{reset_at, condition_at}
-use Rattle.wb_meaning.specs.Value.{truth}
+use Rattle.wb_values.specs.Value.{truth}
 use Rattle.first_terms.proofs.Moved.{case_grown}
 use Rattle.std.proofs.lemmas.Result.{IfOk-weaker}
 use Rattle.first_store.proofs.Growing.{Grows-trans, Means-kept, IsOfSort-kept}

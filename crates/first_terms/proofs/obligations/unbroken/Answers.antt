@@ -1,7 +1,7 @@
 use Rattle.std.specs.Prelude.{◌||◌}
 use Rattle.std.proofs.Common.{List}
 use Rattle.first_facts.specs.declared.facts.Fact.{Fact}
-use Rattle.wb_meaning.specs.Value.{truth}
+use Rattle.wb_values.specs.Value.{truth}
 use Rattle.first_terms.proofs.Whole.{obligation_is}
 use Rattle.first_terms.proofs.Moved.{case_grown}
 use Rattle.std.proofs.Common.{sym, subst}

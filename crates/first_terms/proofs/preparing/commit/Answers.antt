@@ -1,5 +1,5 @@
 use Rattle.std.proofs.Common.{option_map, ap, ◌∙◌}
-use Rattle.wb_meaning.specs.Map.{instruction_map}
+use Rattle.refinement.specs.Map.{instruction_map}
 use Rattle.first_json.specs.ModelView.{instruction_view}
 use Rattle.first_json.specs.View.{expression_of}
 use Rattle.wb_first.specs.CaseView.{case_of}

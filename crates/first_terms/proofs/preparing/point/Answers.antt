@@ -1,5 +1,5 @@
 use Rattle.std.proofs.Common.{map, ap, ◌∙◌}
-use Rattle.wb_meaning.specs.Map.{sort_of_input}
+use Rattle.refinement.specs.Map.{sort_of_input}
 use Rattle.first_json.specs.ModelView.{input_view, state_view}
 use Rattle.first_json.specs.View.{entry_of_mapped}
 use Rattle.wb_first.specs.CaseView.{case_of}

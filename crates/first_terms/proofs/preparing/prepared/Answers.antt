@@ -1,6 +1,6 @@
 use Rattle.std.proofs.Common.{map, ap, ◌∙◌}
-use Rattle.wb_meaning.specs.Value.{truth, truth_value, entry_of}
-use Rattle.wb_meaning.specs.Model.{decode_of}
+use Rattle.wb_values.specs.Value.{truth, truth_value, entry_of}
+use Rattle.model_meaning.specs.Model.{decode_of}
 use Rattle.first_json.specs.ModelView.{instruction_view, update_view}
 use Rattle.wb_first.specs.CaseView.{case_of}
 use Rattle.wb_first.specs.Decided.{first_of_values}

@@ -1,5 +1,5 @@
 use Rattle.std.proofs.Common.{◌∙◌}
-use Rattle.wb_meaning.specs.Value.{word, as_number, number}
+use Rattle.wb_values.specs.Value.{word, as_number, number}
 use Rattle.wb_first.specs.CaseView.{case_of}
 use Rattle.wb_first.specs.Decided.{first_of_values}
 use Rattle.first_symbols.specs.Table.{ids_of}

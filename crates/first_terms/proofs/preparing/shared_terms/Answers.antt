@@ -1,6 +1,6 @@
 use Rattle.std.proofs.Common.{map, ap, ◌∙◌}
-use Rattle.wb_meaning.specs.Value.{truth, truth_value}
-use Rattle.wb_meaning.specs.Model.{states_of, state_named, valid_of}
+use Rattle.wb_values.specs.Value.{truth, truth_value}
+use Rattle.model_meaning.specs.Model.{states_of, state_named, valid_of}
 use Rattle.first_json.specs.ModelView.{state_view}
 use Rattle.wb_first.specs.CaseView.{case_of}
 use Rattle.wb_first.specs.Accepted.{state_sort}

@@ -1,8 +1,8 @@
 use Rattle.std.proofs.Common.{◌≡◌, ℕ, List, map, drop, Bor}
 use Rattle.std.specs.Prelude.{option_map}
-use Rattle.wb_meaning.specs.Verilog.Hierarchy.{first_of}
+use Rattle.wb_values.specs.Choice.{first_of}
 use Rattle.first_terms.specs.Tables.{under_name}
-use Rattle.wb_meaning.specs.Map.{instruction_map}
+use Rattle.refinement.specs.Map.{instruction_map}
 use Rattle.first_json.specs.View.{expression_of, instruction_map_of}
 use Rattle.first_json.specs.declared.map.FirstExpression.{FirstExpression}
 use Rattle.first_facts.specs.Commit.{commit_of}

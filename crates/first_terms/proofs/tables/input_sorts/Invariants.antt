@@ -1,8 +1,8 @@
 use Rattle.std.proofs.Common.{◌≡◌, ℕ, List, map, drop}
 use Rattle.std.specs.Prelude.{option_map}
-use Rattle.wb_meaning.specs.Verilog.Hierarchy.{first_of}
+use Rattle.wb_values.specs.Choice.{first_of}
 use Rattle.first_terms.specs.Tables.{under_name}
-use Rattle.wb_meaning.specs.Map.{sort_of_input}
+use Rattle.refinement.specs.Map.{sort_of_input}
 use Rattle.first_json.specs.ModelView.{sort_view, input_view}
 use Rattle.first_terms.proofs.tables.input_sorts.Given as goal
 

@@ -1,8 +1,8 @@
 use Rattle.std.proofs.Common.{◌≡◌, ℕ, List, map, drop, Bor}
 use Rattle.std.specs.Prelude.{option_map}
-use Rattle.wb_meaning.specs.Verilog.Hierarchy.{first_of}
+use Rattle.wb_values.specs.Choice.{first_of}
 use Rattle.first_terms.specs.Tables.{under_name}
-use Rattle.wb_meaning.specs.Model.{state_named}
+use Rattle.model_meaning.specs.Model.{state_named}
 use Rattle.first_json.specs.ModelView.{state_view}
 use Rattle.first_json.specs.declared.model.FirstState.{FirstState}
 use Rattle.first_terms.proofs.tables.states_by_name.Given as goal

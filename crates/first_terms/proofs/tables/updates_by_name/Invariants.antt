@@ -1,8 +1,8 @@
 use Rattle.std.proofs.Common.{◌≡◌, ℕ, List, map, drop, Bor}
 use Rattle.std.specs.Prelude.{option_map}
-use Rattle.wb_meaning.specs.Verilog.Hierarchy.{first_of}
+use Rattle.wb_values.specs.Choice.{first_of}
 use Rattle.first_terms.specs.Tables.{under_name}
-use Rattle.wb_meaning.specs.Value.{entry_of}
+use Rattle.wb_values.specs.Value.{entry_of}
 use Rattle.first_json.specs.ModelView.{update_view, term_view}
 use Rattle.first_json.specs.declared.model.FirstTerm.{FirstTerm}
 use Rattle.first_terms.proofs.tables.updates_by_name.Given as goal

@@ -1,5 +1,5 @@
 use Rattle.std.proofs.Common.{◌≡◌, List, OnOk, subst, sym}
-use Rattle.wb_meaning.specs.Value.{Name}
+use Rattle.wb_values.specs.Value.{Name}
 use Rattle.first_trace.specs.Bytes.{names_in}
 use Rattle.first_trace.proofs.Assigned.{block_set}
 use Rattle.first_trace.proofs.names.+assigned.Goals as goal

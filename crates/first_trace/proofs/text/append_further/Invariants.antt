@@ -1,6 +1,6 @@
-use Rattle.wb_meaning.specs.Value.{valuation_of}
+use Rattle.wb_values.specs.Value.{valuation_of}
 use Rattle.std.proofs.Common.{◌≡◌, ◌++◌, drop}
-use Rattle.wb_meaning.specs.Report.{member_texts}
+use Rattle.reports.specs.Report.{member_texts}
 use Rattle.first_trace.specs.Bytes.{names_in}
 use Rattle.first_trace.specs.Traced.{entries_at}
 use Rattle.first_trace.specs.Texts.{after_comma}

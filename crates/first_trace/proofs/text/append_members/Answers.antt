@@ -1,4 +1,4 @@
-use Rattle.wb_meaning.specs.Value.{valuation_of}
+use Rattle.wb_values.specs.Value.{valuation_of}
 use Rattle.std.proofs.Common.{ap}
 use Rattle.first_trace.specs.Bytes.{names_in}
 use Rattle.first_trace.proofs.Parts.{first_member}

@@ -1,6 +1,6 @@
 use Rattle.std.proofs.Common.{◌≡◌, ◌++◌, ap, ◌∙◌}
-use Rattle.wb_meaning.specs.Value.{valuation_of}
-use Rattle.wb_meaning.specs.Report.{object_text, trace_text}
+use Rattle.wb_values.specs.Value.{valuation_of}
+use Rattle.reports.specs.Report.{object_text, trace_text}
 use Rattle.first_trace.specs.Bytes.{names_in}
 use Rattle.first_trace.specs.Traced.{Names, entries_at, trace_by}
 use Rattle.first_trace.proofs.Parts.{trace_parts}

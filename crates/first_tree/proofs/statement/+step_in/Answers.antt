@@ -1,5 +1,5 @@
 use Rattle.std.proofs.Common.{◌∙◌, ap, sym, subst}
-use Rattle.wb_meaning.specs.Verilog.Syntax.{block}
+use Rattle.verilog_trees.specs.Syntax.{block}
 use Rattle.v_syntax.specs.Tree.{statement_of, name_of_option}
 use Rattle.first_tree.specs.Reading.{step_from}
 use Rattle.first_tree.specs.Parts.{HasStep, statement_list, optional_statement}

@@ -1,5 +1,5 @@
 use Rattle.std.proofs.Common.{◌≡◌, ◌+◌, drop, length}
-use Rattle.wb_meaning.specs.ModelFile.Written.{machines_below}
+use Rattle.model_files.specs.Written.{machines_below}
 use Rattle.ila_file.specs.View.{instructions_view}
 use Rattle.ila_build.proofs.counting.+count.Given as goal
 

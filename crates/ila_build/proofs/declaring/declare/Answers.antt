@@ -1,7 +1,7 @@
 use Rattle.std.proofs.Common.{◌≡◌, ◌∙◌, ℕ, List, None, Some, cond, not, ap, sym, subst}
 use Rattle.std.specs.Prelude.{is_some}
 use Rattle.std.specs.String.{string_bytes}
-use Rattle.wb_meaning.specs.Value.{same_name, entry_of}
+use Rattle.wb_values.specs.Value.{same_name, entry_of}
 use Rattle.wb_terms.specs.declared.nodes.Node.TheVariants.{Name as NameNode}
 use Rattle.wb_terms.specs.Graph.{tree_of_node}
 use Rattle.wb_terms.specs.Sort.{as_sort}

@@ -1,5 +1,5 @@
 use Rattle.std.proofs.Common.{◌≡◌, ◌+◌, ◌<◌, ◌≤◌, ◌∙◌, suc, Some, not, length, drop, ap, sym, subst, arith}
-use Rattle.wb_meaning.specs.ModelFile.Written.{no_child}
+use Rattle.model_files.specs.Written.{no_child}
 use Rattle.ila_file.specs.View.{instruction_view, instructions_view, instructions_from, machine_view}
 use Rattle.ila_file.specs.declared.written.WrittenChild.{out-WrittenChild}
 use Rattle.ila_build.specs.Building.{instructions_in, IsChildPut}

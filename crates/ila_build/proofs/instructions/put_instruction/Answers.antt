@@ -6,7 +6,7 @@ use Rattle.ila_build.proofs.Definitions.{kept_same}
 use Rattle.ila_build.proofs.Declared.{in_table, table_grown}
 use Rattle.ila_build.proofs.InstructionLemmas.{instruction_put}
 use Rattle.std.proofs.lemmas.Result.{err_from_is_err_and}
-use Rattle.wb_meaning.specs.ModelFile.Scope.{of_condition, placed, placed_updates}
+use Rattle.model_files.specs.Scope.{of_condition, placed, placed_updates}
 use Rattle.ila_build.specs.Standing.{IsPut, seen_by, term_by}
 use Rattle.ila_build.specs.Knowing.{are_right}
 use Rattle.ila_build.specs.Building.{decode_in, update_in, own_terms}

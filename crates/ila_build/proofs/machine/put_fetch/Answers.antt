@@ -3,7 +3,7 @@ use Rattle.ila_file.specs.View.{term_view, fetch_view}
 use Rattle.ila_build.specs.Building.{IsFetched}
 use Rattle.ila_build.proofs.MachineLemmas.{no_fetch, fetch_put, fetch_in_store}
 use Rattle.std.proofs.lemmas.Result.{err_from_is_err_and}
-use Rattle.wb_meaning.specs.ModelFile.Scope.{of_fetch, placed, placed_fetch}
+use Rattle.model_files.specs.Scope.{of_fetch, placed, placed_fetch}
 use Rattle.ila_build.specs.Knowing.{are_right}
 use Rattle.ila_build.specs.Refusing.{IsNoRefusal, IsDue}
 use Rattle.ila_build.proofs.Definitions.{first_right}

@@ -1,8 +1,8 @@
 use Rattle.std.proofs.Common.{rules, ap, subst}
 use Rattle.std.specs.Prelude.{Ok}
 use Rattle.std.proofs.lemmas.Result.{err_from_is_err_and}
-use Rattle.wb_meaning.specs.Term as terms
-use Rattle.wb_meaning.specs.ModelFile.Scope.{binary_term}
+use Rattle.model_meaning.specs.Term as terms
+use Rattle.model_files.specs.Scope.{binary_term}
 use Rattle.ila_file.specs.View.{term_view, binary_view}
 use Rattle.ila_file.specs.declared.written.WrittenTerm.{the_lemmas}
 use Rattle.ila_build.specs.Standing.{IsPut, seen_by, term_by}

@@ -1,6 +1,6 @@
 use Rattle.std.proofs.Common.{◌≡◌, Some, cond, subst}
 use Rattle.std.proofs.lemmas.Map.Text.{btree_map_updates_str}
-use Rattle.wb_meaning.specs.Value.{same_name}
+use Rattle.wb_values.specs.Value.{same_name}
 use Rattle.ila_build.specs.Standing.{under_name}
 use Rattle.ila_build.proofs.table.remember.Goals as goal
 

@@ -4,8 +4,8 @@ use Rattle.ila_build.proofs.Definitions.{on_ok}
 use Rattle.ila_build.proofs.Declared.{in_table}
 use Rattle.ila_build.proofs.Chosen.{one_updated}
 use Rattle.std.proofs.lemmas.Result.{err_from_is_err_and}
-use Rattle.wb_meaning.specs.Model.{state_named}
-use Rattle.wb_meaning.specs.ModelFile.Scope.{of_update, placed}
+use Rattle.model_meaning.specs.Model.{state_named}
+use Rattle.model_files.specs.Scope.{of_update, placed}
 use Rattle.ila_build.specs.Knowing.{is_right}
 use Rattle.ila_build.proofs.Unrefused.{no_leaf, term_lost}
 use Rattle.ila_build.proofs.updating.put_update.Goals as goal

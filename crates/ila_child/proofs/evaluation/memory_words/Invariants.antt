@@ -1,6 +1,6 @@
 use Rattle.std.proofs.Common.{◌≡◌, ◌<◌, take}
-use Rattle.wb_meaning.specs.Value.{as_words}
-use Rattle.wb_meaning.specs.Term.{sort_of}
+use Rattle.wb_values.specs.Value.{as_words}
+use Rattle.model_meaning.specs.Term.{sort_of}
 use Rattle.wb_terms.specs.Graph.{tree}
 use Rattle.wb_terms.specs.Environment.{HasSortOf, value_of}
 use Rattle.ila_child.proofs.evaluation.memory_words.Given as goal

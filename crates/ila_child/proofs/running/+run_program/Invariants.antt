@@ -1,6 +1,6 @@
 use Rattle.std.proofs.Common.{◌≡◌, ◌-◌, length}
-use Rattle.wb_meaning.specs.Model.{entered}
-use Rattle.wb_meaning.specs.Instruction.{Reaches}
+use Rattle.model_meaning.specs.Model.{entered}
+use Rattle.model_meaning.specs.Instruction.{Reaches}
 use Rattle.wb_terms.specs.Environment.{Fits}
 use Rattle.ila_model.specs.Meaning.{privates_of}
 use Rattle.ila_child.specs.Running.{seen}

@@ -1,7 +1,7 @@
 use Rattle.std.proofs.Common.{◌≡◌, ◌<◌, [], ◌∷◌, ◌++◌, map, length, get_or, take, Some, option_map, ◌∙◌, sym, ap, subst, arith}
 use Rattle.std.proofs.lemmas.List.{take_more, take_all, map-append, length-map}
-use Rattle.wb_meaning.specs.Value.{number}
-use Rattle.wb_meaning.specs.Model.{states_of, value_or}
+use Rattle.wb_values.specs.Value.{number}
+use Rattle.model_meaning.specs.Model.{states_of, value_or}
 use Rattle.wb_terms.specs.Sort.{as_sort}
 use Rattle.wb_terms.specs.Environment.{as_value, AreOfSorts}
 use Rattle.ila_model.specs.Model.{model_of}

@@ -1,5 +1,5 @@
 use Rattle.std.proofs.Common.{◌≡◌, map, take}
-use Rattle.wb_meaning.specs.Model.{states_of}
+use Rattle.model_meaning.specs.Model.{states_of}
 use Rattle.wb_terms.specs.Environment.{as_value}
 use Rattle.ila_model.specs.Model.{model_of}
 use Rattle.ila_child.specs.State.{initial_values}

@@ -1,15 +1,15 @@
 use Rattle.std.proofs.Common.{◌≡◌, ◌∙◌, ◌-◌, ◌<◌, ◌≤◌, ℕ, zero, suc, List, [], ◌∷◌, map, length, get_or, slice_get, take, Some, None, true, refl, sym, ap, subst, arith}
 use Rattle.std.proofs.lemmas.Bool.{and_parts}
 use Rattle.std.proofs.lemmas.List.{take-map}
-use Rattle.wb_meaning.specs.Model.{updated}
-use Rattle.wb_meaning.specs.Instruction.{DoesChild, ChildTrouble}
+use Rattle.model_meaning.specs.Model.{updated}
+use Rattle.model_meaning.specs.Instruction.{DoesChild, ChildTrouble}
 use Rattle.wb_terms.specs.Environment.{as_value, values_of, valuation}
 use Rattle.ila_model.specs.declared.parts.Instruction.{Instruction}
 use Rattle.ila_model.specs.Scope.{nesting}
 use Rattle.ila_model.specs.Sorted.{is_condition}
 use Rattle.ila_model.specs.Meaning.{update_of, program_of}
 use Rattle.ila_model.proofs.Declarations.{sorted}
-use Rattle.wb_meaning.specs.Value.{Valuation}
+use Rattle.wb_values.specs.Value.{Valuation}
 use Rattle.ila_model.specs.declared.parts.Parts.{Parts}
 use Rattle.ila_child.specs.declared.running.Trouble.{Trouble}
 use Rattle.ila_child.specs.declared.running.Trouble.TheVariants.{Stuck, TooLong}

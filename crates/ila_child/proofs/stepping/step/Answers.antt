@@ -1,6 +1,6 @@
 use Rattle.std.proofs.Common.{◌≡◌, ◌∙◌, ◌≤◌, map, length, Some, None, true, false, sym, ap, subst, arith, string_bytes}
 use Rattle.std.proofs.lemmas.Bool.{and_parts, false≢true}
-use Rattle.wb_meaning.specs.Model.{holds, point_of}
+use Rattle.model_meaning.specs.Model.{holds, point_of}
 use Rattle.wb_terms.specs.Graph.{tree}
 use Rattle.wb_terms.specs.Environment.{as_value, values_of, valuation}
 use Rattle.ila_model.specs.Scope.{nesting}

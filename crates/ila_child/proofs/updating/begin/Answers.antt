@@ -1,7 +1,7 @@
 use Rattle.std.proofs.Common.{◌≡◌, ◌+◌, ◌<◌, ◌∙◌, map, set, length, drop, get_or, sym, ap, subst, arith, true}
 use Rattle.std.proofs.lemmas.List.{map-set, length-map}
 use Rattle.std.proofs.lemmas.Bool.{and_parts}
-use Rattle.wb_meaning.specs.Value.{is_of_sort, HasSort}
+use Rattle.wb_values.specs.Value.{is_of_sort, HasSort}
 use Rattle.wb_terms.specs.Sort.{as_sort}
 use Rattle.wb_terms.specs.Environment.{as_value, AreOfSorts}
 use Rattle.ila_model.specs.Sorted.{sort_at, is_private_initial}

@@ -2,7 +2,7 @@ use Rattle.std.proofs.Common.{◌∙◌, ◌+◌, ◌<◌, ◌^◌, ◌&&◌, ge
 use Rattle.std.proofs.lemmas.Bool.{lt-ltb}
 use Rattle.std.proofs.lemmas.List.{drop_more}
 use Rattle.std.proofs.lemmas.Nat.{pow_pos}
-use Rattle.wb_meaning.specs.Value.{all_below}
+use Rattle.wb_values.specs.Value.{all_below}
 use Rattle.ila_child.proofs.values.are_below.Goals as goal
 
 pub loop-word-preserved : goal.loop-word-preserved

@@ -1,5 +1,5 @@
 use Rattle.std.proofs.Common.{◌≡◌, drop}
-use Rattle.wb_meaning.specs.Value.{all_below}
+use Rattle.wb_values.specs.Value.{all_below}
 use Rattle.ila_child.proofs.values.are_below.Given as goal
 
 abbrev pub invariant-loop-word : goal.invariant-loop-word

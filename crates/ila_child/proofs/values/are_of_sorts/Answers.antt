@@ -1,7 +1,7 @@
 use Rattle.std.proofs.Common.{◌≡◌, ◌∙◌, ◌+◌, ◌-◌, ◌&&◌, map, length, get_or, take, drop, sym, ap, arith}
 use Rattle.std.proofs.lemmas.Bool.{and_left}
 use Rattle.std.proofs.lemmas.List.{length-take, length-drop, length-map}
-use Rattle.wb_meaning.specs.Value.{is_of_sort}
+use Rattle.wb_values.specs.Value.{is_of_sort}
 use Rattle.wb_terms.specs.Sort.{as_sort}
 use Rattle.wb_terms.specs.declared.values.Value.{Value}
 use Rattle.wb_terms.specs.Environment.{as_value}

@@ -1,7 +1,7 @@
 use Rattle.std.proofs.Common.{◌≡◌, ◌<◌, ◌+◌, List, ◌∷◌, length, drop, get_or, sym, ap, ◌∙◌, arith, map, add-one, drop-cons}
 use Rattle.serde_json.specs.View.{view, items_view}
 use Rattle.serde_json.specs.declared.value.Value.{Value}
-use Rattle.wb_meaning.specs.ModelFile.Shape.{all_in, definition_in}
+use Rattle.model_files.specs.Shape.{all_in, definition_in}
 use Rattle.ila_file.specs.View.{definition_view}
 use Rattle.ila_file.proofs.Lists.{onto, onto_pushed}
 use Rattle.ila_file.proofs.declarations.definitions_in.Goals as goal

@@ -1,6 +1,6 @@
 use Rattle.std.proofs.Common.{◌≡◌, map, drop}
 use Rattle.serde_json.specs.View.{items_view}
-use Rattle.wb_meaning.specs.ModelFile.Shape.{all_in, definition_in}
+use Rattle.model_files.specs.Shape.{all_in, definition_in}
 use Rattle.ila_file.specs.View.{definition_view}
 use Rattle.ila_file.proofs.Lists.{onto}
 use Rattle.ila_file.proofs.declarations.definitions_in.Given as goal

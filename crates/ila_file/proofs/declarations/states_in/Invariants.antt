@@ -1,6 +1,6 @@
 use Rattle.std.proofs.Common.{◌≡◌, map, drop}
 use Rattle.serde_json.specs.View.{items_view}
-use Rattle.wb_meaning.specs.ModelFile.Shape.{all_in}
+use Rattle.model_files.specs.Shape.{all_in}
 use Rattle.ila_file.specs.Parts.{state_of}
 use Rattle.ila_file.specs.View.{state_view}
 use Rattle.ila_file.proofs.Lists.{onto}

@@ -1,7 +1,7 @@
 use Rattle.std.proofs.Common.{List, sym, ap, ◌∙◌, map, String, Global}
 use Rattle.serde_json.specs.View.{view, members_view}
 use Rattle.serde_json.specs.declared.value.Value.{Value}
-use Rattle.wb_meaning.specs.ModelFile.Shape.{entries_in, term_in, named}
+use Rattle.model_files.specs.Shape.{entries_in, term_in, named}
 use Rattle.ila_file.specs.View.{update_view}
 use Rattle.ila_file.proofs.Lists.{onto, onto_pushed}
 use Rattle.ila_file.proofs.declarations.updates_in.Goals as goal

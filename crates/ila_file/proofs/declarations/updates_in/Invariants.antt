@@ -1,6 +1,6 @@
 use Rattle.std.proofs.Common.{◌≡◌, map}
 use Rattle.serde_json.specs.View.{members_view}
-use Rattle.wb_meaning.specs.ModelFile.Shape.{entries_in}
+use Rattle.model_files.specs.Shape.{entries_in}
 use Rattle.ila_file.specs.View.{update_view}
 use Rattle.ila_file.proofs.Lists.{onto}
 use Rattle.ila_file.proofs.declarations.updates_in.Given as goal

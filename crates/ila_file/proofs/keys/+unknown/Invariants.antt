@@ -1,7 +1,7 @@
 use Rattle.std.proofs.Common.{◌≡◌, ◌+◌, ◌*◌, drop}
 use Rattle.serde_json.specs.Data.{depth, items_depth}
 use Rattle.serde_json.specs.View.{view, items_view}
-use Rattle.wb_meaning.specs.ModelFile.Keys.{some_item, instruction_has_unknown_key}
+use Rattle.model_files.specs.Keys.{some_item, instruction_has_unknown_key}
 use Rattle.ila_file.proofs.keys.+unknown.Given as goal
 
 -- each goes down by the depth of the data

@@ -1,6 +1,6 @@
 use Rattle.std.proofs.Common.{◌≡◌, map}
 use Rattle.serde_json.specs.View.{members_view}
-use Rattle.wb_meaning.specs.ModelFile.Keys.{has_other_key}
+use Rattle.model_files.specs.Keys.{has_other_key}
 use Rattle.ila_file.proofs.keys.other_key.Given as goal
 
 abbrev pub invariant-loop-key : goal.invariant-loop-key

@@ -1,6 +1,6 @@
 use Rattle.std.proofs.Common.{◌≡◌, drop}
 use Rattle.serde_json.specs.View.{items_view}
-use Rattle.wb_meaning.specs.ModelFile.Keys.{some_item, state_has_other_key}
+use Rattle.model_files.specs.Keys.{some_item, state_has_other_key}
 use Rattle.ila_file.proofs.keys.some_state.Given as goal
 
 abbrev pub invariant-loop-item : goal.invariant-loop-item

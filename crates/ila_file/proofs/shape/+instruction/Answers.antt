@@ -5,7 +5,7 @@ use Rattle.ila_file.specs.Parts.{under}
 use Rattle.serde_json.specs.Data.{depth}
 use Rattle.serde_json.specs.View.{view, items_view}
 use Rattle.serde_json.specs.declared.value.Value.{Value}
-use Rattle.wb_meaning.specs.ModelFile.Shape.{all_instructions, instruction_in}
+use Rattle.model_files.specs.Shape.{all_instructions, instruction_in}
 use Rattle.std.proofs.lemmas.List.{drop_all}
 use Rattle.ila_file.specs.Reading.{IsReading}
 use Rattle.ila_file.specs.View.{instruction_view}

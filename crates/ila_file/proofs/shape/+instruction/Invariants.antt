@@ -1,7 +1,7 @@
 use Rattle.std.proofs.Common.{◌≡◌, ◌+◌, ◌*◌, map, drop}
 use Rattle.serde_json.specs.Data.{depth, items_depth}
 use Rattle.serde_json.specs.View.{view, items_view}
-use Rattle.wb_meaning.specs.ModelFile.Shape.{all_instructions}
+use Rattle.model_files.specs.Shape.{all_instructions}
 use Rattle.ila_file.specs.View.{instruction_view}
 use Rattle.ila_file.proofs.Instructions.{before}
 use Rattle.ila_file.proofs.shape.+instruction.Given as goal

@@ -2,7 +2,7 @@ use Rattle.std.proofs.Common.{List, ap, ◌∙◌, rules}
 use Rattle.serde_json.specs.Data.{array}
 use Rattle.serde_json.specs.View.{items_view}
 use Rattle.serde_json.specs.declared.value.Value.{Value}
-use Rattle.wb_meaning.specs.ModelFile.Shape.{term_in}
+use Rattle.model_files.specs.Shape.{term_in}
 use Rattle.ila_file.proofs.Operations.{few_items, many_items, made_of_two, made_of_three}
 use Rattle.ila_file.proofs.terms.+term.Goals.{operation_in-in_default-via-then-as_slice-lt2, operation_in-in_default-via-else-as_slice-lt2+else-this-lt3+else-this-lt4+else-this-lt5}
 use Rattle.ila_file.proofs.terms.+term.Goals as goal

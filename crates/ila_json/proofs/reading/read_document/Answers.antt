@@ -2,8 +2,8 @@ use Rattle.std.proofs.Common.{◌≡◌, List, ℕ, Bool, true, false, cond, Som
 use Rattle.std.specs.Str.{is_utf8}
 use Rattle.std.proofs.lemmas.Str.{is_utf8-from_IsUtf8, IsUtf8-from_is_utf8}
 use Rattle.serde_json.specs.Read.{read}
-use Rattle.wb_meaning.specs.ModelFile.Shape.{document}
-use Rattle.wb_meaning.specs.ModelFile.Meaning.{of_document}
+use Rattle.model_files.specs.Shape.{document}
+use Rattle.model_files.specs.Meaning.{of_document}
 use Rattle.ila_json.specs.Reading.{IsStoppedBy}
 use Rattle.ila_json.proofs.reading.read_document.Goals as goal
 

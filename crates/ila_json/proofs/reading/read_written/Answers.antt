@@ -1,6 +1,6 @@
 use Rattle.std.proofs.Common.{ap, ◌∙◌, subst}
 use Rattle.serde_json.specs.View.{view}
-use Rattle.wb_meaning.specs.ModelFile.Meaning.{of_shape, with_known_keys}
+use Rattle.model_files.specs.Meaning.{of_shape, with_known_keys}
 use Rattle.ila_file.specs.View.{model_view}
 use Rattle.ila_rules.specs.Rule.{rule_view}
 use Rattle.ila_whole.proofs.ShapeOf.{shaped_in}

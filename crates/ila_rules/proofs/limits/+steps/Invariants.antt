@@ -1,5 +1,5 @@
 use Rattle.std.proofs.Common.{◌≡◌, drop}
-use Rattle.wb_meaning.specs.ModelFile.Rules.{have_step_limits}
+use Rattle.model_files.specs.Rules.{have_step_limits}
 use Rattle.ila_file.specs.View.{instructions_view}
 use Rattle.ila_rules.proofs.limits.+steps.Given as goal
 

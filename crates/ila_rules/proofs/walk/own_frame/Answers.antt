@@ -1,5 +1,5 @@
 use Rattle.std.proofs.Common.{ap, ◌∙◌, map}
-use Rattle.wb_meaning.specs.Verilog.Hierarchy.{first_of}
+use Rattle.wb_values.specs.Choice.{first_of}
 use Rattle.ila_file.specs.View.{state_view, definition_view}
 use Rattle.ila_rules.specs.Seen.{LookUp}
 use Rattle.ila_rules.specs.Flaws.{Flaws, look_states, look_definitions, definition_flaws}

@@ -1,6 +1,6 @@
 use Rattle.std.proofs.Common.{◌++◌, [], ◌∷◌, map, take, sym, ap, ◌∙◌}
 use Rattle.std.proofs.lemmas.List.{map-append}
-use Rattle.wb_meaning.specs.Script.{zero_value}
+use Rattle.scripts.specs.Script.{zero_value}
 use Rattle.wb_terms.specs.Environment.{as_value}
 use Rattle.wb_terms.specs.Sort.{as_sort}
 use Rattle.ila_model.specs.Model.{model_of}

@@ -1,5 +1,5 @@
 use Rattle.std.proofs.Common.{◌≡◌, ◌-◌, sym, arith, None, drop, suc, subst}
-use Rattle.wb_meaning.specs.Script.{at_last}
+use Rattle.scripts.specs.Script.{at_last}
 use Rattle.ila_sim.proofs.Last.{is_last, same_byte}
 use Rattle.ila_sim.proofs.cuts.last_place.Goals as goal
 

@@ -1,5 +1,5 @@
 use Rattle.std.proofs.Common.{◌≡◌, ◌≤◌, length, drop, None}
-use Rattle.wb_meaning.specs.Script.{at_last}
+use Rattle.scripts.specs.Script.{at_last}
 use Rattle.ila_sim.proofs.cuts.last_place.Given as goal
 
 abbrev pub invariant-loop-place : goal.invariant-loop-place

@@ -1,5 +1,5 @@
 use Rattle.std.proofs.Common.{◌≡◌, ◌+◌, drop}
-use Rattle.wb_meaning.specs.Script.{is_line_feed}
+use Rattle.scripts.specs.Script.{is_line_feed}
 use Rattle.ila_sim.specs.Cuts.{length_before}
 use Rattle.ila_sim.proofs.cuts.line_length.Given as goal
 

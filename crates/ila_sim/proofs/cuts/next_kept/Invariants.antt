@@ -1,5 +1,5 @@
 use Rattle.std.proofs.Common.{◌≡◌, ◌≤◌}
-use Rattle.wb_meaning.specs.Script.{without_skipped}
+use Rattle.scripts.specs.Script.{without_skipped}
 use Rattle.ila_sim.specs.Cuts.{lines_left, room_left}
 use Rattle.ila_sim.proofs.cuts.next_kept.Given as goal
 

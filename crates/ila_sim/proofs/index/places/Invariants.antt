@@ -1,5 +1,5 @@
 use Rattle.std.proofs.Common.{◌≡◌, ℕ, List, map, drop}
-use Rattle.wb_meaning.specs.Verilog.Hierarchy.{first_of}
+use Rattle.wb_values.specs.Choice.{first_of}
 use Rattle.ila_sim.specs.Names.{settable_of}
 use Rattle.ila_sim.specs.Places.{under_name, place_from}
 use Rattle.ila_sim.proofs.index.places.Given as goal

@@ -1,6 +1,6 @@
 use Rattle.std.proofs.Common.{◌≡◌, IsTrue, length, drop, map}
 use Rattle.std.specs.List.{list_all}
-use Rattle.wb_meaning.specs.Script.{sets_name}
+use Rattle.scripts.specs.Script.{sets_name}
 use Rattle.ila_sim.specs.Lines.{sets_view}
 use Rattle.ila_sim.specs.Names.{settable_of}
 use Rattle.ila_sim.specs.Sets.{are_within}

@@ -1,6 +1,6 @@
 use Rattle.std.proofs.Common.{◌++◌, [], ◌∷◌, map, sym, ap, ◌∙◌}
 use Rattle.std.proofs.lemmas.List.{map-append}
-use Rattle.wb_meaning.specs.Script.{settables_of}
+use Rattle.scripts.specs.Script.{settables_of}
 use Rattle.ila_model.specs.Model.{model_of}
 use Rattle.ila_sim.specs.Names.{settable_of}
 use Rattle.ila_sim.proofs.Declared.{taken_more}

@@ -1,5 +1,5 @@
 use Rattle.std.proofs.Common.{◌≡◌, map, take}
-use Rattle.wb_meaning.specs.Script.{settables_of}
+use Rattle.scripts.specs.Script.{settables_of}
 use Rattle.ila_model.specs.Model.{model_of}
 use Rattle.ila_sim.specs.Names.{settable_of}
 use Rattle.ila_sim.proofs.naming.states.Given as goal

@@ -1,5 +1,5 @@
 use Rattle.std.proofs.Common.{◌≡◌, drop, ◌<◌, ◌^◌}
-use Rattle.wb_meaning.specs.Script.{with_decimal_digits}
+use Rattle.scripts.specs.Script.{with_decimal_digits}
 use Rattle.ila_sim.proofs.numbers.decimal_value.Given as goal
 
 abbrev pub invariant-loop-digit : goal.invariant-loop-digit

@@ -1,5 +1,5 @@
 use Rattle.std.proofs.Common.{subst}
-use Rattle.wb_meaning.specs.Simulation.{IsOutcome}
+use Rattle.scripts.specs.Simulation.{IsOutcome}
 use Rattle.ila_child.specs.State.{state_valuation, input_valuation}
 use Rattle.ila_model.specs.Model.{model_of}
 use Rattle.ila_sim.specs.Outcomes.{outcome_view}

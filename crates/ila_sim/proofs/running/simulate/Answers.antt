@@ -1,7 +1,7 @@
 use Rattle.std.proofs.Common.{◌++◌, ◌+◌, [], ◌∷◌, List, map, drop, ap, ◌∙◌, subst, arith, append-nil, Vec, Global}
 use Rattle.std.proofs.lemmas.List.{map-append, drop_all}
-use Rattle.wb_meaning.specs.Script.{settables_of, inputs_of, first_state}
-use Rattle.wb_meaning.specs.Simulation.{IsOutcome, AreOutcomes}
+use Rattle.scripts.specs.Script.{settables_of, inputs_of, first_state}
+use Rattle.scripts.specs.Simulation.{IsOutcome, AreOutcomes}
 use Rattle.ila_child.specs.State.{state_valuation}
 use Rattle.ila_model.specs.Model.{model_of}
 use Rattle.ila_sim.specs.declared.set.Set.{Set}

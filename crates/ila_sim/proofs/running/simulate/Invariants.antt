@@ -1,7 +1,7 @@
 use Rattle.std.proofs.Common.{IsTrue, List, ◌++◌, map, drop}
 use Rattle.std.specs.List.{list_all}
-use Rattle.wb_meaning.specs.Script.{settables_of, first_state}
-use Rattle.wb_meaning.specs.Simulation.{Outcome, AreOutcomes}
+use Rattle.scripts.specs.Script.{settables_of, first_state}
+use Rattle.scripts.specs.Simulation.{Outcome, AreOutcomes}
 use Rattle.ila_child.specs.State.{IsStateOf, state_valuation}
 use Rattle.ila_model.specs.Model.{model_of}
 use Rattle.ila_sim.specs.Outcomes.{outcome_view, inputs_from}

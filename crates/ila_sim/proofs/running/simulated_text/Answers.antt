@@ -1,8 +1,8 @@
 use Rattle.std.proofs.Common.{◌≡◌, ◌++◌, ◌+◌, suc, List, drop, true, sym, ap, ◌∙◌, subst, arith, add-one, append-nil, Vec, Global}
 use Rattle.std.specs.List.{list_all}
 use Rattle.std.proofs.lemmas.List.{drop_all}
-use Rattle.wb_meaning.specs.Script.{settables_of, inputs_of, initial_state, first_state, with_sets}
-use Rattle.wb_meaning.specs.Simulation.{IsOutcome, outcome_lines}
+use Rattle.scripts.specs.Script.{settables_of, inputs_of, initial_state, first_state, with_sets}
+use Rattle.scripts.specs.Simulation.{IsOutcome, outcome_lines}
 use Rattle.ila_child.specs.State.{state_valuation}
 use Rattle.ila_model.specs.Model.{model_of}
 use Rattle.ila_sim.specs.declared.set.Set.{Set}

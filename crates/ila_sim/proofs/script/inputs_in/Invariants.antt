@@ -1,6 +1,6 @@
 use Rattle.std.proofs.Common.{◌≡◌, IsTrue, map}
 use Rattle.std.specs.List.{list_all}
-use Rattle.wb_meaning.specs.Script.{inputs_in, without_skipped}
+use Rattle.scripts.specs.Script.{inputs_in, without_skipped}
 use Rattle.ila_sim.specs.Cuts.{lines_left, room_left}
 use Rattle.ila_sim.specs.Reading.{onto}
 use Rattle.ila_sim.specs.Lines.{found_view, sets_view}

@@ -1,5 +1,5 @@
 use Rattle.std.proofs.Common.{◌≡◌, IsTrue, length, map}
-use Rattle.wb_meaning.specs.Script.{all_sets, words_of}
+use Rattle.scripts.specs.Script.{all_sets, words_of}
 use Rattle.ila_sim.specs.Names.{settable_of}
 use Rattle.ila_sim.specs.Reading.{onto}
 use Rattle.ila_sim.specs.Sets.{set_at, are_right}

@@ -1,5 +1,5 @@
 use Rattle.std.proofs.Common.{◌∙◌, ap, map}
-use Rattle.wb_meaning.specs.Term.{some_if}
+use Rattle.wb_values.specs.Choice.{some_if}
 use Rattle.ila_sim.specs.Names.{settable_of}
 use Rattle.ila_sim.specs.Sets.{set_at, key_of, are_distinct_numbers}
 use Rattle.ila_sim.proofs.Apart.{distinct_found}

@@ -1,7 +1,7 @@
 use Rattle.std.proofs.Common.{◌≡◌, ◌++◌, sym, ap, ◌∙◌, subst}
 use Rattle.std.specs.Prelude.{OnOk}
 use Rattle.std.specs.String.{string_bytes}
-use Rattle.wb_meaning.specs.Simulation.{name_of_instruction, outcome_text}
+use Rattle.scripts.specs.Simulation.{name_of_instruction, outcome_text}
 use Rattle.ila_child.specs.declared.stepping.Stepped.{Stepped}
 use Rattle.ila_model.specs.Model.{model_of}
 use Rattle.ila_sim.specs.Outcomes.{outcome_view}

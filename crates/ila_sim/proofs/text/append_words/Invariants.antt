@@ -1,5 +1,5 @@
 use Rattle.std.proofs.Common.{◌≡◌, ◌++◌, drop}
-use Rattle.wb_meaning.specs.Simulation.{words_text}
+use Rattle.scripts.specs.Simulation.{words_text}
 use Rattle.ila_sim.proofs.text.append_words.Given as goal
 
 abbrev pub invariant-loop-address : goal.invariant-loop-address

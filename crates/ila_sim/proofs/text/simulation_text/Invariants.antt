@@ -1,5 +1,5 @@
 use Rattle.std.proofs.Common.{◌≡◌, suc, ◌++◌, drop, map}
-use Rattle.wb_meaning.specs.Simulation.{simulation_text, outcome_lines}
+use Rattle.scripts.specs.Simulation.{simulation_text, outcome_lines}
 use Rattle.ila_model.specs.Model.{model_of}
 use Rattle.ila_sim.specs.Outcomes.{outcome_view}
 use Rattle.ila_sim.proofs.text.simulation_text.Given as goal

@@ -1,5 +1,5 @@
 use Rattle.std.proofs.Common.{◌∙◌, ap, arith}
-use Rattle.wb_meaning.specs.Script.{with_word}
+use Rattle.scripts.specs.Script.{with_word}
 use Rattle.wb_terms.specs.Environment.{as_value}
 use Rattle.ila_sim.proofs.Made.{set_made}
 use Rattle.ila_sim.proofs.values.set.Goals as goal

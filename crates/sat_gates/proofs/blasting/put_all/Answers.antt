@@ -1,7 +1,7 @@
 use Rattle.std.proofs.Common.{◌≡◌, ◌∙◌, ◌+◌, length, ap, arith, sym, subst, List}
 use Rattle.std.proofs.lemmas.List.{length_push}
 use Rattle.std.proofs.lemmas.Bool.{false≢true}
-use Rattle.wb_meaning.specs.Term.{Term}
+use Rattle.model_meaning.specs.Term.{Term}
 use Rattle.gate_base.specs.Circuit.{Circuit, Grows}
 use Rattle.gate_words.proofs.Growing.{same, onward}
 use Rattle.std.specs.Prelude.{Vec}

@@ -1,6 +1,6 @@
 use Rattle.std.proofs.Common.{sym, subst}
 use Rattle.std.specs.Prelude.{IsSome}
-use Rattle.wb_meaning.specs.Term.{sort_of}
+use Rattle.model_meaning.specs.Term.{sort_of}
 use Rattle.wb_terms.specs.declared.nodes.Node.{Node}
 use Rattle.wb_terms.specs.Graph.{tree, tree_of_node, operands_of, names_of}
 use Rattle.sat_gates.specs.Layout.{variables_of}

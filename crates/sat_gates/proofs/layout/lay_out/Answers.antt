@@ -1,6 +1,6 @@
 use Rattle.std.proofs.Common.{◌≡◌, ◌∙◌, ◌++◌, ◌∷◌, ◌+◌, ◌<◌, ℕ, [], List, Bool, Option, Some, None, cond, length, drop, get_or, false, arith, sym, ap, append_assoc}
 use Rattle.std.proofs.lemmas.List.{drop_more, get_or_default}
-use Rattle.wb_meaning.specs.Value.{Sort, truth, Entries}
+use Rattle.wb_values.specs.Value.{Sort, truth, Entries}
 use Rattle.sat_gates.specs.Layout.{firsts_of, end_of, next_after}
 use Rattle.sat_gates.proofs.layout.lay_out.Goals as goal
 

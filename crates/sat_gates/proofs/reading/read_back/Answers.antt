@@ -3,7 +3,7 @@ use Rattle.wb_terms.specs.declared.values.Value.TheVariants.{Truth}
 use Rattle.sat_gates.specs.Used.{entry_at}
 use Rattle.sat_gates.specs.Reading.{FitsBelow}
 use Rattle.sat_gates.proofs.Layouts.{laid_fits, laid_count}
-use Rattle.sat_gates.proofs.ReadingLemmas.{AreRead, read_one, are_of_sorts, falsified}
+use Rattle.sat_gates.proofs.ReadingLemmas.{AreRead, read_one, are_of_sorts, falsified, restricted, zero_elsewhere}
 use Rattle.sat_gates.proofs.reading.read_back.Goals as goal
 
 pub first-first-requires : goal.first-first-requires
@@ -37,4 +37,18 @@ returns-clause-falsifies c =
     let all : c.loop-place.place ≡ length g.names = omega (arith, c.name_count-count.ensures.names, c.loop-place-test.false, c.loop-place.auto.place-end) in
     falsified g c.args.id.0 c.args.blasted.now.map c.args.blasted.now.cnf c.args.assignment.now c.loop-place.values.items (Truth false) c.name_count-count.ensures.distinct c.requires.blastable
     c.requires.encodes c.requires.numbered c.requires.whole c.requires.satisfies
+    (subst (λ k. AreRead g.names c.args.blasted.now.map c.args.assignment.now k c.loop-place.values.items) all c.loop-place.invariant)
+
+pub returns-clause-read : goal.returns-clause-read
+returns-clause-read c =
+    let g = c.args.terms.now in
+    let all : c.loop-place.place ≡ length g.names = omega (arith, c.name_count-count.ensures.names, c.loop-place-test.false, c.loop-place.auto.place-end) in
+    restricted g c.args.id.0 c.args.blasted.now.map _ c.args.assignment.now c.loop-place.values.items (Truth false) c.name_count-count.ensures.distinct c.requires.blastable c.requires.numbered
+    (subst (λ k. AreRead g.names c.args.blasted.now.map c.args.assignment.now k c.loop-place.values.items) all c.loop-place.invariant)
+
+pub returns-clause-absent : goal.returns-clause-absent
+returns-clause-absent c =
+    let g = c.args.terms.now in
+    let all : c.loop-place.place ≡ length g.names = omega (arith, c.name_count-count.ensures.names, c.loop-place-test.false, c.loop-place.auto.place-end) in
+    zero_elsewhere g c.args.id.0 c.args.blasted.now.map _ c.args.assignment.now c.loop-place.values.items (Truth false) c.name_count-count.ensures.distinct c.requires.numbered
     (subst (λ k. AreRead g.names c.args.blasted.now.map c.args.assignment.now k c.loop-place.values.items) all c.loop-place.invariant)

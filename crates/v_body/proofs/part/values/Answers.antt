@@ -1,7 +1,7 @@
 use Rattle.std.proofs.Common.{◌≡◌, ◌++◌, ◌∷◌, [], map, sym}
 use Rattle.std.proofs.lemmas.Result.{err_from_is_err_and}
 use Rattle.std.proofs.lemmas.List.{map_push}
-use Rattle.wb_meaning.specs.Verilog.Token.{colon}
+use Rattle.verilog_text.specs.Token.{colon}
 use Rattle.v_token.specs.View.{tokens_of}
 use Rattle.v_syntax.specs.Tree.{tree_of}
 use Rattle.v_expr.specs.Reading.{after_mark}

@@ -1,5 +1,5 @@
 use Rattle.std.proofs.Common.{◌≡◌, map, length}
-use Rattle.wb_meaning.specs.Verilog.Token.{colon}
+use Rattle.verilog_text.specs.Token.{colon}
 use Rattle.v_token.specs.View.{tokens_of}
 use Rattle.v_syntax.specs.Tree.{tree_of}
 use Rattle.v_expr.specs.Repeat.{repeated}

@@ -1,7 +1,7 @@
 use Rattle.std.proofs.Common.{◌≡◌, ◌∙◌, ◌<◌, ◌++◌, ◌∷◌, [], map, sym, arith}
 use Rattle.std.proofs.lemmas.Result.{err_from_is_err_and}
 use Rattle.std.proofs.lemmas.List.{map_push}
-use Rattle.wb_meaning.specs.Verilog.Token.{right_brace}
+use Rattle.verilog_text.specs.Token.{right_brace}
 use Rattle.v_token.specs.View.{tokens_of}
 use Rattle.v_syntax.specs.Tree.{target_of}
 use Rattle.v_expr.specs.Reading.{after_mark}

@@ -1,5 +1,5 @@
 use Rattle.std.proofs.Common.{◌≡◌, ◌+◌, ◌*◌, map, length}
-use Rattle.wb_meaning.specs.Verilog.Token.{right_brace}
+use Rattle.verilog_text.specs.Token.{right_brace}
 use Rattle.v_token.specs.View.{tokens_of}
 use Rattle.v_syntax.specs.Tree.{target_of}
 use Rattle.v_expr.specs.Repeat.{repeated}

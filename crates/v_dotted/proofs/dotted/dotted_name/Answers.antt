@@ -1,6 +1,6 @@
 use Rattle.std.proofs.Common.{◌≡◌, ◌<◌, ◌∙◌, ◌∷◌, [], ◌++◌, Some, None, sym, ap, length, append_assoc, arith}
 use Rattle.std.specs.String.{string_bytes}
-use Rattle.wb_meaning.specs.Verilog.Grammar.{dotted_from}
+use Rattle.verilog_text.specs.Grammar.{dotted_from}
 use Rattle.v_token.specs.View.{tokens_of}
 use Rattle.v_dotted.proofs.Joined.{goes_on, ends, further_smaller}
 use Rattle.v_dotted.proofs.dotted.dotted_name.Goals as goal

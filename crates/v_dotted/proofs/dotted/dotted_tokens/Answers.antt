@@ -1,6 +1,6 @@
 use Rattle.std.proofs.Common.{◌≡◌, ◌∙◌, ◌∷◌, [], ◌++◌, None, sym, ap}
 use Rattle.std.proofs.lemmas.List.{map_push}
-use Rattle.wb_meaning.specs.Verilog.Grammar.{dotted_from}
+use Rattle.verilog_text.specs.Grammar.{dotted_from}
 use Rattle.v_token.specs.View.{tokens_of}
 use Rattle.v_dotted.specs.Dotted.{owned_of, owned_tokens_of}
 use Rattle.v_dotted.proofs.Joined.{joined_over, joined_on}

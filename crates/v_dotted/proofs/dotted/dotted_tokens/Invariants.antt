@@ -1,5 +1,5 @@
 use Rattle.std.proofs.Common.{◌≡◌, ◌++◌, None, length}
-use Rattle.wb_meaning.specs.Verilog.Grammar.{dotted_from}
+use Rattle.verilog_text.specs.Grammar.{dotted_from}
 use Rattle.v_token.specs.View.{tokens_of}
 use Rattle.v_dotted.specs.Dotted.{owned_tokens_of}
 use Rattle.v_dotted.proofs.dotted.dotted_tokens.Given as goal

@@ -1,6 +1,6 @@
 use Rattle.std.proofs.Common.{◌∙◌, ◌∷◌, None, sym, ap, length, arith}
-use Rattle.wb_meaning.specs.Verilog.Token.{Token}
-use Rattle.wb_meaning.specs.Verilog.Grammar.{dotted_from}
+use Rattle.verilog_text.specs.Token.{Token}
+use Rattle.verilog_text.specs.Grammar.{dotted_from}
 use Rattle.v_token.specs.View.{token_of, tokens_of}
 use Rattle.v_dotted.proofs.Joined.{begins, first_length, stands_by}
 use Rattle.v_dotted.proofs.dotted.next_token.Goals as goal

@@ -1,8 +1,8 @@
 use Rattle.std.proofs.Common.{◌≡◌, ◌∙◌, ◌++◌, ◌∷◌, [], ◌<◌, ◌-◌, sym, ap, subst, map, arith}
 use Rattle.std.proofs.lemmas.Result.{err_from_is_err_and}
 use Rattle.std.proofs.lemmas.List.{map_push}
-use Rattle.wb_meaning.specs.Verilog.Syntax as tree
-use Rattle.wb_meaning.specs.Verilog.Token.{colon}
+use Rattle.verilog_trees.specs.Syntax as tree
+use Rattle.verilog_text.specs.Token.{colon}
 use Rattle.v_token.specs.View.{tokens_of}
 use Rattle.v_syntax.specs.Tree.{tree_of, select_of, selects_of}
 use Rattle.v_expr.specs.Reading.{parts_at, select_at, tier_at, conditional_at, expression_at}

@@ -1,5 +1,5 @@
 use Rattle.std.proofs.Common.{◌∙◌, ap, arith, get_or}
-use Rattle.wb_meaning.specs.Verilog.Spelling.{based_number}
+use Rattle.verilog_text.specs.Spelling.{based_number}
 use Rattle.v_expr.proofs.Digits.{behind_first}
 use Rattle.v_expr.proofs.number.based_number.Goals as goal
 

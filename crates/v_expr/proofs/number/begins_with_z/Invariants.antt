@@ -1,5 +1,5 @@
 use Rattle.std.proofs.Common.{◌≡◌, drop}
-use Rattle.wb_meaning.specs.Verilog.Spelling.{begins_with_z}
+use Rattle.verilog_text.specs.Spelling.{begins_with_z}
 use Rattle.v_expr.proofs.number.begins_with_z.Given as goal
 
 abbrev pub invariant-loop-byte : goal.invariant-loop-byte

@@ -1,5 +1,5 @@
 use Rattle.std.proofs.Common.{◌≡◌, ◌+◌, ◌≤◌, min, drop}
-use Rattle.wb_meaning.specs.Verilog.Spelling.{bits_of_digits}
+use Rattle.verilog_text.specs.Spelling.{bits_of_digits}
 use Rattle.v_expr.proofs.number.bits_of.Given as goal
 
 abbrev pub invariant-loop-byte : goal.invariant-loop-byte

@@ -1,5 +1,5 @@
 use Rattle.std.proofs.Common.{◌≡◌, ◌%◌, ◌^◌, drop}
-use Rattle.wb_meaning.specs.Verilog.Spelling.{digits_from}
+use Rattle.verilog_text.specs.Spelling.{digits_from}
 use Rattle.v_expr.specs.Digits.{standing}
 use Rattle.v_expr.proofs.number.digits.Given as goal
 

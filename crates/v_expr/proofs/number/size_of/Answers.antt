@@ -1,5 +1,5 @@
 use Rattle.std.proofs.Common.{min, arith, ◌∙◌}
-use Rattle.wb_meaning.specs.Verilog.Spelling.{digit_value, greatest_size}
+use Rattle.verilog_text.specs.Spelling.{digit_value, greatest_size}
 use Rattle.v_expr.proofs.Digits.{min_cuts, min-min, digit_turn}
 use Rattle.v_expr.proofs.number.size_of.Goals as goal
 

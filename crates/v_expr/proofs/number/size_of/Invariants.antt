@@ -1,5 +1,5 @@
 use Rattle.std.proofs.Common.{◌≡◌, min, drop}
-use Rattle.wb_meaning.specs.Verilog.Spelling.{digits_from, digit_value, greatest_size}
+use Rattle.verilog_text.specs.Spelling.{digits_from, digit_value, greatest_size}
 use Rattle.v_expr.proofs.number.size_of.Given as goal
 
 abbrev pub invariant-loop-byte : goal.invariant-loop-byte

@@ -1,5 +1,5 @@
 use Rattle.std.proofs.Common.{◌≡◌, arith, ap, ◌∙◌}
-use Rattle.wb_meaning.specs.Verilog.Spelling.{bits_of_base, filled_above}
+use Rattle.verilog_text.specs.Spelling.{bits_of_base, filled_above}
 use Rattle.v_expr.proofs.Digits.{wild_fits}
 use Rattle.v_expr.proofs.number.wild.Goals as goal
 

@@ -1,5 +1,5 @@
 use Rattle.std.proofs.Common.{◌∙◌, ◌∷◌, ap}
-use Rattle.wb_meaning.specs.Verilog.Token.{mark as a_mark}
+use Rattle.verilog_text.specs.Token.{mark as a_mark}
 use Rattle.v_token.specs.View.{mark_of, tokens_of}
 use Rattle.v_expr.specs.Reading.{alone_at}
 use Rattle.v_expr.proofs.Starts.{alone-parenthesis}

@@ -1,5 +1,5 @@
 use Rattle.std.proofs.Common.{◌≡◌, [], length}
-use Rattle.wb_meaning.specs.Verilog.Text.{or_all, behind_nearest}
+use Rattle.verilog_text.specs.Text.{or_all, behind_nearest}
 use Rattle.v_lex.specs.Nesting.{opening_of, openings_of}
 use Rattle.v_lex.proofs.nesting.close_open.Given as goal
 

@@ -1,5 +1,5 @@
 use Rattle.std.proofs.Common.{◌≡◌, length}
-use Rattle.wb_meaning.specs.Verilog.Text.{without_statements}
+use Rattle.verilog_text.specs.Text.{without_statements}
 use Rattle.v_lex.specs.Nesting.{openings_of}
 use Rattle.v_lex.proofs.nesting.end_statement.Given as goal
 

@@ -1,5 +1,5 @@
 use Rattle.std.proofs.Common.{◌≡◌, [], drop}
-use Rattle.wb_meaning.specs.Verilog.Text.{is_too_deep}
+use Rattle.verilog_text.specs.Text.{is_too_deep}
 use Rattle.v_token.specs.View.{tokens_of}
 use Rattle.v_lex.specs.Nesting.{openings_of}
 use Rattle.v_lex.proofs.nesting.too_deep.Given as goal

@@ -1,6 +1,6 @@
-use Rattle.std.proofs.Common.{ℕ, List, Some, ap, ◌∙◌}
-use Rattle.wb_meaning.specs.Verilog.Token.{decimal}
-use Rattle.wb_meaning.specs.Verilog.Lexical.{token, real_length}
+use Rattle.std.proofs.Common.{ℕ, List, Some, refl, ap, ◌∙◌}
+use Rattle.verilog_text.specs.Token.{decimal}
+use Rattle.verilog_text.specs.Lexical.{token, real_length}
 use Rattle.v_lex.proofs.Texts.{no_rest, plain_number}
 use Rattle.v_lex.proofs.Bytes.{decimal_there}
 use Rattle.v_lex.proofs.number.number.Goals as goal
@@ -12,7 +12,7 @@ returns-in-None c =
       front =
           ap (λ (w : List ℕ). Some (token (decimal w), rest)) (c.ascii_text.ensures ∙ c.taken_before.ensures)
           ∙ plain_number c.args.text.now c.in-Some.more.now rest _ c.in-Some.ensures.cases.0 c.split_run.ensures.rest (no_rest rest (real_length rest) c.in-None.ensures);
-      part = c.ascii_text.ensures ∙ c.taken_before.ensures;
+      part = (c.ascii_text.ensures ∙ c.taken_before.ensures, refl);
     }
 
 pub ascii_text-requires : goal.ascii_text-requires

@@ -1,5 +1,5 @@
 use Rattle.std.proofs.Common.{◌≡◌, drop}
-use Rattle.wb_meaning.specs.Verilog.Lexical.{blank_length}
+use Rattle.verilog_text.specs.Lexical.{blank_length}
 use Rattle.v_lex.proofs.run.behind_blanks.Given as goal
 
 abbrev pub invariant-loop-i : goal.invariant-loop-i

@@ -1,5 +1,5 @@
 use Rattle.std.proofs.Common.{◌≡◌, ◌+◌, drop}
-use Rattle.wb_meaning.specs.Verilog.Lexical.{run_length}
+use Rattle.verilog_text.specs.Lexical.{run_length}
 use Rattle.v_lex.specs.View.{passes}
 use Rattle.v_lex.proofs.run.run_length.Given as goal
 

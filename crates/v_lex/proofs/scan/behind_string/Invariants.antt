@@ -1,5 +1,5 @@
 use Rattle.std.proofs.Common.{◌≡◌, false, drop}
-use Rattle.wb_meaning.specs.Verilog.Lexical.{string_length}
+use Rattle.verilog_text.specs.Lexical.{string_length}
 use Rattle.v_lex.specs.View.{rest_after}
 use Rattle.v_lex.proofs.scan.behind_string.Given as goal
 

@@ -1,5 +1,5 @@
 use Rattle.std.proofs.Common.{refl, ◌∙◌, ap}
-use Rattle.v_syntax.specs.Scope.{object_of, scope_at}
+use Rattle.v_value.specs.Scope.{object_of, scope_at}
 use Rattle.v_syntax.specs.Tree.{selects_of}
 use Rattle.v_narrow.specs.Test.{selects_at}
 use Rattle.v_narrow.proofs.Arms as arms

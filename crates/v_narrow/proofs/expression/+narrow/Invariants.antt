@@ -1,5 +1,5 @@
 use Rattle.std.proofs.Common.{◌≡◌, drop}
-use Rattle.v_syntax.specs.Scope.{scope_at}
+use Rattle.v_value.specs.Scope.{scope_at}
 use Rattle.v_narrow.specs.Test.{parts_test, links_test, tests_test, choices_test}
 use Rattle.v_narrow.proofs.expression.+narrow.Given as goal
 

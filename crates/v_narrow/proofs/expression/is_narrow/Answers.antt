@@ -1,5 +1,5 @@
 use Rattle.std.proofs.Common.{◌∙◌, ap}
-use Rattle.v_syntax.specs.Scope.{scope_at}
+use Rattle.v_value.specs.Scope.{scope_at}
 use Rattle.v_syntax.specs.Tree.{tree_of}
 use Rattle.v_narrow.specs.Test.{narrow_at}
 use Rattle.v_narrow.specs.Fitting.{declared_test}

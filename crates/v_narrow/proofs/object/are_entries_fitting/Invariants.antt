@@ -1,5 +1,5 @@
 use Rattle.std.proofs.Common.{◌≡◌, drop}
-use Rattle.v_syntax.specs.Scope.{scope_at}
+use Rattle.v_value.specs.Scope.{scope_at}
 use Rattle.v_narrow.specs.Fitting.{entries_test}
 use Rattle.v_narrow.proofs.object.are_entries_fitting.Given as goal
 

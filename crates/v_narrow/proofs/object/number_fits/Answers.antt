@@ -1,5 +1,5 @@
 use Rattle.std.proofs.Common.{arith}
-use Rattle.v_syntax.specs.Scope.{object_of}
+use Rattle.v_value.specs.Scope.{object_of}
 use Rattle.v_narrow.proofs.Fitted.{wide_tells}
 use Rattle.v_narrow.proofs.object.number_fits.Goals as goal
 

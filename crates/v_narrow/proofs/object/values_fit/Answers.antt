@@ -1,4 +1,4 @@
-use Rattle.v_syntax.specs.Scope.{scope_at}
+use Rattle.v_value.specs.Scope.{scope_at}
 use Rattle.v_narrow.proofs.Fitted.{entries_if, found_fits}
 use Rattle.v_narrow.proofs.object.values_fit.Goals as goal
 

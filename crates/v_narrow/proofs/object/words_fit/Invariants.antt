@@ -1,5 +1,5 @@
 use Rattle.std.proofs.Common.{◌≡◌, drop}
-use Rattle.v_syntax.specs.Scope.{object_of}
+use Rattle.v_value.specs.Scope.{object_of}
 use Rattle.v_narrow.specs.Fitting.{words_fit}
 use Rattle.v_narrow.proofs.object.words_fit.Given as goal
 

@@ -1,4 +1,4 @@
-use Rattle.v_syntax.specs.Evaluation.{bound_at}
+use Rattle.v_value.specs.Evaluation.{bound_at}
 use Rattle.v_narrow.proofs.width.bound_of.Goals as goal
 
 pub returns : goal.returns

@@ -1,4 +1,4 @@
-use Rattle.v_syntax.specs.Scope.{scope_at}
+use Rattle.v_value.specs.Scope.{scope_at}
 use Rattle.v_narrow.proofs.Counted as counted
 use Rattle.v_narrow.proofs.width.count_of.Goals as goal
 

@@ -1,4 +1,4 @@
-use Rattle.v_syntax.specs.Scope.{scope_at}
+use Rattle.v_value.specs.Scope.{scope_at}
 use Rattle.v_syntax.specs.Tree.{select_of}
 use Rattle.v_narrow.proofs.Narrowed.{select_if}
 use Rattle.v_narrow.proofs.Fitted.{objects_if}

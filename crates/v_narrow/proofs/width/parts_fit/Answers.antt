@@ -1,4 +1,4 @@
-use Rattle.v_syntax.specs.Scope.{scope_at}
+use Rattle.v_value.specs.Scope.{scope_at}
 use Rattle.v_narrow.proofs.Narrowed.{parts_if}
 use Rattle.v_narrow.proofs.Fitted.{objects_if}
 use Rattle.v_narrow.proofs.width.parts_fit.Goals as goal

@@ -1,7 +1,7 @@
-use Rattle.wb_meaning.specs.Verilog.Expression.{widths_of}
-use Rattle.v_syntax.specs.Scope.{scope_at}
+use Rattle.verilog_meaning.specs.Expression.{widths_of}
+use Rattle.v_value.specs.Scope.{scope_at}
 use Rattle.v_syntax.specs.Tree.{tree_of, expressions_of}
-use Rattle.v_syntax.specs.Evaluation.{count_at}
+use Rattle.v_value.specs.Evaluation.{count_at}
 use Rattle.v_narrow.proofs.Decided.{copies-if}
 use Rattle.v_narrow.proofs.Narrowed.{narrow_if, parts_if}
 use Rattle.v_narrow.proofs.Fitted.{objects_if}

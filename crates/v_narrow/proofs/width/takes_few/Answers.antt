@@ -1,5 +1,5 @@
-use Rattle.v_syntax.specs.Scope.{scope_at}
-use Rattle.v_syntax.specs.Index.{integer_at}
+use Rattle.v_value.specs.Scope.{scope_at}
+use Rattle.v_value.specs.Index.{integer_at}
 use Rattle.v_narrow.proofs.Counted as counted
 use Rattle.v_narrow.proofs.width.takes_few.Goals as goal
 

@@ -1,8 +1,8 @@
 use Rattle.std.proofs.Common.{◌≡◌, ◌+◌, ◌≤◌, drop}
-use Rattle.wb_meaning.specs.Verilog.Expression.{widths_of}
-use Rattle.v_syntax.specs.Scope.{scope_at}
+use Rattle.verilog_meaning.specs.Expression.{widths_of}
+use Rattle.v_value.specs.Scope.{scope_at}
 use Rattle.v_syntax.specs.Tree.{expressions_of}
-use Rattle.v_syntax.specs.Narrow.{AreNarrow}
+use Rattle.v_value.specs.Narrow.{AreNarrow}
 use Rattle.v_narrow.proofs.width.width_together.Given as goal
 
 abbrev pub invariant-loop-part : goal.invariant-loop-part

@@ -5,7 +5,7 @@ use Rattle.v_parse.specs.Lists.{before_name}
 use Rattle.v_body.specs.Words.{name_at}
 use Rattle.v_parse.specs.Reading.{names_at}
 use Rattle.v_parse.proofs.Lists.{keeps, list_begins, list_is_none, list_goes_on, list_shrinks, list_ends, list_fails, name_read}
-use Rattle.wb_meaning.specs.Verilog.Grammar.{IsName}
+use Rattle.verilog_text.specs.Grammar.{IsName}
 use Rattle.v_parse.proofs.Spelled.{before_name_advances}
 use Rattle.v_parse.proofs.declaration.names.Goals as goal
 

@@ -5,7 +5,7 @@ use Rattle.v_parse.specs.Lists.{before_name}
 use Rattle.v_parse.specs.Reading.{setting_at, settings_at}
 use Rattle.v_parse.specs.View.{setting_of}
 use Rattle.v_parse.proofs.Lists.{keeps, list_begins, list_is_none, list_goes_on, list_shrinks, list_ends, list_fails}
-use Rattle.wb_meaning.specs.Verilog.Grammar.{IsSetting}
+use Rattle.verilog_text.specs.Grammar.{IsSetting}
 use Rattle.v_parse.proofs.Spelled.{before_name_advances, setting_read}
 use Rattle.v_parse.proofs.declaration.settings.Goals as goal
 

@@ -4,7 +4,7 @@ use Rattle.v_token.specs.View.{tokens_of}
 use Rattle.v_parse.specs.Reading.{next_event, event_at, event_list_at}
 use Rattle.v_parse.specs.View.{event_of}
 use Rattle.v_parse.proofs.Lists.{keeps, list_begins, list_is_none, list_goes_on, list_shrinks, list_ends, list_fails}
-use Rattle.wb_meaning.specs.Verilog.Grammar.{IsEvent}
+use Rattle.verilog_text.specs.Grammar.{IsEvent}
 use Rattle.v_parse.proofs.Spelled.{next_event_advances, event_read}
 use Rattle.v_parse.proofs.event.event_list.Goals as goal
 

@@ -1,12 +1,12 @@
 use Rattle.std.proofs.Common.{map}
 use Rattle.std.proofs.lemmas.Result.{err_from_is_err_and}
 use Rattle.v_token.specs.View.{tokens_of}
-use Rattle.wb_meaning.specs.Verilog.Token.{comma}
+use Rattle.verilog_text.specs.Token.{comma}
 use Rattle.v_expr.specs.Reading.{after_mark}
 use Rattle.v_parse.specs.Reading.{named_entry_at, named_entries_at}
 use Rattle.v_parse.specs.View.{named_entry_of}
 use Rattle.v_parse.proofs.Lists.{keeps, list_begins, list_is_none, list_goes_on, list_shrinks, list_ends, list_fails}
-use Rattle.wb_meaning.specs.Verilog.Grammar.{IsNamedEntry}
+use Rattle.verilog_text.specs.Grammar.{IsNamedEntry}
 use Rattle.v_parse.proofs.Spelled.{comma_advances, named_entry_read}
 use Rattle.v_parse.proofs.instance.named_entries.Goals as goal
 

@@ -1,13 +1,13 @@
 use Rattle.std.proofs.Common.{map}
 use Rattle.std.proofs.lemmas.Result.{err_from_is_err_and}
 use Rattle.v_token.specs.View.{tokens_of}
-use Rattle.wb_meaning.specs.Verilog.Token.{comma, equals}
+use Rattle.verilog_text.specs.Token.{comma, equals}
 use Rattle.v_expr.specs.Reading.{after_mark}
 use Rattle.v_body.specs.Targets.{assignment_at}
 use Rattle.v_parse.specs.View.{assignment_of}
 use Rattle.v_parse.specs.Reading.{assignments_at}
 use Rattle.v_parse.proofs.Lists.{keeps, list_begins, list_is_none, list_goes_on, list_shrinks, list_ends, list_fails}
-use Rattle.wb_meaning.specs.Verilog.Grammar.{IsAssignment}
+use Rattle.verilog_text.specs.Grammar.{IsAssignment}
 use Rattle.v_parse.proofs.Spelled.{comma_advances, assignment_read}
 use Rattle.v_parse.proofs.item.assignments.Goals as goal
 

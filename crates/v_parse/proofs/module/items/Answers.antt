@@ -2,7 +2,7 @@ use Rattle.std.proofs.Common.{map, ap, sym}
 use Rattle.std.proofs.lemmas.Result.{err_from_is_err_and}
 use Rattle.std.specs.Prelude.{codes}
 use Rattle.v_body.specs.Words.{after_word}
-use Rattle.wb_meaning.specs.Verilog.Grammar.{IsItem}
+use Rattle.verilog_text.specs.Grammar.{IsItem}
 use Rattle.v_token.specs.View.{tokens_of}
 use Rattle.v_syntax.specs.Source.{item_of}
 use Rattle.v_parse.specs.Reading.{item_at, items_at}

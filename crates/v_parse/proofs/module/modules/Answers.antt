@@ -1,7 +1,7 @@
 use Rattle.std.proofs.Common.{map, ap, sym}
 use Rattle.std.proofs.lemmas.Result.{err_from_is_err_and}
 use Rattle.v_parse.specs.Lists.{at_end}
-use Rattle.wb_meaning.specs.Verilog.Grammar.{IsModule}
+use Rattle.verilog_text.specs.Grammar.{IsModule}
 use Rattle.v_token.specs.View.{tokens_of}
 use Rattle.v_syntax.specs.Source.{module_of}
 use Rattle.v_parse.specs.Reading.{module_at, modules_at}

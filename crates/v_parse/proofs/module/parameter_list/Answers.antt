@@ -1,12 +1,12 @@
 use Rattle.std.proofs.Common.{map}
 use Rattle.std.proofs.lemmas.Result.{err_from_is_err_and}
 use Rattle.v_token.specs.View.{tokens_of}
-use Rattle.wb_meaning.specs.Verilog.Token.{comma}
+use Rattle.verilog_text.specs.Token.{comma}
 use Rattle.v_expr.specs.Reading.{after_mark}
 use Rattle.v_parse.specs.Reading.{header_parameter_at, parameter_list_at}
 use Rattle.v_syntax.specs.Source.{parameter_of}
 use Rattle.v_parse.proofs.Lists.{keeps, list_begins, list_is_none, list_goes_on, list_shrinks, list_ends, list_fails}
-use Rattle.wb_meaning.specs.Verilog.Grammar.{IsHeaderParameter}
+use Rattle.verilog_text.specs.Grammar.{IsHeaderParameter}
 use Rattle.v_parse.proofs.Spelled.{comma_advances}
 use Rattle.v_parse.proofs.SpelledItems.{header_parameter_read}
 use Rattle.v_parse.proofs.module.parameter_list.Goals as goal

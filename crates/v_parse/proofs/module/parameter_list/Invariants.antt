@@ -1,7 +1,7 @@
 use Rattle.std.proofs.Common.{◌≡◌, map, length}
 use Rattle.v_token.specs.View.{tokens_of}
 use Rattle.v_expr.proofs.Repeat.{with_front}
-use Rattle.wb_meaning.specs.Verilog.Token.{comma}
+use Rattle.verilog_text.specs.Token.{comma}
 use Rattle.v_expr.specs.Reading.{after_mark}
 use Rattle.v_parse.specs.Reading.{header_parameter_at, parameter_list_at}
 use Rattle.v_syntax.specs.Source.{parameter_of}

@@ -1,5 +1,5 @@
 use Rattle.std.proofs.Common.{◌∙◌, ap}
-use Rattle.wb_meaning.specs.Verilog.Statement.{wild_bits}
+use Rattle.verilog_meaning.specs.Statement.{wild_bits}
 use Rattle.v_syntax.specs.Tree.{tree_of}
 use Rattle.v_statement.proofs.Choices.{wild-Prefix, wild-Binary, wild-Test, wild-Conditional}
 use Rattle.v_statement.proofs.choice.+wild_bits.Goals as goal

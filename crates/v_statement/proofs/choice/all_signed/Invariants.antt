@@ -1,6 +1,6 @@
 use Rattle.std.proofs.Common.{◌≡◌, drop}
-use Rattle.wb_meaning.specs.Verilog.Statement.{all_signed}
-use Rattle.v_syntax.specs.Scope.{scope_at}
+use Rattle.verilog_meaning.specs.Statement.{all_signed}
+use Rattle.v_value.specs.Scope.{scope_at}
 use Rattle.v_syntax.specs.Tree.{expressions_of}
 use Rattle.v_statement.proofs.choice.all_signed.Given as goal
 

@@ -1,8 +1,8 @@
 use Rattle.std.proofs.Common.{◌≡◌, ◌≤◌, drop}
-use Rattle.wb_meaning.specs.Verilog.Statement.{any_matches, greatest_width}
-use Rattle.v_syntax.specs.Scope.{scope_at, valuation_at}
+use Rattle.verilog_meaning.specs.Statement.{any_matches, greatest_width}
+use Rattle.v_value.specs.Scope.{scope_at, valuation_at}
 use Rattle.v_syntax.specs.Tree.{expressions_of, case_kind_of}
-use Rattle.v_syntax.specs.Narrow.{AreNarrow}
+use Rattle.v_value.specs.Narrow.{AreNarrow}
 use Rattle.v_statement.proofs.choice.any_matches.Given as goal
 
 abbrev pub invariant-loop-expression : goal.invariant-loop-expression

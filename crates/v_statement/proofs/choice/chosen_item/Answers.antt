@@ -1,7 +1,7 @@
 use Rattle.std.proofs.Common.{arith}
-use Rattle.v_syntax.specs.Scope.{scope_at, valuation_at}
+use Rattle.v_value.specs.Scope.{scope_at, valuation_at}
 use Rattle.v_syntax.specs.Tree.{tree_of, case_kind_of}
-use Rattle.v_syntax.proofs.Narrows.{narrow_width}
+use Rattle.v_value.proofs.Narrows.{narrow_width}
 use Rattle.v_statement.proofs.Choices.{items-fit, if_below}
 use Rattle.v_statement.proofs.choice.chosen_item.Goals as goal
 

@@ -1,8 +1,8 @@
 use Rattle.std.proofs.Common.{◌≡◌, max, drop}
-use Rattle.wb_meaning.specs.Verilog.Statement.{greatest_width}
-use Rattle.v_syntax.specs.Scope.{scope_at}
+use Rattle.verilog_meaning.specs.Statement.{greatest_width}
+use Rattle.v_value.specs.Scope.{scope_at}
 use Rattle.v_syntax.specs.Tree.{expressions_of}
-use Rattle.v_syntax.specs.Narrow.{AreNarrow}
+use Rattle.v_value.specs.Narrow.{AreNarrow}
 use Rattle.v_statement.proofs.choice.greatest_width.Given as goal
 
 abbrev pub invariant-loop-expression : goal.invariant-loop-expression

@@ -1,6 +1,6 @@
 use Rattle.std.proofs.Common.{◌≡◌, drop}
-use Rattle.wb_meaning.specs.Verilog.Statement.{items_signed}
-use Rattle.v_syntax.specs.Scope.{scope_at}
+use Rattle.verilog_meaning.specs.Statement.{items_signed}
+use Rattle.v_value.specs.Scope.{scope_at}
 use Rattle.v_statement.specs.Effects.{item_list}
 use Rattle.v_statement.proofs.choice.items_signed.Given as goal
 

@@ -1,6 +1,6 @@
 use Rattle.std.proofs.Common.{◌≡◌, max, drop}
-use Rattle.wb_meaning.specs.Verilog.Statement.{items_width}
-use Rattle.v_syntax.specs.Scope.{scope_at}
+use Rattle.verilog_meaning.specs.Statement.{items_width}
+use Rattle.v_value.specs.Scope.{scope_at}
 use Rattle.v_statement.specs.Effects.{item_list, AreValuesNarrow}
 use Rattle.v_statement.proofs.choice.items_width.Given as goal
 

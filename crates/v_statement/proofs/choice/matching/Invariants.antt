@@ -1,6 +1,6 @@
 use Rattle.std.proofs.Common.{◌≡◌, ◌≤◌, drop, None}
-use Rattle.wb_meaning.specs.Verilog.Statement.{items_width}
-use Rattle.v_syntax.specs.Scope.{scope_at, valuation_at}
+use Rattle.verilog_meaning.specs.Statement.{items_width}
+use Rattle.v_value.specs.Scope.{scope_at, valuation_at}
 use Rattle.v_syntax.specs.Tree.{case_kind_of}
 use Rattle.v_statement.specs.Effects.{item_list, AreValuesNarrow, matching_from}
 use Rattle.v_statement.proofs.choice.matching.Given as goal

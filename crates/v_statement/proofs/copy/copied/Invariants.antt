@@ -1,5 +1,5 @@
 use Rattle.std.proofs.Common.{◌≡◌, ◌++◌, drop}
-use Rattle.v_syntax.specs.Scope.{values_of}
+use Rattle.v_value.specs.Scope.{values_of}
 use Rattle.v_statement.proofs.copy.copied.Given as goal
 
 abbrev pub invariant-loop-entry : goal.invariant-loop-entry

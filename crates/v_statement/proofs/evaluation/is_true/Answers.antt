@@ -1,7 +1,7 @@
 use Rattle.std.proofs.Common.{arith}
-use Rattle.v_syntax.specs.Scope.{scope_at}
+use Rattle.v_value.specs.Scope.{scope_at}
 use Rattle.v_syntax.specs.Tree.{tree_of}
-use Rattle.v_syntax.proofs.Narrows.{narrow_width}
+use Rattle.v_value.proofs.Narrows.{narrow_width}
 use Rattle.v_statement.proofs.evaluation.is_true.Goals as goal
 
 pub value_of-requires-clause-at_most_128 : goal.value_of-requires-clause-at_most_128

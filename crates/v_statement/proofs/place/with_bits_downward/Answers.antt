@@ -1,4 +1,4 @@
-use Rattle.v_syntax.specs.Index.{integer_at}
+use Rattle.v_value.specs.Index.{integer_at}
 use Rattle.v_statement.proofs.Taken.{below_zero_is, no_bits_are}
 use Rattle.v_statement.proofs.place.with_bits_downward.Goals as goal
 use Rattle.v_statement.proofs.place.with_bits_downward.Goals.{then-high-via-then-high, then-high-via-else-high+then-count-eq0}

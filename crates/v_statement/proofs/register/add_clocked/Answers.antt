@@ -1,6 +1,6 @@
 use Rattle.std.proofs.Common.{◌∙◌, ◌++◌, ◌∷◌, [], ◌+◌, ap, subst, map, drop, arith}
-use Rattle.wb_meaning.specs.Verilog.Register.{clocked_blocks, updates_of as updates_of_blocks}
-use Rattle.v_syntax.specs.Scope.{scope_at, valuation_at}
+use Rattle.verilog_meaning.specs.Register.{clocked_blocks, updates_of as updates_of_blocks}
+use Rattle.v_value.specs.Scope.{scope_at, valuation_at}
 use Rattle.v_syntax.specs.Source.{item_of}
 use Rattle.v_statement.specs.Places.{updates_of}
 use Rattle.v_statement.specs.Registers.{AreNarrowBlocks}

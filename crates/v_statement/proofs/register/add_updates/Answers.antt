@@ -1,11 +1,11 @@
 use Rattle.std.proofs.Common.{◌∙◌, ◌++◌, ap, sym, subst}
 use Rattle.std.proofs.lemmas.Result.{on_ok_weaker}
-use Rattle.wb_meaning.specs.Value.{valuation_of}
-use Rattle.wb_meaning.specs.Verilog.Statement.{Effect, run}
-use Rattle.v_syntax.specs.Scope.{scope_at}
+use Rattle.wb_values.specs.Value.{valuation_of}
+use Rattle.verilog_meaning.specs.Statement.{Effect, run}
+use Rattle.v_value.specs.Scope.{scope_at}
 use Rattle.v_syntax.specs.Tree.{statement_of}
 use Rattle.v_statement.specs.Places.{updates_of}
-use Rattle.v_syntax.specs.Narrow.{HasFittingValues}
+use Rattle.v_value.specs.Narrow.{HasFittingValues}
 use Rattle.v_statement.proofs.register.add_updates.Goals as goal
 
 pub run_statement-requires-clause-ready : goal.run_statement-requires-clause-ready

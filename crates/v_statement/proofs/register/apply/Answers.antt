@@ -1,8 +1,8 @@
 use Rattle.std.proofs.Common.{◌∙◌, ◌+◌, ap, sym, subst, drop, arith}
-use Rattle.wb_meaning.specs.Verilog.Statement.{with_updates, written}
-use Rattle.v_syntax.specs.Scope.{scope_at, valuation_at}
+use Rattle.verilog_meaning.specs.Statement.{with_updates, written}
+use Rattle.v_value.specs.Scope.{scope_at, valuation_at}
 use Rattle.v_statement.specs.Places.{places_of, updates_of}
-use Rattle.v_syntax.specs.Narrow.{HasFittingValues}
+use Rattle.v_value.specs.Narrow.{HasFittingValues}
 use Rattle.v_statement.specs.Registers.{AreNarrowUpdates}
 use Rattle.v_statement.proofs.Written.{written_fits}
 use Rattle.v_statement.proofs.Runs.{rest_is}

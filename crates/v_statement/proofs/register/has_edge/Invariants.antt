@@ -1,5 +1,5 @@
 use Rattle.std.proofs.Common.{◌≡◌, drop}
-use Rattle.wb_meaning.specs.Verilog.Register.{has_edge}
+use Rattle.verilog_meaning.specs.Register.{has_edge}
 use Rattle.v_statement.specs.Registers.{events_list}
 use Rattle.v_statement.proofs.register.has_edge.Given as goal
 

@@ -1,6 +1,6 @@
 use Rattle.std.proofs.Common.{nat_lt}
-use Rattle.v_syntax.specs.Scope.{object_of}
-use Rattle.v_syntax.specs.Index.{integer_at}
+use Rattle.v_value.specs.Scope.{object_of}
+use Rattle.v_value.specs.Index.{integer_at}
 use Rattle.v_statement.proofs.Taken.{upward_is, is_ascending}
 use Rattle.v_statement.proofs.select.bits_upward.Goals as goal
 

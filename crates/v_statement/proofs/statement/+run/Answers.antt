@@ -1,12 +1,12 @@
 use Rattle.std.proofs.Common.{arith, ◌+◌, ◌∙◌, ap, sym, subst, rules, drop}
 use Rattle.std.proofs.lemmas.Result.{on_ok_weaker}
-use Rattle.wb_meaning.specs.Verilog.Syntax.{case}
-use Rattle.wb_meaning.specs.Verilog.Statement.{Effect, behind, run, run_all}
+use Rattle.verilog_trees.specs.Syntax.{case}
+use Rattle.verilog_meaning.specs.Statement.{Effect, behind, run, run_all}
 use Rattle.v_syntax.specs.declared.tree.Statement.{the_lemmas}
-use Rattle.v_syntax.specs.Scope.{scope_at, valuation_at}
+use Rattle.v_value.specs.Scope.{scope_at, valuation_at}
 use Rattle.v_syntax.specs.Tree.{tree_of, statement_of, case_kind_of}
 use Rattle.v_statement.specs.Places.{updates_of}
-use Rattle.v_syntax.specs.Narrow.{HasFittingValues}
+use Rattle.v_value.specs.Narrow.{HasFittingValues}
 use Rattle.v_statement.specs.Statements.{IsNarrowStatement, AreNarrowStatements, AreNarrowItems, statement_list}
 use Rattle.v_statement.specs.Effects.{effect_at, AreNarrowArms, item_list, statement_in, chosen_item}
 use Rattle.v_statement.proofs.Choices as choices

@@ -1,6 +1,6 @@
 use Rattle.std.proofs.Common.{◌≡◌, drop}
-use Rattle.wb_meaning.specs.Verilog.Statement.{behind, run_all}
-use Rattle.v_syntax.specs.Scope.{scope_at, valuation_at}
+use Rattle.verilog_meaning.specs.Statement.{behind, run_all}
+use Rattle.v_value.specs.Scope.{scope_at, valuation_at}
 use Rattle.v_statement.specs.Places.{updates_of}
 use Rattle.v_statement.specs.Statements.{IsReadyFor, AreNarrowStatements, statement_list}
 use Rattle.v_statement.specs.Effects.{first_true, AreNarrowArms}

@@ -1,6 +1,6 @@
 use Rattle.std.proofs.Common.{◌∙◌, ◌≤◌, ap, sym, subst}
 use Rattle.std.proofs.lemmas.Result.{on_ok_weaker}
-use Rattle.v_syntax.specs.Scope.{scope_at, valuation_at}
+use Rattle.v_value.specs.Scope.{scope_at, valuation_at}
 use Rattle.v_syntax.specs.Tree.{target_of, tree_of}
 use Rattle.v_statement.specs.Places.{places_of}
 use Rattle.v_statement.proofs.Targets.{target-fits, written-of}

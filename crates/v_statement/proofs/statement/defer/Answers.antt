@@ -1,5 +1,5 @@
 use Rattle.std.proofs.Common.{◌≡◌, ◌∙◌, ◌++◌, ◌∷◌, [], ap, List, refl}
-use Rattle.wb_meaning.specs.Verilog.Statement as meaning
+use Rattle.verilog_meaning.specs.Statement as meaning
 use Rattle.v_statement.specs.declared.place.Update.{Update}
 use Rattle.v_statement.specs.Places.{update_of, updates_of}
 use Rattle.v_statement.proofs.statement.defer.Goals as goal

@@ -1,7 +1,7 @@
 use Rattle.std.proofs.Common.{◌∙◌, ap}
-use Rattle.wb_meaning.specs.Value.{valuation_of}
-use Rattle.wb_meaning.specs.Verilog.Statement.{behind, run}
-use Rattle.v_syntax.specs.Scope.{scope_at, valuation_at, values_of}
+use Rattle.wb_values.specs.Value.{valuation_of}
+use Rattle.verilog_meaning.specs.Statement.{behind, run}
+use Rattle.v_value.specs.Scope.{scope_at, valuation_at, values_of}
 use Rattle.v_syntax.specs.Tree.{statement_of}
 use Rattle.v_statement.specs.Places.{updates_of}
 use Rattle.v_statement.proofs.Runs.{run-appended}

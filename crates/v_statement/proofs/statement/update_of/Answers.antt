@@ -1,5 +1,5 @@
 use Rattle.std.proofs.Common.{◌∙◌, ◌≤◌, ap, sym, subst}
-use Rattle.v_syntax.specs.Scope.{scope_at, valuation_at}
+use Rattle.v_value.specs.Scope.{scope_at, valuation_at}
 use Rattle.v_syntax.specs.Tree.{target_of, tree_of}
 use Rattle.v_statement.specs.Places.{places_of}
 use Rattle.v_statement.proofs.Targets.{target-fits, update-of}

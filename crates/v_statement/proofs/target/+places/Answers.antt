@@ -1,7 +1,7 @@
 use Rattle.std.proofs.Common.{◌∙◌, ◌++◌, ◌≤◌, ap, sym, subst, rules}
 use Rattle.std.proofs.lemmas.Result.{on_ok_weaker}
-use Rattle.wb_meaning.specs.Verilog.Statement.{places, all_places, target_width, targets_width}
-use Rattle.v_syntax.specs.Scope.{scope_at, valuation_at}
+use Rattle.verilog_meaning.specs.Statement.{places, all_places, target_width, targets_width}
+use Rattle.v_value.specs.Scope.{scope_at, valuation_at}
 use Rattle.v_syntax.specs.Tree.{target_of}
 use Rattle.v_statement.specs.Places.{places_of}
 use Rattle.v_statement.specs.Statements.{HasNarrowSelects, HaveNarrowSelects, target_list}

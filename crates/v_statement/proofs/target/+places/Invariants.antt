@@ -1,6 +1,6 @@
 use Rattle.std.proofs.Common.{◌≡◌, ◌≤◌, ◌++◌, drop}
-use Rattle.wb_meaning.specs.Verilog.Statement.{all_places, targets_width}
-use Rattle.v_syntax.specs.Scope.{scope_at, valuation_at}
+use Rattle.verilog_meaning.specs.Statement.{all_places, targets_width}
+use Rattle.v_value.specs.Scope.{scope_at, valuation_at}
 use Rattle.v_statement.specs.Places.{places_of}
 use Rattle.v_statement.specs.Statements.{HaveNarrowSelects, target_list}
 use Rattle.v_statement.proofs.target.+places.Given as goal

@@ -1,5 +1,5 @@
 use Rattle.std.proofs.Common.{◌≡◌, ◌∙◌, ◌++◌, ◌∷◌, [], ap, List, refl}
-use Rattle.wb_meaning.specs.Verilog.Statement as meaning
+use Rattle.verilog_meaning.specs.Statement as meaning
 use Rattle.v_statement.specs.declared.place.Place.{Place}
 use Rattle.v_statement.specs.Places.{place_of, places_of}
 use Rattle.v_statement.proofs.target.add_place.Goals as goal

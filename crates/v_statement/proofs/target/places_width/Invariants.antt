@@ -1,5 +1,5 @@
 use Rattle.std.proofs.Common.{◌≡◌, ◌+◌, drop}
-use Rattle.wb_meaning.specs.Verilog.Statement.{places_width}
+use Rattle.verilog_meaning.specs.Statement.{places_width}
 use Rattle.v_statement.specs.Places.{places_of}
 use Rattle.v_statement.proofs.target.places_width.Given as goal
 

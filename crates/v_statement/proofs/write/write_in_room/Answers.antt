@@ -1,7 +1,7 @@
 use Rattle.std.proofs.Common.{◌≡◌, ◌+◌, ◌-◌, ◌<◌, ◌%◌, ◌^◌, suc, length, ◌∙◌, ap, sym, subst, arith, drop}
-use Rattle.wb_meaning.specs.Verilog.Statement.{written, places_width}
-use Rattle.v_syntax.specs.Narrow.{HasFittingValues}
-use Rattle.v_syntax.specs.Scope.{scope_at, valuation_at}
+use Rattle.verilog_meaning.specs.Statement.{written, places_width}
+use Rattle.v_value.specs.Narrow.{HasFittingValues}
+use Rattle.v_value.specs.Scope.{scope_at, valuation_at}
 use Rattle.v_statement.specs.Places.{places_of}
 use Rattle.v_statement.proofs.Written.{written_all, count_fits, shr_all, turn, turn_rest, place_fits}
 use Rattle.v_statement.proofs.write.write_in_room.Goals as goal

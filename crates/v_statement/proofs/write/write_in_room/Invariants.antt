@@ -1,8 +1,8 @@
 use Rattle.std.proofs.Common.{◌≡◌, ◌+◌, ◌-◌, ◌%◌, ◌/◌, ◌^◌, ◌<◌, ◌≤◌, drop, length}
 use Rattle.std.specs.Prelude.{vec_len, vec_capacity}
-use Rattle.wb_meaning.specs.Verilog.Statement.{written, places_width}
-use Rattle.v_syntax.specs.Narrow.{HasFittingValues}
-use Rattle.v_syntax.specs.Scope.{scope_at, valuation_at}
+use Rattle.verilog_meaning.specs.Statement.{written, places_width}
+use Rattle.v_value.specs.Narrow.{HasFittingValues}
+use Rattle.v_value.specs.Scope.{scope_at, valuation_at}
 use Rattle.v_statement.specs.Places.{places_of}
 use Rattle.v_statement.proofs.write.write_in_room.Given as goal
 

@@ -1,5 +1,5 @@
 use Rattle.std.proofs.Common.{◌∙◌, ap, sym, refl, not, length, arith}
-use Rattle.v_syntax.specs.Scope.{scope_at, valuation_at}
+use Rattle.v_value.specs.Scope.{scope_at, valuation_at}
 use Rattle.v_statement.specs.Places.{index_from}
 use Rattle.v_statement.proofs.Writing.{found, absent, written_found, written_absent, entry_fits}
 use Rattle.v_statement.proofs.write.write_place.Goals as goal

@@ -1,6 +1,6 @@
 use Rattle.std.proofs.Common.{sym, subst}
 use Rattle.v_syntax.specs.Tree.{tree_of}
-use Rattle.v_syntax.specs.Narrow.{IsNarrow}
+use Rattle.v_value.specs.Narrow.{IsNarrow}
 use Rattle.v_syntax.proofs.Trees.{tree_of-Binary}
 use Rattle.wb_deep.specs.Small.{IsSmall}
 use Rattle.wb_deep.proofs.Chains.{AreSmallLinks, one_more_link}

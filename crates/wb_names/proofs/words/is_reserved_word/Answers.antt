@@ -1,7 +1,7 @@
 use Rattle.std.proofs.Common.{◌∙◌, ◌||◌, sym, ap, Bool}
 use Rattle.std.specs.Str.{bytes_eq}
 use Rattle.std.specs.List.{list_any}
-use Rattle.wb_meaning.specs.Words.{is_reserved, other_words}
+use Rattle.wb_values.specs.ReservedWords.{is_reserved, other_words}
 use Rattle.wb_names.proofs.words.is_reserved_word.Goals as goal
 
 pub returns-then-is_among : goal.returns-then-is_among

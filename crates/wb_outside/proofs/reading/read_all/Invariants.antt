@@ -1,4 +1,4 @@
-use Rattle.std.proofs.Common.{◌≡◌, ◌≤◌, take, map, length, string_bytes}
+use Rattle.std.proofs.Common.{◌≡◌, ◌≤◌, ◌+◌, take, map, length, All, string_bytes}
 use Rattle.wb_outside.specs.Outside.{with_appended, AreStartsOf}
 use Rattle.wb_outside.proofs.reading.read_all.Given as goal
 
@@ -9,7 +9,9 @@ invariant-loop-name g l = record {
   asked : g.S.Shelf.asked l.shelf ≡
       with_appended (g.S.Shelf.asked l.fn.shelf) (take l.name-index (map string_bytes l.names));
   counted : length l.contents.items ≡ l.name-index;
-  never_falls : g.S.Shelf.faults l.fn.shelf ≤ g.S.Shelf.faults l.shelf;
+  stays : g.S.Shelf.faults l.shelf ≡ g.S.Shelf.faults l.fn.shelf;
+  last : g.S.Shelf.last_fault l.shelf ≡ g.S.Shelf.last_fault l.fn.shelf;
+  bounded : All (λ bytes. length bytes.items ≤ l.limit + 1) l.contents.items;
   starts : AreStartsOf (g.S.Shelf.holds l.fn.shelf) (take l.name-index (map string_bytes l.names)) l.limit
       (map (λ bytes. bytes.items) l.contents.items);
 }

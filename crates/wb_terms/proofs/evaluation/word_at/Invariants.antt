@@ -1,5 +1,5 @@
 use Rattle.std.proofs.Common.{◌≡◌, ◌≤◌}
-use Rattle.wb_meaning.specs.Term.{sort_of}
+use Rattle.model_meaning.specs.Term.{sort_of}
 use Rattle.wb_terms.specs.Graph.{tree}
 use Rattle.wb_terms.specs.Environment.{IsAddressOf}
 use Rattle.wb_terms.specs.Walk.{word_in, word_width}

@@ -1,5 +1,5 @@
 use Rattle.std.proofs.Common.{◌∙◌, ap, IsSome, arith}
-use Rattle.wb_meaning.specs.Term.{sort_of}
+use Rattle.model_meaning.specs.Term.{sort_of}
 use Rattle.wb_terms.specs.Graph.{tree, tree_of_node}
 use Rattle.wb_terms.specs.Environment.{value_of}
 use Rattle.wb_terms.proofs.InRange.{IsInRange-sort_of}

@@ -8,8 +8,8 @@ use Rattle.wb_top.proofs.outcome.outcome.Goals as goal
 
 pub answer-requires : goal.answer-requires
 answer-requires g c =
-    let count : length c.deref-in-Some.result.now ≡ length c.in-Some.wanted.files.items =
-    ap length c.deref-in-Some.ensures.value ∙ c.in_ok-contents-in-Some.ensures.count ∙ ap length c.deref.ensures.value in
+    let count : length c.deref-in-Some-2.result.now ≡ length c.in-Some.wanted.files.items =
+    ap length c.deref-in-Some-2.ensures.value ∙ c.in_ok-contents-in-Some.ensures.count ∙ ap length c.deref.ensures.value in
     ap (is_command c.in-Some.wanted.verb) count ∙ c.in-Some.wanted.counted
 
 pub returns-in_err-outcome-in-Some-clause-err_asked : goal.returns-in_err-outcome-in-Some-clause-err_asked
@@ -26,7 +26,7 @@ returns-in_ok-outcome-in-Some-clause-outcome g c =
     let found = rw c.in-Some.is at c.in_ok-wanted.ensures.wanted in
     let asks : AsksFor (map string_bytes c.args.words.now) c.in-Some.wanted.verb (map string_bytes c.in-Some.wanted.files.items) = asks_for _ (command_view c.in-Some.wanted) found in
     let read = rw c.deref.ensures.value at c.in_ok-contents-in-Some.ensures.first_bytes in
-    let answer = rw c.deref-in-Some.ensures.value at c.in_ok-outcome-in-Some.ensures in
+    let answer = rw c.deref-in-Some-2.ensures.value at c.in_ok-outcome-in-Some.ensures in
     outcome_of_answer (g.S.Shelf.holds c.args.shelf.now) (map string_bytes c.args.words.now) c.in-Some.wanted.verb (map string_bytes c.in-Some.wanted.files.items) _ c.in_ok-outcome-in-Some.outcome.status (told_of c.in_ok-outcome-in-Some.outcome) asks read answer
 
 pub returns-in_ok-outcome-in-Some-clause-ok_asked : goal.returns-in_ok-outcome-in-Some-clause-ok_asked

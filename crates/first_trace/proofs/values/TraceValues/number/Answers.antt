@@ -1,5 +1,5 @@
 use Rattle.std.proofs.Common.{Some, None, ap, ◌∙◌}
-use Rattle.wb_meaning.specs.Value.{valuation_of}
+use Rattle.wb_values.specs.Value.{valuation_of}
 use Rattle.first_trace.proofs.Numbers.{found}
 use Rattle.first_trace.proofs.values.TraceValues.number.Goals as goal
 

@@ -1,5 +1,5 @@
 use Rattle.std.proofs.Common.{cond, ap, ◌∙◌}
-use Rattle.wb_meaning.specs.Value.{same_name, number, valuation_of}
+use Rattle.wb_values.specs.Value.{same_name, number, valuation_of}
 use Rattle.first_trace.proofs.Numbers.{is_set}
 use Rattle.first_trace.proofs.values.TraceValues.set.Goals as goal
 

@@ -1,6 +1,6 @@
 use Rattle.std.proofs.Common.{Option, Some, option_map, length, drop, sym, ap, ◌∙◌, arith}
 use Rattle.std.proofs.lemmas.List.{length-drop}
-use Rattle.wb_meaning.specs.Model.{InputDeclaration}
+use Rattle.model_meaning.specs.Model.{InputDeclaration}
 use Rattle.ila_model.specs.Sorted.{name_at}
 use Rattle.ila_model.proofs.Declarations.{sorted, declared_inputs-at, length-declared_inputs}
 use Rattle.ila_model.proofs.model.IlaModel.input_name.Goals as goal

@@ -1,5 +1,5 @@
 use Rattle.std.proofs.Common.{Option, None, Some, option_map, sym, ap, ◌∙◌, arith}
-use Rattle.wb_meaning.specs.Model.{StateDeclaration}
+use Rattle.model_meaning.specs.Model.{StateDeclaration}
 use Rattle.ila_model.proofs.Declarations.{sorted, declared_states-at, length-declared_states}
 use Rattle.ila_model.proofs.model.IlaModel.state_name.Goals as goal
 

@@ -1,11 +1,15 @@
 use Rattle.std.proofs.Common.{ℕ, ◌-◌, length, Some, Ok, arith, sym, ap, ◌∙◌, subst}
 use Rattle.std.specs.Prelude.{option_map, ⊤, IfSome}
 use Rattle.std.proofs.lemmas.Result.{err_from_is_err_and}
-use Rattle.wb_meaning.specs.Verilog.Text.{Reading, Outcome, macro_read}
+use Rattle.verilog_text.specs.Text.{Reading, Outcome, macro_read}
 use Rattle.v_lex.specs.Reading.{reading_of, IsOutcome, span_front}
-use Rattle.v_lex.specs.Placed.{IsReaderPlaced, IsTextAt, IsFrontPart, reached}
+use Rattle.v_lex.specs.View.{piece_of}
+use Rattle.v_lex.specs.Sites.{piece_sites, sites_from, macro_sites}
+use Rattle.v_lex.specs.Sited.{site_of, sites_of, LeavesSites}
+use Rattle.v_lex.proofs.Sited.{sites_turn, sites_end, one_level_sites, no_level_sites, kept_sites, if_ok_on}
+use Rattle.v_lex.specs.Placed.{IsTakenAt, IsReaderPlaced, IsTextAt, IsFrontPart, reached}
 use Rattle.v_lex.proofs.Turns.{read_on, read_over, read_shorter, nothing_left, one_level, no_level, bad_front, bad_piece}
-use Rattle.v_lex.proofs.Placed.{kept, next_piece, unless, reached_on, reached_all}
+use Rattle.v_lex.proofs.Placed.{kept, text_stands, site_behind, sited, next_piece, unless, reached_on, reached_all}
 use Rattle.v_lex.proofs.state.Reader.+read.Goals as goal
 
 pub read_macro-returns-then-levels-eq0-clause-outcome : goal.read_macro-returns-then-levels-eq0-clause-outcome
@@ -76,5 +80,49 @@ read_text-loop-piece-preserved t c =
           c.loop-piece.invariant.1 (omega (arith, shorter)) in (
             subst (λ (x : ℕ). IsTextAt c.args.is_macro c.args.levels (reading_of c.taken.new.self) files file x c.in-Some.behind) on next.1,
             subst (λ (x : ℕ). IsReaderPlaced files file x c.taken.new.self) on (c.in_ok-taken.ensures.places files file limit_there _ s next.0 so_far.1),
+            so_far.2
+                ∙ sites_turn c.args.is_macro (macro_read c.args.levels) (macro_sites c.args.levels) c.loop-piece.rest.text.now c.in-Some.behind.text.now (piece_of c.in-Some.piece)
+                (reading_of c.loop-piece.self) (reading_of c.taken.new.self) (site_of c.loop-piece.rest.place) (sites_of c.loop-piece.self) front c.in_ok-taken.ensures.outcome
+                ∙ (λ i.
+                sites_from c.args.is_macro (macro_read c.args.levels) (macro_sites c.args.levels) 0 (site_behind files c.in-Some.piece c.loop-piece.rest c.in-Some.behind s (text_stands c.args.is_macro c.args.levels (reading_of c.loop-piece.self) files file limit_there c.loop-piece.rest so_far.0) part i)
+                c.in-Some.behind.text.now (reading_of c.taken.new.self)
+                (c.in_ok-taken.ensures.sites files file limit_there _ (length c.loop-piece.rest.text.now - length c.in-Some.behind.text.now) s next.0 so_far.1
+                (sited c.args.is_macro files c.in-Some.piece c.loop-piece.rest c.in-Some.behind (reading_of c.loop-piece.self) s (text_stands c.args.is_macro c.args.levels (reading_of c.loop-piece.self) files file limit_there c.loop-piece.rest so_far.0) front part) i)),
           ),
     )
+
+pub read_macro-returns-then-levels-eq0-clause-sites : goal.read_macro-returns-then-levels-eq0-clause-sites
+read_macro-returns-then-levels-eq0-clause-sites t c = λ files file limit s m p.
+    ap (λ (k : ℕ). macro_sites k (site_of c.args.text.place) c.args.text.text.now (reading_of c.args.self.now) (sites_of c.args.self.now)) c.if-levels-eq0.true
+    ∙ no_level_sites _ _ _ _ ∙ kept_sites c.args.self.now c.misdirect.new.self c.misdirect.ensures.kept
+
+pub read_macro-returns-clause-sites : goal.read_macro-returns-clause-sites
+read_macro-returns-clause-sites t c = λ files file limit s m p.
+    if_ok_on c.read_text.result _ _ _
+    (one_level_sites c.args.levels (site_of c.args.text.place) c.args.text.text.now (reading_of c.args.self.now) (sites_of c.args.self.now) (omega (arith, c.if-levels-eq0.false)))
+    (c.read_text.ensures.sites files file limit s m p)
+
+pub read_text-returns-in_err-piece-clause-sites : goal.read_text-returns-in_err-piece-clause-sites
+read_text-returns-in_err-piece-clause-sites t c =
+    let p = err_from_is_err_and c.from_residual.result c.from_residual.ensures.1 in
+    λ files file limit s i q. unless _ _ _ p.1
+
+pub read_text-returns-in_err-taken-clause-sites : goal.read_text-returns-in_err-taken-clause-sites
+read_text-returns-in_err-taken-clause-sites t c =
+    let p = err_from_is_err_and c.from_residual-in_err-taken.result c.from_residual-in_err-taken.ensures.1 in
+    λ files file limit s i q. unless _ _ _ p.1
+
+pub read_text-returns-in_default-clause-sites : goal.read_text-returns-in_default-clause-sites
+read_text-returns-in_default-clause-sites t c = λ files file limit s i q.
+    let none = nothing_left c.args.is_macro c.loop-piece.rest.text.now (reading_of c.loop-piece.self)
+    (c.in_ok-piece.ensures.front ∙ ap (λ x. Some (option_map span_front x)) c.in_default.is) in
+    (c.loop-piece.invariant.2 files file limit s i q).2
+    ∙ sites_end c.args.is_macro (macro_read c.args.levels) (macro_sites c.args.levels) c.loop-piece.rest.text.now (reading_of c.loop-piece.self) (site_of c.loop-piece.rest.place) (sites_of c.loop-piece.self) none
+
+pub taken-returns-in-Some-clause-sites : goal.taken-returns-in-Some-clause-sites
+taken-returns-in-Some-clause-sites t c = λ files file limit next count s i p h.
+    let at = subst (λ o. IsTakenAt (Ok o) files file next c.take.new.self) c.in-Some.is (c.in_ok-text.ensures.places files file limit next s i p) in
+    let left = subst (λ o. LeavesSites (macro_sites c.args.levels) (Ok o) c.take.new.self
+    (piece_sites (macro_sites c.args.levels) (piece_of c.args.piece) (site_of c.args.here) count (reading_of c.args.self.now) (sites_of c.args.self.now)))
+    c.in-Some.is (c.in_ok-text.ensures.sites (macro_sites c.args.levels) count h) in
+    if_ok_on c.read_macro.result _ _ _ left (c.read_macro.ensures.sites files file next s at.1 at.0)

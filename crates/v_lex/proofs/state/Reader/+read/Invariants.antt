@@ -1,7 +1,9 @@
 use Rattle.std.proofs.Common.{◌≡◌, ℕ, ◌+◌, ◌-◌, ◌*◌, ◌≤◌, List, length}
 use Rattle.v_lex.specs.Places.{AreShort}
+use Rattle.v_lex.specs.Sites.{sites_from, macro_sites}
+use Rattle.v_lex.specs.Sited.{site_of, sites_of}
 use Rattle.v_lex.specs.Placed.{IsTextAt, IsReaderPlaced, reached}
-use Rattle.wb_meaning.specs.Verilog.Text.{text_from, macro_read}
+use Rattle.verilog_text.specs.Text.{text_from, macro_read}
 use Rattle.v_lex.specs.Reading.{reading_of}
 use Rattle.v_lex.proofs.state.Reader.+read.Given as goal
 
@@ -20,7 +22,9 @@ invariant-read_text-loop-piece l =
     × (length l.rest.text.now ≤ length l.fn.text.text.now)
     × ((files : List (List ℕ)) (file limit : ℕ) → AreShort files → IsTextAt l.is_macro l.levels (reading_of l.fn.self) files file limit l.fn.text → IsReaderPlaced files file limit l.fn.self
     → IsTextAt l.is_macro l.levels (reading_of l.self) files file (reached l.is_macro limit (length l.fn.text.text.now - length l.rest.text.now)) l.rest
-    × IsReaderPlaced files file (reached l.is_macro limit (length l.fn.text.text.now - length l.rest.text.now)) l.self)
+    × IsReaderPlaced files file (reached l.is_macro limit (length l.fn.text.text.now - length l.rest.text.now)) l.self
+    × (sites_from l.is_macro (macro_read l.levels) (macro_sites l.levels) 0 (site_of l.fn.text.place) l.fn.text.text.now (reading_of l.fn.self) (sites_of l.fn.self)
+    ≡ sites_from l.is_macro (macro_read l.levels) (macro_sites l.levels) 0 (site_of l.rest.place) l.rest.text.now (reading_of l.self) (sites_of l.self)))
 
 abbrev pub decreases-read_text-loop-piece : goal.decreases-read_text-loop-piece
 decreases-read_text-loop-piece l = length l.rest.text.now

@@ -1,7 +1,9 @@
 use Rattle.std.proofs.Common.{◌≡◌, map, take, drop, Ok}
-use Rattle.wb_meaning.specs.Verilog.Text.{files_read, first_reading}
+use Rattle.verilog_text.specs.Text.{files_read, first_reading}
 use Rattle.v_lex.specs.Reading.{reading_of}
 use Rattle.v_lex.specs.Places.{AreShort}
+use Rattle.v_lex.specs.Sites.{files_sites}
+use Rattle.v_lex.specs.Sited.{sites_of}
 use Rattle.v_lex.specs.Placed.{IsReaderPlaced}
 use Rattle.v_lex.proofs.state.Reader.read_files.Given as goal
 
@@ -11,3 +13,5 @@ invariant-loop-number l =
     × (reading_of l.fn.self ≡ first_reading → files_read (take l.number (map (λ f. f.items) l.files)) first_reading ≡ Ok (reading_of l.self))
     × (AreShort (map (λ f. f.items) l.files) → reading_of l.fn.self ≡ first_reading → IsReaderPlaced (map (λ f. f.items) l.files) 0 0 l.fn.self
     → IsReaderPlaced (map (λ f. f.items) l.files) l.number 0 l.self)
+    × (AreShort (map (λ f. f.items) l.files) → reading_of l.fn.self ≡ first_reading → IsReaderPlaced (map (λ f. f.items) l.files) 0 0 l.fn.self
+    → files_sites 0 (map (λ f. f.items) l.files) (reading_of l.fn.self) (sites_of l.fn.self) ≡ files_sites l.number (map (λ f. f.items) (drop l.number l.files)) (reading_of l.self) (sites_of l.self))

@@ -1,0 +1,3 @@
+pub mod OneInstruction
+pub mod OneResult
+pub mod WorkedChild

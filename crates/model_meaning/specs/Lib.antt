@@ -1,0 +1,4 @@
+pub mod Term
+pub mod Model
+pub mod Instruction
+pub mod Worked

@@ -1,0 +1,10 @@
+use Rattle.std.proofs.Common.{◌≡◌, []}
+use Rattle.sat_solve.specs.State.{known_clauses}
+use Rattle.sat_solve.specs.Walk.{IsWalked}
+use Rattle.sat_solve.proofs.walk.walk_all.Given as goal
+
+abbrev pub invariant-loop-k : goal.invariant-loop-k
+invariant-loop-k l = record {
+  walked : IsWalked (known_clauses l.cnf l.log) l.trail.entries l.trail.vars l.k l.walk.marks l.walk.lits.items l.walk.numbers.items;
+  lits : l.walk.lits.items ≡ [];
+}

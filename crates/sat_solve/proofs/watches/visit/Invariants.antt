@@ -1,0 +1,13 @@
+use Rattle.std.proofs.Common.{◌≡◌, ◌≤◌, length}
+use Rattle.sat_solve.proofs.Visits.{IsVisiting}
+use Rattle.sat_solve.proofs.watches.visit.Given as goal
+
+abbrev pub invariant-loop-rest : goal.invariant-loop-rest
+invariant-loop-rest l = record {
+  visiting : IsVisiting l.cnf l.log l.trail l.watches.arena l.watches.lists l.watches.head l.code l.rest l.list.items;
+  head : l.watches.head ≡ l.initial.watches.head;
+  grown : length l.initial.trail.entries ≤ length l.trail.entries;
+}
+
+abbrev pub decreases-loop-rest : goal.decreases-loop-rest
+decreases-loop-rest l = l.rest

@@ -1,0 +1,4 @@
+pub mod FactLists
+pub mod Shifted
+pub mod Extracted
+pub mod Refined

@@ -1,0 +1,18 @@
+//! Rows of commands: what the top call writes, and how it ends, on small files and changes of them. The rows are read from
+//! standard input; what differs is printed, and how many there were.
+#![tactic(auto)]
+
+mod table;
+
+use std::io;
+use table::Table;
+
+fn main(rt: HostRuntime) -> io::Result<()> {
+    let mut table = Table::new(rt.alloc());
+    for line in rt.lines(rt.alloc()) {
+        if let Some(told) = table.take(rt.alloc(), line?.as_str())? {
+            println!(rt; "{told}")?;
+        }
+    }
+    println!(rt; "{} rows, {} differ", table.rows, table.differ)
+}

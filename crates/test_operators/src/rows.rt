@@ -1,0 +1,72 @@
+//! A table of rows, line by line: `WIDTH OPERATOR X Y VALUE`, where X and Y are words of the width and VALUE is what the operator gives,
+//! a truth value as 0 or 1. Empty lines and those that begin with `#` are skipped.
+
+use crate::claims::{Found, Row, tried};
+use std::alloc::{AllocError, Global};
+
+/// How many rows there were, and how many of them came out otherwise.
+#[derive(Drop)]
+pub struct Table {
+    line: u64,
+    pub rows: u64,
+    pub differ: u64,
+}
+
+impl Table {
+    /// A table without rows.
+    pub fn new() -> Table {
+        Table {
+            line: 0,
+            rows: 0,
+            differ: 0,
+        }
+    }
+
+    /// Takes a line of the table. Gives what is to be told of it, where it is a row that came out otherwise.
+    pub fn take(&mut self, alloc: Global, line: &str) -> Result<Option<String>, AllocError> {
+        self.line = self.line.saturating_add(1);
+        if line.is_empty() || line.starts_with("#") {
+            return Ok(None);
+        }
+        self.rows = self.rows.saturating_add(1);
+        let told = match row_of(line) {
+            Some(row) => told_of(tried(alloc, row)),
+            None => "is no row",
+        };
+        if told.is_empty() {
+            return Ok(None);
+        }
+        self.differ = self.differ.saturating_add(1);
+        let place = self.line;
+        Ok(Some(format!(in alloc; "line {place} {told}: {line}")?))
+    }
+}
+
+/// What is told of a row. Nothing where all is as the row says.
+fn told_of(found: Found) -> &'static str {
+    match found {
+        Found::Right => "",
+        Found::NoTerm => "makes no term",
+        Found::Refuted => "is refuted",
+        Found::OtherValues => "is evaluated or read back otherwise",
+        Found::Allowed => "allows another value",
+        Found::NoMemory => "found no memory",
+    }
+}
+
+/// A row from its words.
+fn row_of(line: &str) -> Option<Row<'_>> {
+    let mut words = line.split_whitespace();
+    let width = words.next()?.parse::<u32>().ok()?;
+    let operator = words.next()?;
+    let x = words.next()?.parse::<u128>().ok()?;
+    let y = words.next()?.parse::<u128>().ok()?;
+    let value = words.next()?.parse::<u128>().ok()?;
+    Some(Row {
+        width,
+        operator,
+        x,
+        y,
+        value,
+    })
+}

@@ -1,9 +1,0 @@
-use Rattle.std.proofs.Common.{arith}
-use Rattle.v_syntax.specs.Scope.{scope_at}
-use Rattle.v_syntax.specs.Tree.{tree_of}
-use Rattle.v_syntax.proofs.Narrows.{narrow_width}
-use Rattle.v_syntax.proofs.expression.assigned_value.Goals as goal
-
-pub value_in_context-value-requires-clause-at_most_128 : goal.value_in_context-value-requires-clause-at_most_128
-value_in_context-value-requires-clause-at_most_128 c =
-    omega (arith, (narrow_width (scope_at c.args.scope.now) (tree_of c.args.expression.now) c.requires.narrow).1, c.width_of.ensures, c.max-context.ensures)

@@ -1,6 +1,0 @@
-use Rattle.std.proofs.Common.{◌≡◌, drop}
-use Rattle.v_syntax.specs.Chain.{has_reduction}
-use Rattle.v_syntax.proofs.sign.reduces.Given as goal
-
-abbrev pub invariant-loop-operator : goal.invariant-loop-operator
-invariant-loop-operator l = has_reduction l.operators ≡ has_reduction (drop l.operator-index l.operators)

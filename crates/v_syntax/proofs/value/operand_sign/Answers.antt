@@ -1,6 +1,0 @@
-use Rattle.v_syntax.specs.Evaluation.{sign_at}
-use Rattle.v_syntax.proofs.value.operand_sign.Goals as goal
-
-pub returns : goal.returns
-unfolding sign_at
-returns c = c.sign_of.ensures

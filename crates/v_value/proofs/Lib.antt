@@ -1,0 +1,11 @@
+pub mod Signs
+pub mod Numbers
+pub mod Integers
+pub mod Widths
+pub mod Narrows
+pub mod Values
+pub mod Arms
+pub mod Steps
+pub mod Bits
+pub mod Selected
+pub mod Taking

@@ -1,0 +1,5 @@
+pub mod Token
+pub mod Lexical
+pub mod Text
+pub mod Spelling
+pub mod Grammar

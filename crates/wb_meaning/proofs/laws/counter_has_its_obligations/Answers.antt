@@ -1,7 +1,0 @@
-use Rattle.std.proofs.Common.{refl}
-use Rattle.std.specs.Fmt.{digits}
-use Rattle.wb_meaning.proofs.laws.counter_has_its_obligations.Goals as goal
-
-pub returns : goal.returns
-unfolding digits
-returns c = refl

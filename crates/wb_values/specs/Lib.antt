@@ -1,0 +1,5 @@
+pub mod Value
+pub mod Number
+pub mod Choice
+pub mod ReservedWords
+pub mod Names
