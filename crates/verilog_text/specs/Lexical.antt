@@ -138,8 +138,8 @@ unfoldable pub word_piece : Name → Piece
 word_piece w = cond (is_excluded w) excluded (token (word w))
 
 -- an identifier or a reserved word (3.7)
-unfoldable pub word_at : ℕ → List ℕ → Front
-word_at b bs = Some (word_piece (b ∷ take (run_length is_word_byte bs) bs), run_length is_word_byte bs)
+unfoldable pub word_front : ℕ → List ℕ → Front
+word_front b bs = Some (word_piece (b ∷ take (run_length is_word_byte bs) bs), run_length is_word_byte bs)
 
 -- the point and the digits of a real number (3.5.2)
 unfoldable pub fraction_length : List ℕ → Option ℕ
@@ -168,13 +168,13 @@ real_from text None = exponent_length text
 unfoldable pub real_length : List ℕ → Option ℕ
 real_length text = real_from text (fraction_length text)
 
-abbrev pub number_of : ℕ → List ℕ → (digits : ℕ) → Option ℕ → Front
-number_of b bs n (Some k) = Some (excluded, n + k)
-number_of b bs n None = Some (token (decimal (b ∷ take n bs)), n)
+abbrev pub number_front : ℕ → List ℕ → (digits : ℕ) → Option ℕ → Front
+number_front b bs n (Some k) = Some (excluded, n + k)
+number_front b bs n None = Some (token (decimal (b ∷ take n bs)), n)
 
 -- a plain decimal (3.5.1), or a real number
 unfoldable pub number_at : ℕ → List ℕ → Front
-number_at b bs = number_of b bs (run_length is_decimal_byte bs) (real_length (drop (run_length is_decimal_byte bs) bs))
+number_at b bs = number_front b bs (run_length is_decimal_byte bs) (real_length (drop (run_length is_decimal_byte bs) bs))
 
 -- b, o, d or h, in either case
 abbrev pub is_base : ℕ → Bool
@@ -323,8 +323,8 @@ unfoldable pub definition_at : List ℕ → Front
 definition_at text = definition_from text (name_behind text)
 
 -- the directives of conditionals (19.4), by their word and what stands behind it
-unfoldable pub conditional_at : Name → List ℕ → (other : Front) → Front
-conditional_at w text other =
+unfoldable pub conditional_directive_at : Name → List ℕ → (other : Front) → Front
+conditional_directive_at w text other =
     cond (same_name w (codes "ifdef")) (with_name (if_defined true) (name_behind text)) (
     cond (same_name w (codes "ifndef")) (with_name (if_defined false) (name_behind text)) (
     cond (same_name w (codes "elsif")) (with_name else_if (name_behind text)) (
@@ -346,7 +346,7 @@ directive_from w text =
 
 -- behind a backquote, by the word and what stands behind it
 abbrev pub directive_of : Name → List ℕ → Front
-directive_of w text = conditional_at w text (directive_from w text)
+directive_of w text = conditional_directive_at w text (directive_from w text)
 
 unfoldable pub directive_at : List ℕ → Front
 directive_at text =
@@ -358,7 +358,7 @@ directive_at text =
 unfoldable pub conditional_behind : List ℕ → Front
 conditional_behind text =
     further (run_length is_word_byte text)
-    (conditional_at (take (run_length is_word_byte text) text) (drop (run_length is_word_byte text) text) (Some (nothing, 0)))
+    (conditional_directive_at (take (run_length is_word_byte text) text) (drop (run_length is_word_byte text) text) (Some (nothing, 0)))
 
 -- ---- the front of a text: its first byte and what stands behind it
 
@@ -366,7 +366,7 @@ conditional_behind text =
 unfoldable pub read_at : (is_macro : Bool) → ℕ → List ℕ → Front
 read_at is_macro b bs =
     cond (is_blank_before is_macro b bs) (Some (nothing, blank_length is_macro bs)) (
-    cond (is_letter b) (word_at b bs) (
+    cond (is_letter b) (word_front b bs) (
     cond (is_digit b) (number_at b bs) (
     cond (b == code "'") (based_at is_macro b bs) (
     cond (b == code "\"") (if_closed excluded (string_length false bs)) (
