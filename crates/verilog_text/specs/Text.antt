@@ -14,7 +14,7 @@ pub data Refusal : Type 0 where
 
 -- ---- the parts of files after expansion
 
--- A part of what is read. Files are a list of parts, the last first: behind each part in the list stand those before it.
+-- A part of what is read. Files are a list of parts, the last one first, so that the rest of the list is what was read before.
 pub data Part : Type 0 where
   -- What stands at the front of a text. After a use of a macro come the parts of the macro's text.
   piece : Piece → Part
@@ -55,7 +55,7 @@ leaves_out (c ∷ cs) = not (is_taken c.branch)
 abbrev pub first_branch : (is_left_out holds : Bool) → Branch
 first_branch is_left_out holds = cond is_left_out passed (cond holds taken waiting)
 
--- the branch behind `else or `elsif, whose condition holds or not
+-- the branch after `else or `elsif, whose condition holds or not
 abbrev pub next_branch : Branch → (holds : Bool) → Branch
 next_branch waiting holds = cond holds taken waiting
 next_branch _ holds = passed
@@ -64,7 +64,7 @@ next_branch _ holds = passed
 abbrev pub with_conditional : (holds : Bool) → List Conditional → List Conditional
 with_conditional holds cs = record { branch = first_branch (leaves_out cs) holds; has_else = false } ∷ cs
 
--- The next branch of the innermost conditional, which has none behind its `else.
+-- The next branch of the innermost conditional, which has none after its `else.
 abbrev pub with_branch : (is_else holds : Bool) → List Conditional → List Conditional
 with_branch is_else holds [] = []
 with_branch is_else holds (c ∷ cs) = cond c.has_else (c ∷ cs) (record { branch = next_branch c.branch holds; has_else = is_else } ∷ cs)
@@ -166,7 +166,7 @@ abbrev pub is_based : Token → Bool
 is_based (based text) = true
 is_based _ = false
 
--- the last token, with nothing that the subset leaves out behind it, is a plain decimal of value 0
+-- The last token is a plain decimal of value 0, and nothing that the subset leaves out comes after it.
 unfoldable pub is_zero_last : List Part → Bool
 is_zero_last [] = false
 is_zero_last (piece (token t) ∷ before) = is_zero t
@@ -195,7 +195,7 @@ is_none_open [] = true
 is_none_open (c ∷ cs) = false
 
 -- A directive that is written wrongly, a macro that is not defined, uses nested too deep, an `elsif or `else without a conditional or
--- behind its `else, an `endif without a conditional, a file's end within one.
+-- after its `else, an `endif without a conditional, a file's end within one.
 unfoldable pub is_bad_directive : Part → (before : List Part) → Bool
 is_bad_directive (piece misdirected) before = true
 is_bad_directive (piece (use_of n)) before = not (is_defined (macro_after before n))
