@@ -17,12 +17,12 @@ abbrev pub StartsAt : Setting → Run → ℕ → Type 0
 StartsAt s run t = HoldsAt s run t s.map.start
 
 -- e is the map's entry of instruction number j
-abbrev pub IsEntry : Setting → ℕ → InstructionMap → Type 0
-IsEntry s j e = (i : Instruction) × IsInstruction s.model j i × (instruction_map s.map.instructions (instruction_name i) ≡ Some e)
+abbrev pub IsEntryOf : Setting → ℕ → InstructionMap → Type 0
+IsEntryOf s j e = (i : Instruction) × IsInstruction s.model j i × (instruction_map s.map.instructions (instruction_name i) ≡ Some e)
 
 -- The commit of instruction number j holds at cycle t.
 abbrev pub CommitsAt : Setting → Run → ℕ → ℕ → Type 0
-CommitsAt s run j t = (e : InstructionMap) × IsEntry s j e × HoldsAt s run t e.commit
+CommitsAt s run j t = (e : InstructionMap) × IsEntryOf s j e × HoldsAt s run t e.commit
 
 -- Instruction number j is that of a command begun at cycle t: at the mapped state and inputs it is valid and decodes alone.
 abbrev pub IsCommandOf : Setting → Run → ℕ → ℕ → Type 0
@@ -74,10 +74,10 @@ pub record Refines (s : Setting) (run : Run) (cycles : ℕ) : Type 0 where
       → ((j : ℕ) × IsCommandOf s run t j) × ((r : Valuation) × Steps s.model q (inputs_at s run t) r)
   -- a command that ends does so within its instruction's bound
   pub ended : (n t j c : ℕ) (q : Valuation) (e : InstructionMap) → HasState s run cycles n q t → StartsAt s run t
-      → IsCommandOf s run t j → IsEntry s j e → EndsAt s run j t c → c < cycles → c < t + e.bound
+      → IsCommandOf s run t j → IsEntryOf s j e → EndsAt s run j t c → c < cycles → c < t + e.bound
   -- and of one that has not ended the bound lies past the run
   pub open_command : (n t j : ℕ) (q : Valuation) (e : InstructionMap) → HasState s run cycles n q t → t < cycles
-      → StartsAt s run t → IsCommandOf s run t j → IsEntry s j e
+      → StartsAt s run t → IsCommandOf s run t j → IsEntryOf s j e
       → ((u : ℕ) → t ≤ u → u < cycles → ¬ CommitsAt s run j u) → cycles < t + e.bound
   -- at each idle cycle, up to the one behind the last, the mapped state is the model's
   pub state : (n t : ℕ) (q : Valuation) → HasState s run cycles n q t → t ≤ cycles → SameStates s.model (state_at s run t) q

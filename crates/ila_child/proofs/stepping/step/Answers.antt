@@ -62,7 +62,7 @@ returns-then-not-holds c =
     let at = start_point p s name q w e a i in
     let start = point_of (model_from name p) (state_valuation (model_from name p) q) (input_valuation (model_from name p) w) in
     let same = sym (holds_same p None 0 e p.valid.0 tt low top.0) ∙ sym c.holds.ensures in
-    λ t. false≢true (sym (subst (λ v. holds (tree p.terms p.valid.0) v ≡ false) at (same ∙ c.if-not-holds.true)) ∙ t)
+    (λ t. false≢true (sym (subst (λ v. holds (tree p.terms p.valid.0) v ≡ false) at (same ∙ c.if-not-holds.true)) ∙ t), tt)
 
 pub find_decoded-requires-clause-conditions : goal.find_decoded-requires-clause-conditions
 find_decoded-requires-clause-conditions c =
@@ -109,7 +109,7 @@ returns-in-Nothing c =
     let is = p.instructions.items in
     let by = decodes_same p None 0 e is tt low top.1 ∙ ap (λ v. decodes p.terms v is) at in
     let found = subst (λ js. IsFound (decodes p.terms (valuation p.terms e) js) (length js) None) c.deref.ensures.value c.in-Nothing.ensures in
-    (valid, none_decode name p (state_valuation (model_from name p) q) (input_valuation (model_from name p) w) (subst (λ t. IsFound t (length is) None) by found))
+    ((valid, none_decode name p (state_valuation (model_from name p) q) (input_valuation (model_from name p) w) (subst (λ t. IsFound t (length is) None) by found)), tt)
 
 pub returns-in-Several : goal.returns-in-Several
 returns-in-Several c =
@@ -134,7 +134,7 @@ returns-in-Several c =
     let j = c.in-Several.first in
     let k = c.in-Several.second in
     let found = subst (λ js. AreDecoded (decodes p.terms (valuation p.terms e) js) (length js) (Several j k)) c.deref.ensures.value c.in-Several.ensures in
-    (valid, first_two name p (state_valuation (model_from name p) q) (input_valuation (model_from name p) w) j k (subst (λ t. AreDecoded t (length is) (Several j k)) by found))
+    ((valid, first_two name p (state_valuation (model_from name p) q) (input_valuation (model_from name p) w) j k (subst (λ t. AreDecoded t (length is) (Several j k)) by found)), tt)
 
 pub returns-in_ok-stepped-in-One : goal.returns-in_ok-stepped-in-One
 returns-in_ok-stepped-in-One c =
