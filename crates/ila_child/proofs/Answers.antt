@@ -122,8 +122,7 @@ answered name p s q w k NoInstruction v f b = absurd b
 answered name p s q w k (SeveralDecode i j) v f b = absurd b
 answered name p s q w k (ChildStuck d n) v f b =
     let i = b.0 in
-    let here = there p.instructions.items k i b.1 in
-    (
+    let here = there p.instructions.items k i b.1 in (
       record {
         j = k;
         i = started p i;
@@ -135,8 +134,7 @@ answered name p s q w k (ChildStuck d n) v f b =
     )
 answered name p s q w k (ChildTooLong d) v f b =
     let i = b.0 in
-    let here = there p.instructions.items k i b.1 in
-    (
+    let here = there p.instructions.items k i b.1 in (
       record {
         j = k;
         i = started p i;

@@ -25,26 +25,26 @@ use Rattle.ila_whole.proofs.Unbroken.{unbroken, not_false}
 
 data Sub : List Name → List Name → Type 0 where
   over : Sub [] []
-  keep : {xs ys : List Name} → (n : Name) → Sub xs ys → Sub (n ∷ xs) (n ∷ ys)
-  skip : {xs ys : List Name} → (n : Name) → Sub xs ys → Sub xs (n ∷ ys)
+  keep : (n : Name) (xs ys : List Name) → Sub xs ys → Sub (n ∷ xs) (n ∷ ys)
+  skip : (n : Name) (xs ys : List Name) → Sub xs ys → Sub xs (n ∷ ys)
 
 nothing_of : (ys : List Name) → Sub [] ys
 nothing_of [] = Sub.over
-nothing_of (y ∷ ys) = Sub.skip y (nothing_of ys)
+nothing_of (y ∷ ys) = Sub.skip y [] ys (nothing_of ys)
 
 front_of : (xs ys : List Name) → Sub xs (xs ++ ys)
 front_of [] ys = nothing_of ys
-front_of (x ∷ xs) ys = Sub.keep x (front_of xs ys)
+front_of (x ∷ xs) ys = Sub.keep x xs (xs ++ ys) (front_of xs ys)
 
 sub_append : (xs ys us vs : List Name) → Sub xs ys → Sub us vs → Sub (xs ++ us) (ys ++ vs)
 sub_append _ _ us vs Sub.over b = b
-sub_append _ _ us vs (Sub.keep n a) b = Sub.keep n (sub_append _ _ us vs a b)
-sub_append _ _ us vs (Sub.skip n a) b = Sub.skip n (sub_append _ _ us vs a b)
+sub_append _ _ us vs (Sub.keep n xs ys a) b = Sub.keep n (xs ++ us) (ys ++ vs) (sub_append xs ys us vs a b)
+sub_append _ _ us vs (Sub.skip n xs ys a) b = Sub.skip n (xs ++ us) (ys ++ vs) (sub_append xs ys us vs a b)
 
 all_sub : (p : Name → Bool) (xs ys : List Name) → Sub xs ys → list_all p ys ≡ true → list_all p xs ≡ true
 all_sub p _ _ Sub.over h = refl
-all_sub p _ _ (Sub.keep n a) h = let parts = and_parts (p n) _ h in and_from (p n) _ parts.0 (all_sub p _ _ a parts.1)
-all_sub p _ _ (Sub.skip n a) h = all_sub p _ _ a (and_parts (p n) _ h).1
+all_sub p _ _ (Sub.keep n xs ys a) h = let parts = and_parts (p n) (list_all p ys) h in and_from (p n) (list_all p xs) parts.0 (all_sub p xs ys a parts.1)
+all_sub p _ _ (Sub.skip n xs ys a) h = all_sub p xs ys a (and_parts (p n) (list_all p ys) h).1
 
 neither : (a b : Bool) → a ≡ false → b ≡ false → (a || b) ≡ false
 neither true b p q = absurd (false≢true (sym p))
@@ -52,20 +52,20 @@ neither false b p q = q
 
 among_sub : (m : Name) (xs ys : List Name) → Sub xs ys → is_among m ys ≡ false → is_among m xs ≡ false
 among_sub m _ _ Sub.over h = refl
-among_sub m _ _ (Sub.keep n a) h = let parts = or_parts (same_name m n) _ h in neither (same_name m n) _ parts.0 (among_sub m _ _ a parts.1)
-among_sub m _ _ (Sub.skip n a) h = among_sub m _ _ a (or_parts (same_name m n) _ h).1
+among_sub m _ _ (Sub.keep n xs ys a) h = let parts = or_parts (same_name m n) (is_among m ys) h in neither (same_name m n) (is_among m xs) parts.0 (among_sub m xs ys a parts.1)
+among_sub m _ _ (Sub.skip n xs ys a) h = among_sub m xs ys a (or_parts (same_name m n) (is_among m ys) h).1
 
 twice_sub : (xs ys : List Name) → Sub xs ys → has_twice ys ≡ false → has_twice xs ≡ false
 twice_sub _ _ Sub.over h = refl
-twice_sub (n ∷ xs) (n ∷ ys) (Sub.keep n a) h =
+twice_sub _ _ (Sub.keep n xs ys a) h =
     let parts = or_parts (is_among n ys) (has_twice ys) h in
     neither (is_among n xs) (has_twice xs) (among_sub n xs ys a parts.0) (twice_sub xs ys a parts.1)
-twice_sub xs (n ∷ ys) (Sub.skip n a) h = twice_sub xs ys a (or_parts (is_among n ys) (has_twice ys) h).1
+twice_sub _ _ (Sub.skip n xs ys a) h = twice_sub xs ys a (or_parts (is_among n ys) (has_twice ys) h).1
 
 -- ---- machines as they are written, and the machines that they stand for
 
 -- The machines have the states and the instructions' names of the written ones.
-AreMade : List Machine → List WrittenMachine → Type 0
+abbrev AreMade : List Machine → List WrittenMachine → Type 0
 AreMade [] [] = ⊤
 AreMade [] (w ∷ ws) = ⊥
 AreMade (m ∷ ms) [] = ⊥
@@ -119,11 +119,11 @@ all_of_states p [] [] a h = refl
 all_of_states p [] (w ∷ ws) a h = absurd a
 all_of_states p (m ∷ ms) [] a h = absurd a
 all_of_states p (m ∷ ms) (w ∷ ws) a h =
-    let parts = and_parts (list_all p (states_in w)) _ h in
-    both (states_of m) (ap (list_all p) a.0 ∙ parts.0) where
-      both : (ss : List StateDeclaration) → list_all p ss ≡ true → list_all p (ss ++ gathered states_of ms) ≡ true
-      both [] e = all_of_states p ms ws a.2 (and_parts (list_all p (states_in w)) _ h).1
-      both (s ∷ ss) e = let parts = and_parts (p s) (list_all p ss) e in and_from (p s) _ parts.0 (both ss parts.1)
+    let parts = and_parts (list_all p (states_in w)) (list_all (λ v. list_all p (states_in v)) ws) h in
+    front (states_of m) (gathered states_of ms) (ap (list_all p) a.0 ∙ parts.0) (all_of_states p ms ws a.2 parts.1) where
+      front : (xs ys : List StateDeclaration) → list_all p xs ≡ true → list_all p ys ≡ true → list_all p (xs ++ ys) ≡ true
+      front [] ys e r = r
+      front (x ∷ xs) ys e r = let q = and_parts (p x) (list_all p xs) e in and_from (p x) (list_all p (xs ++ ys)) q.0 (front xs ys q.1 r)
 
 -- ---- what is so of each state
 

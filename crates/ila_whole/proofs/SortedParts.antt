@@ -11,7 +11,7 @@ use Rattle.wb_terms.specs.Environment.{as_value}
 use Rattle.wb_terms.specs.Graph.{Graph, HasDistinctNames}
 use Rattle.ila_model.specs.declared.parts.ChildId.{ChildId}
 use Rattle.ila_model.specs.declared.parts.Parts.{Parts}
-use Rattle.ila_model.specs.declared.model.SortedParts.{SortedParts}
+use Rattle.ila_model.specs.declared.sorting.SortedParts.{SortedParts}
 use Rattle.ila_model.specs.Sorted.{are_placed, is_well_sorted}
 use Rattle.ila_build.specs.Standing.{IsTable, IsGrown}
 use Rattle.ila_build.specs.Declaring.{state_entry, input_entry}

@@ -5,7 +5,9 @@ use crate::models::model;
 use ila_child::{Inputs, State, Stepped, initial_state, step};
 use ila_json::model_refusal;
 use ila_model::{IlaModel, SortedParts};
-use ila_sim::{Simulation, names_of, read_script, simulate, simulated, simulated_text, simulation_text};
+use ila_sim::{
+    Simulation, names_of, read_script, simulate, simulated, simulated_text, simulation_text,
+};
 use std::alloc::{AllocError, Global};
 use std::test::Fail;
 use wb_terms::Value;
@@ -139,7 +141,13 @@ impl Expected {
         }
         for (k, state) in self.states.iter_mut().enumerate() {
             let more = if k == 1 { 27 } else { 0 };
-            *state = if k == 0 { sum } else { state.wrapping_add(input_at(step, k % INPUTS)).wrapping_add(more) };
+            *state = if k == 0 {
+                sum
+            } else {
+                state
+                    .wrapping_add(input_at(step, k % INPUTS))
+                    .wrapping_add(more)
+            };
         }
     }
 

@@ -1,6 +1,6 @@
 -- The sort of a written term, and that of the term that it stands for.
-use Rattle.std.proofs.Common.{◌≡◌, ℕ, zero, suc, ◌⊎◌, inl, inr, Bool, true, false, not, ◌&&◌, ◌||◌, List, [], ◌∷◌, ◌++◌, Option, Some, None, refl, sym, ap, ◌∙◌, subst}
-use Rattle.std.specs.Prelude.{⊤, cond, ◌^◌, nat_lt, slice_get, is_none, option_and_then}
+use Rattle.std.proofs.Common.{◌≡◌, ℕ, zero, suc, ◌⊎◌, inl, inr, Bool, true, false, ◌&&◌, ◌||◌, List, [], ◌∷◌, ◌++◌, Option, Some, None, refl, sym, ap, ◌∙◌, subst}
+use Rattle.std.specs.Prelude.{⊤, not as truth_not, cond, ◌^◌, nat_lt, slice_get, is_none, option_and_then}
 use Rattle.std.specs.List.{list_all, list_any}
 use Rattle.std.proofs.lemmas.Bool.{false≢true, and_parts, and_from}
 use Rattle.wb_values.specs.Value.{Name, same_name, Sort, truth, word, memory, Entries, entry_of}
@@ -8,7 +8,7 @@ use Rattle.wb_values.specs.Choice.{some_if}
 use Rattle.model_meaning.specs.Term as terms
 use Rattle.model_meaning.specs.Term.{Term, is_sort, is_width, sort_of, bits_sort, same_bits_sort, word_sort, same_word_sort, compared, concat_sort, extract_sort, extended_sort, ite_sort, load_sort, store_sort}
 use Rattle.model_meaning.specs.Model.{StateDeclaration, InputDeclaration}
-use Rattle.model_files.specs.Written.{UnaryForm, not as not_form, neg, BinaryForm, and, or, xor, add, sub, mul, shl, lshr, ashr, eq, ult, ule, slt, sle, concat, load, Widening, zext, sext, WrittenTerm, name, constant_truth, const, unary, binary, extract, widen, ite, store, WrittenMachine, machine, WrittenInstruction, instruction, WrittenInstructions, no_instructions, and_then, WrittenChild, no_child, child, WrittenModel}
+use Rattle.model_files.specs.Written.{UnaryForm, not, neg, BinaryForm, and, or, xor, add, sub, mul, shl, lshr, ashr, eq, ult, ule, slt, sle, concat, load, Widening, zext, sext, WrittenTerm, name, constant_truth, const, unary, binary, extract, widen, ite, store, WrittenMachine, machine, WrittenInstruction, instruction, WrittenInstructions, no_instructions, and_then, WrittenChild, no_child, child, WrittenModel}
 use Rattle.model_files.specs.Scope.{Visible, unary_term, binary_term, widened_term, unary_sort, binary_sort, term_named, term_of, written_sort, declared, defined, Scope, with_inputs, with_states, with_definitions, with_fetch, scope_within, of_definition, of_fetch, of_condition, of_update, Placed, placed, placed_definitions, placed_fetch, placed_updates, terms_in, terms_below, terms_of_instruction, terms_of_child, outermost, all_terms}
 use Rattle.model_files.specs.Rules.{uses_unknown_name, is_unknown_at, has_unknown_name, has_fitting_constants}
 use Rattle.wb_laws.specs.Written.{meant, IsTermOf, TermsSortIsTheWritten, SortsAreTheSame}
@@ -16,7 +16,7 @@ use Rattle.wb_laws.specs.Written.{meant, IsTermOf, TermsSortIsTheWritten, SortsA
 -- ---- one form
 
 unary_same : (op : UnaryForm) (x : Term) → sort_of (unary_term op x) ≡ unary_sort op (sort_of x)
-unary_same not_form x = refl
+unary_same not x = refl
 unary_same neg x = refl
 
 binary_same : (op : BinaryForm) (x y : Term) → sort_of (binary_term op x y) ≡ binary_sort op (sort_of x) (sort_of y)
@@ -42,7 +42,7 @@ widened_same zext n x = refl
 widened_same sext n x = refl
 
 unary_none : (op : UnaryForm) → unary_sort op None ≡ None
-unary_none not_form = refl
+unary_none not = refl
 unary_none neg = refl
 
 compared_none : (o : Option Sort) → o ≡ None → compared o ≡ None
@@ -342,41 +342,41 @@ agree_at w (q ∷ ps) (suc k) p a h = agree_at w ps k p a.1 h
 
 -- ---- the laws
 
-not_unknown : (ps : List Placed) → list_any is_unknown_at ps ≡ false → list_all (λ p. not (uses_unknown_name p.names p.written)) ps ≡ true
+not_unknown : (ps : List Placed) → list_any is_unknown_at ps ≡ false → list_all (λ p. truth_not (uses_unknown_name p.names p.written)) ps ≡ true
 not_unknown [] h = refl
 not_unknown (p ∷ ps) h =
     let parts = or_parts (is_unknown_at p) (list_any is_unknown_at ps) h in
     let own = or_parts (uses_unknown_name p.names p.written) _ parts.0 in
-    and_from (not (uses_unknown_name p.names p.written)) _ (ap not own.0) (not_unknown ps parts.1)
+    and_from (truth_not (uses_unknown_name p.names p.written)) _ (ap truth_not own.0) (not_unknown ps parts.1)
 
-was_known : (b : Bool) → not b ≡ true → b ≡ false
+was_known : (b : Bool) → truth_not b ≡ true → b ≡ false
 was_known true h = absurd (false≢true h)
 was_known false h = refl
 
-upward : Way
+abbrev upward : Way
 upward = record {
   Agree = IsAtLeast;
-  fine = λ names e. not (uses_unknown_name names e);
+  fine = λ names e. truth_not (uses_unknown_name names e);
   term = λ names e a h. at_least names e a (was_known (uses_unknown_name names e) h);
   declaration = λ n s. inr refl;
 }
 
-both_ways : Way
+abbrev both_ways : Way
 both_ways = record {
   Agree = IsSame;
-  fine = λ names e. not (uses_unknown_name names e) && has_fitting_constants e;
+  fine = λ names e. truth_not (uses_unknown_name names e) && has_fitting_constants e;
   term = λ names e a h.
-      let parts = and_parts (not (uses_unknown_name names e)) (has_fitting_constants e) h in
+      let parts = and_parts (truth_not (uses_unknown_name names e)) (has_fitting_constants e) h in
       same names e a (was_known (uses_unknown_name names e) parts.0) parts.1;
   declaration = λ n s. refl;
 }
 
-fine_both : (ps : List Placed) → list_all (λ p. not (uses_unknown_name p.names p.written)) ps ≡ true → list_all (λ p. has_fitting_constants p.written) ps ≡ true → AllFine both_ways ps
+fine_both : (ps : List Placed) → list_all (λ p. truth_not (uses_unknown_name p.names p.written)) ps ≡ true → list_all (λ p. has_fitting_constants p.written) ps ≡ true → AllFine both_ways ps
 fine_both [] a b = refl
 fine_both (p ∷ ps) a b =
-    let x = and_parts (not (uses_unknown_name p.names p.written)) _ a in
+    let x = and_parts (truth_not (uses_unknown_name p.names p.written)) _ a in
     let y = and_parts (has_fitting_constants p.written) _ b in
-    and_from (not (uses_unknown_name p.names p.written) && has_fitting_constants p.written) _ (and_from (not (uses_unknown_name p.names p.written)) (has_fitting_constants p.written) x.0 y.0) (fine_both ps x.1 y.1)
+    and_from (truth_not (uses_unknown_name p.names p.written) && has_fitting_constants p.written) _ (and_from (truth_not (uses_unknown_name p.names p.written)) (has_fitting_constants p.written) x.0 y.0) (fine_both ps x.1 y.1)
 
 where_some : (w t : Option Sort) (s : Sort) → IsAtLeast w t → t ≡ Some s → w ≡ Some s
 where_some w t s (inl e) h = cc
