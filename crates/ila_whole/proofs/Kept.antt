@@ -271,7 +271,7 @@ top_states around (machine ss ds f v is) = refl
 
 self_of : (xs : List Name) → Sub xs xs
 self_of [] = Sub.over
-self_of (x ∷ xs) = Sub.keep x (self_of xs)
+self_of (x ∷ xs) = Sub.keep x xs xs (self_of xs)
 
 pub kept : (m : WrittenModel) → broken_rule m ≡ None → is_shaped m ≡ true → IsModel (file.model_of m)
 kept m h shape =

@@ -12,8 +12,8 @@ use Rattle.ila_whole.proofs.whole.whole_model.Goals as goal
 pub unreachable-requires : goal.unreachable-requires
 unreachable-requires c = never_none (model_view c.args.written.now) c.in-Ok.parts c.in_ok-sorted-in-Ok.field-0 c.in-Ok.ensures.sorted (c.requires.unbroken, c.requires.shaped) c.in_ok-sorted-in-Ok.ensures.well_sorted c.in-None.is
 
-pub new-2-requires : goal.new-2-requires
-new-2-requires c =
+pub new-requires-in-Some : goal.new-requires-in-Some
+new-requires-in-Some c =
     let m = model_view c.args.written.now in
     let parts : c.in-Some.sorted.parts ≡ c.in-Ok.parts = of_some c.in_ok-sorted-in-Ok.field-0 c.in-Some.sorted (λ s. s.parts ≡ c.in-Ok.parts) c.in_ok-sorted-in-Ok.ensures.parts c.in-Some.is in
     let read = ap (model_from (string_bytes c.in_ok-name.name)) parts ∙ parts_model m c.in-Ok.parts _ c.in-Ok.ensures.parts c.requires.unbroken c.in_ok-name.ensures.ok in
@@ -22,4 +22,4 @@ new-2-requires c =
 pub returns-in-Some : goal.returns-in-Some
 returns-in-Some c =
     let parts : c.in-Some.sorted.parts ≡ c.in-Ok.parts = of_some c.in_ok-sorted-in-Ok.field-0 c.in-Some.sorted (λ s. s.parts ≡ c.in-Ok.parts) c.in_ok-sorted-in-Ok.ensures.parts c.in-Some.is in
-    c.new-2.ensures.model ∙ (ap (model_from (string_bytes c.in_ok-name.name)) parts ∙ parts_model (model_view c.args.written.now) c.in-Ok.parts _ c.in-Ok.ensures.parts c.requires.unbroken c.in_ok-name.ensures.ok)
+    c.new-in-Some.ensures.model ∙ (ap (model_from (string_bytes c.in_ok-name.name)) parts ∙ parts_model (model_view c.args.written.now) c.in-Ok.parts _ c.in-Ok.ensures.parts c.requires.unbroken c.in_ok-name.ensures.ok)
