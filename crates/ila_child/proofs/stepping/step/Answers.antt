@@ -1,10 +1,11 @@
 use Rattle.std.proofs.Common.{◌≡◌, ◌∙◌, ◌≤◌, map, length, Some, None, true, false, sym, ap, subst, arith, string_bytes}
 use Rattle.std.proofs.lemmas.Bool.{and_parts, false≢true}
+use Rattle.wb_values.specs.Value.{truth}
 use Rattle.model_meaning.specs.Model.{holds, point_of}
 use Rattle.wb_terms.specs.Graph.{tree}
 use Rattle.wb_terms.specs.Environment.{as_value, values_of, valuation}
 use Rattle.ila_model.specs.Scope.{nesting}
-use Rattle.ila_model.specs.Sorted.{is_condition}
+use Rattle.ila_model.specs.Sorted.{is_condition, is_term_of}
 use Rattle.ila_model.specs.Meaning.{model_from}
 use Rattle.ila_model.proofs.Declarations.{sorted}
 use Rattle.ila_child.specs.declared.decoding.Decoded.TheVariants.{Several}
@@ -44,6 +45,12 @@ start-requires-clause-fits c =
     let i = subst (λ x. IsEnvironment p.terms.names q x e) c.values-2.ensures half in
     let a = given p s name q w c.requires.state c.requires.inputs in
     environment_fits p q w e a i
+
+pub holds-requires-clause-condition : goal.holds-requires-clause-condition
+holds-requires-clause-condition c =
+    let p = c.args.model.now.parts in
+    let top = and_parts (is_condition p None p.valid.0) _ (sorted p c.args.model.now.well_sorted).top in
+    (and_parts (is_term_of p.terms truth p.valid.0) _ top.0).0
 
 pub returns-then-not-holds : goal.returns-then-not-holds
 returns-then-not-holds c =
