@@ -6,7 +6,7 @@ use Rattle.std.proofs.lemmas.Bool.{false≢true, and_parts}
 use Rattle.std.proofs.lemmas.Slice.Eq.{bytes_eq-Decides}
 use Rattle.wb_values.specs.Value.{Name, Sort, same_name, Entries}
 use Rattle.model_meaning.specs.Term.{is_sort}
-use Rattle.model_files.specs.Keys.{is_among}
+use Rattle.model_meaning.specs.Among.{is_among}
 use Rattle.wb_terms.specs.declared.nodes.TermId.{TermId}
 use Rattle.wb_terms.specs.declared.store.PutStop.{PutStop}
 use Rattle.wb_terms.specs.declared.store.PutStop.TheVariants.{BadSort, NoMemory}

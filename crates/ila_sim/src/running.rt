@@ -2,11 +2,13 @@
 
 ghost use Rattle.std.specs.Prelude.{◌≡◌, ◌++◌, ℕ, IfOk, OnOk, IsTrue, map};
 ghost use Rattle.scripts.specs.Script.{settables_of, inputs_of};
-ghost use Rattle.scripts.specs.Simulation.{IsOutcome, IsSimulation};
+ghost use Rattle.model_meaning.specs.Outcome.{IsOutcome};
+ghost use Rattle.scripts.specs.Simulation.{IsSimulation};
 ghost use Rattle.ila_model.specs.Model.{model_of};
 ghost use Rattle.ila_child.specs.State.{IsStateOf, state_valuation};
 ghost use Rattle.ila_sim.specs.Lines.{sets_view};
-ghost use Rattle.ila_sim.specs.Outcomes.{outcome_view, values_after, IsWell, IsTold};
+ghost use Rattle.ila_child.specs.Step.{outcome_view, IsWell};
+ghost use Rattle.ila_sim.specs.Outcomes.{values_after, IsTold};
 ghost use Rattle.ila_sim.specs.Scripts.{script_view, IsScriptWithin};
 ghost use Rattle.ila_sim.specs.Sets.{are_right};
 

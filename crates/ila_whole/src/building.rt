@@ -8,7 +8,8 @@ ghost use Rattle.ila_build.specs.Standing.{IsFresh, IsTable};
 ghost use Rattle.ila_build.specs.Knowing.{defined_names};
 ghost use Rattle.ila_build.specs.Building.{definitions_in, instructions_in};
 ghost use Rattle.ila_build.specs.Refusing.{IsUnrefused, names_below};
-ghost use Rattle.model_files.specs.Names.{all_data_names, has_twice};
+ghost use Rattle.model_meaning.specs.Among.{has_twice};
+ghost use Rattle.model_files.specs.Names.{all_data_names};
 ghost use Rattle.ila_whole.specs.Whole.{ArePartsOf, AreSortedParts, IsFit};
 
 use ila_build::{

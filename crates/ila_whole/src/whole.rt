@@ -9,7 +9,7 @@ ghost use Rattle.ila_whole.specs.Shaped.{is_shaped};
 
 use crate::building::put_parts;
 use ila_file::WrittenModel;
-use ila_model::IlaModel;
+use ila_model::{IlaModel, SortedParts};
 use std::alloc::{AllocError, Global};
 use wb_terms::{NoMemory, PutStop};
 
@@ -21,8 +21,8 @@ pub fn whole_model(alloc: Global, written: &WrittenModel<'_>) -> Result<IlaModel
 {
     let name = String::from_str(alloc, written.name)?;
     match put_parts(alloc, written) {
-        Ok(parts) => match IlaModel::new(alloc, name, parts)? {
-            Some(model) => Ok(model),
+        Ok(parts) => match SortedParts::new(alloc, parts)? {
+            Some(sorted) => Ok(IlaModel::new(name, sorted)),
             None => unreachable!(),
         },
         Err(PutStop::BadSort) => unreachable!(),

@@ -1,7 +1,7 @@
 -- The obligations of a model and a map: their names, hypotheses and claims in order, and when one holds.
 use Rattle.std.specs.Prelude.{◌≡◌, ℕ, zero, suc, ◌-◌, ◌<◌, cond, List, [], ◌∷◌, ◌++◌, length, Option, Some, None, is_some, codes, decimal, ⊤}
 use Rattle.wb_values.specs.Value.{Name, Value, Valuation}
-use Rattle.model_meaning.specs.Model.{Model, StateDeclaration, Instruction, instruction_name, Child, no_child, child, child_of, states_of, instructions_in, state_named}
+use Rattle.model_meaning.specs.Model.{Model, StateDeclaration, Instruction, instruction_name, Child, no_child, child, child_program, states_of, instructions_in, state_named}
 use Rattle.model_meaning.specs.Instruction.{Does, DecodesAt, IsInstruction, IsStarted}
 use Rattle.refinement.specs.Map.{Setting, Map, InstructionMap, instruction_map}
 use Rattle.refinement.specs.Run.{Run, IsRun, IsResetAt, HoldsOf}
@@ -175,7 +175,7 @@ bound_named m n = bound_in (instruction_map m.instructions n)
 abbrev pub instruction_obligations : Model → Map → ℕ → Instruction → List Obligation
 instruction_obligations model m j i =
     let n : Name = instruction_name i in
-    child_obligations m j n (child_of i) ++ bound_obligation m j n (bound_named m n)
+    child_obligations m j n (child_program i) ++ bound_obligation m j n (bound_named m n)
     ∷ for_each (commit_obligations model m j n) 0 (bound_named m n)
 
 -- those of the instructions from number j on

@@ -3,8 +3,8 @@ use Rattle.std.proofs.Common.{◌≡◌, ◌≢◌, ℕ, zero, suc, ◌+◌, ◌
 use Rattle.std.specs.Prelude.{IsTrue, is_some, codes, decimal}
 use mathlib.Core.Path.{fun_ext}
 use Rattle.wb_values.specs.Value.{Name, Valuation, number, entry_of}
-use Rattle.model_meaning.specs.Model.{Model, state_named, states_of, Instruction, instruction, instruction_name, no_child, child, child_of, updated, point_of, instructions_in}
-use Rattle.model_meaning.specs.Instruction.{IsInstruction, IsStarted, Steps, Does, DoesInstruction, state_in, SameStates}
+use Rattle.model_meaning.specs.Model.{Model, state_named, states_of, Instruction, instruction, instruction_name, no_child, child, child_program, updated, point_of, instructions_in}
+use Rattle.model_meaning.specs.Instruction.{IsInstruction, IsStarted, Steps, Does, DoesInstruction, own_states, SameStates}
 use Rattle.verilog_trees.specs.Syntax.{Expression}
 use Rattle.refinement.specs.Map.{Setting, InstructionMap, mapped_state, mapped_or_zero, sort_of_state}
 use Rattle.refinement.specs.Run.{Run, IsRun, HoldsOf, IsFromReset}
@@ -33,7 +33,7 @@ mapped_same s v u alike =
     unnamed s' v' u' (Some e) = refl
 
 -- A state of the model that agrees with a mapped state is it.
-state_same : (s : Setting) (v p : Valuation) → SameStates s.model (mapped_state s v) (state_in s.model p) → state_in s.model p ≡ mapped_state s v
+state_same : (s : Setting) (v p : Valuation) → SameStates s.model (mapped_state s v) (own_states s.model p) → own_states s.model p ≡ mapped_state s v
 state_same s v p alike =
     fun_ext (λ n.
     (elim (state_named (states_of s.model.top) n) as
@@ -57,7 +57,7 @@ one_command m q w j k a b =
     ]
 
 -- without a child an instruction always leads somewhere
-done_without_child : (i : Instruction) (p : Valuation) → child_of i ≡ no_child → (q : Valuation) × DoesInstruction i p q
+done_without_child : (i : Instruction) (p : Valuation) → child_program i ≡ no_child → (q : Valuation) × DoesInstruction i p q
 done_without_child (instruction called decode update no_child) p e = (updated update p, refl)
 done_without_child (instruction called decode update (child steps program)) p e = cc
 
@@ -83,15 +83,15 @@ module _ (s : Setting) (complete : IsComplete s) (all : AllHold s (obligations s
       → AllHold s (bound_obligation s.map j (instruction_name i) (bound_named s.map (instruction_name i))
       ∷ for_each (commit_obligations s.model s.map j (instruction_name i)) 0 (bound_named s.map (instruction_name i)))
   bound_holds j i e =
-      AllHold-right s (child_obligations s.map j (instruction_name i) (child_of i))
+      AllHold-right s (child_obligations s.map j (instruction_name i) (child_program i))
       (bound_obligation s.map j (instruction_name i) (bound_named s.map (instruction_name i))
       ∷ for_each (commit_obligations s.model s.map j (instruction_name i)) 0 (bound_named s.map (instruction_name i)))
       (of_instruction j i e)
 
   child_holds : (j : ℕ) (i : Instruction) → IsInstruction s.model j i
-      → AllHold s (child_obligations s.map j (instruction_name i) (child_of i))
+      → AllHold s (child_obligations s.map j (instruction_name i) (child_program i))
   child_holds j i e =
-      AllHold-left s (child_obligations s.map j (instruction_name i) (child_of i))
+      AllHold-left s (child_obligations s.map j (instruction_name i) (child_program i))
       (bound_obligation s.map j (instruction_name i) (bound_named s.map (instruction_name i))
       ∷ for_each (commit_obligations s.model s.map j (instruction_name i)) 0 (bound_named s.map (instruction_name i)))
       (of_instruction j i e)
@@ -294,7 +294,7 @@ module _ (s : Setting) (complete : IsComplete s) (all : AllHold s (obligations s
       let steps : Steps s.model (state_at s run t) (inputs_at s run t) x =
       subst (λ p. Steps s.model p (inputs_at s run t) x) known.1 does in
       let after : Valuation = steps.0 in
-      let is_x : x ≡ state_in s.model after = steps.2 in
+      let is_x : x ≡ own_states s.model after = steps.2 in
       let done : Does s.model i (state_at s run t) (inputs_at s run t) x = (
         after,
         step_by_decoded s.model.top (point_of s.model (state_at s run t) (inputs_at s run t)) after steps.1 j i is_j.1.is_j is_j.1.decoded,
@@ -346,7 +346,7 @@ module _ (s : Setting) (complete : IsComplete s) (all : AllHold s (obligations s
           → DoesInstruction is_j.1.i (point_of s.model (state_at s run t) (inputs_at s run t)) after
           → (x : Valuation) × Steps s.model (state_at s run t) (inputs_at s run t) x
       stepped j is_j after does = (
-        state_in s.model after,
+        own_states s.model after,
         (
           after,
           step_done s.model.top (point_of s.model (state_at s run t) (inputs_at s run t)) after j is_j.1.i is_j.1.is_j is_j.0 is_j.1.decoded
@@ -359,11 +359,11 @@ module _ (s : Setting) (complete : IsComplete s) (all : AllHold s (obligations s
       same_instruction j i o is_i is_o = let both : Some o ≡ Some i = sym is_o ∙ is_i in cc
 
       next_state : IsRun s (shifted t run) 1 → (j : ℕ) (is_j : IsCommandOf s run t j) → MeansAll s (shifted t run) (started_by s.map j)
-          → AllHold s (child_obligations s.map j (instruction_name is_j.1.i) (child_of is_j.1.i))
+          → AllHold s (child_obligations s.map j (instruction_name is_j.1.i) (child_program is_j.1.i))
           → (x : Valuation) × Steps s.model (state_at s run t) (inputs_at s run t) x
       next_state is_run j is_j facts hold =
-          (elim (child_of is_j.1.i) as
-          (λ c. child_of is_j.1.i ≡ c → AllHold s (child_obligations s.map j (instruction_name is_j.1.i) c)
+          (elim (child_program is_j.1.i) as
+          (λ c. child_program is_j.1.i ≡ c → AllHold s (child_obligations s.map j (instruction_name is_j.1.i) c)
           → (x : Valuation) × Steps s.model (state_at s run t) (inputs_at s run t) x) [
             | no_child ↦ λ e h.
                 let done = done_without_child is_j.1.i (point_of s.model (state_at s run t) (inputs_at s run t)) e in

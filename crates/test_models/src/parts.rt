@@ -1,6 +1,7 @@
-//! Tests: a counter's parts make a model with its names and sorts, and changed parts do not.
+//! Tests: a counter's parts are well sorted, and changed parts are not; and what a model says of its states and inputs.
 
-use ila_model::{Child, ChildId, IlaModel, Instruction, Parts, Scope, Update};
+use crate::models::{OP_IS_ZERO, YES, counter as counter_model};
+use ila_model::{Child, ChildId, Instruction, Parts, SortedParts, Update};
 use std::alloc::Global;
 use std::test::Fail;
 use wb_terms::{NameId, Node, PutStop, Sort, TermId, Terms, Value};
@@ -72,8 +73,8 @@ const GOOD: Row = Row {
     child_valid: IS_PRIVATE,
 };
 
-/// The model of a row, if its parts are well sorted.
-fn model(alloc: Global, row: &Row) -> Result<Option<IlaModel>, Fail> {
+/// Whether the parts of a row are well sorted.
+fn are_sorted(alloc: Global, row: &Row) -> Result<bool, Fail> {
     let instruction = Instruction {
         name: String::from_str(alloc, "INC")?,
         decode: IS_ONE,
@@ -96,17 +97,16 @@ fn model(alloc: Global, row: &Row) -> Result<Option<IlaModel>, Fail> {
         instructions: vec![in alloc; instruction]?,
         children: vec![in alloc; child]?,
     };
-    let name = String::from_str(alloc, "counter")?;
-    Ok(IlaModel::new(alloc, name, parts)?)
+    Ok(SortedParts::new(alloc, parts)?.is_some())
 }
 
 #[test]
 fn counter(rt: HostRuntime) -> Result<(), Fail> {
-    let counter = model(rt.alloc(), &GOOD)?.ok_or("ill sorted")?;
+    let counter = counter_model(rt.alloc(), YES, OP_IS_ZERO)?;
     assert_eq!(rt; counter.state_count(), 1);
     assert_eq!(rt; counter.state_name(0), "cnt");
     assert_eq!(rt; counter.state_sort(0), Sort::Word(8));
-    assert!(rt; matches!(counter.initial_value(0), Some(Value::Number(0))));
+    assert!(rt; matches!(counter.initial_value(0), Some(Value::Number(7))));
     assert_eq!(rt; counter.input_count(), 1);
     assert_eq!(rt; counter.input_name(0), "op");
     assert_eq!(rt; counter.input_sort(0), Sort::Word(1));
@@ -212,7 +212,7 @@ fn sorts(rt: HostRuntime) -> Result<(), Fail> {
         ),
     ];
     for (row, good) in rows {
-        assert_eq!(rt; model(rt.alloc(), &row)?.is_some(), good);
+        assert_eq!(rt; are_sorted(rt.alloc(), &row)?, good);
     }
     Ok(())
 }

@@ -90,7 +90,7 @@ fn children_and_memories(rt: HostRuntime) -> Result<(), Fail> {
     are_said(alloc, &multiplier(alloc, 4, BELOW_4)?, &PRODUCT)?;
     are_said(alloc, &multiplier(alloc, 3, BELOW_4)?, &TOO_LONG)?;
     are_said(alloc, &multiplier(alloc, 4, BELOW_2)?, &STUCK)?;
-    are_said(alloc, &nested(alloc)?, &NESTED)?;
+    are_said(alloc, &nested(alloc, NO)?, &NESTED)?;
     are_said(alloc, &stores(alloc)?, &STORED)?;
     Ok(())
 }

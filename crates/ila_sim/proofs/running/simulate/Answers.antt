@@ -1,12 +1,14 @@
 use Rattle.std.proofs.Common.{◌++◌, ◌+◌, [], ◌∷◌, List, map, drop, ap, ◌∙◌, subst, arith, append-nil, Vec, Global}
 use Rattle.std.proofs.lemmas.List.{map-append, drop_all}
 use Rattle.scripts.specs.Script.{settables_of, inputs_of, first_state}
-use Rattle.scripts.specs.Simulation.{IsOutcome, AreOutcomes}
+use Rattle.model_meaning.specs.Outcome.{IsOutcome}
+use Rattle.scripts.specs.Simulation.{AreOutcomes}
 use Rattle.ila_child.specs.State.{state_valuation}
 use Rattle.ila_model.specs.Model.{model_of}
 use Rattle.ila_sim.specs.declared.set.Set.{Set}
 use Rattle.ila_sim.specs.Lines.{sets_view}
-use Rattle.ila_sim.specs.Outcomes.{outcome_view, inputs_from}
+use Rattle.ila_child.specs.Step.{outcome_view}
+use Rattle.ila_sim.specs.Outcomes.{inputs_from}
 use Rattle.ila_sim.specs.Scripts.{script_view}
 use Rattle.ila_sim.specs.Sets.{are_right}
 use Rattle.ila_sim.proofs.Steps.{after_well, one_more, lines_next, rest_right, ended}

@@ -1,10 +1,12 @@
 use Rattle.std.proofs.Common.{IsTrue, List, ◌++◌, map, drop}
 use Rattle.std.specs.List.{list_all}
 use Rattle.scripts.specs.Script.{settables_of, first_state}
-use Rattle.scripts.specs.Simulation.{Outcome, AreOutcomes}
+use Rattle.model_meaning.specs.Outcome.{Outcome}
+use Rattle.scripts.specs.Simulation.{AreOutcomes}
 use Rattle.ila_child.specs.State.{IsStateOf, state_valuation}
 use Rattle.ila_model.specs.Model.{model_of}
-use Rattle.ila_sim.specs.Outcomes.{outcome_view, inputs_from}
+use Rattle.ila_child.specs.Step.{outcome_view}
+use Rattle.ila_sim.specs.Outcomes.{inputs_from}
 use Rattle.ila_sim.specs.Scripts.{script_view}
 use Rattle.ila_sim.specs.Sets.{are_right}
 use Rattle.ila_sim.proofs.running.simulate.Given as goal
