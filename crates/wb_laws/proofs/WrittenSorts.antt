@@ -1,6 +1,6 @@
 -- The sort of a written term, and that of the term that it stands for.
 use Rattle.std.proofs.Common.{◌≡◌, ℕ, zero, suc, ◌⊎◌, inl, inr, Bool, true, false, ◌&&◌, ◌||◌, List, [], ◌∷◌, ◌++◌, Option, Some, None, refl, sym, ap, ◌∙◌, subst}
-use Rattle.std.specs.Prelude.{⊤, not as truth_not, cond, ◌^◌, nat_lt, slice_get, is_none, option_and_then}
+use Rattle.std.specs.Prelude.{⊤, codes, not as truth_not, cond, ◌^◌, nat_lt, slice_get, is_none, option_and_then}
 use Rattle.std.specs.List.{list_all, list_any}
 use Rattle.std.proofs.lemmas.Bool.{false≢true, and_parts, and_from}
 use Rattle.wb_values.specs.Value.{Name, same_name, Sort, truth, word, memory, Entries, entry_of}
@@ -292,7 +292,7 @@ fetch_agrees : (w : Way) (names : Entries Visible) (f : Option WrittenTerm) → 
 fetch_agrees w names None a h = (tt, a)
 fetch_agrees w names (Some e) a h =
     let here = w.term names e a (and_parts (w.fine names e) _ h).0 in
-    ((here, tt), one_more w names _ (defined names e) a here)
+    ((here, tt), one_more w names (codes "fetch") (defined names e) a here)
 
 updates_agree : (w : Way) (names : Entries Visible) (states : List StateDeclaration) (us : Entries WrittenTerm) → AgreeOn w.Agree names → AllFine w (placed_updates names states us) → AllAgree w (placed_updates names states us)
 updates_agree w names states [] a h = tt
