@@ -8,8 +8,8 @@ use Rattle.model_meaning.specs.Instruction.{IsInstruction, IsStarted, Steps, Doe
 use Rattle.verilog_trees.specs.Syntax.{Expression}
 use Rattle.refinement.specs.Map.{Setting, InstructionMap, mapped_state, mapped_or_zero, sort_of_state}
 use Rattle.refinement.specs.Run.{Run, IsRun, HoldsOf, IsFromReset}
-use Rattle.refinement.specs.Refinement.{state_at, inputs_at, StartsAt, IsEntry, CommitsAt, IsCommandOf, EndsAt, IsIdle, HasOneInFlight, HasState, Refines}
-use Rattle.refinement.specs.Obligation.{Fact, invariant, assumed, reset_active, start, no_start, decoded, commit, no_commit, initial, same, result_of, MeansAll, Holds, for_each, invariants_at, premises_at, started, started_by, running_at, running, not_ended, ended_at, invariant_obligations, state_obligations, reset_obligations, idle_obligations, decode_obligation, child_obligations, bound_obligation, commit_obligations, instruction_obligations, all_instruction_obligations, obligations, bound_named, bound_in, with_initial_values}
+use Rattle.refinement.specs.Refinement.{state_at, inputs_at, StartsAt, IsMapEntry, CommitsAt, IsCommandOf, EndsAt, IsIdle, HasOneInFlight, HasState, Refines}
+use Rattle.refinement.specs.Obligation.{Fact, invariant, assumed, reset_active, start, no_start, decoded, commit, no_commit, initial, same, result_of, MeansAll, Holds, for_each, invariants_at, premises_at, start_hypotheses, started_by, running_at, running, not_ended, ended_at, invariant_obligations, state_obligations, reset_obligations, idle_obligations, decode_obligation, child_obligations, bound_obligation, commit_obligations, instruction_obligations, all_instruction_obligations, obligations, bound_named, bound_in, with_initial_values}
 use Rattle.refinement.specs.Soundness.{AllHold, IsComplete, ObligationsGiveRefinement}
 use Rattle.soundness.proofs.FactLists.{AllHold-left, AllHold-right, AllHold-for_each, MeansAll-append, MeansAll-for_each}
 use Rattle.soundness.proofs.Shifted.{later, later_sum, later_from, shifted, IsRun-shifted, IsRun-shorter}
@@ -137,7 +137,7 @@ module _ (s : Setting) (complete : IsComplete s) (all : AllHold s (obligations s
       MeansAll-for_each s (shifted t run) (λ k. invariant k 0 ∷ []) 0 (length s.map.invariants) (λ k from to. (inv k, tt))
 
   given_start : (t : ℕ) → ((k : ℕ) → HoldsOf s run s.map.invariants k t) → s.map.reset_cycles ≤ t → t < n → StartsAt s run t
-      → MeansAll s (shifted t run) (started s.map)
+      → MeansAll s (shifted t run) (start_hypotheses s.map)
   given_start t inv past low starts =
       MeansAll-append s (shifted t run) (invariants_at s.map 0 ++ premises_at s.map 0) (start 0 ∷ [])
       (MeansAll-append s (shifted t run) (invariants_at s.map 0) (premises_at s.map 0) (given_invariants t inv) (premises t 0 past low))
@@ -146,7 +146,7 @@ module _ (s : Setting) (complete : IsComplete s) (all : AllHold s (obligations s
   given_started_by : (t j : ℕ) → ((k : ℕ) → HoldsOf s run s.map.invariants k t) → s.map.reset_cycles ≤ t → t < n → StartsAt s run t
       → IsCommandOf s run t j → MeansAll s (shifted t run) (started_by s.map j)
   given_started_by t j inv past low starts is_j =
-      MeansAll-append s (shifted t run) (started s.map) (decoded j ∷ []) (given_start t inv past low starts)
+      MeansAll-append s (shifted t run) (start_hypotheses s.map) (decoded j ∷ []) (given_start t inv past low starts)
       ((is_j.1.i, is_j.1.is_j, is_j.1.decoded), tt)
 
   -- behind a start there is no start as long as its command has not ended
@@ -324,7 +324,7 @@ module _ (s : Setting) (complete : IsComplete s) (all : AllHold s (obligations s
           (known_behind_commit k' t' q' x' idle past (omega (arith, end'.from)) known' starts' j' is_j' found.0
           (subst (λ m. EndsAt s run j' t' m) (sym found.1) end') (subst (λ m. m < n) (sym found.1) inside) does')
 
-  entry_bound : (j : ℕ) (e : InstructionMap) → (entry : IsEntry s j e) → bound_named s.map (instruction_name entry.0) ≡ e.bound
+  entry_bound : (j : ℕ) (e : InstructionMap) → (entry : IsMapEntry s j e) → bound_named s.map (instruction_name entry.0) ≡ e.bound
   entry_bound j e entry = ap bound_in entry.2
 
   -- a start at an idle cycle has a command and a next state
