@@ -17,7 +17,7 @@ new-requires-in-Some c =
     let m = model_view c.args.written.now in
     let parts : c.in-Some.sorted.parts ≡ c.in-Ok.parts = of_some c.in_ok-sorted-in-Ok.field-0 c.in-Some.sorted (λ s. s.parts ≡ c.in-Ok.parts) c.in_ok-sorted-in-Ok.ensures.parts c.in-Some.is in
     let read = ap (model_from (string_bytes c.in_ok-name.name)) parts ∙ parts_model m c.in-Ok.parts _ c.in-Ok.ensures.parts c.requires.unbroken c.in_ok-name.ensures.ok in
-    subst IsModel (sym read) (kept m c.requires.unbroken c.requires.shaped)
+    record { kept = subst IsModel (sym read) (kept m c.requires.unbroken c.requires.shaped) }
 
 pub returns-in-Some : goal.returns-in-Some
 returns-in-Some c =
