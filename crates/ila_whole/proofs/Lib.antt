@@ -10,3 +10,4 @@ pub mod FreshTop
 pub mod Refusals
 pub mod SortedParts
 pub mod ShapeOf
+mod Small
