@@ -94,9 +94,6 @@ bring_start t all = record { fresh = λ f. f; besides = λ w b. b }
 pub bring_turn : (t u v : BTreeMap (Bor (List ℕ)) TermId) (ns rest all : List Name) → IsBringing t u (ns ++ rest) all → IsBesides u v ns → IsBringing t v rest all
 bring_turn t u v ns rest all a b = record { fresh = λ f. fresh_behind u v ns rest (a.fresh f) b; besides = λ w d. a.besides w (besides_onward u v w ns rest b d) }
 
-pub bring_end : (t u : BTreeMap (Bor (List ℕ)) TermId) (all : List Name) → IsBringing t u [] all → IsBesides t u all
-bring_end t u all a = a.besides u (besides_same u [])
-
 -- ---- declarations
 
 pub first_sort : (e : Name × Sort) (es : Entries Sort) → are_sorts (e ∷ es) ≡ true → (is_sort e.1 ≡ true) × (are_sorts es ≡ true)

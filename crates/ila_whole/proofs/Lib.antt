@@ -11,3 +11,4 @@ pub mod Refusals
 pub mod SortedParts
 pub mod ShapeOf
 pub mod Kept
+mod Small
