@@ -9,7 +9,7 @@ use Rattle.std.specs.Map.{lookup}
 use Rattle.wb_values.specs.Value.{Name, Sort, Entries, same_name}
 use Rattle.model_meaning.specs.Term.{Term}
 use Rattle.model_meaning.specs.Model.{StateDeclaration}
-use Rattle.model_files.specs.Keys.{is_among}
+use Rattle.model_meaning.specs.Among.{is_among}
 use Rattle.model_files.specs.Names.{data_names}
 use Rattle.model_files.specs.Written.{WrittenTerm, name, constant_truth, const, unary, binary, extract, widen, ite, store, WrittenInstruction, instruction, WrittenInstructions, and_then, WrittenMachine, machine, child, states_in, machines_below, machines_of_child}
 use Rattle.wb_terms.specs.declared.nodes.TermId.{TermId}
