@@ -1,9 +1,5 @@
 -- The modules that were read before the place of a refusal.
-<<<<<<< Updated upstream
-use Rattle.std.proofs.Common.{◌≡◌, ◌∙◌, List, [], ◌∷◌, ◌++◌, length, Some, None, refl, sym, subst}
-=======
 use Rattle.std.proofs.Common.{◌≡◌, ◌∙◌, List, [], ◌∷◌, ◌++◌, length, Some, None, is_some, true≢false, ap, refl, sym, subst}
->>>>>>> Stashed changes
 use Rattle.std.specs.Prelude.{codes}
 use Rattle.verilog_trees.specs.Syntax.{Module, Source}
 use Rattle.verilog_text.specs.Token.{Token}
@@ -33,11 +29,7 @@ pub one_module_more : (text rest : List Token) (m : Module) (behind : List Token
 one_module_more text rest m behind read front = (front.0 ++ m ∷ [], row-push front.0 m text rest behind front.1 (module_read rest (m, behind) read).0)
 
 no_module : (rest : List Token) → module_at rest ≡ None → (m : Module) (behind : List Token) → IsModule m rest behind → ⊥
-<<<<<<< Updated upstream
-no_module rest none m behind d = let clash : some (m, behind) ≡ None = sym (module_again m rest behind d tt) ∙ none in absurd cc
-=======
 no_module rest none m behind d = let clash : some (m, behind) ≡ None = sym (module_again m rest behind d tt) ∙ none in true≢false (ap is_some clash)
->>>>>>> Stashed changes
 
 pub wrong_module : (e : ExpressionStop) (text rest : List Token) → IsFront text rest → Fails e (module_at rest) → IsWithin e rest
     → (after_word (codes "module") rest ≡ None → IsFirst e rest) → IsModulePlace e text
