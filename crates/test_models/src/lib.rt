@@ -6,8 +6,6 @@ mod built;
 #[cfg(test)]
 mod files;
 #[cfg(test)]
-mod large;
-#[cfg(test)]
 mod models;
 #[cfg(test)]
 mod parts;
