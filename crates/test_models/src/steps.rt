@@ -51,6 +51,11 @@ fn answer_of(alloc: Global, model: &IlaModel, state: u128, inputs: &[u128]) -> R
     Ok(seen_in(&stepped))
 }
 
+/// What the multiplier does under two factors.
+fn product_of(alloc: Global, model: &IlaModel, x: u128, y: u128) -> Result<Seen, Fail> {
+    answer_of(alloc, model, 77, &[x, y])
+}
+
 #[test]
 fn counters(rt: HostRuntime) -> Result<(), Fail> {
     let alloc = rt.alloc();
@@ -97,14 +102,14 @@ fn memories(rt: HostRuntime) -> Result<(), Fail> {
 fn multipliers(rt: HostRuntime) -> Result<(), Fail> {
     let alloc = rt.alloc();
     let rows = [
-        (4, BELOW_4, [3, 5], Seen::Next(0, 15)),
-        (4096, BELOW_4, [15, 15], Seen::Next(0, 225)),
-        (3, BELOW_4, [3, 5], Seen::ChildTooLong(1)),
-        (4, BELOW_2, [3, 5], Seen::ChildStuck(1, 2)),
+        (4, BELOW_4, 3, 5, Seen::Next(0, 15)),
+        (4096, BELOW_4, 15, 15, Seen::Next(0, 225)),
+        (3, BELOW_4, 3, 5, Seen::ChildTooLong(1)),
+        (4, BELOW_2, 3, 5, Seen::ChildStuck(1, 2)),
     ];
-    for (steps, decode, factors, expected) in rows {
+    for (steps, decode, x, y, expected) in rows {
         let model = multiplier(alloc, steps, decode)?;
-        assert_eq!(rt; answer_of(alloc, &model, 77, &factors)?, expected);
+        assert_eq!(rt; product_of(alloc, &model, x, y)?, expected);
     }
     Ok(())
 }
