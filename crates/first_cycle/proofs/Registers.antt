@@ -3,8 +3,8 @@ use Rattle.std.proofs.Common.{◌≡◌, ℕ, ◌+◌, ◌*◌, ◌/◌, ◌%◌
 use Rattle.std.proofs.Math.Nat.{add-mul-mod_self_right, mod-mod}
 use Rattle.wb_values.specs.Value.{Name, same_name, number, as_number, Valuation}
 use Rattle.verilog_meaning.specs.Expression.{Scope, object_width, is_true, assigned_value}
-use Rattle.verilog_meaning.specs.Statement.{variable, all_bits, run, run_all, Effect, Update, written_cell, with_update, with_updates, with_bits_from}
-use Rattle.verilog_meaning.specs.Register.{updates_of, after_edge, clocked_blocks}
+use Rattle.verilog_meaning.specs.Statement.{variable_cell, all_bits, run, run_all, Effect, Update, written_cell, with_update, with_updates, with_bits_from}
+use Rattle.verilog_meaning.specs.Register.{updates_of_blocks, after_edge, clocked_blocks}
 use Rattle.first_text.specs.Tree.{Term, term_tree, Action, set, sequence, when, when_else, Actions, no_actions, action, action_tree, actions_tree, Part, register, assignment, clocked, part_trees, module_tree}
 use Rattle.wb_first.specs.Names.{First, scope_of_first, bits_of_name}
 use Rattle.wb_first.proofs.Alike.{kept}
@@ -49,7 +49,7 @@ module _ (f : First) (v : Valuation) (n : Name) where
   unfolding assigned_at
   leaves_one m e u x is =
       elim (same_name m n) as
-      (λ b. cond b (written_cell (s m) (u m) variable (all_bits (s m)) (assigned_value s v (object_width (s m)) (term_tree e) / 2 ^ 0)) (u n)
+      (λ b. cond b (written_cell (s m) (u m) variable_cell (all_bits (s m)) (assigned_value s v (object_width (s m)) (term_tree e) / 2 ^ 0)) (u n)
       ≡ number (cond b (assigned_value s v (object_width (s m)) (term_tree e)) x)) [
         | true ↦ ap number (whole_number (object_width (s m)) (as_number (u m)) _)
         | false ↦ is
@@ -84,12 +84,12 @@ module _ (f : First) (v : Valuation) (n : Name) where
         (updates_in f v a) (all_updates_in f v list) (action_leaves a)
         (subst (λ t. Leaves (run_all s (actions_tree list) t).updates (all_updates_in f v list)) (sym (kept s a v)) (actions_leave list))
 
-  pub blocks_leave : (ps : List Part) → Leaves (updates_of s v (clocked_blocks (part_trees ps))) (block_updates f v ps)
+  pub blocks_leave : (ps : List Part) → Leaves (updates_of_blocks s v (clocked_blocks (part_trees ps))) (block_updates f v ps)
   blocks_leave [] = λ u x e. e
   blocks_leave (register b m ∷ ps) = blocks_leave ps
   blocks_leave (assignment m e ∷ ps) = blocks_leave ps
   blocks_leave (clocked c a ∷ ps) =
-      leaves_both (run s (action_tree a) v).updates (updates_of s v (clocked_blocks (part_trees ps))) (updates_in f v a) (block_updates f v ps)
+      leaves_both (run s (action_tree a) v).updates (updates_of_blocks s v (clocked_blocks (part_trees ps))) (updates_in f v a) (block_updates f v ps)
       (action_leaves a) (blocks_leave ps)
 
   pub edge_leaves : (x : ℕ) → v n ≡ number x

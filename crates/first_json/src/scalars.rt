@@ -5,7 +5,7 @@ ghost use Rattle.std.specs.List.{list_all};
 ghost use Rattle.wb_values.specs.Choice.{some_if};
 ghost use Rattle.wb_values.specs.Value.{same_name, truth, truth_value};
 ghost use Rattle.serde_json.specs.View.{view};
-ghost use Rattle.model_files.specs.Shape.{is_hexadecimal_digit, digit_value, with_hexadecimal_digits, are_hexadecimal_digits};
+ghost use Rattle.model_files.specs.Shape.{is_lower_digit, lower_digit_value, with_hexadecimal_digits, are_hexadecimal_digits};
 ghost use Rattle.first_json.specs.ModelFile.{sort_from, sort_in, number_of_text, number_in, fitting, value_in};
 ghost use Rattle.first_json.specs.ModelView.{sort_view, value_view};
 
@@ -81,21 +81,21 @@ fn are_hexadecimal_digits(digits: &[u8]) -> bool
 }
 
 fn all_hexadecimal_digits(digits: &[u8]) -> bool
-    ensures { result ≡ list_all is_hexadecimal_digit digits.now }
+    ensures { result ≡ list_all is_lower_digit digits.now }
 {
     digits.iter().all(|digit| is_hexadecimal_digit(*digit))
 }
 
 fn is_hexadecimal_digit(byte: u8) -> bool
-    ensures { result ≡ is_hexadecimal_digit byte }
+    ensures { result ≡ is_lower_digit byte }
 {
     (48 <= byte && byte <= 57) || (97 <= byte && byte <= 102)
 }
 
 /// The value of a decimal digit or of one of the letters a to f.
 fn digit_value(byte: u8) -> u8
-    requires { IsTrue (is_hexadecimal_digit byte) }
-    ensures value { result ≡ digit_value byte }
+    requires { IsTrue (is_lower_digit byte) }
+    ensures value { result ≡ lower_digit_value byte }
     ensures small { result < 16 }
 {
     if 97 <= byte { byte - 87 } else { byte - 48 }

@@ -3,9 +3,9 @@ use Rattle.std.proofs.Common.{◌≡◌, ℕ, zero, suc, Bool, true, false, cond
 use Rattle.std.specs.Prelude.{is_some, slice_get}
 use Rattle.wb_values.specs.Value.{Name, same_name, Value, number, Valuation, Entries, entry_of}
 use Rattle.verilog_trees.specs.Syntax.{input}
-use Rattle.verilog_meaning.specs.Settled.{names_of, is_counted, IsPort}
+use Rattle.verilog_meaning.specs.Settled.{names_of, is_counted, HasPort}
 use Rattle.verilog_meaning.specs.Register.{word_count}
-use Rattle.verilog_meaning.specs.Hierarchy.{dotted}
+use Rattle.verilog_meaning.specs.Hierarchy.{PathStep, dotted}
 use Rattle.refinement.specs.Map.{Setting, map_scope}
 use Rattle.refinement.specs.Obligation.{obligations}
 use Rattle.reports.specs.Report.{is_in_order, IsRegister, IsInput, StandsFor, AreEntriesOf}
@@ -63,7 +63,6 @@ module _ (f : First) (k : Keeps f) where
 
   register_is : (n : Name) → is_register f.design n ≡ true → IsRegister (design_of_first f) n
   register_is n h = record {
-    path = [];
     place = first_placed f;
     own = n;
     word = 0;
@@ -76,8 +75,8 @@ module _ (f : First) (k : Keeps f) where
 
   is_register_of : (n : Name) → IsRegister (design_of_first f) n → is_register f.design n ≡ true
   is_register_of n r =
-      let only = only_top f k.is_top r.path r.place r.is_place in
-      let same : n ≡ r.own = r.is_name ∙ ap (λ (q : List Name). dotted q r.own) only.0 in
+      let only = only_top f k.is_top r.place.path r.place r.is_place in
+      let same : n ≡ r.own = r.is_name ∙ ap (λ (q : List PathStep). dotted q r.own) only.0 in
       let counted : is_counted (first_placed f) r.own r.word r.bit ≡ true = subst (λ q. is_counted q r.own r.word r.bit ≡ true) only.1 r.counted in
       ap (is_register f.design) same
       ∙ (sym (may_be_set (scope_of_first f.design) f.design.parts r.own r.word r.bit) ∙ and_right _ _ counted)
@@ -97,7 +96,7 @@ module _ (f : First) (k : Keeps f) where
   is_input_of : (n : Name) → IsInput (design_of_first f) n → (is_input f.design n && not (same_name n f.map.clock)) ≡ true
   is_input_of n r =
       let only = only_top f k.is_top [] r.place r.is_place in
-      let port : IsPort (module_tree f.design) n input = subst (λ q. IsPort q.of_module n input) only.1 r.is_port in
+      let port : HasPort (module_tree f.design) n input = subst (λ q. HasPort q.of_module n input) only.1 r.is_port in
       let here : is_input f.design n ≡ true = port_input f.design n port in
       rw here (by_same (same_name n f.map.clock) refl)
     where

@@ -17,7 +17,7 @@ use Rattle.ila_build.specs.Building.{IsMachineRight, IsInside, IsChildPut, defin
 use Rattle.ila_build.specs.Inside.{program_in}
 use Rattle.ila_build.specs.Refusing.{IsNoRefusal, IsBesides, IsMachineDue, IsChildDue, AreBelowDue, IsProgramDue, AreFitBelow, IsFitChild, entry_names, are_sorts, names_below, names_of_child}
 use Rattle.ila_build.proofs.Definitions.{knows_kept}
-use Rattle.ila_build.proofs.Fresh.{unrefused_by, fresh_front, fresh_behind, besides_onward, IsBringing, bring_turn}
+use Rattle.ila_build.proofs.Fresh.{unrefused_by, fresh_front, fresh_behind, IsBringing, bring_turn}
 use Rattle.ila_build.proofs.ChildLemmas.{knows_states, declared_last, places_from, stand_more}
 use Rattle.ila_build.proofs.InsideLemmas.{AreToPutInside, machine_right, next_right, stand_wider}
 
@@ -37,19 +37,13 @@ joined-append (x ∷ xs) ys = ap (λ ns. data_names x ++ ns) (joined-append xs y
 pub first_names : (i : WrittenInstruction) (is : WrittenInstructions) → names_below (and_then i is) ≡ names_of_child (program_in i) ++ names_below is
 first_names (instruction n d u p) is = joined-append (machines_of_child p) (machines_below is)
 
-program_names : (steps : ℕ) (m : WrittenMachine) → names_of_child (child steps m) ≡ data_names m ++ names_below (instructions_in m)
+pub program_names : (steps : ℕ) (m : WrittenMachine) → names_of_child (child steps m) ≡ data_names m ++ names_below (instructions_in m)
 program_names steps (machine ss ds f v is) = refl
 
 pub first_fit : (i : WrittenInstruction) (is : WrittenInstructions) → AreFitBelow (and_then i is) → IsFitChild (program_in i) × AreFitBelow is
 first_fit (instruction n d u p) is f = f
 
 -- ---- a child program itself
-
-pub child_besides : (t r u : BTreeMap (Bor (List ℕ)) TermId) (ss : List StateDeclaration) (w : WrittenMachine) → ss ≡ states_in w
-    → IsBesides t r (entry_names (map state_entry ss)) → IsBesides r u (defined_names (definitions_in w)) → IsBesides t u (data_names w)
-child_besides t r u ss w e a b =
-    subst (IsBesides t u) (ap (λ x. entry_names (map state_entry x) ++ defined_names (definitions_in w)) e ∙ sym (data_names_are w))
-    (besides_onward t r u (entry_names (map state_entry ss)) (defined_names (definitions_in w)) a b)
 
 own_names : (t : BTreeMap (Bor (List ℕ)) TermId) (ss : List StateDeclaration) (w : WrittenMachine) → ss ≡ states_in w → IsFresh t (data_names w) → IsFresh t (entry_names (map state_entry ss) ++ defined_names (definitions_in w))
 own_names t ss w e f = subst (IsFresh t) (data_names_are w ∙ ap (λ x. entry_names (map state_entry x) ++ defined_names (definitions_in w)) (sym e)) f
@@ -78,9 +72,6 @@ machine_lost g m t r steps ss w s e wide ns keep table besides n =
     )) n
 
 -- ---- with those inside it
-
-pub program_besides : (t r u : BTreeMap (Bor (List ℕ)) TermId) (steps : ℕ) (w : WrittenMachine) → IsBesides t r (data_names w) → IsBesides r u (names_below (instructions_in w)) → IsBesides t u (names_of_child (child steps w))
-program_besides t r u steps w a b = subst (IsBesides t u) (sym (program_names steps w)) (besides_onward t r u (data_names w) (names_below (instructions_in w)) a b)
 
 pub own_child_lost : (g : Graph) (t : BTreeMap (Bor (List ℕ)) TermId) (steps : ℕ) (w : WrittenMachine) (s : PutStop) → IsNoRefusal s (IsChildDue g t steps w) → IsNoRefusal s (IsProgramDue g t (child steps w))
 own_child_lost g t steps (machine ss ds f v is) s n =
@@ -118,10 +109,6 @@ below_lost g h t r links steps (machine ss ds f v is) c s put besides n =
       fresh = fresh_behind t r (data_names (machine ss ds f v is)) (names_below is) d.fresh besides;
       fit = d.fit.1;
     }) n
-
-pub no_names : (t : BTreeMap (Bor (List ℕ)) TermId) (p : WrittenChild) → p ≡ no_child → IsBesides t t (names_of_child p)
-unfolding IsBesides
-no_names t p e q h = refl
 
 -- ---- the loop over instructions
 

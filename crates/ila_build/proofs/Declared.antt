@@ -34,7 +34,7 @@ pub absent : (g : Graph) (t : BTreeMap (Bor (List ℕ)) TermId) (n : Name) → I
 unfolding IsTable
 absent g t n s e = absent_from g t g.names n s.1 e
 
-wide_name : (g m : Graph) (n : Name) (s : Sort) → m ≡ with_name g n s → trees_of m ≡ trees_of g → IsWider g m
+pub wide_name : (g m : Graph) (n : Name) (s : Sort) → m ≡ with_name g n s → trees_of m ≡ trees_of g → IsWider g m
 wide_name g m n s e ts =
     let l : length m.nodes ≡ length g.nodes = ap (λ (f : Graph). length f.nodes) e in
     record {

@@ -13,7 +13,7 @@ use Rattle.wb_terms.specs.declared.store.PutStop.{PutStop}
 use Rattle.wb_terms.specs.declared.store.PutStop.TheVariants.{BadSort, NoMemory}
 use Rattle.wb_terms.specs.Graph.{Graph, tree}
 use Rattle.std.proofs.lemmas.Slice.Eq.{bytes_eq-Decides}
-use Rattle.model_files.specs.Keys.{is_among}
+use Rattle.model_meaning.specs.Among.{is_among}
 use Rattle.ila_build.specs.Standing.{IsFresh, IsKept, under_name, found, seen, seen_by, StandsFor, IsIn, AreIn, term_by, IsWider, IsPut}
 use Rattle.ila_build.specs.Knowing.{Knows, is_right, are_right, AreDefined, defined_names}
 use Rattle.ila_build.proofs.Growing.{wider}

@@ -6,7 +6,7 @@ use Rattle.std.proofs.lemmas.Bool.{false≢true, and_parts}
 use Rattle.std.proofs.lemmas.Slice.Eq.{bytes_eq-Decides}
 use Rattle.wb_values.specs.Value.{Name, Sort, same_name, Entries}
 use Rattle.model_meaning.specs.Term.{is_sort}
-use Rattle.model_files.specs.Keys.{is_among}
+use Rattle.model_meaning.specs.Among.{is_among}
 use Rattle.wb_terms.specs.declared.nodes.TermId.{TermId}
 use Rattle.wb_terms.specs.declared.store.PutStop.{PutStop}
 use Rattle.wb_terms.specs.declared.store.PutStop.TheVariants.{BadSort, NoMemory}
@@ -93,9 +93,6 @@ bring_start t all = record { fresh = λ f. f; besides = λ w b. b }
 
 pub bring_turn : (t u v : BTreeMap (Bor (List ℕ)) TermId) (ns rest all : List Name) → IsBringing t u (ns ++ rest) all → IsBesides u v ns → IsBringing t v rest all
 bring_turn t u v ns rest all a b = record { fresh = λ f. fresh_behind u v ns rest (a.fresh f) b; besides = λ w d. a.besides w (besides_onward u v w ns rest b d) }
-
-pub bring_end : (t u : BTreeMap (Bor (List ℕ)) TermId) (all : List Name) → IsBringing t u [] all → IsBesides t u all
-bring_end t u all a = a.besides u (besides_same u [])
 
 -- ---- declarations
 

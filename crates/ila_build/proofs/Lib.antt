@@ -15,3 +15,4 @@ pub mod WrittenParts
 pub mod InsideLemmas
 pub mod ChildDue
 pub mod LayoutLemmas
+pub mod LeavingLemmas

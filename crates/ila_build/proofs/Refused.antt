@@ -3,16 +3,16 @@ use Rattle.std.proofs.Common.{◌≡◌, ℕ, Option, Some, None, refl, ap, ◌�
 use Rattle.wb_values.specs.Value.{Sort, truth, word, memory}
 use Rattle.model_meaning.specs.Term as terms
 use Rattle.model_meaning.specs.Term.{Term, sort_of, bits_sort, word_sort, same_bits_sort, same_word_sort, compared, concat_sort, load_sort, extract_sort, extended_sort, ite_sort, store_sort}
-use Rattle.model_files.specs.Written.{UnaryOperator, not, neg, BinaryOperator, and, or, xor, add, sub, mul, shl, lshr, ashr, eq, ult, ule, slt, sle, concat, load, Widening, zext, sext}
+use Rattle.model_files.specs.Written.{UnaryForm, not, neg, BinaryForm, and, or, xor, add, sub, mul, shl, lshr, ashr, eq, ult, ule, slt, sle, concat, load, Widening, zext, sext}
 use Rattle.model_files.specs.Scope.{unary_term, binary_term, widened_term, unary_sort, binary_sort}
 
 -- ---- the sort of an operator's term is what the operator makes of the operands' sorts
 
-pub unary-sort : (op : UnaryOperator) (x : Term) → sort_of (unary_term op x) ≡ unary_sort op (sort_of x)
+pub unary-sort : (op : UnaryForm) (x : Term) → sort_of (unary_term op x) ≡ unary_sort op (sort_of x)
 unary-sort not x = refl
 unary-sort neg x = refl
 
-pub binary-sort : (op : BinaryOperator) (x y : Term) → sort_of (binary_term op x y) ≡ binary_sort op (sort_of x) (sort_of y)
+pub binary-sort : (op : BinaryForm) (x y : Term) → sort_of (binary_term op x y) ≡ binary_sort op (sort_of x) (sort_of y)
 binary-sort and x y = refl
 binary-sort or x y = refl
 binary-sort xor x y = refl
@@ -88,11 +88,11 @@ store_third (Some (memory a d)) (Some truth) = refl
 store_third (Some (memory a d)) (Some (word w)) = refl
 store_third (Some (memory a d)) (Some (memory b e)) = refl
 
-unary_none : (op : UnaryOperator) → unary_sort op None ≡ None
+unary_none : (op : UnaryForm) → unary_sort op None ≡ None
 unary_none not = refl
 unary_none neg = refl
 
-binary_left : (op : BinaryOperator) (s : Option Sort) → binary_sort op None s ≡ None
+binary_left : (op : BinaryForm) (s : Option Sort) → binary_sort op None s ≡ None
 binary_left and s = refl
 binary_left or s = refl
 binary_left xor s = refl
@@ -110,7 +110,7 @@ binary_left sle s = refl
 binary_left concat s = refl
 binary_left load s = refl
 
-binary_right : (op : BinaryOperator) (s : Option Sort) → binary_sort op s None ≡ None
+binary_right : (op : BinaryForm) (s : Option Sort) → binary_sort op s None ≡ None
 binary_right and s = bits_right s
 binary_right or s = bits_right s
 binary_right xor s = bits_right s
@@ -128,13 +128,13 @@ binary_right sle s = ap compared (word_right s)
 binary_right concat s = concat_right s
 binary_right load s = load_right s
 
-pub unary-none : (op : UnaryOperator) (x : Term) → sort_of x ≡ None → sort_of (unary_term op x) ≡ None
+pub unary-none : (op : UnaryForm) (x : Term) → sort_of x ≡ None → sort_of (unary_term op x) ≡ None
 unary-none op x h = unary-sort op x ∙ (ap (unary_sort op) h ∙ unary_none op)
 
-pub first-none : (op : BinaryOperator) (x y : Term) → sort_of x ≡ None → sort_of (binary_term op x y) ≡ None
+pub first-none : (op : BinaryForm) (x y : Term) → sort_of x ≡ None → sort_of (binary_term op x y) ≡ None
 first-none op x y h = binary-sort op x y ∙ (ap (λ s. binary_sort op s (sort_of y)) h ∙ binary_left op (sort_of y))
 
-pub second-none : (op : BinaryOperator) (x y : Term) → sort_of y ≡ None → sort_of (binary_term op x y) ≡ None
+pub second-none : (op : BinaryForm) (x y : Term) → sort_of y ≡ None → sort_of (binary_term op x y) ≡ None
 second-none op x y h = binary-sort op x y ∙ (ap (binary_sort op (sort_of x)) h ∙ binary_right op (sort_of x))
 
 pub extract-none : (h l : ℕ) (x : Term) → sort_of x ≡ None → sort_of (terms.extract h l x) ≡ None

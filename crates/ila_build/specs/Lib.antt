@@ -6,3 +6,5 @@ pub mod Building
 pub mod Inside
 pub mod Refusing
 pub mod Layout
+pub mod Sizes
+pub mod Leaving

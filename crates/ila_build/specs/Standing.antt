@@ -8,7 +8,7 @@ use Rattle.wb_values.specs.Value.{Name, Sort, Entries, same_name}
 use Rattle.model_meaning.specs.Term as terms
 use Rattle.model_meaning.specs.Term.{Term, sort_of}
 use Rattle.model_files.specs.Written.{WrittenTerm, name, constant_truth, const, unary, binary, extract, widen, ite, store}
-use Rattle.model_files.specs.Keys.{is_among}
+use Rattle.model_meaning.specs.Among.{is_among}
 use Rattle.model_files.specs.Scope.{Visible, declared, unary_term, binary_term, widened_term}
 use Rattle.wb_terms.specs.declared.nodes.TermId.{TermId}
 use Rattle.wb_terms.specs.declared.store.PutStop.{PutStop}

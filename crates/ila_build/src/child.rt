@@ -3,9 +3,11 @@
 ghost use Rattle.std.specs.Prelude.{◌≡◌, ◌++◌, length, map, option_map, is_some, IfOk, OnOk};
 ghost use Rattle.std.specs.List.{list_all};
 ghost use Rattle.ila_file.specs.View.{machine_view, state_view};
-ghost use Rattle.ila_build.specs.Standing.{IsKept, IsTable, IsWider};
+ghost use Rattle.ila_build.specs.Leaving.{IsLeft};
+ghost use Rattle.ila_build.specs.Sizes.{machine_size};
+ghost use Rattle.ila_build.specs.Standing.{IsTable};
 ghost use Rattle.ila_build.specs.Building.{IsChildPut};
-ghost use Rattle.ila_build.specs.Refusing.{IsBesides, IsChildDue, IsUnrefused};
+ghost use Rattle.ila_build.specs.Refusing.{IsChildDue, IsUnrefused};
 ghost use Rattle.ila_build.specs.Declaring.{state_entry};
 ghost use Rattle.model_files.specs.Names.{data_names};
 ghost use Rattle.model_files.specs.Written.{states_in};
@@ -44,8 +46,7 @@ pub fn put_child<'v>(
     links: &[Option<ChildId>],
 ) -> Result<Child, PutStop>
     requires { IsTable terms.old known.old }
-    ensures wider { OnOk result (IsWider terms.old terms.new) }
-    ensures kept { OnOk result (IsKept known.old known.new) }
+    ensures left { IsLeft terms.old known.old terms.new known.new (data_names (machine_view machine.now)) (machine_size (machine_view machine.now)) }
     ensures table { OnOk result (IsTable terms.new known.new) }
     ensures steps { IfOk result (λ c. c.steps ≡ steps) }
     ensures around { IfOk result (λ c. c.around ≡ around) }
@@ -53,7 +54,6 @@ pub fn put_child<'v>(
     ensures names { OnOk result (terms.new.names ≡ terms.old.names ++ map state_entry (states_in (machine_view machine.now))) }
     ensures values { IfOk result (λ c. map (option_map as_value) c.initial_values.items ≡ map (λ s. s.init) (states_in (machine_view machine.now))) }
     ensures put { IfOk result (λ c. IsChildPut terms.old known.old terms.new known.new links.now (machine_view machine.now) c) }
-    ensures besides { OnOk result (IsBesides known.old known.new (data_names (machine_view machine.now))) }
     ensures unrefused { IsUnrefused result (IsChildDue terms.old known.old steps (machine_view machine.now)) }
 {
     let states = states_of(machine);

@@ -1,13 +1,14 @@
 //! Names are declared in a store, and stand for themselves.
 
-ghost use Rattle.std.specs.Prelude.{◌≡◌, ◌++◌, [], ◌∷◌, true, false, map, None, IfOk, IfSome, OnOk, option_map};
+ghost use Rattle.std.specs.Prelude.{◌≡◌, ◌++◌, [], ◌∷◌, true, false, length, map, None, IfOk, IfSome, OnOk, option_map};
 ghost use Rattle.model_meaning.specs.Term.{is_sort};
 ghost use Rattle.wb_terms.specs.Sort.{as_sort};
 ghost use Rattle.wb_terms.specs.Environment.{as_value};
 ghost use Rattle.ila_file.specs.View.{sort_view, value_view, state_view, input_view, initial_view};
-ghost use Rattle.ila_build.specs.Standing.{IsFresh, IsKept, IsTable, IsWider, under_name};
+ghost use Rattle.ila_build.specs.Standing.{IsFresh, IsTable, under_name};
 ghost use Rattle.ila_build.specs.Declaring.{state_entry, input_entry};
-ghost use Rattle.ila_build.specs.Refusing.{IsBesides, IsUnrefused, are_sorts, entry_names};
+ghost use Rattle.ila_build.specs.Leaving.{IsLeft};
+ghost use Rattle.ila_build.specs.Refusing.{IsUnrefused, are_sorts, entry_names};
 
 use crate::putting::under_name;
 use crate::table::remember;
@@ -47,11 +48,9 @@ fn declare<'v>(
     sort: WrittenSort,
 ) -> Result<(), PutStop>
     requires { IsTable terms.old known.old }
-    ensures wider { OnOk result (IsWider terms.old terms.new) }
     ensures names { OnOk result (terms.new.names ≡ terms.old.names ++ (name.now, sort_view sort) ∷ []) }
-    ensures kept { OnOk result (IsKept known.old known.new) }
     ensures table { OnOk result (IsTable terms.new known.new) }
-    ensures besides { OnOk result (IsBesides known.old known.new (name.now ∷ [])) }
+    ensures left { IsLeft terms.old known.old terms.new known.new (name.now ∷ []) 1 }
     ensures unrefused { IsUnrefused result ((under_name known.old name.now ≡ None) × (is_sort (sort_view sort) ≡ true)) }
 {
     if under_name(known, name).is_some() {
@@ -79,11 +78,9 @@ pub fn declare_states<'v>(
     states: &[WrittenState<'v>],
 ) -> Result<(), PutStop>
     requires { IsTable terms.old known.old }
-    ensures wider { OnOk result (IsWider terms.old terms.new) }
     ensures names { OnOk result (terms.new.names ≡ terms.old.names ++ map state_entry (map state_view states.now)) }
-    ensures kept { OnOk result (IsKept known.old known.new) }
     ensures table { OnOk result (IsTable terms.new known.new) }
-    ensures besides { OnOk result (IsBesides known.old known.new (entry_names (map state_entry (map state_view states.now)))) }
+    ensures left { IsLeft terms.old known.old terms.new known.new (entry_names (map state_entry (map state_view states.now))) (length states.now) }
     ensures unrefused { IsUnrefused result (IsFresh known.old (entry_names (map state_entry (map state_view states.now))) × (are_sorts (map state_entry (map state_view states.now)) ≡ true)) }
 {
     for state in states {
@@ -100,11 +97,9 @@ pub fn declare_inputs<'v>(
     inputs: &[WrittenInput<'v>],
 ) -> Result<(), PutStop>
     requires { IsTable terms.old known.old }
-    ensures wider { OnOk result (IsWider terms.old terms.new) }
     ensures names { OnOk result (terms.new.names ≡ terms.old.names ++ map input_entry (map input_view inputs.now)) }
-    ensures kept { OnOk result (IsKept known.old known.new) }
     ensures table { OnOk result (IsTable terms.new known.new) }
-    ensures besides { OnOk result (IsBesides known.old known.new (entry_names (map input_entry (map input_view inputs.now)))) }
+    ensures left { IsLeft terms.old known.old terms.new known.new (entry_names (map input_entry (map input_view inputs.now))) (length inputs.now) }
     ensures unrefused { IsUnrefused result (IsFresh known.old (entry_names (map input_entry (map input_view inputs.now))) × (are_sorts (map input_entry (map input_view inputs.now)) ≡ true)) }
 {
     for input in inputs {

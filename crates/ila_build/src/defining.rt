@@ -2,10 +2,11 @@
 
 ghost use Rattle.std.specs.Prelude.{◌≡◌, ℕ, List, [], ◌∷◌, false, map, None, OnOk};
 ghost use Rattle.wb_values.specs.Value.{same_name};
-ghost use Rattle.ila_file.specs.View.{definition_view};
-ghost use Rattle.ila_build.specs.Standing.{AreIn, IsGrown, IsKept, under_name};
+ghost use Rattle.ila_file.specs.View.{definition_view, term_view};
+ghost use Rattle.ila_build.specs.Leaving.{IsLeft};
+ghost use Rattle.ila_build.specs.Sizes.{size_of, sizes_of};
+ghost use Rattle.ila_build.specs.Standing.{AreIn, IsGrown, under_name};
 ghost use Rattle.ila_build.specs.Knowing.{AreDefined, defined_names};
-ghost use Rattle.ila_build.specs.Refusing.{IsBesides};
 
 use crate::putting::{put_term, under_name};
 use crate::table::remember;
@@ -20,9 +21,8 @@ fn put_definition<'v>(
     definition: &Definition<'v>,
 ) -> Result<(), PutStop>
     requires { AreIn terms.old known.old None }
-    ensures grown { OnOk result (IsGrown terms.old terms.new) }
-    ensures in_store { OnOk result (AreIn terms.new known.new None) }
-    ensures kept { OnOk result (IsKept known.old known.new) }
+    ensures grown { IsGrown terms.old terms.new }
+    ensures left { IsLeft terms.old known.old terms.new known.new (definition.now.name.now ∷ []) (size_of (term_view definition.now.term)) }
     ensures aside { OnOk result ((q : List ℕ) → same_name definition.now.name.now q ≡ false → under_name known.new q ≡ under_name known.old q) }
     ensures defined { AreDefined terms.old known.old terms.new known.new result (definition_view definition.now ∷ []) }
 {
@@ -43,10 +43,8 @@ pub fn put_definitions<'v>(
     definitions: &[Definition<'v>],
 ) -> Result<(), PutStop>
     requires { AreIn terms.old known.old None }
-    ensures grown { OnOk result (IsGrown terms.old terms.new) }
-    ensures in_store { OnOk result (AreIn terms.new known.new None) }
-    ensures kept { OnOk result (IsKept known.old known.new) }
-    ensures besides { OnOk result (IsBesides known.old known.new (defined_names (map definition_view definitions.now))) }
+    ensures grown { IsGrown terms.old terms.new }
+    ensures left { IsLeft terms.old known.old terms.new known.new (defined_names (map definition_view definitions.now)) (sizes_of (map definition_view definitions.now)) }
     ensures defined { AreDefined terms.old known.old terms.new known.new result (map definition_view definitions.now) }
 {
     for definition in definitions {

@@ -6,7 +6,9 @@ ghost use Rattle.ila_build.specs.Standing.{IsTable};
 ghost use Rattle.ila_build.specs.Building.{instructions_in};
 ghost use Rattle.ila_build.specs.Inside.{AreChildrenPut, IsProgramPut, program_in};
 ghost use Rattle.ila_build.specs.Layout.{AreLaidPut, IsLaidPut};
-ghost use Rattle.ila_build.specs.Refusing.{AreBelowDue, IsBesides, IsProgramDue, IsUnrefused, names_below, names_of_child};
+ghost use Rattle.ila_build.specs.Leaving.{HasInFront, IsLeft};
+ghost use Rattle.ila_build.specs.Refusing.{AreBelowDue, IsProgramDue, IsUnrefused, names_below, names_of_child};
+ghost use Rattle.ila_build.specs.Sizes.{size_below, size_of_child};
 
 use crate::child::put_child;
 use crate::counting::links_of;
@@ -30,7 +32,8 @@ pub fn put_children<'v>(
     requires { IsTable terms.old known.old }
     ensures put { OnOk result (AreChildrenPut terms.old known.old children.old.items terms.new known.new children.new.items (instructions_in (machine_view machine.now))) }
     ensures laid { OnOk result (AreLaidPut terms.old known.old children.old.items terms.new children.new.items around (instructions_in (machine_view machine.now))) }
-    ensures besides { OnOk result (IsBesides known.old known.new (names_below (instructions_in (machine_view machine.now)))) }
+    ensures left { IsLeft terms.old known.old terms.new known.new (names_below (instructions_in (machine_view machine.now))) (size_below (instructions_in (machine_view machine.now))) }
+    ensures in_front { HasInFront children.old.items children.new.items }
     ensures unrefused { IsUnrefused result (AreBelowDue terms.old known.old (instructions_in (machine_view machine.now))) }
 {
     for instruction in machine.instructions.iter() {
@@ -52,7 +55,8 @@ fn put_child_of<'v>(
     requires { IsTable terms.old known.old }
     ensures put { OnOk result (IsProgramPut terms.old known.old children.old.items terms.new known.new children.new.items (program_in (instruction_view instruction.now))) }
     ensures laid { OnOk result (IsLaidPut terms.old known.old children.old.items terms.new children.new.items around (program_in (instruction_view instruction.now))) }
-    ensures besides { OnOk result (IsBesides known.old known.new (names_of_child (program_in (instruction_view instruction.now)))) }
+    ensures left { IsLeft terms.old known.old terms.new known.new (names_of_child (program_in (instruction_view instruction.now))) (size_of_child (program_in (instruction_view instruction.now))) }
+    ensures in_front { HasInFront children.old.items children.new.items }
     ensures unrefused { IsUnrefused result (IsProgramDue terms.old known.old (program_in (instruction_view instruction.now))) }
 {
     match &instruction.child {
@@ -77,7 +81,8 @@ fn put_program<'v>(
     requires { IsTable terms.old known.old }
     ensures put { OnOk result (IsProgramPut terms.old known.old children.old.items terms.new known.new children.new.items (child_view child.now)) }
     ensures laid { OnOk result (IsLaidPut terms.old known.old children.old.items terms.new children.new.items around (child_view child.now)) }
-    ensures besides { OnOk result (IsBesides known.old known.new (names_of_child (child_view child.now))) }
+    ensures left { IsLeft terms.old known.old terms.new known.new (names_of_child (child_view child.now)) (size_of_child (child_view child.now)) }
+    ensures in_front { HasInFront children.old.items children.new.items }
     ensures unrefused { IsUnrefused result (IsProgramDue terms.old known.old (child_view child.now)) }
 {
     let id = children.len();

@@ -1,7 +1,8 @@
 //! The instructions of a machine: their conditions and updates are put into the store.
 
-ghost use Rattle.std.specs.Prelude.{◌≡◌, true, map, IfOk, OnOk};
+ghost use Rattle.std.specs.Prelude.{◌≡◌, ◌≤◌, ◌+◌, true, length, map, IfOk};
 ghost use Rattle.ila_file.specs.View.{instruction_view, instructions_view};
+ghost use Rattle.ila_build.specs.Sizes.{instruction_size, instruction_sizes};
 ghost use Rattle.ila_build.specs.Standing.{AreIn, IsGrown, IsTable};
 ghost use Rattle.ila_build.specs.Building.{AreInstructionsPut, AreOwnRight, IsInstructionPut, link_at, own_terms, pair_of};
 ghost use Rattle.ila_build.specs.Knowing.{are_right};
@@ -52,7 +53,8 @@ fn put_instruction<'v>(
 ) -> Result<Instruction, PutStop>
     requires table { IsTable terms.old known.now }
     requires in_store { AreIn terms.old known.now fetch }
-    ensures grown { OnOk result (IsGrown terms.old terms.new) }
+    ensures grown { IsGrown terms.old terms.new }
+    ensures added { length terms.new.nodes ≤ length terms.old.nodes + instruction_size (instruction_view instruction.now) }
     ensures put { IfOk result (λ x. IsInstructionPut terms.old known.now fetch terms.new link (instruction_view instruction.now) x) }
     ensures unrefused { IsUnrefused result (IsDue terms.old known.now fetch (λ names ss. are_right (own_terms names ss (instruction_view instruction.now)) ≡ true)) }
 {
@@ -83,7 +85,8 @@ pub fn put_instructions<'v>(
 ) -> Result<Vec<Instruction>, PutStop>
     requires table { IsTable terms.old known.now }
     requires in_store { AreIn terms.old known.now fetch }
-    ensures grown { OnOk result (IsGrown terms.old terms.new) }
+    ensures grown { IsGrown terms.old terms.new }
+    ensures added { length terms.new.nodes ≤ length terms.old.nodes + instruction_sizes (instructions_view instructions.now) }
     ensures put { IfOk result (λ xs. AreInstructionsPut terms.old known.now fetch terms.new links.now (instructions_view instructions.now) xs.items) }
     ensures unrefused { IsUnrefused result (IsDue terms.old known.now fetch (λ names ss. AreOwnRight names ss (instructions_view instructions.now))) }
 {

@@ -1,6 +1,6 @@
 //! The nodes of written operators over terms that are in a store.
 
-ghost use Rattle.std.specs.Prelude.{◌≡◌, ◌<◌, ◌≤◌, [], ◌∷◌, length};
+ghost use Rattle.std.specs.Prelude.{◌≡◌, ◌<◌, ◌≤◌, ◌+◌, [], ◌∷◌, length};
 ghost use Rattle.model_meaning.specs.Term.{const, extract, ite, store};
 ghost use Rattle.model_files.specs.Scope.{unary_term, binary_term, widened_term};
 ghost use Rattle.wb_terms.specs.Graph.{Graph, IsOver, tree, tree_of_node, operands_of, names_of};
@@ -13,7 +13,8 @@ use wb_terms::{Node, PutStop, Sort, TermId, Terms};
 /// Puts a node.
 pub(crate) fn put_node(terms: &mut Terms, node: Node) -> Result<TermId, PutStop>
     requires { IsOver terms.old (length terms.old.nodes) node }
-    ensures { IsPut terms.old terms.new result (tree_of_node terms.old node) }
+    ensures put { IsPut terms.old terms.new result (tree_of_node terms.old node) }
+    ensures added { length terms.new.nodes ≤ length terms.old.nodes + 1 }
 {
     terms.put(node)
 }
@@ -67,7 +68,8 @@ fn widening_node(widening: Widening, width: u32, x: TermId) -> Node
 
 /// Puts a word by its width in bits and its number.
 pub(crate) fn put_const(terms: &mut Terms, width: u64, value: u128) -> Result<TermId, PutStop>
-    ensures { IsPut terms.old terms.new result (const width value) }
+    ensures put { IsPut terms.old terms.new result (const width value) }
+    ensures added { length terms.new.nodes ≤ length terms.old.nodes + 1 }
 {
     if width > 128 {
         return Err(PutStop::BadSort);
@@ -82,7 +84,8 @@ pub(crate) fn put_unary(
     x: TermId,
 ) -> Result<TermId, PutStop>
     requires { x.0 < length terms.old.nodes }
-    ensures { IsPut terms.old terms.new result (unary_term (unary_view operator) (tree terms.old x.0)) }
+    ensures put { IsPut terms.old terms.new result (unary_term (unary_view operator) (tree terms.old x.0)) }
+    ensures added { length terms.new.nodes ≤ length terms.old.nodes + 1 }
 {
     put_node(terms, unary_node(operator, x))
 }
@@ -96,7 +99,8 @@ pub(crate) fn put_binary(
 ) -> Result<TermId, PutStop>
     requires x { x.0 < length terms.old.nodes }
     requires y { y.0 < length terms.old.nodes }
-    ensures { IsPut terms.old terms.new result (binary_term (binary_view operator) (tree terms.old x.0) (tree terms.old y.0)) }
+    ensures put { IsPut terms.old terms.new result (binary_term (binary_view operator) (tree terms.old x.0) (tree terms.old y.0)) }
+    ensures added { length terms.new.nodes ≤ length terms.old.nodes + 1 }
 {
     put_node(terms, binary_node(operator, x, y))
 }
@@ -109,7 +113,8 @@ pub(crate) fn put_extract(
     x: TermId,
 ) -> Result<TermId, PutStop>
     requires { x.0 < length terms.old.nodes }
-    ensures { IsPut terms.old terms.new result (extract high low (tree terms.old x.0)) }
+    ensures put { IsPut terms.old terms.new result (extract high low (tree terms.old x.0)) }
+    ensures added { length terms.new.nodes ≤ length terms.old.nodes + 1 }
 {
     let _sort = terms.sort(x);
     if low > high || high >= 128 {
@@ -126,7 +131,8 @@ pub(crate) fn put_widened(
     x: TermId,
 ) -> Result<TermId, PutStop>
     requires { x.0 < length terms.old.nodes }
-    ensures { IsPut terms.old terms.new result (widened_term (widening_view widening) width (tree terms.old x.0)) }
+    ensures put { IsPut terms.old terms.new result (widened_term (widening_view widening) width (tree terms.old x.0)) }
+    ensures added { length terms.new.nodes ≤ length terms.old.nodes + 1 }
 {
     if width > 128 {
         return Err(PutStop::BadSort);

@@ -1,8 +1,9 @@
 //! Terms are put as they are written, each name by the term that it stands for.
 
-ghost use Rattle.std.specs.Prelude.{◌≡◌, ◌<◌, length};
+ghost use Rattle.std.specs.Prelude.{◌≡◌, ◌≤◌, ◌+◌, length};
 ghost use Rattle.wb_terms.specs.Graph.{tree};
 ghost use Rattle.ila_file.specs.View.{term_view};
+ghost use Rattle.ila_build.specs.Sizes.{terms_for, terms_of_name};
 ghost use Rattle.ila_build.specs.Standing.{AreIn, IsIn, IsPut, found, seen, seen_by, term_by, under_name};
 
 use crate::nodes::{put_binary, put_const, put_extract, put_node, put_unary, put_widened};
@@ -40,7 +41,8 @@ fn found<'v>(
 /// The term of a name. An unknown name is read as false.
 fn put_name(terms: &mut Terms, standing: Option<TermId>) -> Result<TermId, PutStop>
     requires { IsIn terms.old standing }
-    ensures { IsPut terms.old terms.new result (seen terms.old standing) }
+    ensures put { IsPut terms.old terms.new result (seen terms.old standing) }
+    ensures added { length terms.new.nodes ≤ length terms.old.nodes + terms_of_name standing }
 {
     match standing {
         Some(term) => Ok(term),
@@ -57,7 +59,8 @@ pub fn put_term<'v>(
     term: &WrittenTerm<'v>,
 ) -> Result<TermId, PutStop>
     requires { AreIn terms.old known.now fetch }
-    ensures { IsPut terms.old terms.new result (term_by (seen_by terms.old known.now fetch) (term_view term.now)) }
+    ensures put { IsPut terms.old terms.new result (term_by (seen_by terms.old known.now fetch) (term_view term.now)) }
+    ensures added { length terms.new.nodes ≤ length terms.old.nodes + terms_for (found known.now fetch) (term_view term.now) }
 {
     match term {
         WrittenTerm::Name(name) => put_name(terms, found(known, fetch, name)),

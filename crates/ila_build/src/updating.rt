@@ -1,6 +1,6 @@
 //! The updates of an instruction: their terms are put, and they are ordered by their states.
 
-ghost use Rattle.std.specs.Prelude.{◌≡◌, ◌<◌, ◌==◌, ℕ, true, false, cond, length, map, None, Some, IfOk, IfSome, OnOk};
+ghost use Rattle.std.specs.Prelude.{◌≡◌, ◌<◌, ◌≤◌, ◌+◌, ◌==◌, ℕ, true, false, cond, length, map, None, Some, IfOk, IfSome, OnOk};
 ghost use Rattle.std.specs.Ordering.{nat_cmp};
 ghost use Rattle.std.specs.BTreeMap.{IsOrdered};
 ghost use Rattle.wb_values.specs.Choice.{first_of};
@@ -8,6 +8,7 @@ ghost use Rattle.ila_file.specs.View.{update_view};
 ghost use Rattle.wb_terms.specs.Graph.{tree};
 ghost use Rattle.model_meaning.specs.Model.{state_named};
 ghost use Rattle.model_files.specs.Scope.{of_update, placed, placed_updates};
+ghost use Rattle.ila_build.specs.Sizes.{size_of, sizes_of};
 ghost use Rattle.ila_build.specs.Standing.{AreIn, IsGrown, IsTable, seen, under_name};
 ghost use Rattle.ila_build.specs.Knowing.{are_right, is_right};
 ghost use Rattle.ila_build.specs.Refusing.{IsDue, IsUnrefused, is_leaf};
@@ -67,7 +68,8 @@ fn put_update<'v>(
 ) -> Result<(), PutStop>
     requires table { IsTable terms.old known.now }
     requires in_store { AreIn terms.old known.now fetch }
-    ensures grown { OnOk result (IsGrown terms.old terms.new) }
+    ensures grown { IsGrown terms.old terms.new }
+    ensures added { length terms.new.nodes ≤ length terms.old.nodes + size_of (update_view update.now).1 }
     ensures chosen { OnOk result (ChoosesOne terms.old known.now fetch terms.new table.old table.new (update_view update.now)) }
     ensures unrefused { IsUnrefused result (IsDue terms.old known.now fetch (λ names ss. is_right (placed names (update_view update.now).1 (of_update (update_view update.now).0 (state_named ss (update_view update.now).0))) ≡ true)) }
 {
@@ -107,7 +109,8 @@ pub(crate) fn put_updates<'v>(
 ) -> Result<Vec<(usize, TermId)>, PutStop>
     requires table { IsTable terms.old known.now }
     requires in_store { AreIn terms.old known.now fetch }
-    ensures grown { OnOk result (IsGrown terms.old terms.new) }
+    ensures grown { IsGrown terms.old terms.new }
+    ensures added { length terms.new.nodes ≤ length terms.old.nodes + sizes_of (map update_view updates.now) }
     ensures updates { IfOk result (λ us. AreUpdated terms.old known.now fetch terms.new us.items (map update_view updates.now)) }
     ensures unrefused { IsUnrefused result (IsDue terms.old known.now fetch (λ names ss. are_right (placed_updates names ss (map update_view updates.now)) ≡ true)) }
 {

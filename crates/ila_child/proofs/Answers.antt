@@ -5,7 +5,7 @@ use Rattle.wb_values.specs.Value as meaning
 use Rattle.wb_values.specs.Value.{Name, Valuation}
 use Rattle.model_meaning.specs.Model as pure
 use Rattle.model_meaning.specs.Model.{Model, instruction_list, decode_of, holds, point_of}
-use Rattle.model_meaning.specs.Instruction.{DoesInstruction, InstructionTrouble, DoesOne, Steps, state_in, NoneDecodesAt, IsOnlyDecoded, AreFirstTwoDecoded, Trouble}
+use Rattle.model_meaning.specs.Instruction.{DoesInstruction, InstructionTrouble, DoesOne, Steps, own_states, NoneDecodesAt, IsOnlyDecoded, AreFirstTwoDecoded, Trouble}
 use Rattle.wb_terms.specs.Graph.{Graph, tree}
 use Rattle.ila_model.specs.declared.parts.ChildId.{ChildId}
 use Rattle.ila_model.specs.declared.parts.Instruction.{Instruction}
@@ -19,7 +19,7 @@ use Rattle.ila_child.specs.declared.stepping.Stepped.TheVariants.{Next, NotValid
 use Rattle.ila_child.specs.declared.stepping.Stepped.TheVariants.{Several as SeveralDecode}
 use Rattle.ila_child.specs.Decoding.{decodes, IsFound, IsOnlyFound, AreDecoded}
 use Rattle.ila_child.specs.State.{state_valuation}
-use Rattle.ila_child.specs.Step.{IsTroubled, IsAnswer}
+use Rattle.ila_child.specs.Step.{IsAnswer}
 use Rattle.ila_child.specs.Start.{started, IsStart}
 use Rattle.ila_child.proofs.Machines.{does_one}
 use Rattle.ila_child.proofs.Starts.{state_led, state_sorted}
@@ -111,8 +111,10 @@ answered name p s q w k (Next j r) v f b =
     let here = there is k i led.2 in
     let does = subst (λ x. DoesInstruction (started p x) (point_of (model_from name p) q w) after) here led.3 in
     let same : k ≡ j = sym b.0 in (
-      (v, subst (IsOnlyDecoded (model_from name p) q w) same (only_decoded name p q w k i f)),
-      (after, (v, does_one p.terms (inner_of p) (point_of (model_from name p) q w) after is k i f does), state_led p s name r after led.4),
+      (
+        (v, subst (IsOnlyDecoded (model_from name p) q w) same (only_decoded name p q w k i f)),
+        (after, (v, does_one p.terms (inner_of p) (point_of (model_from name p) q w) after is k i f does), state_led p s name r after led.4),
+      ),
       state_sorted p s name r after led.4,
     )
 answered name p s q w k NotValid v f b = absurd b
@@ -120,21 +122,25 @@ answered name p s q w k NoInstruction v f b = absurd b
 answered name p s q w k (SeveralDecode i j) v f b = absurd b
 answered name p s q w k (ChildStuck d n) v f b =
     let i = b.0 in
-    let here = there p.instructions.items k i b.1 in
-    record {
-      j = k;
-      i = started p i;
-      started = (v, only_decoded name p q w k i f);
-      is_j = subst (λ x. slice_get (instruction_list (instructions_of p.terms (inner_of p) p.instructions.items)) k ≡ Some (started p x)) (sym here) (number_of p.terms (inner_of p) p.instructions.items k i f.0);
-      trouble = b.2;
-    }
+    let here = there p.instructions.items k i b.1 in (
+      record {
+        j = k;
+        i = started p i;
+        started = (v, only_decoded name p q w k i f);
+        is_j = subst (λ x. slice_get (instruction_list (instructions_of p.terms (inner_of p) p.instructions.items)) k ≡ Some (started p x)) (sym here) (number_of p.terms (inner_of p) p.instructions.items k i f.0);
+        has_trouble = b.2;
+      },
+      tt,
+    )
 answered name p s q w k (ChildTooLong d) v f b =
     let i = b.0 in
-    let here = there p.instructions.items k i b.1 in
-    record {
-      j = k;
-      i = started p i;
-      started = (v, only_decoded name p q w k i f);
-      is_j = subst (λ x. slice_get (instruction_list (instructions_of p.terms (inner_of p) p.instructions.items)) k ≡ Some (started p x)) (sym here) (number_of p.terms (inner_of p) p.instructions.items k i f.0);
-      trouble = b.2;
-    }
+    let here = there p.instructions.items k i b.1 in (
+      record {
+        j = k;
+        i = started p i;
+        started = (v, only_decoded name p q w k i f);
+        is_j = subst (λ x. slice_get (instruction_list (instructions_of p.terms (inner_of p) p.instructions.items)) k ≡ Some (started p x)) (sym here) (number_of p.terms (inner_of p) p.instructions.items k i f.0);
+        has_trouble = b.2;
+      },
+      tt,
+    )

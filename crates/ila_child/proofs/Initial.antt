@@ -49,7 +49,7 @@ initial_has_sort (memory a d) (Some x) h = absurd (false≢true h)
 pub private_has_sort : (s : Sort) (i : Option Value) → is_private_initial s i ≡ true → is_of_sort s (beginning s i) ≡ true
 private_has_sort truth None h = absurd (false≢true h)
 private_has_sort (word w) None h = absurd (false≢true h)
-private_has_sort (memory a d) None h = zero_has_sort (memory a d)
+private_has_sort (memory a d) None h = absurd (false≢true h)
 private_has_sort truth (Some x) h = h
 private_has_sort (word w) (Some x) h = h
 private_has_sort (memory a d) (Some x) h = absurd (false≢true h)

@@ -17,7 +17,7 @@ use Rattle.ila_model.specs.declared.parts.Child.{Child}
 use Rattle.ila_model.specs.declared.parts.Instruction.{Instruction}
 use Rattle.ila_model.specs.declared.parts.Parts.{Parts}
 use Rattle.ila_model.specs.Scope.{nesting, around}
-use Rattle.ila_model.specs.Sorted.{is_term_of, is_read_at, is_condition, are_updates, is_instruction, same_place, is_link, behind, are_instructions, is_machine}
+use Rattle.ila_model.specs.Sorted.{is_term_of, is_read_at, is_condition, are_updates, is_instruction, same_place, is_link, child_after, are_instructions, is_machine}
 use Rattle.ila_model.specs.Meaning.{update_of, instruction_of, instructions_of}
 use Rattle.ila_model.proofs.Declarations.{AreSorted}
 use Rattle.ila_child.specs.declared.decoding.Decoded.TheVariants.{Several}
@@ -55,7 +55,7 @@ sorted_at p at from (i ∷ is) zero d h b =
 sorted_at p at from (i ∷ is) (suc k) d h b =
     let x = and_parts (is_instruction p at i) _ h in
     let z = and_parts (is_link p.children.items at from i.child) _ x.1 in
-    sorted_at p at (behind from i.child) is k d z.1 (omega arith)
+    sorted_at p at (child_after from i.child) is k d z.1 (omega arith)
 
 pub are_conditions-from : (p : Parts) (at : Option ℕ) (from : ℕ) (is : List Instruction) → are_instructions p at from is ≡ true → are_conditions p.terms is ≡ true
 are_conditions-from p at from [] h = refl
@@ -64,7 +64,7 @@ are_conditions-from p at from (i ∷ is) h =
     let y = and_parts (is_condition p at i.decode.0) _ x.0 in
     let w = and_parts (is_term_of p.terms truth i.decode.0) _ y.0 in
     let z = and_parts (is_link p.children.items at from i.child) _ x.1 in
-    and_from _ _ w.0 (are_conditions-from p at (behind from i.child) is z.1)
+    and_from _ _ w.0 (are_conditions-from p at (child_after from i.child) is z.1)
 
 -- conditions hold in the environment as at the point
 pub holds_same : (p : Parts) (at : Option ℕ) (d : ℕ) (e : Env) (k : ℕ) → HasDepth p.children.items d at → d ≤ nesting → is_condition p at k ≡ true → holds (tree p.terms k) (valuation p.terms e) ≡ holds (tree p.terms k) (seen p at e)
@@ -79,7 +79,7 @@ decodes_at p at d from e (i ∷ is) zero deep low h =
 decodes_at p at d from e (i ∷ is) (suc k) deep low h =
     let x = and_parts (is_instruction p at i) _ h in
     let z = and_parts (is_link p.children.items at from i.child) _ x.1 in
-    decodes_at p at d (behind from i.child) e is k deep low z.1
+    decodes_at p at d (child_after from i.child) e is k deep low z.1
 
 pub decodes_same : (p : Parts) (at : Option ℕ) (d : ℕ) (e : Env) (is : List Instruction) → HasDepth p.children.items d at → d ≤ nesting → are_instructions p at 0 is ≡ true → decodes p.terms (valuation p.terms e) is ≡ decodes p.terms (seen p at e) is
 decodes_same p at d e is deep low h = fun_ext (λ k. decodes_at p at d 0 e is k deep low h)

@@ -7,7 +7,7 @@ use Rattle.wb_values.specs.Value as meaning
 use Rattle.wb_values.specs.Value.{Name, Sort, truth, number, Entries, entry_of, Valuation, valuation_of, HasSort}
 use Rattle.model_meaning.specs.Model as pure
 use Rattle.model_meaning.specs.Model.{StateDeclaration, InputDeclaration, is_input, state_named, point_of, states_of}
-use Rattle.model_meaning.specs.Instruction.{state_in}
+use Rattle.model_meaning.specs.Instruction.{own_states}
 use Rattle.wb_terms.specs.declared.values.Value.{Value}
 use Rattle.wb_terms.specs.declared.values.Env.{Env}
 use Rattle.wb_terms.specs.Environment.{AreOfSorts, named, values_of, Fits}
@@ -213,7 +213,7 @@ start_point p s name q w e a i =
     ∙ sym (ap (λ r. cond r (iv x) (sv x)) (input_lacking m (drop n ns) x (lacks-drop n ns x u))))
 
 -- the state that a step leads to
-pub state_led : (p : Parts) (s : AreSorted p) (name : Name) (xs : List meaning.Value) (after : Valuation) → HasStates p xs after → state_valuation (model_from name p) xs ≡ state_in (model_from name p) after
+pub state_led : (p : Parts) (s : AreSorted p) (name : Name) (xs : List meaning.Value) (after : Valuation) → HasStates p xs after → state_valuation (model_from name p) xs ≡ own_states (model_from name p) after
 state_led p s name xs after h =
     let ns = p.terms.names in
     let is = p.initial_values.items in
@@ -222,7 +222,7 @@ state_led p s name xs after h =
     let within = s.declared.states_within in
     let sv_is : (x : Name) → state_valuation mo xs x ≡ valuation_of (named (take n ns) xs) x = λ x. ap (λ t. valuation_of (named t xs) x) (states_table ns is) in
     let by : (x : Name) → is_some (state_named (declared_states ns is) x) ≡ is_some (state_named (states_by stated_only ns is) x) = λ x. ap (λ ss. is_some (state_named ss x)) (declared-by ns is) in
-    by_places ns (state_valuation mo xs) (state_in mo after)
+    by_places ns (state_valuation mo xs) (own_states mo after)
     (λ k b.
     let x = name_at ns k in
     elim (below_or k n) [

@@ -1,29 +1,30 @@
 -- What each answer of a step says. The causes of the answers exclude each other, so each answer comes exactly where its cause holds.
-use Rattle.std.specs.Prelude.{ℕ, List}
+use Rattle.std.specs.Prelude.{List, ⊤}
 use Rattle.wb_values.specs.Value.{Value, Valuation}
-use Rattle.model_meaning.specs.Model as pure
 use Rattle.model_meaning.specs.Model.{Model}
-use Rattle.model_meaning.specs.Instruction.{Steps, IsValidAt, IsStarted, IsInstruction, NoneDecodesAt, AreFirstTwoDecoded, Trouble, stuck, too_long, HasTrouble}
+use Rattle.model_meaning.specs.Instruction.{stuck, too_long}
+use Rattle.model_meaning.specs.Outcome.{Outcome, next, not_valid, no_instruction, several, trouble, IsOutcome}
 use Rattle.ila_child.specs.declared.stepping.Stepped.{Stepped}
 use Rattle.ila_child.specs.declared.stepping.Stepped.TheVariants.{Next, NotValid, NoInstruction, Several, ChildStuck, ChildTooLong}
 use Rattle.ila_child.specs.State.{IsStateOf, state_valuation, input_valuation}
 
--- The instruction that starts has this trouble in its child, the first in the order of execution.
-pub record IsTroubled (m : Model) (q w : Valuation) (t : Trouble) : Type 0 where
-  pub j : ℕ
-  pub i : pure.Instruction
-  pub started : IsStarted m q w j
-  pub is_j : IsInstruction m j i
-  pub trouble : HasTrouble m i q w t
+-- What the answer of a step stands for.
+abbrev pub outcome_view : Model → Stepped → Outcome
+outcome_view m (Next j r) = next j (state_valuation m r)
+outcome_view m NotValid = not_valid
+outcome_view m NoInstruction = no_instruction
+outcome_view m (Several j k) = several j k
+outcome_view m (ChildStuck d s) = trouble (stuck d s)
+outcome_view m (ChildTooLong d) = trouble (too_long d)
+
+-- A state that a step leads to has a value for each state of the model, of its sort.
+abbrev pub IsWell : Model → Stepped → Type 0
+IsWell m (Next j r) = IsStateOf m r
+IsWell m _ = ⊤
 
 -- The answer at a state and inputs, as valuations.
 abbrev pub IsAnswer : Model → (q w : Valuation) → Stepped → Type 0
-IsAnswer m q w (Next j r) = IsStarted m q w j × Steps m q w (state_valuation m r) × IsStateOf m r
-IsAnswer m q w NotValid = ¬ IsValidAt m q w
-IsAnswer m q w NoInstruction = IsValidAt m q w × NoneDecodesAt m q w
-IsAnswer m q w (Several j k) = IsValidAt m q w × AreFirstTwoDecoded m q w j k
-IsAnswer m q w (ChildStuck d s) = IsTroubled m q w (stuck d s)
-IsAnswer m q w (ChildTooLong d) = IsTroubled m q w (too_long d)
+IsAnswer m q w a = IsOutcome m q w (outcome_view m a) × IsWell m a
 
 -- The answer at a state and inputs of the model, as lists of values.
 abbrev pub IsStepped : Model → (q w : List Value) → Stepped → Type 0

@@ -7,7 +7,7 @@ use Rattle.std.proofs.lemmas.Map.Text.{is_eq-slice_cmp}
 use Rattle.wb_values.specs.Value.{Name, same_name, Entries}
 use Rattle.model_meaning.specs.Model.{StateDeclaration}
 use Rattle.model_files.specs.Written.{WrittenTerm, WrittenInstructions, WrittenChild}
-use Rattle.model_files.specs.Shape.{input_in, definition_in, named, term_in, machine_from, child_under, child_in, instructions_under, instructions_in, instruction_in, instruction_from, child_from, model_in, model_from}
+use Rattle.model_files.specs.Shape.{input_in, definition_in, entry_named, term_in, machine_from, child_under, child_in, instructions_under, written_instructions_in, instruction_in, instruction_from, child_from, model_in, model_from}
 use Rattle.serde_json.specs.Data.{Data, null, boolean, number, string, array, object, Items, no_items, item, Members, no_members, member}
 use Rattle.serde_json.specs.Find.{as_str, get_member}
 use Rattle.serde_json.specs.View.{view, items_view}
@@ -38,7 +38,7 @@ input_in-under (object ms) = refl
 
 -- ---- definitions
 
-named_item : (n e : Data) → option_and_then (λ k. named k (term_in e)) (as_str n) ≡ definition_in (array (item n (item e no_items)))
+named_item : (n e : Data) → option_and_then (λ k. entry_named k (term_in e)) (as_str n) ≡ definition_in (array (item n (item e no_items)))
 named_item null e = refl
 named_item (boolean t) e = refl
 named_item (number n) e = refl
@@ -81,11 +81,11 @@ two (x ∷ y ∷ z ∷ xs) a b m n p q = absurd (omega arith)
 
 -- a list of two items, by its name and its term
 pub of_two_items : (xs : List Value) (a b : Value) (n : Option Name) (r : Option (Name × WrittenTerm)) → 2 ≤ length xs → length xs < 3
-    → a ≡ get_or xs 0 a → b ≡ get_or xs 1 b → n ≡ as_str (view a) → option_and_then (λ k. named k (term_in (view b))) n ≡ r
+    → a ≡ get_or xs 0 a → b ≡ get_or xs 1 b → n ≡ as_str (view a) → option_and_then (λ k. entry_named k (term_in (view b))) n ≡ r
     → definition_in (array (items_view xs)) ≡ r
 of_two_items xs a b n r m l p q e h =
     ap (λ (vs : List Value). definition_in (array (items_view vs))) (two xs a b m l p q)
-    ∙ (sym (named_item (view a) (view b)) ∙ (sym (ap (λ o. option_and_then (λ k. named k (term_in (view b))) o) e) ∙ h))
+    ∙ (sym (named_item (view a) (view b)) ∙ (sym (ap (λ o. option_and_then (λ k. entry_named k (term_in (view b))) o) e) ∙ h))
 
 -- ---- members
 
@@ -105,7 +105,7 @@ and_then_if : {A B : Type 0} (f : A → Option B) (b : Bool) (x y : Option A) �
 and_then_if f true x y = refl
 and_then_if f false x y = refl
 
-instruction_list-in : (d : Data) → instruction_list d ≡ instructions_in d
+instruction_list-in : (d : Data) → instruction_list d ≡ written_instructions_in d
 instruction_list-in null = refl
 instruction_list-in (boolean t) = refl
 instruction_list-in (number n) = refl

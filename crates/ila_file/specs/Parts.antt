@@ -3,7 +3,7 @@ use Rattle.std.specs.Prelude.{Bool, true, false, List, [], Option, Some, None, o
 use Rattle.wb_values.specs.Value.{Name, Sort, Value, Entries}
 use Rattle.model_meaning.specs.Model.{StateDeclaration, InputDeclaration}
 use Rattle.model_files.specs.Written.{WrittenTerm, WrittenMachine, machine, WrittenInstruction, WrittenInstructions, WrittenChild, no_child, WrittenModel}
-use Rattle.model_files.specs.Shape.{if_there, list_in, unsigned_in, sort_in, term_in, initial_in, private_initial_in, state_in, private_state_in, state_from, input_in, input_from, definition_in, update_in, instruction_from, child_from, all_instructions, model_from}
+use Rattle.model_files.specs.Shape.{if_there, list_in, unsigned_in, sort_in, term_in, initial_in, private_initial_in, state_declared_in, private_state_in, state_from, input_in, input_from, definition_in, update_in, instruction_from, child_from, all_instructions, model_from}
 use Rattle.serde_json.specs.Data.{Data}
 use Rattle.serde_json.specs.Find.{get, as_str, as_array}
 
@@ -21,7 +21,7 @@ initial_of false = initial_in
 
 abbrev pub state_of : (is_private : Bool) → Data → Option StateDeclaration
 state_of true = private_state_in
-state_of false = state_in
+state_of false = state_declared_in
 
 abbrev pub state_under : (is_private : Bool) → Data → Option StateDeclaration
 state_under p d = state_from (initial_of p) (under as_str (codes "name") d) (under sort_in (codes "sort") d) (get (codes "init") d)

@@ -24,11 +24,11 @@ use Rattle.ila_file.specs.declared.written.WrittenInstruction.{WrittenInstructio
 use Rattle.ila_file.specs.declared.written.WrittenMachine.{WrittenMachine, WrittenMachine-F, fold-WrittenMachine}
 use Rattle.ila_file.specs.declared.written.WrittenModel.{WrittenModel}
 
-abbrev pub unary_view : UnaryOperator → pure.UnaryOperator
+abbrev pub unary_view : UnaryOperator → pure.UnaryForm
 unary_view Not = pure.not
 unary_view Neg = pure.neg
 
-abbrev pub binary_view : BinaryOperator → pure.BinaryOperator
+abbrev pub binary_view : BinaryOperator → pure.BinaryForm
 binary_view And = pure.and
 binary_view Or = pure.or
 binary_view Xor = pure.xor

@@ -4,7 +4,7 @@ ghost use Rattle.std.specs.Prelude.{◌≡◌, codes, cond, Some, None, option_m
 ghost use Rattle.serde_json.specs.Data.{array};
 ghost use Rattle.serde_json.specs.Find.{as_str};
 ghost use Rattle.serde_json.specs.View.{view, items_view, members_view};
-ghost use Rattle.model_files.specs.Shape.{all_in, sort_in, term_in, input_in, definition_in, named, entries_in};
+ghost use Rattle.model_files.specs.Shape.{all_in, sort_in, term_in, input_in, definition_in, entry_named, entries_in};
 ghost use Rattle.ila_file.specs.Parts.{under, initial_of, state_of, state_under, input_under};
 ghost use Rattle.ila_file.specs.Reading.{IsReading};
 ghost use Rattle.ila_file.specs.View.{initial_view, sort_view, state_view, input_view, definition_view, update_view, states_view, inputs_view, definitions_view, updates_view};
@@ -170,7 +170,7 @@ fn named_term<'v>(
     value: &'v Value,
 ) -> Result<Definition<'v>, Stop>
     ensures { IsReading definition_view result
-        (option_and_then (λ n. named n (term_in (view value.now))) (option_map (λ s. s.now) name.entry)) }
+        (option_and_then (λ n. entry_named n (term_in (view value.now))) (option_map (λ s. s.now) name.entry)) }
 {
     let name = name.ok_or(Stop::Refused)?;
     let term = read_term(alloc, value)?;
@@ -193,7 +193,7 @@ pub(crate) fn updates_in<'v>(
 }
 
 fn update_in<'v>(alloc: Global, state: &'v str, value: &'v Value) -> Result<WrittenUpdate<'v>, Stop>
-    ensures { IsReading update_view result (named state.now (term_in (view value.now))) }
+    ensures { IsReading update_view result (entry_named state.now (term_in (view value.now))) }
 {
     let term = read_term(alloc, value)?;
     Ok(WrittenUpdate { state, term })

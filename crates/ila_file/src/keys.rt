@@ -3,7 +3,8 @@
 ghost use Rattle.std.specs.Prelude.{◌≡◌, IfOk, is_some, map};
 ghost use Rattle.serde_json.specs.Find.{get, as_array, as_object};
 ghost use Rattle.serde_json.specs.View.{view, items_view, members_view};
-ghost use Rattle.model_files.specs.Keys.{is_among, has_other_key, some_item, state_has_other_key, input_has_other_key, input_keys, instruction_has_unknown_key, model_has_unknown_key};
+ghost use Rattle.model_meaning.specs.Among.{is_among};
+ghost use Rattle.model_files.specs.Keys.{has_other_key, some_item, state_has_other_key, input_has_other_key, input_keys, instruction_has_unknown_key, model_has_unknown_key};
 ghost use Rattle.std.specs.Prelude.{codes};
 ghost use Rattle.ila_file.specs.Parts.{under};
 ghost use Rattle.ila_file.specs.KeyParts.{other_key_in, is_list_found, state_key_parts, some_listed, child_key_parts, child_key_found, instruction_key_parts, model_key_parts};

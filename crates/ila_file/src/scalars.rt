@@ -6,7 +6,7 @@ ghost use Rattle.wb_values.specs.Choice.{some_if};
 ghost use Rattle.wb_values.specs.Value.{same_name, truth, word, truth_value, number as number_value};
 ghost use Rattle.serde_json.specs.Data.{array};
 ghost use Rattle.serde_json.specs.View.{view, items_view};
-ghost use Rattle.model_files.specs.Shape.{is_hexadecimal_digit, digit_value, with_hexadecimal_digits, are_hexadecimal_digits, number_of_text, number_in, sort_in, memory_of};
+ghost use Rattle.model_files.specs.Shape.{is_lower_digit, lower_digit_value, with_hexadecimal_digits, are_hexadecimal_digits, number_of_text, constant_in, sort_in, memory_of};
 ghost use Rattle.ila_file.specs.View.{sort_view, initial_view};
 
 use crate::written::{WrittenSort, WrittenValue};
@@ -65,7 +65,7 @@ fn memory_of(address_width: Option<u64>, word_width: Option<u64>) -> Option<Writ
 
 /// The number of a constant or of an initial value: an unsigned number below 2^64, or 0x and 1 to 32 lower-case hexadecimal digits.
 pub(crate) fn number_in(value: &Value) -> Option<u128>
-    ensures { result ≡ number_in (view value.now) }
+    ensures { result ≡ constant_in (view value.now) }
 {
     match value.as_str() {
         Some(text) => number_of_text(text.as_bytes()),
@@ -100,21 +100,21 @@ fn are_hexadecimal_digits(digits: &[u8]) -> bool
 }
 
 fn all_hexadecimal_digits(digits: &[u8]) -> bool
-    ensures { result ≡ list_all is_hexadecimal_digit digits.now }
+    ensures { result ≡ list_all is_lower_digit digits.now }
 {
     digits.iter().all(|digit| is_hexadecimal_digit(*digit))
 }
 
 fn is_hexadecimal_digit(byte: u8) -> bool
-    ensures { result ≡ is_hexadecimal_digit byte }
+    ensures { result ≡ is_lower_digit byte }
 {
     (48 <= byte && byte <= 57) || (97 <= byte && byte <= 102)
 }
 
 /// The value of a decimal digit or of one of the letters a to f.
 fn digit_value(byte: u8) -> u8
-    requires { IsTrue (is_hexadecimal_digit byte) }
-    ensures value { result ≡ digit_value byte }
+    requires { IsTrue (is_lower_digit byte) }
+    ensures value { result ≡ lower_digit_value byte }
     ensures small { result < 16 }
 {
     if 97 <= byte { byte - 87 } else { byte - 48 }

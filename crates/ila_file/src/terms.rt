@@ -4,7 +4,7 @@ ghost use Rattle.std.specs.Prelude.{◌≡◌, Some, IfOk, option_map, option_an
 ghost use Rattle.serde_json.specs.Data.{array};
 ghost use Rattle.serde_json.specs.Find.{as_str};
 ghost use Rattle.serde_json.specs.View.{view, items_view};
-ghost use Rattle.model_files.specs.Shape.{term_in, unsigned_in, number_in, unary_of, binary_of, with_const, with_unary, with_binary, with_widening, with_extract, with_three, of_one, of_two, of_three};
+ghost use Rattle.model_files.specs.Shape.{term_in, unsigned_in, constant_in, unary_of, binary_of, with_const, with_unary, with_binary, with_widening, with_extract, with_three, of_one, of_two, of_three};
 ghost use Rattle.model_files.specs.Written.{ite, store};
 ghost use Rattle.ila_file.specs.Reading.{IsReading};
 ghost use Rattle.ila_file.specs.View.{term_view, unary_view, binary_view, widening_view};

@@ -4,7 +4,7 @@ ghost use Rattle.std.specs.Prelude.{◌≡◌, IfOk};
 ghost use Rattle.serde_json.specs.View.{view};
 ghost use Rattle.model_files.specs.Shape.{document, model_in};
 ghost use Rattle.model_files.specs.Meaning as meaning;
-ghost use Rattle.model_files.specs.Meaning.{reading_of, of_shape, with_known_keys, judged, broken_rule, refused_by};
+ghost use Rattle.model_files.specs.Meaning.{model_reading, of_shape, with_known_keys, judged_by, broken_rule, refused_by};
 ghost use Rattle.ila_file.specs.View.{model_view};
 ghost use Rattle.ila_rules.specs.Rule.{rule_view};
 ghost use Rattle.ila_json.specs.Reading.{IsDocument, IsJudged, IsModelRead, IsRefusalIn, IsStoppedBy, IsWritten};
@@ -20,7 +20,7 @@ use std::alloc::{AllocError, Global};
 /// The model that the bytes of a model file stand for, or the first rule, in the order in which they are judged, that refuses
 /// them, with its place.
 pub fn read_model(alloc: Global, bytes: &[u8]) -> Result<IlaModel, ModelStop>
-    ensures { IsModelRead result (reading_of bytes.now) }
+    ensures { IsModelRead result (model_reading bytes.now) }
 {
     let value = read_document(alloc, bytes)?;
     let written = read_written(alloc, &value)?;
@@ -31,7 +31,7 @@ pub fn read_model(alloc: Global, bytes: &[u8]) -> Result<IlaModel, ModelStop>
 /// The first rule, in the order in which they are judged, that refuses the bytes of a model file, with its place; none exactly
 /// where the bytes stand for a model.
 pub fn model_refusal(alloc: Global, bytes: &[u8]) -> Result<Option<ModelRefusal>, NoMemory>
-    ensures { IfOk result (λ found. IsRefusalIn found (reading_of bytes.now)) }
+    ensures { IfOk result (λ found. IsRefusalIn found (model_reading bytes.now)) }
 {
     match judge_bytes(alloc, bytes) {
         Ok(()) => Ok(None),
@@ -42,7 +42,7 @@ pub fn model_refusal(alloc: Global, bytes: &[u8]) -> Result<Option<ModelRefusal>
 
 /// Judges the bytes of a model file.
 fn judge_bytes(alloc: Global, bytes: &[u8]) -> Result<(), ModelStop>
-    ensures { IsJudged result (reading_of bytes.now) }
+    ensures { IsJudged result (model_reading bytes.now) }
 {
     let value = read_document(alloc, bytes)?;
     read_written(alloc, &value)?;
@@ -96,7 +96,7 @@ fn with_known_keys(
 
 /// The refusal of a written model by the rules from `BadName` on.
 fn judged(alloc: Global, written: &WrittenModel<'_>) -> Result<Option<ModelRefusal>, NoMemory>
-    ensures { IfOk result (λ found. IsRefusalIn found (judged (model_view written.now) (broken_rule (model_view written.now)))) }
+    ensures { IfOk result (λ found. IsRefusalIn found (judged_by (model_view written.now) (broken_rule (model_view written.now)))) }
 {
     broken_rule(alloc, written)
 }

@@ -29,7 +29,7 @@ declared_states [] is = []
 declared_states (n ∷ ns) [] = []
 declared_states (n ∷ ns) (i ∷ is) = record { state_name = n.0; sort = n.1; init = option_map as_value i } ∷ declared_states ns is
 
--- the same for private states, where a memory begins with zeros
+-- the same for private states, each of which begins with a value (Well-sorted parts state it, else it is the zero of the sort.)
 abbrev pub private_states : Entries Sort → List (Option Value) → List StateDeclaration
 private_states [] is = []
 private_states (n ∷ ns) [] = []

@@ -23,10 +23,10 @@ is_top_initial s None = true
 is_top_initial (memory a d) (Some x) = false
 is_top_initial s (Some x) = is_of_sort s (as_value x)
 
--- A private state states an initial value of its sort, and a private memory states none.
+-- A private state is a truth value or a word, and states an initial value of its sort.
 abbrev pub is_private_initial : Sort → Option Value → Bool
-is_private_initial (memory a d) o = is_none o
 is_private_initial s None = false
+is_private_initial (memory a d) (Some x) = false
 is_private_initial s (Some x) = is_of_sort s (as_value x)
 
 abbrev pub is_initial : (private : Bool) → Sort → Option Value → Bool
@@ -104,9 +104,9 @@ abbrev pub is_link : List Child → Option ℕ → (from : ℕ) → Option Child
 is_link cs at from None = true
 is_link cs at from (Some i) = nat_le from i.0 && (nat_lt i.0 (length cs) && same_place (around cs i.0) at)
 
-abbrev pub behind : ℕ → Option ChildId → ℕ
-behind from None = from
-behind from (Some i) = suc i.0
+abbrev pub child_after : ℕ → Option ChildId → ℕ
+child_after from None = from
+child_after from (Some i) = suc i.0
 
 abbrev pub IsChildBelow : ℕ → Option ChildId → Type 0
 IsChildBelow n None = ⊤
@@ -116,7 +116,7 @@ IsChildBelow n (Some i) = i.0 < n
 abbrev pub are_instructions : Parts → Option ℕ → (from : ℕ) → List Instruction → Bool
 are_instructions p at from [] = true
 are_instructions p at from (i ∷ is) =
-    is_instruction p at i && (is_link p.children.items at from i.child && are_instructions p at (behind from i.child) is)
+    is_instruction p at i && (is_link p.children.items at from i.child && are_instructions p at (child_after from i.child) is)
 
 abbrev pub is_machine : Parts → Option ℕ → (valid : ℕ) → List Instruction → Bool
 is_machine p at valid is = is_condition p at valid && are_instructions p at 0 is

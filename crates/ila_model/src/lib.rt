@@ -5,7 +5,9 @@ mod model;
 mod parts;
 mod scopes;
 mod sorted;
+mod sorting;
 
 pub use model::IlaModel;
 pub use parts::{Child, ChildId, Instruction, Parts, Update};
 pub use scopes::Scope;
+pub use sorting::SortedParts;

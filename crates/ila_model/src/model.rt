@@ -1,48 +1,43 @@
-//! A model: its name and its parts, which are well sorted.
+//! A model: its name and its parts, which are well sorted and keep the rules of models.
 
-ghost use Rattle.std.specs.Prelude.{◌≡◌, IsTrue};
+ghost use Rattle.std.specs.Prelude.{◌≡◌, IsTrue, string_bytes};
+ghost use Rattle.model_meaning.specs.Invariant.{IsModel, IsModel-prop};
+ghost use Rattle.ila_model.specs.Meaning.{model_from};
 ghost use Rattle.ila_model.specs.Sorted.{is_well_sorted};
 
 use crate::parts::Parts;
-use crate::scopes::scopes_of;
-use crate::sorted::{are_children, are_declarations, is_machine};
-use std::alloc::Global;
-use wb_terms::{NameId, NoMemory, Sort, Value};
+use crate::sorting::SortedParts;
+use wb_terms::{NameId, Sort, Value};
 
-/// A model that is well sorted.
+/// A model: well sorted, with legal and distinct names, private states that begin with stated values and are no memories,
+/// and memories that no instruction copies.
 #[derive(Drop)]
 pub struct IlaModel {
     pub name: String,
     pub parts: Parts,
     pub ghost well_sorted: { IsTrue (is_well_sorted parts) },
+    pub ghost kept: { IsModel (model_from (string_bytes name) parts) } by { IsModel-prop (model_from (string_bytes name) parts) },
 }
 
 impl IlaModel {
-    ghost use Rattle.std.specs.Prelude.{◌+◌, ◌<◌, ◌≤◌, length, is_some, IfOk, IfSome, option_map, slice_get, string_bytes};
+    ghost use Rattle.std.specs.Prelude.{◌+◌, ◌<◌, ◌≤◌, length, option_map, slice_get};
     ghost use Rattle.model_meaning.specs.Term.{is_sort};
     ghost use Rattle.model_meaning.specs.Model.{states_of};
     ghost use Rattle.wb_terms.specs.Sort.{as_sort};
     ghost use Rattle.wb_terms.specs.Environment.{as_value};
-    ghost use Rattle.ila_model.specs.Meaning.{model_from};
     ghost use Rattle.ila_model.specs.Model.{model_of};
 
-    /// The model of these parts, exactly where they are well sorted.
-    pub fn new(alloc: Global, name: String, parts: Parts) -> Result<Option<IlaModel>, NoMemory>
-        ensures well_sorted { IfOk result (λ m. is_some m ≡ is_well_sorted parts) }
-        ensures parts { IfOk result (λ o. IfSome o (λ m. (m.name ≡ name) × (m.parts ≡ parts))) }
-        ensures model { IfOk result (λ o. IfSome o (λ m. model_of m ≡ model_from (string_bytes name) parts)) }
+    /// The model of this name and of these parts.
+    pub fn new(name: String, sorted: SortedParts) -> IlaModel
+        requires kept { IsModel (model_from (string_bytes name) sorted.parts) }
+        ensures name { result.name ≡ name }
+        ensures parts { result.parts ≡ sorted.parts }
+        ensures model { model_of result ≡ model_from (string_bytes name) sorted.parts }
     {
-        if !are_declarations(&parts) {
-            return Ok(None);
+        IlaModel {
+            name,
+            parts: sorted.parts,
         }
-        let scopes = scopes_of(alloc, &parts)?;
-        if !is_machine(&parts, &scopes, None, parts.valid, &parts.instructions) {
-            return Ok(None);
-        }
-        if !are_children(&parts, &scopes) {
-            return Ok(None);
-        }
-        Ok(Some(IlaModel { name, parts }))
     }
 
     /// How many states the model has.

@@ -33,7 +33,7 @@ pub struct Child {
     pub around: Option<ChildId>,
     /// The first of its private states in the store's table of names; the others follow at once.
     pub first: NameId,
-    /// For each private state, in order, the initial value that it states. A memory states none, and begins with zeros.
+    /// For each private state, in order, the initial value that it states. In well-sorted parts each states one.
     pub initial_values: Vec<Option<Value>>,
     /// The condition, a truth value, under which the child takes a step.
     pub valid: TermId,

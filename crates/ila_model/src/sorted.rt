@@ -4,7 +4,7 @@ ghost use Rattle.std.specs.Prelude.{◌≡◌, ◌≤◌, true, length, drop, Is
 ghost use Rattle.model_meaning.specs.Term.{is_sort};
 ghost use Rattle.wb_terms.specs.Sort.{as_sort};
 ghost use Rattle.ila_model.specs.Scope.{AreScopes};
-ghost use Rattle.ila_model.specs.Sorted.{are_distinct, are_states, is_initial, are_inputs, is_input_sort, are_placed, is_term_of, is_read_at, is_condition, is_state_at, are_updates, is_instruction, is_link, same_place, behind, IsChildBelow, are_instructions, is_machine, is_child, are_children, are_declarations};
+ghost use Rattle.ila_model.specs.Sorted.{are_distinct, are_states, is_initial, are_inputs, is_input_sort, are_placed, is_term_of, is_read_at, is_condition, is_state_at, are_updates, is_instruction, is_link, same_place, child_after, IsChildBelow, are_instructions, is_machine, is_child, are_children, are_declarations};
 
 use crate::parts::{Child, ChildId, Instruction, Parts, Update};
 use crate::scopes::{Scopes, around, is_child_nested, may_read};
@@ -49,7 +49,6 @@ fn is_initial(private: bool, sort: Sort, initial: &Option<Value>) -> bool
     ensures { result ≡ is_initial private (as_sort sort) initial.now }
 {
     match (sort, initial) {
-        (Sort::Memory(_, _), None) => true,
         (_, None) => !private,
         (Sort::Truth, Some(Value::Truth(_))) => true,
         (Sort::Word(width), Some(Value::Number(number))) => *number <= mask(width),
@@ -200,9 +199,9 @@ fn is_link(children: &[Child], at: Option<usize>, from: usize, child: Option<Chi
 }
 
 /// The child behind that of an instruction, one of so many, if any, else the given one.
-fn behind(from: usize, child: Option<ChildId>, count: usize) -> usize
+fn child_after(from: usize, child: Option<ChildId>, count: usize) -> usize
     requires { IsChildBelow count child }
-    ensures { result ≡ behind from child }
+    ensures { result ≡ child_after from child }
 {
     match child {
         None => from,
@@ -228,7 +227,7 @@ fn are_instructions(
         if !is_link(&parts.children, at, next, instruction.child) {
             return false;
         }
-        next = behind(next, instruction.child, parts.children.len());
+        next = child_after(next, instruction.child, parts.children.len());
     }
     true
 }

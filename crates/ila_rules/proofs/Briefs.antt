@@ -8,9 +8,10 @@ use Rattle.wb_values.specs.Choice.{some_if}
 use Rattle.model_meaning.specs.Term.{Term, is_sort}
 use Rattle.model_meaning.specs.Model.{StateDeclaration, InputDeclaration, state_named}
 use Rattle.model_files.specs.Written as written
-use Rattle.model_files.specs.Written.{WrittenTerm, UnaryOperator, BinaryOperator, Widening, zext, sext}
+use Rattle.model_files.specs.Written.{WrittenTerm, UnaryForm, BinaryForm, Widening, zext, sext}
 use Rattle.model_files.specs.Scope.{Visible, term_of, term_named, unary_term, binary_term, widened_term, unary_sort, written_sort, declared, defined, with_inputs, with_states, with_definitions, with_fetch}
-use Rattle.model_files.specs.Rules.{uses_unknown_name, is_memory_with_stores}
+use Rattle.model_meaning.specs.Invariant.{is_memory_with_stores}
+use Rattle.model_files.specs.Rules.{uses_unknown_name}
 use Rattle.ila_rules.specs.Seen.{Brief, LookUp, States, with_name, sort_at, common_memory, memory_at, uses_unknown, brief_at, is_memory_called}
 use Rattle.ila_rules.specs.Flaws.{look_inputs, look_states, look_definitions, look_fetch}
 
@@ -57,11 +58,11 @@ sort_same names (written.widen z n x) = rw (sort_same names x) refl
 sort_same names (written.ite c x y) = rw (sort_same names c, sort_same names x, sort_same names y) refl
 sort_same names (written.store m i x) = rw (sort_same names m, sort_same names i, sort_same names x) refl
 
-no_memory_unary : (op : UnaryOperator) (x : Term) → None ≡ memory_of (unary_term op x)
+no_memory_unary : (op : UnaryForm) (x : Term) → None ≡ memory_of (unary_term op x)
 no_memory_unary written.not x = refl
 no_memory_unary written.neg x = refl
 
-no_memory_binary : (op : BinaryOperator) (x y : Term) → None ≡ memory_of (binary_term op x y)
+no_memory_binary : (op : BinaryForm) (x y : Term) → None ≡ memory_of (binary_term op x y)
 no_memory_binary written.and x y = refl
 no_memory_binary written.or x y = refl
 no_memory_binary written.xor x y = refl

@@ -9,7 +9,8 @@ use Rattle.model_meaning.specs.Model.{StateDeclaration, InputDeclaration, state_
 use Rattle.wb_values.specs.Choice.{first_of}
 use Rattle.model_files.specs.Written.{WrittenTerm, WrittenMachine, machine, WrittenInstruction, instruction, WrittenInstructions, no_instructions, and_then, WrittenChild, no_child, child, WrittenModel, states_in, machines_in, machines_below, machines_of_instruction, machines_of_child}
 use Rattle.model_files.specs.Scope.{Visible, Scope, Place, of_definition, of_fetch, of_condition, of_update, Placed, placed, term_of, written_sort, defined, with_states, with_fetch, placed_definitions, placed_fetch, placed_updates, scope_within, terms_in, terms_below, terms_of_instruction, terms_of_child, outermost, all_terms}
-use Rattle.model_files.specs.Rules.{is_unknown_at, uses_unknown_name, updates_no_state, has_widths, has_state_widths, takes, takes_sort, has_fitting_constants, fits_sort, has_fitting_initial_values, is_memory_sort, copies_memory, has_unknown_name, has_bad_width, has_bad_sort, has_bad_number, has_memory_copy}
+use Rattle.model_meaning.specs.Term.{is_memory_sort}
+use Rattle.model_files.specs.Rules.{is_unknown_at, uses_unknown_name, updates_no_state, has_widths, has_state_widths, takes, takes_sort, has_fitting_constants, fits_sort, has_fitting_initial_values, copies_memory, has_unknown_name, has_bad_width, has_bad_sort, has_bad_number, has_memory_copy}
 use Rattle.ila_rules.specs.Seen.{LookUp, States, sort_at, memory_at, Role, definition, fetch, condition, update, updates_none, has_role_sort, fits_role, copies_at, is_memory_called}
 use Rattle.ila_rules.specs.Flaws.{Flaws, no_flaws, with_term, with_declared, input_flaws, state_flaws, definition_flaws, fetch_flaws, update_flaws, look_within, look_states, look_definitions, look_fetch, states_within, head_flaws, own_flaws, machine_flaws, instructions_flaws, instruction_flaws, child_flaws, model_flaws}
 use Rattle.ila_rules.proofs.Briefs.{briefs, unknown_same, sort_same, memory_same, called_same, definition_more, inputs_same, states_same, definitions_same, fetch_same, sorts_of}

@@ -8,9 +8,9 @@ use Rattle.std.proofs.lemmas.List.Sums.{sum_by-cons}
 use Rattle.std.proofs.lemmas.Slice.Eq.{bytes_eq-Decides}
 use Rattle.wb_values.specs.Value.{Name, same_name}
 use Rattle.model_files.specs.Written.{WrittenMachine, machine, WrittenInstruction, instruction, WrittenInstructions, no_instructions, and_then, WrittenChild, no_child, child, WrittenModel, machines_in, machines_below, machines_of_instruction, machines_of_child}
-use Rattle.model_files.specs.Keys.{is_among}
+use Rattle.model_meaning.specs.Among.{is_among, has_twice}
 use Rattle.wb_values.specs.Names.{is_model_name}
-use Rattle.model_files.specs.Names.{data_names, instruction_names, instruction_names_in, joined, all_data_names, all_instruction_names, has_twice}
+use Rattle.model_files.specs.Names.{data_names, instruction_names, instruction_names_in, joined, all_data_names, all_instruction_names}
 use Rattle.model_files.specs.Rules.{has_bad_name, has_duplicate_name}
 use Rattle.ila_rules.specs.NameFlaws.{NameSet, no_members, with_member, NameFlaws, with_data, with_instruction, with_all_data, names_in, names_below, names_of_instruction, names_of_child, with_model_name, names_in_model}
 

@@ -6,7 +6,7 @@ use Rattle.model_meaning.specs.Term.{is_width, extract_sort, extended_sort, ite_
 use Rattle.model_files.specs.Written as written
 use Rattle.model_files.specs.Written.{WrittenTerm}
 use Rattle.model_files.specs.Scope.{unary_sort, binary_sort}
-use Rattle.model_files.specs.Rules.{is_memory_sort}
+use Rattle.model_meaning.specs.Term.{is_memory_sort}
 
 -- What is known of a name or a term: its sort where it has one, and the memory that it is with words stored to it, if it is one.
 pub record Brief : Type 0 where

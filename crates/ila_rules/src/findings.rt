@@ -1,7 +1,8 @@
 //! What was found broken on the way through a model file, with the first place of each rule.
 
 ghost use Rattle.std.specs.Prelude.{◌≡◌, ◌||◌, IfOk, is_some, option_map};
-ghost use Rattle.model_files.specs.Rules.{fits_sort, is_memory_sort};
+ghost use Rattle.model_meaning.specs.Term.{is_memory_sort};
+ghost use Rattle.model_files.specs.Rules.{fits_sort};
 ghost use Rattle.ila_file.specs.View.{sort_view, term_view, initial_view};
 ghost use Rattle.ila_rules.specs.Seen.{uses_unknown, updates_none, has_role_sort, copies_at, is_memory_called, brief_at, fits_role};
 ghost use Rattle.ila_rules.specs.Flaws.{with_term, with_declared, no_flaws};

@@ -6,7 +6,7 @@ use Rattle.std.proofs.Math.Nat.{pow-le-pow_right}
 use Rattle.wb_values.specs.Value.{Name, same_name}
 use Rattle.wb_values.specs.Choice.{some_if}
 use Rattle.scripts.specs.Script as meaning
-use Rattle.scripts.specs.Script.{settable_named, fitting, word_named, word_at_address, set_named, set_of, set_in, number_in, before_bracket, at_last}
+use Rattle.scripts.specs.Script.{settable_named, fitting, word_named, word_at_address, set_named, set_of, set_in, numeral_in, before_bracket, at_last}
 use Rattle.ila_sim.specs.declared.names.Kind.{Kind}
 use Rattle.ila_sim.specs.declared.names.Kind.TheVariants.{Truth, Word, Memory}
 use Rattle.ila_sim.specs.declared.names.Settable.{Settable}
@@ -164,11 +164,11 @@ any_set es left None x = any_value es left None x
 any_set es left (Some parts) x = any_value es parts.0 (Some (before_bracket (at_last 93 parts.1))) x
 
 pub set_in_there : (es : List Settable) (text right : List ℕ) (k : ℕ) (x : Option ℕ) (r : Option meaning.Set) → at_last 61 text ≡ Some (cut_at text k) → right ≡ drop (suc k) text
-    → x ≡ below (2 ^ 128) (number_in right) → r ≡ set_of (map settable_of es) (take k text) (at_last 91 (take k text)) x
+    → x ≡ below (2 ^ 128) (numeral_in right) → r ≡ set_of (map settable_of es) (take k text) (at_last 91 (take k text)) x
     → r ≡ set_in (map settable_of es) text
 set_in_there es text right k x r cut same e f =
     f
     ∙ (ap (λ v. set_of (map settable_of es) (take k text) (at_last 91 (take k text)) v) e
-    ∙ (any_set es (take k text) (at_last 91 (take k text)) (number_in right)
-    ∙ (ap (λ t. set_of (map settable_of es) (take k text) (at_last 91 (take k text)) (number_in t)) same
+    ∙ (any_set es (take k text) (at_last 91 (take k text)) (numeral_in right)
+    ∙ (ap (λ t. set_of (map settable_of es) (take k text) (at_last 91 (take k text)) (numeral_in t)) same
     ∙ sym (ap (λ o. meaning.set_from (map settable_of es) o) cut))))

@@ -5,41 +5,18 @@ use Rattle.std.specs.List.{list_all}
 use Rattle.std.proofs.lemmas.List.{drop_more}
 use Rattle.wb_values.specs.Value.{Value, Valuation}
 use Rattle.model_meaning.specs.Model.{Model}
-use Rattle.model_meaning.specs.Model as pure
-use Rattle.model_meaning.specs.Instruction.{Trouble, stuck, too_long, HasTrouble}
 use Rattle.scripts.specs.Script.{settables_of, inputs_of}
-use Rattle.scripts.specs.Simulation.{Outcome, IsOutcome, trouble, state_after, AreOutcomes, spaced, outcome_text, outcome_lines}
+use Rattle.model_meaning.specs.Outcome.{Outcome, IsOutcome, trouble, state_after}
+use Rattle.scripts.specs.Simulation.{AreOutcomes, spaced, outcome_text, outcome_lines}
 use Rattle.ila_child.specs.State.{IsStateOf, state_valuation}
-use Rattle.ila_child.specs.Step.{IsAnswer, IsTroubled}
+use Rattle.ila_child.specs.Step.{outcome_view, IsWell}
 use Rattle.ila_child.specs.declared.stepping.Stepped.{Stepped}
 use Rattle.ila_child.specs.declared.stepping.Stepped.TheVariants.{Next, NotValid, NoInstruction, Several, ChildStuck, ChildTooLong}
 use Rattle.ila_sim.specs.declared.set.Set.{Set}
 use Rattle.ila_sim.specs.Lines.{sets_view}
-use Rattle.ila_sim.specs.Outcomes.{outcome_view, values_after, IsWell, IsToldFrom, inputs_from}
+use Rattle.ila_sim.specs.Outcomes.{values_after, IsToldFrom, inputs_from}
 use Rattle.ila_sim.specs.Texts.{outcome_line}
 use Rattle.ila_sim.proofs.Apart.{left_part, right_part}
-
-troubled : (m : Model) (q w : Valuation) (t : Trouble) → IsTroubled m q w t → IsOutcome m q w (trouble t)
-troubled m q w t h =
-    let found : Some h.i ≡ Some h.started.1.i = sym h.is_j ∙ h.started.1.is_j in
-    let same : h.i ≡ h.started.1.i = cc in
-    (h.j, h.started, subst (λ (i : pure.Instruction). HasTrouble m i q w t) same h.trouble)
-
-pub answered : (m : Model) (q w : Valuation) (a : Stepped) → IsAnswer m q w a → IsOutcome m q w (outcome_view m a)
-answered m q w (Next j r) h = (h.0, h.1)
-answered m q w NotValid h = h
-answered m q w NoInstruction h = h
-answered m q w (Several j k) h = h
-answered m q w (ChildStuck d s) h = troubled m q w (stuck d s) h
-answered m q w (ChildTooLong d) h = troubled m q w (too_long d) h
-
-pub is_well : (m : Model) (q w : Valuation) (a : Stepped) → IsAnswer m q w a → IsWell m a
-is_well m q w (Next j r) h = h.2
-is_well m q w NotValid h = tt
-is_well m q w NoInstruction h = tt
-is_well m q w (Several j k) h = tt
-is_well m q w (ChildStuck d s) h = tt
-is_well m q w (ChildTooLong d) h = tt
 
 after_meant : (m : Model) (q : List Value) (a : Stepped) → state_valuation m (values_after q a) ≡ state_after (state_valuation m q) (outcome_view m a)
 after_meant m q (Next j r) = refl

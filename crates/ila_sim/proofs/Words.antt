@@ -4,32 +4,32 @@ use Rattle.std.proofs.lemmas.Bool.{false≢true}
 use Rattle.std.proofs.lemmas.Bool.Decides.{nat_tests}
 use Rattle.std.specs.Prelude.{◌==◌}
 use Rattle.std.proofs.lemmas.List.{take_all, length-drop}
-use Rattle.scripts.specs.Script.{is_blank, is_return, is_line_feed, words_of, lines_of, without_returns, pieces_at, with_byte, without_empty}
+use Rattle.scripts.specs.Script.{is_space_or_tab, is_return, is_line_feed, words_of, lines_of, without_returns, pieces_at, with_byte, without_empty}
 use Rattle.ila_sim.specs.Cuts.{length_before, after_blanks, without_last_return}
 
-words_front : (b : ℕ) (bs : List ℕ) (t : Bool) → is_blank b ≡ t → words_of bs ≡ words_of (after_blanks bs) → words_of (b ∷ bs) ≡ words_of (cond t (after_blanks bs) (b ∷ bs))
+words_front : (b : ℕ) (bs : List ℕ) (t : Bool) → is_space_or_tab b ≡ t → words_of bs ≡ words_of (after_blanks bs) → words_of (b ∷ bs) ≡ words_of (cond t (after_blanks bs) (b ∷ bs))
 words_front b bs true e h = rw e h
 words_front b bs false e h = refl
 
 pub after_words : (xs : List ℕ) → words_of xs ≡ words_of (after_blanks xs)
 unfolding after_blanks
 after_words [] = refl
-after_words (b ∷ bs) = words_front b bs (is_blank b) refl (after_words bs)
+after_words (b ∷ bs) = words_front b bs (is_space_or_tab b) refl (after_words bs)
 
 pub after_shorter : (xs : List ℕ) → length (after_blanks xs) ≤ length xs
 unfolding after_blanks
 after_shorter [] = omega arith
-after_shorter (b ∷ bs) = shown (is_blank b) (after_shorter bs) where
+after_shorter (b ∷ bs) = shown (is_space_or_tab b) (after_shorter bs) where
   shown : (t : Bool) → length (after_blanks bs) ≤ length bs → length (cond t (after_blanks bs) (b ∷ bs)) ≤ suc (length bs)
   shown true h = omega arith
   shown false h = omega arith
 
 -- what does not begin with a blank
-pub after_front : (xs : List ℕ) (b : ℕ) (bs : List ℕ) → after_blanks xs ≡ b ∷ bs → is_blank b ≡ false
+pub after_front : (xs : List ℕ) (b : ℕ) (bs : List ℕ) → after_blanks xs ≡ b ∷ bs → is_space_or_tab b ≡ false
 unfolding after_blanks
 after_front [] b bs e = cc
-after_front (x ∷ xs) b bs e = shown (is_blank x) refl e (after_front xs b bs) where
-  shown : (t : Bool) → is_blank x ≡ t → cond t (after_blanks xs) (x ∷ xs) ≡ b ∷ bs → (after_blanks xs ≡ b ∷ bs → is_blank b ≡ false) → is_blank b ≡ false
+after_front (x ∷ xs) b bs e = shown (is_space_or_tab x) refl e (after_front xs b bs) where
+  shown : (t : Bool) → is_space_or_tab x ≡ t → cond t (after_blanks xs) (x ∷ xs) ≡ b ∷ bs → (after_blanks xs ≡ b ∷ bs → is_space_or_tab b ≡ false) → is_space_or_tab b ≡ false
   shown true k h f = f h
   shown false k h f = let same : x ≡ b = cc in rw (sym same) k
 
@@ -48,43 +48,43 @@ unfolding length_before pieces_behind
 first_piece p [] = refl
 first_piece p (b ∷ bs) = front_piece p b bs (p b) refl (first_piece p bs)
 
-rest_front : (b : ℕ) (bs : List ℕ) (t : Bool) → is_blank b ≡ t
-    → words_of (drop (length_before is_blank bs) bs) ≡ without_empty (pieces_behind is_blank (drop (length_before is_blank bs) bs))
-    → words_of (drop (cond t 0 (suc (length_before is_blank bs))) (b ∷ bs)) ≡ without_empty (pieces_behind is_blank (drop (cond t 0 (suc (length_before is_blank bs))) (b ∷ bs)))
+rest_front : (b : ℕ) (bs : List ℕ) (t : Bool) → is_space_or_tab b ≡ t
+    → words_of (drop (length_before is_space_or_tab bs) bs) ≡ without_empty (pieces_behind is_space_or_tab (drop (length_before is_space_or_tab bs) bs))
+    → words_of (drop (cond t 0 (suc (length_before is_space_or_tab bs))) (b ∷ bs)) ≡ without_empty (pieces_behind is_space_or_tab (drop (cond t 0 (suc (length_before is_space_or_tab bs))) (b ∷ bs)))
 unfolding length_before pieces_behind
 rest_front b bs true e h = rw e refl
 rest_front b bs false e h = h
 
-rest_words : (xs : List ℕ) → words_of (drop (length_before is_blank xs) xs) ≡ without_empty (pieces_behind is_blank (drop (length_before is_blank xs) xs))
+rest_words : (xs : List ℕ) → words_of (drop (length_before is_space_or_tab xs) xs) ≡ without_empty (pieces_behind is_space_or_tab (drop (length_before is_space_or_tab xs) xs))
 unfolding length_before pieces_behind
 rest_words [] = refl
-rest_words (b ∷ bs) = rest_front b bs (is_blank b) refl (rest_words bs)
+rest_words (b ∷ bs) = rest_front b bs (is_space_or_tab b) refl (rest_words bs)
 
-filled : (n b : ℕ) (bs : List ℕ) (ps : List (List ℕ)) → n ≡ suc (length_before is_blank bs) → without_empty (take n (b ∷ bs) ∷ ps) ≡ take n (b ∷ bs) ∷ without_empty ps
+filled : (n b : ℕ) (bs : List ℕ) (ps : List (List ℕ)) → n ≡ suc (length_before is_space_or_tab bs) → without_empty (take n (b ∷ bs) ∷ ps) ≡ take n (b ∷ bs) ∷ without_empty ps
 filled n b bs ps e = rw e refl
 
-front_length : (b : ℕ) (bs : List ℕ) → is_blank b ≡ false → length_before is_blank (b ∷ bs) ≡ suc (length_before is_blank bs)
+front_length : (b : ℕ) (bs : List ℕ) → is_space_or_tab b ≡ false → length_before is_space_or_tab (b ∷ bs) ≡ suc (length_before is_space_or_tab bs)
 unfolding length_before
-front_length b bs e = ap (λ t. cond t 0 (suc (length_before is_blank bs))) e
+front_length b bs e = ap (λ t. cond t 0 (suc (length_before is_space_or_tab bs))) e
 
-first_word : (b : ℕ) (bs : List ℕ) → is_blank b ≡ false
-    → words_of (b ∷ bs) ≡ take (length_before is_blank (b ∷ bs)) (b ∷ bs) ∷ words_of (drop (length_before is_blank (b ∷ bs)) (b ∷ bs))
+first_word : (b : ℕ) (bs : List ℕ) → is_space_or_tab b ≡ false
+    → words_of (b ∷ bs) ≡ take (length_before is_space_or_tab (b ∷ bs)) (b ∷ bs) ∷ words_of (drop (length_before is_space_or_tab (b ∷ bs)) (b ∷ bs))
 first_word b bs e =
-    let n : ℕ = length_before is_blank (b ∷ bs) in
-    ap without_empty (first_piece is_blank (b ∷ bs))
-    ∙ (filled n b bs (pieces_behind is_blank (drop n (b ∷ bs))) (front_length b bs e)
+    let n : ℕ = length_before is_space_or_tab (b ∷ bs) in
+    ap without_empty (first_piece is_space_or_tab (b ∷ bs))
+    ∙ (filled n b bs (pieces_behind is_space_or_tab (drop n (b ∷ bs))) (front_length b bs e)
     ∙ ap (λ ws. take n (b ∷ bs) ∷ ws) (sym (rest_words (b ∷ bs))))
 
 -- the first word of a line, and those behind it
 pub next_words : (line xs : List ℕ) → xs ≡ after_blanks line → 1 ≤ length xs
-    → words_of line ≡ take (length_before is_blank xs) xs ∷ words_of (drop (length_before is_blank xs) xs)
+    → words_of line ≡ take (length_before is_space_or_tab xs) xs ∷ words_of (drop (length_before is_space_or_tab xs) xs)
 next_words line [] e h = absurd (omega arith)
 next_words line (b ∷ bs) e h = (after_words line ∙ ap words_of (sym e)) ∙ first_word b bs (after_front line b bs (sym e))
 
 pub no_words : (line xs : List ℕ) → xs ≡ after_blanks line → xs ≡ [] → words_of line ≡ []
 no_words line xs e h = (after_words line ∙ ap words_of (sym e)) ∙ ap words_of h
 
-pub word_is_long : (line xs : List ℕ) → xs ≡ after_blanks line → 1 ≤ length xs → 1 ≤ length_before is_blank xs
+pub word_is_long : (line xs : List ℕ) → xs ≡ after_blanks line → 1 ≤ length xs → 1 ≤ length_before is_space_or_tab xs
 word_is_long line [] e h = absurd (omega arith)
 word_is_long line (b ∷ bs) e h = rw (front_length b bs (after_front line b bs (sym e))) (omega arith)
 
@@ -193,9 +193,9 @@ empty_line (x ∷ xs) e = cc
 pub from_there : (xs : List ℕ) (k : ℕ) → take (length xs - k) (drop k xs) ≡ drop k xs
 from_there xs k = take_all (length xs - k) (drop k xs) (omega (arith, length-drop k xs))
 
-pub rest_shorter : (line xs : List ℕ) → xs ≡ after_blanks line → 1 ≤ length xs → length (drop (length_before is_blank xs) xs) < length line
+pub rest_shorter : (line xs : List ℕ) → xs ≡ after_blanks line → 1 ≤ length xs → length (drop (length_before is_space_or_tab xs) xs) < length line
 rest_shorter line xs e h =
-    let long : 1 ≤ length_before is_blank xs = word_is_long line xs e h in
+    let long : 1 ≤ length_before is_space_or_tab xs = word_is_long line xs e h in
     let most : length (after_blanks line) ≤ length line = after_shorter line in
     let same : length xs ≡ length (after_blanks line) = ap length e in
-    omega (arith, long, most, same, h, length-drop (length_before is_blank xs) xs)
+    omega (arith, long, most, same, h, length-drop (length_before is_space_or_tab xs) xs)

@@ -2,7 +2,7 @@
 use Rattle.std.specs.Prelude.{ℕ, suc, ◌≡◌, nat_lt, cond, Bool, List, [], ◌∷◌, take, drop, length, Option, Some, None}
 use Rattle.std.specs.Borrow.{Bor}
 use Rattle.wb_values.specs.Choice.{some_if}
-use Rattle.scripts.specs.Script.{is_blank, is_return, lines_of, words_of, without_skipped}
+use Rattle.scripts.specs.Script.{is_space_or_tab, is_return, lines_of, words_of, without_skipped}
 
 -- how many bytes stand before the first of a kind
 unfoldable pub length_before : (ℕ → Bool) → List ℕ → ℕ
@@ -11,7 +11,7 @@ length_before p (b ∷ bs) = cond (p b) 0 (suc (length_before p bs))
 
 unfoldable pub after_blanks : List ℕ → List ℕ
 after_blanks [] = []
-after_blanks (b ∷ bs) = cond (is_blank b) (after_blanks bs) (b ∷ bs)
+after_blanks (b ∷ bs) = cond (is_space_or_tab b) (after_blanks bs) (b ∷ bs)
 
 -- The line without a carriage return at its end.
 unfoldable pub without_last_return : List ℕ → List ℕ

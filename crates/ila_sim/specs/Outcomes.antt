@@ -1,14 +1,13 @@
--- What settings make of values, and what the answers of the code's steps stand for.
-use Rattle.std.specs.Prelude.{ℕ, ◌≡◌, ⊤, Vec, List, [], ◌∷◌, ◌++◌, map, slice_set, slice_index_or}
+-- What settings make of values, and what the text of a run tells.
+use Rattle.std.specs.Prelude.{ℕ, ◌≡◌, Vec, List, [], ◌∷◌, ◌++◌, map, slice_set, slice_index_or}
 use Rattle.std.specs.Global.{Global}
 use Rattle.wb_values.specs.Value.{Sort, Value, number, Entries, Valuation}
 use Rattle.model_meaning.specs.Model.{StateDeclaration, InputDeclaration, Model}
-use Rattle.model_meaning.specs.Instruction.{stuck, too_long}
 use Rattle.scripts.specs.Script.{Settable, settable, settables_of, Script, zero_value, with_word, inputs_of}
-use Rattle.scripts.specs.Simulation.{Outcome, next, not_valid, no_instruction, several, trouble, AreOutcomes, IsSimulation, state_text, simulation_text}
-use Rattle.ila_child.specs.State.{IsStateOf, state_valuation}
+use Rattle.model_meaning.specs.Outcome.{Outcome}
+use Rattle.scripts.specs.Simulation.{AreOutcomes, IsSimulation, state_text, simulation_text}
 use Rattle.ila_child.specs.declared.stepping.Stepped.{Stepped}
-use Rattle.ila_child.specs.declared.stepping.Stepped.TheVariants.{Next, NotValid, NoInstruction, Several, ChildStuck, ChildTooLong}
+use Rattle.ila_child.specs.declared.stepping.Stepped.TheVariants.{Next}
 use Rattle.ila_sim.specs.declared.set.Set.{Set}
 use Rattle.ila_sim.specs.Lines.{sets_view}
 
@@ -27,24 +26,10 @@ settables_by = map (λ e. settable e.0 e.1)
 abbrev pub zero_values : List InputDeclaration → List Value
 zero_values = map (λ i. zero_value i.sort)
 
--- What the answer of a step stands for.
-abbrev pub outcome_view : Model → Stepped → Outcome
-outcome_view m (Next j r) = next j (state_valuation m r)
-outcome_view m NotValid = not_valid
-outcome_view m NoInstruction = no_instruction
-outcome_view m (Several j k) = several j k
-outcome_view m (ChildStuck d s) = trouble (stuck d s)
-outcome_view m (ChildTooLong d) = trouble (too_long d)
-
 -- the values of the states behind a step
 abbrev pub values_after : List Value → Stepped → List Value
 values_after q (Next j r) = r
 values_after q _ = q
-
--- A state that a step leads to is one of the model.
-abbrev pub IsWell : Model → Stepped → Type 0
-IsWell m (Next j r) = IsStateOf m r
-IsWell m _ = ⊤
 
 -- The text tells a run of the model from the state under these inputs.
 abbrev pub IsToldFrom : Model → Valuation → List Valuation → List ℕ → Type 0

@@ -2,7 +2,8 @@
 use Rattle.std.specs.Prelude.{ℕ, ◌==◌, cond, List, [], ◌∷◌, ◌++◌, codes, decimal}
 use Rattle.wb_values.specs.Value.{Name, Value}
 use Rattle.model_meaning.specs.Model.{Model, states_of}
-use Rattle.scripts.specs.Simulation.{Outcome, spaced, name_of_instruction, outcome_text}
+use Rattle.model_meaning.specs.Outcome.{Outcome}
+use Rattle.scripts.specs.Simulation.{spaced, name_of_instruction, outcome_text}
 use Rattle.ila_sim.specs.Outcomes.{values_text}
 
 -- ` cnt=7`

@@ -2,12 +2,12 @@
 
 ghost use Rattle.std.specs.Prelude.{◌≡◌, ◌^◌, ◌*◌, ◌+◌, ◌∷◌, [], Some};
 ghost use Rattle.std.specs.List.{list_all};
-ghost use Rattle.scripts.specs.Script.{is_decimal_digit, is_either_hexadecimal_digit, either_digit_value, with_decimal_digits, with_either_digits, decimal_in, hexadecimal_in, number_in};
+ghost use Rattle.scripts.specs.Script.{is_decimal_digit, is_either_hexadecimal_digit, either_digit_value, with_decimal_digits, with_either_digits, decimal_in, hexadecimal_in, numeral_in};
 ghost use Rattle.ila_sim.specs.Cuts.{below};
 
 /// A decimal number, or a hexadecimal one behind `0x`, where it is below 2^128.
 pub(crate) fn number_in(text: &[u8]) -> Option<u128>
-    ensures { result ≡ below (2 ^ 128) (number_in text.now) }
+    ensures { result ≡ below (2 ^ 128) (numeral_in text.now) }
 {
     match text {
         [b'0', b'x', digits @ ..] => hexadecimal_in(digits),

@@ -1,12 +1,15 @@
 //! Scripts run on a model.
 
 ghost use Rattle.std.specs.Prelude.{◌≡◌, ◌++◌, ℕ, IfOk, OnOk, IsTrue, map};
+ghost use Rattle.std.specs.List.{All};
 ghost use Rattle.scripts.specs.Script.{settables_of, inputs_of};
-ghost use Rattle.scripts.specs.Simulation.{IsOutcome, IsSimulation};
+ghost use Rattle.model_meaning.specs.Outcome.{IsOutcome};
+ghost use Rattle.scripts.specs.Simulation.{IsSimulation};
 ghost use Rattle.ila_model.specs.Model.{model_of};
 ghost use Rattle.ila_child.specs.State.{IsStateOf, state_valuation};
 ghost use Rattle.ila_sim.specs.Lines.{sets_view};
-ghost use Rattle.ila_sim.specs.Outcomes.{outcome_view, values_after, IsWell, IsTold};
+ghost use Rattle.ila_child.specs.Step.{outcome_view, IsWell};
+ghost use Rattle.ila_sim.specs.Outcomes.{values_after, IsTold};
 ghost use Rattle.ila_sim.specs.Scripts.{script_view, IsScriptWithin};
 ghost use Rattle.ila_sim.specs.Sets.{are_right};
 
@@ -53,10 +56,12 @@ fn copied_behind(alloc: Global, state: State, answer: &Stepped) -> Result<State,
 }
 
 /// What the model does, line by line of the script. It begins in its initial values, zeros where none are stated, and the
-/// settings of the script's state line; where a step leads to no next state the state stays.
+/// settings of the script's state line; where a step leads to no next state the state stays. Each state in the answer has a
+/// value for each state of the model, of its sort, and no more.
 pub fn simulate(alloc: Global, model: &IlaModel, script: &Script) -> Result<Vec<Stepped>, NoMemory>
     requires { IsScriptWithin (settables_of (model_of model.now)) script.now }
-    ensures { IfOk result (λ v. IsSimulation (model_of model.now) (script_view (settables_of (model_of model.now)) script.now) (map (outcome_view (model_of model.now)) v.items)) }
+    ensures outcomes { IfOk result (λ v. IsSimulation (model_of model.now) (script_view (settables_of (model_of model.now)) script.now) (map (outcome_view (model_of model.now)) v.items)) }
+    ensures well { IfOk result (λ v. All (IsWell (model_of model.now)) v.items) }
 {
     let mut state = first_state(alloc, model, &script.state)?;
     let mut answers = Vec::with_capacity(alloc, script.inputs.len())?;

@@ -7,7 +7,8 @@ ghost use Rattle.model_meaning.specs.Instruction.{stuck, too_long};
 ghost use Rattle.scripts.specs.Simulation.{words_text, state_text, name_of_instruction, trouble_text, outcome_text, simulation_text};
 ghost use Rattle.wb_terms.specs.Environment.{as_value};
 ghost use Rattle.ila_model.specs.Model.{model_of};
-ghost use Rattle.ila_sim.specs.Outcomes.{outcome_view, values_text};
+ghost use Rattle.ila_child.specs.Step.{outcome_view};
+ghost use Rattle.ila_sim.specs.Outcomes.{values_text};
 ghost use Rattle.ila_sim.specs.Texts.{number_text, address_text, word_text, several_text, next_text, outcome_line};
 
 use ila_child::Stepped;

@@ -8,7 +8,8 @@ use Rattle.wb_values.specs.Value.{Name, Sort, truth, word, memory, Entries, is_o
 use Rattle.model_meaning.specs.Model.{StateDeclaration}
 use Rattle.model_files.specs.Written.{WrittenInstruction, instruction, WrittenInstructions, no_instructions, and_then, WrittenMachine, machine, WrittenChild, no_child, child, machines_below, machines_of_child}
 use Rattle.model_files.specs.Scope.{Visible, Scope, with_states, with_definitions, with_fetch, scope_within, terms_below, terms_of_child}
-use Rattle.model_files.specs.Rules.{is_memory_sort, has_state_widths, has_fitting_initial_values, fits_sort, depth_below, depth_of_child, have_step_limits, child_has_step_limits}
+use Rattle.model_meaning.specs.Term.{is_memory_sort}
+use Rattle.model_files.specs.Rules.{has_state_widths, has_fitting_initial_values, fits_sort, depth_below, depth_of_child, have_step_limits, child_has_step_limits}
 use Rattle.wb_terms.specs.declared.values.Value.{Value}
 use Rattle.wb_terms.specs.Environment.{as_value}
 use Rattle.wb_terms.specs.Graph.{Graph}

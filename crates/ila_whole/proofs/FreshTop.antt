@@ -4,8 +4,8 @@ use Rattle.std.specs.BTreeMap.{BTreeMap}
 use Rattle.std.proofs.lemmas.Bool.{false≢true}
 use Rattle.wb_values.specs.Value.{Name}
 use Rattle.model_files.specs.Written.{WrittenModel, states_in}
-use Rattle.model_files.specs.Keys.{is_among}
-use Rattle.model_files.specs.Names.{all_data_names, has_twice}
+use Rattle.model_meaning.specs.Among.{is_among, has_twice}
+use Rattle.model_files.specs.Names.{all_data_names}
 use Rattle.wb_terms.specs.declared.nodes.TermId.{TermId}
 use Rattle.ila_build.specs.Standing.{IsFresh, under_name}
 use Rattle.ila_build.specs.Knowing.{defined_names}

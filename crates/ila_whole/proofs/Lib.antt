@@ -10,3 +10,5 @@ pub mod FreshTop
 pub mod Refusals
 pub mod SortedParts
 pub mod ShapeOf
+pub mod Kept
+mod Small

@@ -4,7 +4,7 @@ use Rattle.std.specs.Prelude.{◌==◌, ◌⊎◌}
 use Rattle.std.proofs.lemmas.Bool.{false≢true, eqb-true, eq-eqb}
 use Rattle.wb_values.specs.Value.{Name, Entries, entry_of}
 use Rattle.model_meaning.specs.Term.{Term}
-use Rattle.model_files.specs.Written.{UnaryOperator, not, neg, BinaryOperator, and, or, xor, add, sub, mul, shl, lshr, ashr, eq, ult, ule, slt, sle, concat, load, Widening, zext, sext, WrittenTerm, name, constant_truth, const, unary, binary, extract, widen, ite, store}
+use Rattle.model_files.specs.Written.{UnaryForm, not, neg, BinaryForm, and, or, xor, add, sub, mul, shl, lshr, ashr, eq, ult, ule, slt, sle, concat, load, Widening, zext, sext, WrittenTerm, name, constant_truth, const, unary, binary, extract, widen, ite, store}
 use Rattle.model_files.specs.Scope.{Visible, unary_term, binary_term, widened_term, term_named, term_of}
 use Rattle.ila_model.specs.declared.parts.Child.{Child}
 use Rattle.ila_model.specs.declared.scopes.Scope.{Scope}
@@ -100,7 +100,7 @@ read_name : (cs : List Child) (home : Name → Scope) (at : Option ℕ) (o : Opt
 read_name cs home at None h = refl
 read_name cs home at (Some v) h = h v refl
 
-read_unary : (cs : List Child) (home : Name → Scope) (at : Option ℕ) (op : UnaryOperator) (x : Term) → IsReadAt cs home at x → IsReadAt cs home at (unary_term op x)
+read_unary : (cs : List Child) (home : Name → Scope) (at : Option ℕ) (op : UnaryForm) (x : Term) → IsReadAt cs home at x → IsReadAt cs home at (unary_term op x)
 read_unary cs home at not x h = h
 read_unary cs home at neg x h = h
 
@@ -108,7 +108,7 @@ read_widened : (cs : List Child) (home : Name → Scope) (at : Option ℕ) (z : 
 read_widened cs home at zext n x h = h
 read_widened cs home at sext n x h = h
 
-binary_scope : (cs : List Child) (home : Name → Scope) (op : BinaryOperator) (x y : Term) → scope_of cs home (binary_term op x y) ≡ joined cs (scope_of cs home x) (scope_of cs home y)
+binary_scope : (cs : List Child) (home : Name → Scope) (op : BinaryForm) (x y : Term) → scope_of cs home (binary_term op x y) ≡ joined cs (scope_of cs home x) (scope_of cs home y)
 binary_scope cs home and x y = refl
 binary_scope cs home or x y = refl
 binary_scope cs home xor x y = refl

@@ -3,7 +3,8 @@ use Rattle.std.proofs.Common.{◌≡◌, ℕ, true, false, List, [], ◌++◌, m
 use Rattle.std.specs.BTreeMap.{BTreeMap}
 use Rattle.model_meaning.specs.Model.{StateDeclaration, InputDeclaration}
 use Rattle.model_files.specs.Written.{WrittenMachine, machine, WrittenModel, states_in}
-use Rattle.model_files.specs.Names.{all_data_names, has_twice}
+use Rattle.model_meaning.specs.Among.{has_twice}
+use Rattle.model_files.specs.Names.{all_data_names}
 use Rattle.model_files.specs.Scope.{Scope, with_inputs, with_states, with_definitions, with_fetch, terms_in}
 use Rattle.wb_terms.specs.declared.nodes.TermId.{TermId}
 use Rattle.wb_terms.specs.declared.store.PutStop.{PutStop}

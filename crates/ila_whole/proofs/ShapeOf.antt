@@ -9,8 +9,8 @@ use Rattle.wb_values.specs.Value as meaning
 use Rattle.wb_values.specs.Value.{Name, same_name, Sort, truth, word, memory, Entries}
 use Rattle.model_meaning.specs.Model.{StateDeclaration, InputDeclaration}
 use Rattle.model_files.specs.Written.{WrittenTerm, WrittenInstruction, WrittenInstructions, WrittenMachine, machine, WrittenChild, WrittenModel, states_in, machines_below, machines_of_instruction, machines_of_child}
-use Rattle.model_files.specs.Rules.{is_memory_sort}
-use Rattle.model_files.specs.Shape.{required, sort_in, with_first, all_in, list_in, number_in, initial_in, private_initial_in, with_initial, state_from, declaration_in, state_in, private_state_in, input_from, input_in, instruction_from, with_instruction, machine_from, machine_in, child_from, instruction_in, child_under, child_in, instructions_under, instructions_in, all_instructions, model_from, model_in}
+use Rattle.model_meaning.specs.Term.{is_memory_sort}
+use Rattle.model_files.specs.Shape.{required, sort_in, with_first, all_in, list_in, constant_in, initial_in, private_initial_in, with_initial, state_from, declaration_in, state_declared_in, private_state_in, input_from, input_in, instruction_from, with_instruction, machine_from, machine_in, child_from, instruction_in, child_under, child_in, instructions_under, written_instructions_in, all_instructions, model_from, model_in}
 use Rattle.ila_whole.specs.Shaped.{is_top_state, is_private_state, is_plain_input, has_private_states, machines_inside, is_shaped}
 
 all_true : {A : Type 0} (P : A → Bool) (x : Option A) (xs : Option (List A)) → IfSome x (λ y. P y ≡ true) → IfSome xs (λ ys. list_all P ys ≡ true) → IfSome (with_first x xs) (λ ys. list_all P ys ≡ true)
@@ -53,7 +53,7 @@ top_state (Some n) (Some truth) d = plain_state n truth (initial_in truth d) ref
 top_state (Some n) (Some (word w)) d = plain_state n (word w) (initial_in (word w) d) refl
 top_state (Some n) (Some (memory a w)) d = refl
 
-state_true : (d : Data) → IfSome (state_in d) (λ x. is_top_state x ≡ true)
+state_true : (d : Data) → IfSome (state_declared_in d) (λ x. is_top_state x ≡ true)
 state_true d = bound (declaration_in initial_in) (λ x. is_top_state x ≡ true) (as_object d) (λ ms. top_state (required as_str (codes "name") ms) (required sort_in (codes "sort") ms) (get_member (codes "init") ms))
 
 valued_state : {A : Type 0} (n : Name) (s : Sort) (f : A → meaning.Value) (o : Option A) → is_memory_sort s ≡ false → IfSome (with_initial n s (option_map (λ x. Some (f x)) o)) (λ x. is_private_state x ≡ true)
@@ -66,7 +66,7 @@ inner_state (Some n) None d = tt
 inner_state (Some n) (Some truth) None = tt
 inner_state (Some n) (Some truth) (Some d) = valued_state n truth meaning.truth_value (as_bool d) refl
 inner_state (Some n) (Some (word w)) None = tt
-inner_state (Some n) (Some (word w)) (Some d) = valued_state n (word w) meaning.number (number_in d) refl
+inner_state (Some n) (Some (word w)) (Some d) = valued_state n (word w) meaning.number (constant_in d) refl
 inner_state (Some n) (Some (memory a w)) d = tt
 
 private_true : (d : Data) → IfSome (private_state_in d) (λ x. is_private_state x ≡ true)
@@ -140,9 +140,9 @@ mutual
 
   instructions_true : (ms : Members) → IfSome (instructions_under ms) (λ is. AreInner (machines_below is))
   instructions_true no_members = tt
-  instructions_true (member k d ms) = either (λ is. AreInner (machines_below is)) (same_name k (codes "instructions")) (instructions_in d) (instructions_under ms) (those_true d) (instructions_true ms)
+  instructions_true (member k d ms) = either (λ is. AreInner (machines_below is)) (same_name k (codes "instructions")) (written_instructions_in d) (instructions_under ms) (those_true d) (instructions_true ms)
 
-  those_true : (d : Data) → IfSome (instructions_in d) (λ is. AreInner (machines_below is))
+  those_true : (d : Data) → IfSome (written_instructions_in d) (λ is. AreInner (machines_below is))
   those_true (array ds) = items_true ds
   those_true null = tt
   those_true (boolean b) = tt
@@ -162,8 +162,8 @@ from_parts (Some n) (Some is) (Some m) h k = and_from (list_all is_plain_input i
 
 model_true : (d : Data) → IfSome (model_in d) (λ w. is_shaped w ≡ true)
 model_true (object ms) =
-    from_parts _ _ (machine_in state_in ms (instructions_under ms)) (list_true input_in is_plain_input input_true (codes "inputs") ms)
-    (machine_true is_top_state _ _ _ _ (instructions_under ms) (list_true state_in is_top_state state_true (codes "states") ms) (instructions_true ms))
+    from_parts _ _ (machine_in state_declared_in ms (instructions_under ms)) (list_true input_in is_plain_input input_true (codes "inputs") ms)
+    (machine_true is_top_state _ _ _ _ (instructions_under ms) (list_true state_declared_in is_top_state state_true (codes "states") ms) (instructions_true ms))
 model_true null = tt
 model_true (boolean b) = tt
 model_true (number n) = tt

@@ -11,7 +11,7 @@ use Rattle.wb_terms.specs.Environment.{as_value}
 use Rattle.wb_terms.specs.Graph.{Graph, HasDistinctNames}
 use Rattle.ila_model.specs.declared.parts.ChildId.{ChildId}
 use Rattle.ila_model.specs.declared.parts.Parts.{Parts}
-use Rattle.ila_model.specs.declared.model.IlaModel.{IlaModel}
+use Rattle.ila_model.specs.declared.sorting.SortedParts.{SortedParts}
 use Rattle.ila_model.specs.Sorted.{are_placed, is_well_sorted}
 use Rattle.ila_build.specs.Standing.{IsTable, IsGrown}
 use Rattle.ila_build.specs.Declaring.{state_entry, input_entry}
@@ -68,9 +68,9 @@ parts_sorted g h t u v links m p table names grown put el inside laid count init
     sorted_from g h t u v links m.inputs m.top p (sound m fit.0 fit.1) table names grown put el inside laid count inits distinct
 
 -- a model of sorted parts is there
-pub never_none : (m : WrittenModel) (p : Parts) (o : Option IlaModel) → AreSortedParts m p → IsFit m → is_some o ≡ is_well_sorted p → o ≡ None → ⊥
+pub never_none : (m : WrittenModel) (p : Parts) (o : Option SortedParts) → AreSortedParts m p → IsFit m → is_some o ≡ is_well_sorted p → o ≡ None → ⊥
 unfolding AreSortedParts
 never_none m p o a fit e n = false≢true (sym (ap is_some n) ∙ (e ∙ a fit))
 
-pub of_some : (o : Option IlaModel) (m : IlaModel) (P : IlaModel → Type 0) → IfSome o P → o ≡ Some m → P m
+pub of_some : (o : Option SortedParts) (m : SortedParts) (P : SortedParts → Type 0) → IfSome o P → o ≡ Some m → P m
 of_some o m P h e = subst (λ x. IfSome x P) e h

@@ -6,9 +6,11 @@ use Rattle.std.proofs.lemmas.Bool.{and_parts, and_from, leb-true}
 use Rattle.model_meaning.specs.Term.{is_sort}
 use Rattle.model_meaning.specs.Model.{StateDeclaration, InputDeclaration}
 use Rattle.model_files.specs.Written.{instruction, WrittenInstructions, no_instructions, and_then, WrittenMachine, machine, WrittenChild, no_child, child, WrittenModel, states_in, machines_in}
-use Rattle.model_files.specs.Names.{data_names, joined, all_data_names, all_instruction_names, has_twice}
+use Rattle.model_meaning.specs.Among.{has_twice}
+use Rattle.model_files.specs.Names.{data_names, joined, all_data_names, all_instruction_names}
 use Rattle.model_files.specs.Scope.{Placed, all_terms}
-use Rattle.model_files.specs.Rules.{is_memory_sort, has_state_widths, has_fitting_initial_values, has_fitting_constants}
+use Rattle.model_meaning.specs.Term.{is_memory_sort}
+use Rattle.model_files.specs.Rules.{has_state_widths, has_fitting_initial_values, has_fitting_constants}
 use Rattle.model_files.specs.Meaning.{broken_rule}
 use Rattle.ila_build.specs.Knowing.{defined_names}
 use Rattle.ila_build.specs.Declaring.{state_entry, input_entry}

@@ -9,7 +9,8 @@ use Rattle.wb_values.specs.Value.{Sort, truth, word, memory, Entries}
 use Rattle.model_meaning.specs.Model.{StateDeclaration, InputDeclaration}
 use Rattle.model_files.specs.Written.{WrittenMachine, machine, states_in, machines_in}
 use Rattle.model_files.specs.Scope.{Scope, with_inputs, with_states, with_definitions, with_fetch, scope_within, terms_in}
-use Rattle.model_files.specs.Rules.{is_memory_sort, has_state_widths, has_fitting_initial_values, fits_sort, depth_of, depth_below, has_step_limits}
+use Rattle.model_meaning.specs.Term.{is_memory_sort}
+use Rattle.model_files.specs.Rules.{has_state_widths, has_fitting_initial_values, fits_sort, depth_of, depth_below, has_step_limits}
 use Rattle.wb_terms.specs.declared.values.Value.{Value}
 use Rattle.wb_terms.specs.Environment.{as_value}
 use Rattle.wb_terms.specs.Graph.{HasDistinctNames}

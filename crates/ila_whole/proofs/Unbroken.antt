@@ -26,6 +26,8 @@ pub record IsUnbroken (m : WrittenModel) : Type 0 where
   pub apart : has_duplicate_name m ≡ false
   pub widths : has_bad_width m ≡ false
   pub steps : has_bad_steps m ≡ false
+  pub named : has_bad_name m ≡ false
+  pub uncopied : has_memory_copy m ≡ false
 
 pub unbroken : (m : WrittenModel) → broken_rule m ≡ None → IsUnbroken m
 unbroken m h =
@@ -38,7 +40,7 @@ unbroken m h =
     let g = unbroken_first (has_memory_copy m) MemoryCopy _ f.1 in
     let k = unbroken_first (has_too_deep_child m) TooDeepChild _ g.1 in
     let l = unbroken_first (has_bad_steps m) BadSteps _ k.1 in
-    record { known = c.0; sorted = e.0; fitting = f.0; depth = k.0; apart = b.0; widths = d.0; steps = l.0 }
+    record { known = c.0; sorted = e.0; fitting = f.0; depth = k.0; apart = b.0; widths = d.0; steps = l.0; named = a.0; uncopied = g.0 }
 
 three : (a b c : Bool) → a ≡ false → b ≡ true → c ≡ true → (not a && (b && c)) ≡ true
 three true b c p q r = absurd (false≢true (sym p))

@@ -21,7 +21,7 @@ use Rattle.ila_model.specs.declared.parts.Child.{Child}
 use Rattle.ila_model.specs.declared.parts.Parts.{Parts}
 use Rattle.ila_model.specs.declared.scopes.Scope.{Scope}
 use Rattle.ila_model.specs.Scope.{may_read, home, scope_of, term_scope}
-use Rattle.ila_model.specs.Sorted.{has_sort, is_term_of, is_read_at, is_condition, sort_at, name_at, is_state_at, are_updates, is_instruction, is_link, behind, are_instructions, is_machine}
+use Rattle.ila_model.specs.Sorted.{has_sort, is_term_of, is_read_at, is_condition, sort_at, name_at, is_state_at, are_updates, is_instruction, is_link, child_after, are_instructions, is_machine}
 use Rattle.ila_build.specs.Knowing.{is_right, are_right}
 use Rattle.ila_build.specs.Declaring.{state_entry, input_entry}
 use Rattle.ila_build.specs.Updating.{entry_at, StandAt, AreUpdates}
@@ -217,7 +217,7 @@ link_lower cs at low high (child steps m) b h =
     let parts = and_parts (nat_le high high) _ h in
     and_from (nat_le low high) _ (at_most low high b) parts.1
 
-behind_lower : (low pos : ℕ) (i : WrittenInstruction) → low ≤ pos → behind low (link_from pos (program_in i)) ≤ pos + length (machines_of_instruction i)
+behind_lower : (low pos : ℕ) (i : WrittenInstruction) → low ≤ pos → child_after low (link_from pos (program_in i)) ≤ pos + length (machines_of_instruction i)
 behind_lower low pos (instruction n d u no_child) b = omega (arith, b)
 behind_lower low pos (instruction n d u (child steps (machine ss ds f v is))) b = omega arith
 
@@ -236,9 +236,9 @@ instructions_at p at names states places before low pos (and_then i is) (x ∷ x
     let more = subst (λ j. AreInstructions p.terms names states (before ++ link ∷ rest) j is xs) (sym one) it.1 in
     let more' = subst (λ ls. AreInstructions p.terms names states ls (length (before ++ link ∷ [])) is xs) (sym (append_assoc before (link ∷ []) rest)) more in
     and_from (is_instruction p at x) _ (instruction_at p at names states places (link_at (before ++ links_from pos (and_then i is)) (length before)) i x z k all a r.0 it.0)
-    (and_from (is_link p.children.items at low x.child) (are_instructions p at (behind low x.child) xs) (ap (is_link p.children.items at low) own ∙ link_lower p.children.items at low pos (program_in i) b l.0)
-    (ap (λ o. are_instructions p at (behind low o) xs) own
-    ∙ instructions_at p at names states places (before ++ link ∷ []) (behind low link) next is xs z k all a (behind_lower low pos i b) r.1 l.1 more'))
+    (and_from (is_link p.children.items at low x.child) (are_instructions p at (child_after low x.child) xs) (ap (is_link p.children.items at low) own ∙ link_lower p.children.items at low pos (program_in i) b l.0)
+    (ap (λ o. are_instructions p at (child_after low o) xs) own
+    ∙ instructions_at p at names states places (before ++ link ∷ []) (child_after low link) next is xs z k all a (behind_lower low pos i b) r.1 l.1 more'))
 
 -- a machine: its names are known to its definitions
 pub machine_at : (p : Parts) (at : Option ℕ) (names : Entries Visible) (states : List StateDeclaration) (places : List ℕ) (pos : ℕ) (m : WrittenMachine) (valid : TermId) (xs : List Instruction)

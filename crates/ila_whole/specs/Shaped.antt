@@ -3,7 +3,7 @@ use Rattle.std.specs.Prelude.{Bool, not, ◌&&◌, ◌||◌, List, is_some, is_n
 use Rattle.std.specs.List.{list_all}
 use Rattle.model_meaning.specs.Model.{StateDeclaration, InputDeclaration}
 use Rattle.model_files.specs.Written.{WrittenMachine, machine, WrittenModel, states_in, machines_below}
-use Rattle.model_files.specs.Rules.{is_memory_sort}
+use Rattle.model_meaning.specs.Term.{is_memory_sort}
 
 -- A memory states no initial value.
 abbrev pub is_top_state : StateDeclaration → Bool

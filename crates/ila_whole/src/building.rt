@@ -1,14 +1,16 @@
 //! The parts of a written model: its names are declared, and then its machine and its child programs are put.
 
-ghost use Rattle.std.specs.Prelude.{◌≡◌, ◌++◌, false, map, IfOk};
+ghost use Rattle.std.specs.Prelude.{◌≡◌, ◌≤◌, ◌+◌, ◌++◌, false, length, map, IfOk};
 ghost use Rattle.model_files.specs.Written.{states_in};
 ghost use Rattle.ila_file.specs.View.{inputs_view, machine_view, model_view};
 ghost use Rattle.ila_build.specs.Declaring.{input_entry, state_entry};
 ghost use Rattle.ila_build.specs.Standing.{IsFresh, IsTable};
 ghost use Rattle.ila_build.specs.Knowing.{defined_names};
 ghost use Rattle.ila_build.specs.Building.{definitions_in, instructions_in};
+ghost use Rattle.ila_build.specs.Sizes.{file_size};
 ghost use Rattle.ila_build.specs.Refusing.{IsUnrefused, names_below};
-ghost use Rattle.model_files.specs.Names.{all_data_names, has_twice};
+ghost use Rattle.model_meaning.specs.Among.{has_twice};
+ghost use Rattle.model_files.specs.Names.{all_data_names};
 ghost use Rattle.ila_whole.specs.Whole.{ArePartsOf, AreSortedParts, IsFit};
 
 use ila_build::{
@@ -28,6 +30,7 @@ fn declare_top<'v>(
 ) -> Result<(Terms, BTreeMap<&'v [u8], TermId>), PutStop>
     ensures names { IfOk result (λ p. p.0.names ≡ map state_entry (states_in (machine_view written.now.machine)) ++ map input_entry (inputs_view written.now.inputs)) }
     ensures table { IfOk result (λ p. IsTable p.0 p.1) }
+    ensures small { IfOk result (λ p. length p.0.nodes ≤ length (states_in (machine_view written.now.machine)) + length (inputs_view written.now.inputs)) }
     ensures fresh { IfOk result (λ p. has_twice (all_data_names (model_view written.now)) ≡ false → IsFresh p.1 (defined_names (definitions_in (machine_view written.now.machine)) ++ names_below (instructions_in (machine_view written.now.machine)))) }
     ensures unrefused { IsUnrefused result (IsFit (model_view written.now)) }
 {
@@ -45,6 +48,7 @@ fn declare_top<'v>(
 pub(crate) fn put_parts(alloc: Global, written: &WrittenModel<'_>) -> Result<Parts, PutStop>
     ensures parts { IfOk result (λ p. ArePartsOf (model_view written.now) p) }
     ensures sorted { IfOk result (λ p. AreSortedParts (model_view written.now) p) }
+    ensures small { IfOk result (λ p. length p.terms.nodes ≤ file_size (model_view written.now)) }
     ensures unrefused { IsUnrefused result (IsFit (model_view written.now)) }
 {
     let (mut terms, mut known) = declare_top(alloc, written)?;

@@ -1,11 +1,8 @@
 -- Keys that a model file's objects do not have. What stands under such a key is not looked at.
 use Rattle.std.specs.Prelude.{Bool, true, false, cond, not, ◌||◌, List, [], ◌∷◌, codes}
 use Rattle.wb_values.specs.Value.{Name, same_name}
+use Rattle.model_meaning.specs.Among.{is_among}
 use Rattle.serde_json.specs.Data.{Data, array, object, Items, no_items, item, Members, no_members, member}
-
-abbrev pub is_among : Name → List Name → Bool
-is_among n [] = false
-is_among n (k ∷ ks) = same_name n k || is_among n ks
 
 -- some key of the object is none of these
 abbrev pub has_other_key : List Name → Members → Bool

@@ -66,12 +66,12 @@ pub data ModelReading : Type 0 where
   stands_for : Model → ModelReading
   refused_by : ModelRule → ModelReading
 
-abbrev pub judged : WrittenModel → Option ModelRule → ModelReading
-judged m None = stands_for (model_of m)
-judged m (Some rule) = refused_by rule
+abbrev pub judged_by : WrittenModel → Option ModelRule → ModelReading
+judged_by m None = stands_for (model_of m)
+judged_by m (Some rule) = refused_by rule
 
 abbrev pub with_known_keys : Data → WrittenModel → ModelReading
-with_known_keys d m = cond (model_has_unknown_key d) (refused_by UnknownKey) (judged m (broken_rule m))
+with_known_keys d m = cond (model_has_unknown_key d) (refused_by UnknownKey) (judged_by m (broken_rule m))
 
 abbrev pub of_shape : Data → Option WrittenModel → ModelReading
 of_shape d None = refused_by BadShape
@@ -82,9 +82,9 @@ of_document None = refused_by BadJson
 of_document (Some d) = of_shape d (model_in d)
 
 -- The reading of a model file's bytes.
-abbrev pub reading_of : List ℕ → ModelReading
-reading_of bytes = of_document (document bytes)
+abbrev pub model_reading : List ℕ → ModelReading
+model_reading bytes = of_document (document bytes)
 
 -- The bytes stand for the model: no rule refuses them.
 abbrev pub ModelOf : List ℕ → Model → Type 0
-ModelOf bytes m = reading_of bytes ≡ stands_for m
+ModelOf bytes m = model_reading bytes ≡ stands_for m

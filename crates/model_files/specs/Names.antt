@@ -1,8 +1,7 @@
--- The names that a model file declares, and which of them stand twice.
-use Rattle.std.specs.Prelude.{Bool, false, ◌||◌, List, [], ◌∷◌, ◌++◌, map}
+-- The names that a model file declares.
+use Rattle.std.specs.Prelude.{List, [], ◌∷◌, ◌++◌, map}
 use Rattle.wb_values.specs.Value.{Name}
 use Rattle.model_files.specs.Written.{WrittenMachine, machine, instruction, WrittenInstructions, no_instructions, and_then, WrittenModel, machines_in}
-use Rattle.model_files.specs.Keys.{is_among}
 
 -- the names of a machine's states and definitions
 abbrev pub data_names : WrittenMachine → List Name
@@ -26,8 +25,3 @@ all_data_names m = map (λ i. i.input_name) m.inputs ++ joined (map data_names (
 -- the names of instructions of the whole file
 abbrev pub all_instruction_names : WrittenModel → List Name
 all_instruction_names m = joined (map instruction_names (machines_in m.top))
-
--- some name stands twice in the list
-abbrev pub has_twice : List Name → Bool
-has_twice [] = false
-has_twice (n ∷ ns) = is_among n ns || has_twice ns

@@ -2,11 +2,12 @@
 use Rattle.std.specs.Prelude.{ℕ, suc, max, ◌^◌, Bool, true, false, not as truth_not, ◌&&◌, ◌||◌, nat_le, nat_lt, Option, Some, None, is_none}
 use Rattle.std.specs.List.{list_all, list_any}
 use Rattle.wb_values.specs.Value.{Name, same_name, Sort, truth, word, memory, Value, Entries, entry_of, is_of_sort}
-use Rattle.model_meaning.specs.Term as terms
-use Rattle.model_meaning.specs.Term.{Term, is_sort, is_width, same_sort}
+use Rattle.model_meaning.specs.Among.{has_twice}
+use Rattle.model_meaning.specs.Term.{Term, is_sort, is_width, is_memory_sort, same_sort}
+use Rattle.model_meaning.specs.Invariant.{is_memory_with_stores}
 use Rattle.model_files.specs.Written.{WrittenTerm, name, constant_truth, const, unary, binary, extract, widen, ite, store, WrittenMachine, machine, WrittenInstruction, instruction, WrittenInstructions, no_instructions, and_then, WrittenChild, no_child, child, WrittenModel, states_in, machines_in}
 use Rattle.wb_values.specs.Names.{is_model_name}
-use Rattle.model_files.specs.Names.{all_data_names, all_instruction_names, has_twice}
+use Rattle.model_files.specs.Names.{all_data_names, all_instruction_names}
 use Rattle.model_files.specs.Scope.{Visible, Place, of_definition, of_fetch, of_condition, of_update, Placed, term_of, written_sort, all_terms}
 
 -- BadName: the model's name or a declared one is not legal.
@@ -107,17 +108,6 @@ has_fitting_initial_values m = list_all (λ s. fits_sort s.sort s.init) (states_
 abbrev pub has_bad_number : WrittenModel → Bool
 has_bad_number m =
     truth_not (list_all has_fitting_initial_values (machines_in m.top) && list_all (λ p. has_fitting_constants p.written) (all_terms m))
-
--- a term that is a memory with words stored to it: the memory itself, a store to such a term, or an ite of two such terms
-abbrev pub is_memory_with_stores : Name → Term → Bool
-is_memory_with_stores n (terms.name k s) = same_name k n
-is_memory_with_stores n (terms.store m i x) = is_memory_with_stores n m
-is_memory_with_stores n (terms.ite c x y) = is_memory_with_stores n x && is_memory_with_stores n y
-is_memory_with_stores n _ = false
-
-abbrev pub is_memory_sort : Sort → Bool
-is_memory_sort (memory a d) = true
-is_memory_sort _ = false
 
 abbrev pub copies_memory : Place → Term → Bool
 copies_memory (of_update n (Some d)) e = is_memory_sort d.sort && truth_not (is_memory_with_stores n e)

@@ -5,18 +5,18 @@ use Rattle.model_meaning.specs.Term as terms
 use Rattle.wb_values.specs.Choice.{some_if}
 use Rattle.model_meaning.specs.Term.{Term, is_sort, is_width, bits_sort, same_bits_sort, word_sort, same_word_sort, compared, concat_sort, extract_sort, extended_sort, ite_sort, load_sort, store_sort}
 use Rattle.model_meaning.specs.Model.{StateDeclaration, InputDeclaration, state_named}
-use Rattle.model_files.specs.Written.{UnaryOperator, not, neg, BinaryOperator, and, or, xor, add, sub, mul, shl, lshr, ashr, eq, ult, ule, slt, sle, concat, load, Widening, zext, sext, WrittenTerm, name, constant_truth, const, unary, binary, extract, widen, ite, store, WrittenMachine, machine, WrittenInstruction, instruction, WrittenInstructions, no_instructions, and_then, WrittenChild, no_child, child, WrittenModel}
+use Rattle.model_files.specs.Written.{UnaryForm, not, neg, BinaryForm, and, or, xor, add, sub, mul, shl, lshr, ashr, eq, ult, ule, slt, sle, concat, load, Widening, zext, sext, WrittenTerm, name, constant_truth, const, unary, binary, extract, widen, ite, store, WrittenMachine, machine, WrittenInstruction, instruction, WrittenInstructions, no_instructions, and_then, WrittenChild, no_child, child, WrittenModel}
 
 -- What a visible name stands for: a term, with definitions put in, and its sort where it has one.
 pub record Visible : Type 0 where
   pub term : Term
   pub sort : Option Sort
 
-abbrev pub unary_term : UnaryOperator → Term → Term
+abbrev pub unary_term : UnaryForm → Term → Term
 unary_term not x = terms.not x
 unary_term neg x = terms.neg x
 
-abbrev pub binary_term : BinaryOperator → Term → Term → Term
+abbrev pub binary_term : BinaryForm → Term → Term → Term
 binary_term and x y = terms.and x y
 binary_term or x y = terms.or x y
 binary_term xor x y = terms.xor x y
@@ -55,11 +55,11 @@ term_of names (widen z n x) = widened_term z n (term_of names x)
 term_of names (ite c x y) = terms.ite (term_of names c) (term_of names x) (term_of names y)
 term_of names (store m i x) = terms.store (term_of names m) (term_of names i) (term_of names x)
 
-abbrev pub unary_sort : UnaryOperator → Option Sort → Option Sort
+abbrev pub unary_sort : UnaryForm → Option Sort → Option Sort
 unary_sort not x = bits_sort x
 unary_sort neg x = word_sort x
 
-abbrev pub binary_sort : BinaryOperator → Option Sort → Option Sort → Option Sort
+abbrev pub binary_sort : BinaryForm → Option Sort → Option Sort → Option Sort
 binary_sort and x y = same_bits_sort x y
 binary_sort or x y = same_bits_sort x y
 binary_sort xor x y = same_bits_sort x y

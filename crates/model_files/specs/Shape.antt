@@ -6,7 +6,7 @@ use Rattle.std.specs.Str.{is_utf8}
 use Rattle.wb_values.specs.Value.{Name, same_name, Sort, truth, word, memory, Value, truth_value, number as number_value, Entries}
 use Rattle.wb_values.specs.Choice.{some_if}
 use Rattle.model_meaning.specs.Model.{StateDeclaration, InputDeclaration}
-use Rattle.model_files.specs.Written.{UnaryOperator, not, neg, BinaryOperator, and, or, xor, add, sub, mul, shl, lshr, ashr, eq, ult, ule, slt, sle, concat, load, Widening, zext, sext, WrittenTerm, name, constant_truth, const, unary, binary, extract, widen, ite, store, WrittenMachine, machine, WrittenInstruction, instruction, WrittenInstructions, no_instructions, and_then, WrittenChild, no_child, child, WrittenModel}
+use Rattle.model_files.specs.Written.{UnaryForm, not, neg, BinaryForm, and, or, xor, add, sub, mul, shl, lshr, ashr, eq, ult, ule, slt, sle, concat, load, Widening, zext, sext, WrittenTerm, name, constant_truth, const, unary, binary, extract, widen, ite, store, WrittenMachine, machine, WrittenInstruction, instruction, WrittenInstructions, no_instructions, and_then, WrittenChild, no_child, child, WrittenModel}
 use Rattle.serde_json.specs.Data.{Data, boolean, number, string, array, object, Items, no_items, item, Members, no_members, member}
 use Rattle.serde_json.specs.Read.{read}
 use Rattle.serde_json.specs.Find.{get_member, as_number, as_u64, as_str, as_bool, as_array, as_object}
@@ -50,21 +50,21 @@ list_in f d = option_and_then (all_in f) (as_array d)
 abbrev pub unsigned_in : Data → Option ℕ
 unsigned_in d = option_and_then as_u64 (as_number d)
 
-abbrev pub is_hexadecimal_digit : ℕ → Bool
-is_hexadecimal_digit b = nat_le 48 b && nat_le b 57 || nat_le 97 b && nat_le b 102
+abbrev pub is_lower_digit : ℕ → Bool
+is_lower_digit b = nat_le 48 b && nat_le b 57 || nat_le 97 b && nat_le b 102
 
 -- the value of a decimal digit or of one of the letters a to f
-abbrev pub digit_value : ℕ → ℕ
-digit_value b = cond (nat_le 97 b) (b - 87) (b - 48)
+abbrev pub lower_digit_value : ℕ → ℕ
+lower_digit_value b = cond (nat_le 97 b) (b - 87) (b - 48)
 
 -- the number with these hexadecimal digits behind its own
 abbrev pub with_hexadecimal_digits : ℕ → List ℕ → ℕ
 with_hexadecimal_digits n [] = n
-with_hexadecimal_digits n (b ∷ bs) = with_hexadecimal_digits (n * 16 + digit_value b) bs
+with_hexadecimal_digits n (b ∷ bs) = with_hexadecimal_digits (n * 16 + lower_digit_value b) bs
 
 -- one to 32 lower-case hexadecimal digits
 abbrev pub are_hexadecimal_digits : List ℕ → Bool
-are_hexadecimal_digits ds = nat_le 1 (length ds) && nat_le (length ds) 32 && list_all is_hexadecimal_digit ds
+are_hexadecimal_digits ds = nat_le 1 (length ds) && nat_le (length ds) 32 && list_all is_lower_digit ds
 
 -- 0x and one to 32 lower-case hexadecimal digits
 abbrev pub number_of_text : List ℕ → Option ℕ
@@ -76,8 +76,8 @@ number_from (Some text) n = number_of_text text
 number_from None n = n
 
 -- the number of a constant or of an initial value: an unsigned number, or such a text
-abbrev pub number_in : Data → Option ℕ
-number_in d = number_from (as_str d) (unsigned_in d)
+abbrev pub constant_in : Data → Option ℕ
+constant_in d = number_from (as_str d) (unsigned_in d)
 
 abbrev pub memory_of : Option ℕ → Option ℕ → Option Sort
 memory_of (Some a) (Some d) = Some (memory a d)
@@ -92,10 +92,10 @@ sort_in _ = None
 
 -- ---- terms
 
-abbrev pub unary_of : Name → Option UnaryOperator
+abbrev pub unary_of : Name → Option UnaryForm
 unary_of op = cond (same_name op (codes "not")) (Some not) (some_if (same_name op (codes "neg")) neg)
 
-abbrev pub binary_of : Name → Option BinaryOperator
+abbrev pub binary_of : Name → Option BinaryForm
 binary_of op =
     cond (same_name op (codes "and")) (Some and)
     (cond (same_name op (codes "or")) (Some or)
@@ -114,11 +114,11 @@ binary_of op =
     (cond (same_name op (codes "concat")) (Some concat)
     (some_if (same_name op (codes "load")) load)))))))))))))))
 
-abbrev pub with_unary : Option UnaryOperator → Option WrittenTerm → Option WrittenTerm
+abbrev pub with_unary : Option UnaryForm → Option WrittenTerm → Option WrittenTerm
 with_unary (Some op) (Some x) = Some (unary op x)
 with_unary _ _ = None
 
-abbrev pub with_binary : Option BinaryOperator → Option WrittenTerm → Option WrittenTerm → Option WrittenTerm
+abbrev pub with_binary : Option BinaryForm → Option WrittenTerm → Option WrittenTerm → Option WrittenTerm
 with_binary (Some op) (Some x) (Some y) = Some (binary op x y)
 with_binary _ _ _ = None
 
@@ -146,7 +146,7 @@ of_one op x = with_unary (unary_of op) x
 -- ["const", w, v], ["zext", n, x], ["sext", n, x], ["add", x, y] and so on
 abbrev pub of_two : (operator : Name) → (a b : Data) → (x y : Option WrittenTerm) → Option WrittenTerm
 of_two op a b x y =
-    cond (same_name op (codes "const")) (with_const (unsigned_in a) (number_in b))
+    cond (same_name op (codes "const")) (with_const (unsigned_in a) (constant_in b))
     (cond (same_name op (codes "zext")) (with_widening zext (unsigned_in a) y)
     (cond (same_name op (codes "sext")) (with_widening sext (unsigned_in a) y) (with_binary (binary_of op) x y)))
 
@@ -175,7 +175,7 @@ initial_in (memory a w) d = Some None
 initial_in truth None = Some None
 initial_in truth (Some d) = option_map (λ b. Some (truth_value b)) (as_bool d)
 initial_in (word w) None = Some None
-initial_in (word w) (Some d) = option_map (λ n. Some (number_value n)) (number_in d)
+initial_in (word w) (Some d) = option_map (λ n. Some (number_value n)) (constant_in d)
 
 -- A private state is a truth value or a word, and has an initial value.
 abbrev pub private_initial_in : Sort → Option Data → Option (Option Value)
@@ -195,8 +195,8 @@ state_from initial _ _ d = None
 abbrev pub declaration_in : (Sort → Option Data → Option (Option Value)) → Members → Option StateDeclaration
 declaration_in initial ms = state_from initial (required as_str (codes "name") ms) (required sort_in (codes "sort") ms) (get_member (codes "init") ms)
 
-abbrev pub state_in : Data → Option StateDeclaration
-state_in d = option_and_then (declaration_in initial_in) (as_object d)
+abbrev pub state_declared_in : Data → Option StateDeclaration
+state_declared_in d = option_and_then (declaration_in initial_in) (as_object d)
 
 abbrev pub private_state_in : Data → Option StateDeclaration
 private_state_in d = option_and_then (declaration_in private_initial_in) (as_object d)
@@ -210,13 +210,13 @@ input_from _ _ = None
 abbrev pub input_in : Data → Option InputDeclaration
 input_in d = option_and_then (λ ms. input_from (required as_str (codes "name") ms) (required sort_in (codes "sort") ms)) (as_object d)
 
-abbrev pub named : Name → Option WrittenTerm → Option (Name × WrittenTerm)
-named n (Some e) = Some (n, e)
-named n None = None
+abbrev pub entry_named : Name → Option WrittenTerm → Option (Name × WrittenTerm)
+entry_named n (Some e) = Some (n, e)
+entry_named n None = None
 
 -- a definition: the list of its name and its term
 abbrev pub definition_in : Data → Option (Name × WrittenTerm)
-definition_in (array (item (string n) (item e no_items))) = named n (term_in e)
+definition_in (array (item (string n) (item e no_items))) = entry_named n (term_in e)
 definition_in _ = None
 
 -- ---- instructions and machines
@@ -224,7 +224,7 @@ definition_in _ = None
 -- an object from names to terms
 abbrev pub entries_in : Members → Option (Entries WrittenTerm)
 entries_in no_members = Some []
-entries_in (member k d ms) = with_first (named k (term_in d)) (entries_in ms)
+entries_in (member k d ms) = with_first (entry_named k (term_in d)) (entries_in ms)
 
 abbrev pub update_in : Data → Option (Entries WrittenTerm)
 update_in d = option_and_then entries_in (as_object d)
@@ -270,11 +270,11 @@ abbrev mutual
   -- what stands under the key instructions, which must be there
   pub instructions_under : Members → Option WrittenInstructions
   instructions_under no_members = None
-  instructions_under (member k d ms) = cond (same_name k (codes "instructions")) (instructions_in d) (instructions_under ms)
+  instructions_under (member k d ms) = cond (same_name k (codes "instructions")) (written_instructions_in d) (instructions_under ms)
 
-  pub instructions_in : Data → Option WrittenInstructions
-  instructions_in (array ds) = all_instructions ds
-  instructions_in _ = None
+  pub written_instructions_in : Data → Option WrittenInstructions
+  written_instructions_in (array ds) = all_instructions ds
+  written_instructions_in _ = None
 
   pub all_instructions : Items → Option WrittenInstructions
   all_instructions no_items = Some no_instructions
@@ -287,5 +287,5 @@ model_from _ _ _ = None
 -- The written model that data has the shape of.
 abbrev pub model_in : Data → Option WrittenModel
 model_in (object ms) =
-    model_from (required as_str (codes "name") ms) (required (list_in input_in) (codes "inputs") ms) (machine_in state_in ms (instructions_under ms))
+    model_from (required as_str (codes "name") ms) (required (list_in input_in) (codes "inputs") ms) (machine_in state_declared_in ms (instructions_under ms))
 model_in _ = None

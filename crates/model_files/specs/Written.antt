@@ -4,15 +4,15 @@ use Rattle.wb_values.specs.Value.{Name, Entries}
 use Rattle.model_meaning.specs.Model.{StateDeclaration, InputDeclaration}
 
 -- the operators with one and with two operands
-pub data UnaryOperator : Type 0 where
-  not neg : UnaryOperator
+pub data UnaryForm : Type 0 where
+  not neg : UnaryForm
 
-pub data BinaryOperator : Type 0 where
-  and or xor : BinaryOperator
-  add sub mul : BinaryOperator
-  shl lshr ashr : BinaryOperator
-  eq ult ule slt sle : BinaryOperator
-  concat load : BinaryOperator
+pub data BinaryForm : Type 0 where
+  and or xor : BinaryForm
+  add sub mul : BinaryForm
+  shl lshr ashr : BinaryForm
+  eq ult ule slt sle : BinaryForm
+  concat load : BinaryForm
 
 -- how a word is widened: by zeros, or by its top bit
 pub data Widening : Type 0 where
@@ -23,8 +23,8 @@ pub data WrittenTerm : Type 0 where
   name : Name → WrittenTerm
   constant_truth : Bool → WrittenTerm
   const : (width value : ℕ) → WrittenTerm
-  unary : UnaryOperator → WrittenTerm → WrittenTerm
-  binary : BinaryOperator → WrittenTerm → WrittenTerm → WrittenTerm
+  unary : UnaryForm → WrittenTerm → WrittenTerm
+  binary : BinaryForm → WrittenTerm → WrittenTerm → WrittenTerm
   extract : (high low : ℕ) → WrittenTerm → WrittenTerm
   widen : Widening → (width : ℕ) → WrittenTerm → WrittenTerm
   ite : WrittenTerm → WrittenTerm → WrittenTerm → WrittenTerm

@@ -3,7 +3,7 @@ use Rattle.std.proofs.Common.{◌≡◌, ℕ, zero, suc, inl, inr, subst, sym, �
 use Rattle.std.specs.Prelude.{IsTrue, IsFalse}
 use Rattle.wb_values.specs.Value.{Valuation}
 use Rattle.model_meaning.specs.Model.{Machine, machine, Instruction, instruction, Instructions, no_instructions, and_then, Child, no_child, child, Model, valid_of, holds, decode_of, updated, entered, left_behind, states_of, point_of}
-use Rattle.model_meaning.specs.Instruction.{Reaches, NoneDecodes, DoesInstruction, DoesChild, DoesStep, DoesOne, Steps, state_in}
+use Rattle.model_meaning.specs.Instruction.{Reaches, NoneDecodes, DoesInstruction, DoesChild, DoesStep, DoesOne, Steps, own_states}
 use Rattle.model_meaning.proofs.OneInstruction.{both_ways}
 
 -- a step begins where the valid condition holds
@@ -52,4 +52,4 @@ mutual
 pub one_next_state : (m : Model) (q w r s : Valuation) → Steps m q w r → Steps m q w s → r ≡ s
 one_next_state m q w r s a b =
     let after : a.0 ≡ b.0 = same_step m.top (point_of m q w) a.0 b.0 a.1 b.1 in
-    a.2 ∙ (ap (state_in m) after ∙ sym b.2)
+    a.2 ∙ (ap (own_states m) after ∙ sym b.2)

@@ -4,7 +4,7 @@ use Rattle.std.specs.Prelude.{codes}
 use Rattle.wb_values.specs.Value.{Valuation, number, Entries}
 use Rattle.model_meaning.specs.Term.{Term}
 use Rattle.model_meaning.specs.Model.{Machine, Instruction, instruction, Child, no_child, child, updated, entered, left_behind, states_of, point_of}
-use Rattle.model_meaning.specs.Instruction.{Steps, state_in, HasTrouble, too_long, stuck}
+use Rattle.model_meaning.specs.Instruction.{Steps, own_states, HasTrouble, too_long, stuck}
 use Rattle.model_meaning.specs.Worked.{multiplier, multiply, step_instruction, product, factors, always, low}
 
 -- the updates of an instruction, and the states of its child
@@ -37,7 +37,7 @@ after = left_behind (states_of (private_states always 4)) (begun always 4) (at_s
 
 pub product_of_three_and_five : (r : Valuation) × Steps (multiplier always 4) (product 0) (factors 3 5) r × (r (codes "p") ≡ number 15)
 product_of_three_and_five = (
-  state_in (multiplier always 4) after,
+  own_states (multiplier always 4) after,
   (
     after,
     (

@@ -47,16 +47,16 @@ abbrev pub SameStates : Model → Valuation → Valuation → Type 0
 SameStates m p q = (n : Name) → IsTrue (is_some (state_named (states_of m.top) n)) → p n ≡ q n
 
 -- The state in a point: each state of the model has its value, and every other name is 0.
-abbrev pub state_in : Model → Valuation → Valuation
-state_in m p n = cond (is_some (state_named (states_of m.top) n)) (p n) (number 0)
+abbrev pub own_states : Model → Valuation → Valuation
+own_states m p n = cond (is_some (state_named (states_of m.top) n)) (p n) (number 0)
 
 -- Instruction i of the model leads from state q under inputs w to state r.
 abbrev pub Does : Model → Instruction → (q w r : Valuation) → Type 0
-Does m i q w r = (after : Valuation) × DoesInstruction i (point_of m q w) after × (r ≡ state_in m after)
+Does m i q w r = (after : Valuation) × DoesInstruction i (point_of m q w) after × (r ≡ own_states m after)
 
 -- The model's valid condition and exactly one decode condition hold at q under w, and this instruction leads to r.
 abbrev pub Steps : Model → (q w r : Valuation) → Type 0
-Steps m q w r = (after : Valuation) × DoesStep m.top (point_of m q w) after × (r ≡ state_in m after)
+Steps m q w r = (after : Valuation) × DoesStep m.top (point_of m q w) after × (r ≡ own_states m after)
 
 -- The valid condition holds at q under w.
 abbrev pub IsValidAt : Model → (q w : Valuation) → Type 0

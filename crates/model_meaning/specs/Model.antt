@@ -60,8 +60,8 @@ instruction_name (instruction called decode update program) = called
 abbrev pub decode_of : Instruction → Term
 decode_of (instruction called decode update program) = decode
 
-abbrev pub child_of : Instruction → Child
-child_of (instruction called decode update program) = program
+abbrev pub child_program : Instruction → Child
+child_program (instruction called decode update program) = program
 
 -- A state of a machine gives a value to each state of it and of the machines around it. Terms are read at a point: a state and
 -- the inputs together. Within an instruction the inputs stay as they were at its start.

@@ -31,6 +31,10 @@ is_sort truth = true
 is_sort (word w) = is_width w
 is_sort (memory a d) = nat_le 1 a && nat_le a 16 && is_width d
 
+abbrev pub is_memory_sort : Sort → Bool
+is_memory_sort (memory a d) = true
+is_memory_sort _ = false
+
 abbrev pub same_sort : Sort → Sort → Bool
 same_sort truth truth = true
 same_sort (word w) (word u) = w == u
@@ -121,8 +125,8 @@ width_of_sort (Some (word w)) = w
 width_of_sort _ = 0
 
 -- the width of a term that is a word
-abbrev pub width_of : Term → ℕ
-width_of x = width_of_sort (sort_of x)
+abbrev pub term_width : Term → ℕ
+term_width x = width_of_sort (sort_of x)
 
 -- bit by bit on words, and the same on truth values
 abbrev pub complement : ℕ → Value → Value
@@ -150,26 +154,26 @@ abbrev pub val : Term → Valuation → Value
 val (name n s) v = v n
 val (constant_truth b) v = truth_value b
 val (const w x) v = number x
-val (not x) v = complement (width_of x) (val x v)
+val (not x) v = complement (term_width x) (val x v)
 val (and x y) v = conjunction (val x v) (val y v)
 val (or x y) v = disjunction (val x v) (val y v)
 val (xor x y) v = exclusive_or (val x v) (val y v)
-val (neg x) v = number (word_neg (width_of x) (as_number (val x v)))
-val (add x y) v = number (word_add (width_of x) (as_number (val x v)) (as_number (val y v)))
-val (sub x y) v = number (word_sub (width_of x) (as_number (val x v)) (as_number (val y v)))
-val (mul x y) v = number (word_mul (width_of x) (as_number (val x v)) (as_number (val y v)))
-val (shl x n) v = number (word_shl (width_of x) (as_number (val x v)) (as_number (val n v)))
-val (lshr x n) v = number (word_lshr (width_of x) (as_number (val x v)) (as_number (val n v)))
-val (ashr x n) v = number (word_ashr (width_of x) (as_number (val x v)) (as_number (val n v)))
+val (neg x) v = number (word_neg (term_width x) (as_number (val x v)))
+val (add x y) v = number (word_add (term_width x) (as_number (val x v)) (as_number (val y v)))
+val (sub x y) v = number (word_sub (term_width x) (as_number (val x v)) (as_number (val y v)))
+val (mul x y) v = number (word_mul (term_width x) (as_number (val x v)) (as_number (val y v)))
+val (shl x n) v = number (word_shl (term_width x) (as_number (val x v)) (as_number (val n v)))
+val (lshr x n) v = number (word_lshr (term_width x) (as_number (val x v)) (as_number (val n v)))
+val (ashr x n) v = number (word_ashr (term_width x) (as_number (val x v)) (as_number (val n v)))
 val (eq x y) v = truth_value (is_equal (val x v) (val y v))
 val (ult x y) v = truth_value (word_ult (as_number (val x v)) (as_number (val y v)))
 val (ule x y) v = truth_value (word_ule (as_number (val x v)) (as_number (val y v)))
-val (slt x y) v = truth_value (word_slt (width_of x) (as_number (val x v)) (as_number (val y v)))
-val (sle x y) v = truth_value (word_sle (width_of x) (as_number (val x v)) (as_number (val y v)))
-val (concat x y) v = number (word_concat (width_of y) (as_number (val x v)) (as_number (val y v)))
+val (slt x y) v = truth_value (word_slt (term_width x) (as_number (val x v)) (as_number (val y v)))
+val (sle x y) v = truth_value (word_sle (term_width x) (as_number (val x v)) (as_number (val y v)))
+val (concat x y) v = number (word_concat (term_width y) (as_number (val x v)) (as_number (val y v)))
 val (extract h l x) v = number (word_extract h l (as_number (val x v)))
 val (zext n x) v = number (word_zext (as_number (val x v)))
-val (sext n x) v = number (word_sext n (width_of x) (as_number (val x v)))
+val (sext n x) v = number (word_sext n (term_width x) (as_number (val x v)))
 val (ite c x y) v = cond (as_truth (val c v)) (val x v) (val y v)
 val (load m i) v = number (slice_index (as_words (val m v)) (as_number (val i v)))
 val (store m i x) v = words (slice_set (as_words (val m v)) (as_number (val i v)) (as_number (val x v)))

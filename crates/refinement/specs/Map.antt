@@ -4,7 +4,7 @@ use Rattle.wb_values.specs.Value.{Name, same_name, Sort, truth, word, memory, Va
 use Rattle.model_meaning.specs.Model.{Model, StateDeclaration, InputDeclaration, states_of, state_named}
 use Rattle.verilog_trees.specs.Syntax.{Expression, number as a_number, name, concatenation, replication, as_signed, as_unsigned, unary, reduction, binary, shift, power, comparison, logical, conditional, Source}
 use Rattle.verilog_meaning.specs.Expression.{Object, Scope, undeclared, self_value, is_true}
-use Rattle.verilog_meaning.specs.Hierarchy.{Placed, placed_scope}
+use Rattle.verilog_meaning.specs.Hierarchy.{PathStep, instance_step, Placed, placed_scope}
 use Rattle.verilog_meaning.specs.Settled.{Design, at_path}
 
 -- how an instruction of the model ends: the condition of its commit, and the number of cycles within which it comes
@@ -42,23 +42,23 @@ with_character c [] = (c ∷ []) ∷ []
 with_character c (part ∷ parts) = (c ∷ part) ∷ parts
 
 -- the parts of a name between its dots
-abbrev pub parts_of : Name → List Name
-parts_of [] = [] ∷ []
-parts_of (c ∷ cs) = cond (c == 46) ([] ∷ parts_of cs) (with_character c (parts_of cs))
+abbrev pub dotted_parts : Name → List Name
+dotted_parts [] = [] ∷ []
+dotted_parts (c ∷ cs) = cond (c == 46) ([] ∷ dotted_parts cs) (with_character c (dotted_parts cs))
 
 abbrev pub object_in : Option Placed → Name → Object
 object_in None n = undeclared
 object_in (Some p) n = placed_scope p n
 
 -- what the last part means within the instances that the other parts lead to
-abbrev pub object_at : Design → List Name → List Name → Object
+abbrev pub object_at : Design → List PathStep → List Name → Object
 object_at d path [] = undeclared
 object_at d path (n ∷ []) = object_in (at_path d path) n
-object_at d path (u ∷ n ∷ parts) = object_at d (u ∷ path) (n ∷ parts)
+object_at d path (u ∷ n ∷ parts) = object_at d (instance_step u ∷ path) (n ∷ parts)
 
 -- The scope of the map's expressions: the top's names, and dotted paths into instances.
 abbrev pub map_scope : Setting → Scope
-map_scope s n = object_at (design_of s) [] (parts_of n)
+map_scope s n = object_at (design_of s) [] (dotted_parts n)
 
 -- a condition of the map holds in a valuation of the design
 abbrev pub condition_holds : Setting → Valuation → Expression → Bool

@@ -1,7 +1,7 @@
 -- The obligations of a model and a map: their names, hypotheses and claims in order, and when one holds.
 use Rattle.std.specs.Prelude.{◌≡◌, ℕ, zero, suc, ◌-◌, ◌<◌, cond, List, [], ◌∷◌, ◌++◌, length, Option, Some, None, is_some, codes, decimal, ⊤}
 use Rattle.wb_values.specs.Value.{Name, Value, Valuation}
-use Rattle.model_meaning.specs.Model.{Model, StateDeclaration, Instruction, instruction_name, Child, no_child, child, child_of, states_of, instructions_in, state_named}
+use Rattle.model_meaning.specs.Model.{Model, StateDeclaration, Instruction, instruction_name, Child, no_child, child, child_program, states_of, instructions_in, state_named}
 use Rattle.model_meaning.specs.Instruction.{Does, DecodesAt, IsInstruction, IsStarted}
 use Rattle.refinement.specs.Map.{Setting, Map, InstructionMap, instruction_map}
 use Rattle.refinement.specs.Run.{Run, IsRun, IsResetAt, HoldsOf}
@@ -83,7 +83,7 @@ invariants_at m t = for_each (λ k. invariant k t ∷ []) 0 (length m.invariants
 abbrev pub premises_at : Map → ℕ → List Fact
 premises_at m t = reset_inactive t ∷ for_each (λ k. assumed k t ∷ []) 0 (length m.assume)
 
--- a text with a number behind it
+-- a text with a number after it
 abbrev pub numbered : Name → ℕ → Name
 numbered text k = text ++ decimal k
 
@@ -112,25 +112,25 @@ reset_obligations model m =
     invariant_obligations m (codes "reset.inv.") m.reset_cycles active m.reset_cycles
     ++ state_obligations (codes "reset.init.") m.reset_cycles active (λ n. initial n m.reset_cycles) (with_initial_values (states_of model.top))
 
--- behind an idle cycle without start: each invariant, and each state as it was
+-- after an idle cycle without start: each invariant, and each state as it was
 abbrev pub idle_obligations : Model → Map → List Obligation
 idle_obligations model m =
     let idle : List Fact = invariants_at m 0 ++ premises_at m 0 ++ no_start 0 ∷ [] in
     invariant_obligations m (codes "idle.inv.") 1 idle 1 ++ state_obligations (codes "idle.state.") 1 idle same (states_of model.top)
 
 -- the hypotheses of a start
-abbrev pub started : Map → List Fact
-started m = invariants_at m 0 ++ premises_at m 0 ++ start 0 ∷ []
+abbrev pub start_hypotheses : Map → List Fact
+start_hypotheses m = invariants_at m 0 ++ premises_at m 0 ++ start 0 ∷ []
 
 -- At a start the model is valid and exactly one instruction decodes.
 abbrev pub decode_obligation : Map → Obligation
-decode_obligation m = record { called = codes "decode"; cycles = 1; hypotheses = started m; claim = one_decodes }
+decode_obligation m = record { called = codes "decode"; cycles = 1; hypotheses = start_hypotheses m; claim = one_decodes }
 
 -- the hypotheses of a start of instruction j
 abbrev pub started_by : Map → ℕ → List Fact
-started_by m j = started m ++ decoded j ∷ []
+started_by m j = start_hypotheses m ++ decoded j ∷ []
 
--- behind the start, at cycle t: the premises, and no start
+-- after the start, at cycle t: the premises, and no start
 abbrev pub running_at : Map → ℕ → List Fact
 running_at m t = premises_at m t ++ no_start t ∷ []
 
@@ -157,7 +157,7 @@ child_obligations m j n (child steps program) =
 abbrev pub bound_obligation : Map → ℕ → Name → ℕ → Obligation
 bound_obligation m j n bound = record { called = codes "bound." ++ n; cycles = bound; hypotheses = not_ended m j bound; claim = never }
 
--- Behind a commit at cycle c: each invariant, and each state as the instruction leaves it.
+-- After a commit at cycle c: each invariant, and each state as the instruction leaves it.
 abbrev pub commit_obligations : Model → Map → ℕ → Name → ℕ → List Obligation
 commit_obligations model m j n c =
     let text : Name = codes "commit." ++ n ++ codes "." ++ decimal c in
@@ -175,7 +175,7 @@ bound_named m n = bound_in (instruction_map m.instructions n)
 abbrev pub instruction_obligations : Model → Map → ℕ → Instruction → List Obligation
 instruction_obligations model m j i =
     let n : Name = instruction_name i in
-    child_obligations m j n (child_of i) ++ bound_obligation m j n (bound_named m n)
+    child_obligations m j n (child_program i) ++ bound_obligation m j n (bound_named m n)
     ∷ for_each (commit_obligations model m j n) 0 (bound_named m n)
 
 -- those of the instructions from number j on

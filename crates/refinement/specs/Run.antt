@@ -13,7 +13,7 @@ pub record Run : Type 0 where
   pub valuations : ℕ → Valuation
 
 -- A run of so many cycles: any first registers; at each cycle any inputs, and a valuation settled for both; and the registers of
--- the next cycle are what the clock's edge makes of it. Registers behind the last cycle are read in a settled valuation too,
+-- the next cycle are what the clock's edge makes of it. Registers after the last cycle are read in a settled valuation too,
 -- whatever inputs come then.
 pub record IsRun (s : Setting) (run : Run) (cycles : ℕ) : Type 0 where
   pub first : AreRegisters (design_of s) (run.registers 0)

@@ -3,7 +3,7 @@ use Rattle.std.specs.Prelude.{◌≡◌, ℕ, List, [], ◌∷◌, codes}
 use Rattle.wb_values.specs.Value.{Name}
 use Rattle.model_meaning.specs.Worked.{counter}
 use Rattle.verilog_trees.specs.Syntax.{Expression}
-use Rattle.verilog_meaning.specs.Worked.{reading, plain_number}
+use Rattle.verilog_meaning.specs.Worked.{reading, unsized_number}
 use Rattle.refinement.specs.Map.{Map, InstructionMap}
 use Rattle.refinement.specs.Obligation.{Obligation, obligations}
 
@@ -22,12 +22,12 @@ counter_map = record {
   start = reading (codes "go");
   states = (codes "cnt", reading (codes "cnt")) ∷ [];
   inputs = (codes "op", reading (codes "op")) ∷ [];
-  instructions = instruction_entry (codes "INC") (plain_number 1) 1 ∷ instruction_entry (codes "CLR") (plain_number 1) 1 ∷ [];
+  instructions = instruction_entry (codes "INC") (unsized_number 1) 1 ∷ instruction_entry (codes "CLR") (unsized_number 1) 1 ∷ [];
 }
 
-abbrev pub names : List Obligation → List Name
-names [] = []
-names (o ∷ os) = o.called ∷ names os
+abbrev pub obligation_names : List Obligation → List Name
+obligation_names [] = []
+obligation_names (o ∷ os) = o.called ∷ obligation_names os
 
 -- Its seven obligations, by name and in order.
 abbrev pub counter_names : List Name
@@ -36,7 +36,7 @@ counter_names =
     ∷ codes "commit.CLR.0.state.cnt" ∷ []
 
 abbrev pub CounterHasItsObligations : Type 0
-CounterHasItsObligations = names (obligations counter counter_map) ≡ counter_names
+CounterHasItsObligations = obligation_names (obligations counter counter_map) ≡ counter_names
 
 abbrev pub multiplier_map : ℕ → Map
 multiplier_map bound = record {

@@ -6,7 +6,7 @@ use Rattle.model_meaning.specs.Model.{Instruction, instruction_name, instruction
 use Rattle.verilog_trees.specs.Syntax.{input}
 use Rattle.verilog_meaning.specs.Register.{word_count}
 use Rattle.verilog_meaning.specs.Hierarchy.{Placed, dotted}
-use Rattle.verilog_meaning.specs.Settled.{Design, at_path, IsDeclared, is_counted, IsPort, names_of}
+use Rattle.verilog_meaning.specs.Settled.{Design, at_path, IsPlacedIn, IsDeclared, is_counted, HasPort, names_of}
 use Rattle.refinement.specs.Map.{Setting, design_of, map_scope}
 use Rattle.refinement.specs.Run.{Run}
 use Rattle.refinement.specs.Obligation.{Obligation, Holds, Falsifies, obligations, IsWholeCommand}
@@ -47,7 +47,7 @@ abbrev pub value_text : Value → List ℕ
 value_text (words xs) = in_brackets (number_texts xs)
 value_text x = quoted (hexadecimal (numeral_of x))
 
--- a key with what stands behind it
+-- a key with what stands after it
 abbrev pub member_text : Name → List ℕ → List ℕ
 member_text n text = quoted n ++ 58 ∷ text
 
@@ -85,21 +85,20 @@ is_in_order (m ∷ n ∷ ns) = is_before m n && is_in_order (n ∷ ns)
 
 -- A path names a register: a net, variable or memory of which a clocked block may assign a bit.
 pub record IsRegister (d : Design) (n : Name) : Type 0 where
-  pub path : List Name
   pub place : Placed
   pub own : Name
   pub word : ℕ
   pub bit : ℕ
-  pub is_place : at_path d path ≡ Some place
+  pub is_place : IsPlacedIn d place
   pub is_declared : IsDeclared place own
   pub counted : IsTrue (is_counted place own word bit)
-  pub is_name : n ≡ dotted path own
+  pub is_name : n ≡ dotted place.path own
 
 -- an input of the top other than the clock
 pub record IsInput (d : Design) (n : Name) : Type 0 where
   pub place : Placed
   pub is_place : at_path d [] ≡ Some place
-  pub is_port : IsPort place.of_module n input
+  pub is_port : HasPort place.of_module n input
   pub other : ¬ (n ≡ d.clock)
 
 -- An entry's value stands for that of a valuation: the same number, or the words of a memory without those past its last.

@@ -30,6 +30,7 @@ impl Checked {
     pub fn new(alloc: Global, cnf: Cnf, log: Log) -> Result<Option<Checked>, NoMemory>
         ensures some { IfOk result (λ o. IsTrue (is_some o) ↔ Refutes cnf log) }
         ensures same { IfOk result (λ o. IfSome o (λ c. c ≡ record { formula = cnf; log = log })) }
+        ensures refutes { IfOk result (λ o. IfSome o (λ c. Refutes c.formula c.log)) }
         ensures unsatisfiable { IfOk result (λ o. IfSome o (λ _. (a : List Bool) → ¬ Satisfies a cnf)) }
     {
         let mut checker = Checker::new(alloc, &cnf, &log)?;

@@ -7,7 +7,7 @@ ghost use Rattle.wb_terms.specs.Graph.{tree};
 ghost use Rattle.sat_base.specs.Formula.{Satisfies};
 ghost use Rattle.sat_base.specs.Log.{Refutes};
 ghost use Rattle.sat_gates.specs.Names.{is_blastable};
-ghost use Rattle.sat_settle.specs.Settled.{IsSettled};
+ghost use Rattle.sat_settle.specs.Settled.{IsSettled, IsShown};
 
 use crate::refuting::Checked;
 use sat_base::{Cnf, Log, NoMemory};
@@ -21,8 +21,7 @@ use wb_terms::{Env, TermId, Terms};
 pub enum Settled {
     /// It is false under these values of the store's names.
     Breaks(Env),
-    /// It is true under all values. The checker found that a log refutes the formula that stands here: by the code that of the term, by
-    /// the type some formula.
+    /// It is true under all values. The checker found that a log refutes its formula.
     Holds(Checked),
     /// The budget is spent: its formula, and as many lemmas over it as the budget allows.
     Spent(Blasted, Log),
@@ -34,7 +33,8 @@ pub fn settle(alloc: Global, terms: &Terms, id: TermId, budget: u64) -> Result<S
     requires sort { sort_of (tree terms.now id.0) ≡ Some truth }
     requires blastable { is_blastable (tree terms.now id.0) ≡ true }
     requires budget { 0 < budget }
-    ensures { IfOk result (IsSettled terms.now id.0 budget) }
+    ensures settled { IfOk result (IsSettled terms.now id.0 budget) }
+    ensures shown { IfOk result (IsShown terms.now id.0) }
 {
     let blasted = blast(alloc, terms, id)?;
     match solve(alloc, &blasted.cnf, budget)? {
@@ -53,7 +53,9 @@ pub fn settle(alloc: Global, terms: &Terms, id: TermId, budget: u64) -> Result<S
 /// Has the checker go over a log that refutes a formula. It never finds a step that does not follow.
 fn check_refutation(alloc: Global, cnf: Cnf, log: Log) -> Result<Checked, NoMemory>
     requires { Refutes cnf log }
-    ensures { IfOk result (λ _. (a : List Bool) → ¬ Satisfies a cnf) }
+    ensures formula { IfOk result (λ c. c.formula ≡ cnf) }
+    ensures refutes { IfOk result (λ c. Refutes c.formula c.log) }
+    ensures unsatisfiable { IfOk result (λ _. (a : List Bool) → ¬ Satisfies a cnf) }
 {
     match Checked::new(alloc, cnf, log)? {
         Some(refutation) => Ok(refutation),

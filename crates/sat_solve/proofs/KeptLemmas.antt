@@ -40,6 +40,21 @@ IsKept-popped e older signs kept =
           omega (arith, s, z, kept.counted, length-set signs e.lit.var None);
     }
 
+pub IsKept-pushed : (e : Entry) (older : List Entry) (signs : List (Option Bool)) → sign_at older e.lit.var ≡ None → e.lit.var < length signs → IsKept older signs → IsKept (e ∷ older) (set signs e.lit.var (Some e.lit.negative))
+IsKept-pushed e older signs fresh within kept =
+    let had : get_or signs e.lit.var None ≡ None = kept.same e.lit.var ∙ fresh in
+    record {
+      same = λ v. ⊎_elim
+          (λ (is : v ≡ e.lit.var). rw is (get_or-set_same signs e.lit.var (Some e.lit.negative) None within ∙ sym (sign_here e older e.lit.var refl)))
+          (λ other. get_or-set_other signs e.lit.var v (Some e.lit.negative) None other ∙ kept.same v ∙ sym (sign_other e older v (λ same. other (sym same))))
+          (cases_eq v e.lit.var);
+      fresh = (fresh, kept.fresh);
+      counted =
+          let s = sum_by-set (λ (o : Option Bool). cond (is_none o) 1 0) signs e.lit.var (Some e.lit.negative) None within in
+          let z : ◌≡◌ {A = ℕ} (cond (is_none (get_or signs e.lit.var None)) 1 0) 1 = rw had refl in
+          omega (arith, s, z, kept.counted, length-set signs e.lit.var (Some e.lit.negative));
+    }
+
 -- each entry's literal is true
 pub entry_true : (trail : List Entry) (k : ℕ) (e : Entry) → HasFreshVariables trail → slice_get trail k ≡ Some e → sign_at trail e.lit.var ≡ Some e.lit.negative
 entry_true [] k e s at = cc

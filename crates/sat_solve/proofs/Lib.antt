@@ -1,6 +1,7 @@
 pub mod Signs
 pub mod NewLemma
 pub mod KeptLemmas
+pub mod TruthLemmas
 pub mod FoundLemmas
 pub mod StateLemmas
 pub mod Places

@@ -10,6 +10,7 @@ ghost use Rattle.sat_solve.specs.Walk.{IsWalked, AreUnmarked};
 ghost use Rattle.sat_solve.specs.Search.{IsSearch};
 ghost use Rattle.sat_solve.specs.Lesson.{IsTaught, IsLesson, IsForcedFrom, IsDescended};
 
+use crate::clauses::clause;
 use crate::minimizing::Minimizer;
 use crate::order::Order;
 use crate::trail::{Entry, Trail};
@@ -55,6 +56,8 @@ pub fn explain(
             keep_point(cnf, log, trail, &mut walk, point, start)?;
             bump(order, walk.seen.as_slice());
             let back = walk_below(alloc, cnf, log, trail, &mut walk, start, base)?;
+            bump_reasons(cnf, log, trail, order, walk.lits.as_slice());
+            weigh(trail, order, walk.lits.as_slice());
             Ok(finish(walk, back))
         }
     }
@@ -65,7 +68,30 @@ fn bump(order: &mut Order, seen: &[u64]) {
     for var in seen {
         order.bump(*var);
     }
-    order.decay();
+}
+
+// The variables in the reasons of the lemma's literals have had a part in it too.
+fn bump_reasons(cnf: &Cnf, log: &Log, trail: &Trail, order: &mut Order, lits: &[Lit])
+    requires { IsState cnf.now log.now trail.now }
+{
+    for lit in lits {
+        match trail.reason(lit.var) {
+            None => {}
+            Some(reason) => {
+                for other in clause(cnf, log, reason) {
+                    order.bump(other.var);
+                }
+            }
+        }
+    }
+}
+
+// How many levels the literals of the lemma are of.
+fn weigh(trail: &Trail, order: &mut Order, lits: &[Lit]) {
+    for lit in lits {
+        order.meet(trail.level_of(lit.var));
+    }
+    order.end_lemma();
 }
 
 // What the walk has gathered at its end.

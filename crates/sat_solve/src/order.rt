@@ -8,8 +8,20 @@ use std::alloc::Global;
 // The scores are divided by this once one is greater.
 const LARGEST: f64 = 1e100;
 
+// What a part in a lemma counts, of what a part in the next one does.
+const DECAY: f64 = 0.9;
+
+// The share of the last lemma in the two averages of the lemmas' levels, and how far the one of late has to be above the
+// one of all for a restart.
+const LATE: f64 = 0.03;
+
+const ALL: f64 = 0.00001;
+
+const MARGIN: f64 = 1.1;
+
 /// The variables by the lemmas that they lately had a part in, in a binary heap, and the last sign of
-/// each.
+/// each. It also keeps averages of how many levels the literals of a lemma are of: where those of late are many, the
+/// search is in a bad part of the formula.
 #[derive(Drop)]
 pub struct Order {
     scores: Vec<f64>,
@@ -19,6 +31,17 @@ pub struct Order {
     // Where a variable stands in the heap, one more; 0 where it doesn't.
     places: Vec<usize>,
     negative: Vec<bool>,
+    // How many lemmas have been learnt, and at how many each variable last had a part.
+    lemmas: u64,
+    parts: Vec<u64>,
+    // At how many lemmas each level was last met, and how many levels this lemma has met.
+    met: Vec<u64>,
+    levels: f64,
+    // The averages of late and of all, and the sums of their weights.
+    late: f64,
+    late_weight: f64,
+    all: f64,
+    all_weight: f64,
 }
 
 impl Order {
@@ -37,11 +60,26 @@ impl Order {
             heap,
             places,
             negative: vec![in alloc; true; count]?,
+            lemmas: 1,
+            parts: vec![in alloc; 0; count]?,
+            met: vec![in alloc; 0; count]?,
+            levels: 0.0,
+            late: 0.0,
+            late_weight: 0.0,
+            all: 0.0,
+            all_weight: 0.0,
         })
     }
 
-    /// The variable has had a part in a lemma.
+    /// The variable has a part in the lemma that is being learnt. It counts once.
     pub fn bump(&mut self, var: u64) {
+        let lemmas = self.lemmas;
+        if let Some(part) = self.parts.get_mut(var as usize) {
+            if *part == lemmas {
+                return;
+            }
+            *part = lemmas;
+        }
         let score = self.score(var) + self.weight;
         if let Some(own) = self.scores.get_mut(var as usize) {
             *own = score;
@@ -55,9 +93,31 @@ impl Order {
         }
     }
 
-    /// A lemma has been learnt: what comes later counts more.
-    pub fn decay(&mut self) {
-        self.weight = self.weight / 0.95;
+    /// The lemma that is being learnt has a literal of this level.
+    pub fn meet(&mut self, level: u64) {
+        let lemmas = self.lemmas;
+        if let Some(met) = self.met.get_mut(level as usize) {
+            if *met != lemmas {
+                *met = lemmas;
+                self.levels = self.levels + 1.0;
+            }
+        }
+    }
+
+    /// The lemma has been learnt: what comes later counts more.
+    pub fn end_lemma(&mut self) {
+        self.late = self.late + (self.levels - self.late) * LATE;
+        self.late_weight = self.late_weight + (1.0 - self.late_weight) * LATE;
+        self.all = self.all + (self.levels - self.all) * ALL;
+        self.all_weight = self.all_weight + (1.0 - self.all_weight) * ALL;
+        self.levels = 0.0;
+        self.lemmas = self.lemmas.wrapping_add(1);
+        self.weight = self.weight / DECAY;
+    }
+
+    /// Whether the lemmas of late are of more levels than those before.
+    pub fn is_restless(&self) -> bool {
+        self.late * self.all_weight > MARGIN * self.all * self.late_weight
     }
 
     /// The literal is no longer true.
@@ -73,6 +133,11 @@ impl Order {
                 self.sift_up(end);
             }
         }
+    }
+
+    /// The first variable.
+    pub fn first(&self) -> Option<u64> {
+        self.at(0)
     }
 
     /// Takes the first variable off.
@@ -107,8 +172,9 @@ impl Order {
         self.weight = self.weight / LARGEST;
     }
 
+    /// How much the variable's parts in lemmas count.
     #[inline]
-    fn score(&self, var: u64) -> f64 {
+    pub fn score(&self, var: u64) -> f64 {
         match self.scores.get(var as usize) {
             Some(score) => *score,
             None => 0.0,

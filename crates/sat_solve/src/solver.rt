@@ -88,7 +88,7 @@ fn search(
                 learn(cnf, &mut log, &mut watches, &mut trail, &mut order, lesson)?;
             }
             None => {
-                if pace.is_due(log.len() as u64) {
+                if pace.is_due(log.len() as u64, order.is_restless()) {
                     restart(cnf, &log, &mut watches, &mut trail, &mut order, base);
                 } else {
                     match decide(&trail, &mut order) {
@@ -135,7 +135,37 @@ fn decide(trail: &Trail, order: &mut Order) -> Option<Lit>
     }
 }
 
-// Goes back to below the first decision, if `base` is still how many entries are older than that.
+// The score of the first variable that has no value.
+fn open_score(trail: &Trail, order: &mut Order) -> f64 {
+    for _ in 0..trail.vars() {
+        match order.first() {
+            None => break,
+            Some(var) => {
+                if var < trail.vars() && trail.sign(var).is_none() {
+                    return order.score(var);
+                }
+                let _ = order.next();
+            }
+        }
+    }
+    0.0
+}
+
+// How many entries a restart keeps, of which `base` are older than the first decision: those from the first on whose
+// decisions would be made again.
+fn reused(trail: &Trail, order: &mut Order, base: usize) -> usize {
+    let score = open_score(trail, order);
+    let count = trail.len();
+    for place in base..count {
+        let entry = trail.newest(count - 1 - place);
+        if entry.reason.is_none() && order.score(entry.lit.var) <= score {
+            return place;
+        }
+    }
+    count
+}
+
+// Goes back to below a decision that would not be made again, if there is one. The first comes after `base` entries.
 fn restart(
     cnf: &Cnf,
     log: &Log,
@@ -147,8 +177,9 @@ fn restart(
     requires { IsSearch cnf.now log.now trail.old watches.old.arena watches.old.lists watches.old.head }
     ensures { IsSearch cnf.now log.now trail.new watches.new.arena watches.new.lists watches.new.head }
 {
+    let keep = reused(trail, order, base);
     let count = trail.len();
-    if base < count && trail.newest(count - 1 - base).reason.is_none() {
-        back_up(watches, trail, order, count - base);
+    if keep < count && trail.newest(count - 1 - keep).reason.is_none() {
+        back_up(watches, trail, order, count - keep);
     }
 }

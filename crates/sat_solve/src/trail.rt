@@ -1,8 +1,8 @@
 //! The trail: the literals that are true, in the order in which they became so, with their reasons.
-ghost use Rattle.std.specs.Prelude.{◌≡◌, ℕ, ◌<◌, ◌≤◌, [], ◌∷◌, length, IfOk, OnOk, IfSome, IfNone, MatchOption, IsSome, slice_get, slice_index_or, not, Bool, false, true};
+ghost use Rattle.std.specs.Prelude.{◌≡◌, ℕ, ◌+◌, ◌*◌, ◌<◌, ◌≤◌, [], ◌∷◌, length, IfOk, OnOk, IfSome, IfNone, MatchOption, IsSome, slice_get, slice_index_or, not, Bool, false, true};
 ghost use Rattle.sat_solve.specs.Trail.{sign_at};
 ghost use Rattle.sat_solve.specs.Codes.{literal_of};
-ghost use Rattle.sat_solve.specs.Truth.{IsTruth};
+ghost use Rattle.sat_solve.specs.Truth.{IsTruth, truth_by, with_pair};
 ghost use Rattle.sat_solve.specs.Decisions.{IsReasonIn};
 
 use sat_base::{Assignment, Lit, NoMemory};
@@ -24,27 +24,61 @@ pub enum Truth {
     Open,
 }
 
+// The truth of a literal that has a value.
+#[inline]
+fn truth_if(holds: bool) -> Truth
+    ensures { result ≡ truth_by holds }
+{
+    if holds { Truth::True } else { Truth::False }
+}
+
+// Writes the truths of both literals of a variable.
+#[inline]
+fn write_pair(truths: &mut Vec<Truth>, var: usize, positive: Truth, negative: Truth)
+    requires { 2 * var + 1 < length truths.old.items }
+    ensures { truths.new.items ≡ with_pair truths.old.items var positive negative }
+{
+    truths[2 * var] = positive;
+    truths[2 * var + 1] = negative;
+}
+
+// A place in the trail, counted from the oldest entry, which is 0, and the level there.
+#[derive(Clone, Copy)]
+struct Place {
+    index: usize,
+    level: u64,
+}
+
+fn set_place(places: &mut Vec<Place>, var: usize, place: Place) {
+    if let Some(own) = places.get_mut(var) {
+        *own = place;
+    }
+}
+
 /// The literals that are true, none of a variable twice. Contracts see the number of variables and
 /// the entries, newest first.
 #[derive(Drop)]
 pub struct Trail {
     entries: Vec<Entry>,
     signs: Vec<Option<bool>>,
-    // How many of them are decisions, and at what place each variable stood when it last got a value. Nothing
-    // is proved of these two.
+    // The truth of each literal, by its code: one load for each question.
+    truths: Vec<Truth>,
+    // How many of them are decisions, and where each variable stood when it last got a value. Nothing is proved of
+    // these two.
     level: u64,
-    places: Vec<usize>,
+    places: Vec<Place>,
 }
 
 impl Model for Trail {
     ghost use Rattle.std.specs.Prelude.{length, reverse};
     ghost use Rattle.sat_solve.specs.Kept.{TrailView, IsKept};
+    ghost use Rattle.sat_solve.specs.Truth.{AreTruths};
 
     ghost Value = { TrailView };
 
     ghost view = { λ t. record { vars = length t.signs.items; entries = reverse t.entries.items } };
 
-    ghost invariant = { λ t. IsKept (reverse t.entries.items) t.signs.items };
+    ghost invariant = { λ t. IsKept (reverse t.entries.items) t.signs.items × AreTruths (reverse t.entries.items) (length t.signs.items) t.truths.items };
 }
 
 impl Trail {
@@ -52,11 +86,15 @@ impl Trail {
     pub fn new(alloc: Global, vars: u64) -> Result<Self, NoMemory>
         ensures { IfOk result (λ t. t ≡ record { vars = vars; entries = [] }) }
     {
+        if vars > u64::MAX / 2 {
+            return Err(NoMemory);
+        }
         Ok(Trail {
             entries: Vec::new(alloc),
             signs: vec![in alloc; None; vars as usize]?,
+            truths: vec![in alloc; Truth::Open; 2 * vars as usize]?,
             level: 0,
-            places: vec![in alloc; 0; vars as usize]?,
+            places: vec![in alloc; Place { index: 0, level: 0 }; vars as usize]?,
         })
     }
 
@@ -104,15 +142,9 @@ impl Trail {
     pub fn truth(&self, code: u32) -> Truth
         ensures { IsTruth self.now.entries (literal_of code) result }
     {
-        match self.sign((code / 2) as u64) {
+        match self.truths.get(code as usize) {
+            Some(truth) => *truth,
             None => Truth::Open,
-            Some(sign) => {
-                if sign == (code % 2 == 1) {
-                    Truth::True
-                } else {
-                    Truth::False
-                }
-            }
         }
     }
 
@@ -124,13 +156,16 @@ impl Trail {
             (self.new ≡ record { vars = self.old.vars; entries = entry ∷ self.old.entries }) }
         ensures small { OnOk result (length self.new.entries ≤ self.new.vars) }
     {
-        let place = self.entries.len();
+        let index = self.entries.len();
         self.entries.push(entry)?;
-        self.signs[entry.lit.var as usize] = Some(entry.lit.negative);
+        let var = entry.lit.var as usize;
+        self.signs[var] = Some(entry.lit.negative);
+        let positive = truth_if(!entry.lit.negative);
+        let negative = truth_if(entry.lit.negative);
+        write_pair(&mut self.truths, var, positive, negative);
         self.level = self.level.wrapping_add(u64::from(entry.reason.is_none()));
-        if let Some(own) = self.places.get_mut(entry.lit.var as usize) {
-            *own = place;
-        }
+        let level = self.level;
+        set_place(&mut self.places, var, Place { index, level });
         Ok(())
     }
 
@@ -139,7 +174,16 @@ impl Trail {
     #[inline]
     pub fn place(&self, var: u64) -> usize {
         match self.places.get(var as usize) {
-            Some(place) => *place,
+            Some(place) => place.index,
+            None => 0,
+        }
+    }
+
+    /// How many decisions there were when a variable last got a value.
+    #[inline]
+    pub fn level_of(&self, var: u64) -> u64 {
+        match self.places.get(var as usize) {
+            Some(place) => place.level,
             None => 0,
         }
     }
@@ -168,7 +212,9 @@ impl Trail {
         ensures none { IfNone result ((self.old.entries ≡ []) × (self.new ≡ self.old)) }
     {
         let entry = self.entries.pop()?;
-        self.signs[entry.lit.var as usize] = None;
+        let var = entry.lit.var as usize;
+        self.signs[var] = None;
+        write_pair(&mut self.truths, var, Truth::Open, Truth::Open);
         self.level = self.level.wrapping_sub(u64::from(entry.reason.is_none()));
         Some(entry)
     }

@@ -41,10 +41,12 @@ fn replacement(trail: &Trail, codes: &[u32], other: u32) -> Option<u32>
         (λ c. Contains codes.now c × (c ≢ other) × (¬ IsFalseIn trail.now.entries (literal_of c))) }
 {
     for code in codes {
-        if *code != other {
-            match trail.truth(*code) {
-                Truth::False => {}
-                _ => return Some(*code),
+        match trail.truth(*code) {
+            Truth::False => {}
+            _ => {
+                if *code != other {
+                    return Some(*code);
+                }
             }
         }
     }

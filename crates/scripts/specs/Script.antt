@@ -50,8 +50,8 @@ abbrev pub is_return : ℕ → Bool
 is_return b = b == 13
 
 -- a space or a tab
-abbrev pub is_blank : ℕ → Bool
-is_blank b = b == 32 || b == 9
+abbrev pub is_space_or_tab : ℕ → Bool
+is_space_or_tab b = b == 32 || b == 9
 
 -- the text without each carriage return that stands directly before a line feed
 abbrev pub without_returns : List ℕ → List ℕ
@@ -69,9 +69,9 @@ without_empty ((b ∷ bs) ∷ pieces) = (b ∷ bs) ∷ without_empty pieces
 
 -- the words of a line: what stands between its blanks
 abbrev pub words_of : List ℕ → List (List ℕ)
-words_of line = without_empty (pieces_at is_blank line)
+words_of line = without_empty (pieces_at is_space_or_tab line)
 
--- An empty line and one that begins with # are skipped, whatever else it holds.
+-- An empty line is skipped, and so is one that begins with #, whatever else stands in it: a carriage return, too.
 abbrev pub is_skipped : List ℕ → Bool
 is_skipped [] = true
 is_skipped (b ∷ bs) = b == 35
@@ -112,9 +112,9 @@ hexadecimal_in [] = None
 hexadecimal_in (b ∷ bs) = some_if (list_all is_either_hexadecimal_digit (b ∷ bs)) (with_either_digits 0 (b ∷ bs))
 
 -- a value or an address: decimal, or hexadecimal behind 0x
-abbrev pub number_in : List ℕ → Option ℕ
-number_in (a ∷ b ∷ digits) = cond ((a == 48) && (b == 120)) (hexadecimal_in digits) (decimal_in (a ∷ b ∷ digits))
-number_in text = decimal_in text
+abbrev pub numeral_in : List ℕ → Option ℕ
+numeral_in (a ∷ b ∷ digits) = cond ((a == 48) && (b == 120)) (hexadecimal_in digits) (decimal_in (a ∷ b ∷ digits))
+numeral_in text = decimal_in text
 
 -- ---- settings
 
@@ -157,7 +157,7 @@ set_named None address x = None
 
 -- the number in `number]`
 abbrev pub before_bracket : Option (List ℕ × List ℕ) → Option ℕ
-before_bracket (Some (digits, [])) = number_in digits
+before_bracket (Some (digits, [])) = numeral_in digits
 before_bracket _ = None
 
 -- `name`, or `memory[address]`
@@ -166,7 +166,7 @@ set_of ss left None x = set_named (settable_named ss left) None x
 set_of ss left (Some parts) x = set_named (settable_named ss parts.0) (Some (before_bracket (at_last 93 parts.1))) x
 
 abbrev pub set_from : List Settable → Option (List ℕ × List ℕ) → Option Set
-set_from ss (Some parts) = set_of ss parts.0 (at_last 91 parts.0) (number_in parts.1)
+set_from ss (Some parts) = set_of ss parts.0 (at_last 91 parts.0) (numeral_in parts.1)
 set_from ss None = None
 
 -- A word `name=value` or `memory[address]=value`: a name that may be set, an address of a memory alone and within it, and a value
@@ -247,7 +247,8 @@ sets_name ss s = list_any (λ t. same_name t.called s.called) ss
 abbrev pub has_all_inputs : Settables → Script → Bool
 has_all_inputs names script = list_all (λ ss. list_all (sets_name ss) names.inputs) script.inputs
 
--- What a text is: a script, or refused since a line is none of these, or else since a line leaves out an input.
+-- What a text is. It is refused since it is not UTF-8, in a comment or elsewhere, or since some line is bad or stands in the wrong
+-- place; else since an input line leaves out an input; where neither is so it is a script.
 pub data ScriptReading : Type 0 where
   is_script : Script → ScriptReading
   bad_line missing_input : ScriptReading

@@ -2,28 +2,9 @@
 use Rattle.std.specs.Prelude.{ℕ, suc, cond, ◌==◌, List, [], ◌∷◌, ◌++◌, map, slice_get, Option, Some, None, option_map, codes, decimal, ⊤}
 use Rattle.wb_values.specs.Value.{Name, Value, words, numeral_of, Valuation}
 use Rattle.model_meaning.specs.Model.{StateDeclaration, Model, instruction_name, instructions_in, states_of}
-use Rattle.model_meaning.specs.Instruction.{Steps, IsValidAt, IsStarted, NoneDecodesAt, AreFirstTwoDecoded, Trouble, stuck, too_long, HasTrouble}
+use Rattle.model_meaning.specs.Instruction.{Trouble, stuck, too_long}
+use Rattle.model_meaning.specs.Outcome.{Outcome, next, not_valid, no_instruction, several, trouble, IsOutcome, state_after}
 use Rattle.scripts.specs.Script.{Script, first_state, inputs_of}
-
--- What a model does at a state under inputs: an instruction leads to a next state; the valid condition fails; no instruction
--- decodes, or two do, the first of them named; or the started instruction's child does not end.
-pub data Outcome : Type 0 where
-  next : (instruction : ℕ) → (state : Valuation) → Outcome
-  not_valid no_instruction : Outcome
-  several : (first second : ℕ) → Outcome
-  trouble : Trouble → Outcome
-
-abbrev pub IsOutcome : Model → (q w : Valuation) → Outcome → Type 0
-IsOutcome m q w (next j r) = IsStarted m q w j × Steps m q w r
-IsOutcome m q w not_valid = ¬ IsValidAt m q w
-IsOutcome m q w no_instruction = IsValidAt m q w × NoneDecodesAt m q w
-IsOutcome m q w (several j k) = IsValidAt m q w × AreFirstTwoDecoded m q w j k
-IsOutcome m q w (trouble t) = (j : ℕ) × (started : IsStarted m q w j) × HasTrouble m started.1.i q w t
-
--- Where there is no next state the state stays.
-abbrev pub state_after : Valuation → Outcome → Valuation
-state_after q (next j r) = r
-state_after q _ = q
 
 -- The outcomes of a run from a state, one for each of the inputs.
 abbrev pub AreOutcomes : Model → Valuation → List Valuation → List Outcome → Type 0

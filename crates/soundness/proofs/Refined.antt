@@ -3,13 +3,13 @@ use Rattle.std.proofs.Common.{◌≡◌, ◌≢◌, ℕ, zero, suc, ◌+◌, ◌
 use Rattle.std.specs.Prelude.{IsTrue, is_some, codes, decimal}
 use mathlib.Core.Path.{fun_ext}
 use Rattle.wb_values.specs.Value.{Name, Valuation, number, entry_of}
-use Rattle.model_meaning.specs.Model.{Model, state_named, states_of, Instruction, instruction, instruction_name, no_child, child, child_of, updated, point_of, instructions_in}
-use Rattle.model_meaning.specs.Instruction.{IsInstruction, IsStarted, Steps, Does, DoesInstruction, state_in, SameStates}
+use Rattle.model_meaning.specs.Model.{Model, state_named, states_of, Instruction, instruction, instruction_name, no_child, child, child_program, updated, point_of, instructions_in}
+use Rattle.model_meaning.specs.Instruction.{IsInstruction, IsStarted, Steps, Does, DoesInstruction, own_states, SameStates}
 use Rattle.verilog_trees.specs.Syntax.{Expression}
 use Rattle.refinement.specs.Map.{Setting, InstructionMap, mapped_state, mapped_or_zero, sort_of_state}
 use Rattle.refinement.specs.Run.{Run, IsRun, HoldsOf, IsFromReset}
-use Rattle.refinement.specs.Refinement.{state_at, inputs_at, StartsAt, IsEntry, CommitsAt, IsCommandOf, EndsAt, IsIdle, HasOneInFlight, HasState, Refines}
-use Rattle.refinement.specs.Obligation.{Fact, invariant, assumed, reset_active, start, no_start, decoded, commit, no_commit, initial, same, result_of, MeansAll, Holds, for_each, invariants_at, premises_at, started, started_by, running_at, running, not_ended, ended_at, invariant_obligations, state_obligations, reset_obligations, idle_obligations, decode_obligation, child_obligations, bound_obligation, commit_obligations, instruction_obligations, all_instruction_obligations, obligations, bound_named, bound_in, with_initial_values}
+use Rattle.refinement.specs.Refinement.{state_at, inputs_at, StartsAt, IsMapEntry, CommitsAt, IsCommandOf, EndsAt, IsIdle, HasOneInFlight, HasState, Refines}
+use Rattle.refinement.specs.Obligation.{Fact, invariant, assumed, reset_active, start, no_start, decoded, commit, no_commit, initial, same, result_of, MeansAll, Holds, for_each, invariants_at, premises_at, start_hypotheses, started_by, running_at, running, not_ended, ended_at, invariant_obligations, state_obligations, reset_obligations, idle_obligations, decode_obligation, child_obligations, bound_obligation, commit_obligations, instruction_obligations, all_instruction_obligations, obligations, bound_named, bound_in, with_initial_values}
 use Rattle.refinement.specs.Soundness.{AllHold, IsComplete, ObligationsGiveRefinement}
 use Rattle.soundness.proofs.FactLists.{AllHold-left, AllHold-right, AllHold-for_each, MeansAll-append, MeansAll-for_each}
 use Rattle.soundness.proofs.Shifted.{later, later_sum, later_from, shifted, IsRun-shifted, IsRun-shorter}
@@ -33,7 +33,7 @@ mapped_same s v u alike =
     unnamed s' v' u' (Some e) = refl
 
 -- A state of the model that agrees with a mapped state is it.
-state_same : (s : Setting) (v p : Valuation) → SameStates s.model (mapped_state s v) (state_in s.model p) → state_in s.model p ≡ mapped_state s v
+state_same : (s : Setting) (v p : Valuation) → SameStates s.model (mapped_state s v) (own_states s.model p) → own_states s.model p ≡ mapped_state s v
 state_same s v p alike =
     fun_ext (λ n.
     (elim (state_named (states_of s.model.top) n) as
@@ -57,7 +57,7 @@ one_command m q w j k a b =
     ]
 
 -- without a child an instruction always leads somewhere
-done_without_child : (i : Instruction) (p : Valuation) → child_of i ≡ no_child → (q : Valuation) × DoesInstruction i p q
+done_without_child : (i : Instruction) (p : Valuation) → child_program i ≡ no_child → (q : Valuation) × DoesInstruction i p q
 done_without_child (instruction called decode update no_child) p e = (updated update p, refl)
 done_without_child (instruction called decode update (child steps program)) p e = cc
 
@@ -83,15 +83,15 @@ module _ (s : Setting) (complete : IsComplete s) (all : AllHold s (obligations s
       → AllHold s (bound_obligation s.map j (instruction_name i) (bound_named s.map (instruction_name i))
       ∷ for_each (commit_obligations s.model s.map j (instruction_name i)) 0 (bound_named s.map (instruction_name i)))
   bound_holds j i e =
-      AllHold-right s (child_obligations s.map j (instruction_name i) (child_of i))
+      AllHold-right s (child_obligations s.map j (instruction_name i) (child_program i))
       (bound_obligation s.map j (instruction_name i) (bound_named s.map (instruction_name i))
       ∷ for_each (commit_obligations s.model s.map j (instruction_name i)) 0 (bound_named s.map (instruction_name i)))
       (of_instruction j i e)
 
   child_holds : (j : ℕ) (i : Instruction) → IsInstruction s.model j i
-      → AllHold s (child_obligations s.map j (instruction_name i) (child_of i))
+      → AllHold s (child_obligations s.map j (instruction_name i) (child_program i))
   child_holds j i e =
-      AllHold-left s (child_obligations s.map j (instruction_name i) (child_of i))
+      AllHold-left s (child_obligations s.map j (instruction_name i) (child_program i))
       (bound_obligation s.map j (instruction_name i) (bound_named s.map (instruction_name i))
       ∷ for_each (commit_obligations s.model s.map j (instruction_name i)) 0 (bound_named s.map (instruction_name i)))
       (of_instruction j i e)
@@ -137,7 +137,7 @@ module _ (s : Setting) (complete : IsComplete s) (all : AllHold s (obligations s
       MeansAll-for_each s (shifted t run) (λ k. invariant k 0 ∷ []) 0 (length s.map.invariants) (λ k from to. (inv k, tt))
 
   given_start : (t : ℕ) → ((k : ℕ) → HoldsOf s run s.map.invariants k t) → s.map.reset_cycles ≤ t → t < n → StartsAt s run t
-      → MeansAll s (shifted t run) (started s.map)
+      → MeansAll s (shifted t run) (start_hypotheses s.map)
   given_start t inv past low starts =
       MeansAll-append s (shifted t run) (invariants_at s.map 0 ++ premises_at s.map 0) (start 0 ∷ [])
       (MeansAll-append s (shifted t run) (invariants_at s.map 0) (premises_at s.map 0) (given_invariants t inv) (premises t 0 past low))
@@ -146,7 +146,7 @@ module _ (s : Setting) (complete : IsComplete s) (all : AllHold s (obligations s
   given_started_by : (t j : ℕ) → ((k : ℕ) → HoldsOf s run s.map.invariants k t) → s.map.reset_cycles ≤ t → t < n → StartsAt s run t
       → IsCommandOf s run t j → MeansAll s (shifted t run) (started_by s.map j)
   given_started_by t j inv past low starts is_j =
-      MeansAll-append s (shifted t run) (started s.map) (decoded j ∷ []) (given_start t inv past low starts)
+      MeansAll-append s (shifted t run) (start_hypotheses s.map) (decoded j ∷ []) (given_start t inv past low starts)
       ((is_j.1.i, is_j.1.is_j, is_j.1.decoded), tt)
 
   -- behind a start there is no start as long as its command has not ended
@@ -294,7 +294,7 @@ module _ (s : Setting) (complete : IsComplete s) (all : AllHold s (obligations s
       let steps : Steps s.model (state_at s run t) (inputs_at s run t) x =
       subst (λ p. Steps s.model p (inputs_at s run t) x) known.1 does in
       let after : Valuation = steps.0 in
-      let is_x : x ≡ state_in s.model after = steps.2 in
+      let is_x : x ≡ own_states s.model after = steps.2 in
       let done : Does s.model i (state_at s run t) (inputs_at s run t) x = (
         after,
         step_by_decoded s.model.top (point_of s.model (state_at s run t) (inputs_at s run t)) after steps.1 j i is_j.1.is_j is_j.1.decoded,
@@ -324,7 +324,7 @@ module _ (s : Setting) (complete : IsComplete s) (all : AllHold s (obligations s
           (known_behind_commit k' t' q' x' idle past (omega (arith, end'.from)) known' starts' j' is_j' found.0
           (subst (λ m. EndsAt s run j' t' m) (sym found.1) end') (subst (λ m. m < n) (sym found.1) inside) does')
 
-  entry_bound : (j : ℕ) (e : InstructionMap) → (entry : IsEntry s j e) → bound_named s.map (instruction_name entry.0) ≡ e.bound
+  entry_bound : (j : ℕ) (e : InstructionMap) → (entry : IsMapEntry s j e) → bound_named s.map (instruction_name entry.0) ≡ e.bound
   entry_bound j e entry = ap bound_in entry.2
 
   -- a start at an idle cycle has a command and a next state
@@ -346,7 +346,7 @@ module _ (s : Setting) (complete : IsComplete s) (all : AllHold s (obligations s
           → DoesInstruction is_j.1.i (point_of s.model (state_at s run t) (inputs_at s run t)) after
           → (x : Valuation) × Steps s.model (state_at s run t) (inputs_at s run t) x
       stepped j is_j after does = (
-        state_in s.model after,
+        own_states s.model after,
         (
           after,
           step_done s.model.top (point_of s.model (state_at s run t) (inputs_at s run t)) after j is_j.1.i is_j.1.is_j is_j.0 is_j.1.decoded
@@ -359,11 +359,11 @@ module _ (s : Setting) (complete : IsComplete s) (all : AllHold s (obligations s
       same_instruction j i o is_i is_o = let both : Some o ≡ Some i = sym is_o ∙ is_i in cc
 
       next_state : IsRun s (shifted t run) 1 → (j : ℕ) (is_j : IsCommandOf s run t j) → MeansAll s (shifted t run) (started_by s.map j)
-          → AllHold s (child_obligations s.map j (instruction_name is_j.1.i) (child_of is_j.1.i))
+          → AllHold s (child_obligations s.map j (instruction_name is_j.1.i) (child_program is_j.1.i))
           → (x : Valuation) × Steps s.model (state_at s run t) (inputs_at s run t) x
       next_state is_run j is_j facts hold =
-          (elim (child_of is_j.1.i) as
-          (λ c. child_of is_j.1.i ≡ c → AllHold s (child_obligations s.map j (instruction_name is_j.1.i) c)
+          (elim (child_program is_j.1.i) as
+          (λ c. child_program is_j.1.i ≡ c → AllHold s (child_obligations s.map j (instruction_name is_j.1.i) c)
           → (x : Valuation) × Steps s.model (state_at s run t) (inputs_at s run t) x) [
             | no_child ↦ λ e h.
                 let done = done_without_child is_j.1.i (point_of s.model (state_at s run t) (inputs_at s run t)) e in

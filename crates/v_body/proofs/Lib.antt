@@ -10,3 +10,4 @@ pub mod Trees
 pub mod Turns
 pub mod Few
 pub mod Ladder
+pub mod Flat

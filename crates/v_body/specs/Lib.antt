@@ -2,3 +2,4 @@ pub mod Words
 pub mod Targets
 pub mod Statements
 pub mod View
+pub mod Flat

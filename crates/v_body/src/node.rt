@@ -6,6 +6,8 @@ ghost use Rattle.v_syntax.specs.Tree.{tree_of, statement_of, case_kind_of, name_
 ghost use Rattle.v_expr.specs.declared.stop.ExpressionStop.TheVariants.{NoMemory};
 ghost use Rattle.v_body.specs.Statements.{as_items, as_statements};
 ghost use Rattle.v_body.specs.View.{arm_of, item_of, ladder_of};
+ghost use Rattle.v_expr.specs.Flat.{IsFlat, IsNotEmpty, Each};
+ghost use Rattle.v_body.specs.Flat.{IsNoIf, IsFlatStatement, IsFlatArm, IsFlatCaseItem};
 
 use std::alloc::Global;
 use v_expr::ExpressionStop;
@@ -13,7 +15,8 @@ use v_syntax::tree::{Arm, CaseItem, CaseKind, Expression, Statement};
 
 /// A ladder with no `else` behind its last arm.
 pub fn alone<'s>(arms: Vec<Arm<'s>>) -> Statement<'s>
-    ensures { statement_of result ≡ or_empty (ladder_of (map arm_of arms.entry.items) None) }
+    ensures made { statement_of result ≡ or_empty (ladder_of (map arm_of arms.entry.items) None) }
+    ensures flat { IsNotEmpty arms.entry.items → Each IsFlatArm arms.entry.items → IsFlatStatement result }
 {
     Statement::If(arms, None)
 }
@@ -25,6 +28,7 @@ pub fn with_else<'s>(
     last: Statement<'s>,
 ) -> Result<Statement<'s>, ExpressionStop>
     ensures made { IfOk result (λ s. statement_of s ≡ or_empty (ladder_of (map arm_of arms.entry.items) (Some (statement_of last.entry)))) }
+    ensures flat { IfOk result (λ s. IsNotEmpty arms.entry.items → Each IsFlatArm arms.entry.items → IsNoIf last.entry → IsFlatStatement last.entry → IsFlatStatement s) }
     ensures memory { IfErr result (λ e. e ≡ NoMemory) }
 {
     Ok(Statement::If(arms, Some(Box::new(alloc, last)?)))
@@ -36,14 +40,18 @@ pub fn case_of<'s>(
     subject: Expression<'s>,
     items: Vec<CaseItem<'s>>,
 ) -> Statement<'s>
-    ensures { statement_of result ≡ case (case_kind_of kind) (tree_of subject.entry) (as_items (map item_of items.entry.items)) }
+    ensures flat { IsFlat subject.entry → Each IsFlatCaseItem items.entry.items → IsFlatStatement result }
+    ensures no_if { IsNoIf result }
+    ensures made { statement_of result ≡ case (case_kind_of kind) (tree_of subject.entry) (as_items (map item_of items.entry.items)) }
 {
     Statement::Case(kind, subject, items)
 }
 
 /// A block.
 pub fn block_of<'s>(name: Option<&'s str>, statements: Vec<Statement<'s>>) -> Statement<'s>
-    ensures { statement_of result ≡ block (name_of_option name.entry) (as_statements (map statement_of statements.entry.items)) }
+    ensures flat { Each IsFlatStatement statements.entry.items → IsFlatStatement result }
+    ensures no_if { IsNoIf result }
+    ensures made { statement_of result ≡ block (name_of_option name.entry) (as_statements (map statement_of statements.entry.items)) }
 {
     Statement::Block(name, statements)
 }

@@ -1,6 +1,6 @@
 //! The parts of statements that hold no statement.
 
-ghost use Rattle.std.specs.Prelude.{◌≡◌, false, map};
+ghost use Rattle.std.specs.Prelude.{◌≡◌, false, map, IfOk};
 ghost use Rattle.verilog_text.specs.Token.{colon};
 ghost use Rattle.v_token.specs.View.{tokens_of};
 ghost use Rattle.v_syntax.specs.Tree.{tree_of, statement_of, name_of_option};
@@ -9,6 +9,8 @@ ghost use Rattle.v_expr.specs.Whole.{whole_at};
 ghost use Rattle.v_body.specs.Words.{behind_comma, listed_at};
 ghost use Rattle.v_body.specs.Statements.{condition_at, value_at, assigning_at, behind_perhaps_colon, block_name_at, is_default, has_few_defaults, are_items_of_case, as_items};
 ghost use Rattle.v_body.specs.View.{item_of};
+ghost use Rattle.v_expr.specs.Flat.{IsFlat, Each};
+ghost use Rattle.v_body.specs.Flat.{IsFlatStatement, IsNoIf};
 
 use crate::target::target;
 use crate::word::{behind_word, name};
@@ -24,7 +26,8 @@ pub fn condition<'s, 't>(
     alloc: Global,
     tokens: &'t [Token<'s>],
 ) -> Result<(Expression<'s>, &'t [Token<'s>]), ExpressionStop>
-    ensures { Gives (λ x. (tree_of x.0, tokens_of x.1.now)) result (condition_at (tokens_of tokens.now)) }
+    ensures read { Gives (λ x. (tree_of x.0, tokens_of x.1.now)) result (condition_at (tokens_of tokens.now)) }
+    ensures flat { IfOk result (λ x. IsFlat x.0) }
 {
     let rest = mark(tokens, Mark::LeftParenthesis)?;
     let (condition, rest) = expression(alloc, rest)?;
@@ -38,7 +41,8 @@ fn value<'s, 't>(
     alloc: Global,
     tokens: &'t [Token<'s>],
 ) -> Result<(Expression<'s>, &'t [Token<'s>]), ExpressionStop>
-    ensures { Gives (λ x. (tree_of x.0, tokens_of x.1.now)) result (value_at (tokens_of tokens.now)) }
+    ensures read { Gives (λ x. (tree_of x.0, tokens_of x.1.now)) result (value_at (tokens_of tokens.now)) }
+    ensures flat { IfOk result (λ x. IsFlat x.0) }
 {
     let (value, rest) = expression(alloc, tokens)?;
     let rest = mark(rest, Mark::Semicolon)?;
@@ -51,7 +55,9 @@ pub fn assigning<'s, 't>(
     alloc: Global,
     tokens: &'t [Token<'s>],
 ) -> Result<(Statement<'s>, &'t [Token<'s>]), ExpressionStop>
-    ensures { Gives (λ x. (statement_of x.0, tokens_of x.1.now)) result (assigning_at (tokens_of tokens.now)) }
+    ensures read { Gives (λ x. (statement_of x.0, tokens_of x.1.now)) result (assigning_at (tokens_of tokens.now)) }
+    ensures flat { IfOk result (λ x. IsFlatStatement x.0) }
+    ensures no_if { IfOk result (λ x. IsNoIf x.0) }
 {
     let (target, rest) = target(alloc, tokens)?;
     if let Some(rest) = behind_mark(rest, Mark::Equals) {
@@ -68,7 +74,8 @@ fn next_value<'s, 't>(
     alloc: Global,
     tokens: &'t [Token<'s>],
 ) -> Result<(Expression<'s>, &'t [Token<'s>]), ExpressionStop>
-    ensures { Gives (λ x. (tree_of x.0, tokens_of x.1.now)) result (behind_comma whole_at (tokens_of tokens.now)) }
+    ensures read { Gives (λ x. (tree_of x.0, tokens_of x.1.now)) result (behind_comma whole_at (tokens_of tokens.now)) }
+    ensures flat { IfOk result (λ x. IsFlat x.0) }
 {
     let rest = mark(tokens, Mark::Comma)?;
     let (value, rest) = expression(alloc, rest)?;
@@ -81,7 +88,8 @@ pub fn values<'s, 't>(
     alloc: Global,
     tokens: &'t [Token<'s>],
 ) -> Result<(Vec<Expression<'s>>, &'t [Token<'s>]), ExpressionStop>
-    ensures { Gives (λ x. (map tree_of x.0.items, tokens_of x.1.now)) result (listed_at colon whole_at (tokens_of tokens.now)) }
+    ensures read { Gives (λ x. (map tree_of x.0.items, tokens_of x.1.now)) result (listed_at colon whole_at (tokens_of tokens.now)) }
+    ensures flat { IfOk result (λ x. Each IsFlat x.0.items) }
 {
     let (first, mut rest) = expression(alloc, tokens)?;
     let mut values = Vec::new(alloc);

@@ -1,6 +1,6 @@
 //! Reading statements from tokens.
 
-ghost use Rattle.std.specs.Prelude.{◌≡◌, map, codes};
+ghost use Rattle.std.specs.Prelude.{◌≡◌, map, codes, None, IfOk};
 ghost use Rattle.v_token.specs.View.{tokens_of};
 ghost use Rattle.v_syntax.specs.Tree.{statement_of, case_kind_of};
 ghost use Rattle.v_expr.specs.Repeat.{repeated};
@@ -8,6 +8,8 @@ ghost use Rattle.v_expr.specs.View.{Gives};
 ghost use Rattle.v_body.specs.Words.{after_word};
 ghost use Rattle.v_body.specs.Statements.{guarded_at, conditional_at, item_at, items_at, case_at, block_at, outer_statement_at, statement_in, statement_at};
 ghost use Rattle.v_body.specs.View.{arm_of, item_of};
+ghost use Rattle.v_expr.specs.Flat.{Each};
+ghost use Rattle.v_body.specs.Flat.{IsNoIf, IsFlatStatement, IsFlatArm, IsFlatCaseItem};
 
 use crate::node::{alone, block_of, case_of, with_else};
 use crate::part::{
@@ -29,7 +31,8 @@ fn guarded<'s, 't>(
     levels: usize,
     tokens: &'t [Token<'s>],
 ) -> Result<(Arm<'s>, &'t [Token<'s>]), ExpressionStop>
-    ensures { Gives (λ x. (arm_of x.0, tokens_of x.1.now)) result (guarded_at (statement_in levels) (tokens_of tokens.now)) }
+    ensures read { Gives (λ x. (arm_of x.0, tokens_of x.1.now)) result (guarded_at (statement_in levels) (tokens_of tokens.now)) }
+    ensures flat { IfOk result (λ x. IsFlatArm x.0) }
 {
     let (condition, rest) = condition(alloc, tokens)?;
     let (statement, rest) = nested(alloc, levels, rest)?;
@@ -49,7 +52,8 @@ fn ladder<'s, 't>(
     levels: usize,
     tokens: &'t [Token<'s>],
 ) -> Result<(Statement<'s>, &'t [Token<'s>]), ExpressionStop>
-    ensures { Gives (λ x. (statement_of x.0, tokens_of x.1.now)) result (conditional_at (statement_in levels) (tokens_of tokens.now)) }
+    ensures read { Gives (λ x. (statement_of x.0, tokens_of x.1.now)) result (conditional_at (statement_in levels) (tokens_of tokens.now)) }
+    ensures flat { IfOk result (λ x. IsFlatStatement x.0) }
 {
     let mut rest = from_here(tokens)?;
     let mut arms = Vec::new(alloc);
@@ -78,7 +82,8 @@ fn item<'s, 't>(
     levels: usize,
     tokens: &'t [Token<'s>],
 ) -> Result<(CaseItem<'s>, &'t [Token<'s>]), ExpressionStop>
-    ensures { Gives (λ x. (item_of x.0, tokens_of x.1.now)) result (item_at (statement_in levels) (tokens_of tokens.now)) }
+    ensures read { Gives (λ x. (item_of x.0, tokens_of x.1.now)) result (item_at (statement_in levels) (tokens_of tokens.now)) }
+    ensures flat { IfOk result (λ x. IsFlatCaseItem x.0) }
 {
     if let Some(rest) = behind_word(tokens, "default") {
         let (statement, rest) = nested(alloc, levels, behind_perhaps_colon(rest))?;
@@ -97,7 +102,8 @@ fn items<'s, 't>(
     levels: usize,
     tokens: &'t [Token<'s>],
 ) -> Result<(Vec<CaseItem<'s>>, Refusal, &'t [Token<'s>]), ExpressionStop>
-    ensures { Gives (λ x. (map item_of x.0.items, tokens_of x.2.now)) result (items_at (statement_in levels) (tokens_of tokens.now)) }
+    ensures read { Gives (λ x. (map item_of x.0.items, tokens_of x.2.now)) result (items_at (statement_in levels) (tokens_of tokens.now)) }
+    ensures flat { IfOk result (λ x. Each IsFlatCaseItem x.0.items) }
 {
     let mut rest = from_here(tokens)?;
     let mut refusal = no_refusal(tokens);
@@ -124,7 +130,9 @@ fn case<'s, 't>(
     kind: CaseKind,
     tokens: &'t [Token<'s>],
 ) -> Result<(Statement<'s>, &'t [Token<'s>]), ExpressionStop>
-    ensures { Gives (λ x. (statement_of x.0, tokens_of x.1.now)) result (case_at (statement_in levels) (case_kind_of kind) (tokens_of tokens.now)) }
+    ensures read { Gives (λ x. (statement_of x.0, tokens_of x.1.now)) result (case_at (statement_in levels) (case_kind_of kind) (tokens_of tokens.now)) }
+    ensures flat { IfOk result (λ x. IsFlatStatement x.0) }
+    ensures no_if { IfOk result (λ x. IsNoIf x.0) }
 {
     let (subject, rest) = condition(alloc, tokens)?;
     let (items, refusal, rest) = items(alloc, levels, rest)?;
@@ -141,7 +149,8 @@ fn statements<'s, 't>(
     levels: usize,
     tokens: &'t [Token<'s>],
 ) -> Result<(Vec<Statement<'s>>, &'t [Token<'s>]), ExpressionStop>
-    ensures { Gives (λ x. (map statement_of x.0.items, tokens_of x.1.now)) result (repeated (after_word (codes "end")) (statement_in levels) (tokens_of tokens.now)) }
+    ensures read { Gives (λ x. (map statement_of x.0.items, tokens_of x.1.now)) result (repeated (after_word (codes "end")) (statement_in levels) (tokens_of tokens.now)) }
+    ensures flat { IfOk result (λ x. Each IsFlatStatement x.0.items) }
 {
     let mut rest = from_here(tokens)?;
     let mut statements = Vec::new(alloc);
@@ -165,7 +174,9 @@ fn block<'s, 't>(
     levels: usize,
     tokens: &'t [Token<'s>],
 ) -> Result<(Statement<'s>, &'t [Token<'s>]), ExpressionStop>
-    ensures { Gives (λ x. (statement_of x.0, tokens_of x.1.now)) result (block_at (statement_in levels) (tokens_of tokens.now)) }
+    ensures read { Gives (λ x. (statement_of x.0, tokens_of x.1.now)) result (block_at (statement_in levels) (tokens_of tokens.now)) }
+    ensures flat { IfOk result (λ x. IsFlatStatement x.0) }
+    ensures no_if { IfOk result (λ x. IsNoIf x.0) }
 {
     let (name, rest) = block_name(tokens)?;
     let (statements, rest) = statements(alloc, levels, rest)?;
@@ -180,7 +191,9 @@ fn outer<'s, 't>(
     levels: usize,
     tokens: &'t [Token<'s>],
 ) -> Result<(Statement<'s>, &'t [Token<'s>]), ExpressionStop>
-    ensures { Gives (λ x. (statement_of x.0, tokens_of x.1.now)) result (outer_statement_at (statement_in levels) (tokens_of tokens.now)) }
+    ensures read { Gives (λ x. (statement_of x.0, tokens_of x.1.now)) result (outer_statement_at (statement_in levels) (tokens_of tokens.now)) }
+    ensures flat { IfOk result (λ x. IsFlatStatement x.0) }
+    ensures no_if { IfOk result (λ x. after_word (codes "if") (tokens_of tokens.now) ≡ None → IsNoIf x.0) }
 {
     if let Some(rest) = behind_mark(tokens, Mark::Semicolon) {
         return Ok((Statement::Empty, rest));
@@ -212,7 +225,9 @@ fn nested<'s, 't>(
     levels: usize,
     tokens: &'t [Token<'s>],
 ) -> Result<(Statement<'s>, &'t [Token<'s>]), ExpressionStop>
-    ensures { Gives (λ x. (statement_of x.0, tokens_of x.1.now)) result (statement_in levels (tokens_of tokens.now)) }
+    ensures read { Gives (λ x. (statement_of x.0, tokens_of x.1.now)) result (statement_in levels (tokens_of tokens.now)) }
+    ensures flat { IfOk result (λ x. IsFlatStatement x.0) }
+    ensures no_if { IfOk result (λ x. after_word (codes "if") (tokens_of tokens.now) ≡ None → IsNoIf x.0) }
 {
     if levels == 0 {
         return Err(ExpressionStop::Refused(tokens.len()));
@@ -227,7 +242,8 @@ pub fn statement<'s, 't>(
     alloc: Global,
     tokens: &'t [Token<'s>],
 ) -> Result<(Statement<'s>, &'t [Token<'s>]), ExpressionStop>
-    ensures { Gives (λ x. (statement_of x.0, tokens_of x.1.now)) result (statement_at (tokens_of tokens.now)) }
+    ensures read { Gives (λ x. (statement_of x.0, tokens_of x.1.now)) result (statement_at (tokens_of tokens.now)) }
+    ensures flat { IfOk result (λ x. IsFlatStatement x.0) }
 {
     let (statement, rest) = nested(alloc, tokens.len(), tokens)?;
     Ok((statement, rest))

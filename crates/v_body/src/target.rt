@@ -1,10 +1,12 @@
 //! Reading targets and assignments from tokens.
 
-ghost use Rattle.std.specs.Prelude.{◌≡◌, map};
+ghost use Rattle.std.specs.Prelude.{◌≡◌, map, IfOk};
 ghost use Rattle.verilog_text.specs.Token.{right_brace};
 ghost use Rattle.v_token.specs.View.{mark_of, tokens_of};
 ghost use Rattle.v_syntax.specs.Tree.{tree_of, target_of};
 ghost use Rattle.v_expr.specs.View.{Gives};
+ghost use Rattle.v_expr.specs.Flat.{IsFlat, Each};
+ghost use Rattle.v_body.specs.Flat.{IsFlatTarget};
 ghost use Rattle.v_body.specs.Words.{behind_comma, listed_at};
 ghost use Rattle.v_body.specs.Targets.{place_at, outer_target_at, target_in, target_at, assignment_at};
 
@@ -20,7 +22,8 @@ fn place<'s, 't>(
     alloc: Global,
     tokens: &'t [Token<'s>],
 ) -> Result<(Target<'s>, &'t [Token<'s>]), ExpressionStop>
-    ensures { Gives (λ x. (target_of x.0, tokens_of x.1.now)) result (place_at (tokens_of tokens.now)) }
+    ensures read { Gives (λ x. (target_of x.0, tokens_of x.1.now)) result (place_at (tokens_of tokens.now)) }
+    ensures flat { IfOk result (λ x. IsFlatTarget x.0) }
 {
     let (name, rest) = name(tokens)?;
     let (selects, rest) = selects(alloc, rest)?;
@@ -35,7 +38,8 @@ fn next<'s, 't>(
     levels: usize,
     tokens: &'t [Token<'s>],
 ) -> Result<(Target<'s>, &'t [Token<'s>]), ExpressionStop>
-    ensures { Gives (λ x. (target_of x.0, tokens_of x.1.now)) result (behind_comma (target_in levels) (tokens_of tokens.now)) }
+    ensures read { Gives (λ x. (target_of x.0, tokens_of x.1.now)) result (behind_comma (target_in levels) (tokens_of tokens.now)) }
+    ensures flat { IfOk result (λ x. IsFlatTarget x.0) }
 {
     let rest = mark(tokens, Mark::Comma)?;
     let (target, rest) = nested(alloc, levels, rest)?;
@@ -50,7 +54,8 @@ fn parts<'s, 't>(
     levels: usize,
     tokens: &'t [Token<'s>],
 ) -> Result<(Vec<Target<'s>>, &'t [Token<'s>]), ExpressionStop>
-    ensures { Gives (λ x. (map target_of x.0.items, tokens_of x.1.now)) result (listed_at right_brace (target_in levels) (tokens_of tokens.now)) }
+    ensures read { Gives (λ x. (map target_of x.0.items, tokens_of x.1.now)) result (listed_at right_brace (target_in levels) (tokens_of tokens.now)) }
+    ensures flat { IfOk result (λ x. Each IsFlatTarget x.0.items) }
 {
     let (first, mut rest) = nested(alloc, levels, tokens)?;
     let mut targets = Vec::new(alloc);
@@ -75,7 +80,8 @@ fn outer<'s, 't>(
     levels: usize,
     tokens: &'t [Token<'s>],
 ) -> Result<(Target<'s>, &'t [Token<'s>]), ExpressionStop>
-    ensures { Gives (λ x. (target_of x.0, tokens_of x.1.now)) result (outer_target_at (target_in levels) (tokens_of tokens.now)) }
+    ensures read { Gives (λ x. (target_of x.0, tokens_of x.1.now)) result (outer_target_at (target_in levels) (tokens_of tokens.now)) }
+    ensures flat { IfOk result (λ x. IsFlatTarget x.0) }
 {
     if let Some(inside) = behind_mark(tokens, Mark::LeftBrace) {
         let (targets, rest) = parts(alloc, levels, inside)?;
@@ -92,7 +98,8 @@ fn nested<'s, 't>(
     levels: usize,
     tokens: &'t [Token<'s>],
 ) -> Result<(Target<'s>, &'t [Token<'s>]), ExpressionStop>
-    ensures { Gives (λ x. (target_of x.0, tokens_of x.1.now)) result (target_in levels (tokens_of tokens.now)) }
+    ensures read { Gives (λ x. (target_of x.0, tokens_of x.1.now)) result (target_in levels (tokens_of tokens.now)) }
+    ensures flat { IfOk result (λ x. IsFlatTarget x.0) }
 {
     if levels == 0 {
         return Err(ExpressionStop::Refused(tokens.len()));
@@ -107,7 +114,8 @@ pub fn target<'s, 't>(
     alloc: Global,
     tokens: &'t [Token<'s>],
 ) -> Result<(Target<'s>, &'t [Token<'s>]), ExpressionStop>
-    ensures { Gives (λ x. (target_of x.0, tokens_of x.1.now)) result (target_at (tokens_of tokens.now)) }
+    ensures read { Gives (λ x. (target_of x.0, tokens_of x.1.now)) result (target_at (tokens_of tokens.now)) }
+    ensures flat { IfOk result (λ x. IsFlatTarget x.0) }
 {
     let (target, rest) = nested(alloc, tokens.len(), tokens)?;
     Ok((target, rest))
@@ -120,7 +128,8 @@ pub fn assignment<'s, 't>(
     sign: Mark,
     tokens: &'t [Token<'s>],
 ) -> Result<((Target<'s>, Expression<'s>), &'t [Token<'s>]), ExpressionStop>
-    ensures { Gives (λ x. ((target_of x.0.0, tree_of x.0.1), tokens_of x.1.now)) result (assignment_at (mark_of sign) (tokens_of tokens.now)) }
+    ensures read { Gives (λ x. ((target_of x.0.0, tree_of x.0.1), tokens_of x.1.now)) result (assignment_at (mark_of sign) (tokens_of tokens.now)) }
+    ensures flat { IfOk result (λ x. IsFlatTarget x.0.0 × IsFlat x.0.1) }
 {
     let (target, rest) = target(alloc, tokens)?;
     let rest = mark(rest, sign)?;

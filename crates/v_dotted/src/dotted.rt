@@ -8,7 +8,8 @@ ghost use Rattle.v_token.specs.View.{token_of, tokens_of};
 ghost use Rattle.v_syntax.specs.Tree.{tree_of};
 ghost use Rattle.v_expr.specs.View.{Gives};
 ghost use Rattle.v_expr.specs.Whole.{whole_at};
-ghost use Rattle.v_dotted.specs.Dotted.{identifier_at, further_name_at, owned_of, owned_tokens_of, IsOnly};
+ghost use Rattle.v_expr.specs.Flat.{IsFlat};
+ghost use Rattle.v_dotted.specs.Dotted.{identifier_at, further_name_at, owned_of, owned_tokens_of, IsOnly, IsPlace};
 ghost use Rattle.v_expr.specs.declared.stop.ExpressionStop.TheVariants.{NoMemory};
 
 use std::alloc::Global;
@@ -172,7 +173,9 @@ fn borrowed(alloc: Global, owned: &[OwnedToken]) -> Result<Vec<Token<'_>>, Expre
 fn only<'s>(
     read: Result<(Expression<'s>, &[Token<'s>]), ExpressionStop>,
 ) -> Result<Expression<'s>, ExpressionStop>
-    ensures { (ts : List PureToken) → Gives (λ x. (tree_of x.0, tokens_of x.1.now)) read.entry (whole_at ts) → IsOnly result ts }
+    ensures read { (ts : List PureToken) → Gives (λ x. (tree_of x.0, tokens_of x.1.now)) read.entry (whole_at ts) → IsOnly result ts }
+    ensures place { (ts : List PureToken) → Gives (λ x. (tree_of x.0, tokens_of x.1.now)) read.entry (whole_at ts) → IsPlace result ts }
+    ensures flat { IfOk read.entry (λ x. IsFlat x.0) → IfOk result (λ e. IsFlat e) }
 {
     match read {
         Err(stop) => Err(stop),
@@ -186,7 +189,9 @@ pub fn whole_expression(
     alloc: Global,
     tokens: &[OwnedToken],
 ) -> Result<Expression<'_>, ExpressionStop>
-    ensures { IsOnly result (owned_tokens_of tokens.now) }
+    ensures spelled { IsOnly result (owned_tokens_of tokens.now) }
+    ensures place { IsPlace result (owned_tokens_of tokens.now) }
+    ensures flat { IfOk result (λ e. IsFlat e) }
 {
     let tokens = borrowed(alloc, tokens)?;
     let read = expression(alloc, &tokens);

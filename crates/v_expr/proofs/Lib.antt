@@ -10,3 +10,4 @@ pub mod Climb
 pub mod Links
 pub mod Steps
 pub mod Whole
+pub mod Flat

@@ -6,3 +6,4 @@ pub mod Starting
 pub mod Digits
 pub mod Worked
 pub mod Whole
+pub mod Flat

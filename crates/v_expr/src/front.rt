@@ -1,9 +1,11 @@
 //! Whole expressions and the selects behind a name, as deep as the tokens can be.
 
+ghost use Rattle.std.specs.Prelude.{IfOk};
 ghost use Rattle.v_token.specs.View.{tokens_of};
 ghost use Rattle.v_syntax.specs.Tree.{tree_of, selects_of};
 ghost use Rattle.v_expr.specs.View.{Gives};
 ghost use Rattle.v_expr.specs.Whole.{whole_at, whole_selects_at};
+ghost use Rattle.v_expr.specs.Flat.{IsFlat, AreFlatSelects};
 
 use crate::nested;
 use crate::stop::ExpressionStop;
@@ -17,7 +19,8 @@ pub fn expression<'s, 't>(
     alloc: Global,
     tokens: &'t [Token<'s>],
 ) -> Result<(Expression<'s>, &'t [Token<'s>]), ExpressionStop>
-    ensures { Gives (λ x. (tree_of x.0, tokens_of x.1.now)) result (whole_at (tokens_of tokens.now)) }
+    ensures read { Gives (λ x. (tree_of x.0, tokens_of x.1.now)) result (whole_at (tokens_of tokens.now)) }
+    ensures flat { IfOk result (λ x. IsFlat x.0) }
 {
     nested::expression(alloc, tokens.len() + 1, tokens)
 }
@@ -28,7 +31,8 @@ pub fn selects<'s, 't>(
     alloc: Global,
     tokens: &'t [Token<'s>],
 ) -> Result<(Selects<'s>, &'t [Token<'s>]), ExpressionStop>
-    ensures { Gives (λ x. (selects_of x.0, tokens_of x.1.now)) result (whole_selects_at (tokens_of tokens.now)) }
+    ensures read { Gives (λ x. (selects_of x.0, tokens_of x.1.now)) result (whole_selects_at (tokens_of tokens.now)) }
+    ensures flat { IfOk result (λ x. AreFlatSelects x.0) }
 {
     nested::selects(alloc, tokens.len(), tokens)
 }

@@ -6,6 +6,7 @@ ghost use Rattle.v_token.specs.View.{tokens_of};
 ghost use Rattle.v_syntax.specs.Tree.{tree_of, select_of};
 ghost use Rattle.v_expr.specs.Reading.{Reader, limits_at};
 ghost use Rattle.v_expr.specs.Starting.{range_of, limited};
+ghost use Rattle.v_expr.specs.Flat.{IsFlat, IsFlatSelect};
 ghost use Rattle.v_expr.specs.declared.stop.ExpressionStop.TheVariants.{NoMemory};
 
 use crate::reader::behind_mark;
@@ -64,6 +65,7 @@ pub fn range<'s>(
     second: Expression<'s>,
 ) -> Result<Select<'s>, ExpressionStop>
     ensures made { IfOk result (λ s. select_of s ≡ range_of kind (tree_of first.entry.value) (tree_of second.entry)) }
+    ensures flat { IfOk result (λ s. IsFlat first.entry.value → IsFlat second.entry → IsFlatSelect s) }
     ensures memory { IfErr result (λ e. e ≡ NoMemory) }
 {
     let second = Box::new(alloc, second)?;

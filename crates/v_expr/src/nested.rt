@@ -1,12 +1,13 @@
 //! Expressions and what stands in their brackets: the functions that call one another, each with a bound on the levels of brackets.
 
-ghost use Rattle.std.specs.Prelude.{◌≡◌, map};
+ghost use Rattle.std.specs.Prelude.{◌≡◌, map, IfOk};
 ghost use Rattle.verilog_text.specs.Token.{comma};
 ghost use Rattle.v_token.specs.View.{mark_of, tokens_of};
 ghost use Rattle.v_syntax.specs.Tree.{tree_of, select_of, selects_of};
 ghost use Rattle.v_expr.specs.Reading.{Reader, next_at, parts_at, expressions_at, braces_at, select_at, selects_at, alone_at, prefixed_at, tier_at, expression_at};
 ghost use Rattle.v_expr.specs.Starting.{closed_at};
 ghost use Rattle.v_expr.specs.View.{Gives, in_front};
+ghost use Rattle.v_expr.specs.Flat.{IsFlat, AreFlat, IsFlatSelect, AreFlatSelects};
 
 use crate::limit::{Limit, limit_of, range};
 use crate::made::{behind_closing, choice, joined, two_selects};
@@ -27,7 +28,8 @@ fn closed<'s, 't>(
     tokens: &'t [Token<'s>],
     closing: Mark,
 ) -> Result<(Expression<'s>, &'t [Token<'s>]), ExpressionStop>
-    ensures { Gives (λ x. (tree_of x.0, tokens_of x.1.now)) result (closed_at (mark_of closing) (expression_at levels) (tokens_of tokens.now)) }
+    ensures read { Gives (λ x. (tree_of x.0, tokens_of x.1.now)) result (closed_at (mark_of closing) (expression_at levels) (tokens_of tokens.now)) }
+    ensures flat { IfOk result (λ x. IsFlat x.0) }
 {
     let read = expression(alloc, levels, tokens);
     behind_closing(read, closing)
@@ -41,7 +43,8 @@ fn next<'s, 't>(
     levels: usize,
     tokens: &'t [Token<'s>],
 ) -> Result<(Expression<'s>, &'t [Token<'s>]), ExpressionStop>
-    ensures { Gives (λ x. (tree_of x.0, tokens_of x.1.now)) result (next_at (expression_at levels) (tokens_of tokens.now)) }
+    ensures read { Gives (λ x. (tree_of x.0, tokens_of x.1.now)) result (next_at (expression_at levels) (tokens_of tokens.now)) }
+    ensures flat { IfOk result (λ x. IsFlat x.0) }
 {
     let rest = mark(tokens, Mark::Comma)?;
     let (expression, rest) = expression(alloc, levels, rest)?;
@@ -56,7 +59,8 @@ fn parts<'s, 't>(
     first: Vec<Expression<'s>>,
     tokens: &'t [Token<'s>],
 ) -> Result<(Vec<Expression<'s>>, &'t [Token<'s>]), ExpressionStop>
-    ensures { Gives (λ x. (map tree_of x.0.items, tokens_of x.1.now)) result (in_front (map tree_of first.entry.items) (parts_at (expression_at levels) (tokens_of tokens.now))) }
+    ensures read { Gives (λ x. (map tree_of x.0.items, tokens_of x.1.now)) result (in_front (map tree_of first.entry.items) (parts_at (expression_at levels) (tokens_of tokens.now))) }
+    ensures flat { AreFlat first.entry.items → IfOk result (λ x. AreFlat x.0.items) }
 {
     let mut parts = first;
     let mut rest = from_here(tokens)?;
@@ -79,7 +83,8 @@ fn copied<'s, 't>(
     levels: usize,
     tokens: &'t [Token<'s>],
 ) -> Result<(Vec<Expression<'s>>, &'t [Token<'s>]), ExpressionStop>
-    ensures { Gives (λ x. (map tree_of x.0.items, tokens_of x.1.now)) result (expressions_at (expression_at levels) (tokens_of tokens.now)) }
+    ensures read { Gives (λ x. (map tree_of x.0.items, tokens_of x.1.now)) result (expressions_at (expression_at levels) (tokens_of tokens.now)) }
+    ensures flat { IfOk result (λ x. AreFlat x.0.items) }
 {
     let (first, rest) = expression(alloc, levels, tokens)?;
     let first = first_part(alloc, first)?;
@@ -94,7 +99,8 @@ fn braces<'s, 't>(
     levels: usize,
     tokens: &'t [Token<'s>],
 ) -> Result<(Expression<'s>, &'t [Token<'s>]), ExpressionStop>
-    ensures { Gives (λ x. (tree_of x.0, tokens_of x.1.now)) result (braces_at (expression_at levels) (tokens_of tokens.now)) }
+    ensures read { Gives (λ x. (tree_of x.0, tokens_of x.1.now)) result (braces_at (expression_at levels) (tokens_of tokens.now)) }
+    ensures flat { IfOk result (λ x. IsFlat x.0) }
 {
     let (first, rest) = expression(alloc, levels, tokens)?;
     match behind_mark(rest, Mark::LeftBrace) {
@@ -119,7 +125,8 @@ fn select<'s, 't>(
     levels: usize,
     tokens: &'t [Token<'s>],
 ) -> Result<(Select<'s>, &'t [Token<'s>]), ExpressionStop>
-    ensures { Gives (λ x. (select_of x.0, tokens_of x.1.now)) result (select_at (expression_at levels) (tokens_of tokens.now)) }
+    ensures read { Gives (λ x. (select_of x.0, tokens_of x.1.now)) result (select_at (expression_at levels) (tokens_of tokens.now)) }
+    ensures flat { IfOk result (λ x. IsFlatSelect x.0) }
 {
     let (first, rest) = expression(alloc, levels, tokens)?;
     let first = Box::new(alloc, first)?;
@@ -142,7 +149,8 @@ pub fn selects<'s, 't>(
     levels: usize,
     tokens: &'t [Token<'s>],
 ) -> Result<(Selects<'s>, &'t [Token<'s>]), ExpressionStop>
-    ensures { Gives (λ x. (selects_of x.0, tokens_of x.1.now)) result (selects_at (expression_at levels) (tokens_of tokens.now)) }
+    ensures read { Gives (λ x. (selects_of x.0, tokens_of x.1.now)) result (selects_at (expression_at levels) (tokens_of tokens.now)) }
+    ensures flat { IfOk result (λ x. AreFlatSelects x.0) }
 {
     match behind_mark(tokens, Mark::LeftBracket) {
         None => Ok((Selects::Whole, tokens)),
@@ -166,7 +174,8 @@ fn alone<'s, 't>(
     levels: usize,
     tokens: &'t [Token<'s>],
 ) -> Result<(Expression<'s>, &'t [Token<'s>]), ExpressionStop>
-    ensures { Gives (λ x. (tree_of x.0, tokens_of x.1.now)) result (alone_at (expression_at levels) (tokens_of tokens.now)) }
+    ensures read { Gives (λ x. (tree_of x.0, tokens_of x.1.now)) result (alone_at (expression_at levels) (tokens_of tokens.now)) }
+    ensures flat { IfOk result (λ x. IsFlat x.0) }
 {
     match start_of(tokens) {
         Start::Number(number, rest) => Ok((Expression::Number(number), rest)),
@@ -194,7 +203,8 @@ fn operand<'s, 't>(
     levels: usize,
     tokens: &'t [Token<'s>],
 ) -> Result<(Expression<'s>, &'t [Token<'s>]), ExpressionStop>
-    ensures { Gives (λ x. (tree_of x.0, tokens_of x.1.now)) result (prefixed_at (expression_at levels) (tokens_of tokens.now)) }
+    ensures read { Gives (λ x. (tree_of x.0, tokens_of x.1.now)) result (prefixed_at (expression_at levels) (tokens_of tokens.now)) }
+    ensures flat { IfOk result (λ x. IsFlat x.0) }
 {
     let (operators, rest) = prefixes(alloc, tokens)?;
     let (alone, rest) = alone(alloc, levels, rest)?;
@@ -210,7 +220,8 @@ fn tier<'s, 't>(
     tiers: u8,
     tokens: &'t [Token<'s>],
 ) -> Result<(Expression<'s>, &'t [Token<'s>]), ExpressionStop>
-    ensures { Gives (λ x. (tree_of x.0, tokens_of x.1.now)) result (tier_at tiers (expression_at levels) (tokens_of tokens.now)) }
+    ensures read { Gives (λ x. (tree_of x.0, tokens_of x.1.now)) result (tier_at tiers (expression_at levels) (tokens_of tokens.now)) }
+    ensures flat { IfOk result (λ x. IsFlat x.0) }
 {
     let (first, behind) = operand(alloc, levels, tokens)?;
     let mut left = first;
@@ -235,7 +246,8 @@ pub fn expression<'s, 't>(
     levels: usize,
     tokens: &'t [Token<'s>],
 ) -> Result<(Expression<'s>, &'t [Token<'s>]), ExpressionStop>
-    ensures { Gives (λ x. (tree_of x.0, tokens_of x.1.now)) result (expression_at levels (tokens_of tokens.now)) }
+    ensures read { Gives (λ x. (tree_of x.0, tokens_of x.1.now)) result (expression_at levels (tokens_of tokens.now)) }
+    ensures flat { IfOk result (λ x. IsFlat x.0) }
 {
     if levels == 0 {
         return Err(ExpressionStop::Refused(tokens.len()));

@@ -5,6 +5,7 @@ ghost use Rattle.verilog_trees.specs.Syntax as pure;
 ghost use Rattle.v_syntax.specs.Tree.{tree_of, all_prefixed, expressions_of};
 ghost use Rattle.v_syntax.specs.Chain.{linked, test_linked, chosen};
 ghost use Rattle.v_expr.specs.View.{joins_of};
+ghost use Rattle.v_expr.specs.Flat.{IsFlat, AreFlat, HasFlatChoices, IsOneNode};
 ghost use Rattle.v_expr.specs.declared.stop.ExpressionStop.TheVariants.{NoMemory};
 
 use crate::operator::JointOperator;
@@ -18,6 +19,7 @@ fn with_link<'s>(
     link: BinaryLink<'s>,
 ) -> Result<Expression<'s>, ExpressionStop>
     ensures made { IfOk result (λ e. tree_of e ≡ linked (link.entry ∷ []) (tree_of left.entry)) }
+    ensures flat { IfOk result (λ e. IsFlat left.entry → IsFlat link.entry.operand → IsFlat e) }
     ensures memory { IfErr result (λ e. e ≡ NoMemory) }
 {
     match left {
@@ -41,6 +43,7 @@ fn with_test<'s>(
     link: TestLink<'s>,
 ) -> Result<Expression<'s>, ExpressionStop>
     ensures made { IfOk result (λ e. tree_of e ≡ test_linked (link.entry ∷ []) (tree_of left.entry)) }
+    ensures flat { IfOk result (λ e. IsFlat left.entry → IsFlat link.entry.operand → IsFlat e) }
     ensures memory { IfErr result (λ e. e ≡ NoMemory) }
 {
     match left {
@@ -66,6 +69,7 @@ pub fn with_joint<'s>(
     right: Expression<'s>,
 ) -> Result<Expression<'s>, ExpressionStop>
     ensures made { IfOk result (λ e. tree_of e ≡ joins_of operator (tree_of left.entry) (tree_of right.entry)) }
+    ensures flat { IfOk result (λ e. IsFlat left.entry → IsFlat right.entry → IsFlat e) }
     ensures memory { IfErr result (λ e. e ≡ NoMemory) }
 {
     match operator {
@@ -92,6 +96,7 @@ pub fn first_part<'s>(
     first: Expression<'s>,
 ) -> Result<Vec<Expression<'s>>, ExpressionStop>
     ensures made { IfOk result (λ v. v.items ≡ first.entry ∷ []) }
+    ensures flat { IfOk result (λ v. IsFlat first.entry → AreFlat v.items) }
     ensures memory { IfErr result (λ e. e ≡ NoMemory) }
 {
     let mut parts = Vec::new(alloc);
@@ -101,14 +106,16 @@ pub fn first_part<'s>(
 
 /// So many copies of parts.
 pub fn replication<'s>(count: Box<Expression<'s>>, parts: Vec<Expression<'s>>) -> Expression<'s>
-    ensures { tree_of result ≡ pure.replication (tree_of count.entry.value) (expressions_of parts.entry.items) }
+    ensures made { tree_of result ≡ pure.replication (tree_of count.entry.value) (expressions_of parts.entry.items) }
+    ensures flat { IsFlat count.entry.value → AreFlat parts.entry.items → IsFlat result }
 {
     Expression::Replication(count, parts)
 }
 
 /// Parts one behind another.
 pub fn concatenation<'s>(parts: Vec<Expression<'s>>) -> Expression<'s>
-    ensures { tree_of result ≡ pure.concatenation (expressions_of parts.entry.items) }
+    ensures made { tree_of result ≡ pure.concatenation (expressions_of parts.entry.items) }
+    ensures flat { AreFlat parts.entry.items → IsFlat result }
 {
     Expression::Concatenation(parts)
 }
@@ -120,6 +127,8 @@ pub fn with_choices<'s>(
     last: Expression<'s>,
 ) -> Result<Expression<'s>, ExpressionStop>
     ensures made { IfOk result (λ e. tree_of e ≡ chosen choices.entry.items (tree_of last.entry)) }
+    ensures one { IfOk result (λ e. IsOneNode choices.entry.items last.entry e) }
+    ensures flat { IfOk result (λ e. HasFlatChoices choices.entry.items → IsFlat last.entry → IsFlat e) }
     ensures memory { IfErr result (λ e. e ≡ NoMemory) }
 {
     if choices.is_empty() {
@@ -128,17 +137,29 @@ pub fn with_choices<'s>(
     Ok(Expression::Conditional(choices, Box::new(alloc, last)?))
 }
 
-/// The operand with the operators before it.
+/// The operand with the operators before it. Those that it begins with (it may have stood in brackets) come into the same node.
 pub fn with_prefixes<'s>(
     alloc: Global,
     operators: Vec<PrefixOperator>,
     operand: Expression<'s>,
 ) -> Result<Expression<'s>, ExpressionStop>
     ensures made { IfOk result (λ e. tree_of e ≡ all_prefixed operators.items (tree_of operand.entry)) }
+    ensures flat { IfOk result (λ e. IsFlat operand.entry → IsFlat e) }
     ensures memory { IfErr result (λ e. e ≡ NoMemory) }
 {
     if operators.is_empty() {
         return Ok(operand);
     }
-    Ok(Expression::Prefix(operators, Box::new(alloc, operand)?))
+    match operand {
+        Expression::Prefix(inner, last) => {
+            let mut all = operators;
+            let mut inner = inner;
+            all.append(&mut inner)?;
+            Ok(Expression::Prefix(all, last))
+        }
+        last => {
+            let last = Box::new(alloc, last)?;
+            Ok(Expression::Prefix(operators, last))
+        }
+    }
 }

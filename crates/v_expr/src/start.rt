@@ -6,6 +6,7 @@ ghost use Rattle.v_token.specs.View.{mark_of, tokens_of};
 ghost use Rattle.v_syntax.specs.Tree.{tree_of};
 ghost use Rattle.v_expr.specs.Reading.{Reader, number_expression_at, named_at, converted_at, conversion_at, alone_at};
 ghost use Rattle.v_expr.specs.Starting.{converts, started};
+ghost use Rattle.v_expr.specs.Flat.{IsFlat};
 ghost use Rattle.v_expr.specs.declared.stop.ExpressionStop.TheVariants.{NoMemory};
 
 use crate::number::number;
@@ -129,6 +130,7 @@ pub fn converted<'s>(
     expression: Expression<'s>,
 ) -> Result<Expression<'s>, ExpressionStop>
     ensures made { IfOk result (λ e. tree_of e ≡ converts conversion (tree_of expression.entry)) }
+    ensures flat { IfOk result (λ e. IsFlat expression.entry → IsFlat e) }
     ensures memory { IfErr result (λ e. e ≡ NoMemory) }
 {
     match conversion {

@@ -9,3 +9,5 @@ pub mod Bytes
 pub mod Placed
 pub mod Quotes
 pub mod Sited
+pub mod Marks
+pub mod Joined

@@ -14,6 +14,7 @@ use Rattle.std.proofs.lemmas.List.Elements.{All-append, All-cons, All-nil}
 use Rattle.std.proofs.lemmas.List.Quantifiers.{all_pairs_push}
 use Rattle.wb_values.specs.Value.{Name, same_name}
 use Rattle.verilog_text.specs.Text as texts
+use Rattle.v_lex.specs.Walk as walk
 use Rattle.v_token.specs.declared.token.Token.{Token}
 use Rattle.v_lex.specs.View.{piece_of, taken}
 use Rattle.v_lex.specs.Reading.{front_in}
@@ -270,13 +271,13 @@ macro_rest files p text rest h at cut q =
     subst (λ (x : ℕ). IsMacroAt files x rest.place.start rest.text.now) (sym q.1)
     (subst (λ (x : ℕ). IsMacroAt files text.place.file x rest.text.now) (sym (rest_start files p text rest h at.0 q)) there)
 
-file_stands : (files : List (List ℕ)) (levels file limit : ℕ) (text : Span) (r : texts.Reading) → IsTextAt false levels r files file limit text → StandsAt files text.place.file text.place.start text.text.now
+file_stands : (files : List (List ℕ)) (levels file limit : ℕ) (text : Span) (r : walk.Reading) → IsTextAt false levels r files file limit text → StandsAt files text.place.file text.place.start text.text.now
 file_stands files levels file limit text r i =
     let there : StandsAt files file limit text.text.now =
     (i.0, i.1, omega (arith, ap length i.3, length-drop limit i.0, i.4), ap (take (length text.text.now)) i.3 ∙ take-length text.text.now) in
     subst (λ (x : ℕ). StandsAt files x text.place.start text.text.now) (sym i.5) (subst (λ (x : ℕ). StandsAt files file x text.text.now) (sym i.6) there)
 
-file_piece : (files : List (List ℕ)) (levels file limit : ℕ) (p : Piece) (text rest : Span) (r : texts.Reading) → AreShort files → IsTextAt false levels r files file limit text
+file_piece : (files : List (List ℕ)) (levels file limit : ℕ) (p : Piece) (text rest : Span) (r : walk.Reading) → AreShort files → IsTextAt false levels r files file limit text
     → front_in false r text.text.now ≡ Some (Some (piece_of p, rest.text.now)) → length rest.text.now ≤ length text.text.now
     → IsFrontPart text p rest → IsPieceAt files file limit (limit + (length text.text.now - length rest.text.now)) p text.place rest.place
 file_piece files levels file limit code.Nothing text rest r h i front le q = omega arith
@@ -308,15 +309,15 @@ file_piece files levels file limit code.Otherwise text rest r h i front le q = o
 file_piece files levels file limit code.EndIf text rest r h i front le q = omega arith
 file_piece files levels file limit (code.Use n) text rest r h i front le q = omega arith
 
-file_rest : (files : List (List ℕ)) (levels file limit : ℕ) (p : Piece) (text rest : Span) (r s : texts.Reading) → AreShort files → IsTextAt false levels r files file limit text
-    → front_in false r text.text.now ≡ Some (Some (piece_of p, rest.text.now)) → texts.with_piece (texts.macro_read levels) (piece_of p) r ≡ Ok s
+file_rest : (files : List (List ℕ)) (levels file limit : ℕ) (p : Piece) (text rest : Span) (r s : walk.Reading) → AreShort files → IsTextAt false levels r files file limit text
+    → front_in false r text.text.now ≡ Some (Some (piece_of p, rest.text.now)) → walk.with_piece (walk.macro_read levels) (piece_of p) r ≡ Ok s
     → (drop (length text.text.now - length rest.text.now) text.text.now ≡ rest.text.now) × (length rest.text.now ≤ length text.text.now) → IsFrontPart text p rest
     → IsTextAt false levels s files file (limit + (length text.text.now - length rest.text.now)) rest
 file_rest files levels file limit p text rest r s h i front took cut q =
     let d = length text.text.now - length rest.text.now in (
       i.0,
       i.1,
-      ComesTo.behind_piece r s (piece_of p) text.text.now rest.text.now i.2 front (sym (ap (λ (k : ℕ). texts.with_piece (texts.macro_read k) (piece_of p) r) i.7) ∙ took),
+      ComesTo.behind_piece r s (piece_of p) text.text.now rest.text.now i.2 front (sym (ap (λ (k : ℕ). walk.with_piece (walk.macro_read k) (piece_of p) r) i.7) ∙ took),
       sym (drop-drop d limit i.0) ∙ ap (drop d) i.3 ∙ cut.0,
       omega (arith, ap length i.3, length-drop limit i.0, i.4),
       q.1 ∙ i.5,
@@ -324,9 +325,9 @@ file_rest files levels file limit p text rest r s h i front took cut q =
       i.7,
     )
 
-pub next_piece : (is_macro : Bool) (levels : ℕ) (files : List (List ℕ)) (file limit : ℕ) (p : Piece) (text rest : Span) (r s : texts.Reading) → AreShort files
+pub next_piece : (is_macro : Bool) (levels : ℕ) (files : List (List ℕ)) (file limit : ℕ) (p : Piece) (text rest : Span) (r s : walk.Reading) → AreShort files
     → IsTextAt is_macro levels r files file limit text → front_in is_macro r text.text.now ≡ Some (Some (piece_of p, rest.text.now))
-    → texts.with_piece (texts.macro_read levels) (piece_of p) r ≡ Ok s → IsFrontPart text p rest
+    → walk.with_piece (walk.macro_read levels) (piece_of p) r ≡ Ok s → IsFrontPart text p rest
     → IsPieceAt files file limit (reached is_macro limit (length text.text.now - length rest.text.now)) p text.place rest.place
     × IsTextAt is_macro levels s files file (reached is_macro limit (length text.text.now - length rest.text.now)) rest
 next_piece true levels files file limit p text rest r s h i front took q =
@@ -364,15 +365,15 @@ behind_mark (a ∷ []) = (0, refl)
 behind_mark (a ∷ b ∷ []) = (0, refl)
 behind_mark (a ∷ b ∷ c ∷ bs) = mark_by (a == 239 && b == 187 && c == 191) a b c bs
 
-pub file_opened : (files : List (List ℕ)) (number : ℕ) (bytes : List ℕ) (s : Span) (r opened : texts.Reading) → AreShort files → slice_get files number ≡ Some bytes
-    → texts.files_read (take number files) texts.first_reading ≡ Ok r → opened ≡ texts.opened r
+pub file_opened : (files : List (List ℕ)) (number : ℕ) (bytes : List ℕ) (s : Span) (r opened : walk.Reading) → AreShort files → slice_get files number ≡ Some bytes
+    → walk.files_read (take number files) walk.first_reading ≡ Ok r → opened ≡ walk.opened r
     → s.text.now ≡ texts.without_byte_order_mark bytes → s.place.file ≡ number → s.place.start ≡ min (length bytes - length s.text.now) 4294967295
     → IsTextAt false 64 opened files number (length bytes - length s.text.now) s × (length bytes - length s.text.now + length s.text.now ≡ length bytes)
 file_opened files number bytes s r opened h get before is e f b =
     let mark = behind_mark bytes in
     let cut = rest_behind bytes s.text.now mark.0 (e ∙ mark.1) in
     let there : ComesTo files number opened s.text.now =
-    subst (λ (x : texts.Reading). ComesTo files number x s.text.now) (sym is) (subst (ComesTo files number (texts.opened r)) (sym e) (ComesTo.to_file bytes r get before)) in
+    subst (λ (x : walk.Reading). ComesTo files number x s.text.now) (sym is) (subst (ComesTo files number (walk.opened r)) (sym e) (ComesTo.to_file bytes r get before)) in
     ((bytes, get, there, cut.0, omega (arith, cut.1), f, omega (arith, b, h.1 number bytes get), refl), omega (arith, cut.1))
 
 pub number_there : (vs : List (Vec ℕ Global)) (number short : ℕ) → AreShort (map (λ f. f.items) vs) → number < length vs → short ≡ min number 4294967295 → short ≡ number
@@ -408,7 +409,7 @@ handed_out P (Err e) v same h = tt
 
 -- ---- the places of the next piece
 
-pub text_stands : (is_macro : Bool) (levels : ℕ) (r : texts.Reading) (files : List (List ℕ)) (file limit : ℕ) (s : Span) → IsTextAt is_macro levels r files file limit s
+pub text_stands : (is_macro : Bool) (levels : ℕ) (r : walk.Reading) (files : List (List ℕ)) (file limit : ℕ) (s : Span) → IsTextAt is_macro levels r files file limit s
     → StandsAt files s.place.file s.place.start s.text.now
 text_stands true levels r files file limit s i = i.0
 text_stands false levels r files file limit s i = file_stands files levels file limit s r i
@@ -436,7 +437,7 @@ sited_by files code.Otherwise text rest h at le q = tt
 sited_by files code.EndIf text rest h at le q = tt
 sited_by files (code.Use n) text rest h at le q = tt
 
-pub sited : (is_macro : Bool) (files : List (List ℕ)) (p : Piece) (text rest : Span) (r : texts.Reading) → AreShort files → StandsAt files text.place.file text.place.start text.text.now
+pub sited : (is_macro : Bool) (files : List (List ℕ)) (p : Piece) (text rest : Span) (r : walk.Reading) → AreShort files → StandsAt files text.place.file text.place.start text.text.now
     → front_in is_macro r text.text.now ≡ Some (Some (piece_of p, rest.text.now)) → IsFrontPart text p rest → IsSited p text.place rest.place (length text.text.now - length rest.text.now)
 sited is_macro files p text rest r h at front q =
     let b = front_behind is_macro text.text.now rest.text.now (piece_of p) r front in

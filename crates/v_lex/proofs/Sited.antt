@@ -10,7 +10,8 @@ use Rattle.std.proofs.lemmas.List.{length-drop, length-take, map-append}
 use Rattle.wb_values.specs.Value.{Name, same_name}
 use Rattle.verilog_text.specs.Lexical.{Front}
 use Rattle.verilog_text.specs.Lexical as pieces
-use Rattle.verilog_text.specs.Text.{Reading, Outcome, bad_directive, with_use, with_piece, with_text_of, opened, without_byte_order_mark, front_at, macro_read, file_read}
+use Rattle.verilog_text.specs.Text.{bad_directive, without_byte_order_mark}
+use Rattle.v_lex.specs.Walk.{Reading, Outcome, with_use, with_piece, with_text_of, opened, front_at, macro_read, file_read}
 use Rattle.v_token.specs.declared.token.Token.{Token}
 use Rattle.v_lex.specs.View.{piece_of}
 use Rattle.v_lex.specs.Reading.{reading_of, front_in, text_in, text_under, IsTaken}

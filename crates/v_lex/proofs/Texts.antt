@@ -4,7 +4,7 @@ use Rattle.std.specs.Prelude.{option_map, option_and_then, cond, Bool, true, fal
 use Rattle.std.proofs.lemmas.List.{length-drop, take_min, drop-drop}
 use Rattle.wb_values.specs.Names.{begins_with, is_letter}
 use Rattle.verilog_text.specs.Token.{decimal}
-use Rattle.verilog_text.specs.Lexical.{Piece, is_line_blank, name_behind, is_word_byte, system_piece, system_at, ends_definition, defined_length, definition_length, token, run_length, is_decimal_byte, real_length, number_of, number_at}
+use Rattle.verilog_text.specs.Lexical.{Piece, is_line_blank, name_behind, is_word_byte, system_piece, system_at, ends_definition, defined_length, definition_length, token, run_length, is_decimal_byte, real_length, number_front, number_at}
 use Rattle.v_lex.specs.View.{rest_after, after, at_front, name_after}
 
 cut_twice : (m n : ℕ) → m - (m - n) ≡ min n m
@@ -44,7 +44,7 @@ plain_number text more rest b e f n =
     let k = run_length is_decimal_byte more in
     let spelled : take (length text - length rest) text ≡ b ∷ take k more = token_text text more rest b k e f in
     (λ i. Some (token (decimal (spelled i)), f i))
-    ∙ sym (ap (λ (o : Option ℕ). after more (number_of b more k o)) (ap real_length (sym f) ∙ n))
+    ∙ sym (ap (λ (o : Option ℕ). after more (number_front b more k o)) (ap real_length (sym f) ∙ n))
     ∙ ap (at_front number_at) (sym e)
 
 -- ---- names with $

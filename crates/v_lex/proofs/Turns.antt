@@ -4,7 +4,8 @@ use Rattle.std.specs.Prelude.{option_map, Vec}
 use Rattle.std.specs.Global.{Global}
 use Rattle.std.proofs.lemmas.List.{length-drop}
 use Rattle.verilog_text.specs.Lexical.{Piece, Front}
-use Rattle.verilog_text.specs.Text.{Reading, Outcome, Refusal, bad_token, then, with_piece, piece_then, front_at, text_from, macro_read, with_bad_directive, file_read, files_read}
+use Rattle.verilog_text.specs.Text.{Refusal, bad_token}
+use Rattle.v_lex.specs.Walk.{Reading, Outcome, then, with_piece, piece_then, front_at, text_from, macro_read, with_bad_directive, file_read, files_read}
 use Rattle.v_lex.specs.View.{after}
 use Rattle.v_lex.specs.Reading.{front_in, refusal_of, IsFront, IsOutcome}
 use Rattle.v_lex.specs.declared.stop.Stop.{Stop}

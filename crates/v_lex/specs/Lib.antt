@@ -8,3 +8,5 @@ pub mod Places
 pub mod Sites
 pub mod Sited
 pub mod Placed
+pub mod Walk
+pub mod Marks

@@ -6,7 +6,7 @@ use Rattle.std.specs.Cmp.Lexicographic.{slice_cmp}
 use Rattle.std.specs.BTreeMap.{BTreeMap, get_by}
 use Rattle.std.specs.List.{All, AllPairs}
 use Rattle.wb_values.specs.Value.{Name}
-use Rattle.verilog_text.specs.Text.{Reading}
+use Rattle.v_lex.specs.Walk.{Reading}
 use Rattle.v_token.specs.declared.token.Token.{Token}
 use Rattle.v_lex.specs.View.{IsPart, IsTextOf}
 use Rattle.v_lex.specs.Places.{StandsAt, ComesTo, IsInMacro, IsSlice, IsOfMacro, EndsBefore, AreInOrder}

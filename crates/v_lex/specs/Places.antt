@@ -2,7 +2,8 @@
 use Rattle.std.specs.Prelude.{◌≡◌, ℕ, ◌+◌, ◌<◌, ◌≤◌, ◌⊎◌, false, List, length, take, drop, slice_get, Some, Ok}
 use Rattle.wb_values.specs.Value.{Name}
 use Rattle.verilog_text.specs.Lexical.{Piece, define}
-use Rattle.verilog_text.specs.Text.{Reading, first_reading, opened, without_byte_order_mark, files_read, with_piece, macro_read}
+use Rattle.verilog_text.specs.Text.{without_byte_order_mark}
+use Rattle.v_lex.specs.Walk.{Reading, first_reading, opened, files_read, with_piece, macro_read}
 use Rattle.v_token.specs.declared.token.Token.{Token}
 use Rattle.v_lex.specs.View.{IsTextOf}
 use Rattle.v_lex.specs.Reading.{front_in}

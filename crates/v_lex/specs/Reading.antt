@@ -8,6 +8,7 @@ use Rattle.std.specs.BTreeMap.{BTreeMap, get_by}
 use Rattle.wb_values.specs.Value.{Name}
 use Rattle.verilog_text.specs.Token as pure
 use Rattle.verilog_text.specs.Text as texts
+use Rattle.v_lex.specs.Walk as walk
 use Rattle.verilog_text.specs.Lexical as pieces
 use Rattle.v_token.specs.View.{tokens_of}
 use Rattle.v_token.specs.declared.token.Token.{Token}
@@ -50,7 +51,7 @@ text_in _ = None
 abbrev pub text_under : BTreeMap (Bor (List ℕ)) (Option Span) → Name → Option (List ℕ)
 text_under t n = text_in (get_by (λ k. slice_cmp nat_cmp n k.now) t)
 
-abbrev pub reading_of : Reader → texts.Reading
+abbrev pub reading_of : Reader → walk.Reading
 reading_of r = record {
   macros = text_under r.macros;
   conditionals = conditionals_of r.conditionals.items;
@@ -62,13 +63,13 @@ reading_of r = record {
 }
 
 -- The call is refused as reading is, or leaves what reading gives, unless memory runs out.
-abbrev pub IsOutcome : {A : Type 0} → Result A Stop → texts.Reading → texts.Outcome → Type 0
+abbrev pub IsOutcome : {A : Type 0} → Result A Stop → walk.Reading → walk.Outcome → Type 0
 IsOutcome (Ok x) now o = o ≡ Ok now
 IsOutcome (Err (Refused k p)) now o = o ≡ Err (refusal_of k)
 IsOutcome (Err Memory) now o = ⊤
 
 -- The call leaves that reading, unless memory runs out.
-abbrev pub Leaves : {A : Type 0} → Result A Stop → texts.Reading → texts.Reading → Type 0
+abbrev pub Leaves : {A : Type 0} → Result A Stop → walk.Reading → walk.Reading → Type 0
 Leaves (Ok x) now r = now ≡ r
 Leaves (Err (Refused k p)) now r = ⊥
 Leaves (Err Memory) now r = ⊤
@@ -82,16 +83,16 @@ without_first [] = []
 without_first (x ∷ xs) = xs
 
 -- The call is refused as reading is, or leaves what is known where reading goes on with the text of a macro, where it hands one out.
-abbrev pub IsTaken : (List ℕ → texts.Reading → texts.Outcome) → Result (Option Span) Stop → texts.Reading → texts.Outcome → Type 0
+abbrev pub IsTaken : (List ℕ → walk.Reading → walk.Outcome) → Result (Option Span) Stop → walk.Reading → walk.Outcome → Type 0
 IsTaken read (Ok None) now o = o ≡ Ok now
 IsTaken read (Ok (Some s)) now o = o ≡ read s.text.now now
 IsTaken read (Err (Refused k p)) now o = o ≡ Err (refusal_of k)
 IsTaken read (Err Memory) now o = ⊤
 
 -- The front of a text: none of an empty one.
-abbrev pub front_in : Bool → texts.Reading → List ℕ → Option (Option (pieces.Piece × List ℕ))
+abbrev pub front_in : Bool → walk.Reading → List ℕ → Option (Option (pieces.Piece × List ℕ))
 front_in is_macro r [] = Some None
-front_in is_macro r (b ∷ bs) = option_map (λ f. Some f) (after bs (texts.front_at is_macro r b bs))
+front_in is_macro r (b ∷ bs) = option_map (λ f. Some f) (after bs (walk.front_at is_macro r b bs))
 
 abbrev pub span_front : Piece × Span → pieces.Piece × List ℕ
 span_front f = (piece_of f.0, f.1.text.now)

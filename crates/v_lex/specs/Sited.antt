@@ -1,6 +1,6 @@
 -- The places that the code keeps.
 use Rattle.std.specs.Prelude.{◌≡◌, ℕ, ◌+◌, ◌-◌, min, List, map, length, Option, Some, None, option_map, Result, Ok, Err, ⊤}
-use Rattle.verilog_text.specs.Text.{Reading}
+use Rattle.v_lex.specs.Walk.{Reading}
 use Rattle.v_token.specs.declared.token.Token.{Token}
 use Rattle.v_lex.specs.Reading.{reading_of}
 use Rattle.v_lex.specs.Placed.{span_under}

@@ -2,7 +2,8 @@
 use Rattle.std.specs.Prelude.{ℕ, zero, suc, ◌+◌, ◌-◌, Bool, true, false, cond, List, [], ◌∷◌, ◌++◌, length, take, Option, Some, None, Ok, Err}
 use Rattle.wb_values.specs.Value.{Name, same_name}
 use Rattle.verilog_text.specs.Lexical.{Piece, token, define, undefine, use_of, Front}
-use Rattle.verilog_text.specs.Text.{Reading, Outcome, first_reading, opened, with_use, with_piece, front_at, macro_read, without_byte_order_mark, file_read}
+use Rattle.verilog_text.specs.Text.{without_byte_order_mark}
+use Rattle.v_lex.specs.Walk.{Reading, Outcome, first_reading, opened, with_use, with_piece, front_at, macro_read, file_read}
 
 -- a file by its number, and a byte in it
 pub record Site : Type 0 where

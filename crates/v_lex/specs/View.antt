@@ -36,7 +36,7 @@ at_front f (b ∷ bs) = after bs (f b bs)
 abbrev pub piece_of : Piece → pieces.Piece
 piece_of code.Nothing = pieces.nothing
 piece_of (code.Token k text) = pieces.token (token_of_kind k text.now)
-piece_of code.LeftOut = pieces.left_out
+piece_of code.LeftOut = pieces.excluded
 piece_of code.Misdirected = pieces.misdirected
 piece_of (code.Define n text) = pieces.define n.now text.now
 piece_of (code.Undefine n) = pieces.undefine n.now

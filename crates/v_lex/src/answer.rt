@@ -3,7 +3,8 @@
 ghost use Rattle.std.specs.Prelude.{◌≡◌, ◌++◌, ℕ, List, length, min, map, not, is_some, string_bytes, IfOk, IfSome};
 ghost use Rattle.std.specs.List.{list_all, All, AllPairs};
 ghost use Rattle.std.specs.Str.{is_utf8};
-ghost use Rattle.verilog_text.specs.Text.{judged, tokens_in};
+ghost use Rattle.verilog_text.specs.Text.{tokens_in};
+ghost use Rattle.v_lex.specs.Walk.{judged, walked};
 ghost use Rattle.v_lex.specs.Reading.{reading_of, IsRead};
 ghost use Rattle.v_lex.specs.Answer.{IsAnswer, IsOfKind};
 ghost use Rattle.v_lex.specs.Notes.{position_from, bytes_at, place_text, word_in, note_of, last_of, note_of_token};
@@ -54,7 +55,7 @@ fn broken_text(files: &[Vec<u8>]) -> Option<Place>
     None
 }
 
-#[tactic(auto, unfolding(verilog_text::specs::Text::judged))]
+#[tactic(auto, unfolding(crate::specs::Walk::judged))]
 fn judge<'s>(alloc: Global, reader: Reader<'s>) -> Result<Vec<Token<'s>>, Stop>
     ensures read { IsRead result (judged (reading_of reader.entry)) }
     ensures tokens { IfOk result (λ v. v ≡ reader.entry.tokens) }
@@ -71,9 +72,9 @@ fn judge<'s>(alloc: Global, reader: Reader<'s>) -> Result<Vec<Token<'s>>, Stop>
     Ok(reader.tokens)
 }
 
-#[tactic(auto, unfolding(verilog_text::specs::Text::tokens_in))]
+#[tactic(auto, unfolding(crate::specs::Walk::walked))]
 fn read<'s>(alloc: Global, files: &'s [Vec<u8>]) -> Result<Vec<Token<'s>>, Stop>
-    ensures read { IsRead result (tokens_in (map (λ f. f.items) files.now)) }
+    ensures read { IsRead result (walked (map (λ f. f.items) files.now)) }
     ensures slices { AreShort (map (λ f. f.items) files.now) → IfOk result (λ v. All (IsSlice (map (λ f. f.items) files.now)) v.items) }
     ensures order { AreShort (map (λ f. f.items) files.now) → IfOk result (λ v. AllPairs (AreInOrder (map (λ f. f.items) files.now)) v.items) }
     ensures places { AreShort (map (λ f. f.items) files.now) → IfOk result (λ v. map spot_of v.items ≡ spots_in (map (λ f. f.items) files.now)) }

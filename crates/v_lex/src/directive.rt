@@ -2,7 +2,7 @@
 
 ghost use Rattle.std.specs.Prelude.{◌≡◌, ◌∷◌, Some, None, false, true, option_map, drop, codes, IfSome, IsTrue};
 ghost use Rattle.wb_values.specs.Value.{Name};
-ghost use Rattle.verilog_text.specs.Lexical.{Front, name_behind, named, undefine, if_defined, else_if, or_zero, string_length, passed_length, continued_length, defined_length, ends_definition, definition_length, definition_of, definition_at, conditional_at, is_line_word, directive_from, directive_of, directive_at, conditional_behind};
+ghost use Rattle.verilog_text.specs.Lexical.{Front, name_behind, with_name, undefine, if_defined, else_if, or_zero, string_length, passed_length, continued_length, defined_length, ends_definition, definition_length, definition_of, definition_at, conditional_directive_at, is_line_word, directive_from, directive_of, directive_at, conditional_behind};
 ghost use Rattle.v_lex.specs.Quotes.{are_alone};
 ghost use Rattle.v_lex.specs.View.{rest_after, front_of, after, or_front, name_after, HasDefinition, IsPlain};
 
@@ -116,7 +116,7 @@ fn name_behind(text: &[u8]) -> Option<(&[u8], &[u8])>
 }
 
 fn conditional_begin(is_wanted: bool, text: &[u8]) -> (Piece<'_>, &[u8])
-    ensures front { Some (front_of result) ≡ after text.now (named (if_defined is_wanted) (name_behind text.now)) }
+    ensures front { Some (front_of result) ≡ after text.now (with_name (if_defined is_wanted) (name_behind text.now)) }
     ensures plain { IsPlain result.0 }
 {
     match name_behind(text) {
@@ -126,7 +126,7 @@ fn conditional_begin(is_wanted: bool, text: &[u8]) -> (Piece<'_>, &[u8])
 }
 
 fn other_condition(text: &[u8]) -> (Piece<'_>, &[u8])
-    ensures front { Some (front_of result) ≡ after text.now (named else_if (name_behind text.now)) }
+    ensures front { Some (front_of result) ≡ after text.now (with_name else_if (name_behind text.now)) }
     ensures plain { IsPlain result.0 }
 {
     match name_behind(text) {
@@ -136,7 +136,7 @@ fn other_condition(text: &[u8]) -> (Piece<'_>, &[u8])
 }
 
 fn undefinition(text: &[u8]) -> (Piece<'_>, &[u8])
-    ensures front { Some (front_of result) ≡ after text.now (named undefine (name_behind text.now)) }
+    ensures front { Some (front_of result) ≡ after text.now (with_name undefine (name_behind text.now)) }
     ensures plain { IsPlain result.0 }
 {
     match name_behind(text) {
@@ -174,9 +174,9 @@ fn definition(text: &[u8]) -> Option<(Piece<'_>, &[u8])>
 }
 
 /// The directive of a conditional, where the word is one of theirs.
-#[tactic(auto, unfolding(verilog_text::specs::Lexical::conditional_at))]
+#[tactic(auto, unfolding(verilog_text::specs::Lexical::conditional_directive_at))]
 fn conditional<'t>(word: &[u8], text: &'t [u8]) -> Option<(Piece<'t>, &'t [u8])>
-    ensures front { (other : Front) → after text.now (conditional_at word.now text.now other) ≡ or_front (option_map front_of result) (after text.now other) }
+    ensures front { (other : Front) → after text.now (conditional_directive_at word.now text.now other) ≡ or_front (option_map front_of result) (after text.now other) }
     ensures plain { IfSome result (λ f. IsPlain f.0) }
 {
     if word == b"ifdef".as_slice() {

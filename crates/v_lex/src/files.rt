@@ -1,7 +1,8 @@
 //! Reading files one after the other.
 
 ghost use Rattle.std.specs.Prelude.{◌≡◌, ◌-◌, ℕ, List, Some, map, min, length, take, slice_get, Ok, IfOk};
-ghost use Rattle.verilog_text.specs.Text.{first_reading, without_byte_order_mark, opened, closed, file_read, files_read, text_from, macro_read};
+ghost use Rattle.verilog_text.specs.Text.{without_byte_order_mark};
+ghost use Rattle.v_lex.specs.Walk.{first_reading, opened, closed, file_read, files_read, text_from, macro_read};
 ghost use Rattle.v_lex.specs.Reading.{reading_of, IsOutcome};
 ghost use Rattle.v_lex.specs.Places.{AreShort};
 ghost use Rattle.v_lex.specs.Sites.{first_sites, file_sites, files_sites};
@@ -65,7 +66,7 @@ impl<'s> Reader<'s> {
         }
     }
 
-    #[tactic(auto, unfolding(verilog_text::specs::Text::opened))]
+    #[tactic(auto, unfolding(crate::specs::Walk::opened))]
     fn begin_file(&mut self)
         ensures reading { reading_of self.new ≡ opened (reading_of self.old) }
         ensures kept { Keeps self.old self.new }
@@ -73,7 +74,7 @@ impl<'s> Reader<'s> {
         self.conditionals.clear();
     }
 
-    #[tactic(auto, unfolding(verilog_text::specs::Text::closed))]
+    #[tactic(auto, unfolding(crate::specs::Walk::closed))]
     fn end_file(&mut self, place: Place)
         ensures reading { reading_of self.new ≡ closed (reading_of self.old) }
         ensures kept { Keeps self.old self.new }
@@ -83,7 +84,7 @@ impl<'s> Reader<'s> {
         }
     }
 
-    #[tactic(auto, unfolding(verilog_text::specs::Text::file_read))]
+    #[tactic(auto, unfolding(crate::specs::Walk::file_read))]
     fn read_file(&mut self, number: u32, bytes: &'s [u8]) -> Result<(), Stop>
         ensures outcome { IsOutcome result (reading_of self.new) (file_read bytes.now (reading_of self.old)) }
         ensures places { (files : List (List ℕ)) → AreShort files → slice_get files number ≡ Some bytes.now → files_read (take number files) first_reading ≡ Ok (reading_of self.old) → IsReaderPlaced files number 0 self.old → IfOk result (λ _. IsReaderPlaced files number (length bytes.now) self.new) }
@@ -95,7 +96,7 @@ impl<'s> Reader<'s> {
         Ok(())
     }
 
-    #[tactic(auto, unfolding(verilog_text::specs::Text::files_read))]
+    #[tactic(auto, unfolding(crate::specs::Walk::files_read))]
     pub(crate) fn read_files(&mut self, files: &'s [Vec<u8>]) -> Result<(), Stop>
         ensures outcome { IsOutcome result (reading_of self.new) (files_read (map (λ f. f.items) files.now) (reading_of self.old)) }
         ensures places { AreShort (map (λ f. f.items) files.now) → reading_of self.old ≡ first_reading → IsReaderPlaced (map (λ f. f.items) files.now) 0 0 self.old → IfOk result (λ _. IsReaderPlaced (map (λ f. f.items) files.now) (length files.now) 0 self.new) }

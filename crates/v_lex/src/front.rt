@@ -1,7 +1,8 @@
 //! The front of a text.
 
 ghost use Rattle.std.specs.Prelude.{◌≡◌, ◌∷◌, false, Some, None, option_map, slice_get, IfSome, IsTrue};
-ghost use Rattle.verilog_text.specs.Lexical.{left_out, mark_of_one, mark_of_two, mark_of_three, longest, mark_at, slash_at, is_star_alone, bracket_at, string_length, if_closed, read_at, left_out_at};
+ghost use Rattle.verilog_text.specs.Lexical.{excluded, mark_at, slash_at, is_star_alone, bracket_at, string_length, if_closed, read_at, left_out_at};
+ghost use Rattle.v_lex.specs.Marks.{mark_of_one, mark_of_two, mark_of_three, or_shorter, mark_by_length};
 ghost use Rattle.v_lex.specs.Quotes.{are_alone};
 ghost use Rattle.v_lex.specs.View.{front_of, after, at_front, taken, HasText, IsPart, IsPlain};
 
@@ -18,7 +19,7 @@ use wb_names::{is_digit, is_letter};
 
 fn short_mark<'t>(byte: u8, text: &'t [u8], more: &'t [u8]) -> Option<(Piece<'t>, &'t [u8])>
     requires { text.now ≡ byte ∷ more.now }
-    ensures front { option_map front_of result ≡ after more.now (longest (mark_of_one byte) 0 None) }
+    ensures front { option_map front_of result ≡ after more.now (or_shorter (mark_of_one byte) 0 None) }
     ensures part { IfSome result (λ f. HasText f.0 (taken text.now f.1.now)) }
 {
     match single(byte) {
@@ -38,7 +39,7 @@ fn middle_mark<'t>(
 ) -> Option<(Piece<'t>, &'t [u8])>
     requires whole { text.now ≡ byte ∷ more.now }
     requires second { slice_get more.now 0 ≡ Some next }
-    ensures front { option_map front_of result ≡ after more.now (longest (mark_of_two byte next) 1 (longest (mark_of_one byte) 0 None)) }
+    ensures front { option_map front_of result ≡ after more.now (or_shorter (mark_of_two byte next) 1 (or_shorter (mark_of_one byte) 0 None)) }
     ensures part { IfSome result (λ f. HasText f.0 (taken text.now f.1.now)) }
 {
     match double(byte, next) {
@@ -63,7 +64,7 @@ fn long_mark<'t>(
     requires whole { text.now ≡ byte ∷ more.now }
     requires second { slice_get more.now 0 ≡ Some next }
     requires third { slice_get more.now 1 ≡ Some third }
-    ensures front { option_map front_of result ≡ after more.now (longest (mark_of_three byte next third) 2 (longest (mark_of_two byte next) 1 (longest (mark_of_one byte) 0 None))) }
+    ensures front { option_map front_of result ≡ after more.now (or_shorter (mark_of_three byte next third) 2 (or_shorter (mark_of_two byte next) 1 (or_shorter (mark_of_one byte) 0 None))) }
     ensures part { IfSome result (λ f. HasText f.0 (taken text.now f.1.now)) }
 {
     match triple(byte, next, third) {
@@ -78,10 +79,10 @@ fn long_mark<'t>(
     }
 }
 
-/// The longest mark at the front.
-#[tactic(auto, unfolding(verilog_text::specs::Lexical::mark_at))]
-fn mark(text: &[u8]) -> Option<(Piece<'_>, &[u8])>
-    ensures front { option_map front_of result ≡ at_front mark_at text.now }
+/// The longest mark at the front, by the number of characters.
+#[tactic(auto, unfolding(crate::specs::Marks::mark_by_length))]
+fn mark_by_length(text: &[u8]) -> Option<(Piece<'_>, &[u8])>
+    ensures front { option_map front_of result ≡ at_front mark_by_length text.now }
     ensures part { IfSome result (λ f. HasText f.0 (taken text.now f.1.now)) }
 {
     match text {
@@ -90,6 +91,14 @@ fn mark(text: &[u8]) -> Option<(Piece<'_>, &[u8])>
         [byte, next] => middle_mark(*byte, *next, text, &text[1..]),
         [byte, next, third, ..] => long_mark(*byte, *next, *third, text, &text[1..]),
     }
+}
+
+/// The longest mark at the front.
+fn mark(text: &[u8]) -> Option<(Piece<'_>, &[u8])>
+    ensures front { option_map front_of result ≡ at_front mark_at text.now }
+    ensures part { IfSome result (λ f. HasText f.0 (taken text.now f.1.now)) }
+{
+    mark_by_length(text)
 }
 
 /// A comment or an operator, by what stands behind its slash.
@@ -147,7 +156,7 @@ fn bracket<'t>(is_macro: bool, text: &'t [u8], more: &'t [u8]) -> Option<(Piece<
 
 /// A string, by what stands behind the quote that begins it.
 fn string(more: &[u8]) -> Option<(Piece<'_>, &[u8])>
-    ensures front { option_map front_of result ≡ after more.now (if_closed left_out (string_length false more.now)) }
+    ensures front { option_map front_of result ≡ after more.now (if_closed excluded (string_length false more.now)) }
     ensures part { IfSome result (λ f. IsPlain f.0) }
 {
     match behind_string(more) {

@@ -3,12 +3,12 @@
 ghost use Rattle.std.specs.Prelude.{◌≡◌, ◌∷◌, [], true, ◌&&◌, option_map, IfSome};
 ghost use Rattle.std.specs.Char.{is_ascii};
 ghost use Rattle.verilog_text.specs.Token.{spelling_of};
-ghost use Rattle.verilog_text.specs.Lexical.{mark_of_one, mark_of_two, mark_of_three};
+ghost use Rattle.v_lex.specs.Marks.{mark_of_one, mark_of_two, mark_of_three};
 ghost use Rattle.v_token.specs.View.{mark_of};
 
 use v_token::token::Mark;
 
-#[tactic(auto, unfolding(verilog_text::specs::Lexical::mark_of_one))]
+#[tactic(auto, unfolding(crate::specs::Marks::mark_of_one))]
 pub(crate) fn single(byte: u8) -> Option<Mark>
     ensures mark { option_map mark_of result ≡ mark_of_one byte }
     ensures ascii { IfSome result (λ _. is_ascii byte ≡ true) }
@@ -45,7 +45,7 @@ pub(crate) fn single(byte: u8) -> Option<Mark>
     }
 }
 
-#[tactic(auto, unfolding(verilog_text::specs::Lexical::mark_of_two))]
+#[tactic(auto, unfolding(crate::specs::Marks::mark_of_two))]
 pub(crate) fn double(byte: u8, next: u8) -> Option<Mark>
     ensures mark { option_map mark_of result ≡ mark_of_two byte next }
     ensures ascii { IfSome result (λ _. (is_ascii byte && is_ascii next) ≡ true) }
@@ -71,7 +71,7 @@ pub(crate) fn double(byte: u8, next: u8) -> Option<Mark>
     }
 }
 
-#[tactic(auto, unfolding(verilog_text::specs::Lexical::mark_of_three))]
+#[tactic(auto, unfolding(crate::specs::Marks::mark_of_three))]
 pub(crate) fn triple(byte: u8, next: u8, third: u8) -> Option<Mark>
     ensures mark { option_map mark_of result ≡ mark_of_three byte next third }
     ensures ascii { IfSome result (λ _. (is_ascii byte && (is_ascii next && is_ascii third)) ≡ true) }

@@ -3,7 +3,8 @@
 ghost use Rattle.std.specs.Prelude.{◌≡◌, ◌==◌, ◌||◌, ◌+◌, ◌++◌, ◌∷◌, [], nat_le, cond, ℕ, List, Some, None, option_map, length, IfOk, IfSome, IsTrue};
 ghost use Rattle.std.specs.List.{list_all};
 ghost use Rattle.wb_values.specs.Value.{same_name};
-ghost use Rattle.verilog_text.specs.Text.{most_used, Reading, Outcome, with_bad_directive, with_left_out, with_macro, with_token, is_zero, is_based, is_defined, begun, continued, ended, with_text_of, with_piece, front_at, text_from, macro_read};
+ghost use Rattle.verilog_text.specs.Text.{most_used, is_zero, is_based, is_defined};
+ghost use Rattle.v_lex.specs.Walk.{Reading, Outcome, with_bad_directive, with_left_out, with_macro, with_token, begun, continued, ended, with_text_of, with_piece, front_at, text_from, macro_read};
 ghost use Rattle.v_token.specs.View.{token_of_kind, token_of};
 ghost use Rattle.v_lex.specs.Quotes.{are_alone};
 ghost use Rattle.v_lex.specs.View.{piece_of, front_of, at_front, IsPart};
@@ -99,7 +100,7 @@ impl<'s> Reader<'s> {
         }
     }
 
-    #[tactic(auto, unfolding(verilog_text::specs::Text::with_token, verilog_text::specs::Text::most_tokens))]
+    #[tactic(auto, unfolding(crate::specs::Walk::with_token, verilog_text::specs::Text::most_tokens))]
     fn push(&mut self, token: Token<'s>) -> Result<(), Stop>
         ensures outcome { IsOutcome result (reading_of self.new) (with_token (token_of token.entry) (reading_of self.old)) }
         ensures tokens { IfOk result (λ _. self.new.tokens.items ≡ self.old.tokens.items ++ token.entry ∷ []) }
@@ -138,7 +139,7 @@ impl<'s> Reader<'s> {
         }
     }
 
-    #[tactic(auto, unfolding(verilog_text::specs::Text::begun))]
+    #[tactic(auto, unfolding(crate::specs::Walk::begun))]
     fn begin(&mut self, holds: bool) -> Result<(), Stop>
         ensures reading { Leaves result (reading_of self.new) (begun holds (reading_of self.old)) }
         ensures kept { Keeps self.old self.new }
@@ -154,7 +155,7 @@ impl<'s> Reader<'s> {
         Ok(())
     }
 
-    #[tactic(auto, unfolding(verilog_text::specs::Text::continued))]
+    #[tactic(auto, unfolding(crate::specs::Walk::continued))]
     fn go_on(&mut self, is_last: bool, holds: bool, place: Place) -> Result<(), Stop>
         ensures reading { Leaves result (reading_of self.new) (continued is_last holds (reading_of self.old)) }
         ensures kept { Keeps self.old self.new }
@@ -179,7 +180,7 @@ impl<'s> Reader<'s> {
         Ok(())
     }
 
-    #[tactic(auto, unfolding(verilog_text::specs::Text::ended))]
+    #[tactic(auto, unfolding(crate::specs::Walk::ended))]
     fn end(&mut self, place: Place)
         ensures reading { reading_of self.new ≡ ended (reading_of self.old) }
         ensures kept { Keeps self.old self.new }
@@ -225,7 +226,7 @@ impl<'s> Reader<'s> {
     }
 
     /// Takes a piece; hands out the text of a macro that is used.
-    #[tactic(auto, unfolding(verilog_text::specs::Text::with_piece))]
+    #[tactic(auto, unfolding(crate::specs::Walk::with_piece))]
     fn take(
         &mut self,
         piece: Piece<'s>,
@@ -286,7 +287,7 @@ impl<'s> Reader<'s> {
         }
     }
 
-    #[tactic(auto, unfolding(verilog_text::specs::Text::front_at))]
+    #[tactic(auto, unfolding(crate::specs::Walk::front_at))]
     fn pieces_front(
         &self,
         is_macro: bool,

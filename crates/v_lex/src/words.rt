@@ -6,7 +6,7 @@ ghost use Rattle.std.specs.Str.{bytes_eq};
 ghost use Rattle.std.specs.List.{list_all, list_any};
 ghost use Rattle.wb_values.specs.ReservedWords.{grammar_words};
 ghost use Rattle.wb_values.specs.Names.{begins_with, is_letter};
-ghost use Rattle.verilog_text.specs.Lexical.{is_word_byte, is_graphic, is_left_out, word_piece, word_at, system_piece, system_at, escaped_at};
+ghost use Rattle.verilog_text.specs.Lexical.{is_word_byte, is_graphic, is_excluded, word_piece, word_front, system_piece, system_at, escaped_at};
 ghost use Rattle.v_lex.specs.View.{piece_of, front_of, after, at_front, taken, HasText, IsPlain};
 
 use crate::ascii::ascii_text;
@@ -53,8 +53,8 @@ fn is_grammar_word(word: &[u8]) -> bool
     is_among(word, &GRAMMAR_WORDS)
 }
 
-fn is_left_out(word: &[u8]) -> bool
-    ensures { result ≡ is_left_out word.now }
+fn is_excluded(word: &[u8]) -> bool
+    ensures { result ≡ is_excluded word.now }
 {
     is_reserved_word(word) && !is_grammar_word(word)
 }
@@ -65,7 +65,7 @@ fn word_piece(word: &[u8]) -> Piece<'_>
     ensures piece { piece_of result ≡ word_piece word.now }
     ensures text { HasText result word.now }
 {
-    if is_left_out(word) {
+    if is_excluded(word) {
         Piece::LeftOut
     } else {
         Piece::Token(TokenKind::Word, ascii_text(word))
@@ -73,10 +73,10 @@ fn word_piece(word: &[u8]) -> Piece<'_>
 }
 
 /// An identifier or a reserved word, where a letter or `_` stands first.
-#[tactic(auto, unfolding(verilog_text::specs::Lexical::word_at))]
+#[tactic(auto, unfolding(verilog_text::specs::Lexical::word_front))]
 pub(crate) fn word(text: &[u8]) -> Option<(Piece<'_>, &[u8])>
     requires { begins_with is_letter text.now ≡ true }
-    ensures front { option_map front_of result ≡ at_front word_at text.now }
+    ensures front { option_map front_of result ≡ at_front word_front text.now }
     ensures part { IfSome result (λ f. HasText f.0 (taken text.now f.1.now)) }
 {
     let Some((_, more)) = text.split_first() else {

@@ -25,7 +25,7 @@ use Rattle.v_syntax.specs.Chain.{linked, test_linked, chosen}
 use Rattle.v_value.proofs.Selected.{count-is}
 use Rattle.v_syntax.proofs.Trees.{tree_of-Concatenation, tree_of-Replication, tree_of-Binary, tree_of-Test, tree_of-Conditional}
 use Rattle.v_narrow.proofs.Decided.{whole-same}
-use Rattle.v_narrow.specs.Test.{is_width, number_test, is_object_narrow, narrow_test, all_test, select_test, narrow_at, select_at, selects_at, parts_test, links_test, tests_test, choices_test}
+use Rattle.v_narrow.specs.Test.{is_width, number_test, is_object_narrow, narrow_test, all_test, select_test, narrow_at, select_narrow_at, selects_narrow_at, parts_test, links_test, tests_test, choices_test}
 
 and-true : (b : Bool) → b && true ≡ b
 and-true true = refl
@@ -98,8 +98,8 @@ module _ (t : Bool) (s : Scope) (e : Expression) (r : Bool) where
   unfolding narrow_at
   at-Number k i h = at _ _ (ap tree_of i) refl h
 
-  pub at-Name : (m : Bor (List ℕ)) (x : Selects) → e ≡ Name m x → r ≡ selects_at t s (s m.now) (selects_of x) → r ≡ narrow_at t s (tree_of e)
-  unfolding narrow_at selects_at
+  pub at-Name : (m : Bor (List ℕ)) (x : Selects) → e ≡ Name m x → r ≡ selects_narrow_at t s (s m.now) (selects_of x) → r ≡ narrow_at t s (tree_of e)
+  unfolding narrow_at selects_narrow_at
   at-Name m x i h = at _ _ (ap tree_of i) refl h
 
   pub at-Concatenation : (v : Vec Expression Global) → e ≡ Concatenation v → (es : List Expression) → es ≡ v.items → r ≡ parts_test t s es && is_width (widths_of s (expressions_of es)) → r ≡ narrow_at t s (tree_of e)
@@ -147,9 +147,9 @@ module _ (t : Bool) (s : Scope) (e : Expression) (r : Bool) where
 
 -- x is the select, and r the result
 module _ (t : Bool) (s : Scope) (x : Select) (r : Bool) where
-  pub at-Index : (b : Box Expression Global) → x ≡ Index b → (e : Expression) → e ≡ b.value → r ≡ narrow_at t s (tree_of e) → r ≡ select_at t s (select_of x)
-  unfolding narrow_at select_at
-  at-Index b i e j h = h ∙ ap (λ y. narrow_at t s (tree_of y)) j ∙ sym (ap (λ y. select_at t s (select_of y)) i)
+  pub at-Index : (b : Box Expression Global) → x ≡ Index b → (e : Expression) → e ≡ b.value → r ≡ narrow_at t s (tree_of e) → r ≡ select_narrow_at t s (select_of x)
+  unfolding narrow_at select_narrow_at
+  at-Index b i e j h = h ∙ ap (λ y. narrow_at t s (tree_of y)) j ∙ sym (ap (λ y. select_narrow_at t s (select_of y)) i)
 
   -- e and f stand in the select, and u and w are what their tests returned
   module _ (a b : Box Expression Global) (e f : Expression) (j : e ≡ a.value) (k : f ≡ b.value) (u w : Bool) (is_u : u ≡ narrow_at t s (tree_of e)) (is_w : w ≡ narrow_at t s (tree_of f)) (h : r ≡ t && (u && w)) where
@@ -157,42 +157,42 @@ module _ (t : Bool) (s : Scope) (x : Select) (r : Bool) where
     all = h ∙ ap (λ z. t && (z && w)) (is_u ∙ ap (λ y. narrow_at t s (tree_of y)) j)
         ∙ ap (λ z. t && (narrow_at t s (tree_of a.value) && z)) (is_w ∙ ap (λ y. narrow_at t s (tree_of y)) k)
 
-    pub at-Part : x ≡ Part a b → r ≡ select_at t s (select_of x)
-    unfolding narrow_at select_at
-    at-Part i = all ∙ sym (ap (λ y. select_at t s (select_of y)) i)
+    pub at-Part : x ≡ Part a b → r ≡ select_narrow_at t s (select_of x)
+    unfolding narrow_at select_narrow_at
+    at-Part i = all ∙ sym (ap (λ y. select_narrow_at t s (select_of y)) i)
 
-    pub at-PartUp : x ≡ PartUp a b → r ≡ select_at t s (select_of x)
-    unfolding narrow_at select_at
-    at-PartUp i = all ∙ sym (ap (λ y. select_at t s (select_of y)) i)
+    pub at-PartUp : x ≡ PartUp a b → r ≡ select_narrow_at t s (select_of x)
+    unfolding narrow_at select_narrow_at
+    at-PartUp i = all ∙ sym (ap (λ y. select_narrow_at t s (select_of y)) i)
 
-    pub at-PartDown : x ≡ PartDown a b → r ≡ select_at t s (select_of x)
-    unfolding narrow_at select_at
-    at-PartDown i = all ∙ sym (ap (λ y. select_at t s (select_of y)) i)
+    pub at-PartDown : x ≡ PartDown a b → r ≡ select_narrow_at t s (select_of x)
+    unfolding narrow_at select_narrow_at
+    at-PartDown i = all ∙ sym (ap (λ y. select_narrow_at t s (select_of y)) i)
 
-one-test : (t : Bool) (s : Scope) (o : Object) (y : pure.Select) → select_at t s y && is_width (cond (is_memory o) (object_width o) (taken_at s y)) ≡ selects_at t s o (pure.one y)
-unfolding select_at selects_at
+one-test : (t : Bool) (s : Scope) (o : Object) (y : pure.Select) → select_narrow_at t s y && is_width (cond (is_memory o) (object_width o) (taken_at s y)) ≡ selects_narrow_at t s o (pure.one y)
+unfolding select_narrow_at selects_narrow_at
 one-test t s o y = ap (λ n. select_test t s y && is_width (cond (is_memory o) (object_width o) n)) (sym (count-is s no_values o y))
 
-two-test : (t : Bool) (s : Scope) (o : Object) (y z : pure.Select) → (select_at t s y && select_at t s z) && is_width (taken_at s z) ≡ selects_at t s o (pure.two y z)
-unfolding select_at selects_at
+two-test : (t : Bool) (s : Scope) (o : Object) (y z : pure.Select) → (select_narrow_at t s y && select_narrow_at t s z) && is_width (taken_at s z) ≡ selects_narrow_at t s o (pure.two y z)
+unfolding select_narrow_at selects_narrow_at
 two-test t s o y z = ap (λ n. (select_test t s y && select_test t s z) && is_width n) (sym (count-is s no_values o z))
 
 -- x are the selects, and r the result
 module _ (t : Bool) (s : Scope) (o : Object) (x : Selects) (r : Bool) where
-  pub at-Whole : x ≡ Whole → r ≡ is_object_narrow o → r ≡ selects_at t s o (selects_of x)
-  unfolding selects_at
-  at-Whole i h = h ∙ whole-same o ∙ sym (ap (λ y. selects_at t s o (selects_of y)) i)
+  pub at-Whole : x ≡ Whole → r ≡ is_object_narrow o → r ≡ selects_narrow_at t s o (selects_of x)
+  unfolding selects_narrow_at
+  at-Whole i h = h ∙ whole-same o ∙ sym (ap (λ y. selects_narrow_at t s o (selects_of y)) i)
 
   -- u and w are what the tests of the selects returned
-  pub at-One : (y : Select) → x ≡ One y → (u : Bool) → u ≡ select_at t s (select_of y)
-      → r ≡ u && is_width (cond (is_memory o) (object_width o) (taken_at s (select_of y))) → r ≡ selects_at t s o (selects_of x)
+  pub at-One : (y : Select) → x ≡ One y → (u : Bool) → u ≡ select_narrow_at t s (select_of y)
+      → r ≡ u && is_width (cond (is_memory o) (object_width o) (taken_at s (select_of y))) → r ≡ selects_narrow_at t s o (selects_of x)
   at-One y i u is_u h =
       h ∙ ap (λ b. b && is_width (cond (is_memory o) (object_width o) (taken_at s (select_of y)))) is_u
-      ∙ one-test t s o (select_of y) ∙ sym (ap (λ z. selects_at t s o (selects_of z)) i)
+      ∙ one-test t s o (select_of y) ∙ sym (ap (λ z. selects_narrow_at t s o (selects_of z)) i)
 
-  pub at-Two : (y z : Select) → x ≡ Two y z → (u w : Bool) → u ≡ select_at t s (select_of y) → w ≡ select_at t s (select_of z)
-      → r ≡ (u && w) && is_width (taken_at s (select_of z)) → r ≡ selects_at t s o (selects_of x)
+  pub at-Two : (y z : Select) → x ≡ Two y z → (u w : Bool) → u ≡ select_narrow_at t s (select_of y) → w ≡ select_narrow_at t s (select_of z)
+      → r ≡ (u && w) && is_width (taken_at s (select_of z)) → r ≡ selects_narrow_at t s o (selects_of x)
   at-Two y z i u w is_u is_w h =
       h ∙ ap (λ b. (b && w) && is_width (taken_at s (select_of z))) is_u
-      ∙ ap (λ b. (select_at t s (select_of y) && b) && is_width (taken_at s (select_of z))) is_w
-      ∙ two-test t s o (select_of y) (select_of z) ∙ sym (ap (λ u. selects_at t s o (selects_of u)) i)
+      ∙ ap (λ b. (select_narrow_at t s (select_of y) && b) && is_width (taken_at s (select_of z))) is_w
+      ∙ two-test t s o (select_of y) (select_of z) ∙ sym (ap (λ u. selects_narrow_at t s o (selects_of u)) i)

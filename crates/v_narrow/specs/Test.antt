@@ -59,11 +59,11 @@ abbrev mutual
 unfoldable pub narrow_at : Bool → Scope → Expression → Bool
 narrow_at objects s e = narrow_test objects s e
 
-unfoldable pub select_at : Bool → Scope → Select → Bool
-select_at objects s x = select_test objects s x
+unfoldable pub select_narrow_at : Bool → Scope → Select → Bool
+select_narrow_at objects s x = select_test objects s x
 
-unfoldable pub selects_at : Bool → Scope → Object → Selects → Bool
-selects_at objects s o x = selects_test objects s o x
+unfoldable pub selects_narrow_at : Bool → Scope → Object → Selects → Bool
+selects_narrow_at objects s o x = selects_test objects s o x
 
 -- parts side by side
 abbrev pub parts_test : Bool → Scope → List CodeExpression → Bool

@@ -3,7 +3,7 @@ ghost use Rattle.std.specs.Prelude.{◌≡◌, IsTrue, ◌&&◌, true};
 ghost use Rattle.v_value.specs.Scope.{object_of, scope_at};
 ghost use Rattle.v_syntax.specs.Tree.{tree_of, select_of, selects_of};
 ghost use Rattle.v_value.specs.Narrow.{IsNarrow};
-ghost use Rattle.v_narrow.specs.Test.{number_test, narrow_at, select_at, selects_at, parts_test, links_test, tests_test, choices_test};
+ghost use Rattle.v_narrow.specs.Test.{number_test, narrow_at, select_narrow_at, selects_narrow_at, parts_test, links_test, tests_test, choices_test};
 ghost use Rattle.v_narrow.specs.Fitting.{declared_test};
 
 use crate::object::{are_declared_narrow, is_object_narrow};
@@ -16,7 +16,7 @@ use v_value::scope::{Object, Scope};
 pub(crate) struct Checked<'s, 't> {
     pub(crate) scope: &'s Scope<'t>,
     pub(crate) objects: bool,
-    pub(crate) ghost known: { objects ≡ declared_test scope.now.declarations.items },
+    pub(crate) ghost known: { objects ≡ declared_test (scope_at scope.now) scope.now.declarations.items },
 }
 
 /// Whether the number has 1 to 128 bits, and its value no more than these.
@@ -70,7 +70,7 @@ fn narrow(checked: Checked<'_, '_>, expression: &Expression<'_>) -> bool
 /// Whether what the selects read of the object has 1 to 128 bits, and each select is narrow.
 #[cycle(narrow)]
 fn selects_narrow(checked: Checked<'_, '_>, object: Object, selects: &Selects<'_>) -> bool
-    ensures { result ≡ selects_at checked.entry.objects (scope_at checked.entry.scope.now) (object_of object) (selects_of selects.now) }
+    ensures { result ≡ selects_narrow_at checked.entry.objects (scope_at checked.entry.scope.now) (object_of object) (selects_of selects.now) }
 {
     match selects {
         Selects::Whole => is_object_narrow(object),
@@ -87,7 +87,7 @@ fn selects_narrow(checked: Checked<'_, '_>, object: Object, selects: &Selects<'_
 /// Whether the expressions in the select are narrow, and what is read of them with no values can be.
 #[cycle(narrow)]
 fn select_narrow(checked: Checked<'_, '_>, select: &Select<'_>) -> bool
-    ensures { result ≡ select_at checked.entry.objects (scope_at checked.entry.scope.now) (select_of select.now) }
+    ensures { result ≡ select_narrow_at checked.entry.objects (scope_at checked.entry.scope.now) (select_of select.now) }
 {
     match select {
         Select::Index(index) => narrow(checked, index),
@@ -162,15 +162,15 @@ fn choices_narrow(checked: Checked<'_, '_>, choices: &[Choice<'_>], last: bool) 
 }
 
 /// Whether each part of the expression fits words of at most 128 bits. Counts of replications and bounds of part selects are
-/// read with no values, which is done only where all objects of the scope are narrow. The parts of a concatenation or
+/// read with no values, so where some stands all objects of the scope must fit words. The parts of a concatenation or
 /// replication are walked through again for their widths, and counts and bounds for their values.
 pub fn is_narrow(scope: &Scope<'_>, expression: &Expression<'_>) -> bool
     ensures narrow { IsTrue result → IsNarrow (scope_at scope.now) (tree_of expression.now) }
-    ensures exact { result ≡ narrow_at (declared_test scope.now.declarations.items) (scope_at scope.now) (tree_of expression.now) }
+    ensures exact { IsNarrow (scope_at scope.now) (tree_of expression.now) → IsTrue result }
 {
     let checked = Checked {
         scope,
-        objects: are_declared_narrow(&scope.declarations),
+        objects: are_declared_narrow(scope, &scope.declarations),
     };
     narrow(checked, expression)
 }

@@ -1,10 +1,10 @@
 //! Whether objects fit words, and values their objects.
-ghost use Rattle.std.specs.Prelude.{◌≡◌, ◌+◌, IsTrue, ◌↔◌};
+ghost use Rattle.std.specs.Prelude.{◌≡◌, ◌+◌, IsTrue};
 ghost use Rattle.verilog_meaning.specs.Expression.{object_width};
-ghost use Rattle.v_value.specs.Scope.{object_of, scope_at, valuation_in};
+ghost use Rattle.v_value.specs.Scope.{object_of, scope_at, value_of_entry, valuation_at, valuation_in};
 ghost use Rattle.v_value.specs.Narrow.{HasNarrowObjects, HasFittingValues};
 ghost use Rattle.v_narrow.specs.Test.{is_object_narrow};
-ghost use Rattle.v_narrow.specs.Fitting.{AreDeclaredNarrow, AreEntriesFitting, number_fits, constant_fits, object_test, declared_test, words_fit, value_fits, entries_test};
+ghost use Rattle.v_narrow.specs.Fitting.{number_fits, constant_fits, object_test, declared_test, words_fit, value_fits, entries_test};
 
 use v_value::scope::{Declaration, Entry, Object, Scope, Value, Values};
 
@@ -40,12 +40,20 @@ fn constant_fits(object: Object) -> bool
     }
 }
 
-/// Whether each declared object fits words.
-pub(crate) fn are_declared_narrow(declarations: &[Declaration<'_>]) -> bool
-    ensures { result ≡ declared_test declarations.now }
+/// Whether the object fits words: it, or a word of it, has at most 128 bits, and the number of a parameter fits it.
+fn fits_words(object: Object) -> bool
+    ensures { result ≡ object_test (object_of object) }
+{
+    is_object_narrow(object) && constant_fits(object)
+}
+
+/// Whether each declared object fits words, or what its name stands for does: of several declarations of one name the first
+/// counts. A name is looked up where its declaration does not fit.
+pub(crate) fn are_declared_narrow(scope: &Scope<'_>, declarations: &[Declaration<'_>]) -> bool
+    ensures { result ≡ declared_test (scope_at scope.now) declarations.now }
 {
     for declaration in declarations {
-        if !is_object_narrow(declaration.object) || !constant_fits(declaration.object) {
+        if !fits_words(declaration.object) && !fits_words(scope.object(declaration.name)) {
             return false;
         }
     }
@@ -66,7 +74,7 @@ fn words_fit(object: Object, words: &[u128]) -> bool
 
 /// Whether the value fits the object.
 fn value_fits(object: Object, value: &Value) -> bool
-    ensures { result ≡ value_fits (object_of object) value.now }
+    ensures { result ≡ value_fits (object_of object) (value_of_entry value.now) }
 {
     match value {
         Value::Number(number) => number_fits(object, *number),
@@ -74,12 +82,27 @@ fn value_fits(object: Object, value: &Value) -> bool
     }
 }
 
-/// Whether each value fits the object that its name stands for.
-fn are_entries_fitting(scope: &Scope<'_>, entries: &[Entry<'_>]) -> bool
-    ensures { result ≡ entries_test (scope_at scope.now) entries.now }
+/// Whether the value that the name has fits what the name stands for.
+fn named_fits(scope: &Scope<'_>, values: &[Entry<'_>], name: &str) -> bool
+    ensures { result ≡ value_fits (scope_at scope.now name.now) (valuation_at values.now name.now) }
+{
+    for entry in values {
+        if entry.name == name {
+            return value_fits(scope.object(name), &entry.value);
+        }
+    }
+    true
+}
+
+/// Whether each value fits the object that its name stands for, or the value that its name has does: of several values of one
+/// name the first counts.
+fn are_entries_fitting(scope: &Scope<'_>, values: &[Entry<'_>], entries: &[Entry<'_>]) -> bool
+    ensures { result ≡ entries_test (scope_at scope.now) (valuation_at values.now) entries.now }
 {
     for entry in entries {
-        if !value_fits(scope.object(entry.name), &entry.value) {
+        if !value_fits(scope.object(entry.name), &entry.value)
+            && !named_fits(scope, values, entry.name)
+        {
             return false;
         }
     }
@@ -89,15 +112,15 @@ fn are_entries_fitting(scope: &Scope<'_>, entries: &[Entry<'_>]) -> bool
 /// Whether all objects of the scope fit words: each has at most 128 bits, and the number of a parameter fits it.
 pub fn are_objects_narrow(scope: &Scope<'_>) -> bool
     ensures objects { IsTrue result → HasNarrowObjects (scope_at scope.now) }
-    ensures each { IsTrue result ↔ AreDeclaredNarrow scope.now.declarations.items }
+    ensures exact { HasNarrowObjects (scope_at scope.now) → IsTrue result }
 {
-    are_declared_narrow(&scope.declarations)
+    are_declared_narrow(scope, &scope.declarations)
 }
 
 /// Whether the values fit their objects: a number, and each word of a memory, has no more bits than the object.
 pub fn values_fit(scope: &Scope<'_>, values: &Values<'_>) -> bool
     ensures values { IsTrue result → HasFittingValues (scope_at scope.now) (valuation_in values.now) }
-    ensures each { IsTrue result ↔ AreEntriesFitting (scope_at scope.now) values.now.entries.items }
+    ensures exact { HasFittingValues (scope_at scope.now) (valuation_in values.now) → IsTrue result }
 {
-    are_entries_fitting(scope, &values.entries)
+    are_entries_fitting(scope, &values.entries, &values.entries)
 }

@@ -6,7 +6,7 @@ ghost use Rattle.v_syntax.specs.Tree.{tree_of, select_of, expressions_of};
 ghost use Rattle.v_value.specs.Index.{integer_at, count_between};
 ghost use Rattle.v_value.specs.Narrow.{IsNarrow, AreNarrow, IsSelectNarrow, HasNarrowObjects};
 ghost use Rattle.v_value.specs.Evaluation.{count_at, bound_at, taken_at};
-ghost use Rattle.v_narrow.specs.Test.{is_width, narrow_at, select_at, parts_test};
+ghost use Rattle.v_narrow.specs.Test.{is_width, narrow_at, select_narrow_at, parts_test};
 
 use crate::expression::Checked;
 use crate::object::is_object_narrow;
@@ -135,7 +135,7 @@ pub(crate) fn one_fits(
     select: &Select<'_>,
     narrow: bool,
 ) -> bool
-    requires { narrow ≡ select_at checked.objects (scope_at checked.scope.now) (select_of select.now) }
+    requires { narrow ≡ select_narrow_at checked.objects (scope_at checked.scope.now) (select_of select.now) }
     ensures { result ≡ (narrow && is_width (cond (is_memory (object_of object)) (object_width (object_of object)) (taken_at (scope_at checked.entry.scope.now) (select_of select.now)))) }
 {
     if !narrow {
@@ -147,14 +147,14 @@ pub(crate) fn one_fits(
     takes_few(checked.scope, select)
 }
 
-/// Whether a select behind an index takes 1 to 128 bits, where `first` and `second` say whether the two are narrow.
+/// Whether a select after an index takes 1 to 128 bits, where `first` and `second` say whether the two are narrow.
 pub(crate) fn two_fit(
     checked: Checked<'_, '_>,
     select: &Select<'_>,
     first: bool,
     second: bool,
 ) -> bool
-    requires { second ≡ select_at checked.objects (scope_at checked.scope.now) (select_of select.now) }
+    requires { second ≡ select_narrow_at checked.objects (scope_at checked.scope.now) (select_of select.now) }
     ensures { result ≡ ((first && second) && is_width (taken_at (scope_at checked.entry.scope.now) (select_of select.now))) }
 {
     if !first || !second {

@@ -240,7 +240,7 @@ ports_again _ _ _ (ports_declared ps text rest d) ends =
     let front = first_part IsPort BeginsWithDirection direction_in_front ps text (mark right_parenthesis ∷ rest) d in
     rw (mark_again left_parenthesis text, front.2, front.1, port_list_again ps text rest d, mark_again right_parenthesis rest) refl
 
-module_again : (m : Module) (text rest : List Token) → IsModule m text rest → Unit {0} → module_at text ≡ Some (m, rest)
+pub module_again : (m : Module) (text rest : List Token) → IsModule m text rest → Unit {0} → module_at text ≡ Some (m, rest)
 unfolding module_at
 module_again _ _ _ (a_module n ps p items parameters ports body rest named dps dp ds) _ =
     rw (

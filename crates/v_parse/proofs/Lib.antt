@@ -7,3 +7,4 @@ pub mod Again
 pub mod AgainItems
 pub mod Turns
 pub mod Whole
+pub mod Place

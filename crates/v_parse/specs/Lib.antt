@@ -1,3 +1,5 @@
 pub mod Lists
 pub mod Reading
 pub mod View
+pub mod Flat
+pub mod Place

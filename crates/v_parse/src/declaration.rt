@@ -1,9 +1,11 @@
 //! Declarations: ranges, ports, parameters, nets, variables.
 
-ghost use Rattle.std.specs.Prelude.{◌≡◌, option_map, map, Some};
+ghost use Rattle.std.specs.Prelude.{◌≡◌, option_map, map, Some, IfOk};
 ghost use Rattle.v_token.specs.View.{tokens_of};
 ghost use Rattle.v_syntax.specs.Source.{range_of, optional_range_of, boxed_tree_of, direction_of, kind_of, port_of, parameter_of};
 ghost use Rattle.v_expr.specs.View.{Gives};
+ghost use Rattle.v_expr.specs.Flat.{Each};
+ghost use Rattle.v_parse.specs.Flat.{IsFlatBoxed, IsFlatOptionalRange, IsFlatParameter, IsFlatPort, IsFlatRange, IsFlatSetting, IsFlatVariable, IsFlatWire};
 ghost use Rattle.v_parse.specs.Reading.{range_at, perhaps_range_at, direction_at, net_kind_at, names_at, declared_port_at, port_at, setting_at, settings_at, parameter_word_at, declared_parameter_at, perhaps_value_at, wire_at, wires_at, variable_at, variables_at};
 ghost use Rattle.v_parse.specs.View.{setting_of, wire_of, variable_of};
 
@@ -25,7 +27,8 @@ fn range<'s, 't>(
     alloc: Global,
     tokens: &'t [Token<'s>],
 ) -> Result<(Range<'s>, &'t [Token<'s>]), ExpressionStop>
-    ensures { Gives (λ x. (range_of x.0, tokens_of x.1.now)) result (range_at (tokens_of tokens.now)) }
+    ensures read { Gives (λ x. (range_of x.0, tokens_of x.1.now)) result (range_at (tokens_of tokens.now)) }
+    ensures flat { IfOk result (λ x. IsFlatRange x.0) }
 {
     let (left, rest) = expression(alloc, tokens)?;
     let rest = mark(rest, Mark::Colon)?;
@@ -40,7 +43,8 @@ pub fn perhaps_range<'s, 't>(
     alloc: Global,
     tokens: &'t [Token<'s>],
 ) -> Result<(Option<Box<Range<'s>>>, &'t [Token<'s>]), ExpressionStop>
-    ensures { Gives (λ x. (optional_range_of x.0, tokens_of x.1.now)) result (perhaps_range_at (tokens_of tokens.now)) }
+    ensures read { Gives (λ x. (optional_range_of x.0, tokens_of x.1.now)) result (perhaps_range_at (tokens_of tokens.now)) }
+    ensures flat { IfOk result (λ x. IsFlatOptionalRange x.0) }
 {
     match behind_mark(tokens, Mark::LeftBracket) {
         Some(inside) => {
@@ -109,7 +113,8 @@ pub fn declared_port<'s, 't>(
     direction: Direction,
     tokens: &'t [Token<'s>],
 ) -> Result<(PortDeclaration<'s>, &'t [Token<'s>]), ExpressionStop>
-    ensures { Gives (λ x. (port_of x.0, tokens_of x.1.now)) result (declared_port_at (direction_of direction) (tokens_of tokens.now)) }
+    ensures read { Gives (λ x. (port_of x.0, tokens_of x.1.now)) result (declared_port_at (direction_of direction) (tokens_of tokens.now)) }
+    ensures flat { IfOk result (λ x. IsFlatPort x.0) }
 {
     let (kind, rest) = net_kind(tokens);
     let (signed, rest) = flag(rest, "signed");
@@ -133,7 +138,8 @@ pub fn port<'s, 't>(
     alloc: Global,
     tokens: &'t [Token<'s>],
 ) -> Result<(PortDeclaration<'s>, &'t [Token<'s>]), ExpressionStop>
-    ensures { Gives (λ x. (port_of x.0, tokens_of x.1.now)) result (port_at (tokens_of tokens.now)) }
+    ensures read { Gives (λ x. (port_of x.0, tokens_of x.1.now)) result (port_at (tokens_of tokens.now)) }
+    ensures flat { IfOk result (λ x. IsFlatPort x.0) }
 {
     match direction(tokens) {
         Some((direction, rest)) => {
@@ -150,7 +156,8 @@ fn setting<'s, 't>(
     alloc: Global,
     tokens: &'t [Token<'s>],
 ) -> Result<(ParameterValue<'s>, &'t [Token<'s>]), ExpressionStop>
-    ensures { Gives (λ x. (setting_of x.0, tokens_of x.1.now)) result (setting_at (tokens_of tokens.now)) }
+    ensures read { Gives (λ x. (setting_of x.0, tokens_of x.1.now)) result (setting_at (tokens_of tokens.now)) }
+    ensures flat { IfOk result (λ x. IsFlatSetting x.0) }
 {
     let (name, rest) = name(tokens)?;
     let rest = mark(rest, Mark::Equals)?;
@@ -164,7 +171,8 @@ fn settings<'s, 't>(
     alloc: Global,
     tokens: &'t [Token<'s>],
 ) -> Result<(Vec<ParameterValue<'s>>, &'t [Token<'s>]), ExpressionStop>
-    ensures { Gives (λ x. (map setting_of x.0.items, tokens_of x.1.now)) result (settings_at (tokens_of tokens.now)) }
+    ensures read { Gives (λ x. (map setting_of x.0.items, tokens_of x.1.now)) result (settings_at (tokens_of tokens.now)) }
+    ensures flat { IfOk result (λ x. Each IsFlatSetting x.0.items) }
 {
     let (first, mut rest) = setting(alloc, tokens)?;
     let mut values = begun_with(alloc, first)?;
@@ -201,7 +209,8 @@ pub fn declared_parameter<'s, 't>(
     is_local: bool,
     tokens: &'t [Token<'s>],
 ) -> Result<(ParameterDeclaration<'s>, &'t [Token<'s>]), ExpressionStop>
-    ensures { Gives (λ x. (parameter_of x.0, tokens_of x.1.now)) result (declared_parameter_at is_local (tokens_of tokens.now)) }
+    ensures read { Gives (λ x. (parameter_of x.0, tokens_of x.1.now)) result (declared_parameter_at is_local (tokens_of tokens.now)) }
+    ensures flat { IfOk result (λ x. IsFlatParameter x.0) }
 {
     let (signed, rest) = flag(tokens, "signed");
     let (range, rest) = perhaps_range(alloc, rest)?;
@@ -223,7 +232,8 @@ fn perhaps_value<'s, 't>(
     alloc: Global,
     tokens: &'t [Token<'s>],
 ) -> Result<(Option<Box<Expression<'s>>>, &'t [Token<'s>]), ExpressionStop>
-    ensures { Gives (λ x. (boxed_tree_of x.0, tokens_of x.1.now)) result (perhaps_value_at (tokens_of tokens.now)) }
+    ensures read { Gives (λ x. (boxed_tree_of x.0, tokens_of x.1.now)) result (perhaps_value_at (tokens_of tokens.now)) }
+    ensures flat { IfOk result (λ x. IsFlatBoxed x.0) }
 {
     match behind_mark(tokens, Mark::Equals) {
         Some(value) => {
@@ -241,7 +251,8 @@ fn wire<'s, 't>(
     alloc: Global,
     tokens: &'t [Token<'s>],
 ) -> Result<(Wire<'s>, &'t [Token<'s>]), ExpressionStop>
-    ensures { Gives (λ x. (wire_of x.0, tokens_of x.1.now)) result (wire_at (tokens_of tokens.now)) }
+    ensures read { Gives (λ x. (wire_of x.0, tokens_of x.1.now)) result (wire_at (tokens_of tokens.now)) }
+    ensures flat { IfOk result (λ x. IsFlatWire x.0) }
 {
     let (name, rest) = name(tokens)?;
     let (value, rest) = perhaps_value(alloc, rest)?;
@@ -254,7 +265,8 @@ pub fn wires<'s, 't>(
     alloc: Global,
     tokens: &'t [Token<'s>],
 ) -> Result<(Vec<Wire<'s>>, &'t [Token<'s>]), ExpressionStop>
-    ensures { Gives (λ x. (map wire_of x.0.items, tokens_of x.1.now)) result (wires_at (tokens_of tokens.now)) }
+    ensures read { Gives (λ x. (map wire_of x.0.items, tokens_of x.1.now)) result (wires_at (tokens_of tokens.now)) }
+    ensures flat { IfOk result (λ x. Each IsFlatWire x.0.items) }
 {
     let (first, mut rest) = wire(alloc, tokens)?;
     let mut wires = begun_with(alloc, first)?;
@@ -276,7 +288,8 @@ fn variable<'s, 't>(
     alloc: Global,
     tokens: &'t [Token<'s>],
 ) -> Result<(Variable<'s>, &'t [Token<'s>]), ExpressionStop>
-    ensures { Gives (λ x. (variable_of x.0, tokens_of x.1.now)) result (variable_at (tokens_of tokens.now)) }
+    ensures read { Gives (λ x. (variable_of x.0, tokens_of x.1.now)) result (variable_at (tokens_of tokens.now)) }
+    ensures flat { IfOk result (λ x. IsFlatVariable x.0) }
 {
     let (name, rest) = name(tokens)?;
     let (addresses, rest) = perhaps_range(alloc, rest)?;
@@ -289,7 +302,8 @@ pub fn variables<'s, 't>(
     alloc: Global,
     tokens: &'t [Token<'s>],
 ) -> Result<(Vec<Variable<'s>>, &'t [Token<'s>]), ExpressionStop>
-    ensures { Gives (λ x. (map variable_of x.0.items, tokens_of x.1.now)) result (variables_at (tokens_of tokens.now)) }
+    ensures read { Gives (λ x. (map variable_of x.0.items, tokens_of x.1.now)) result (variables_at (tokens_of tokens.now)) }
+    ensures flat { IfOk result (λ x. Each IsFlatVariable x.0.items) }
 {
     let (first, mut rest) = variable(alloc, tokens)?;
     let mut variables = begun_with(alloc, first)?;

@@ -1,9 +1,11 @@
 //! Instances of modules, with their connections.
 
-ghost use Rattle.std.specs.Prelude.{◌≡◌, map, Some};
+ghost use Rattle.std.specs.Prelude.{◌≡◌, map, Some, IfOk};
 ghost use Rattle.v_token.specs.View.{tokens_of};
 ghost use Rattle.v_syntax.specs.Source.{optional_tree_of, connections_of};
 ghost use Rattle.v_expr.specs.View.{Gives};
+ghost use Rattle.v_expr.specs.Flat.{Each};
+ghost use Rattle.v_parse.specs.Flat.{IsFlatConnections, IsFlatInstance, IsFlatNamed, IsFlatOptional};
 ghost use Rattle.v_parse.specs.Reading.{entry_at, entries_at, named_entry_at, named_entries_at, by_order_at, by_name_at, connections_at, instance_at, instances_at, overrides_at};
 ghost use Rattle.v_parse.specs.View.{named_entry_of, instance_of};
 
@@ -22,7 +24,8 @@ fn entry<'s, 't>(
     alloc: Global,
     tokens: &'t [Token<'s>],
 ) -> Result<(Option<Expression<'s>>, &'t [Token<'s>]), ExpressionStop>
-    ensures { Gives (λ x. (optional_tree_of x.0, tokens_of x.1.now)) result (entry_at (tokens_of tokens.now)) }
+    ensures read { Gives (λ x. (optional_tree_of x.0, tokens_of x.1.now)) result (entry_at (tokens_of tokens.now)) }
+    ensures flat { IfOk result (λ x. IsFlatOptional x.0) }
 {
     if behind_mark(tokens, Mark::Comma).is_some() {
         return Ok((None, tokens));
@@ -40,7 +43,8 @@ fn entries<'s, 't>(
     alloc: Global,
     tokens: &'t [Token<'s>],
 ) -> Result<(Vec<Option<Expression<'s>>>, &'t [Token<'s>]), ExpressionStop>
-    ensures { Gives (λ x. (map optional_tree_of x.0.items, tokens_of x.1.now)) result (entries_at (tokens_of tokens.now)) }
+    ensures read { Gives (λ x. (map optional_tree_of x.0.items, tokens_of x.1.now)) result (entries_at (tokens_of tokens.now)) }
+    ensures flat { IfOk result (λ x. Each IsFlatOptional x.0.items) }
 {
     let (first, mut rest) = entry(alloc, tokens)?;
     let mut entries = begun_with(alloc, first)?;
@@ -62,7 +66,8 @@ fn named_entry<'s, 't>(
     alloc: Global,
     tokens: &'t [Token<'s>],
 ) -> Result<(NamedConnection<'s>, &'t [Token<'s>]), ExpressionStop>
-    ensures { Gives (λ x. (named_entry_of x.0, tokens_of x.1.now)) result (named_entry_at (tokens_of tokens.now)) }
+    ensures read { Gives (λ x. (named_entry_of x.0, tokens_of x.1.now)) result (named_entry_at (tokens_of tokens.now)) }
+    ensures flat { IfOk result (λ x. IsFlatNamed x.0) }
 {
     let rest = mark(tokens, Mark::Dot)?;
     let (name, rest) = name(rest)?;
@@ -78,7 +83,8 @@ fn named_entries<'s, 't>(
     alloc: Global,
     tokens: &'t [Token<'s>],
 ) -> Result<(Vec<NamedConnection<'s>>, &'t [Token<'s>]), ExpressionStop>
-    ensures { Gives (λ x. (map named_entry_of x.0.items, tokens_of x.1.now)) result (named_entries_at (tokens_of tokens.now)) }
+    ensures read { Gives (λ x. (map named_entry_of x.0.items, tokens_of x.1.now)) result (named_entries_at (tokens_of tokens.now)) }
+    ensures flat { IfOk result (λ x. Each IsFlatNamed x.0.items) }
 {
     let (first, mut rest) = named_entry(alloc, tokens)?;
     let mut entries = begun_with(alloc, first)?;
@@ -100,7 +106,8 @@ fn by_order<'s, 't>(
     alloc: Global,
     tokens: &'t [Token<'s>],
 ) -> Result<(Connections<'s>, &'t [Token<'s>]), ExpressionStop>
-    ensures { Gives (λ x. (connections_of x.0, tokens_of x.1.now)) result (by_order_at (tokens_of tokens.now)) }
+    ensures read { Gives (λ x. (connections_of x.0, tokens_of x.1.now)) result (by_order_at (tokens_of tokens.now)) }
+    ensures flat { IfOk result (λ x. IsFlatConnections x.0) }
 {
     let (entries, rest) = entries(alloc, tokens)?;
     let rest = mark(rest, Mark::RightParenthesis)?;
@@ -113,7 +120,8 @@ fn by_name<'s, 't>(
     alloc: Global,
     tokens: &'t [Token<'s>],
 ) -> Result<(Connections<'s>, &'t [Token<'s>]), ExpressionStop>
-    ensures { Gives (λ x. (connections_of x.0, tokens_of x.1.now)) result (by_name_at (tokens_of tokens.now)) }
+    ensures read { Gives (λ x. (connections_of x.0, tokens_of x.1.now)) result (by_name_at (tokens_of tokens.now)) }
+    ensures flat { IfOk result (λ x. IsFlatConnections x.0) }
 {
     let (entries, rest) = named_entries(alloc, tokens)?;
     let rest = mark(rest, Mark::RightParenthesis)?;
@@ -126,7 +134,8 @@ fn connections<'s, 't>(
     alloc: Global,
     tokens: &'t [Token<'s>],
 ) -> Result<(Connections<'s>, &'t [Token<'s>]), ExpressionStop>
-    ensures { Gives (λ x. (connections_of x.0, tokens_of x.1.now)) result (connections_at (tokens_of tokens.now)) }
+    ensures read { Gives (λ x. (connections_of x.0, tokens_of x.1.now)) result (connections_at (tokens_of tokens.now)) }
+    ensures flat { IfOk result (λ x. IsFlatConnections x.0) }
 {
     if behind_mark(tokens, Mark::Dot).is_some() {
         let (connections, rest) = by_name(alloc, tokens)?;
@@ -142,7 +151,8 @@ fn instance<'s, 't>(
     alloc: Global,
     tokens: &'t [Token<'s>],
 ) -> Result<(Instance<'s>, &'t [Token<'s>]), ExpressionStop>
-    ensures { Gives (λ x. (instance_of x.0, tokens_of x.1.now)) result (instance_at (tokens_of tokens.now)) }
+    ensures read { Gives (λ x. (instance_of x.0, tokens_of x.1.now)) result (instance_at (tokens_of tokens.now)) }
+    ensures flat { IfOk result (λ x. IsFlatInstance x.0) }
 {
     let (name, rest) = name(tokens)?;
     let rest = mark(rest, Mark::LeftParenthesis)?;
@@ -156,7 +166,8 @@ pub fn instances<'s, 't>(
     alloc: Global,
     tokens: &'t [Token<'s>],
 ) -> Result<(Vec<Instance<'s>>, &'t [Token<'s>]), ExpressionStop>
-    ensures { Gives (λ x. (map instance_of x.0.items, tokens_of x.1.now)) result (instances_at (tokens_of tokens.now)) }
+    ensures read { Gives (λ x. (map instance_of x.0.items, tokens_of x.1.now)) result (instances_at (tokens_of tokens.now)) }
+    ensures flat { IfOk result (λ x. Each IsFlatInstance x.0.items) }
 {
     let (first, mut rest) = instance(alloc, tokens)?;
     let mut instances = begun_with(alloc, first)?;
@@ -178,7 +189,8 @@ pub fn overrides<'s, 't>(
     alloc: Global,
     tokens: &'t [Token<'s>],
 ) -> Result<(Connections<'s>, &'t [Token<'s>]), ExpressionStop>
-    ensures { Gives (λ x. (connections_of x.0, tokens_of x.1.now)) result (overrides_at (tokens_of tokens.now)) }
+    ensures read { Gives (λ x. (connections_of x.0, tokens_of x.1.now)) result (overrides_at (tokens_of tokens.now)) }
+    ensures flat { IfOk result (λ x. IsFlatConnections x.0) }
 {
     match behind_mark(tokens, Mark::Hash) {
         Some(rest) => {

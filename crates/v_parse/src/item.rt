@@ -1,10 +1,12 @@
 //! Module items.
 
-ghost use Rattle.std.specs.Prelude.{◌≡◌, map, Some};
+ghost use Rattle.std.specs.Prelude.{◌≡◌, map, Some, IfOk};
 ghost use Rattle.v_token.specs.View.{tokens_of};
 ghost use Rattle.v_syntax.specs.Source.{direction_of, item_of};
 ghost use Rattle.verilog_text.specs.Token.{equals};
 ghost use Rattle.v_expr.specs.View.{Gives};
+ghost use Rattle.v_expr.specs.Flat.{Each};
+ghost use Rattle.v_parse.specs.Flat.{IsFlatAssignment, IsFlatItem};
 ghost use Rattle.v_body.specs.Targets.{assignment_at};
 ghost use Rattle.v_parse.specs.Reading.{port_item_at, parameter_item_at, wires_item_at, variables_item_at, assignments_at, assign_item_at, always_item_at, instances_item_at, declared_item_at, item_at};
 ghost use Rattle.v_parse.specs.View.{assignment_of};
@@ -31,7 +33,8 @@ fn port_item<'s, 't>(
     direction: Direction,
     tokens: &'t [Token<'s>],
 ) -> Result<(Item<'s>, &'t [Token<'s>]), ExpressionStop>
-    ensures { Gives (λ x. (item_of x.0, tokens_of x.1.now)) result (port_item_at (direction_of direction) (tokens_of tokens.now)) }
+    ensures read { Gives (λ x. (item_of x.0, tokens_of x.1.now)) result (port_item_at (direction_of direction) (tokens_of tokens.now)) }
+    ensures flat { IfOk result (λ x. IsFlatItem x.0) }
 {
     let (port, rest) = declared_port(alloc, direction, tokens)?;
     let rest = closing(rest, Mark::Semicolon)?;
@@ -45,7 +48,8 @@ fn parameter_item<'s, 't>(
     is_local: bool,
     tokens: &'t [Token<'s>],
 ) -> Result<(Item<'s>, &'t [Token<'s>]), ExpressionStop>
-    ensures { Gives (λ x. (item_of x.0, tokens_of x.1.now)) result (parameter_item_at is_local (tokens_of tokens.now)) }
+    ensures read { Gives (λ x. (item_of x.0, tokens_of x.1.now)) result (parameter_item_at is_local (tokens_of tokens.now)) }
+    ensures flat { IfOk result (λ x. IsFlatItem x.0) }
 {
     let (parameter, rest) = declared_parameter(alloc, is_local, tokens)?;
     let rest = closing(rest, Mark::Semicolon)?;
@@ -58,7 +62,8 @@ fn wires_item<'s, 't>(
     alloc: Global,
     tokens: &'t [Token<'s>],
 ) -> Result<(Item<'s>, &'t [Token<'s>]), ExpressionStop>
-    ensures { Gives (λ x. (item_of x.0, tokens_of x.1.now)) result (wires_item_at (tokens_of tokens.now)) }
+    ensures read { Gives (λ x. (item_of x.0, tokens_of x.1.now)) result (wires_item_at (tokens_of tokens.now)) }
+    ensures flat { IfOk result (λ x. IsFlatItem x.0) }
 {
     let (signed, rest) = flag(tokens, "signed");
     let (range, rest) = perhaps_range(alloc, rest)?;
@@ -73,7 +78,8 @@ fn variables_item<'s, 't>(
     alloc: Global,
     tokens: &'t [Token<'s>],
 ) -> Result<(Item<'s>, &'t [Token<'s>]), ExpressionStop>
-    ensures { Gives (λ x. (item_of x.0, tokens_of x.1.now)) result (variables_item_at (tokens_of tokens.now)) }
+    ensures read { Gives (λ x. (item_of x.0, tokens_of x.1.now)) result (variables_item_at (tokens_of tokens.now)) }
+    ensures flat { IfOk result (λ x. IsFlatItem x.0) }
 {
     let (signed, rest) = flag(tokens, "signed");
     let (range, rest) = perhaps_range(alloc, rest)?;
@@ -87,7 +93,8 @@ fn one_assignment<'s, 't>(
     alloc: Global,
     tokens: &'t [Token<'s>],
 ) -> Result<(Assignment<'s>, &'t [Token<'s>]), ExpressionStop>
-    ensures { Gives (λ x. (assignment_of x.0, tokens_of x.1.now)) result (assignment_at equals (tokens_of tokens.now)) }
+    ensures read { Gives (λ x. (assignment_of x.0, tokens_of x.1.now)) result (assignment_at equals (tokens_of tokens.now)) }
+    ensures flat { IfOk result (λ x. IsFlatAssignment x.0) }
 {
     let ((target, value), rest) = assignment(alloc, Mark::Equals, tokens)?;
     Ok((Assignment { target, value }, rest))
@@ -99,7 +106,8 @@ fn assignments<'s, 't>(
     alloc: Global,
     tokens: &'t [Token<'s>],
 ) -> Result<(Vec<Assignment<'s>>, &'t [Token<'s>]), ExpressionStop>
-    ensures { Gives (λ x. (map assignment_of x.0.items, tokens_of x.1.now)) result (assignments_at (tokens_of tokens.now)) }
+    ensures read { Gives (λ x. (map assignment_of x.0.items, tokens_of x.1.now)) result (assignments_at (tokens_of tokens.now)) }
+    ensures flat { IfOk result (λ x. Each IsFlatAssignment x.0.items) }
 {
     let (first, mut rest) = one_assignment(alloc, tokens)?;
     let mut assignments = begun_with(alloc, first)?;
@@ -121,7 +129,8 @@ fn assign_item<'s, 't>(
     alloc: Global,
     tokens: &'t [Token<'s>],
 ) -> Result<(Item<'s>, &'t [Token<'s>]), ExpressionStop>
-    ensures { Gives (λ x. (item_of x.0, tokens_of x.1.now)) result (assign_item_at (tokens_of tokens.now)) }
+    ensures read { Gives (λ x. (item_of x.0, tokens_of x.1.now)) result (assign_item_at (tokens_of tokens.now)) }
+    ensures flat { IfOk result (λ x. IsFlatItem x.0) }
 {
     let (assignments, rest) = assignments(alloc, tokens)?;
     let rest = mark(rest, Mark::Semicolon)?;
@@ -134,7 +143,8 @@ fn always_item<'s, 't>(
     alloc: Global,
     tokens: &'t [Token<'s>],
 ) -> Result<(Item<'s>, &'t [Token<'s>]), ExpressionStop>
-    ensures { Gives (λ x. (item_of x.0, tokens_of x.1.now)) result (always_item_at (tokens_of tokens.now)) }
+    ensures read { Gives (λ x. (item_of x.0, tokens_of x.1.now)) result (always_item_at (tokens_of tokens.now)) }
+    ensures flat { IfOk result (λ x. IsFlatItem x.0) }
 {
     let rest = mark(tokens, Mark::At)?;
     let (events, rest) = control(alloc, rest)?;
@@ -149,7 +159,8 @@ fn instances_item<'s, 't>(
     alloc: Global,
     tokens: &'t [Token<'s>],
 ) -> Result<(Item<'s>, &'t [Token<'s>]), ExpressionStop>
-    ensures { Gives (λ x. (item_of x.0, tokens_of x.1.now)) result (instances_item_at (tokens_of tokens.now)) }
+    ensures read { Gives (λ x. (item_of x.0, tokens_of x.1.now)) result (instances_item_at (tokens_of tokens.now)) }
+    ensures flat { IfOk result (λ x. IsFlatItem x.0) }
 {
     let (module, rest) = name(tokens)?;
     let (parameters, rest) = overrides(alloc, rest)?;
@@ -164,7 +175,8 @@ fn declared_item<'s, 't>(
     alloc: Global,
     tokens: &'t [Token<'s>],
 ) -> Result<(Item<'s>, &'t [Token<'s>]), ExpressionStop>
-    ensures { Gives (λ x. (item_of x.0, tokens_of x.1.now)) result (declared_item_at (tokens_of tokens.now)) }
+    ensures read { Gives (λ x. (item_of x.0, tokens_of x.1.now)) result (declared_item_at (tokens_of tokens.now)) }
+    ensures flat { IfOk result (λ x. IsFlatItem x.0) }
 {
     if let Some((direction, rest)) = direction(tokens) {
         let (item, rest) = port_item(alloc, direction, rest)?;
@@ -184,7 +196,8 @@ pub fn item<'s, 't>(
     alloc: Global,
     tokens: &'t [Token<'s>],
 ) -> Result<(Item<'s>, &'t [Token<'s>]), ExpressionStop>
-    ensures { Gives (λ x. (item_of x.0, tokens_of x.1.now)) result (item_at (tokens_of tokens.now)) }
+    ensures read { Gives (λ x. (item_of x.0, tokens_of x.1.now)) result (item_at (tokens_of tokens.now)) }
+    ensures flat { IfOk result (λ x. IsFlatItem x.0) }
 {
     if let Some(rest) = behind_word(tokens, "wire") {
         let (item, rest) = wires_item(alloc, rest)?;

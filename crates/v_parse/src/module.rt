@@ -1,9 +1,12 @@
 //! Modules.
 
-ghost use Rattle.std.specs.Prelude.{◌≡◌, map, option_map, codes};
+ghost use Rattle.std.specs.Prelude.{◌≡◌, ◌≤◌, map, option_map, codes, length, None, IfOk, IfErr};
 ghost use Rattle.v_token.specs.View.{tokens_of};
 ghost use Rattle.v_syntax.specs.Source.{parameter_of, port_of, ports_of, item_of, module_of};
 ghost use Rattle.v_expr.specs.View.{Gives};
+ghost use Rattle.v_expr.specs.Flat.{Each};
+ghost use Rattle.v_parse.specs.Place.{IsFirst, IsWithin, IsModulePlace};
+ghost use Rattle.v_parse.specs.Flat.{IsFlatItem, IsFlatModule, IsFlatParameter, IsFlatPort, IsFlatPorts};
 ghost use Rattle.v_body.specs.Words.{after_word};
 ghost use Rattle.v_parse.specs.Lists.{at_end};
 ghost use Rattle.v_parse.specs.Reading.{header_parameter_at, parameter_list_at, some_parameters_at, header_parameters_at, port_list_at, declared_ports_at, listed_ports_at, some_ports_at, ports_at, items_at, module_at, modules_at};
@@ -24,7 +27,8 @@ fn header_parameter<'s, 't>(
     alloc: Global,
     tokens: &'t [Token<'s>],
 ) -> Result<(ParameterDeclaration<'s>, &'t [Token<'s>]), ExpressionStop>
-    ensures { Gives (λ x. (parameter_of x.0, tokens_of x.1.now)) result (header_parameter_at (tokens_of tokens.now)) }
+    ensures read { Gives (λ x. (parameter_of x.0, tokens_of x.1.now)) result (header_parameter_at (tokens_of tokens.now)) }
+    ensures flat { IfOk result (λ x. IsFlatParameter x.0) }
 {
     let rest = keyword(tokens, "parameter")?;
     let (parameter, rest) = declared_parameter(alloc, false, rest)?;
@@ -37,7 +41,8 @@ fn parameter_list<'s, 't>(
     alloc: Global,
     tokens: &'t [Token<'s>],
 ) -> Result<(Vec<ParameterDeclaration<'s>>, &'t [Token<'s>]), ExpressionStop>
-    ensures { Gives (λ x. (map parameter_of x.0.items, tokens_of x.1.now)) result (parameter_list_at (tokens_of tokens.now)) }
+    ensures read { Gives (λ x. (map parameter_of x.0.items, tokens_of x.1.now)) result (parameter_list_at (tokens_of tokens.now)) }
+    ensures flat { IfOk result (λ x. Each IsFlatParameter x.0.items) }
 {
     let (first, mut rest) = header_parameter(alloc, tokens)?;
     let mut parameters = begun_with(alloc, first)?;
@@ -59,7 +64,8 @@ fn header_parameters<'s, 't>(
     alloc: Global,
     tokens: &'t [Token<'s>],
 ) -> Result<(Vec<ParameterDeclaration<'s>>, &'t [Token<'s>]), ExpressionStop>
-    ensures { Gives (λ x. (map parameter_of x.0.items, tokens_of x.1.now)) result (header_parameters_at (tokens_of tokens.now)) }
+    ensures read { Gives (λ x. (map parameter_of x.0.items, tokens_of x.1.now)) result (header_parameters_at (tokens_of tokens.now)) }
+    ensures flat { IfOk result (λ x. Each IsFlatParameter x.0.items) }
 {
     match behind_mark(tokens, Mark::Hash) {
         Some(rest) => {
@@ -78,7 +84,8 @@ fn port_list<'s, 't>(
     alloc: Global,
     tokens: &'t [Token<'s>],
 ) -> Result<(Vec<PortDeclaration<'s>>, &'t [Token<'s>]), ExpressionStop>
-    ensures { Gives (λ x. (map port_of x.0.items, tokens_of x.1.now)) result (port_list_at (tokens_of tokens.now)) }
+    ensures read { Gives (λ x. (map port_of x.0.items, tokens_of x.1.now)) result (port_list_at (tokens_of tokens.now)) }
+    ensures flat { IfOk result (λ x. Each IsFlatPort x.0.items) }
 {
     let (first, mut rest) = port(alloc, tokens)?;
     let mut ports = begun_with(alloc, first)?;
@@ -100,7 +107,8 @@ fn declared_ports<'s, 't>(
     alloc: Global,
     tokens: &'t [Token<'s>],
 ) -> Result<(Ports<'s>, &'t [Token<'s>]), ExpressionStop>
-    ensures { Gives (λ x. (ports_of x.0, tokens_of x.1.now)) result (declared_ports_at (tokens_of tokens.now)) }
+    ensures read { Gives (λ x. (ports_of x.0, tokens_of x.1.now)) result (declared_ports_at (tokens_of tokens.now)) }
+    ensures flat { IfOk result (λ x. IsFlatPorts x.0) }
 {
     let (ports, rest) = port_list(alloc, tokens)?;
     let rest = mark(rest, Mark::RightParenthesis)?;
@@ -113,7 +121,8 @@ fn listed_ports<'s, 't>(
     alloc: Global,
     tokens: &'t [Token<'s>],
 ) -> Result<(Ports<'s>, &'t [Token<'s>]), ExpressionStop>
-    ensures { Gives (λ x. (ports_of x.0, tokens_of x.1.now)) result (listed_ports_at (tokens_of tokens.now)) }
+    ensures read { Gives (λ x. (ports_of x.0, tokens_of x.1.now)) result (listed_ports_at (tokens_of tokens.now)) }
+    ensures flat { IfOk result (λ x. IsFlatPorts x.0) }
 {
     let (names, rest) = names(alloc, tokens)?;
     let rest = closing(rest, Mark::RightParenthesis)?;
@@ -126,7 +135,8 @@ fn some_ports<'s, 't>(
     alloc: Global,
     tokens: &'t [Token<'s>],
 ) -> Result<(Ports<'s>, &'t [Token<'s>]), ExpressionStop>
-    ensures { Gives (λ x. (ports_of x.0, tokens_of x.1.now)) result (some_ports_at (tokens_of tokens.now)) }
+    ensures read { Gives (λ x. (ports_of x.0, tokens_of x.1.now)) result (some_ports_at (tokens_of tokens.now)) }
+    ensures flat { IfOk result (λ x. IsFlatPorts x.0) }
 {
     if let Some(rest) = behind_mark(tokens, Mark::RightParenthesis) {
         return Ok((Ports::Listed(Vec::new(alloc)), rest));
@@ -145,7 +155,8 @@ fn ports<'s, 't>(
     alloc: Global,
     tokens: &'t [Token<'s>],
 ) -> Result<(Ports<'s>, &'t [Token<'s>]), ExpressionStop>
-    ensures { Gives (λ x. (ports_of x.0, tokens_of x.1.now)) result (ports_at (tokens_of tokens.now)) }
+    ensures read { Gives (λ x. (ports_of x.0, tokens_of x.1.now)) result (ports_at (tokens_of tokens.now)) }
+    ensures flat { IfOk result (λ x. IsFlatPorts x.0) }
 {
     match behind_mark(tokens, Mark::LeftParenthesis) {
         Some(rest) => {
@@ -168,7 +179,8 @@ fn items<'s, 't>(
     alloc: Global,
     tokens: &'t [Token<'s>],
 ) -> Result<(Vec<Item<'s>>, &'t [Token<'s>]), ExpressionStop>
-    ensures { Gives (λ x. (map item_of x.0.items, tokens_of x.1.now)) result (items_at (tokens_of tokens.now)) }
+    ensures read { Gives (λ x. (map item_of x.0.items, tokens_of x.1.now)) result (items_at (tokens_of tokens.now)) }
+    ensures flat { IfOk result (λ x. Each IsFlatItem x.0.items) }
 {
     let mut rest = from_here(tokens)?;
     let mut items = Vec::new(alloc);
@@ -190,7 +202,8 @@ fn module<'s, 't>(
     alloc: Global,
     tokens: &'t [Token<'s>],
 ) -> Result<(Module<'s>, &'t [Token<'s>]), ExpressionStop>
-    ensures { Gives (λ x. (module_of x.0, tokens_of x.1.now)) result (module_at (tokens_of tokens.now)) }
+    ensures read { Gives (λ x. (module_of x.0, tokens_of x.1.now)) result (module_at (tokens_of tokens.now)) }
+    ensures flat { IfOk result (λ x. IsFlatModule x.0) }
 {
     let rest = keyword(tokens, "module")?;
     let (name, rest) = name(rest)?;
@@ -219,13 +232,49 @@ fn the_end<'s, 't>(tokens: &'t [Token<'s>]) -> Option<&'t [Token<'s>]>
     }
 }
 
+/// The place that is told by how many tokens are left there, or the first of the tokens if so many there are not.
+fn within(left: usize, tokens: &[Token<'_>]) -> usize
+    ensures { result ≤ length (tokens_of tokens.now) }
+{
+    if left <= tokens.len() {
+        left
+    } else {
+        tokens.len()
+    }
+}
+
+/// A module, which is refused at a place in these tokens, at the first of them where that is not `module`.
+#[tactic(auto, unfolding(crate::specs::Reading::module_at))]
+fn module_within<'s, 't>(
+    alloc: Global,
+    tokens: &'t [Token<'s>],
+) -> Result<(Module<'s>, &'t [Token<'s>]), ExpressionStop>
+    ensures read { Gives (λ x. (module_of x.0, tokens_of x.1.now)) result (module_at (tokens_of tokens.now)) }
+    ensures flat { IfOk result (λ x. IsFlatModule x.0) }
+    ensures first { after_word (codes "module") (tokens_of tokens.now) ≡ None → IfErr result (λ e. IsFirst e (tokens_of tokens.now)) }
+    ensures place { IfErr result (λ e. IsWithin e (tokens_of tokens.now)) }
+{
+    match behind_word(tokens, "module") {
+        None => Err(ExpressionStop::Refused(tokens.len())),
+        Some(_) => match module(alloc, tokens) {
+            Ok(read) => Ok(read),
+            Err(ExpressionStop::NoMemory) => Err(ExpressionStop::NoMemory),
+            Err(ExpressionStop::Refused(left)) => {
+                Err(ExpressionStop::Refused(within(left, tokens)))
+            }
+        },
+    }
+}
+
 /// The modules up to the end of the tokens.
 #[tactic(auto, unfolding(crate::specs::Reading::modules_at))]
 pub fn modules<'s, 't>(
     alloc: Global,
     tokens: &'t [Token<'s>],
 ) -> Result<(Vec<Module<'s>>, &'t [Token<'s>]), ExpressionStop>
-    ensures { Gives (λ x. (map module_of x.0.items, tokens_of x.1.now)) result (modules_at (tokens_of tokens.now)) }
+    ensures read { Gives (λ x. (map module_of x.0.items, tokens_of x.1.now)) result (modules_at (tokens_of tokens.now)) }
+    ensures place { IfErr result (λ e. IsModulePlace e (tokens_of tokens.now)) }
+    ensures flat { IfOk result (λ x. Each IsFlatModule x.0.items) }
 {
     let mut rest = from_here(tokens)?;
     let mut modules = Vec::new(alloc);
@@ -233,7 +282,7 @@ pub fn modules<'s, 't>(
         match the_end(rest) {
             Some(after) => return Ok((modules, after)),
             None => {
-                let (next, after) = module(alloc, rest)?;
+                let (next, after) = module_within(alloc, rest)?;
                 modules.push(next)?;
                 rest = after;
             }

@@ -1,9 +1,11 @@
 //! Whole sources.
 
-ghost use Rattle.std.specs.Prelude.{◌≡◌, ◌↔◌, Some};
+ghost use Rattle.std.specs.Prelude.{◌≡◌, ◌↔◌, Some, IfOk, IfErr};
 ghost use Rattle.v_token.specs.View.{tokens_of};
 ghost use Rattle.v_parse.specs.Reading.{source_at};
 ghost use Rattle.v_parse.specs.View.{Parses, IsParsed};
+ghost use Rattle.v_parse.specs.Place.{IsPlace};
+ghost use Rattle.v_parse.specs.Flat.{IsFlatTree};
 
 use crate::module::modules;
 use crate::stop::ParseStop;
@@ -16,6 +18,8 @@ use v_token::token::Token;
 #[tactic(auto, unfolding(crate::specs::Reading::source_at))]
 pub fn parse<'s>(alloc: Global, tokens: &[Token<'s>]) -> Result<Tree<'s>, ParseStop>
     ensures read { Parses result (source_at (tokens_of tokens.now)) }
+    ensures place { IfErr result (λ e. IsPlace e (tokens_of tokens.now)) }
+    ensures flat { IfOk result (λ t. IsFlatTree t) }
     ensures spelled { IsParsed result (tokens_of tokens.now) }
 {
     match modules(alloc, tokens) {

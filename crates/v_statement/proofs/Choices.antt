@@ -26,7 +26,7 @@ use Rattle.v_syntax.specs.Tree.{tree_of, prefixed, all_prefixed, combined, teste
 use Rattle.v_syntax.specs.Chain.{linked, test_linked, chosen}
 use Rattle.v_value.specs.Narrow.{AreNarrow}
 use Rattle.v_statement.specs.Statements.{IsNarrowStatement, AreNarrowItems}
-use Rattle.v_statement.specs.Effects.{item_list, statement_in, matching_from, AreValuesNarrow, chosen_item}
+use Rattle.v_statement.specs.Effects.{item_list, item_statement, matching_from, AreValuesNarrow, chosen_item}
 use Rattle.v_syntax.proofs.Trees.{tree_of-Binary, tree_of-Test, tree_of-Conditional}
 use Rattle.v_value.proofs.Narrows.{narrow_width}
 
@@ -102,7 +102,7 @@ narrow-values s (Values es x ∷ items) h = (h.0, narrow-values s items h.2)
 narrow-values s (Default x ∷ items) h = (tt, narrow-values s items h.1)
 
 pub narrow-item : (s : Scope) (items : List CaseItem) (d : CaseItem) (j : ℕ) → j < length items → AreNarrowItems s (item_list items)
-    → IsNarrowStatement s (statement_in (get_or items j d))
+    → IsNarrowStatement s (item_statement (get_or items j d))
 narrow-item s [] d j b h = absurd (omega (arith, b))
 narrow-item s (Values es x ∷ items) d zero b h = h.1
 narrow-item s (Default x ∷ items) d zero b h = h.0
@@ -113,7 +113,7 @@ module _ (s : Scope) (v : Valuation) (kind : CaseKind) (w : ℕ) (signed : Bool)
   -- the effects of the items from index k on
   abbrev AreAt : (ℕ → Effect) → ℕ → List CaseItem → Type 0
   AreAt at k [] = Unit {0}
-  AreAt at k (i ∷ items) = (at k ≡ run s (statement_in i) v) × AreAt at (k + 1) items
+  AreAt at k (i ∷ items) = (at k ≡ run s (item_statement i) v) × AreAt at (k + 1) items
 
   abbrev effect_of : (ℕ → Effect) → Option ℕ → Effect
   effect_of at None = unchanged v
@@ -136,13 +136,13 @@ module _ (s : Scope) (v : Valuation) (kind : CaseKind) (w : ℕ) (signed : Bool)
 
   -- those of a list by their indexes
   pub are-at : (at : ℕ → Effect) (k : ℕ) (items : List CaseItem) (d : CaseItem)
-      → ((j : ℕ) → j < length items → at (k + j) ≡ run s (statement_in (get_or items j d)) v) → AreAt at k items
+      → ((j : ℕ) → j < length items → at (k + j) ≡ run s (item_statement (get_or items j d)) v) → AreAt at k items
   are-at at k [] d h = tt
   are-at at k (i ∷ items) d h = (
-    let e : k + 0 ≡ k = omega arith in subst (λ m. at m ≡ run s (statement_in i) v) e (h 0 (omega arith)),
+    let e : k + 0 ≡ k = omega arith in subst (λ m. at m ≡ run s (item_statement i) v) e (h 0 (omega arith)),
     are-at at (k + 1) items d
         (λ j b. let e : k + suc j ≡ k + 1 + j = omega arith in
-        subst (λ m. at m ≡ run s (statement_in (get_or items j d)) v) e (h (suc j) (omega (arith, b)))),
+        subst (λ m. at m ≡ run s (item_statement (get_or items j d)) v) e (h (suc j) (omega (arith, b)))),
   )
 
   below-cond : (b : Bool) (j k n : ℕ) (o : Option ℕ) → Some j ≡ cond b (Some k) o → k < n → (Some j ≡ o → j < n) → j < n
@@ -166,23 +166,23 @@ chosen-below s v kind e items j h =
     matching-below s v kind _ _ _ (length items) 0 j items None (omega arith) (λ k. cc k) h
 
 pub chosen-runs : (s : Scope) (v : Valuation) (kind : CaseKind) (e : pure.Expression) (items : List CaseItem) (d : CaseItem)
-    → run s (case kind e (item_list items)) v ≡ effect_of s v kind 0 true 0 (λ j. run s (statement_in (get_or items j d)) v) (chosen_item s v kind e items)
+    → run s (case kind e (item_list items)) v ≡ effect_of s v kind 0 true 0 (λ j. run s (item_statement (get_or items j d)) v) (chosen_item s v kind e items)
 chosen-runs s v kind e items d =
-    matching-runs s v kind _ _ _ (λ j. run s (statement_in (get_or items j d)) v) 0 items None
-    (are-at s v kind 0 true 0 (λ j. run s (statement_in (get_or items j d)) v) 0 items d
-    (λ j b. let z : 0 + j ≡ j = omega arith in ap (λ m. run s (statement_in (get_or items m d)) v) z))
+    matching-runs s v kind _ _ _ (λ j. run s (item_statement (get_or items j d)) v) 0 items None
+    (are-at s v kind 0 true 0 (λ j. run s (item_statement (get_or items j d)) v) 0 items d
+    (λ j b. let z : 0 + j ≡ j = omega arith in ap (λ m. run s (item_statement (get_or items m d)) v) z))
 
 pub chosen-run : (s : Scope) (v : Valuation) (kind : CaseKind) (e : pure.Expression) (items : List CaseItem) (j : ℕ) (r : CaseItem)
-    → Some j ≡ chosen_item s v kind e items → r ≡ get_or items j r → run s (statement_in r) v ≡ run s (case kind e (item_list items)) v
+    → Some j ≡ chosen_item s v kind e items → r ≡ get_or items j r → run s (item_statement r) v ≡ run s (case kind e (item_list items)) v
 chosen-run s v kind e items j r h is =
-    ap (λ i. run s (statement_in i) v) is
-    ∙ ap (effect_of s v kind 0 true 0 (λ k. run s (statement_in (get_or items k r)) v)) h
+    ap (λ i. run s (item_statement i) v) is
+    ∙ ap (effect_of s v kind 0 true 0 (λ k. run s (item_statement (get_or items k r)) v)) h
     ∙ sym (chosen-runs s v kind e items r)
 
 pub chosen-none : (s : Scope) (v : Valuation) (kind : CaseKind) (e : pure.Expression) (items : List CaseItem)
     → None ≡ chosen_item s v kind e items → unchanged v ≡ run s (case kind e (item_list items)) v
 chosen-none s v kind e items h =
-    ap (effect_of s v kind 0 true 0 (λ k. run s (statement_in (get_or items k (Default Empty))) v)) h
+    ap (effect_of s v kind 0 true 0 (λ k. run s (item_statement (get_or items k (Default Empty))) v)) h
     ∙ sym (chosen-runs s v kind e items (Default Empty))
 
 pub if_below : (s : Scope) (v : Valuation) (kind : CaseKind) (w : ℕ) (signed : Bool) (x : ℕ) (items : List CaseItem) (o : Option ℕ)

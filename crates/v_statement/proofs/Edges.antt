@@ -9,7 +9,7 @@ use Rattle.verilog_trees.specs.Syntax as pure
 use Rattle.verilog_trees.specs.Syntax.{CaseKind, empty, blocking, nonblocking, if_then, if_else, case, block, no_statements, statement, no_items, arm, default_arm, Item, port, parameter, wires, variables, assign, always, instances}
 use Rattle.verilog_meaning.specs.Expression.{Scope, is_true}
 use Rattle.verilog_meaning.specs.Statement.{Effect, Update, unchanged, run, run_all, run_case, any_matches, places}
-use Rattle.verilog_meaning.specs.Register.{is_clocked, clocked_blocks, updates_of}
+use Rattle.verilog_meaning.specs.Register.{is_clocked, clocked_blocks, updates_of_blocks}
 use Rattle.v_statement.specs.Statements.{IsNarrowStatement, AreNarrowStatements, AreNarrowItems}
 use Rattle.v_statement.specs.Registers.{AreNarrowBlocks, AreNarrowUpdates}
 use Rattle.v_statement.proofs.Targets.{target-fits}
@@ -46,9 +46,9 @@ mutual
   run_case-narrow s v kind w signed x (default_arm y items) otherwise h k =
       run_case-narrow s v kind w signed x items (run s y v) h.1 (run-narrow s y v h.0)
 
-pub blocks-narrow : (s : Scope) (v : Valuation) (xs : List pure.Statement) → AreNarrowBlocks s xs → AreNarrowUpdates (updates_of s v xs)
+pub blocks-narrow : (s : Scope) (v : Valuation) (xs : List pure.Statement) → AreNarrowBlocks s xs → AreNarrowUpdates (updates_of_blocks s v xs)
 blocks-narrow s v [] h = tt
-blocks-narrow s v (x ∷ xs) h = updates-append (run s x v).updates (updates_of s v xs) (run-narrow s x v h.0) (blocks-narrow s v xs h.1)
+blocks-narrow s v (x ∷ xs) h = updates-append (run s x v).updates (updates_of_blocks s v xs) (run-narrow s x v h.0) (blocks-narrow s v xs h.1)
 
 -- the blocks of one item, and of the rest
 clocked-cond : (b : Bool) (x : pure.Statement) (xs : List pure.Statement) → cond b (x ∷ xs) xs ≡ cond b (x ∷ []) [] ++ xs
@@ -59,10 +59,10 @@ pub clocked-more : (i : Item) (items : List Item) → clocked_blocks (i ∷ item
 clocked-more (always es x) items = clocked-cond (is_clocked es) x (clocked_blocks items)
 clocked-more _ items = refl
 
-pub updates-more : (s : Scope) (v : Valuation) (xs ys : List pure.Statement) → updates_of s v (xs ++ ys) ≡ updates_of s v xs ++ updates_of s v ys
+pub updates-more : (s : Scope) (v : Valuation) (xs ys : List pure.Statement) → updates_of_blocks s v (xs ++ ys) ≡ updates_of_blocks s v xs ++ updates_of_blocks s v ys
 updates-more s v [] ys = refl
 updates-more s v (x ∷ xs) ys =
-    ap (λ us. (run s x v).updates ++ us) (updates-more s v xs ys) ∙ sym (append_assoc (run s x v).updates (updates_of s v xs) (updates_of s v ys))
+    ap (λ us. (run s x v).updates ++ us) (updates-more s v xs ys) ∙ sym (append_assoc (run s x v).updates (updates_of_blocks s v xs) (updates_of_blocks s v ys))
 
 pub narrow-first : (s : Scope) (xs ys : List pure.Statement) → AreNarrowBlocks s (xs ++ ys) → AreNarrowBlocks s xs × AreNarrowBlocks s ys
 narrow-first s [] ys h = (tt, h)
@@ -70,13 +70,13 @@ narrow-first s (x ∷ xs) ys h = let p = narrow-first s xs ys h.1 in ((h.0, p.0)
 
 -- one more item
 pub item-turn : (s : Scope) (v : Valuation) (us ws : List Update) (i : Item) (items : List Item)
-    → ws ≡ us ++ updates_of s v (clocked_blocks (i ∷ []))
-    → us ++ updates_of s v (clocked_blocks (i ∷ items)) ≡ ws ++ updates_of s v (clocked_blocks items)
+    → ws ≡ us ++ updates_of_blocks s v (clocked_blocks (i ∷ []))
+    → us ++ updates_of_blocks s v (clocked_blocks (i ∷ items)) ≡ ws ++ updates_of_blocks s v (clocked_blocks items)
 item-turn s v us ws i items h =
-    ap (λ xs. us ++ updates_of s v xs) (clocked-more i items)
+    ap (λ xs. us ++ updates_of_blocks s v xs) (clocked-more i items)
     ∙ ap (λ vs. us ++ vs) (updates-more s v (clocked_blocks (i ∷ [])) (clocked_blocks items))
-    ∙ sym (append_assoc us (updates_of s v (clocked_blocks (i ∷ []))) (updates_of s v (clocked_blocks items)))
-    ∙ ap (λ vs. vs ++ updates_of s v (clocked_blocks items)) (sym h)
+    ∙ sym (append_assoc us (updates_of_blocks s v (clocked_blocks (i ∷ []))) (updates_of_blocks s v (clocked_blocks items)))
+    ∙ ap (λ vs. vs ++ updates_of_blocks s v (clocked_blocks items)) (sym h)
 
 values-push : (es : List Entry) (e : Entry) → values_of (es ++ e ∷ []) ≡ values_of es ++ (e.name.now, value_of_entry e.value) ∷ []
 values-push [] e = refl

@@ -9,7 +9,7 @@ use Rattle.wb_values.specs.Value.{Valuation}
 use Rattle.verilog_trees.specs.Syntax as pure
 use Rattle.verilog_trees.specs.Syntax.{CaseKind, empty, blocking, nonblocking, if_then, if_else, case, block, no_statements, statement, no_items, arm, default_arm}
 use Rattle.verilog_meaning.specs.Expression.{Scope, is_true}
-use Rattle.verilog_meaning.specs.Statement.{Effect, Update, unchanged, behind, run, run_all, run_case, any_matches, places}
+use Rattle.verilog_meaning.specs.Statement.{Effect, Update, unchanged, after_updates, run, run_all, run_case, any_matches, places}
 use Rattle.v_syntax.specs.declared.tree.Statement.{Statement, If, Case, Block, Row_of-Arm, end_of-Arm, more_of-Arm, items-the_row-Arm, items_hidden-the_row-Arm-0, Row_of-CaseItem, end_of-CaseItem, more_of-CaseItem, items-the_row-CaseItem, items_hidden-the_row-CaseItem-1, Row_of-Statement, end_of-Statement, more_of-Statement, items-the_row-Statement, items_hidden-the_row-Statement-2}
 use Rattle.v_syntax.specs.declared.tree.CaseItem.TheBlock.{hidden-the_row-Arm-0, hidden-the_row-CaseItem-1, hidden-the_row-Statement-2}
 use Rattle.v_syntax.specs.declared.tree.Arm.{Arm}
@@ -95,19 +95,19 @@ narrow-ladder s (a ∷ arms) y h =
     ((p.0, p.1, q.0), q.1)
 
 -- updates that wait before an effect
-pub behind-unchanged : (us : List Update) (v : Valuation) → behind us (unchanged v) ≡ record { valuation = v; updates = us }
-behind-unchanged us v =
+pub after_updates-unchanged : (us : List Update) (v : Valuation) → after_updates us (unchanged v) ≡ record { valuation = v; updates = us }
+after_updates-unchanged us v =
     let make : List Update → Effect = λ ws. record { valuation = v; updates = ws } in
     ap make (append-nil us)
 
 -- one more statement
 pub run-more : (s : Scope) (us : List Update) (v : Valuation) (x : pure.Statement) (xs : pure.Statements) (e : Effect)
-    → e ≡ behind us (run s x v) → behind us (run_all s (statement x xs) v) ≡ behind e.updates (run_all s xs e.valuation)
+    → e ≡ after_updates us (run s x v) → after_updates us (run_all s (statement x xs) v) ≡ after_updates e.updates (run_all s xs e.valuation)
 run-more s us v x xs e h =
     let r = run s x v in
     let rest = run_all s xs r.valuation in
     let make : List Update → Effect = λ ws. record { valuation = rest.valuation; updates = ws } in
-    sym (ap make (append_assoc us r.updates rest.updates)) ∙ ap (λ (f : Effect). behind f.updates (run_all s xs f.valuation)) (sym h)
+    sym (ap make (append_assoc us r.updates rest.updates)) ∙ ap (λ (f : Effect). after_updates f.updates (run_all s xs f.valuation)) (sym h)
 
 -- values still fit
 either_fits : (s : Scope) (b : Bool) (e f : Effect) → HasFittingValues s e.valuation → HasFittingValues s f.valuation → HasFittingValues s (cond b e f).valuation
@@ -161,19 +161,19 @@ module _ (s : Scope) (v : Valuation) (us : List Update) (x : Statement) (arms : 
 
   -- an arm was run
   pub if-run : (items : List Arm) → items ≡ arms.items → (e : Effect) (b : Bool) → b ≡ is_some (first_true s v items) → b ≡ true
-      → e ≡ behind us (run_if_any s (first_true s v items) v) → e ≡ behind us (run s (statement_of x) v)
+      → e ≡ after_updates us (run_if_any s (first_true s v items) v) → e ≡ after_updates us (run s (statement_of x) v)
   if-run items same e b found ran h =
       let ft = first_true s v arms.items in
       let g : b ≡ is_some ft = found ∙ ap (λ as_. is_some (first_true s v as_)) same in
-      h ∙ ap (λ as_. behind us (run_if_any s (first_true s v as_) v)) same
-      ∙ ap (behind us) (is_run s v ft (last_statement last) (sym g ∙ ran) ∙ sym (run-ladder s v arms.items (last_statement last)) ∙ sym whole)
+      h ∙ ap (λ as_. after_updates us (run_if_any s (first_true s v as_) v)) same
+      ∙ ap (after_updates us) (is_run s v ft (last_statement last) (sym g ∙ ran) ∙ sym (run-ladder s v arms.items (last_statement last)) ∙ sym whole)
 
   -- none was
   pub if-not_run : (items : List Arm) → items ≡ arms.items → (e : Effect) (b : Bool) → b ≡ is_some (first_true s v items) → b ≡ false
-      → e ≡ behind us (run_if_any s (first_true s v items) v) → e ≡ record { valuation = v; updates = us }
+      → e ≡ after_updates us (run_if_any s (first_true s v items) v) → e ≡ record { valuation = v; updates = us }
   if-not_run items same e b found ran h =
       let g : is_some (first_true s v items) ≡ false = sym found ∙ ran in
-      h ∙ ap (behind us) (is_not_run s v (first_true s v items) g) ∙ behind-unchanged us v
+      h ∙ ap (after_updates us) (is_not_run s v (first_true s v items) g) ∙ after_updates-unchanged us v
 
   pub if-else : (items : List Arm) → items ≡ arms.items → (b : Bool) → b ≡ is_some (first_true s v items) → b ≡ false
       → run s (statement_of x) v ≡ run s (or_empty (last_statement last)) v
@@ -182,8 +182,8 @@ module _ (s : Scope) (v : Valuation) (us : List Update) (x : Statement) (arms : 
       let g : b ≡ is_some ft = found ∙ ap (λ as_. is_some (first_true s v as_)) same in
       whole ∙ run-ladder s v arms.items (last_statement last) ∙ is_else s v ft (last_statement last) (sym g ∙ ran)
 
-pub behind-same : (s : Scope) (e f : Effect) (x : pure.Statement) → e ≡ f → behind e.updates (run s x e.valuation) ≡ behind f.updates (run s x f.valuation)
-behind-same s e f x h = ap (λ (k : Effect). behind k.updates (run s x k.valuation)) h
+pub after_updates-same : (s : Scope) (e f : Effect) (x : pure.Statement) → e ≡ f → after_updates e.updates (run s x e.valuation) ≡ after_updates f.updates (run s x f.valuation)
+after_updates-same s e f x h = ap (λ (k : Effect). after_updates k.updates (run s x k.valuation)) h
 
 abbrev pub or_else_empty : Option (Box Statement Global) → pure.Statement
 or_else_empty o = or_empty (last_statement o)
@@ -197,7 +197,7 @@ rest_is xs i r h is =
 pub valuation_is : (e : Effect) (v : Valuation) (us : List Update) → e ≡ record { valuation = v; updates = us } → e.valuation ≡ v
 valuation_is e v us h = ap (λ (k : Effect). k.valuation) h
 
-pub turn-fits : (s : Scope) (us : List Update) (x : pure.Statement) (v : Valuation) (e : Effect) → e ≡ behind us (run s x v)
+pub turn-fits : (s : Scope) (us : List Update) (x : pure.Statement) (v : Valuation) (e : Effect) → e ≡ after_updates us (run s x v)
     → HasFittingValues s v → HasFittingValues s e.valuation
 turn-fits s us x v e h fits = subst (HasFittingValues s) (sym (ap (λ (k : Effect). k.valuation) h)) (run_fits s x v fits)
 
@@ -207,7 +207,7 @@ updates-append [] vs = refl
 updates-append (u ∷ us) vs = ap (λ ws. update_of u ∷ ws) (updates-append us vs)
 
 pub run-appended : (values : CodeValues) (old added new : List CodeUpdate) (e : Effect) → effect_at values added ≡ e → new ≡ old ++ added
-    → effect_at values new ≡ behind (updates_of old) e
+    → effect_at values new ≡ after_updates (updates_of old) e
 run-appended values old added new e h is =
     let updates = ap updates_of is ∙ updates-append old added ∙ ap (λ (f : Effect). updates_of old ++ f.updates) h in
     λ i. record { valuation = (h i).valuation; updates = updates i }

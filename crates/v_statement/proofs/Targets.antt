@@ -6,7 +6,7 @@ use Rattle.wb_values.specs.Value.{Name, Valuation}
 use Rattle.verilog_trees.specs.Syntax as pure
 use Rattle.verilog_trees.specs.Syntax.{Select, index, part, part_up, part_down, Selects, whole, one, two, place, joined, no_targets, target}
 use Rattle.verilog_meaning.specs.Expression.{Scope, is_memory, object_width, selects_width, select_index, select_bits, no_values, assigned_value}
-use Rattle.verilog_meaning.specs.Statement.{Place, Update, written, variable, indexed_cell, all_bits, place_of, places, all_places, places_width, target_width, targets_width}
+use Rattle.verilog_meaning.specs.Statement.{Place, Update, written, variable_cell, indexed_cell, all_bits, named_place, places, all_places, places_width, target_width, targets_width}
 use Rattle.v_syntax.specs.declared.tree.Target.{Target, Joined, Row_of-Target, end_of-Target, more_of-Target, items-the_row-Target, items_hidden-the_row-Target-0}
 use Rattle.v_syntax.specs.declared.tree.Target.TheBlock.{hidden-the_row-Target-0}
 use Rattle.v_syntax.specs.Tree.{target_of, targets_of}
@@ -21,7 +21,7 @@ pub target_of-Joined : (v : Vec Target Global) → target_of (Joined v) ≡ join
 target_of-Joined v = ap joined (targets-row _ (hidden-the_row-Target-0 v) ∙ ap target_list (items_hidden-the_row-Target-0 v))
 
 -- the places of a target have as many bits as the target
-place-width : (s : Scope) (v : Valuation) (n : Name) (x : Selects) → (place_of s v n x).bits.count ≡ selects_width s (s n) x
+place-width : (s : Scope) (v : Valuation) (n : Name) (x : Selects) → (named_place s v n x).bits.count ≡ selects_width s (s n) x
 place-width s v n whole = refl
 place-width s v n (one x) = either (is_memory (s n))
   where
@@ -32,7 +32,7 @@ place-width s v n (one x) = either (is_memory (s n))
     bits-count (part_down b m) = refl
 
     either : (b : Bool) → (cond {A = Place} b (record { of_name = n; cell = indexed_cell (s n) (select_index s v x); bits = all_bits (s n) })
-        (record { of_name = n; cell = variable; bits = select_bits s v (s n) x })).bits.count ≡ cond b (object_width (s n)) (select_bits s no_values (s n) x).count
+        (record { of_name = n; cell = variable_cell; bits = select_bits s v (s n) x })).bits.count ≡ cond b (object_width (s n)) (select_bits s no_values (s n) x).count
     either true = refl
     either false = bits-count x
 place-width s v n (two x (index i)) = refl
@@ -46,7 +46,7 @@ width-append (p ∷ ps) qs = ap (λ n. p.bits.count + n) (width-append ps qs) �
 
 mutual
   pub places-width : (s : Scope) (v : Valuation) (t : pure.Target) → places_width (places s v t) ≡ target_width s t
-  places-width s v (place n x) = add-zero (place_of s v n x).bits.count ∙ place-width s v n x
+  places-width s v (place n x) = add-zero (named_place s v n x).bits.count ∙ place-width s v n x
   places-width s v (joined ts) = all_places-width s v ts
 
   pub all_places-width : (s : Scope) (v : Valuation) (ts : pure.Targets) → places_width (all_places s v ts) ≡ targets_width s ts

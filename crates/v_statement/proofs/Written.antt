@@ -10,7 +10,7 @@ use Rattle.std.proofs.lemmas.Slice.Eq.{bytes_eq-Decides}
 use Rattle.std.specs.Option.{SomeIff}
 use Rattle.wb_values.specs.Value.{Name, Value, number, words, same_name, as_number, as_words, Valuation, with_value}
 use Rattle.verilog_meaning.specs.Expression.{Scope, Object, object_width, Bits}
-use Rattle.verilog_meaning.specs.Statement.{Cell, variable, word_cell, no_cell, Place, with_bits_at, with_bits, written_cell, written_place, written, places_width}
+use Rattle.verilog_meaning.specs.Statement.{Cell, variable_cell, word_cell, no_cell, Place, with_bits_at, with_bits, written_cell, written_place, written, places_width}
 use Rattle.v_value.specs.Narrow.{FitsObject, HasFittingValues}
 use Rattle.v_statement.specs.declared.place.Place.{Place as CodePlace}
 use Rattle.v_statement.specs.Places.{place_of, places_of}
@@ -42,7 +42,7 @@ cut_at w old (negsuc k) n y =
     (λ above. low_part y n (k + 1) above) (cases_lt n (k + 1)))
 
 cut_cell : (o : Object) (old : Value) (c : Cell) (b : Bits) (y : ℕ) → written_cell o old c b (y % 2 ^ b.count) ≡ written_cell o old c b y
-cut_cell o old variable b y = ap number (cut_at (object_width o) (as_number old) b.low b.count y)
+cut_cell o old variable_cell b y = ap number (cut_at (object_width o) (as_number old) b.low b.count y)
 cut_cell o old (word_cell k) b y = ap (λ z. words (slice_set (as_words old) k z)) (cut_at (object_width o) (slice_index (as_words old) k) b.low b.count y)
 cut_cell o old no_cell b y = refl
 
@@ -77,7 +77,7 @@ word_fits w (suc k) zero y (x ∷ xs) h b = h zero
 word_fits w (suc k) (suc j) y (x ∷ xs) h b = word_fits w k j y xs (λ i. h (suc i)) b
 
 cell_fits : (o : Object) (old : Value) (c : Cell) (b : Bits) (y : ℕ) → FitsObject o old → FitsObject o (written_cell o old c b y)
-cell_fits o old variable b y h = (bits_fit (object_width o) (as_number old) b.low b.count y, λ k. pow_pos (object_width o))
+cell_fits o old variable_cell b y h = (bits_fit (object_width o) (as_number old) b.low b.count y, λ k. pow_pos (object_width o))
 cell_fits o old (word_cell k) b y h = (
   pow_pos (object_width o),
   λ j. word_fits (object_width o) k j (with_bits (object_width o) (slice_index (as_words old) k) b y) (as_words old) h.1

@@ -52,9 +52,9 @@ matching_from s v kind w signed x k [] d = d
 matching_from s v kind w signed x k (i ∷ items) d = match_or s v kind w signed x k i d (λ e. matching_from s v kind w signed x (k + 1) items e)
 
 -- the statement of an item
-abbrev pub statement_in : CaseItem → pure.Statement
-statement_in (ValuesOf es x) = statement_of x
-statement_in (Default x) = statement_of x
+abbrev pub item_statement : CaseItem → pure.Statement
+item_statement (ValuesOf es x) = statement_of x
+item_statement (Default x) = statement_of x
 
 abbrev pub AreNarrowValues : Scope → CaseItem → Type 0
 AreNarrowValues s (ValuesOf es x) = AreNarrow s (expressions_of es.items)

@@ -16,7 +16,7 @@ bits_of b =
     record { low = cond b.downward (integer_at b.from -ℤ (pos b.count -ℤ pos 1)) (integer_at b.from); count = b.count }
 
 abbrev pub cell_of : Cell → meaning.Cell
-cell_of Variable = meaning.variable
+cell_of Variable = meaning.variable_cell
 cell_of (Word k) = meaning.word_cell k
 cell_of Nowhere = meaning.no_cell
 

@@ -29,8 +29,8 @@ abbrev pub ascending_byte : Object
 ascending_byte = record byte { left = 0; right = 7 }
 
 -- reg [7:0] a, b, q; reg [0:7] w; reg k; reg [7:0] m [0:4];
-abbrev pub names : Scope
-names =
+abbrev pub small_names : Scope
+small_names =
     scope_of
     ((a, byte) ∷ (b, byte) ∷ (q, byte) ∷ (w, ascending_byte) ∷ (k, record undeclared { is_declared = true }) ∷ (m, record byte { addresses = Some (0, 4) }) ∷ [])
 

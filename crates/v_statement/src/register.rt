@@ -1,7 +1,7 @@
 //! What the clocked blocks of one module leave at the clock's edge.
 ghost use Rattle.std.specs.Prelude.{◌≡◌, ◌≤◌, ◌++◌, ◌∷◌, [], OnOk, OnErr, map};
 ghost use Rattle.verilog_meaning.specs.Statement.{run, with_updates};
-ghost use Rattle.verilog_meaning.specs.Register.{is_edge, has_edge, is_clocked, clocked_blocks, updates_of as updates_of_blocks, after_edge};
+ghost use Rattle.verilog_meaning.specs.Register.{is_edge, has_edge, is_clocked, clocked_blocks, updates_of_blocks, after_edge};
 ghost use Rattle.v_value.specs.Scope.{scope_at, valuation_at};
 ghost use Rattle.v_syntax.specs.Source.{edge_of, events_of, item_of};
 ghost use Rattle.v_statement.specs.Places.{updates_of};

@@ -2,13 +2,13 @@
 ghost use Rattle.std.specs.Prelude.{◌≡◌, ◌≤◌, ◌<◌, ◌^◌, ◌++◌, ◌∷◌, [], IfOk, OnOk, OnErr, is_some};
 ghost use Rattle.verilog_trees.specs.Syntax.{case as meaning_case};
 ghost use Rattle.verilog_meaning.specs.Expression.{assigned_value};
-ghost use Rattle.verilog_meaning.specs.Statement.{places, written, target_width, run, run_all, behind};
+ghost use Rattle.verilog_meaning.specs.Statement.{places, written, target_width, run, run_all, after_updates};
 ghost use Rattle.v_value.specs.Scope.{scope_at, valuation_at};
 ghost use Rattle.v_syntax.specs.Tree.{tree_of, target_of, statement_of, case_kind_of};
 ghost use Rattle.v_statement.specs.Places.{places_of as places_view, update_of as update_view, updates_of};
 ghost use Rattle.v_value.specs.Narrow.{IsNarrow};
 ghost use Rattle.v_statement.specs.Statements.{IsReadyFor, IsNarrowTarget, IsNarrowStatement, AreNarrowStatements, AreNarrowItems, statement_list};
-ghost use Rattle.v_statement.specs.Effects.{effect_at, first_true, run_if_any, AreNarrowArms, item_list, statement_in};
+ghost use Rattle.v_statement.specs.Effects.{effect_at, first_true, run_if_any, AreNarrowArms, item_list, item_statement};
 
 use crate::choice::chosen_item;
 use crate::copy::copied;
@@ -120,7 +120,7 @@ pub fn run<'s>(
     requires ready { IsReadyFor (scope_at scope.now) (valuation_at values.old.entries.items) }
     requires narrow { IsNarrowStatement (scope_at scope.now) (statement_of statement.now) }
     ensures effect { OnOk result (effect_at values.new updates.new.items
-        ≡ behind (updates_of updates.old.items)
+        ≡ after_updates (updates_of updates.old.items)
         (run (scope_at scope.now) (statement_of statement.now) (valuation_at values.old.entries.items))) }
     ensures values_kept { OnErr result (values.new.entries.items ≡ values.old.entries.items) }
     ensures updates_kept { OnErr result (updates.new.items ≡ updates.old.items) }
@@ -145,7 +145,7 @@ pub(crate) fn run_statement<'s>(
     requires ready { IsReadyFor (scope_at scope.now) (valuation_at values.old.entries.items) }
     requires narrow { IsNarrowStatement (scope_at scope.now) (statement_of statement.now) }
     ensures { OnOk result (effect_at values.new updates.new.items
-        ≡ behind (updates_of updates.old.items)
+        ≡ after_updates (updates_of updates.old.items)
         (run (scope_at scope.now) (statement_of statement.now) (valuation_at values.old.entries.items))) }
 {
     match statement {
@@ -182,7 +182,7 @@ fn run_all<'s>(
     requires ready { IsReadyFor (scope_at scope.now) (valuation_at values.old.entries.items) }
     requires narrow { AreNarrowStatements (scope_at scope.now) (statement_list statements.now) }
     ensures { OnOk result (effect_at values.new updates.new.items
-        ≡ behind (updates_of updates.old.items)
+        ≡ after_updates (updates_of updates.old.items)
         (run_all (scope_at scope.now) (statement_list statements.now) (valuation_at values.old.entries.items))) }
 {
     for statement in statements {
@@ -205,7 +205,7 @@ fn run_arms<'s>(
     ensures found { IfOk result (λ ran. ran
         ≡ is_some (first_true (scope_at scope.now) (valuation_at values.old.entries.items) arms.now)) }
     ensures effect { OnOk result (effect_at values.new updates.new.items
-        ≡ behind (updates_of updates.old.items)
+        ≡ after_updates (updates_of updates.old.items)
         (run_if_any (scope_at scope.now) (first_true (scope_at scope.now) (valuation_at values.old.entries.items) arms.now)
         (valuation_at values.old.entries.items))) }
 {
@@ -233,7 +233,7 @@ fn run_case<'s>(
     requires narrow { IsNarrow (scope_at scope.now) (tree_of expression.now) }
     requires items_narrow { AreNarrowItems (scope_at scope.now) (item_list items.now) }
     ensures { OnOk result (effect_at values.new updates.new.items
-        ≡ behind (updates_of updates.old.items)
+        ≡ after_updates (updates_of updates.old.items)
         (run (scope_at scope.now) (meaning_case (case_kind_of kind) (tree_of expression.now) (item_list items.now))
         (valuation_at values.old.entries.items))) }
 {
@@ -253,10 +253,10 @@ fn run_item<'s>(
     updates: &mut Vec<Update<'s>>,
 ) -> Result<(), AllocError>
     requires ready { IsReadyFor (scope_at scope.now) (valuation_at values.old.entries.items) }
-    requires narrow { IsNarrowStatement (scope_at scope.now) (statement_in item.now) }
+    requires narrow { IsNarrowStatement (scope_at scope.now) (item_statement item.now) }
     ensures { OnOk result (effect_at values.new updates.new.items
-        ≡ behind (updates_of updates.old.items)
-        (run (scope_at scope.now) (statement_in item.now) (valuation_at values.old.entries.items))) }
+        ≡ after_updates (updates_of updates.old.items)
+        (run (scope_at scope.now) (item_statement item.now) (valuation_at values.old.entries.items))) }
 {
     match item {
         CaseItem::Values(_, statement) => run_statement(alloc, scope, statement, values, updates),

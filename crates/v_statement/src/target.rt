@@ -1,7 +1,7 @@
 //! The places that the targets of assignments mean.
 ghost use Rattle.std.specs.Prelude.{◌≡◌, ◌≤◌, ◌++◌, [], ◌∷◌, OnOk};
 ghost use Rattle.verilog_meaning.specs.Expression.{no_values, select_index, select_bits, selects_width};
-ghost use Rattle.verilog_meaning.specs.Statement.{place_of as meaning_place, places, all_places, places_width, target_width, targets_width};
+ghost use Rattle.verilog_meaning.specs.Statement.{named_place, places, all_places, places_width, target_width, targets_width};
 ghost use Rattle.v_value.specs.Scope.{object_of, scope_at, valuation_at};
 ghost use Rattle.v_syntax.specs.Tree.{selects_of, select_of, target_of};
 ghost use Rattle.v_value.specs.Index.{integer_at};
@@ -73,7 +73,7 @@ fn place_of<'s>(
     requires narrow { AreNarrowSelects (scope_at scope.now) (selects_of selects.now) }
     requires at_most_128 { selects_width (scope_at scope.now) (scope_at scope.now name.now) (selects_of selects.now) ≤ 128 }
     ensures { place_of result
-        ≡ meaning_place (scope_at scope.now) (valuation_at values.now) name.now (selects_of selects.now) }
+        ≡ named_place (scope_at scope.now) (valuation_at values.now) name.now (selects_of selects.now) }
 {
     let object = scope.object(name);
     let (cell, bits) = match selects {
@@ -125,7 +125,7 @@ fn add_place<'s>(
     requires narrow { AreNarrowSelects (scope_at scope.now) (selects_of selects.now) }
     requires at_most_128 { selects_width (scope_at scope.now) (scope_at scope.now name.now) (selects_of selects.now) ≤ 128 }
     ensures { OnOk result (places_of found.new.items
-        ≡ places_of found.old.items ++ meaning_place (scope_at scope.now) (valuation_at values.now) name.now (selects_of selects.now) ∷ []) }
+        ≡ places_of found.old.items ++ named_place (scope_at scope.now) (valuation_at values.now) name.now (selects_of selects.now) ∷ []) }
 {
     found.push(place_of(scope, values, name, selects))?;
     Ok(())

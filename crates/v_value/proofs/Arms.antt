@@ -20,7 +20,7 @@ use Rattle.v_syntax.specs.declared.tree.Expression.{Expression, Number, Name, Co
 use Rattle.v_syntax.specs.Tree.{tree_of, selects_of, all_prefixed, expressions_of}
 use Rattle.v_value.specs.Narrow.{IsWidth, HasNarrowObjects, IsNarrow, AreNarrow, AreSelectsNarrow}
 use Rattle.v_value.specs.Links.{has_reduction, AreLinksNarrow, AreTestsNarrow, AreChoicesNarrow}
-use Rattle.v_value.specs.Evaluation.{width_at, sign_at, value_at, self_at, count_at, selects_width_at, selects_at, is_logical, prefixes_value, links_value, AreLinksWithin, tests_value, context_width, context_sign, choices_value, AreChoicesWithin, parts_width, parts_value}
+use Rattle.v_value.specs.Evaluation.{width_at, sign_at, value_at, self_at, count_at, selects_width_at, selected_at, is_logical, prefixes_value, links_value, AreLinksWithin, tests_value, context_width, context_sign, choices_value, AreChoicesWithin, parts_width, parts_value}
 use Rattle.v_syntax.proofs.Trees.{tree_of-Concatenation, tree_of-Replication, tree_of-Binary, tree_of-Test, tree_of-Conditional}
 use Rattle.v_value.proofs.Narrows as narrow
 use Rattle.v_value.proofs.Narrows.{narrow_width}
@@ -56,8 +56,8 @@ module _ (s : Scope) (v : Valuation) (e : Expression) (w : ℕ) (t : Bool) (r : 
   unfolding width_at selects_width_at
   name-within m x i = subst (λ y. width_at s (tree_of y) ≤ w) i h
 
-  pub name-value : (m : Bor (List ℕ)) (x : Selects) → e ≡ Name m x → (u y : ℕ) → u ≡ selects_width_at s m.now (selects_of x) → y ≡ selects_at s v m.now (selects_of x) → r ≡ widened t u w y → r ≡ value_at s v (tree_of e) w t
-  unfolding value_at selects_width_at selects_at
+  pub name-value : (m : Bor (List ℕ)) (x : Selects) → e ≡ Name m x → (u y : ℕ) → u ≡ selects_width_at s m.now (selects_of x) → y ≡ selected_at s v m.now (selects_of x) → r ≡ widened t u w y → r ≡ value_at s v (tree_of e) w t
+  unfolding value_at selects_width_at selected_at
   name-value m x i u y j k g =
       g ∙ ap (λ a. widened t a w y) j ∙ ap (λ b. widened t (selects_width_at s m.now (selects_of x)) w b) k ∙ sym (ap (λ z. value_at s v (tree_of z) w t) i)
 
@@ -150,15 +150,15 @@ module _ (s : Scope) (v : Valuation) (e : Expression) (w : ℕ) (t : Bool) (r : 
       subst (λ z. z ≤ w) (sym (repeated-is b a i x j m is_m es k u is_u)) (subst (λ z. z ≤ w) (ap (meaning.width_of s) (repeated-tree b a i) ∙ width-repeated s (tree_of b.value) a.items) h)
 
   pub copies-value : (b : Box Expression Global) (a : Vec Expression Global) → e ≡ Replication b a → (x : Expression) → x ≡ b.value → (m : ℕ) → m ≡ count_at s (tree_of x) → (es : List Expression) → es ≡ a.items → (u y : ℕ) → u ≡ parts_width s es → y ≡ parts_value s v es →
-      (p q : ℕ) → p ≡ m * u → q ≡ meaning.repeated m u y → r ≡ widened t p w q → r ≡ value_at s v (tree_of e) w t
+      (p q : ℕ) → p ≡ m * u → q ≡ meaning.side_by_side m u y → r ≡ widened t p w q → r ≡ value_at s v (tree_of e) w t
   copies-value b a i x j m is_m es k u y is_u is_y p q is_p is_q g =
       let own_m : m ≡ count_at s (tree_of b.value) = is_m ∙ ap (λ z. count_at s (tree_of z)) j in
       let own_u : u ≡ parts_width s a.items = is_u ∙ ap (parts_width s) k in
       let own_y : y ≡ parts_value s v a.items = is_y ∙ ap (parts_value s v) k in
       g ∙ ap (λ z. widened t z w q) is_p ∙ ap (widened t (m * u) w) is_q
-      ∙ ap (λ z. widened t (z * u) w (meaning.repeated z u y)) own_m
-      ∙ ap (λ z. widened t (count_at s (tree_of b.value) * z) w (meaning.repeated (count_at s (tree_of b.value)) z y)) own_u
-      ∙ ap (λ z. widened t (count_at s (tree_of b.value) * parts_width s a.items) w (meaning.repeated (count_at s (tree_of b.value)) (parts_width s a.items) z)) own_y
+      ∙ ap (λ z. widened t (z * u) w (meaning.side_by_side z u y)) own_m
+      ∙ ap (λ z. widened t (count_at s (tree_of b.value) * z) w (meaning.side_by_side (count_at s (tree_of b.value)) z y)) own_u
+      ∙ ap (λ z. widened t (count_at s (tree_of b.value) * parts_width s a.items) w (meaning.side_by_side (count_at s (tree_of b.value)) (parts_width s a.items) z)) own_y
       ∙ sym (ap (λ z. value_at s v z w t) (repeated-tree b a i) ∙ value-repeated s v (tree_of b.value) a.items w t)
 
   -- operators before an operand

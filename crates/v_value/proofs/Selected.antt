@@ -9,7 +9,7 @@ use Rattle.v_syntax.specs.declared.tree.Select.{Select}
 use Rattle.v_syntax.specs.declared.tree.Selects.{Selects, Whole, One, Two}
 use Rattle.v_syntax.specs.Tree.{select_of, selects_of}
 use Rattle.v_value.specs.Narrow.{IsWidth, IsSelectNarrow, AreSelectsNarrow}
-use Rattle.v_value.specs.Evaluation.{named_width, named_value, selects_width_at, selects_at, index_at, bits_at, taken_at}
+use Rattle.v_value.specs.Evaluation.{named_width, named_value, selects_width_at, selected_at, index_at, bits_at, taken_at}
 
 -- How many bits a select takes is the same of each object, and by all values.
 pub count-is : (s : Scope) (v : Valuation) (o : Object) (x : pure.Select) → (meaning.select_bits s v o x).count ≡ taken_at s x
@@ -70,9 +70,9 @@ module _ (s : Scope) (v : Valuation) (n : Name) (x : Selects) (h : AreSelectsNar
   unfolding selects_width_at
   whole-width i r g = g ∙ sym (ap (λ y. selects_width_at s n (selects_of y)) i)
 
-  pub whole-value : x ≡ Whole → (r : ℕ) → r ≡ named_value s v n → r ≡ selects_at s v n (selects_of x)
-  unfolding selects_at
-  whole-value i r g = g ∙ sym (ap (λ y. selects_at s v n (selects_of y)) i)
+  pub whole-value : x ≡ Whole → (r : ℕ) → r ≡ named_value s v n → r ≡ selected_at s v n (selects_of x)
+  unfolding selected_at
+  whole-value i r g = g ∙ sym (ap (λ y. selected_at s v n (selects_of y)) i)
 
   -- one select, of an object o
   module _ (y : Select) (i : x ≡ One y) (o : Object) (is_o : o ≡ s n) where
@@ -85,12 +85,12 @@ module _ (s : Scope) (v : Valuation) (n : Name) (x : Selects) (h : AreSelectsNar
     word-width m r g =
         g ∙ sym (ap (λ z. selects_width_at s n (selects_of z)) i ∙ one-word s (s n) (select_of y) (sym (ap is_memory is_o) ∙ m))
 
-    pub word-value : is_memory o ≡ true → (k : ℤ) → k ≡ index_at s v (select_of y) → (r : ℕ) → r ≡ meaning.word_of (s n) k (v n) → r ≡ selects_at s v n (selects_of x)
-    unfolding selects_at index_at
+    pub word-value : is_memory o ≡ true → (k : ℤ) → k ≡ index_at s v (select_of y) → (r : ℕ) → r ≡ meaning.indexed_word (s n) k (v n) → r ≡ selected_at s v n (selects_of x)
+    unfolding selected_at index_at
     word-value m k is_k r g =
-        g ∙ ap (λ z. meaning.word_of (s n) z (v n)) is_k
-        ∙ sym (ap (λ z. selects_at s v n (selects_of z)) i
-        ∙ ap (λ b. cond b (meaning.word_of (s n) (meaning.select_index s v (select_of y)) (v n)) (meaning.bits_of (meaning.whole_value (s n) (v n)) (meaning.select_bits s v (s n) (select_of y)))) (sym (ap is_memory is_o) ∙ m))
+        g ∙ ap (λ z. meaning.indexed_word (s n) z (v n)) is_k
+        ∙ sym (ap (λ z. selected_at s v n (selects_of z)) i
+        ∙ ap (λ b. cond b (meaning.indexed_word (s n) (meaning.select_index s v (select_of y)) (v n)) (meaning.bits_taken (meaning.whole_value (s n) (v n)) (meaning.select_bits s v (s n) (select_of y)))) (sym (ap is_memory is_o) ∙ m))
 
     -- of bits
     pub one-width : is_memory o ≡ false → IsWidth (taken_at s (select_of y))
@@ -104,12 +104,12 @@ module _ (s : Scope) (v : Valuation) (n : Name) (x : Selects) (h : AreSelectsNar
         g ∙ count-taken s v o (select_of y) b is_b
         ∙ sym (ap (λ z. selects_width_at s n (selects_of z)) i ∙ one-taken s (s n) (select_of y) (sym (ap is_memory is_o) ∙ m))
 
-    pub part-value : is_memory o ≡ false → (b : Bits) → b ≡ bits_at s v o (select_of y) → (a : ℕ) → a ≡ named_value s v n → (r : ℕ) → r ≡ meaning.bits_of a b → r ≡ selects_at s v n (selects_of x)
-    unfolding selects_at bits_at
+    pub part-value : is_memory o ≡ false → (b : Bits) → b ≡ bits_at s v o (select_of y) → (a : ℕ) → a ≡ named_value s v n → (r : ℕ) → r ≡ meaning.bits_taken a b → r ≡ selected_at s v n (selects_of x)
+    unfolding selected_at bits_at
     part-value m b is_b a is_a r g =
-        g ∙ ap (λ z. meaning.bits_of z b) is_a ∙ ap (meaning.bits_of (meaning.whole_value (s n) (v n))) (is_b ∙ ap (λ z. meaning.select_bits s v z (select_of y)) is_o)
-        ∙ sym (ap (λ z. selects_at s v n (selects_of z)) i
-        ∙ ap (λ b. cond b (meaning.word_of (s n) (meaning.select_index s v (select_of y)) (v n)) (meaning.bits_of (meaning.whole_value (s n) (v n)) (meaning.select_bits s v (s n) (select_of y)))) (sym (ap is_memory is_o) ∙ m))
+        g ∙ ap (λ z. meaning.bits_taken z b) is_a ∙ ap (meaning.bits_taken (meaning.whole_value (s n) (v n))) (is_b ∙ ap (λ z. meaning.select_bits s v z (select_of y)) is_o)
+        ∙ sym (ap (λ z. selected_at s v n (selects_of z)) i
+        ∙ ap (λ b. cond b (meaning.indexed_word (s n) (meaning.select_index s v (select_of y)) (v n)) (meaning.bits_taken (meaning.whole_value (s n) (v n)) (meaning.select_bits s v (s n) (select_of y)))) (sym (ap is_memory is_o) ∙ m))
 
   -- bits of a word of a memory
   module _ (z y : Select) (i : x ≡ Two z y) where
@@ -129,9 +129,9 @@ module _ (s : Scope) (v : Valuation) (n : Name) (x : Selects) (h : AreSelectsNar
       both-width r g =
           g ∙ count-taken s v o (select_of y) b is_b ∙ sym (ap (λ a. selects_width_at s n (selects_of a)) i ∙ two-taken s (s n) (select_of z) (select_of y))
 
-      pub both-value : (k : ℤ) → k ≡ index_at s v (select_of z) → (a : ℕ) → a ≡ meaning.word_of (s n) k (v n) → (r : ℕ) → r ≡ meaning.bits_of a b → r ≡ selects_at s v n (selects_of x)
-      unfolding selects_at index_at bits_at
+      pub both-value : (k : ℤ) → k ≡ index_at s v (select_of z) → (a : ℕ) → a ≡ meaning.indexed_word (s n) k (v n) → (r : ℕ) → r ≡ meaning.bits_taken a b → r ≡ selected_at s v n (selects_of x)
+      unfolding selected_at index_at bits_at
       both-value k is_k a is_a r g =
-          g ∙ ap (λ c. meaning.bits_of c b) (is_a ∙ ap (λ c. meaning.word_of (s n) c (v n)) is_k)
-          ∙ ap (meaning.bits_of (meaning.word_of (s n) (meaning.select_index s v (select_of z)) (v n))) (is_b ∙ ap (λ c. meaning.select_bits s v c (select_of y)) is_o)
-          ∙ sym (ap (λ a. selects_at s v n (selects_of a)) i)
+          g ∙ ap (λ c. meaning.bits_taken c b) (is_a ∙ ap (λ c. meaning.indexed_word (s n) c (v n)) is_k)
+          ∙ ap (meaning.bits_taken (meaning.indexed_word (s n) (meaning.select_index s v (select_of z)) (v n))) (is_b ∙ ap (λ c. meaning.select_bits s v c (select_of y)) is_o)
+          ∙ sym (ap (λ a. selected_at s v n (selects_of a)) i)

@@ -235,12 +235,12 @@ unfolding count_at
 width-repeated s k es = ap (λ w. meaning.natural_of (meaning.integer_of s meaning.no_values k) * w) (widths-parts s es)
 
 pub value-repeated : (s : Scope) (v : Valuation) (k : pure.Expression) (es : List Expression) (w : ℕ) (t : Bool) →
-    value_at s v (replication k (expressions_of es)) w t ≡ widened t (count_at s k * parts_width s es) w (meaning.repeated (count_at s k) (parts_width s es) (parts_value s v es))
+    value_at s v (replication k (expressions_of es)) w t ≡ widened t (count_at s k * parts_width s es) w (meaning.side_by_side (count_at s k) (parts_width s es) (parts_value s v es))
 unfolding value_at count_at
 value-repeated s v k es w t =
     let n : ℕ = meaning.natural_of (meaning.integer_of s meaning.no_values k) in
-    ap (λ u. widened t (n * u) w (meaning.repeated n u (meaning.joined_value s v (expressions_of es)))) (widths-parts s es)
-    ∙ ap (λ y. widened t (n * parts_width s es) w (meaning.repeated n (parts_width s es) y)) (joined-parts s v es)
+    ap (λ u. widened t (n * u) w (meaning.side_by_side n u (meaning.joined_value s v (expressions_of es)))) (widths-parts s es)
+    ∙ ap (λ y. widened t (n * parts_width s es) w (meaning.side_by_side n (parts_width s es) y)) (joined-parts s v es)
 
 pub some_left : (m u : ℕ) → 1 ≤ m * u → 1 ≤ m
 some_left zero u h = absurd (omega (arith, h, zero-mul u))

@@ -45,8 +45,8 @@ named_value s v n = meaning.whole_value (s n) (v n)
 unfoldable pub selects_width_at : Scope → Name → pure.Selects → ℕ
 selects_width_at s n x = meaning.selects_width s (s n) x
 
-unfoldable pub selects_at : Scope → Valuation → Name → pure.Selects → ℕ
-selects_at s v n x = meaning.selected s v (s n) (v n) x
+unfoldable pub selected_at : Scope → Valuation → Name → pure.Selects → ℕ
+selected_at s v n x = meaning.selected s v (s n) (v n) x
 
 unfoldable pub index_at : Scope → Valuation → pure.Select → ℤ
 index_at s v x = meaning.select_index s v x
@@ -130,7 +130,7 @@ abbrev pub context_sign : Scope → Bool → List TestLink → Bool → Bool
 context_sign s own [] t = t
 context_sign s own (l ∷ ls) t = cond (is_logical l.operator) own (own && sign_at s (tree_of l.operand))
 
--- the value behind the first true condition
+-- the value after the first true condition
 abbrev pub choices_value : Scope → Valuation → List Choice → ℕ → Bool → Option ℕ
 choices_value s v [] w signed = None
 choices_value s v (c ∷ cs) w signed =

@@ -43,7 +43,7 @@ abbrev pub choices_signed : meaning.Scope → List Choice → Bool
 choices_signed s [] = true
 choices_signed s (c ∷ cs) = meaning.sign_of s (tree_of c.value) && choices_signed s cs
 
--- the width of a chain behind an operand of width w
+-- the width of a chain after an operand of width w
 abbrev pub links_width : meaning.Scope → ℕ → List BinaryLink → ℕ
 links_width s w [] = w
 links_width s w (l ∷ ls) = links_width s (cond (leaves_to_left l.operator) w (max w (meaning.width_of s (tree_of l.operand)))) ls

@@ -30,8 +30,8 @@ abbrev pub no_operands : Valuation
 no_operands = valuation_of []
 
 -- 1
-abbrev pub one : Expression
-one = number (record { width = 32; sized = false; signed = true; value = 1; unknown = 0; wild = 0; has_unknown = false; has_wild = false })
+abbrev pub plain_one : Expression
+plain_one = number (record { width = 32; sized = false; signed = true; value = 1; unknown = 0; wild = 0; has_unknown = false; has_wild = false })
 
 -- 8'd1
 abbrev pub unsigned_one : Expression
@@ -63,20 +63,20 @@ abbrev pub copies_of : Expression → Expression → Expression
 copies_of n x = replication n (expression x no_expressions)
 
 -- (a + b) >> 1
-abbrev pub half_sum : Expression
-half_sum = shift right (binary add (name a whole) (name b whole)) one
+abbrev pub shifted_sum : Expression
+shifted_sum = shift right (binary add (name a whole) (name b whole)) plain_one
 
 -- s >>> 1
 abbrev pub half : Expression
-half = shift arithmetic_right (name s whole) one
+half = shift arithmetic_right (name s whole) plain_one
 
 -- {s} >>> 1
 abbrev pub half_part : Expression
-half_part = shift arithmetic_right (concatenation (expression (name s whole) no_expressions)) one
+half_part = shift arithmetic_right (concatenation (expression (name s whole) no_expressions)) plain_one
 
 -- -x < 1
 abbrev pub minus_is_below : Expression → Expression
-minus_is_below x = comparison less (unary minus x) one
+minus_is_below x = comparison less (unary minus x) plain_one
 
 -- v of bits [7:0], u of bits [0:7], a memory m of words [0:1] with bits [7:0], and a parameter p of 8 bits
 abbrev v : Name
@@ -109,7 +109,7 @@ abbrev pub of_p : Select → Expression
 of_p x = name p (one_select x)
 
 abbrev pub of_word : Select → Expression
-of_word x = name m (two_selects (index one) x)
+of_word x = name m (two_selects (index plain_one) x)
 
 -- [h:l], [x +: n] and [x -: n]
 abbrev pub part_of : ℕ → ℕ → Select
@@ -123,4 +123,4 @@ down_from x n = part_down x (byte_of n)
 
 -- -1
 abbrev pub minus_one : Expression
-minus_one = unary minus one
+minus_one = unary minus plain_one

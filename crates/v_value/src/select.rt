@@ -149,7 +149,7 @@ pub fn bits_of(value: u128, span: Span) -> Word
     requires some_bits { 1 ≤ span.count }
     requires at_most_128 { span.count ≤ 128 }
     ensures width { result.width ≡ span.count }
-    ensures value { result.value ≡ meaning.bits_of value (span_of span) }
+    ensures value { result.value ≡ meaning.bits_taken value (span_of span) }
 {
     let place = span.place.magnitude;
     let back = u128::from(span.back);

@@ -7,7 +7,7 @@ ghost use Rattle.v_value.specs.Scope.{scope_at, valuation_at};
 ghost use Rattle.v_syntax.specs.Tree.{tree_of, selects_of, expressions_of};
 ghost use Rattle.v_value.specs.Narrow.{IsWidth, IsNarrow, AreNarrow, AreSelectsNarrow, HasNarrowObjects, HasFittingValues, IsReady};
 ghost use Rattle.v_value.specs.Links.{has_reduction, leaves_to_left, AreLinksNarrow, AreTestsNarrow, AreChoicesNarrow};
-ghost use Rattle.v_value.specs.Evaluation.{named_width, named_value, selects_width_at, selects_at, count_at, width_at, value_at, self_at, links_value, AreLinksWithin, applied, run_width, run_value, prefixes_value, is_logical, context_width, context_sign, said, compared_said, tests_value, sign_at, choices_value, AreChoicesWithin, parts_value, parts_width};
+ghost use Rattle.v_value.specs.Evaluation.{named_width, named_value, selects_width_at, selected_at, count_at, width_at, value_at, self_at, links_value, AreLinksWithin, applied, run_width, run_value, prefixes_value, is_logical, context_width, context_sign, said, compared_said, tests_value, sign_at, choices_value, AreChoicesWithin, parts_value, parts_width};
 
 use crate::arithmetic::natural;
 use crate::scope::{Entry, Scope, number_at, word_at};
@@ -37,7 +37,7 @@ fn named_value(scope: &Scope<'_>, values: &[Entry<'_>], name: &str) -> Word
 
 /// The word of a memory with this address, 0 out of range.
 fn addressed_word(values: &[Entry<'_>], name: &str, addresses: (u32, u32), address: Integer) -> u128
-    ensures { result ≡ meaning.word_at (meaning.word_number addresses (integer_at address)) (valuation_at values.now name.now) }
+    ensures { result ≡ meaning.word_or_zero (meaning.word_number addresses (integer_at address)) (valuation_at values.now name.now) }
 {
     match word_number(addresses, address) {
         Some(number) => word_at(values, name, number),
@@ -49,7 +49,7 @@ fn addressed_word(values: &[Entry<'_>], name: &str, addresses: (u32, u32), addre
 fn memory_word(scope: &Scope<'_>, values: &[Entry<'_>], name: &str, address: Integer) -> Word
     requires ready { IsReady (scope_at scope.now) (valuation_at values.now) }
     ensures width { result.width ≡ named_width (scope_at scope.now) name.now }
-    ensures value { result.value ≡ meaning.word_of (scope_at scope.now name.now) (integer_at address) (valuation_at values.now name.now) }
+    ensures value { result.value ≡ meaning.indexed_word (scope_at scope.now name.now) (integer_at address) (valuation_at values.now name.now) }
 {
     let object = scope.object(name);
     let word = match object.addresses {
@@ -119,7 +119,7 @@ fn copies(count: u128, word: Word) -> Word
     requires some { 1 ≤ count }
     requires at_most_128 { count * word.width ≤ 128 }
     ensures width { result.width ≡ count * word.width }
-    ensures value { result.value ≡ meaning.repeated count word.width word.value }
+    ensures value { result.value ≡ meaning.side_by_side count word.width word.value }
 {
     let mut all = word;
     for _i in 1..count {
@@ -305,7 +305,7 @@ fn named(scope: &Scope<'_>, values: &[Entry<'_>], name: &str, selects: &Selects<
     requires narrow { AreSelectsNarrow (scope_at scope.now) (selects_of selects.now) }
     requires width { IsWidth (selects_width_at (scope_at scope.now) name.now (selects_of selects.now)) }
     ensures width { result.width ≡ selects_width_at (scope_at scope.now) name.now (selects_of selects.now) }
-    ensures value { result.value ≡ selects_at (scope_at scope.now) (valuation_at values.now) name.now (selects_of selects.now) }
+    ensures value { result.value ≡ selected_at (scope_at scope.now) (valuation_at values.now) name.now (selects_of selects.now) }
 {
     let object = scope.object(name);
     match selects {

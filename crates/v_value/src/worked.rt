@@ -5,10 +5,10 @@ ghost use Rattle.v_value.specs.Worked as worked;
 
 /// `(a + b) >> 1` of two unsigned operands of 8 bits keeps the carry where the target has 9 bits.
 pub fn carries()
-    ensures narrow_at_255 { assigned_value worked.names (worked.operands 255 255) 8 worked.half_sum ≡ 127 }
-    ensures wide_at_255 { assigned_value worked.names (worked.operands 255 255) 9 worked.half_sum ≡ 255 }
-    ensures narrow_at_128 { assigned_value worked.names (worked.operands 128 0) 8 worked.half_sum ≡ 64 }
-    ensures wide_at_128 { assigned_value worked.names (worked.operands 128 0) 9 worked.half_sum ≡ 64 }
+    ensures narrow_at_255 { assigned_value worked.names (worked.operands 255 255) 8 worked.shifted_sum ≡ 127 }
+    ensures wide_at_255 { assigned_value worked.names (worked.operands 255 255) 9 worked.shifted_sum ≡ 255 }
+    ensures narrow_at_128 { assigned_value worked.names (worked.operands 128 0) 8 worked.shifted_sum ≡ 64 }
+    ensures wide_at_128 { assigned_value worked.names (worked.operands 128 0) 9 worked.shifted_sum ≡ 64 }
 {}
 
 /// `s >>> 1` of a signed operand of 8 bits copies the sign into a target of 9 bits; `{s} >>> 1` does not.
@@ -21,7 +21,7 @@ pub fn signed_shifts()
 
 /// `-1 < 1` is true, and `-8'd1 < 1` is not.
 pub fn mixed_comparisons()
-    ensures signed { self_value worked.names worked.no_operands (worked.minus_is_below worked.one) ≡ 1 }
+    ensures signed { self_value worked.names worked.no_operands (worked.minus_is_below worked.plain_one) ≡ 1 }
     ensures unsigned { self_value worked.names worked.no_operands (worked.minus_is_below worked.unsigned_one) ≡ 0 }
 {}
 

@@ -4,8 +4,9 @@ use Rattle.wb_values.specs.Value.{Name, Value, as_number, as_words, Valuation, E
 use Rattle.wb_values.specs.Number.{signed_value, word_not, word_neg, word_add, word_sub, word_mul, word_and, word_or, word_xor, word_shl, word_lshr, word_ashr, word_sext}
 use Rattle.verilog_trees.specs.Syntax.{UnaryOperator, plus, minus, complement, ReductionOperator, is_zero, all_ones, not_all_ones, any_one, no_one, odd_ones, even_ones, BinaryOperator, add, subtract, multiply, divide, modulo, bitwise_and, bitwise_or, bitwise_xor, bitwise_xnor, ShiftOperator, left, right, arithmetic_right, ComparisonOperator, less, less_or_equal, greater, greater_or_equal, equal, not_equal, LogicalOperator, both, either, Expression, number, name, concatenation, replication, as_signed, as_unsigned, unary, reduction, binary, shift, power, comparison, logical, conditional, Expressions, no_expressions, expression, Select, index, part, part_up, part_down, Selects, whole, one, two}
 
--- What a name of a module stands for: whether it is declared, as a net, a variable or a parameter; its sign; whether it has a range,
--- and its bits [left:right]; for a memory its addresses [first:last]; and for a parameter its number.
+-- What a name of a module stands for: whether it is declared (as a net, a variable, a memory or a parameter); whether it is signed;
+-- whether it has a range, and its bits [left:right], those of a word for a memory; for a memory its addresses [first:last]; and for
+-- a parameter its number.
 -- A net or variable without a range is a scalar, with the bits [0:0]: `wire a` has no range, and `wire [0:0] a` has one (4.3).
 -- A parameter that is declared without a range has that of its value of w bits, [w-1:0] (4.10.1).
 pub record Object : Type 0 where
@@ -37,7 +38,7 @@ scope_of es n = object_or_undeclared (entry_of es n)
 abbrev pub distance : ℕ → ℕ → ℕ
 distance m n = max m n - min m n
 
--- the bits of a net or variable, or of a memory's word
+-- how many bits a net, a variable, a parameter or a memory's word has
 abbrev pub object_width : Object → ℕ
 object_width o = distance o.left o.right + 1
 
@@ -60,8 +61,8 @@ abbrev pub bits_from : ℤ → ℕ → ℕ → ℕ
 bits_from (pos k) n x = x / 2 ^ k % 2 ^ n
 bits_from (negsuc k) n x = x * 2 ^ (k + 1) % 2 ^ n
 
-abbrev pub bits_of : ℕ → Bits → ℕ
-bits_of x b = bits_from b.low b.count x
+abbrev pub bits_taken : ℕ → Bits → ℕ
+bits_taken x b = bits_from b.low b.count x
 
 -- an operand in a wider context: the sign bit is copied where the whole is signed
 abbrev pub widened : Bool → ℕ → ℕ → ℕ → ℕ
@@ -87,9 +88,9 @@ bits_of_integer w (pos n) = n % 2 ^ w
 bits_of_integer w (negsuc n) = word_not w (n % 2 ^ w)
 
 -- so many copies of a number of w bits side by side
-abbrev pub repeated : ℕ → ℕ → ℕ → ℕ
-repeated zero w x = 0
-repeated (suc n) w x = x * 2 ^ (n * w) + repeated n w x
+abbrev pub side_by_side : ℕ → ℕ → ℕ → ℕ
+side_by_side zero w x = 0
+side_by_side (suc n) w x = x * 2 ^ (n * w) + side_by_side n w x
 
 abbrev pub unary_value : UnaryOperator → ℕ → ℕ → ℕ
 unary_value plus w x = x
@@ -175,13 +176,13 @@ abbrev pub whole_value : Object → Value → ℕ
 whole_value o x = unwrap_or o.constant (as_number x)
 
 -- the word of a memory, 0 where the address is out of range
-abbrev pub word_at : Option ℕ → Value → ℕ
-word_at None x = 0
-word_at (Some k) x = slice_index (as_words x) k
+abbrev pub word_or_zero : Option ℕ → Value → ℕ
+word_or_zero None x = 0
+word_or_zero (Some k) x = slice_index (as_words x) k
 
 -- the word that an index reads
-abbrev pub word_of : Object → ℤ → Value → ℕ
-word_of o i x = word_at (option_and_then (λ a. word_number a i) o.addresses) x
+abbrev pub indexed_word : Object → ℤ → Value → ℕ
+indexed_word o i x = word_or_zero (option_and_then (λ a. word_number a i) o.addresses) x
 
 -- The bits that a part select takes. Its indexes run as the range was declared; those of +: and -: go up and down from the base.
 abbrev pub bits_between : Object → ℤ → ℤ → Bits
@@ -232,7 +233,7 @@ abbrev mutual
   value_of s v (concatenation es) w signed = widened signed (widths_of s es) w (joined_value s v es)
   value_of s v (replication k es) w signed =
       let count : ℕ = natural_of (integer_from (sign_of s k) (width_of s k) (value_of s no_values k (width_of s k) (sign_of s k))) in
-      widened signed (count * widths_of s es) w (repeated count (widths_of s es) (joined_value s v es))
+      widened signed (count * widths_of s es) w (side_by_side count (widths_of s es) (joined_value s v es))
   value_of s v (as_signed x) w signed = widened signed (width_of s x) w (value_of s v x (width_of s x) (sign_of s x))
   value_of s v (as_unsigned x) w signed = widened signed (width_of s x) w (value_of s v x (width_of s x) (sign_of s x))
   value_of s v (unary op x) w signed = unary_value op w (value_of s v x w signed)
@@ -258,12 +259,12 @@ abbrev mutual
   joined_value s v (expression e es) =
       value_of s v e (width_of s e) (sign_of s e) * 2 ^ widths_of s es + joined_value s v es
 
-  -- what the selects behind a name read of its value
+  -- what the selects after a name read of its value
   pub selected : Scope → Valuation → Object → Value → Selects → ℕ
   selected s v o x whole = whole_value o x
   selected s v o x (one i) =
-      cond (is_memory o) (word_of o (select_index s v i) x) (bits_of (whole_value o x) (select_bits s v o i))
-  selected s v o x (two i j) = bits_of (word_of o (select_index s v i) x) (select_bits s v o j)
+      cond (is_memory o) (indexed_word o (select_index s v i) x) (bits_taken (whole_value o x) (select_bits s v o i))
+  selected s v o x (two i j) = bits_taken (indexed_word o (select_index s v i) x) (select_bits s v o j)
 
   -- the number of an index by its own sign. (A part select of a memory, which has none, is refused before.)
   pub select_index : Scope → Valuation → Select → ℤ

@@ -1,5 +1,5 @@
--- Modules below the top: parameters' values, declared names, and the module at a path of instances, 1364-2005, 12.2 and 12.3.
-use Rattle.std.specs.Prelude.{ℕ, ◌-◌, ◌^◌, ◌%◌, max, Bool, true, false, cond, ◌||◌, List, [], ◌∷◌, ◌++◌, Option, Some, None, unwrap_or, option_map, option_and_then}
+-- Modules below the top: parameters' values, declared names, and the module at a path, 1364-2005, 12.2 to 12.5.
+use Rattle.std.specs.Prelude.{ℕ, suc, ◌-◌, ◌^◌, ◌%◌, max, decimal, ℤ, pos, negsuc, Bool, true, false, cond, ◌||◌, List, [], ◌∷◌, ◌++◌, Option, Some, None, is_some, unwrap_or, option_map, option_and_then}
 use Rattle.wb_values.specs.Value.{Name, same_name, Entries, entry_of}
 use Rattle.wb_values.specs.Choice.{first_of}
 use Rattle.verilog_trees.specs.Syntax.{Expression, Range, Direction, NetKind, wire, reg, PortDeclaration, ParameterDeclaration, Connections, by_name, by_order, Item, port, parameter, wires, variables, assign, always, instances, Ports, no_ports, listed, declared, Module, Source}
@@ -47,7 +47,7 @@ one_parameter s signed r e (Some given) = overridden_object s signed r given
 abbrev pub override_of : ParameterDeclaration → Overrides → Name → Option Object
 override_of d given n = cond d.is_local None (given n)
 
--- The parameters of a declaration, behind those that are known already. Each sees those before it.
+-- The parameters of a declaration, after those that are known already. Each sees those before it.
 abbrev pub with_values : ParameterDeclaration → Overrides → List (Name × Expression) → Entries Object → Entries Object
 with_values d given [] known = known
 with_values d given (v ∷ vs) known =
@@ -86,15 +86,15 @@ pub record Declaration : Type 0 where
   pub range : Option Range
   pub addresses : Option Range
 
-abbrev pub port_names : PortDeclaration → List Name → List Declaration
-port_names d [] = []
-port_names d (n ∷ ns) =
+abbrev pub each_port : PortDeclaration → List Name → List Declaration
+each_port d [] = []
+each_port d (n ∷ ns) =
     record { of_name = n; direction = Some d.direction; kind = d.kind; signed = d.signed; range = d.range; addresses = None }
-    ∷ port_names d ns
+    ∷ each_port d ns
 
 abbrev pub port_declarations : List PortDeclaration → List Declaration
 port_declarations [] = []
-port_declarations (d ∷ ds) = port_names d d.names ++ port_declarations ds
+port_declarations (d ∷ ds) = each_port d d.names ++ port_declarations ds
 
 abbrev pub wire_declarations : Bool → Option Range → List (Name × Option Expression) → List Declaration
 wire_declarations signed r [] = []
@@ -110,7 +110,7 @@ variable_declarations signed r (v ∷ vs) =
 
 abbrev pub item_declarations : List Item → List Declaration
 item_declarations [] = []
-item_declarations (port d ∷ items) = port_names d d.names ++ item_declarations items
+item_declarations (port d ∷ items) = each_port d d.names ++ item_declarations items
 item_declarations (parameter d ∷ items) = item_declarations items
 item_declarations (wires signed r ws ∷ items) = wire_declarations signed r ws ++ item_declarations items
 item_declarations (variables signed r vs ∷ items) = variable_declarations signed r vs ++ item_declarations items
@@ -164,8 +164,18 @@ object_named m known n =
 abbrev pub module_scope : Module → Entries Object → Scope
 module_scope m known n = object_or_undeclared (object_named m known n)
 
--- a module that stands in the design, with the values of its parameters there
+-- A step of a path: an instance by its name; or a generated block by its name and, where a loop generates it, the index of one of
+-- its copies (12.4, 12.5).
+pub record PathStep : Type 0 where
+  pub of_name : Name
+  pub index : Option ℤ
+
+abbrev pub instance_step : Name → PathStep
+instance_step u = record { of_name = u; index = None }
+
+-- a module that stands in the design: at which path, the innermost step first, and with which values of its parameters
 pub record Placed : Type 0 where
+  pub path : List PathStep
   pub of_module : Module
   pub constants : Entries Object
 
@@ -188,7 +198,7 @@ instance_among m given [] u = None
 instance_among m given (i ∷ is) u =
     cond (same_name i.0 u) (Some (record { of_module = m; parameters = given; connections = i.1 })) (instance_among m given is u)
 
--- the instance of this name
+-- the first instance of this name
 abbrev pub instance_named : List Item → Name → Option Instance
 instance_named [] u = None
 instance_named (port d ∷ items) u = instance_named items u
@@ -208,7 +218,7 @@ abbrev pub joined_option : {A : Type 0} → Option (Option A) → Option A
 joined_option (Some x) = x
 joined_option None = None
 
--- the expression that is connected to a name, where the names stand in this order; an empty entry connects nothing
+-- The expression that is given to a name, where the names stand in this order. An empty entry gives nothing.
 abbrev pub connected : Connections → List Name → Name → Option Expression
 connected (by_name es) names n = joined_option (entry_of es n)
 connected (by_order es) names n = in_order es names n
@@ -227,25 +237,43 @@ abbrev pub overrides_of : Scope → Connections → Module → Overrides
 overrides_of around given m n =
     option_map (λ e. parameter_object around false None e) (connected given (overridable (all_parameters m)) n)
 
-abbrev pub placed_instance : Source → Scope → Instance → Option Placed
-placed_instance source around i =
-    option_map (λ m. record { of_module = m; constants = constants_of m (overrides_of around i.parameters m) })
+-- the module of an instance, at this path and in the scope around it
+abbrev pub placed_instance : Source → List PathStep → Scope → Instance → Option Placed
+placed_instance source path around i =
+    option_map (λ m. record { path = path; of_module = m; constants = constants_of m (overrides_of around i.parameters m) })
     (module_named source i.of_module)
 
--- the module of the instance u within a module
-abbrev pub placed_below : Source → Name → Placed → Option Placed
+-- The instance that a step leads to. An instance has no index.
+abbrev pub instance_reached : List Item → PathStep → Option Instance
+instance_reached items u = cond (is_some u.index) None (instance_named items u.of_name)
+
+-- the module that a step leads to from a module
+abbrev pub placed_below : Source → PathStep → Placed → Option Placed
 placed_below source u p =
-    option_and_then (placed_instance source (placed_scope p)) (instance_named p.of_module.items u)
+    option_and_then (placed_instance source (u ∷ p.path) (placed_scope p)) (instance_reached p.of_module.items u)
 
 abbrev pub no_overrides : Overrides
 no_overrides n = None
 
--- The module at a path of instances from the top, the innermost instance first.
-abbrev pub placed_at : Source → Name → List Name → Option Placed
-placed_at source top [] = option_map (λ m. record { of_module = m; constants = constants_of m no_overrides }) (module_named source top)
+-- The module at a path from the top, the innermost step first.
+abbrev pub placed_at : Source → Name → List PathStep → Option Placed
+placed_at source top [] =
+    option_map (λ m. record { path = []; of_module = m; constants = constants_of m no_overrides }) (module_named source top)
 placed_at source top (u ∷ around) = option_and_then (placed_below source u) (placed_at source top around)
 
--- A name within the instance at a path, as it is written from the top: the instances' names and it, with dots between.
-abbrev pub dotted : List Name → Name → Name
+abbrev pub signed_decimal : ℤ → List ℕ
+signed_decimal (pos n) = decimal n
+signed_decimal (negsuc n) = 45 ∷ decimal (suc n)
+
+abbrev pub index_text : Option ℤ → List ℕ
+index_text None = []
+index_text (Some i) = 91 ∷ signed_decimal i ++ 93 ∷ []
+
+-- A step as it is written: `u`, or `blk[3]`.
+abbrev pub step_text : PathStep → Name
+step_text u = u.of_name ++ index_text u.index
+
+-- A name within the module at a path, as it is written from the top: the steps and it, with dots between (12.5).
+abbrev pub dotted : List PathStep → Name → Name
 dotted [] n = n
-dotted (u ∷ around) n = dotted around (u ++ 46 ∷ n)
+dotted (u ∷ around) n = dotted around (step_text u ++ 46 ∷ n)

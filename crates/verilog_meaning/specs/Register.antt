@@ -47,14 +47,14 @@ is_within bits b = int_le bits.low (pos b) && int_lt (pos b) (bits.low +ℤ pos 
 abbrev pub may_mean_bit : Scope → Object → Select → ℕ → Bool
 may_mean_bit s o x b = cond (select_is_constant s x) (is_within (select_bits s no_values o x) b) true
 
-abbrev pub is_word : Option ℕ → ℕ → Bool
-is_word None k = false
-is_word (Some j) k = j == k
+abbrev pub is_word_number : Option ℕ → ℕ → Bool
+is_word_number None k = false
+is_word_number (Some j) k = j == k
 
 -- An index of a memory may mean word k.
 abbrev pub may_mean_word : Scope → Object → Select → ℕ → Bool
 may_mean_word s o x k =
-    cond (select_is_constant s x) (is_word (option_and_then (λ a. word_number a (select_index s no_values x)) o.addresses) k) true
+    cond (select_is_constant s x) (is_word_number (option_and_then (λ a. word_number a (select_index s no_values x)) o.addresses) k) true
 
 -- A name with these selects may mean bit b of word k. What is no memory has the word 0 alone.
 abbrev pub may_mean : Scope → Object → Selects → ℕ → ℕ → Bool
@@ -159,11 +159,11 @@ value_bit (words xs) k b = is_set (slice_index xs k) b
 value_bit (truth_value t) k b = false
 
 -- the updates of all blocks, each run on the same valuation
-abbrev pub updates_of : Scope → Valuation → List Statement → List Update
-updates_of s v [] = []
-updates_of s v (x ∷ xs) = (run s x v).updates ++ updates_of s v xs
+abbrev pub updates_of_blocks : Scope → Valuation → List Statement → List Update
+updates_of_blocks s v [] = []
+updates_of_blocks s v (x ∷ xs) = (run s x v).updates ++ updates_of_blocks s v xs
 
 -- What the clocked blocks of one module leave at the clock's edge: each is run on the valuation, and their updates take
 -- place in their order. (Blocks drive different bits, so which block comes first does not matter.)
 abbrev pub after_edge : Scope → List Statement → Valuation → Valuation
-after_edge s clocked v = with_updates s v (updates_of s v clocked)
+after_edge s clocked v = with_updates s v (updates_of_blocks s v clocked)

@@ -6,7 +6,7 @@ use Rattle.verilog_meaning.specs.Expression.{Object, Scope, object_width, is_mem
 
 -- where a value goes: a net or variable, a word of a memory, or an address out of range
 pub data Cell : Type 0 where
-  variable : Cell
+  variable_cell : Cell
   word_cell : ℕ → Cell
   no_cell : Cell
 
@@ -28,18 +28,18 @@ abbrev pub all_bits : Object → Bits
 all_bits o = record { low = pos 0; count = object_width o }
 
 -- The place that a name with selects means, its indexes read in the valuation.
-abbrev pub place_of : Scope → Valuation → Name → Selects → Place
-place_of s v n whole = record { of_name = n; cell = variable; bits = all_bits (s n) }
-place_of s v n (one i) =
+abbrev pub named_place : Scope → Valuation → Name → Selects → Place
+named_place s v n whole = record { of_name = n; cell = variable_cell; bits = all_bits (s n) }
+named_place s v n (one i) =
     cond (is_memory (s n)) (record { of_name = n; cell = indexed_cell (s n) (select_index s v i); bits = all_bits (s n) })
-    (record { of_name = n; cell = variable; bits = select_bits s v (s n) i })
-place_of s v n (two i j) =
+    (record { of_name = n; cell = variable_cell; bits = select_bits s v (s n) i })
+named_place s v n (two i j) =
     record { of_name = n; cell = indexed_cell (s n) (select_index s v i); bits = select_bits s v (s n) j }
 
 abbrev mutual
   -- the places of a target, the leftmost first
   pub places : Scope → Valuation → Target → List Place
-  places s v (place n x) = place_of s v n x ∷ []
+  places s v (place n x) = named_place s v n x ∷ []
   places s v (joined ts) = all_places s v ts
 
   pub all_places : Scope → Valuation → Targets → List Place
@@ -74,7 +74,7 @@ with_bits w old b x = with_bits_at w old b.low b.count x
 
 -- What a name holds after a number was written to a place of it. A write out of range does nothing.
 abbrev pub written_cell : Object → Value → Cell → Bits → ℕ → Value
-written_cell o old variable b x = a_number (with_bits (object_width o) (as_number old) b x)
+written_cell o old variable_cell b x = a_number (with_bits (object_width o) (as_number old) b x)
 written_cell o old (word_cell k) b x =
     words (slice_set (as_words old) k (with_bits (object_width o) (slice_index (as_words old) k) b x))
 written_cell o old no_cell b x = old
@@ -100,13 +100,13 @@ pub record Effect : Type 0 where
 abbrev pub unchanged : Valuation → Effect
 unchanged v = record { valuation = v; updates = [] }
 
--- an effect behind updates that wait already
-abbrev pub behind : List Update → Effect → Effect
-behind us e = record { valuation = e.valuation; updates = us ++ e.updates }
+-- an effect after updates that wait already
+abbrev pub after_updates : List Update → Effect → Effect
+after_updates us e = record { valuation = e.valuation; updates = us ++ e.updates }
 
 -- one effect, and then the effect that follows from its valuation
 abbrev pub followed_by : Effect → (Valuation → Effect) → Effect
-followed_by e next = behind e.updates (next e.valuation)
+followed_by e next = after_updates e.updates (next e.valuation)
 
 -- The width and sign to which the expression of a case and all its items are widened: the greatest width, signed only if all are.
 abbrev pub greatest_width : Scope → Expressions → ℕ

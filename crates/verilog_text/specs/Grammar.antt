@@ -1,5 +1,6 @@
 -- The grammar of targets, statements, module items and modules: which tokens, in front of those that follow, spell each (IEEE
 -- 1364-2005, annex A).
+use Prim.Native.Char.{code}
 use Rattle.std.specs.Prelude.{◌≡◌, ℕ, suc, ◌≤◌, Bool, true, false, cond, List, [], ◌∷◌, ◌++◌, codes, Option, Some, None, Ok}
 use Rattle.wb_values.specs.Value.{Name}
 use Rattle.wb_values.specs.ReservedWords.{is_reserved}
@@ -292,7 +293,7 @@ dotted_from (Some n) [] = word n ∷ []
 dotted_from None (word m ∷ rest) = cond (is_reserved m) (word m ∷ dotted_from None rest) (dotted_from (Some m) rest)
 dotted_from None (t ∷ rest) = t ∷ dotted_from None rest
 dotted_from (Some n) (mark dot ∷ word m ∷ rest) =
-    cond (is_reserved m) (word n ∷ mark dot ∷ word m ∷ dotted_from None rest) (dotted_from (Some (n ++ 46 ∷ m)) rest)
+    cond (is_reserved m) (word n ∷ mark dot ∷ word m ∷ dotted_from None rest) (dotted_from (Some (n ++ code "." ∷ m)) rest)
 dotted_from (Some n) (word m ∷ rest) = word n ∷ cond (is_reserved m) (word m ∷ dotted_from None rest) (dotted_from (Some m) rest)
 dotted_from (Some n) (t ∷ rest) = word n ∷ t ∷ dotted_from None rest
 

@@ -1,20 +1,21 @@
 -- What stands at the front of a Verilog text: the lexical conventions and the forms of directives (IEEE 1364-2005, clauses 3 and 19).
-use Rattle.std.specs.Prelude.{ℕ, zero, suc, ◌+◌, Bool, true, false, cond, not, ◌&&◌, ◌||◌, ◌==◌, nat_le, List, [], ◌∷◌, take, drop, Option, Some, None, option_map, option_and_then, codes}
+use Prim.Native.Char.{code}
+use Rattle.std.specs.Prelude.{ℕ, zero, suc, ◌+◌, Bool, true, false, cond, not, ◌&&◌, ◌||◌, ◌==◌, nat_le, nat_lt, ◌-◌, List, [], ◌∷◌, length, take, drop, Option, Some, None, option_map, option_and_then, codes}
 use Rattle.std.specs.List.{list_all, list_any}
 use Rattle.std.specs.Str.{bytes_eq}
 use Rattle.wb_values.specs.Value.{Name, same_name}
 use Rattle.wb_values.specs.ReservedWords.{grammar_words, is_reserved}
 use Rattle.wb_values.specs.Names.{is_letter, is_digit, begins_with}
-use Rattle.verilog_text.specs.Token.{Mark, left_parenthesis, right_parenthesis, left_bracket, right_bracket, left_brace, right_brace, comma, semicolon, colon, dot, hash, at, question, equals, plus_colon, minus_colon, plus, minus, star, double_star, slash, percent, exclamation, tilde, ampersand, tilde_ampersand, bar, tilde_bar, caret, tilde_caret, caret_tilde, double_ampersand, double_bar, less, less_equals, greater, greater_equals, double_less, double_greater, triple_less, triple_greater, double_equals, exclamation_equals, triple_equals, exclamation_double_equals, Token, word, system, decimal, based, mark}
+use Rattle.verilog_text.specs.Token.{Mark, left_parenthesis, slash, spelling_of, marks, Token, word, system, decimal, based, mark}
 
 -- ---- bytes
 
 -- space, tab, carriage return, form feed
 abbrev pub is_line_blank : ℕ → Bool
-is_line_blank b = b == 32 || b == 9 || b == 13 || b == 12
+is_line_blank b = b == code " " || b == code "\t" || b == code "\r" || b == code "\u{c}"
 
 abbrev pub is_line_feed : ℕ → Bool
-is_line_feed b = b == 10
+is_line_feed b = b == code "\n"
 
 -- a blank (3.2)
 abbrev pub is_blank : ℕ → Bool
@@ -22,15 +23,15 @@ is_blank b = is_line_blank b || is_line_feed b
 
 -- a letter, a digit, _ or $
 abbrev pub is_word_byte : ℕ → Bool
-is_word_byte b = is_letter b || is_digit b || b == 36
+is_word_byte b = is_letter b || is_digit b || b == code "$"
 
 -- a digit or _
 abbrev pub is_decimal_byte : ℕ → Bool
-is_decimal_byte b = is_digit b || b == 95
+is_decimal_byte b = is_digit b || b == code "_"
 
 -- a printable character of ASCII that is no blank
 abbrev pub is_graphic : ℕ → Bool
-is_graphic b = nat_le 33 b && nat_le b 126
+is_graphic b = nat_le (code "!") b && nat_le b (code "~")
 
 -- how many bytes at the front pass the test
 unfoldable pub run_length : (ℕ → Bool) → List ℕ → ℕ
@@ -40,11 +41,11 @@ run_length p (b ∷ bs) = cond (p b) (suc (run_length p bs)) 0
 -- a line ends here: LF, or CR LF
 abbrev pub ends_line : List ℕ → Bool
 ends_line [] = false
-ends_line (b ∷ bs) = b == 10 || b == 13 && begins_with is_line_feed bs
+ends_line (b ∷ bs) = b == code "\n" || b == code "\r" && begins_with is_line_feed bs
 
 -- A blank in front of more text. Inside the text of a macro a backslash that continued a line of its definition is one too.
 abbrev pub is_blank_before : (is_macro : Bool) → ℕ → List ℕ → Bool
-is_blank_before is_macro b more = is_blank b || is_macro && b == 92 && ends_line more
+is_blank_before is_macro b more = is_blank b || is_macro && b == code "\\" && ends_line more
 
 unfoldable pub blank_length : (is_macro : Bool) → List ℕ → ℕ
 blank_length is_macro [] = 0
@@ -54,7 +55,8 @@ blank_length is_macro (b ∷ bs) = cond (is_blank_before is_macro b bs) (suc (bl
 abbrev pub line_length : List ℕ → ℕ
 line_length text = run_length (λ b. not (is_line_feed b)) text
 
--- Up to and with the first b that c follows; whether the byte in front of the text is such a b.
+-- Up to and with the first c that a b stands before; whether such a b stands in front of the text. The star that begins a comment
+-- or an attribute is none: /*/ is no whole comment.
 unfoldable pub closing_length : (b c : ℕ) → (behind_b : Bool) → List ℕ → Option ℕ
 closing_length b c behind_b [] = None
 closing_length b c behind_b (x ∷ xs) = cond (behind_b && x == c) (Some 1) (option_map suc (closing_length b c (x == b) xs))
@@ -63,9 +65,9 @@ closing_length b c behind_b (x ∷ xs) = cond (behind_b && x == c) (Some 1) (opt
 unfoldable pub string_length : (escaped : Bool) → List ℕ → Option ℕ
 string_length escaped [] = None
 string_length escaped (b ∷ bs) =
-    cond (b == 10) None (
-    cond (not escaped && b == 34) (Some 1) (
-    option_map suc (string_length (not escaped && b == 92) bs)))
+    cond (b == code "\n") None (
+    cond (not escaped && b == code "\"") (Some 1) (
+    option_map suc (string_length (not escaped && b == code "\\") bs)))
 
 -- ---- what is at the front
 
@@ -75,7 +77,7 @@ pub data Piece : Type 0 where
   nothing : Piece
   token : Token → Piece
   -- what 1364 has and this subset leaves out: a word, a string, a real number, an escaped identifier, a $ name
-  left_out : Piece
+  excluded : Piece
   -- a directive that is written wrongly
   misdirected : Piece
   define : Name → (text : List ℕ) → Piece
@@ -93,9 +95,9 @@ abbrev pub Front : Type 0
 Front = Option (Piece × ℕ)
 
 -- with so many more bytes in front
-abbrev pub behind : ℕ → Front → Front
-behind n (Some f) = Some (f.0, n + f.1)
-behind n None = None
+abbrev pub further : ℕ → Front → Front
+further n (Some f) = Some (f.0, n + f.1)
+further n None = None
 
 -- a piece with so many bytes behind its first, where it has an end
 abbrev pub if_closed : Piece → Option ℕ → Front
@@ -104,96 +106,55 @@ if_closed p None = None
 
 -- ---- tokens
 
-unfoldable pub mark_of_three : ℕ → ℕ → ℕ → Option Mark
-mark_of_three b c d =
-    cond (b == 60 && c == 60 && d == 60) (Some triple_less) (
-    cond (b == 62 && c == 62 && d == 62) (Some triple_greater) (
-    cond (b == 61 && c == 61 && d == 61) (Some triple_equals) (
-    cond (b == 33 && c == 61 && d == 61) (Some exclamation_double_equals) None)))
+-- the text begins with those characters
+abbrev pub is_prefix : List ℕ → (text : List ℕ) → Bool
+is_prefix [] text = true
+is_prefix (c ∷ cs) [] = false
+is_prefix (c ∷ cs) (b ∷ bs) = b == c && is_prefix cs bs
 
-unfoldable pub mark_of_two : ℕ → ℕ → Option Mark
-mark_of_two b c =
-    cond (b == 43 && c == 58) (Some plus_colon) (
-    cond (b == 45 && c == 58) (Some minus_colon) (
-    cond (b == 42 && c == 42) (Some double_star) (
-    cond (b == 126 && c == 38) (Some tilde_ampersand) (
-    cond (b == 126 && c == 124) (Some tilde_bar) (
-    cond (b == 126 && c == 94) (Some tilde_caret) (
-    cond (b == 94 && c == 126) (Some caret_tilde) (
-    cond (b == 38 && c == 38) (Some double_ampersand) (
-    cond (b == 124 && c == 124) (Some double_bar) (
-    cond (b == 60 && c == 61) (Some less_equals) (
-    cond (b == 62 && c == 61) (Some greater_equals) (
-    cond (b == 60 && c == 60) (Some double_less) (
-    cond (b == 62 && c == 62) (Some double_greater) (
-    cond (b == 61 && c == 61) (Some double_equals) (
-    cond (b == 33 && c == 61) (Some exclamation_equals) None))))))))))))))
+-- that mark, or another one that is longer
+abbrev pub or_longer : Mark → Option Mark → Mark
+or_longer m None = m
+or_longer m (Some other) = cond (nat_lt (length (spelling_of m)) (length (spelling_of other))) other m
 
-unfoldable pub mark_of_one : ℕ → Option Mark
-mark_of_one b =
-    cond (b == 40) (Some left_parenthesis) (
-    cond (b == 41) (Some right_parenthesis) (
-    cond (b == 91) (Some left_bracket) (
-    cond (b == 93) (Some right_bracket) (
-    cond (b == 123) (Some left_brace) (
-    cond (b == 125) (Some right_brace) (
-    cond (b == 44) (Some comma) (
-    cond (b == 59) (Some semicolon) (
-    cond (b == 58) (Some colon) (
-    cond (b == 46) (Some dot) (
-    cond (b == 35) (Some hash) (
-    cond (b == 64) (Some at) (
-    cond (b == 63) (Some question) (
-    cond (b == 61) (Some equals) (
-    cond (b == 43) (Some plus) (
-    cond (b == 45) (Some minus) (
-    cond (b == 42) (Some star) (
-    cond (b == 47) (Some slash) (
-    cond (b == 37) (Some percent) (
-    cond (b == 33) (Some exclamation) (
-    cond (b == 126) (Some tilde) (
-    cond (b == 38) (Some ampersand) (
-    cond (b == 124) (Some bar) (
-    cond (b == 94) (Some caret) (
-    cond (b == 60) (Some less) (
-    cond (b == 62) (Some greater) None)))))))))))))))))))))))))
+-- the longest of some marks that the text begins with
+unfoldable pub longest_of : List Mark → (text : List ℕ) → Option Mark
+longest_of [] text = None
+longest_of (m ∷ ms) text = cond (is_prefix (spelling_of m) text) (Some (or_longer m (longest_of ms text))) (longest_of ms text)
 
--- that mark, with so many bytes behind its first, or else the shorter one
-abbrev pub longest : Option Mark → ℕ → Front → Front
-longest (Some m) n shorter = Some (token (mark m), n)
-longest None n shorter = shorter
+abbrev pub mark_front : Option Mark → Front
+mark_front (Some m) = Some (token (mark m), length (spelling_of m) - 1)
+mark_front None = None
 
--- the longest mark that begins with a byte, by what stands behind it
+-- the longest mark that is a prefix of a byte and what stands behind it
 unfoldable pub mark_at : ℕ → List ℕ → Front
-mark_at b [] = longest (mark_of_one b) 0 None
-mark_at b (c ∷ []) = longest (mark_of_two b c) 1 (longest (mark_of_one b) 0 None)
-mark_at b (c ∷ d ∷ bs) = longest (mark_of_three b c d) 2 (longest (mark_of_two b c) 1 (longest (mark_of_one b) 0 None))
+mark_at b bs = mark_front (longest_of marks (b ∷ bs))
 
 -- reserved (annex B), and no word of the grammar
-abbrev pub is_left_out : Name → Bool
-is_left_out w = is_reserved w && not (list_any (bytes_eq w) grammar_words)
+abbrev pub is_excluded : Name → Bool
+is_excluded w = is_reserved w && not (list_any (bytes_eq w) grammar_words)
 
 unfoldable pub word_piece : Name → Piece
-word_piece w = cond (is_left_out w) left_out (token (word w))
+word_piece w = cond (is_excluded w) excluded (token (word w))
 
 -- an identifier or a reserved word (3.7)
-unfoldable pub word_at : ℕ → List ℕ → Front
-word_at b bs = Some (word_piece (b ∷ take (run_length is_word_byte bs) bs), run_length is_word_byte bs)
+unfoldable pub word_front : ℕ → List ℕ → Front
+word_front b bs = Some (word_piece (b ∷ take (run_length is_word_byte bs) bs), run_length is_word_byte bs)
 
 -- the point and the digits of a real number (3.5.2)
 unfoldable pub fraction_length : List ℕ → Option ℕ
 fraction_length [] = None
-fraction_length (b ∷ bs) = cond (b == 46 && begins_with is_digit bs) (Some (suc (run_length is_decimal_byte bs))) None
+fraction_length (b ∷ bs) = cond (b == code "." && begins_with is_digit bs) (Some (suc (run_length is_decimal_byte bs))) None
 
 -- digits, perhaps behind a sign
 unfoldable pub signed_length : List ℕ → Option ℕ
 signed_length [] = None
-signed_length (b ∷ bs) = cond (is_digit b || (b == 43 || b == 45) && begins_with is_digit bs) (Some (suc (run_length is_decimal_byte bs))) None
+signed_length (b ∷ bs) = cond (is_digit b || (b == code "+" || b == code "-") && begins_with is_digit bs) (Some (suc (run_length is_decimal_byte bs))) None
 
 -- the exponent of a real number
 unfoldable pub exponent_length : List ℕ → Option ℕ
 exponent_length [] = None
-exponent_length (b ∷ bs) = cond (b == 101 || b == 69) (option_map suc (signed_length bs)) None
+exponent_length (b ∷ bs) = cond (b == code "e" || b == code "E") (option_map suc (signed_length bs)) None
 
 abbrev pub or_zero : Option ℕ → ℕ
 or_zero (Some n) = n
@@ -207,42 +168,42 @@ real_from text None = exponent_length text
 unfoldable pub real_length : List ℕ → Option ℕ
 real_length text = real_from text (fraction_length text)
 
-abbrev pub number_of : ℕ → List ℕ → (digits : ℕ) → Option ℕ → Front
-number_of b bs n (Some k) = Some (left_out, n + k)
-number_of b bs n None = Some (token (decimal (b ∷ take n bs)), n)
+abbrev pub number_front : ℕ → List ℕ → (digits : ℕ) → Option ℕ → Front
+number_front b bs n (Some k) = Some (excluded, n + k)
+number_front b bs n None = Some (token (decimal (b ∷ take n bs)), n)
 
 -- a plain decimal (3.5.1), or a real number
 unfoldable pub number_at : ℕ → List ℕ → Front
-number_at b bs = number_of b bs (run_length is_decimal_byte bs) (real_length (drop (run_length is_decimal_byte bs) bs))
+number_at b bs = number_front b bs (run_length is_decimal_byte bs) (real_length (drop (run_length is_decimal_byte bs) bs))
 
 -- b, o, d or h, in either case
 abbrev pub is_base : ℕ → Bool
-is_base b = b == 98 || b == 66 || b == 111 || b == 79 || b == 100 || b == 68 || b == 104 || b == 72
+is_base b = b == code "b" || b == code "B" || b == code "o" || b == code "O" || b == code "d" || b == code "D" || b == code "h" || b == code "H"
 
 abbrev pub is_decimal_base : ℕ → Bool
-is_decimal_base b = b == 100 || b == 68
+is_decimal_base b = b == code "d" || b == code "D"
 
 -- x, z or ?
 abbrev pub is_unknown_digit : ℕ → Bool
-is_unknown_digit b = b == 120 || b == 88 || b == 122 || b == 90 || b == 63
+is_unknown_digit b = b == code "x" || b == code "X" || b == code "z" || b == code "Z" || b == code "?"
 
 abbrev pub is_hexadecimal_digit : ℕ → Bool
-is_hexadecimal_digit b = is_digit b || nat_le 97 b && nat_le b 102 || nat_le 65 b && nat_le b 70
+is_hexadecimal_digit b = is_digit b || nat_le (code "a") b && nat_le b (code "f") || nat_le (code "A") b && nat_le b (code "F")
 
 -- a digit of a based number (3.5.1)
 unfoldable pub is_digit_of : (base : ℕ) → ℕ → Bool
 is_digit_of base b =
     cond (is_decimal_base base) (is_digit b) (is_unknown_digit b ||
-    cond (base == 98 || base == 66) (b == 48 || b == 49) (
-    cond (base == 111 || base == 79) (nat_le 48 b && nat_le b 55) (is_hexadecimal_digit b)))
+    cond (base == code "b" || base == code "B") (b == code "0" || b == code "1") (
+    cond (base == code "o" || base == code "O") (nat_le (code "0") b && nat_le b (code "7")) (is_hexadecimal_digit b)))
 
 -- what the digits of a number run over: letters, digits, _ and, but for the decimal base, ?
 abbrev pub runs_on : (base : ℕ) → ℕ → Bool
-runs_on base b = is_letter b || is_digit b || b == 63 && not (is_decimal_base base)
+runs_on base b = is_letter b || is_digit b || b == code "?" && not (is_decimal_base base)
 
 -- digits of the base and _, one digit at least
 unfoldable pub are_digits_of : (base : ℕ) → List ℕ → Bool
-are_digits_of base text = list_any (is_digit_of base) text && list_all (λ b. is_digit_of base b || b == 95) text
+are_digits_of base text = list_any (is_digit_of base) text && list_all (λ b. is_digit_of base b || b == code "_") text
 
 -- the digits behind the base and blanks, where they are right: how many bytes all this takes
 abbrev pub if_digits : (base : ℕ) → (text : List ℕ) → (blanks : ℕ) → Option ℕ
@@ -261,7 +222,7 @@ base_length is_macro (b ∷ bs) = cond (is_base b) (option_map suc (digits_lengt
 -- what stands behind the quote of a based number: perhaps s, then the base
 unfoldable pub behind_quote : (is_macro : Bool) → List ℕ → Option ℕ
 behind_quote is_macro [] = None
-behind_quote is_macro (b ∷ bs) = cond (b == 115 || b == 83) (option_map suc (base_length is_macro bs)) (base_length is_macro (b ∷ bs))
+behind_quote is_macro (b ∷ bs) = cond (b == code "s" || b == code "S") (option_map suc (base_length is_macro bs)) (base_length is_macro (b ∷ bs))
 
 abbrev pub based_of : ℕ → List ℕ → Option ℕ → Front
 based_of b bs (Some n) = Some (token (based (b ∷ take n bs)), n)
@@ -272,7 +233,7 @@ unfoldable pub based_at : (is_macro : Bool) → ℕ → List ℕ → Front
 based_at is_macro b bs = based_of b bs (behind_quote is_macro bs)
 
 unfoldable pub system_piece : Name → Piece
-system_piece w = cond (same_name w (codes "$signed") || same_name w (codes "$unsigned")) (token (system w)) left_out
+system_piece w = cond (same_name w (codes "$signed") || same_name w (codes "$unsigned")) (token (system w)) excluded
 
 -- $signed, $unsigned, and other names with $ (3.7.3)
 unfoldable pub system_at : ℕ → List ℕ → Front
@@ -281,25 +242,25 @@ system_at b bs =
 
 -- an escaped identifier (3.7.1), behind its backslash
 unfoldable pub escaped_at : List ℕ → Front
-escaped_at bs = cond (begins_with is_graphic bs) (Some (left_out, run_length is_graphic bs)) None
+escaped_at bs = cond (begins_with is_graphic bs) (Some (excluded, run_length is_graphic bs)) None
 
 -- a comment (3.3) or an operator, behind a slash
 unfoldable pub slash_at : List ℕ → Front
 slash_at [] = Some (token (mark slash), 0)
 slash_at (b ∷ bs) =
-    cond (b == 47) (Some (nothing, suc (line_length bs))) (
-    cond (b == 42) (if_closed nothing (option_map suc (closing_length 42 47 false bs)))
+    cond (b == code "/") (Some (nothing, suc (line_length bs))) (
+    cond (b == code "*") (if_closed nothing (option_map suc (closing_length (code "*") (code "/") false bs)))
     (Some (token (mark slash), 0)))
 
 -- Behind (* and blanks stands ): no attribute.
 unfoldable pub is_star_alone : (is_macro : Bool) → List ℕ → Bool
-is_star_alone is_macro text = begins_with (λ b. b == 41) (drop (blank_length is_macro text) text)
+is_star_alone is_macro text = begins_with (λ b. b == code ")") (drop (blank_length is_macro text) text)
 
 -- an attribute (3.8), or a bracket alone, behind the bracket
 unfoldable pub bracket_at : (is_macro : Bool) → List ℕ → Front
 bracket_at is_macro [] = Some (token (mark left_parenthesis), 0)
 bracket_at is_macro (b ∷ bs) =
-    cond (b == 42 && not (is_star_alone is_macro bs)) (if_closed nothing (option_map suc (closing_length 42 41 false bs)))
+    cond (b == code "*" && not (is_star_alone is_macro bs)) (if_closed nothing (option_map suc (closing_length (code "*") (code ")") false bs)))
     (Some (token (mark left_parenthesis), 0))
 
 -- ---- text that is not read as tokens: the text of a definition, and what a conditional leaves out
@@ -308,21 +269,21 @@ bracket_at is_macro (b ∷ bs) =
 -- it along; a quote without a partner on its line is passed over alone). The length of it behind that byte; a comment has an end.
 unfoldable pub passed_length : ℕ → List ℕ → Option ℕ
 passed_length b bs =
-    cond (b == 47 && begins_with (λ c. c == 42) bs) (option_map suc (closing_length 42 47 false (drop 1 bs))) (
-    cond (b == 34) (Some (or_zero (string_length false bs))) (Some 0))
+    cond (b == code "/" && begins_with (λ c. c == code "*") bs) (option_map suc (closing_length (code "*") (code "/") false (drop 1 bs))) (
+    cond (b == code "\"") (Some (or_zero (string_length false bs))) (Some 0))
 
 -- The text of a definition goes on behind a backslash that a line's end follows directly (19.3.1): how many bytes this end has.
 unfoldable pub continued_length : List ℕ → ℕ
 continued_length [] = 0
-continued_length (b ∷ bs) = cond (b == 10) 1 (cond (b == 13 && begins_with is_line_feed bs) 2 0)
+continued_length (b ∷ bs) = cond (b == code "\n") 1 (cond (b == code "\r" && begins_with is_line_feed bs) 2 0)
 
 -- What is passed over with a byte of the text of a definition. A backslash takes along a line's end and nothing else.
 unfoldable pub defined_length : ℕ → List ℕ → Option ℕ
-defined_length b bs = cond (b == 92) (Some (continued_length bs)) (passed_length b bs)
+defined_length b bs = cond (b == code "\\") (Some (continued_length bs)) (passed_length b bs)
 
 -- the line's end or a comment // ends the text of a definition
 abbrev pub ends_definition : ℕ → List ℕ → Bool
-ends_definition b bs = b == 10 || b == 47 && begins_with (λ c. c == 47) bs
+ends_definition b bs = b == code "\n" || b == code "/" && begins_with (λ c. c == code "/") bs
 
 -- The length of a definition's text (19.3.1), behind so many bytes of it that are passed over.
 unfoldable pub definition_length : ℕ → List ℕ → Option ℕ
@@ -345,28 +306,28 @@ name_behind text =
     None
 
 -- a directive with a name: without one it is written wrongly
-abbrev pub named : (Name → Piece) → Option (Name × ℕ) → Front
-named f (Some n) = Some (f n.0, n.1)
-named f None = Some (misdirected, 0)
+abbrev pub with_name : (Name → Piece) → Option (Name × ℕ) → Front
+with_name f (Some n) = Some (f n.0, n.1)
+with_name f None = Some (misdirected, 0)
 
 -- A definition: a bracket directly behind its name would begin arguments.
 abbrev pub definition_of : Name → List ℕ → Option ℕ → Front
-definition_of n text (Some k) = Some (cond (begins_with (λ b. b == 40) text) misdirected (define n (take k text)), k)
+definition_of n text (Some k) = Some (cond (begins_with (λ b. b == code "(") text) misdirected (define n (take k text)), k)
 definition_of n text None = None
 
 abbrev pub definition_from : List ℕ → Option (Name × ℕ) → Front
-definition_from text (Some n) = behind n.1 (definition_of n.0 (drop n.1 text) (definition_length 0 (drop n.1 text)))
+definition_from text (Some n) = further n.1 (definition_of n.0 (drop n.1 text) (definition_length 0 (drop n.1 text)))
 definition_from text None = Some (misdirected, 0)
 
 unfoldable pub definition_at : List ℕ → Front
 definition_at text = definition_from text (name_behind text)
 
 -- the directives of conditionals (19.4), by their word and what stands behind it
-unfoldable pub conditional_at : Name → List ℕ → (other : Front) → Front
-conditional_at w text other =
-    cond (same_name w (codes "ifdef")) (named (if_defined true) (name_behind text)) (
-    cond (same_name w (codes "ifndef")) (named (if_defined false) (name_behind text)) (
-    cond (same_name w (codes "elsif")) (named else_if (name_behind text)) (
+unfoldable pub conditional_directive_at : Name → List ℕ → (other : Front) → Front
+conditional_directive_at w text other =
+    cond (same_name w (codes "ifdef")) (with_name (if_defined true) (name_behind text)) (
+    cond (same_name w (codes "ifndef")) (with_name (if_defined false) (name_behind text)) (
+    cond (same_name w (codes "elsif")) (with_name else_if (name_behind text)) (
     cond (same_name w (codes "else")) (Some (otherwise, 0)) (
     cond (same_name w (codes "endif")) (Some (end_if, 0)) other))))
 
@@ -380,24 +341,24 @@ is_line_word w =
 unfoldable pub directive_from : Name → List ℕ → Front
 directive_from w text =
     cond (same_name w (codes "define")) (definition_at text) (
-    cond (same_name w (codes "undef")) (named undefine (name_behind text)) (
+    cond (same_name w (codes "undef")) (with_name undefine (name_behind text)) (
     cond (is_line_word w) (Some (nothing, line_length text)) (Some (use_of w, 0))))
 
 -- behind a backquote, by the word and what stands behind it
 abbrev pub directive_of : Name → List ℕ → Front
-directive_of w text = conditional_at w text (directive_from w text)
+directive_of w text = conditional_directive_at w text (directive_from w text)
 
 unfoldable pub directive_at : List ℕ → Front
 directive_at text =
     cond (begins_with is_letter text)
-    (behind (run_length is_word_byte text) (directive_of (take (run_length is_word_byte text) text) (drop (run_length is_word_byte text) text)))
+    (further (run_length is_word_byte text) (directive_of (take (run_length is_word_byte text) text) (drop (run_length is_word_byte text) text)))
     None
 
 -- the same in text that a conditional leaves out, where the directives of conditionals alone count
 unfoldable pub conditional_behind : List ℕ → Front
 conditional_behind text =
-    behind (run_length is_word_byte text)
-    (conditional_at (take (run_length is_word_byte text) text) (drop (run_length is_word_byte text) text) (Some (nothing, 0)))
+    further (run_length is_word_byte text)
+    (conditional_directive_at (take (run_length is_word_byte text) text) (drop (run_length is_word_byte text) text) (Some (nothing, 0)))
 
 -- ---- the front of a text: its first byte and what stands behind it
 
@@ -405,20 +366,20 @@ conditional_behind text =
 unfoldable pub read_at : (is_macro : Bool) → ℕ → List ℕ → Front
 read_at is_macro b bs =
     cond (is_blank_before is_macro b bs) (Some (nothing, blank_length is_macro bs)) (
-    cond (is_letter b) (word_at b bs) (
+    cond (is_letter b) (word_front b bs) (
     cond (is_digit b) (number_at b bs) (
-    cond (b == 39) (based_at is_macro b bs) (
-    cond (b == 34) (if_closed left_out (string_length false bs)) (
-    cond (b == 36) (system_at b bs) (
-    cond (b == 92) (escaped_at bs) (
-    cond (b == 96) (directive_at bs) (
-    cond (b == 47) (slash_at bs) (
-    cond (b == 40) (bracket_at is_macro bs) (
+    cond (b == code "'") (based_at is_macro b bs) (
+    cond (b == code "\"") (if_closed excluded (string_length false bs)) (
+    cond (b == code "$") (system_at b bs) (
+    cond (b == code "\\") (escaped_at bs) (
+    cond (b == code "`") (directive_at bs) (
+    cond (b == code "/") (slash_at bs) (
+    cond (b == code "(") (bracket_at is_macro bs) (
     mark_at b bs))))))))))
 
 -- of a text that a conditional leaves out; a backslash means something in a string alone
 unfoldable pub left_out_at : ℕ → List ℕ → Front
 left_out_at b bs =
-    cond (b == 96) (conditional_behind bs) (
-    cond (b == 47 && begins_with (λ c. c == 47) bs) (Some (nothing, line_length bs))
+    cond (b == code "`") (conditional_behind bs) (
+    cond (b == code "/" && begins_with (λ c. c == code "/") bs) (Some (nothing, line_length bs))
     (if_closed nothing (passed_length b bs)))

@@ -1,4 +1,5 @@
 -- The grammar: which tokens, in front of those that follow, spell each part of a Verilog source (IEEE 1364-2005, annex A).
+use Prim.Native.Char.{code}
 use Rattle.std.specs.Prelude.{◌≡◌, ℕ, suc, ◌+◌, ◌*◌, ◌-◌, ◌^◌, ◌%◌, Bool, true, false, cond, ◌&&◌, ◌||◌, ◌==◌, nat_le, min, List, [], ◌∷◌, codes, Option, Some, None}
 use Rattle.std.specs.List.{list_any}
 use Rattle.wb_values.specs.Value.{Name}
@@ -14,23 +15,25 @@ IsIdentifier n = is_reserved n ≡ false
 -- ---- numbers (3.5.1)
 
 abbrev pub is_decimal_digit : ℕ → Bool
-is_decimal_digit b = nat_le 48 b && nat_le b 57
+is_decimal_digit b = nat_le (code "0") b && nat_le b (code "9")
 
 -- what a digit of any base stands for, x, z and ? for 0
 abbrev pub digit_value : ℕ → ℕ
 digit_value b =
-    cond (is_decimal_digit b) (b - 48) (cond (nat_le 97 b && nat_le b 102) (b - 87) (cond (nat_le 65 b && nat_le b 70) (b - 55) 0))
+    cond (is_decimal_digit b) (b - code "0") (
+    cond (nat_le (code "a") b && nat_le b (code "f")) (b - (code "a" - 10)) (
+    cond (nat_le (code "A") b && nat_le b (code "F")) (b - (code "A" - 10)) 0))
 
 -- x or X; z, Z or ?
 abbrev pub is_x : ℕ → Bool
-is_x b = b == 120 || b == 88
+is_x b = b == code "x" || b == code "X"
 
 abbrev pub is_z : ℕ → Bool
-is_z b = b == 122 || b == 90 || b == 63
+is_z b = b == code "z" || b == code "Z" || b == code "?"
 
 -- _ and blanks say nothing
 abbrev pub is_silent : ℕ → Bool
-is_silent b = b == 95 || b == 92 || nat_le b 32
+is_silent b = b == code "_" || b == code "\\" || nat_le b (code " ")
 
 -- A number from digits, the first the highest, by what each stands for.
 abbrev pub digits_from : (base : ℕ) → (ℕ → ℕ) → ℕ → List ℕ → ℕ
@@ -41,7 +44,10 @@ abbrev pub decimal_value : List ℕ → ℕ
 decimal_value text = digits_from 10 digit_value 0 text
 
 abbrev pub base_of : ℕ → ℕ
-base_of b = cond (b == 98 || b == 66) 2 (cond (b == 111 || b == 79) 8 (cond (b == 104 || b == 72) 16 10))
+base_of b =
+    cond (b == code "b" || b == code "B") 2 (
+    cond (b == code "o" || b == code "O") 8 (
+    cond (b == code "h" || b == code "H") 16 10))
 
 -- the bits of a digit all 1 where it is of a kind, else 0
 abbrev pub filled_where : (base : ℕ) → (ℕ → Bool) → ℕ → ℕ
@@ -104,7 +110,7 @@ behind_sign size signed (b ∷ digits) = number_in_base size signed (base_of b) 
 
 -- A based number, from its quote on: perhaps s, the base, the digits.
 abbrev pub based_number : (size : Option ℕ) → List ℕ → Number
-based_number size (quote ∷ b ∷ text) = cond (b == 115 || b == 83) (behind_sign size true text) (behind_sign size false (b ∷ text))
+based_number size (quote ∷ b ∷ text) = cond (b == code "s" || b == code "S") (behind_sign size true text) (behind_sign size false (b ∷ text))
 based_number size _ = behind_sign size false []
 
 pub data IsNumber : Number → (text rest : List Token) → Type 0 where

@@ -1,12 +1,39 @@
--- The tokens of Verilog files: macros, conditionals, and what is refused (IEEE 1364-2005, clause 19).
-use Rattle.std.specs.Prelude.{ℕ, zero, suc, ◌+◌, Bool, true, false, cond, not, ◌&&◌, ◌||◌, ◌==◌, nat_le, nat_lt, List, [], ◌∷◌, ◌++◌, length, Option, Some, None, Result, Ok, Err, codes}
+-- The tokens of Verilog files: macros and conditionals (IEEE 1364-2005, clause 19), and what is refused.
+use Rattle.std.specs.Prelude.{ℕ, zero, suc, ◌+◌, Bool, true, false, cond, not, ◌&&◌, ◌||◌, ◌==◌, nat_lt, List, [], ◌∷◌, ◌++◌, length, drop, Option, Some, None, Result, Ok, Err, codes}
 use Rattle.std.specs.List.{list_all}
 use Rattle.std.specs.Str.{is_utf8}
+use Prim.Native.Char.{code}
 use Rattle.wb_values.specs.Value.{Name, same_name}
 use Rattle.verilog_text.specs.Token.{Mark, left_parenthesis, right_parenthesis, left_bracket, right_bracket, left_brace, right_brace, semicolon, colon, question, Token, word, decimal, based, mark}
-use Rattle.verilog_text.specs.Lexical.{Piece, nothing, token, left_out, misdirected, define, undefine, if_defined, else_if, otherwise, end_if, use_of, Front, read_at, left_out_at}
+use Rattle.verilog_text.specs.Lexical.{Piece, token, excluded, misdirected, define, undefine, if_defined, else_if, otherwise, end_if, use_of, Front, read_at, left_out_at}
 
--- ---- what is known behind a part of the text
+-- why files are refused, in the order in which the kinds are answered
+pub data Refusal : Type 0 where
+  -- not UTF-8; what begins no token; a wrong directive; what the subset leaves out; nested too deep
+  not_text bad_token bad_directive unsupported too_deep : Refusal
+
+-- ---- the parts of files after expansion
+
+-- A part of what is read. Files are a list of parts, the last one first, so that the rest of the list is what was read before.
+pub data Part : Type 0 where
+  -- What stands at the front of a text. After a use of a macro come the parts of the macro's text.
+  piece : Piece → Part
+  -- a byte at which no token begins
+  stray : Part
+  -- a macro is used within 64 others: its text is not read
+  nested_use : Part
+  end_of_file : Part
+
+-- What a name stands for after some parts: the text of its last definition, if it was not undefined since.
+unfoldable pub macro_after : List Part → Name → Option (List ℕ)
+macro_after [] n = None
+macro_after (piece (define m text) ∷ before) n = cond (same_name m n) (Some text) (macro_after before n)
+macro_after (piece (undefine m) ∷ before) n = cond (same_name m n) None (macro_after before n)
+macro_after (_ ∷ before) n = macro_after before n
+
+abbrev pub is_defined : Option (List ℕ) → Bool
+is_defined (Some text) = true
+is_defined None = false
 
 -- Of a conditional: its text is read; no branch was read yet; a branch was read, or none is to be read.
 pub data Branch : Type 0 where
@@ -15,77 +42,6 @@ pub data Branch : Type 0 where
 pub record Conditional : Type 0 where
   pub branch : Branch
   pub has_else : Bool
-
--- why texts are refused
-pub data Refusal : Type 0 where
-  -- not UTF-8; what begins no token; a wrong directive; what the subset leaves out; nested too deep
-  not_text bad_token bad_directive unsupported too_deep : Refusal
-
-pub record Reading : Type 0 where
-  pub macros : Name → Option (List ℕ)
-  -- the open conditionals of this file, the innermost first
-  pub conditionals : List Conditional
-  pub tokens : List Token
-  -- the token before is a plain decimal of value 0
-  pub behind_zero : Bool
-  -- the bytes of the macros' texts, counted at each use
-  pub used : ℕ
-  pub has_bad_directive : Bool
-  pub has_left_out : Bool
-
-abbrev pub first_reading : Reading
-first_reading = record { macros = λ n. None; conditionals = []; tokens = []; behind_zero = false; used = 0; has_bad_directive = false; has_left_out = false }
-
--- The reading behind a part of the text, or why it ends there. It ends where no token begins and where a limit is passed; at
--- other faults it goes on, since what begins no token is refused first wherever it stands.
-abbrev pub Outcome : Type 0
-Outcome = Result Reading Refusal
-
-abbrev pub then : Outcome → (Reading → Outcome) → Outcome
-then (Ok r) f = f r
-then (Err e) f = Err e
-
--- ---- one piece
-
-abbrev pub with_bad_directive : Reading → Reading
-with_bad_directive r = record { macros = r.macros; conditionals = r.conditionals; tokens = r.tokens; behind_zero = r.behind_zero; used = r.used; has_bad_directive = true; has_left_out = r.has_left_out }
-
-abbrev pub with_left_out : Reading → Reading
-with_left_out r = record { macros = r.macros; conditionals = r.conditionals; tokens = r.tokens; behind_zero = false; used = r.used; has_bad_directive = r.has_bad_directive; has_left_out = true }
-
-abbrev pub with_conditionals : List Conditional → Reading → Reading
-with_conditionals cs r = record { macros = r.macros; conditionals = cs; tokens = r.tokens; behind_zero = r.behind_zero; used = r.used; has_bad_directive = r.has_bad_directive; has_left_out = r.has_left_out }
-
--- a name defined, or not any more; a later definition replaces an earlier one
-abbrev pub with_macro : Name → Option (List ℕ) → Reading → Reading
-with_macro n text r = record { macros = λ q. cond (same_name n q) text (r.macros q); conditionals = r.conditionals; tokens = r.tokens; behind_zero = r.behind_zero; used = r.used; has_bad_directive = r.has_bad_directive; has_left_out = r.has_left_out }
-
-abbrev pub with_use : ℕ → Reading → Reading
-with_use n r = record { macros = r.macros; conditionals = r.conditionals; tokens = r.tokens; behind_zero = r.behind_zero; used = r.used + n; has_bad_directive = r.has_bad_directive; has_left_out = r.has_left_out }
-
-abbrev pub is_zero : Token → Bool
-is_zero (decimal text) = list_all (λ b. b == 48 || b == 95) text
-is_zero _ = false
-
-abbrev pub is_based : Token → Bool
-is_based (based text) = true
-is_based _ = false
-
-abbrev pub with_pushed : Token → Reading → Reading
-with_pushed t r = record { macros = r.macros; conditionals = r.conditionals; tokens = r.tokens ++ t ∷ []; behind_zero = is_zero t; used = r.used; has_bad_directive = r.has_bad_directive; has_left_out = r.has_left_out }
-
--- the most tokens of all files, and the most bytes of macros' texts, counted at each use
-unfoldable pub most_tokens : ℕ
-most_tokens = 4194304
-
-unfoldable pub most_used : ℕ
-most_used = 67108864
-
--- One token more: a size before a based number is above 0.
-unfoldable pub with_token : Token → Reading → Outcome
-with_token t r =
-    cond (r.behind_zero && is_based t) (Err bad_token) (
-    cond (nat_lt (length r.tokens) most_tokens) (Ok (with_pushed t r)) (Err bad_directive))
 
 abbrev pub is_taken : Branch → Bool
 is_taken taken = true
@@ -99,98 +55,167 @@ leaves_out (c ∷ cs) = not (is_taken c.branch)
 abbrev pub first_branch : (is_left_out holds : Bool) → Branch
 first_branch is_left_out holds = cond is_left_out passed (cond holds taken waiting)
 
--- the branch behind `else or `elsif, whose condition holds or not
+-- the branch after `else or `elsif, whose condition holds or not
 abbrev pub next_branch : Branch → (holds : Bool) → Branch
 next_branch waiting holds = cond holds taken waiting
 next_branch _ holds = passed
 
-abbrev pub is_defined : Option (List ℕ) → Bool
-is_defined (Some text) = true
-is_defined None = false
+-- one conditional more, whose condition holds or not
+abbrev pub with_conditional : (holds : Bool) → List Conditional → List Conditional
+with_conditional holds cs = record { branch = first_branch (leaves_out cs) holds; has_else = false } ∷ cs
 
-unfoldable pub begun : (holds : Bool) → Reading → Reading
-begun holds r = with_conditionals (record { branch = first_branch (leaves_out r.conditionals) holds; has_else = false } ∷ r.conditionals) r
+-- The next branch of the innermost conditional, which has none after its `else.
+abbrev pub with_branch : (is_else holds : Bool) → List Conditional → List Conditional
+with_branch is_else holds [] = []
+with_branch is_else holds (c ∷ cs) = cond c.has_else (c ∷ cs) (record { branch = next_branch c.branch holds; has_else = is_else } ∷ cs)
 
--- an `elsif, or an `else as the last: within a conditional, and not behind its `else
-abbrev pub continued_from : List Conditional → (is_last holds : Bool) → Reading → Reading
-continued_from [] is_last holds r = with_bad_directive r
-continued_from (c ∷ cs) is_last holds r =
-    cond c.has_else (with_bad_directive r)
-    (with_conditionals (record { branch = next_branch c.branch holds; has_else = is_last } ∷ cs) r)
+-- the conditionals that are open after some parts, the innermost first; each file has its own
+unfoldable pub open_after : List Part → List Conditional
+open_after [] = []
+open_after (piece (if_defined true n) ∷ before) = with_conditional (is_defined (macro_after before n)) (open_after before)
+open_after (piece (if_defined false n) ∷ before) = with_conditional (not (is_defined (macro_after before n))) (open_after before)
+open_after (piece (else_if n) ∷ before) = with_branch false (is_defined (macro_after before n)) (open_after before)
+open_after (piece otherwise ∷ before) = with_branch true true (open_after before)
+open_after (piece end_if ∷ before) = drop 1 (open_after before)
+open_after (end_of_file ∷ before) = []
+open_after (_ ∷ before) = open_after before
 
-unfoldable pub continued : (is_last holds : Bool) → Reading → Reading
-continued is_last holds r = continued_from r.conditionals is_last holds r
+-- the front of a text that is read after some parts, by its first byte and what stands behind it
+unfoldable pub front_after : List Part → (is_macro : Bool) → ℕ → List ℕ → Front
+front_after before is_macro b bs = cond (leaves_out (open_after before)) (left_out_at b bs) (read_at is_macro b bs)
 
-abbrev pub ended_from : List Conditional → Reading → Reading
-ended_from [] r = with_bad_directive r
-ended_from (c ∷ cs) r = with_conditionals cs r
+-- What a text adds to the parts before it.
+abbrev pub Expansion : Type 0
+Expansion = List ℕ → List Part → List Part
 
-unfoldable pub ended : Reading → Reading
-ended r = ended_from r.conditionals r
+abbrev pub with_expansion : Expansion → Option (List ℕ) → List Part → List Part
+with_expansion expand (Some text) before = expand text before
+with_expansion expand None before = before
 
--- A macro's text is read where it is used, as it is defined there. Reading it is handed in.
-abbrev pub with_text_of : (List ℕ → Reading → Outcome) → Option (List ℕ) → Reading → Outcome
-with_text_of read (Some text) r = cond (nat_le (r.used + length text) most_used) (read text (with_use (length text) r)) (Err bad_directive)
-with_text_of read None r = Ok (with_bad_directive r)
+-- One piece more; a use of a macro takes along the parts of the macro's text. How a text is expanded is handed in.
+abbrev pub with_next : Expansion → Piece → List Part → List Part
+with_next expand (use_of n) before = with_expansion expand (macro_after before n) (piece (use_of n) ∷ before)
+with_next expand p before = piece p ∷ before
 
-unfoldable pub with_piece : (List ℕ → Reading → Outcome) → Piece → Reading → Outcome
-with_piece read nothing r = Ok r
-with_piece read (token t) r = with_token t r
-with_piece read left_out r = Ok (with_left_out r)
-with_piece read misdirected r = Ok (with_bad_directive r)
-with_piece read (define n text) r = Ok (with_macro n (Some text) r)
-with_piece read (undefine n) r = Ok (with_macro n None r)
-with_piece read (if_defined wanted n) r = Ok (begun (cond wanted (is_defined (r.macros n)) (not (is_defined (r.macros n)))) r)
-with_piece read (else_if n) r = Ok (continued false (is_defined (r.macros n)) r)
-with_piece read otherwise r = Ok (continued true true r)
-with_piece read end_if r = Ok (ended r)
-with_piece read (use_of n) r = with_text_of read (r.macros n) r
+abbrev pub with_front : Expansion → Front → List Part → (more : ℕ → List Part → List Part) → List Part
+with_front expand (Some f) before more = more f.1 (with_next expand f.0 before)
+with_front expand None before more = more 0 (stray ∷ before)
 
--- ---- texts and files
+-- A text adds what stands at its front, then what stands at the front of the rest, and so on. The first bytes, so many, belong to the
+-- part before.
+unfoldable pub with_parts : (is_macro : Bool) → Expansion → ℕ → List ℕ → List Part → List Part
+with_parts is_macro expand n [] before = before
+with_parts is_macro expand (suc n) (b ∷ bs) before = with_parts is_macro expand n bs before
+with_parts is_macro expand zero (b ∷ bs) before =
+    with_front expand (front_after before is_macro b bs) before (λ n parts. with_parts is_macro expand n bs parts)
 
-unfoldable pub front_at : (is_macro : Bool) → Reading → ℕ → List ℕ → Front
-front_at is_macro r b bs = cond (leaves_out r.conditionals) (left_out_at b bs) (read_at is_macro b bs)
-
--- a piece, and what stands behind it
-abbrev pub piece_then : (List ℕ → Reading → Outcome) → Front → Reading → (ℕ → Reading → Outcome) → Outcome
-piece_then read (Some f) r more = then (with_piece read f.0 r) (more f.1)
-piece_then read None r more = Err bad_token
-
--- What a text adds, behind so many bytes of it that belong to the piece before: piece by piece. Reading the macros that it uses
--- is handed in.
-unfoldable pub text_from : (is_macro : Bool) → (List ℕ → Reading → Outcome) → ℕ → List ℕ → Reading → Outcome
-text_from is_macro read n [] r = Ok r
-text_from is_macro read (suc n) (b ∷ bs) r = text_from is_macro read n bs r
-text_from is_macro read zero (b ∷ bs) r = piece_then read (front_at is_macro r b bs) r (λ n s. text_from is_macro read n bs s)
-
--- the text of a macro, with so many levels left for uses
-unfoldable pub macro_read : (levels : ℕ) → List ℕ → Reading → Outcome
-macro_read zero text r = Ok (with_bad_directive r)
-macro_read (suc levels) text r = text_from true (macro_read levels) 0 text r
+-- what the text of a macro adds, with so many levels left for uses in it
+unfoldable pub with_macro_text : (levels : ℕ) → List ℕ → List Part → List Part
+with_macro_text zero text before = nested_use ∷ before
+with_macro_text (suc levels) text before = with_parts true (with_macro_text levels) 0 text before
 
 -- a file without the byte order mark that may stand at its front
 unfoldable pub without_byte_order_mark : List ℕ → List ℕ
-without_byte_order_mark (a ∷ b ∷ c ∷ bytes) = cond (a == 239 && b == 187 && c == 191) bytes (a ∷ b ∷ c ∷ bytes)
+without_byte_order_mark (a ∷ b ∷ c ∷ bytes) = cond (a == 0xef && b == 0xbb && c == 0xbf) bytes (a ∷ b ∷ c ∷ bytes)
 without_byte_order_mark bytes = bytes
 
--- Each file is read by itself, and macros carry over.
-unfoldable pub opened : Reading → Reading
-opened r = record { macros = r.macros; conditionals = []; tokens = r.tokens; behind_zero = r.behind_zero; used = r.used; has_bad_directive = r.has_bad_directive; has_left_out = r.has_left_out }
+unfoldable pub with_file : List ℕ → List Part → List Part
+with_file bytes before = end_of_file ∷ with_parts false (with_macro_text 64) 0 (without_byte_order_mark bytes) before
 
--- at the end of a file no conditional is open
-abbrev pub closed_from : List Conditional → Reading → Reading
-closed_from [] r = r
-closed_from (c ∷ cs) r = with_bad_directive r
+-- Files in order; macros carry over from file to file.
+unfoldable pub with_files : List (List ℕ) → List Part → List Part
+with_files [] before = before
+with_files (f ∷ fs) before = with_files fs (with_file f before)
 
-unfoldable pub closed : Reading → Reading
-closed r = closed_from r.conditionals r
+-- ---- tokens and limits
 
-unfoldable pub file_read : List ℕ → Reading → Outcome
-file_read bytes r = then (text_from false (macro_read 64) 0 (without_byte_order_mark bytes) (opened r)) (λ s. Ok (closed s))
+-- the tokens of some parts, in order
+unfoldable pub tokens_read : List Part → List Token
+tokens_read [] = []
+tokens_read (piece (token t) ∷ before) = tokens_read before ++ t ∷ []
+tokens_read (_ ∷ before) = tokens_read before
 
-unfoldable pub files_read : List (List ℕ) → Reading → Outcome
-files_read [] r = Ok r
-files_read (f ∷ fs) r = then (file_read f r) (files_read fs)
+abbrev pub plus_length : ℕ → Option (List ℕ) → ℕ
+plus_length n (Some text) = n + length text
+plus_length n None = n
+
+-- the bytes of macros' texts, counted at each use
+unfoldable pub bytes_used : List Part → ℕ
+bytes_used [] = 0
+bytes_used (piece (use_of n) ∷ before) = plus_length (bytes_used before) (macro_after before n)
+bytes_used (_ ∷ before) = bytes_used before
+
+-- the most tokens of all files, and the most bytes of macros' texts, counted at each use
+unfoldable pub most_tokens : ℕ
+most_tokens = 4194304
+
+unfoldable pub most_used : ℕ
+most_used = 67108864
+
+-- there are more tokens, or more bytes of macros' texts, than there may be
+unfoldable pub passes_limit : List Part → Bool
+passes_limit parts = nat_lt most_tokens (length (tokens_read parts)) || nat_lt most_used (bytes_used parts)
+
+-- ---- what begins no token
+
+abbrev pub is_zero : Token → Bool
+is_zero (decimal text) = list_all (λ b. b == code "0" || b == code "_") text
+is_zero _ = false
+
+abbrev pub is_based : Token → Bool
+is_based (based text) = true
+is_based _ = false
+
+-- The last token is a plain decimal of value 0, and nothing that the subset leaves out comes after it.
+unfoldable pub is_zero_last : List Part → Bool
+is_zero_last [] = false
+is_zero_last (piece (token t) ∷ before) = is_zero t
+is_zero_last (piece excluded ∷ before) = false
+is_zero_last (_ ∷ before) = is_zero_last before
+
+-- A byte begins no token, or a size before a based number is 0.
+abbrev pub is_bad_token : Part → (before : List Part) → Bool
+is_bad_token (piece (token t)) before = is_zero_last before && is_based t
+is_bad_token stray before = true
+is_bad_token _ before = false
+
+-- such a part anywhere, up to where a limit is passed: there the reading ends
+unfoldable pub has_bad_token : List Part → Bool
+has_bad_token [] = false
+has_bad_token (p ∷ before) = has_bad_token before || not (passes_limit before) && is_bad_token p before
+
+-- ---- wrong directives
+
+abbrev pub may_have_branch : List Conditional → Bool
+may_have_branch [] = false
+may_have_branch (c ∷ cs) = not c.has_else
+
+abbrev pub is_none_open : List Conditional → Bool
+is_none_open [] = true
+is_none_open (c ∷ cs) = false
+
+-- A directive that is written wrongly, a macro that is not defined, uses nested too deep, an `elsif or `else without a conditional or
+-- after its `else, an `endif without a conditional, a file's end within one.
+unfoldable pub is_bad_directive : Part → (before : List Part) → Bool
+is_bad_directive (piece misdirected) before = true
+is_bad_directive (piece (use_of n)) before = not (is_defined (macro_after before n))
+is_bad_directive nested_use before = true
+is_bad_directive (piece (else_if n)) before = not (may_have_branch (open_after before))
+is_bad_directive (piece otherwise) before = not (may_have_branch (open_after before))
+is_bad_directive (piece end_if) before = is_none_open (open_after before)
+is_bad_directive end_of_file before = not (is_none_open (open_after before))
+is_bad_directive _ before = false
+
+unfoldable pub has_bad_directive : List Part → Bool
+has_bad_directive [] = false
+has_bad_directive (p ∷ before) = is_bad_directive p before || has_bad_directive before
+
+-- ---- what the subset leaves out
+
+unfoldable pub has_excluded : List Part → Bool
+has_excluded [] = false
+has_excluded (piece excluded ∷ before) = true
+has_excluded (_ ∷ before) = has_excluded before
 
 -- ---- nesting
 
@@ -230,17 +255,17 @@ step_of (word w) = step_of_word w
 step_of (mark m) = step_of_mark m
 step_of _ = stays
 
-abbrev pub place_of : Opening → ℕ
-place_of in_parentheses = 0
-place_of in_brackets = 1
-place_of in_braces = 2
-place_of in_block = 3
-place_of in_case = 4
-place_of in_if = 5
-place_of in_choice = 6
+abbrev pub opening_number : Opening → ℕ
+opening_number in_parentheses = 0
+opening_number in_brackets = 1
+opening_number in_braces = 2
+opening_number in_block = 3
+opening_number in_case = 4
+opening_number in_if = 5
+opening_number in_choice = 6
 
 abbrev pub is_same_opening : Opening → Opening → Bool
-is_same_opening x y = place_of x == place_of y
+is_same_opening x y = opening_number x == opening_number y
 
 abbrev pub or_all : List Opening → Option (List Opening) → List Opening
 or_all all (Some rest) = rest
@@ -275,16 +300,14 @@ is_too_deep xs (t ∷ ts) = nat_lt 200 (length (open_behind (step_of t) xs)) || 
 
 -- ---- the answer
 
-unfoldable pub judged : Reading → Result (List Token) Refusal
-judged r =
-    cond r.has_bad_directive (Err bad_directive) (
-    cond r.has_left_out (Err unsupported) (
-    cond (is_too_deep [] r.tokens) (Err too_deep) (Ok r.tokens)))
+-- The first kind, in the order of the kinds, that some part of the files has; else the tokens.
+unfoldable pub answer_of : List Part → Result (List Token) Refusal
+answer_of all =
+    cond (has_bad_token all) (Err bad_token) (
+    cond (passes_limit all || has_bad_directive all) (Err bad_directive) (
+    cond (has_excluded all) (Err unsupported) (
+    cond (is_too_deep [] (tokens_read all)) (Err too_deep) (Ok (tokens_read all)))))
 
-abbrev pub judged_from : Outcome → Result (List Token) Refusal
-judged_from (Ok r) = judged r
-judged_from (Err e) = Err e
-
--- The tokens of all files in order, or the first in the order of refusals that applies anywhere in them.
+-- The tokens of all files in order, or why they are refused.
 unfoldable pub tokens_in : List (List ℕ) → Result (List Token) Refusal
-tokens_in files = cond (list_all is_utf8 files) (judged_from (files_read files first_reading)) (Err not_text)
+tokens_in files = cond (list_all is_utf8 files) (answer_of (with_files files [])) (Err not_text)

@@ -1,5 +1,5 @@
 -- The tokens of Verilog text (IEEE 1364-2005, clause 3).
-use Rattle.std.specs.Prelude.{ℕ, List, codes}
+use Rattle.std.specs.Prelude.{ℕ, List, [], ◌∷◌, codes}
 use Rattle.wb_values.specs.Value.{Name}
 
 -- The operators and marks of the grammar, named by what they look like.
@@ -75,6 +75,14 @@ spelling_of double_equals = codes "=="
 spelling_of exclamation_equals = codes "!="
 spelling_of triple_equals = codes "==="
 spelling_of exclamation_double_equals = codes "!=="
+
+-- all operators and marks
+unfoldable pub marks : List Mark
+marks =
+    triple_less ∷ triple_greater ∷ triple_equals ∷ exclamation_double_equals ∷ plus_colon ∷ minus_colon ∷ double_star ∷ tilde_ampersand ∷ tilde_bar ∷ tilde_caret ∷ caret_tilde
+    ∷ double_ampersand ∷ double_bar ∷ less_equals ∷ greater_equals ∷ double_less ∷ double_greater ∷ double_equals ∷ exclamation_equals ∷ left_parenthesis ∷ right_parenthesis
+    ∷ left_bracket ∷ right_bracket ∷ left_brace ∷ right_brace ∷ comma ∷ semicolon ∷ colon ∷ dot ∷ hash ∷ at ∷ question ∷ equals ∷ plus ∷ minus ∷ star ∷ slash ∷ percent
+    ∷ exclamation ∷ tilde ∷ ampersand ∷ bar ∷ caret ∷ less ∷ greater ∷ []
 
 -- the text of a token
 abbrev pub text_of : Token → List ℕ

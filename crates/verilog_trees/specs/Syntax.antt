@@ -2,9 +2,10 @@
 use Rattle.std.specs.Prelude.{ℕ, Bool, List, Option}
 use Rattle.wb_values.specs.Value.{Name}
 
--- A number (1364-2005, 3.5.1): its width, 32 where no size stands; whether it has a size and a sign;
--- its bits, those of x and z digits as 0; the bits of x digits; the bits of z and ? digits;
--- whether some digit is x, and whether some is z or ?, of all digits as written, those too of which it keeps no bit.
+-- A number (1364-2005, 3.5.1): its width, 32 where no size stands; whether it has a size; whether it is signed;
+-- its bits, those of x, z and ? digits as 0; the bits of x digits; the bits of z and ? digits, and the bits to the left of all
+-- digits where the leftmost digit is z or ?; whether some digit is x, and whether some is z or ?, of all digits as written,
+-- those too of which it keeps no bit. (To the left of a leftmost x digit the bits are 0: no accepted number has an x digit.)
 pub record Number : Type 0 where
   pub width : ℕ
   pub sized : Bool
@@ -67,7 +68,7 @@ mutual
     part : (left right : Expression) → Select
     part_up part_down : (base width : Expression) → Select
 
-  -- none, one or two behind a name
+  -- none, one or two after a name
   pub data Selects : Type 0 where
     whole : Selects
     one : Select → Selects

@@ -5,7 +5,7 @@ use mathlib.Core.Path.{ap₂}
 use Rattle.wb_values.specs.Value.{Name, Valuation}
 use Rattle.verilog_trees.specs.Syntax.{whole, add, equal}
 use Rattle.verilog_meaning.specs.Expression.{Scope, width_of, sign_of, value_of, is_true, assigned_value, is_nonzero, widened, selects_width, whole_value, binary_value, comparison_value, integer_from, bit}
-use Rattle.verilog_meaning.specs.Statement.{variable, all_bits, run, run_all, Effect, unchanged}
+use Rattle.verilog_meaning.specs.Statement.{variable_cell, all_bits, run, run_all, Effect, unchanged}
 use Rattle.first_text.specs.Tree.{Primary, identifier, decimal, primary_tree, Term, single, sum, equality, term_tree, Action, set, sequence, when, when_else, Actions, no_actions, action, action_tree, actions_tree}
 use Rattle.wb_first.specs.Accepted.{all_names, primary_names, term_names, read_names, all_read_names}
 
@@ -86,7 +86,7 @@ mutual
   pub updates_same : (s : Scope) (p : Name → Bool) (v u : Valuation) → ((n : Name) → p n ≡ true → v n ≡ u n)
       → (a : Action) → all_names p (read_names a) ≡ true → (run s (action_tree a) v).updates ≡ (run s (action_tree a) u).updates
   updates_same s p v u alike (set n e) h =
-      ap (λ x. record { places = record { of_name = n; cell = variable; bits = all_bits (s n) } ∷ []; value = x } ∷ [])
+      ap (λ x. record { places = record { of_name = n; cell = variable_cell; bits = all_bits (s n) } ∷ []; value = x } ∷ [])
       (assigned_same s p v u alike e h (selects_width s (s n) whole))
   updates_same s p v u alike (sequence list) h = all_updates_same s p v u alike list h
   updates_same s p v u alike (when c a) h =

@@ -2,7 +2,7 @@
 use Rattle.std.proofs.Common.{◌≡◌, ℕ, zero, suc, ◌<◌, ◌≤◌, true, false, cond, [], subst, sym, refl, arith}
 use Rattle.wb_values.specs.Value.{Name, number, Valuation}
 use Rattle.verilog_trees.specs.Syntax.{input}
-use Rattle.verilog_meaning.specs.Settled.{IsValueOf, IsPort, IsSettled}
+use Rattle.verilog_meaning.specs.Settled.{IsValueOf, HasPort, IsSettled}
 use Rattle.verilog_meaning.specs.Next.{AreInputs, IsNext}
 use Rattle.verilog_meaning.specs.Hierarchy.{placed_scope}
 use Rattle.refinement.specs.Run.{Run, IsRun}
@@ -54,7 +54,7 @@ module _ (f : First) (k : Keeps f) (more : KeepsMore f) (x : Valuation) (values 
   inputs_are : (q : Valuation) → ((n : Name) → is_input f.design n ≡ true → IsNumberOf (scope_of_first f.design) n (q n)) → AreInputs (design_of_first f) q
   inputs_are q fits p n e is_port other =
       let only = only_top f k.is_top [] p e in
-      let is_port' : IsPort (module_tree f.design) n input = subst (λ x. IsPort x.of_module n input) only.1 is_port in
+      let is_port' : HasPort (module_tree f.design) n input = subst (λ x. HasPort x.of_module n input) only.1 is_port in
       subst (λ x. IsValueOf (placed_scope x n) (q n)) (sym only.1)
       (value_of_number f.design n (q n) (fits n (port_input f.design n is_port')))
 

@@ -2,8 +2,8 @@
 use Rattle.std.proofs.Common.{◌≡◌, ◌≢◌, ℕ, zero, suc, Bool, true, false, cond, List, [], ◌∷◌, subst, sym, refl, ap, ◌∙◌, Option, Some, None, arith, eq-eqb}
 use Rattle.std.specs.Prelude.{is_some, IsTrue, slice_get}
 use Rattle.wb_values.specs.Value.{Name, same_name, Sort, truth, word, memory, Value, number, truth_value, Valuation, Entries, entry_of}
-use Rattle.model_meaning.specs.Model.{Instruction, instruction, instructions_in, valid_of, decode_of, holds, updated, point_of, StateDeclaration, state_named, states_of, child_of, no_child, child}
-use Rattle.model_meaning.specs.Instruction.{DoesInstruction, Does, state_in}
+use Rattle.model_meaning.specs.Model.{Instruction, instruction, instructions_in, valid_of, decode_of, holds, updated, point_of, StateDeclaration, state_named, states_of, child_program, no_child, child}
+use Rattle.model_meaning.specs.Instruction.{DoesInstruction, Does, own_states}
 use Rattle.verilog_trees.specs.Syntax.{Expression}
 use Rattle.verilog_meaning.specs.Expression.{is_true, self_value}
 use Rattle.refinement.specs.Map.{Setting, mapped_value, mapped_or_zero, sort_of_state, map_scope}
@@ -175,7 +175,7 @@ module _ (f : First) (k : Keeps f) (run : Run) (is_run : IsRun (setting_of f) ru
       (λ j o e n d. one.no_other j o e n (ap (holds (decode_of o)) (point_first f k run is_run) ∙ d)) in
       rw (valid, count) refl
 
-  done_childless : (i : Instruction) → has_no_child (child_of i) ≡ true → (p : Valuation) → DoesInstruction i p (updated (updates_of i) p)
+  done_childless : (i : Instruction) → has_no_child (child_program i) ≡ true → (p : Valuation) → DoesInstruction i p (updated (updates_of i) p)
   done_childless (instruction called decode update no_child) h p = refl
   done_childless (instruction called decode update (child steps program)) h p = absurd (let e : false ≡ true = h in cc)
 
@@ -189,10 +189,10 @@ module _ (f : First) (k : Keeps f) (run : Run) (is_run : IsRun (setting_of f) ru
       by_instruction (Some i) is_o t =
           let point : Valuation = point_of f.model (state_at s run 0) (inputs_at s run 0) in
           let after : Valuation = updated (updates_of i) point in
-          let does : Does f.model i (state_at s run 0) (inputs_at s run 0) (state_in f.model after) =
+          let does : Does f.model i (state_at s run 0) (inputs_at s run 0) (own_states f.model after) =
           (after, done_childless i (childless_at (instructions_in f.model.top) k.childless j i is_o) point, refl) in
-          let result : state_at s run 1 n ≡ state_in f.model after n = m i (state_in f.model after) is_o does in
-          let own : state_in f.model after n ≡ after n = rw is_state refl in
+          let result : state_at s run 1 n ≡ own_states f.model after n = m i (own_states f.model after) is_o does in
+          let own : own_states f.model after n ≡ after n = rw is_state refl in
           not_words (state_of f W n) (updated (updates_of i) (start_point f V) n) (state_compares f k W n)
           (sym (ap (λ q. q n) (state_second f k run is_run)) ∙ (result ∙ (own ∙ ap (λ p. updated (updates_of i) p n) (point_first f k run is_run))))
 

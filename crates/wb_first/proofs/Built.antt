@@ -8,16 +8,16 @@ use Rattle.std.proofs.Math.Pow.{pow_mono}
 use Rattle.wb_values.specs.Value.{Name, same_name, Value, number, as_number, Valuation, Entries, entry_of}
 use Rattle.verilog_trees.specs.Syntax.{place, whole, Direction, input, output}
 use Rattle.verilog_meaning.specs.Expression.{Scope, width_of, sign_of, value_of, assigned_value}
-use Rattle.verilog_meaning.specs.Statement.{variable, all_bits, written, written_cell, places, target_width, with_bits_from}
+use Rattle.verilog_meaning.specs.Statement.{variable_cell, all_bits, written, written_cell, places, target_width, with_bits_from}
 use Rattle.verilog_meaning.specs.Register.{is_bit_of, value_bit, is_set, clocked_blocks, after_edge}
 use Rattle.verilog_meaning.specs.Hierarchy.{placed_scope}
-use Rattle.verilog_meaning.specs.Settled.{inside, IsDeclared, IsValueOf, HasAssigned, HasRunAll, is_counted, one_may_reach, IsDriven, IsSettledIn, IsSettled, IsPort}
+use Rattle.verilog_meaning.specs.Settled.{inside, IsDeclared, IsValueOf, HasAssigned, HasConnected, HasRunAll, is_counted, one_may_reach, IsDriven, IsSettledIn, IsSettled, HasPort}
 use Rattle.verilog_meaning.specs.Next.{AreRegisters, IsNext}
 use Rattle.first_text.specs.Tree.{Term, term_tree, Part, register, assignment, clocked, FirstModule, module_tree, Port}
 use Rattle.wb_first.specs.Names.{First, scope_of_first, bits_of_name, is_input, is_output, is_variable, is_variable_among, is_declared, is_register, assigned, port_named, has_direction, same_direction}
 use Rattle.wb_first.specs.Accepted.{all_names, keys, term_names, is_source, is_net, is_among, are_distinct, variables_agree, is_accepted}
 use Rattle.wb_first.specs.Cycle.{held, assigned_number, settled, next_registers}
-use Rattle.wb_first.proofs.Shape.{assigned_trees, no_combinational, assignments_of, not_memory, first_placed, design_of_first, no_paths, only_top, declared_same, input_port, port_input}
+use Rattle.wb_first.proofs.Shape.{assigned_trees, no_connections, no_combinational, assignments_of, not_memory, first_placed, design_of_first, only_top, only_placed, declared_same, input_port, port_input}
 use Rattle.wb_first.proofs.Bits.{whole_written, zero_unset}
 use Rattle.wb_first.proofs.Alike.{and_left, and_right, assigned_same}
 use Rattle.wb_first.proofs.Edge.{same_name_true, IsNumberOf}
@@ -131,17 +131,16 @@ zero_bit (suc j) b = refl
 pub are_registers : (f : First) → Keeps f → (q : Valuation) → ((n : Name) → is_declared f.design n ≡ true → IsNumberOf (scope_of_first f.design) n (q n))
     → ((n : Name) → is_register f.design n ≡ false → q n ≡ number 0) → AreRegisters (design_of_first f) q
 are_registers f k q fits rest = record {
-  fits = λ path p n e h.
-      (let only = only_top f k.is_top path p e in
-      subst (λ x. IsValueOf (placed_scope p n) (inside q x n)) (sym only.0)
-      (subst (λ x. IsValueOf (placed_scope x n) (q n)) (sym only.1)
-      (let h' : IsDeclared (first_placed f) n = subst (λ x. IsDeclared x n) only.1 h in
-      value_of_number f.design n (q n) (fits n (sym (declared_same f.design n) ∙ h')))));
-  rest_zero = λ path p n j b e h c.
-      (let only = only_top f k.is_top path p e in
-      subst (λ x. value_bit (inside q x n) j b ≡ false) (sym only.0)
-      (let c' : is_counted (first_placed f) n j b ≡ false = subst (λ x. is_counted x n j b ≡ false) only.1 c in
-      let h' : IsDeclared (first_placed f) n = subst (λ x. IsDeclared x n) only.1 h in
+  fits = λ p n e h.
+      (let only = only_placed f k.is_top p e in
+      subst (λ x. IsValueOf (placed_scope x n) (inside q x n)) (sym only)
+      (let h' : IsDeclared (first_placed f) n = subst (λ x. IsDeclared x n) only h in
+      value_of_number f.design n (q n) (fits n (sym (declared_same f.design n) ∙ h'))));
+  rest_zero = λ p n j b e h c.
+      (let only = only_placed f k.is_top p e in
+      subst (λ x. value_bit (inside q x n) j b ≡ false) (sym only)
+      (let c' : is_counted (first_placed f) n j b ≡ false = subst (λ x. is_counted x n j b ≡ false) only c in
+      let h' : IsDeclared (first_placed f) n = subst (λ x. IsDeclared x n) only h in
       rest_low n j b c' (fits n (sym (declared_same f.design n) ∙ h'))));
 }
   where
@@ -265,7 +264,7 @@ module _ (f : First) (k : Keeps f) (more : KeepsMore f) (r i : Valuation)
   equation n e is_e m =
       (elim (same_name n m) as
       (λ t. same_name n m ≡ t
-      → cond t (written_cell (S n) (V n) variable (all_bits (S n)) (assigned_value S V (bits_of_name f.design n) (term_tree e) / 2 ^ 0)) (V m) ≡ V m) [
+      → cond t (written_cell (S n) (V n) variable_cell (all_bits (S n)) (assigned_value S V (bits_of_name f.design n) (term_tree e) / 2 ^ 0)) (V m) ≡ V m) [
         | true ↦ λ t. here ∙ ap V (same_name_true n m t)
         | false ↦ λ t. refl
       ]) refl
@@ -282,7 +281,7 @@ module _ (f : First) (k : Keeps f) (more : KeepsMore f) (r i : Valuation)
       sources : all_names (is_source f) (term_names e) ≡ true
       sources = terms_entry (is_source f) (assigned f.design) k.sources n e is_e
 
-      here : written_cell (S n) (V n) variable (all_bits (S n)) (assigned_value S V (bits_of_name f.design n) (term_tree e) / 2 ^ 0) ≡ V n
+      here : written_cell (S n) (V n) variable_cell (all_bits (S n)) (assigned_value S V (bits_of_name f.design n) (term_tree e) / 2 ^ 0) ≡ V n
       here =
           let x : ℕ = assigned_value S V (bits_of_name f.design n) (term_tree e) in
           let fits : IsNumberOf S n (V n) = value_fits n known in
@@ -302,7 +301,7 @@ module _ (f : First) (k : Keeps f) (more : KeepsMore f) (r i : Valuation)
 
   -- a bit that nothing drives is 0
   undriven_low : (n : Name) (b : ℕ) → is_declared f.design n ≡ true → b < bits_of_name f.design n
-      → ¬ IsDriven (design_of_first f) [] (first_placed f) n 0 b → value_bit (V n) 0 b ≡ false
+      → ¬ IsDriven (design_of_first f) (first_placed f) n 0 b → value_bit (V n) 0 b ≡ false
   undriven_low n b known low free = by_entry (entry_of (assigned f.design) n) refl
     where
       low_bit : V n ≡ number 0 → value_bit (V n) 0 b ≡ false
@@ -345,32 +344,29 @@ module _ (f : First) (k : Keeps f) (more : KeepsMore f) (r i : Valuation)
   counted_register : (n : Name) (j b : ℕ) → is_counted (first_placed f) n j b ≡ true → is_register f.design n ≡ true
   counted_register n j b h = sym (may_be_set S f.design.parts n j b) ∙ and_right _ _ h
 
-  inner : IsSettledIn (design_of_first f) r V [] (first_placed f)
+  inner : IsSettledIn (design_of_first f) r V (first_placed f)
   inner = record {
     fits = λ n h. value_of_number f.design n (V n) (value_fits n (sym (declared_same f.design n) ∙ h));
     held = λ n j b h c. ap (λ x. value_bit x j b) (at_register n (counted_register n j b c));
     assigned =
         subst (λ xs. HasAssigned S V xs) (sym (assignments_of f.design.parts)) (all_equations (assigned f.design) (all_found (assigned f.design) more.distinct));
+    connections =
+        subst (λ cs. HasConnected (design_of_first f) V (first_placed f) cs) (sym (no_connections f.design.parts)) tt;
     combinational = subst (λ xs. HasRunAll S V xs) (sym (no_combinational f.design.parts)) tt;
     undriven = λ n j b h is_bit free.
         (let own = one_word_bit n j b is_bit in
-        let free' : ¬ IsDriven (design_of_first f) [] (first_placed f) n 0 b =
-        subst (λ x. ¬ IsDriven (design_of_first f) [] (first_placed f) n x b) own.0 free in
+        let free' : ¬ IsDriven (design_of_first f) (first_placed f) n 0 b =
+        subst (λ x. ¬ IsDriven (design_of_first f) (first_placed f) n x b) own.0 free in
         subst (λ x. value_bit (V n) x b ≡ false) (sym own.0)
         (undriven_low n b (sym (declared_same f.design n) ∙ h) own.1 free'));
   }
 
   pub is_settled : IsSettled (design_of_first f) r i V
   is_settled = record {
-    modules = λ path p e.
-        (let only = only_top f k.is_top path p e in
-        subst (λ q. IsSettledIn (design_of_first f) r V path q) (sym only.1)
-        (subst (λ q. IsSettledIn (design_of_first f) r V q (first_placed f)) (sym only.0) inner));
-    connections = λ around u p j below e is_j e'.
-        absurd (let clash : None ≡ Some below = sym (no_paths f k.is_top u around) ∙ e' in cc);
+    modules = λ p e. subst (λ q. IsSettledIn (design_of_first f) r V q) (sym (only_placed f k.is_top p e)) inner;
     inputs_held = λ p n e is_port other.
         (let only = only_top f k.is_top [] p e in
-        let is_port' : IsPort (module_tree f.design) n input = subst (λ q. IsPort q.of_module n input) only.1 is_port in
+        let is_port' : HasPort (module_tree f.design) n input = subst (λ q. HasPort q.of_module n input) only.1 is_port in
         at_input n (port_input f.design n is_port') (not_clock n other));
     clock_low = at_clock;
   }
@@ -402,11 +398,10 @@ module _ (f : First) (k : Keeps f) (more : KeepsMore f) (r i : Valuation)
   pub is_next : IsNext (design_of_first f) V (next_registers f r i)
   is_next = record {
     registers = next_are_registers;
-    assigned = λ path p n j b e h c.
-        (let only = only_top f k.is_top path p e in
-        subst (λ q. value_bit (inside (next_registers f r i) q n) j b ≡ value_bit (after_edge (placed_scope p) (clocked_blocks p.of_module.items) (inside V q) n) j b) (sym only.0)
-        (subst (λ q. value_bit (next_registers f r i n) j b ≡ value_bit (after_edge (placed_scope q) (clocked_blocks q.of_module.items) V n) j b) (sym only.1)
-        (let c' : is_counted (first_placed f) n j b ≡ true = subst (λ q. is_counted q n j b ≡ true) only.1 c in
+    assigned = λ p n j b e h c.
+        (let only = only_placed f k.is_top p e in
+        subst (λ q. value_bit (inside (next_registers f r i) q n) j b ≡ value_bit (after_edge (placed_scope q) (clocked_blocks q.of_module.items) (inside V q) n) j b) (sym only)
+        (let c' : is_counted (first_placed f) n j b ≡ true = subst (λ q. is_counted q n j b ≡ true) only c in
         let g : is_register f.design n ≡ true = counted_register n j b c' in
-        rw g refl)));
+        rw g refl));
   }

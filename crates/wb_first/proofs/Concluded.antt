@@ -1,5 +1,5 @@
 -- What values of registers and inputs decide, as it is claimed.
-use Rattle.std.proofs.Common.{◌≡◌, ℕ, Bool, true, false, cond, not, ◌||◌, [], subst, sym, refl, ◌∙◌, arith}
+use Rattle.std.proofs.Common.{◌≡◌, ℕ, Bool, true, false, cond, not, ◌||◌, subst, sym, refl, ◌∙◌, arith}
 use mathlib.Core.Path.{ap₂}
 use Rattle.wb_values.specs.Value.{Name, same_name, Valuation}
 use Rattle.model_meaning.specs.Model.{Instruction, instruction_name, instructions_in}
@@ -27,7 +27,7 @@ use Rattle.wb_first.proofs.Sorts.{AreNumbers, start_sorted, state_sorted, is_sor
 registers_fit : (f : First) → Keeps f → (run : Run) → IsRun (setting_of f) run 1 → (n : Name) → is_declared f.design n ≡ true
     → IsNumberOf (scope_of_first f.design) n (run.registers 0 n)
 registers_fit f k run is_run n h =
-    number_of_value f.design n (run.registers 0 n) (is_run.first.fits [] (first_placed f) n (top_placed f k.is_top) (declared_in f k n h))
+    number_of_value f.design n (run.registers 0 n) (is_run.first.fits (first_placed f) n (top_placed f k.is_top) (declared_in f k n h))
 
 inputs_fit : (f : First) → Keeps f → (run : Run) → IsRun (setting_of f) run 1 → (n : Name) → is_data f n ≡ true → is_input f.design n ≡ true
     → IsNumberOf (scope_of_first f.design) n (run.inputs 0 n)

@@ -6,8 +6,8 @@ use Rattle.std.proofs.Math.Nat.{mod-lt}
 use Rattle.std.proofs.lemmas.Nat.{pow_pos}
 use Rattle.wb_values.specs.Value.{Name, same_name, Value, number, as_number, Valuation}
 use Rattle.verilog_meaning.specs.Expression.{Scope, object_width}
-use Rattle.verilog_meaning.specs.Statement.{variable, all_bits, run, run_all, Effect, Update, written, written_cell, with_update, with_updates, with_bits}
-use Rattle.verilog_meaning.specs.Register.{updates_of, after_edge}
+use Rattle.verilog_meaning.specs.Statement.{variable_cell, all_bits, run, run_all, Effect, Update, written, written_cell, with_update, with_updates, with_bits}
+use Rattle.verilog_meaning.specs.Register.{updates_of_blocks, after_edge}
 use Rattle.verilog_meaning.specs.Expression.{is_true}
 use Rattle.first_text.specs.Tree.{term_tree, Action, set, sequence, when, when_else, Actions, no_actions, action, action_tree, actions_tree}
 use Rattle.wb_first.specs.Accepted.{all_names, set_names, all_set_names, read_names}
@@ -21,7 +21,7 @@ same_name_true m n h = (bytes_eq-Decides m n).0 h
 abbrev pub AreWhole : Scope → (Name → Bool) → List Update → Type 0
 AreWhole s p [] = Unit {0}
 AreWhole s p (u ∷ us) =
-    ((n : Name) × (p n ≡ true) × (u.places ≡ record { of_name = n; cell = variable; bits = all_bits (s n) } ∷ [])) × AreWhole s p us
+    ((n : Name) × (p n ≡ true) × (u.places ≡ record { of_name = n; cell = variable_cell; bits = all_bits (s n) } ∷ [])) × AreWhole s p us
 
 whole_append : (s : Scope) (p : Name → Bool) (us vs : List Update) → AreWhole s p us → AreWhole s p vs → AreWhole s p (us ++ vs)
 whole_append s p [] vs a b = b
@@ -53,7 +53,7 @@ mutual
 
 -- the value of a name after one update
 abbrev cell_after : Scope → Valuation → Name → ℕ → Value
-cell_after s v n x = written_cell (s n) (v n) variable (all_bits (s n)) x
+cell_after s v n x = written_cell (s n) (v n) variable_cell (all_bits (s n)) x
 
 -- What holds of a name's value before and after each update holds after all.
 module _ (s : Scope) (p : Name → Bool) where
@@ -66,7 +66,7 @@ module _ (s : Scope) (p : Name → Bool) where
       (λ m g. subst (λ ps. written s v ps x.value m ≡ written s u ps x.value m) (sym all.0.2)
       (elim (same_name all.0.0 m) as
       (λ b. cond b (cell_after s v all.0.0 (x.value / 2 ^ 0)) (v m) ≡ cond b (cell_after s u all.0.0 (x.value / 2 ^ 0)) (u m)) [
-        | true ↦ ap (λ y. written_cell (s all.0.0) y variable (all_bits (s all.0.0)) (x.value / 2 ^ 0)) (alike all.0.0 all.0.1)
+        | true ↦ ap (λ y. written_cell (s all.0.0) y variable_cell (all_bits (s all.0.0)) (x.value / 2 ^ 0)) (alike all.0.0 all.0.1)
         | false ↦ alike m g
       ]))
       n h
@@ -75,9 +75,9 @@ module _ (s : Scope) (p : Name → Bool) where
 abbrev pub IsNumberOf : Scope → Name → Value → Type 0
 IsNumberOf s n y = (x : ℕ) × (y ≡ number x) × (x < 2 ^ object_width (s n))
 
-written_number : (s : Scope) (m n : Name) (old : Value) (x : ℕ) → same_name m n ≡ true → IsNumberOf s n (written_cell (s m) old variable (all_bits (s m)) x)
+written_number : (s : Scope) (m n : Name) (old : Value) (x : ℕ) → same_name m n ≡ true → IsNumberOf s n (written_cell (s m) old variable_cell (all_bits (s m)) x)
 written_number s m n old x h =
-    subst (λ k. IsNumberOf s k (written_cell (s m) old variable (all_bits (s m)) x)) (same_name_true m n h) (
+    subst (λ k. IsNumberOf s k (written_cell (s m) old variable_cell (all_bits (s m)) x)) (same_name_true m n h) (
       with_bits (object_width (s m)) (as_number old) (all_bits (s m)) x,
       refl,
       mod-lt
@@ -107,21 +107,21 @@ module _ (s : Scope) (p q : Name → Bool) (v u : Valuation) (alike : (n : Name)
   BlocksPass [] = Unit {0}
   BlocksPass (b ∷ bs) = (all_names p (read_names b.1) ≡ true) × (all_names q (set_names b.1) ≡ true) × BlocksPass bs
 
-  all_same : (bs : List (Name × Action)) → BlocksPass bs → updates_of s v (block_trees bs) ≡ updates_of s u (block_trees bs)
+  all_same : (bs : List (Name × Action)) → BlocksPass bs → updates_of_blocks s v (block_trees bs) ≡ updates_of_blocks s u (block_trees bs)
   all_same [] h = refl
   all_same (b ∷ bs) h = ap₂ (λ x y. x ++ y) (updates_same s p v u alike b.1 h.0) (all_same bs h.2)
 
-  all_whole : (bs : List (Name × Action)) → BlocksPass bs → AreWhole s q (updates_of s v (block_trees bs))
+  all_whole : (bs : List (Name × Action)) → BlocksPass bs → AreWhole s q (updates_of_blocks s v (block_trees bs))
   all_whole [] h = tt
   all_whole (b ∷ bs) h =
-      whole_append s q (run s (action_tree b.1) v).updates (updates_of s v (block_trees bs)) (updates_whole s q b.1 v h.1) (all_whole bs h.2)
+      whole_append s q (run s (action_tree b.1) v).updates (updates_of_blocks s v (block_trees bs)) (updates_whole s q b.1 v h.1) (all_whole bs h.2)
 
   pub edge_alike : (bs : List (Name × Action)) → BlocksPass bs → (n : Name) → q n ≡ true
       → after_edge s (block_trees bs) v n ≡ after_edge s (block_trees bs) u n
   edge_alike bs h n g =
-      updated_alike s q (updates_of s v (block_trees bs)) (all_whole bs h) v u (λ m k. alike m (sub m k)) n g
+      updated_alike s q (updates_of_blocks s v (block_trees bs)) (all_whole bs h) v u (λ m k. alike m (sub m k)) n g
       ∙ ap (λ us. with_updates s u us n) (all_same bs h)
 
   pub edge_number : (bs : List (Name × Action)) → BlocksPass bs → ((n : Name) → q n ≡ true → IsNumberOf s n (v n))
       → (n : Name) → q n ≡ true → IsNumberOf s n (after_edge s (block_trees bs) v n)
-  edge_number bs h fits n g = updated_numbers s q (updates_of s v (block_trees bs)) (all_whole bs h) v fits n g
+  edge_number bs h fits n g = updated_numbers s q (updates_of_blocks s v (block_trees bs)) (all_whole bs h) v fits n g

@@ -3,7 +3,7 @@ use Rattle.std.proofs.Common.{◌≡◌, ◌≢◌, ℕ, zero, suc, Bool, true, 
 use Rattle.std.specs.Prelude.{is_some, ◌==◌, slice_get}
 use Rattle.std.proofs.lemmas.Bool.Decides.{nat_tests}
 use Rattle.wb_values.specs.Value.{Name, same_name, Value, number, truth_value, words, Valuation}
-use Rattle.model_meaning.specs.Model.{Instruction, instruction, decode_of, holds, updated, child_of, no_child, child}
+use Rattle.model_meaning.specs.Model.{Instruction, instruction, decode_of, holds, updated, child_program, no_child, child}
 use Rattle.model_meaning.specs.Instruction.{DoesInstruction}
 use Rattle.refinement.specs.Map.{InstructionMap, instruction_map}
 use Rattle.first_text.specs.Tree.{FirstModule}
@@ -106,11 +106,11 @@ one_counted (x ∷ is) p h =
         others (suc k) o e n d = one.no_other k o e (λ q. n (ap suc q)) d
 
 -- an instruction without child does its updates
-pub done_is_updated : (i : Instruction) → has_no_child (child_of i) ≡ true → (p q : Valuation) → DoesInstruction i p q → q ≡ updated (updates_of i) p
+pub done_is_updated : (i : Instruction) → has_no_child (child_program i) ≡ true → (p q : Valuation) → DoesInstruction i p q → q ≡ updated (updates_of i) p
 done_is_updated (instruction called decode update no_child) h p q d = d
 done_is_updated (instruction called decode update (child steps program)) h p q d = absurd (let e : false ≡ true = h in cc)
 
-pub childless_at : (is : List Instruction) → no_children is ≡ true → (j : ℕ) (i : Instruction) → slice_get is j ≡ Some i → has_no_child (child_of i) ≡ true
+pub childless_at : (is : List Instruction) → no_children is ≡ true → (j : ℕ) (i : Instruction) → slice_get is j ≡ Some i → has_no_child (child_program i) ≡ true
 childless_at [] h j i e = cc
-childless_at (x ∷ is) h zero i e = let here : x ≡ i = cc in subst (λ y. has_no_child (child_of y) ≡ true) here (and_left _ _ h)
+childless_at (x ∷ is) h zero i e = let here : x ≡ i = cc in subst (λ y. has_no_child (child_program y) ≡ true) here (and_left _ _ h)
 childless_at (x ∷ is) h (suc j) i e = childless_at is (and_right _ _ h) j i e

@@ -8,15 +8,16 @@ use Rattle.std.proofs.lemmas.Nat.{pow_pos}
 use Rattle.wb_values.specs.Value.{Name, same_name, Value, number, truth_value, words, as_number, Valuation, Entries, entry_of}
 use Rattle.verilog_trees.specs.Syntax.{Statement}
 use Rattle.verilog_meaning.specs.Expression.{Scope, object_width, is_memory, width_of, sign_of, value_of, assigned_value}
-use Rattle.verilog_meaning.specs.Statement.{variable, all_bits, written_cell, with_bits_from}
+use Rattle.verilog_meaning.specs.Statement.{variable_cell, all_bits, written_cell, with_bits_from}
 use Rattle.verilog_meaning.specs.Register.{may_assign, may_assign_in_all, one_may_assign, is_bit_of, word_count, value_bit, is_set, clocked_blocks, after_edge}
+use Rattle.verilog_meaning.specs.Hierarchy.{instance_step}
 use Rattle.verilog_meaning.specs.Settled.{IsDeclared, IsValueOf, HasAssigned, is_counted, one_may_reach, IsDriven, IsSettledIn, IsSettled}
 use Rattle.verilog_meaning.specs.Next.{AreRegisters, IsNext}
 use Rattle.first_text.specs.Tree.{Term, term_tree, Action, set, sequence, when, when_else, Actions, no_actions, action, action_tree, actions_tree, Part, register, assignment, clocked, part_trees, FirstModule}
 use Rattle.wb_first.specs.Names.{First, scope_of_first, bits_of_name, is_input, is_variable, is_declared, is_register, is_set_among, sets, one_sets, assigned, blocks_among}
 use Rattle.wb_first.specs.Accepted.{all_names, term_names, terms_read, is_source, is_data, is_target, is_read, has_one_block, read_names, set_names, is_driven}
 use Rattle.wb_first.specs.Cycle.{held, assigned_number, settled, next_registers}
-use Rattle.wb_first.proofs.Shape.{assigned_trees, no_instances, clocked_of, no_combinational, assignments_of, not_memory, first_placed, design_of_first, top_placed, declared_same, input_port, port_input}
+use Rattle.wb_first.proofs.Shape.{assigned_trees, no_paths, clocked_of, no_combinational, assignments_of, not_memory, first_placed, design_of_first, top_placed, declared_same, input_port, port_input}
 use Rattle.wb_first.proofs.Bits.{same_bits, no_bits, whole_written}
 use Rattle.wb_first.proofs.Alike.{and_left, and_right, assigned_same}
 use Rattle.wb_first.proofs.Edge.{same_name_true, IsNumberOf, BlocksPass, edge_alike, edge_number}
@@ -60,23 +61,23 @@ reach_is s (e ∷ es) n k b =
 -- an assignment's equation, found by its target
 assigned_entry : (s : Scope) (v : Valuation) (es : Entries Term) → HasAssigned s v (assigned_trees es) → (n : Name) (e : Term)
     → entry_of es n ≡ Some e
-    → written_cell (s n) (v n) variable (all_bits (s n)) (assigned_value s v (object_width (s n)) (term_tree e) / 2 ^ 0) ≡ v n
+    → written_cell (s n) (v n) variable_cell (all_bits (s n)) (assigned_value s v (object_width (s n)) (term_tree e) / 2 ^ 0) ≡ v n
 assigned_entry s v [] h n e is_e = cc
 assigned_entry s v (x ∷ es) h n e is_e =
     (elim (same_name x.0 n) as
     (λ t. same_name x.0 n ≡ t → cond t (Some x.1) (entry_of es n) ≡ Some e
     → (entry_of es n ≡ Some e
-    → written_cell (s n) (v n) variable (all_bits (s n)) (assigned_value s v (object_width (s n)) (term_tree e) / 2 ^ 0) ≡ v n)
-    → written_cell (s n) (v n) variable (all_bits (s n)) (assigned_value s v (object_width (s n)) (term_tree e) / 2 ^ 0) ≡ v n) [
+    → written_cell (s n) (v n) variable_cell (all_bits (s n)) (assigned_value s v (object_width (s n)) (term_tree e) / 2 ^ 0) ≡ v n)
+    → written_cell (s n) (v n) variable_cell (all_bits (s n)) (assigned_value s v (object_width (s n)) (term_tree e) / 2 ^ 0) ≡ v n) [
       | true ↦ λ t some rest.
           let same_term : x.1 ≡ e = cc in
           let same : x.0 ≡ n = same_name_true x.0 n t in
-          let own : cond (same_name x.0 x.0) (written_cell (s x.0) (v x.0) variable (all_bits (s x.0)) (assigned_value s v (object_width (s x.0)) (term_tree x.1) / 2 ^ 0)) (v x.0) ≡ v x.0 = h.0 x.0 in
-          let here : written_cell (s x.0) (v x.0) variable (all_bits (s x.0)) (assigned_value s v (object_width (s x.0)) (term_tree x.1) / 2 ^ 0) ≡ v x.0 =
-          subst (λ c. cond c (written_cell (s x.0) (v x.0) variable (all_bits (s x.0)) (assigned_value s v (object_width (s x.0)) (term_tree x.1) / 2 ^ 0)) (v x.0) ≡ v x.0)
+          let own : cond (same_name x.0 x.0) (written_cell (s x.0) (v x.0) variable_cell (all_bits (s x.0)) (assigned_value s v (object_width (s x.0)) (term_tree x.1) / 2 ^ 0)) (v x.0) ≡ v x.0 = h.0 x.0 in
+          let here : written_cell (s x.0) (v x.0) variable_cell (all_bits (s x.0)) (assigned_value s v (object_width (s x.0)) (term_tree x.1) / 2 ^ 0) ≡ v x.0 =
+          subst (λ c. cond c (written_cell (s x.0) (v x.0) variable_cell (all_bits (s x.0)) (assigned_value s v (object_width (s x.0)) (term_tree x.1) / 2 ^ 0)) (v x.0) ≡ v x.0)
           (same_name_refl x.0) own in
-          subst (λ m. written_cell (s m) (v m) variable (all_bits (s m)) (assigned_value s v (object_width (s m)) (term_tree e) / 2 ^ 0) ≡ v m) same
-          (subst (λ g. written_cell (s x.0) (v x.0) variable (all_bits (s x.0)) (assigned_value s v (object_width (s x.0)) (term_tree g) / 2 ^ 0) ≡ v x.0) same_term here)
+          subst (λ m. written_cell (s m) (v m) variable_cell (all_bits (s m)) (assigned_value s v (object_width (s m)) (term_tree e) / 2 ^ 0) ≡ v m) same
+          (subst (λ g. written_cell (s x.0) (v x.0) variable_cell (all_bits (s x.0)) (assigned_value s v (object_width (s x.0)) (term_tree g) / 2 ^ 0) ≡ v x.0) same_term here)
       | false ↦ λ t some rest. rest some
     ]) refl is_e (λ g. assigned_entry s v es h.1 n e g)
 
@@ -141,15 +142,15 @@ module _ (f : First) (k : Keeps f) where
       and_false false = refl
 
   module _ (r i v : Valuation) (registers : AreRegisters (design_of_first f) r) (is_settled : IsSettled (design_of_first f) r i v) where
-    inner : IsSettledIn (design_of_first f) r v [] (first_placed f)
-    inner = is_settled.modules [] (first_placed f) (top_placed f k.is_top)
+    inner : IsSettledIn (design_of_first f) r v (first_placed f)
+    inner = is_settled.modules (first_placed f) (top_placed f k.is_top)
 
     value_number : (n : Name) → is_declared f.design n ≡ true → IsNumberOf scope n (v n)
     value_number n h = number_of_value f.design n (v n) (inner.fits n (declared_in n h))
 
     register_number : (n : Name) → is_declared f.design n ≡ true → IsNumberOf scope n (r n)
     register_number n h =
-        number_of_value f.design n (r n) (registers.fits [] (first_placed f) n (top_placed f k.is_top) (declared_in n h))
+        number_of_value f.design n (r n) (registers.fits (first_placed f) n (top_placed f k.is_top) (declared_in n h))
 
     register_held : (n : Name) → is_declared f.design n ≡ true → is_register f.design n ≡ true → v n ≡ r n
     register_held n h g =
@@ -207,10 +208,10 @@ module _ (f : First) (k : Keeps f) where
         sym equation ∙ (ap number whole_number ∙ ap number (assigned_same scope (is_source f) v (held f r i) source_held e sources w))
 
     nothing_drives : (n : Name) (b : ℕ) → b < bits_of_name f.design n → is_register f.design n ≡ false → is_input f.design n ≡ false
-        → entry_of (assigned f.design) n ≡ None → ¬ IsDriven (design_of_first f) [] (first_placed f) n 0 b
+        → entry_of (assigned f.design) n ≡ None → ¬ IsDriven (design_of_first f) (first_placed f) n 0 b
     nothing_drives n b low g h none driven = contradiction driven
       where
-        contradiction : IsDriven (design_of_first f) [] (first_placed f) n 0 b → ⊥
+        contradiction : IsDriven (design_of_first f) (first_placed f) n 0 b → ⊥
         contradiction (IsDriven.by_clock c) =
             let e : true ≡ false = sym c ∙ uncounted n b g in cc
         contradiction (IsDriven.by_block c) =
@@ -222,12 +223,10 @@ module _ (f : First) (k : Keeps f) where
             let e' : true ≡ false = sym e ∙ (reach_is scope (assigned f.design) n 0 b ∙ ap is_some none) in cc
         contradiction (IsDriven.by_top_input p q c) =
             let e : true ≡ false = sym (port_input f.design n q) ∙ h in cc
-        contradiction (IsDriven.by_input u around q j e is_path a b' c d) = absurd (nil_is_not u around is_path)
-          where
-            nil_is_not : (u' : Name) (around' : List Name) → ◌≡◌ {A = List Name} [] (u' ∷ around') → ⊥
-            nil_is_not u' around' p = cc
-        contradiction (IsDriven.by_output u m j below e t is_instance a b' c d g') =
-            let e' : None ≡ Some j = sym (no_instances f.design.parts u) ∙ is_instance in cc
+        contradiction (IsDriven.by_input around c is_placed there joined) =
+            let e : None ≡ Some (first_placed f) = sym (no_paths f k.is_top (instance_step c.of_instance) around.path) ∙ joined.is_below in cc
+        contradiction (IsDriven.by_output c below m t there joined is_target reached) =
+            let e : None ≡ Some below = sym (no_paths f k.is_top (instance_step c.of_instance) []) ∙ joined.is_below in cc
 
     -- what nothing drives is 0
     undriven_low : (n : Name) → is_declared f.design n ≡ true → is_register f.design n ≡ false → is_input f.design n ≡ false
@@ -331,16 +330,16 @@ module _ (f : First) (k : Keeps f) where
       ]) refl
     where
       here : IsNumberOf scope_here n (next n)
-      here = number_of_value f.design n (next n) (is_next.registers.fits [] (first_placed f) n (top_placed f k.is_top) (declared_in f k n known))
+      here = number_of_value f.design n (next n) (is_next.registers.fits (first_placed f) n (top_placed f k.is_top) (declared_in f k n known))
 
       by_edge : is_register f.design n ≡ true → next n ≡ after_edge scope_here the_blocks (settled f r i) n
       by_edge g =
           same_values f.design n (next n) (after_edge scope_here the_blocks v n) here
           (edge_fits v (λ m h. value_number f k r i v registers is_settled m h) n known)
-          (λ b low. is_next.assigned [] (first_placed f) n 0 b (top_placed f k.is_top) (declared_in f k n known) (counted_is f k n b low ∙ g))
+          (λ b low. is_next.assigned (first_placed f) n 0 b (top_placed f k.is_top) (declared_in f k n known) (counted_is f k n b low ∙ g))
           ∙ edge_same v (settled f r i) (forced f k r i v registers is_settled) n known
 
       not_register : is_register f.design n ≡ false → next n ≡ number 0
       not_register g =
           zero_value f.design n (next n) here
-          (λ b low. is_next.registers.rest_zero [] (first_placed f) n 0 b (top_placed f k.is_top) (declared_in f k n known) (uncounted f k n b g))
+          (λ b low. is_next.registers.rest_zero (first_placed f) n 0 b (top_placed f k.is_top) (declared_in f k n known) (uncounted f k n b g))

@@ -3,7 +3,7 @@ use Rattle.std.proofs.Common.{◌≡◌, ℕ, zero, suc, Bool, true, false, cond
 use Rattle.std.specs.Prelude.{is_some, ◌==◌, IsTrue, slice_get, length, codes, decimal}
 use Rattle.std.proofs.lemmas.Bool.Decides.{nat_tests}
 use Rattle.wb_values.specs.Value.{Name, same_name}
-use Rattle.model_meaning.specs.Model.{Instruction, instruction_name, instructions_in, StateDeclaration, state_named, states_of, child_of, Child, no_child, child}
+use Rattle.model_meaning.specs.Model.{Instruction, instruction_name, instructions_in, StateDeclaration, state_named, states_of, child_program, Child, no_child, child}
 use Rattle.refinement.specs.Map.{InstructionMap, instruction_map}
 use Rattle.refinement.specs.Obligation.{Fact, reset_active, reset_inactive, no_start, initial, same, result_of, Obligation, for_each, invariant_obligations, state_obligations, with_initial_values, reset_obligations, idle_obligations, decode_obligation, not_ended, ended_at, child_obligations, bound_obligation, commit_obligations, instruction_obligations, all_instruction_obligations, obligations, bound_named, bound_in}
 use Rattle.wb_first.specs.Names.{First}
@@ -130,13 +130,13 @@ module _ (f : First) (k : Keeps f) where
   decode_first : IsFirstObligation f (decode_obligation f.map)
   decode_first = record { one_cycle = refl; hypotheses = rw (no_invariants, no_assumptions) (tt, (tt, tt)); claim = tt }
 
-  instruction_first : (j : ℕ) (i : Instruction) → has_no_child (child_of i) ≡ true → bound_named f.map (instruction_name i) ≡ 1
+  instruction_first : (j : ℕ) (i : Instruction) → has_no_child (child_program i) ≡ true → bound_named f.map (instruction_name i) ≡ 1
       → IsTrue (is_some (slice_get (instructions_in f.model.top) j)) → AllFirst f (instruction_obligations f.model f.map j i)
   instruction_first j i childless one there =
-      first_append f (child_obligations f.map j (instruction_name i) (child_of i))
+      first_append f (child_obligations f.map j (instruction_name i) (child_program i))
       (bound_obligation f.map j (instruction_name i) (bound_named f.map (instruction_name i))
       ∷ for_each (commit_obligations f.model f.map j (instruction_name i)) 0 (bound_named f.map (instruction_name i)))
-      (no_child_lines (child_of i) childless)
+      (no_child_lines (child_program i) childless)
       (subst
       (λ b. AllFirst f (bound_obligation f.map j (instruction_name i) b ∷ for_each (commit_obligations f.model f.map j (instruction_name i)) 0 b))
       (sym one) (

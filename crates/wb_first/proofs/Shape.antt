@@ -1,12 +1,12 @@
 -- What the tree of a module of the profile has: no parameters, no instances, no memories, one kind of block.
 use Rattle.std.proofs.Common.{◌≡◌, Bool, true, false, cond, ◌||◌, List, [], ◌∷◌, ◌++◌, sym, refl, ap, ◌∙◌, Option, Some, None}
-use Rattle.std.specs.Prelude.{is_some, option_map}
+use Rattle.std.specs.Prelude.{is_some, option_map, option_and_then}
 use Rattle.wb_values.specs.Value.{Name, same_name, Entries, entry_of}
 use Rattle.verilog_trees.specs.Syntax.{Expression, Statement, Target, place, whole, Range, input, output}
 use Rattle.verilog_meaning.specs.Expression.{Scope, scope_of, object_or_undeclared}
 use Rattle.verilog_meaning.specs.Register.{clocked_blocks, combinational_blocks}
-use Rattle.verilog_meaning.specs.Hierarchy.{Declaration, declarations, port_declarations, item_declarations, declaration_of, both_declarations, and_later, declared_object, ranged_object, body_parameters, constants_of, no_overrides, instance_named, Placed, placed_below}
-use Rattle.verilog_meaning.specs.Settled.{assignments, at_path, Design, is_declared_among, declared_ports, item_ports, port_directions, IsPort}
+use Rattle.verilog_meaning.specs.Hierarchy.{Declaration, declarations, port_declarations, item_declarations, declaration_of, both_declarations, and_later, declared_object, ranged_object, body_parameters, constants_of, no_overrides, Instance, instance_named, PathStep, instance_reached, Placed, placed_scope, placed_instance, placed_below}
+use Rattle.verilog_meaning.specs.Settled.{assignments, port_connections, at_path, IsPlacedIn, Design, is_declared_among, declared_ports, item_ports, port_directions, HasPort}
 use Rattle.refinement.specs.Map.{design_of}
 use Rattle.first_text.specs.Tree.{Term, term_tree, Action, action_tree, Port, port_trees, Part, register, assignment, clocked, part_trees, FirstModule, module_tree}
 use Rattle.wb_first.specs.Names.{First, setting_of, scope_of_first, port_named, is_declared, is_input, has_direction, same_direction, is_variable_among, assigned_among, blocks_among}
@@ -32,6 +32,12 @@ no_instances [] u = refl
 no_instances (register b n ∷ ps) u = no_instances ps u
 no_instances (assignment n e ∷ ps) u = no_instances ps u
 no_instances (clocked s a ∷ ps) u = no_instances ps u
+
+pub no_connections : (ps : List Part) → port_connections (part_trees ps) ≡ []
+no_connections [] = refl
+no_connections (register b n ∷ ps) = no_connections ps
+no_connections (assignment n e ∷ ps) = no_connections ps
+no_connections (clocked s a ∷ ps) = no_connections ps
 
 pub clocked_of : (ps : List Part) → clocked_blocks (part_trees ps) ≡ block_trees (blocks_among ps)
 clocked_of [] = refl
@@ -135,7 +141,7 @@ not_constant m n = plain_constant (declaration_of (declarations (module_tree m))
 -- ---- the one module
 
 abbrev pub first_placed : First → Placed
-first_placed f = record { of_module = module_tree f.design; constants = [] }
+first_placed f = record { path = []; of_module = module_tree f.design; constants = [] }
 
 abbrev pub design_of_first : First → Design
 design_of_first f = design_of (setting_of f)
@@ -143,19 +149,33 @@ design_of_first f = design_of (setting_of f)
 pub top_placed : (f : First) → same_name f.design.own_name f.map.top ≡ true → at_path (design_of_first f) [] ≡ Some (first_placed f)
 top_placed f h = rw (h, constants_none f.design) refl
 
-nothing_below : (f : First) (u : Name) → placed_below (module_tree f.design ∷ []) u (first_placed f) ≡ None
-nothing_below f u = rw (no_instances f.design.parts u) refl
+either_none : (b : Bool) (x : Option Instance) → x ≡ None → cond b None x ≡ None
+either_none true x e = refl
+either_none false x e = e
 
-pub no_paths : (f : First) → same_name f.design.own_name f.map.top ≡ true → (u : Name) (path : List Name)
+nothing_at : (f : First) (u : PathStep) → instance_reached (part_trees f.design.parts) u ≡ None
+nothing_at f u =
+    either_none (is_some u.index) (instance_named (part_trees f.design.parts) u.of_name) (no_instances f.design.parts u.of_name)
+
+nothing_below : (f : First) (u : PathStep) → placed_below (module_tree f.design ∷ []) u (first_placed f) ≡ None
+nothing_below f u =
+    ap (λ (x : Option Instance). option_and_then (placed_instance (module_tree f.design ∷ []) (u ∷ []) (placed_scope (first_placed f))) x)
+    (nothing_at f u)
+
+pub no_paths : (f : First) → same_name f.design.own_name f.map.top ≡ true → (u : PathStep) (path : List PathStep)
     → at_path (design_of_first f) (u ∷ path) ≡ None
 no_paths f h u [] = rw (top_placed f h) (nothing_below f u)
 no_paths f h u (v ∷ path) = rw (no_paths f h v path) refl
 
 -- the only path is that of the top
-pub only_top : (f : First) → same_name f.design.own_name f.map.top ≡ true → (path : List Name) (p : Placed)
+pub only_top : (f : First) → same_name f.design.own_name f.map.top ≡ true → (path : List PathStep) (p : Placed)
     → at_path (design_of_first f) path ≡ Some p → (path ≡ []) × (p ≡ first_placed f)
 only_top f h [] p e = let both : Some (first_placed f) ≡ Some p = sym (top_placed f h) ∙ e in (refl, cc)
 only_top f h (u ∷ path) p e = let both : None ≡ Some p = sym (no_paths f h u path) ∙ e in absurd cc
+
+pub only_placed : (f : First) → same_name f.design.own_name f.map.top ≡ true → (p : Placed) → IsPlacedIn (design_of_first f) p
+    → p ≡ first_placed f
+only_placed f h p e = (only_top f h p.path p e).1
 
 -- ---- names
 
@@ -217,8 +237,8 @@ by_input (Some p) h =
     (elim p.direction as (λ d. Some d ≡ Some input → same_direction d input ≡ true) [ input ↦ λ e. refl | output ↦ λ e. cc ]) h
 
 -- a name is an input port exactly where the profile says so
-pub input_port : (m : FirstModule) (n : Name) → is_input m n ≡ true → IsPort (module_tree m) n input
+pub input_port : (m : FirstModule) (n : Name) → is_input m n ≡ true → HasPort (module_tree m) n input
 input_port m n h = port_is m n ∙ input_by (port_named m.ports n) h
 
-pub port_input : (m : FirstModule) (n : Name) → IsPort (module_tree m) n input → is_input m n ≡ true
+pub port_input : (m : FirstModule) (n : Name) → HasPort (module_tree m) n input → is_input m n ≡ true
 port_input m n h = by_input (port_named m.ports n) (sym (port_is m n) ∙ h)

@@ -16,7 +16,7 @@ use Rattle.model_meaning.specs.Model.{StateDeclaration, InputDeclaration, Instru
 use Rattle.verilog_trees.specs.Syntax.{Expression, name, whole, one, two, concatenation, replication, as_signed, as_unsigned, unary, reduction, binary, shift, power, comparison, logical, conditional}
 use Rattle.verilog_trees.specs.Syntax as verilog
 use Rattle.verilog_meaning.specs.Expression.{Object, object_width, widened, whole_value, self_value}
-use Rattle.refinement.specs.Map.{parts_of, with_character, object_at, object_in, map_scope, mapped_value, mapped_or_zero, mapped_state, mapped_inputs, sort_of_input}
+use Rattle.refinement.specs.Map.{dotted_parts, with_character, object_at, object_in, map_scope, mapped_value, mapped_or_zero, mapped_state, mapped_inputs, sort_of_input}
 use Rattle.wb_first.specs.Names.{First, setting_of, scope_of_first, bits_of_name, is_declared}
 use Rattle.wb_first.specs.Accepted.{is_accepted, is_accepted_module, is_accepted_map, is_accepted_model, has_plain_names, has_dot, is_map_expression, map_width, fits_sort, state_sort, inputs_are_mapped, all_states_mapped, all_inputs_mapped, declared_sort, is_sort_of, has_declared_names, is_term_of, are_updates, updates_of, are_instructions, are_states}
 use Rattle.wb_first.specs.Decided.{start_point, result_at}
@@ -38,12 +38,12 @@ test_of a b h = grind (arith, nat_tests)
 
 -- ---- expressions of the map
 
-one_part : (n : Name) → has_dot n ≡ false → parts_of n ≡ n ∷ []
+one_part : (n : Name) → has_dot n ≡ false → dotted_parts n ≡ n ∷ []
 one_part [] h = refl
 one_part (c ∷ cs) h = by_dot (c == 46) h (one_part cs)
   where
-    by_dot : (t : Bool) → (t || has_dot cs) ≡ false → (has_dot cs ≡ false → parts_of cs ≡ cs ∷ [])
-        → cond t ([] ∷ parts_of cs) (with_character c (parts_of cs)) ≡ (c ∷ cs) ∷ []
+    by_dot : (t : Bool) → (t || has_dot cs) ≡ false → (has_dot cs ≡ false → dotted_parts cs ≡ cs ∷ [])
+        → cond t ([] ∷ dotted_parts cs) (with_character c (dotted_parts cs)) ≡ (c ∷ cs) ∷ []
     by_dot true e rest = absurd (let clash : true ≡ false = e in cc)
     by_dot false e rest = ap (with_character c) (rest e)
 

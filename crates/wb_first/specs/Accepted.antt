@@ -3,7 +3,7 @@ use Rattle.std.specs.Prelude.{ℕ, ◌^◌, Bool, true, false, cond, not, ◌&&�
 use Rattle.wb_values.specs.Value.{Name, same_name, Sort, truth, word, Value, is_of_sort, Entries, entry_of}
 use Rattle.model_meaning.specs.Term as terms
 use Rattle.model_meaning.specs.Term.{Term, same_sort, sort_of}
-use Rattle.model_meaning.specs.Model.{StateDeclaration, InputDeclaration, states_of, valid_of, instructions_in, Instruction, instruction, instruction_name, decode_of, child_of, Child, no_child, child}
+use Rattle.model_meaning.specs.Model.{StateDeclaration, InputDeclaration, states_of, valid_of, instructions_in, Instruction, instruction, instruction_name, decode_of, child_program, Child, no_child, child}
 use Rattle.verilog_trees.specs.Syntax.{Number, Expression, name, number, whole}
 use Rattle.verilog_meaning.specs.Expression.{width_of}
 use Rattle.refinement.specs.Map.{InstructionMap, sort_of_input}
@@ -258,7 +258,7 @@ has_no_child (child steps program) = false
 
 abbrev pub no_children : List Instruction → Bool
 no_children [] = true
-no_children (i ∷ is) = has_no_child (child_of i) && no_children is
+no_children (i ∷ is) = has_no_child (child_program i) && no_children is
 
 -- the sort that the model declares for a name: that of an input, or of a state
 abbrev pub declared_sort : First → Name → Option Sort

@@ -4,6 +4,7 @@ pub mod Sequence
 pub mod Memories
 pub mod Numbers
 pub mod ValueSorts
+pub mod WrittenSorts
 pub mod Widths
 pub mod Settled
 pub mod OneOutcome

@@ -4,8 +4,9 @@ use Rattle.std.specs.Prelude.{slice_get, IsTrue}
 use Rattle.std.specs.declared.option.Option.{Option}
 use Rattle.wb_values.specs.Value.{Valuation}
 use Rattle.model_meaning.specs.Model.{Machine, machine, Model, Instruction, Instructions, no_instructions, and_then, holds, valid_of, decode_of, instruction_list, instructions_in, point_of}
-use Rattle.model_meaning.specs.Instruction.{NoneDecodes, DoesOne, DoesStep, Steps, IsStarted, AreFirstTwoDecoded, Trouble, InstructionTrouble, IsModelRun}
-use Rattle.scripts.specs.Simulation.{Outcome, next, not_valid, no_instruction, several, trouble, IsOutcome, state_after, AreOutcomes, IsSimulation}
+use Rattle.model_meaning.specs.Instruction.{NoneDecodes, DoesOne, DoesStep, Steps, IsInstruction, IsStarted, AreFirstTwoDecoded, Trouble, InstructionTrouble, IsModelRun}
+use Rattle.model_meaning.specs.Outcome.{Outcome, next, not_valid, no_instruction, several, trouble, IsOutcome, state_after}
+use Rattle.scripts.specs.Simulation.{AreOutcomes, IsSimulation}
 use Rattle.scripts.specs.Script.{Script, first_state, inputs_of}
 use Rattle.model_meaning.proofs.OneResult.{one_next_state}
 use Rattle.model_meaning.proofs.OneInstruction.{both_ways, step_by_decoded}
@@ -62,19 +63,21 @@ same_item x y h = ap (λ o. value_or x o) h
     value_or z (Some w) = w
 
 -- two started instructions are one
-same_started : (m : Model) (q w : Valuation) (j k : ℕ) (a : IsStarted m q w j) (b : IsStarted m q w k) → a.1.i ≡ b.1.i
-same_started m q w j k a b =
-    same_item a.1.i b.1.i (sym a.1.is_j ∙ (ap (λ x. slice_get (instructions_in m.top) x) (one_started m q w j k a b) ∙ b.1.is_j))
+same_started : (m : Model) (q w : Valuation) (j k : ℕ) (x y : Instruction) → IsStarted m q w j → IsStarted m q w k → IsInstruction m j x → IsInstruction m k y → x ≡ y
+same_started m q w j k x y a b is_j is_k =
+    same_item x y (sym is_j ∙ (ap (λ l. slice_get (instructions_in m.top) l) (one_started m q w j k a b) ∙ is_k))
 
 same_trouble : (m : Model) (q w : Valuation) (s t : Trouble) → IsOutcome m q w (trouble s) → IsOutcome m q w (trouble t) → s ≡ t
-same_trouble m q w s t (j, a, x) (k, b, y) =
-    same_instruction_trouble b.1.i (point_of m q w) 1 s t (subst (λ i. InstructionTrouble i (point_of m q w) 1 s) (same_started m q w j k a b) x) y
+same_trouble m q w s t a b =
+    same_instruction_trouble b.i (point_of m q w) 1 s t (subst (λ i. InstructionTrouble i (point_of m q w) 1 s) (same_started m q w a.j b.j a.i b.i a.started b.started a.is_j b.is_j) a.has_trouble) b.has_trouble
 
 -- a step has no trouble
 no_trouble : (m : Model) (q w r : Valuation) (t : Trouble) → Steps m q w r → IsOutcome m q w (trouble t) → ⊥
-no_trouble m q w r t steps (k, started, h) =
-    no_instruction_trouble started.1.i (point_of m q w) steps.0 1 t
-    (step_by_decoded m.top (point_of m q w) steps.0 steps.1 k started.1.i started.1.is_j started.1.decoded) h
+no_trouble m q w r t steps h =
+    let only = h.started.1 in
+    let same : only.i ≡ h.i = same_item only.i h.i (sym only.is_j ∙ h.is_j) in
+    let decoded = subst (λ i. IsTrue (holds (decode_of i) (point_of m q w))) same only.decoded in
+    no_instruction_trouble h.i (point_of m q w) steps.0 1 t (step_by_decoded m.top (point_of m q w) steps.0 steps.1 h.j h.i h.is_j decoded) h.has_trouble
 
 pub one_outcome : (m : Model) (q w : Valuation) (a b : Outcome) → IsOutcome m q w a → IsOutcome m q w b → a ≡ b
 one_outcome m q w (next j r) (next k s) x y =
@@ -89,12 +92,12 @@ one_outcome m q w not_valid (next k s) x y = absurd (x y.0.0)
 one_outcome m q w not_valid not_valid x y = refl
 one_outcome m q w not_valid no_instruction x y = absurd (x y.0)
 one_outcome m q w not_valid (several a b) x y = absurd (x y.0)
-one_outcome m q w not_valid (trouble t) x (k, started, h) = absurd (x started.0)
+one_outcome m q w not_valid (trouble t) x y = absurd (x y.started.0)
 one_outcome m q w no_instruction (next k s) x y = absurd (x.1 k y.0.1.i y.0.1.is_j y.0.1.decoded)
 one_outcome m q w no_instruction not_valid x y = absurd (y x.0)
 one_outcome m q w no_instruction no_instruction x y = refl
 one_outcome m q w no_instruction (several a b) x y = absurd (x.1 a y.1.first y.1.is_j y.1.first_decoded)
-one_outcome m q w no_instruction (trouble t) x (k, started, h) = absurd (x.1 k started.1.i started.1.is_j started.1.decoded)
+one_outcome m q w no_instruction (trouble t) x y = absurd (x.1 y.j y.started.1.i y.started.1.is_j y.started.1.decoded)
 one_outcome m q w (several a b) (next k s) x y = absurd (not_two m q w k a b y.0 x.1)
 one_outcome m q w (several a b) not_valid x y = absurd (y x.0)
 one_outcome m q w (several a b) no_instruction x y = absurd (y.1 a x.1.first x.1.is_j x.1.first_decoded)
@@ -102,11 +105,11 @@ one_outcome m q w (several a b) (several c d) x y =
     let first : a ≡ c = same_first m q w a b c d x.1 y.1 in
     let second : b ≡ d = same_second m q w c b d (subst (λ z. AreFirstTwoDecoded m q w z b) first x.1) y.1 in
     λ i. several (first i) (second i)
-one_outcome m q w (several a b) (trouble t) x (k, started, h) = absurd (not_two m q w k a b started x.1)
+one_outcome m q w (several a b) (trouble t) x y = absurd (not_two m q w y.j a b y.started x.1)
 one_outcome m q w (trouble t) (next k s) x y = absurd (no_trouble m q w s t y.1 x)
-one_outcome m q w (trouble t) not_valid (k, started, h) y = absurd (y started.0)
-one_outcome m q w (trouble t) no_instruction (k, started, h) y = absurd (y.1 k started.1.i started.1.is_j started.1.decoded)
-one_outcome m q w (trouble t) (several a b) (k, started, h) y = absurd (not_two m q w k a b started y.1)
+one_outcome m q w (trouble t) not_valid x y = absurd (y x.started.0)
+one_outcome m q w (trouble t) no_instruction x y = absurd (y.1 x.j x.started.1.i x.started.1.is_j x.started.1.decoded)
+one_outcome m q w (trouble t) (several a b) x y = absurd (not_two m q w x.j a b x.started y.1)
 one_outcome m q w (trouble s) (trouble t) x y = ap trouble (same_trouble m q w s t x y)
 
 -- ---- runs

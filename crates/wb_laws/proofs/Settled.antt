@@ -7,7 +7,7 @@ use Rattle.wb_values.specs.Choice.{first_of}
 use Rattle.wb_values.specs.Value.{Name, Value, truth_value, number as a_number, words, same_name, Valuation, Entries, entry_of}
 use Rattle.verilog_trees.specs.Syntax.{Expression, number, name, concatenation, replication, as_signed, as_unsigned, unary, reduction, binary, shift, power, comparison, logical, conditional, Expressions, no_expressions, expression, Selects, whole, one, two, Range, ParameterDeclaration, Module, Source}
 use Rattle.verilog_meaning.specs.Expression.{Object, Scope, undeclared, object_or_undeclared, scope_of, object_width, no_values, width_of, sign_of, self_value}
-use Rattle.verilog_meaning.specs.Hierarchy.{ranged_object, constant_object, parameter_object, overridden_object, Overrides, one_parameter, override_of, with_values, with_parameters, all_parameters, constants_of, declarations, declaration_of, Declaration, declared_object, module_scope, Placed, placed_scope, module_named, Instance, instance_named, connected, overridable, overrides_of, placed_instance, placed_below, no_overrides, placed_at}
+use Rattle.verilog_meaning.specs.Hierarchy.{ranged_object, constant_object, parameter_object, overridden_object, Overrides, one_parameter, override_of, with_values, with_parameters, all_parameters, constants_of, declarations, declaration_of, Declaration, declared_object, module_scope, PathStep, Placed, placed_scope, module_named, Instance, instance_named, instance_reached, connected, overridable, overrides_of, placed_instance, placed_below, no_overrides, placed_at}
 use Rattle.verilog_meaning.specs.Settled.{inside, IsDeclared, IsValueOf}
 use Rattle.wb_laws.specs.Widths.{ReadFits, LeavesFit, AllLeavesFit}
 use Rattle.wb_laws.specs.Settled.{LeavesAre, AllLeavesAre, NumbersFit, ValuesFit, ParametersFit, HasFittingNumbers, SourceHasFittingNumbers, IsKnown, SettledValueFitsItsWidth}
@@ -185,41 +185,47 @@ given_fit s i m h f n o e = found (connected i.parameters (overridable (all_para
     found None k e' = cc
     found (Some y) k e' = let same : parameter_object s false None y ≡ o = cc in subst IsParameter same (of_value s false None y h (k y refl))
 
-instance_is : (source : Source) (s : Scope) (i : Instance) (p : Placed) → SourceHasFittingNumbers source → HasFittingConstants s
+instance_is : (source : Source) (path : List PathStep) (s : Scope) (i : Instance) (p : Placed) → SourceHasFittingNumbers source → HasFittingConstants s
     → ((names : List Name) (n : Name) (e : Expression) → connected i.parameters names n ≡ Some e → NumbersFit e)
-    → placed_instance source s i ≡ Some p → IsPlaced p
-instance_is source s i p f h k e = found (module_named source i.of_module) (f i.of_module) e
+    → placed_instance source path s i ≡ Some p → IsPlaced p
+instance_is source path s i p f h k e = found (module_named source i.of_module) (f i.of_module) e
   where
     found : (x : Option Module) → ((m : Module) → x ≡ Some m → HasFittingNumbers m)
-        → option_map (λ m. record { of_module = m; constants = constants_of m (overrides_of s i.parameters m) }) x ≡ Some p → IsPlaced p
+        → option_map (λ m. record { path = path; of_module = m; constants = constants_of m (overrides_of s i.parameters m) }) x ≡ Some p → IsPlaced p
     found None g e' = cc
     found (Some m) g e' =
-        let same : record { of_module = m; constants = constants_of m (overrides_of s i.parameters m) } ≡ p = cc in
+        let same : record { path = path; of_module = m; constants = constants_of m (overrides_of s i.parameters m) } ≡ p = cc in
         subst IsPlaced same
         (record { numbers = g m refl; constants = constants_are m (overrides_of s i.parameters m) (g m refl) (given_fit s i m h k) })
 
-placed_is : (source : Source) (top : Name) (path : List Name) (p : Placed) → SourceHasFittingNumbers source
+placed_is : (source : Source) (top : Name) (path : List PathStep) (p : Placed) → SourceHasFittingNumbers source
     → placed_at source top path ≡ Some p → IsPlaced p
 placed_is source top [] p f e = found (module_named source top) (f top) e
   where
     found : (x : Option Module) → ((m : Module) → x ≡ Some m → HasFittingNumbers m)
-        → option_map (λ m. record { of_module = m; constants = constants_of m no_overrides }) x ≡ Some p → IsPlaced p
+        → option_map (λ m. record { path = []; of_module = m; constants = constants_of m no_overrides }) x ≡ Some p → IsPlaced p
     found None g e' = cc
     found (Some m) g e' =
-        let same : record { of_module = m; constants = constants_of m no_overrides } ≡ p = cc in
+        let same : record { path = []; of_module = m; constants = constants_of m no_overrides } ≡ p = cc in
         subst IsPlaced same (record { numbers = g m refl; constants = constants_are m no_overrides (g m refl) (λ n o k. cc) })
 placed_is source top (u ∷ around) p f e = found (placed_at source top around) (λ q k. placed_is source top around q f k) e
   where
-    within : (q : Placed) → IsPlaced q → (x : Option Instance) → ((i : Instance) → x ≡ Some i → instance_named q.of_module.items u ≡ Some i)
-        → option_and_then (placed_instance source (placed_scope q)) x ≡ Some p → IsPlaced p
+    without_index : (b : Bool) (x : Option Instance) (i : Instance) → cond b None x ≡ Some i → x ≡ Some i
+    without_index true x i e' = cc
+    without_index false x i e' = e'
+
+    within : (q : Placed) → IsPlaced q → (x : Option Instance) → ((i : Instance) → x ≡ Some i → instance_named q.of_module.items u.of_name ≡ Some i)
+        → option_and_then (placed_instance source (u ∷ q.path) (placed_scope q)) x ≡ Some p → IsPlaced p
     within q is_q None k e' = cc
     within q is_q (Some i) k e' =
-        instance_is source (placed_scope q) i p f (of_module q.of_module q.constants is_q.constants)
-        (λ names n y c. is_q.numbers.overrides u i names n y (k i refl) c) e'
+        instance_is source (u ∷ q.path) (placed_scope q) i p f (of_module q.of_module q.constants is_q.constants)
+        (λ names n y c. is_q.numbers.overrides u.of_name i names n y (k i refl) c) e'
 
     found : (x : Option Placed) → ((q : Placed) → x ≡ Some q → IsPlaced q) → option_and_then (placed_below source u) x ≡ Some p → IsPlaced p
     found None k e' = cc
-    found (Some q) k e' = within q (k q refl) (instance_named q.of_module.items u) (λ i c. c) e'
+    found (Some q) k e' =
+        within q (k q refl) (instance_reached q.of_module.items u)
+        (λ i c. without_index (is_some u.index) (instance_named q.of_module.items u.of_name) i c) e'
 
 -- what is read of a known name in a settled valuation fits
 settled_read : (p : Placed) (v : Valuation) → AreParameters p.constants → ((n : Name) → IsDeclared p n → IsValueOf (placed_scope p n) (v n))
@@ -239,7 +245,7 @@ settled_read p v h f n i known =
     found (Some o) d k g t = parameter_read o (v n) i (k o refl)
 
 pub settled_value_fits : SettledValueFitsItsWidth
-settled_value_fits d registers inputs v path p e f settled at l =
-    value_fits (placed_scope p) (inside v path) e
-    (leaves_fit (placed_scope p) (inside v path) (IsKnown p)
-    (settled_read p (inside v path) (placed_is d.source d.top path p f at).constants (settled.modules path p at).fits) e l)
+settled_value_fits d registers inputs v p e f settled at l =
+    value_fits (placed_scope p) (inside v p) e
+    (leaves_fit (placed_scope p) (inside v p) (IsKnown p)
+    (settled_read p (inside v p) (placed_is d.source d.top p.path p f at).constants (settled.modules p at).fits) e l)

@@ -3,8 +3,9 @@ use Rattle.std.proofs.Common.{◌≡◌, ◌≢◌, ℕ, zero, suc, ◌+◌, ◌
 use Rattle.std.specs.Prelude.{slice_get, IsTrue, IsFalse}
 use Rattle.wb_values.specs.Value.{Valuation}
 use Rattle.model_meaning.specs.Model.{Machine, machine, Model, Instruction, instruction, Instructions, no_instructions, and_then, Child, no_child, child, valid_of, holds, decode_of, updated, entered, left_behind, states_of, instructions_in, point_of}
-use Rattle.model_meaning.specs.Instruction.{Reaches, NoneDecodes, SomeDecodes, DoesInstruction, DoesChild, DoesStep, DoesOne, Trouble, stuck, too_long, InstructionTrouble, ChildTrouble, StepTrouble, OneTrouble, state_in}
-use Rattle.scripts.specs.Simulation.{Outcome, next, not_valid, no_instruction, several, trouble, IsOutcome, state_after, AreOutcomes}
+use Rattle.model_meaning.specs.Instruction.{Reaches, NoneDecodes, SomeDecodes, DoesInstruction, DoesChild, DoesStep, DoesOne, Trouble, stuck, too_long, InstructionTrouble, ChildTrouble, StepTrouble, OneTrouble, own_states}
+use Rattle.model_meaning.specs.Outcome.{Outcome, next, not_valid, no_instruction, several, trouble, IsOutcome, state_after}
+use Rattle.scripts.specs.Simulation.{AreOutcomes}
 use Rattle.model_meaning.proofs.OneInstruction.{both_ways, step_done}
 use Rattle.wb_laws.specs.Simulations.{OutcomeExists, SimulationExists}
 
@@ -166,13 +167,16 @@ valid_outcome m q w v (Decoded.first_two j k x y at_j at_k below d_j d_k h) =
     (several j k, (v, record { first = x; second = y; is_j = at_j; is_k = at_k; j_first = below; first_decoded = d_j; second_decoded = d_k; none_between = h }))
 valid_outcome m q w v (Decoded.alone j i at d h) = elim (instruction_ends i (point_of m q w) 1) [
   | inl does ↦ (
-    next j (state_in m does.0),
+    next j (own_states m does.0),
     (
       (v, record { i = i; is_j = at; decoded = d; no_other = h }),
       (does.0, step_done m.top (point_of m q w) does.0 j i at v d h does.1, refl),
     ),
   )
-  | inr fails ↦ (trouble fails.0, (j, (v, record { i = i; is_j = at; decoded = d; no_other = h }), fails.1))
+  | inr fails ↦ (
+    trouble fails.0,
+    record { j = j; i = i; started = (v, record { i = i; is_j = at; decoded = d; no_other = h }); is_j = at; has_trouble = fails.1 },
+  )
 ]
 
 pub an_outcome : OutcomeExists

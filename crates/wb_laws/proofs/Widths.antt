@@ -8,7 +8,7 @@ use Rattle.std.proofs.lemmas.Nat.{or_lt, xor_lt, mul-add-lt, pow-add}
 use Rattle.wb_values.specs.Value.{Value, as_words, Valuation}
 use Rattle.wb_values.specs.Number.{word_xor}
 use Rattle.verilog_trees.specs.Syntax.{UnaryOperator, plus, minus, complement, BinaryOperator, add, subtract, multiply, divide, modulo, bitwise_and, bitwise_or, bitwise_xor, bitwise_xnor, ShiftOperator, left, right, arithmetic_right, Expression, number, name, concatenation, replication, as_signed, as_unsigned, unary, reduction, binary, shift, power, comparison, logical, conditional, Expressions, no_expressions, expression, Select, index, part, part_up, part_down, Selects, whole, one, two}
-use Rattle.verilog_meaning.specs.Expression.{Object, Scope, object_width, is_memory, no_values, word_number, word_at, word_of, bits_from, bits_of, widened, bit, bits_of_integer, repeated, unary_value, binary_value, shift_value, sign_of, selects_width, selected, select_index, select_bits, whole_value, width_of, widths_of, value_of, joined_value}
+use Rattle.verilog_meaning.specs.Expression.{Object, Scope, object_width, is_memory, no_values, word_number, word_or_zero, indexed_word, bits_from, bits_taken, widened, bit, bits_of_integer, side_by_side, unary_value, binary_value, shift_value, sign_of, selects_width, selected, select_index, select_bits, whole_value, width_of, widths_of, value_of, joined_value}
 use Rattle.wb_laws.specs.Widths.{ReadFits, LeavesFit, AllLeavesFit, ValueFitsItsWidth, ValueFitsItsContext}
 use Rattle.wb_laws.proofs.Numbers.{not_below, neg_below, add_below, sub_below, mul_below, shl_below, lshr_below, ashr_below, sext_below}
 
@@ -31,14 +31,14 @@ integer_fits : (w : ℕ) (i : ℤ) → bits_of_integer w i < 2 ^ w
 integer_fits w (pos n) = mod-lt n (pow_pos w)
 integer_fits w (negsuc n) = not_below w _
 
-repeated_fits : (n w x : ℕ) → x < 2 ^ w → repeated n w x < 2 ^ (n * w)
+repeated_fits : (n w x : ℕ) → x < 2 ^ w → side_by_side n w x < 2 ^ (n * w)
 repeated_fits zero w x h = pow_pos (zero * w)
 repeated_fits (suc n) w x h =
-    let rest : repeated n w x < 2 ^ (n * w) = repeated_fits n w x h in
-    let more : x * 2 ^ (n * w) + repeated n w x < 2 ^ (n * w) * 2 ^ w = mul-add-lt x (2 ^ (n * w)) (repeated n w x) (2 ^ w) h rest in
+    let rest : side_by_side n w x < 2 ^ (n * w) = repeated_fits n w x h in
+    let more : x * 2 ^ (n * w) + side_by_side n w x < 2 ^ (n * w) * 2 ^ w = mul-add-lt x (2 ^ (n * w)) (side_by_side n w x) (2 ^ w) h rest in
     let split : 2 ^ (n * w + w) ≡ 2 ^ (n * w) * 2 ^ w = pow-add 2 (n * w) w in
     let width : n * w + w ≡ suc n * w = omega arith in
-    subst (λ k. x * 2 ^ (n * w) + repeated n w x < 2 ^ k) width (subst (λ k. x * 2 ^ (n * w) + repeated n w x < k) (sym split) more)
+    subst (λ k. x * 2 ^ (n * w) + side_by_side n w x < 2 ^ k) width (subst (λ k. x * 2 ^ (n * w) + side_by_side n w x < k) (sym split) more)
 
 unary_fits : (op : UnaryOperator) (w x : ℕ) → x < 2 ^ w → unary_value op w x < 2 ^ w
 unary_fits plus w x h = h
@@ -68,7 +68,7 @@ either_fits false x y w h k = k
 
 -- names
 
-word_fits : (k : Option ℕ) (x : Value) (w : ℕ) → ((i : ℕ) → slice_index (as_words x) i < 2 ^ w) → word_at k x < 2 ^ w
+word_fits : (k : Option ℕ) (x : Value) (w : ℕ) → ((i : ℕ) → slice_index (as_words x) i < 2 ^ w) → word_or_zero k x < 2 ^ w
 word_fits None x w h = pow_pos w
 word_fits (Some k) x w h = h k
 
@@ -79,9 +79,9 @@ same_count s v o (part h l) = refl
 same_count s v o (part_up b n) = refl
 same_count s v o (part_down b n) = refl
 
-select_fits : (s : Scope) (v : Valuation) (o : Object) (i : Select) (x : ℕ) → bits_of x (select_bits s v o i) < 2 ^ (select_bits s no_values o i).count
+select_fits : (s : Scope) (v : Valuation) (o : Object) (i : Select) (x : ℕ) → bits_taken x (select_bits s v o i) < 2 ^ (select_bits s no_values o i).count
 select_fits s v o i x =
-    subst (λ n. bits_of x (select_bits s v o i) < 2 ^ n) (same_count s v o i) (bits_fit (select_bits s v o i).low (select_bits s v o i).count x)
+    subst (λ n. bits_taken x (select_bits s v o i) < 2 ^ n) (same_count s v o i) (bits_fit (select_bits s v o i).low (select_bits s v o i).count x)
 
 word_or_bits : (memory : Bool) (word bits w count : ℕ) → (IsTrue memory → word < 2 ^ w) → bits < 2 ^ count → cond memory word bits < 2 ^ cond memory w count
 word_or_bits true word bits w count h k = h refl
@@ -90,11 +90,11 @@ word_or_bits false word bits w count h k = k
 selected_fits : (s : Scope) (v : Valuation) (o : Object) (x : Value) (i : Selects) → ReadFits o x i → selected s v o x i < 2 ^ selects_width s o i
 selected_fits s v o x whole h = h
 selected_fits s v o x (one i) h =
-    word_or_bits (is_memory o) (word_of o (select_index s v i) x) (bits_of (whole_value o x) (select_bits s v o i)) (object_width o)
+    word_or_bits (is_memory o) (indexed_word o (select_index s v i) x) (bits_taken (whole_value o x) (select_bits s v o i)) (object_width o)
     (select_bits s no_values o i).count
     (λ m. word_fits (option_and_then (λ a. word_number a (select_index s v i)) o.addresses) x (object_width o) (h m))
     (select_fits s v o i (whole_value o x))
-selected_fits s v o x (two i j) h = select_fits s v o j (word_of o (select_index s v i) x)
+selected_fits s v o x (two i j) h = select_fits s v o j (indexed_word o (select_index s v i) x)
 
 -- a part at the high end of others
 beside : (x w rest n : ℕ) → x < 2 ^ w → rest < 2 ^ n → x * 2 ^ n + rest < 2 ^ (w + n)

@@ -4,7 +4,7 @@ use Rattle.wb_values.specs.Value.{Name, Valuation, entry_of}
 use Rattle.verilog_trees.specs.Syntax.{Expression, number, name, concatenation, replication, as_signed, as_unsigned, unary, reduction, binary, shift, power, comparison, logical, conditional, Expressions, no_expressions, expression, ParameterDeclaration, Module, Source}
 use Rattle.verilog_meaning.specs.Expression.{width_of, self_value}
 use Rattle.verilog_meaning.specs.Hierarchy.{all_parameters, Placed, placed_scope, module_named, Instance, instance_named, connected}
-use Rattle.verilog_meaning.specs.Settled.{Design, at_path, inside, IsDeclared, IsSettled}
+use Rattle.verilog_meaning.specs.Settled.{Design, IsPlacedIn, inside, IsDeclared, IsSettled}
 
 abbrev mutual
   -- The numbers whose bits may come into the expression's value fit their widths, and its names are all of a kind.
@@ -57,6 +57,6 @@ IsKnown p n = IsTrue (is_some (entry_of p.constants n)) ⊎ IsDeclared p n
 -- source's parameters fit their widths: parameters, nets, variables and memories all do.
 abbrev pub SettledValueFitsItsWidth : Type 0
 SettledValueFitsItsWidth =
-    (d : Design) (registers inputs v : Valuation) (path : List Name) (p : Placed) (e : Expression)
-    → SourceHasFittingNumbers d.source → IsSettled d registers inputs v → at_path d path ≡ Some p → LeavesAre (IsKnown p) e
-    → self_value (placed_scope p) (inside v path) e < 2 ^ width_of (placed_scope p) e
+    (d : Design) (registers inputs v : Valuation) (p : Placed) (e : Expression)
+    → SourceHasFittingNumbers d.source → IsSettled d registers inputs v → IsPlacedIn d p → LeavesAre (IsKnown p) e
+    → self_value (placed_scope p) (inside v p) e < 2 ^ width_of (placed_scope p) e

@@ -4,7 +4,8 @@ use Rattle.wb_values.specs.Value.{Valuation}
 use Rattle.model_meaning.specs.Model.{Model}
 use Rattle.model_meaning.specs.Instruction.{IsModelRun}
 use Rattle.scripts.specs.Script.{Script}
-use Rattle.scripts.specs.Simulation.{Outcome, IsOutcome, state_after, AreOutcomes, IsSimulation}
+use Rattle.model_meaning.specs.Outcome.{Outcome, IsOutcome, state_after}
+use Rattle.scripts.specs.Simulation.{AreOutcomes, IsSimulation}
 
 -- The causes of the outcomes exclude each other: at a state under inputs one outcome has its cause, with one instruction, one next
 -- state and one trouble.

@@ -4,6 +4,7 @@ ghost use Rattle.wb_laws.specs.Runs.{RunShorterThanTheResetRefines, PrefixRefine
 ghost use Rattle.wb_laws.specs.Settled.{SettledValueFitsItsWidth};
 ghost use Rattle.wb_laws.specs.Simulations.{OutcomeIsUnique, OutcomeExists, SimulationIsUnique, SimulationExists, SimulationIsARun};
 ghost use Rattle.wb_laws.specs.Terms.{TermFitsItsSort};
+ghost use Rattle.wb_laws.specs.Written.{TermsSortIsTheWritten, SortsAreTheSame};
 ghost use Rattle.wb_laws.specs.Widths.{ValueFitsItsWidth, ValueFitsItsContext};
 
 /// An instruction without a child leads to the state that its updates alone give, and to no other.
@@ -34,6 +35,12 @@ pub fn an_idle_cycle_has_one_state()
 /// Where each name stands for a value of its sort, the value of a term that has a sort is of that sort.
 pub fn a_term_fits_its_sort()
     ensures { TermFitsItsSort }
+{}
+
+/// In a model file the sort of a written term is that of the term that it stands for, and the other way round where constants fit.
+pub fn a_written_term_has_the_sort_of_its_term()
+    ensures upward { TermsSortIsTheWritten }
+    ensures same { SortsAreTheSame }
 {}
 
 /// The value of a Verilog expression is a number of its width; in a wider context it is one of the context's.

@@ -16,7 +16,7 @@ use Rattle.refinement.specs.Map.{Map}
 use Rattle.wb_first.specs.Names.{First}
 use Rattle.wb_first.specs.Accepted.{is_accepted}
 use Rattle.wb_first.specs.View.{first_of}
-use Rattle.model_files.specs.Meaning.{ModelRule, reading_of}
+use Rattle.model_files.specs.Meaning.{ModelRule, model_reading}
 use Rattle.ila_rules.specs.Rule.{rule_name}
 use Rattle.ila_json.specs.Reading.{refusal_in}
 use Rattle.verilog_text.specs.Token.{Token}
@@ -113,23 +113,23 @@ answered m p ds f budget NoMemory text case unbroken reported = absurd reported
 answered m p ds f budget Limit text case unbroken reported = absurd reported
 
 -- the kind that refuses: of the model file, of the Verilog files' text, of their tokens, none
-pub kind_of_model : (m : List ℕ) (ds : List (List ℕ)) (rule : ModelRule) → ◌≡◌ {A = Option ModelRule} (Some rule) (refusal_in (reading_of m)) → IsKind m ds (Some (rule_name rule))
+pub kind_of_model : (m : List ℕ) (ds : List (List ℕ)) (rule : ModelRule) → ◌≡◌ {A = Option ModelRule} (Some rule) (refusal_in (model_reading m)) → IsKind m ds (Some (rule_name rule))
 unfolding IsKind
 kind_of_model m ds rule is = subst (λ (o : Option ModelRule). IsFirstKind o (tokens_in ds) (Some (rule_name rule))) is refl
 
-first_kind_by : (m : List ℕ) (ds : List (List ℕ)) (o : Result (List Token) Refusal) (kind : Option (List ℕ)) → refusal_in (reading_of m) ≡ None → tokens_in ds ≡ o
+first_kind_by : (m : List ℕ) (ds : List (List ℕ)) (o : Result (List Token) Refusal) (kind : Option (List ℕ)) → refusal_in (model_reading m) ≡ None → tokens_in ds ≡ o
     → IsKindOfText o kind → IsKind m ds kind
 unfolding IsKind
 first_kind_by m ds o kind unbroken is h =
     subst (λ (r : Option ModelRule). IsFirstKind r (tokens_in ds) kind) (sym unbroken)
     (subst (λ (t : Result (List Token) Refusal). IsKindOfText t kind) (sym is) h)
 
-pub kind_of_text : (m : List ℕ) (ds : List (List ℕ)) (r : Refusal) → refusal_in (reading_of m) ≡ None → tokens_in ds ≡ Err r → IsKind m ds (Some (text_kind r))
+pub kind_of_text : (m : List ℕ) (ds : List (List ℕ)) (r : Refusal) → refusal_in (model_reading m) ≡ None → tokens_in ds ≡ Err r → IsKind m ds (Some (text_kind r))
 kind_of_text m ds r unbroken is = first_kind_by m ds (Err r) (Some (text_kind r)) unbroken is refl
 
-pub kind_of_tokens : (m : List ℕ) (ds : List (List ℕ)) (text : List Token) → refusal_in (reading_of m) ≡ None → tokens_in ds ≡ Ok text
+pub kind_of_tokens : (m : List ℕ) (ds : List (List ℕ)) (text : List Token) → refusal_in (model_reading m) ≡ None → tokens_in ds ≡ Ok text
     → ((ms : Source) → ¬ IsSource ms text) → IsKind m ds (Some (codes "V6 Syntax"))
 kind_of_tokens m ds text unbroken is none = first_kind_by m ds (Ok text) (Some (codes "V6 Syntax")) unbroken is (refl, none)
 
-pub no_kind : (m : List ℕ) (ds : List (List ℕ)) (text : List Token) (ms : Source) → refusal_in (reading_of m) ≡ None → tokens_in ds ≡ Ok text → IsSource ms text → IsKind m ds None
+pub no_kind : (m : List ℕ) (ds : List (List ℕ)) (text : List Token) (ms : Source) → refusal_in (model_reading m) ≡ None → tokens_in ds ≡ Ok text → IsSource ms text → IsKind m ds None
 no_kind m ds text ms unbroken is source = first_kind_by m ds (Ok text) None unbroken is (ms, source)

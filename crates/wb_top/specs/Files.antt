@@ -1,7 +1,7 @@
 -- How files are refused, and which model, map and module the bytes of files stand for in the first profile.
 use Rattle.std.specs.Prelude.{◌≡◌, ℕ, suc, Bool, cond, nat_le, List, [], ◌∷◌, length, map, Option, Some, None, Result, Ok, Err, codes, IfSome, IsTrue}
 use Rattle.wb_values.specs.Value.{Name}
-use Rattle.model_files.specs.Meaning.{ModelRule, reading_of}
+use Rattle.model_files.specs.Meaning.{ModelRule, model_reading}
 use Rattle.verilog_text.specs.Token.{Token}
 use Rattle.verilog_text.specs.Text.{Refusal, not_text, bad_token, bad_directive, unsupported, too_deep, tokens_in}
 use Rattle.verilog_trees.specs.Syntax.{Source}
@@ -48,7 +48,7 @@ IsFirstKind None tokens kind = IsKindOfText tokens kind
 
 -- the first kind that refuses a model file or the Verilog files, if there is one
 unfoldable pub IsKind : (model_bytes : List ℕ) → (designs : List (List ℕ)) → Option (List ℕ) → Type 0
-IsKind m ds kind = IsFirstKind (refusal_in (reading_of m)) (tokens_in ds) kind
+IsKind m ds kind = IsFirstKind (refusal_in (model_reading m)) (tokens_in ds) kind
 
 -- of the files of a check
 abbrev pub IsRefusingKind : List (List ℕ) → Option (List ℕ) → Type 0

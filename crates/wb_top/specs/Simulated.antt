@@ -1,9 +1,10 @@
 -- What a model file and a script say together, and what a simulation of them ends with.
 use Rattle.std.specs.Prelude.{◌≡◌, ℕ, List, [], ◌∷◌, codes}
 use Rattle.model_meaning.specs.Model.{Model}
-use Rattle.model_files.specs.Meaning.{ModelReading, stands_for, refused_by, reading_of}
+use Rattle.model_files.specs.Meaning.{ModelReading, stands_for, refused_by, model_reading}
 use Rattle.scripts.specs.Script.{Script, ScriptReading, is_script, bad_line, missing_input, script_reading, settables_of}
-use Rattle.scripts.specs.Simulation.{Outcome, IsSimulation, simulation_text}
+use Rattle.model_meaning.specs.Outcome.{Outcome}
+use Rattle.scripts.specs.Simulation.{IsSimulation, simulation_text}
 use Rattle.ila_rules.specs.Rule.{rule_name}
 use Rattle.wb_top.specs.Texts.{IsRefusalBy}
 use Rattle.wb_top.specs.declared.status.Status.{Status}
@@ -25,7 +26,7 @@ with_model (stands_for m) s = with_script m (script_reading (settables_of m) s)
 with_model (refused_by rule) s = refused (rule_name rule)
 
 unfoldable pub pair_of : (model_bytes script_bytes : List ℕ) → Pair
-pair_of m s = with_model (reading_of m) s
+pair_of m s = with_model (model_reading m) s
 
 -- Done: the text tells what the model does under the script. Refused: by this kind.
 abbrev pub IsSimulated : Pair → Status → List ℕ → Type 0

@@ -1,7 +1,7 @@
 //! Whether files are a case of the first profile, and which kind refuses the model file or the Verilog files.
 
 ghost use Rattle.std.specs.Prelude.{◌≡◌, ◌∷◌, [], None, Ok, IfOk, IfSome, IfNone, map};
-ghost use Rattle.model_files.specs.Meaning.{reading_of};
+ghost use Rattle.model_files.specs.Meaning.{model_reading};
 ghost use Rattle.verilog_text.specs.Text.{tokens_in};
 ghost use Rattle.verilog_text.specs.Grammar.{IsTreeOf};
 ghost use Rattle.first_text.specs.Tree.{FirstModule as PureModule, module_tree};
@@ -77,7 +77,7 @@ fn of_text(
     map_file: &[u8],
     designs: &[Vec<u8>],
 ) -> Result<Judged, NoMemory>
-    requires { refusal_in (reading_of model.now) ≡ None }
+    requires { refusal_in (model_reading model.now) ≡ None }
     ensures { IfOk result (IsJudged model.now map_file.now (map (λ d. d.items) designs.now)) }
 {
     match tokens(alloc, designs) {
@@ -95,7 +95,7 @@ fn of_tokens(
     designs: &[Vec<u8>],
     tokens: &[Token<'_>],
 ) -> Result<Judged, NoMemory>
-    requires unbroken { refusal_in (reading_of model.now) ≡ None }
+    requires unbroken { refusal_in (model_reading model.now) ≡ None }
     requires are_tokens { tokens_in (map (λ d. d.items) designs.now) ≡ Ok (tokens_of tokens.now) }
     ensures { IfOk result (IsJudged model.now map_file.now (map (λ d. d.items) designs.now)) }
 {

@@ -261,3 +261,17 @@ fn fifth_setting(rt: HostRuntime) -> Result<(), Fail> {
 fn sixth_setting(rt: HostRuntime) -> Result<(), Fail> {
     Ok(check_setting(&rt, rt.alloc(), &SIXTH_NUMBERS, &SIXTH_WORDS, &SIXTH_ROWS)?)
 }
+
+/// Of two declarations and two values of one name the first counts, whether the other fits or not.
+#[test]
+fn first_of_a_name(rt: HostRuntime) -> Result<(), Fail> {
+    let alloc = rt.alloc();
+    let narrow_first = [("a", false, 7, 0), ("a", false, 199, 0)];
+    let scope = declared(alloc, &narrow_first, &[], &[])?;
+    let values = valued(alloc, &narrow_first, &[200, 300], &[], &[])?;
+    check(&rt, alloc, &scope, &values, 8, "a", 200)?;
+    let wide_first = [("a", false, 199, 0), ("a", false, 7, 0)];
+    let scope = declared(alloc, &wide_first, &[], &[])?;
+    assert!(rt; !are_objects_narrow(&scope));
+    Ok(())
+}

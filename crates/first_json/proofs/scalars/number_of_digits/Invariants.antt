@@ -1,6 +1,6 @@
 use Rattle.std.proofs.Common.{◌≡◌, ◌<◌, ◌≤◌, ◌^◌, length, drop}
 use Rattle.std.specs.List.{list_all}
-use Rattle.model_files.specs.Shape.{with_hexadecimal_digits, is_hexadecimal_digit}
+use Rattle.model_files.specs.Shape.{with_hexadecimal_digits, is_lower_digit}
 use Rattle.first_json.proofs.scalars.number_of_digits.Given as goal
 
 abbrev pub invariant-loop-digit : goal.invariant-loop-digit
@@ -8,5 +8,5 @@ invariant-loop-digit l = record {
   read : with_hexadecimal_digits 0 l.digits ≡ with_hexadecimal_digits l.number (drop l.digit-index l.digits);
   below : l.number < 16 ^ l.digit-index;
   count : length l.digits ≤ 32;
-  are : list_all is_hexadecimal_digit l.digits ≡ list_all is_hexadecimal_digit (drop l.digit-index l.digits);
+  are : list_all is_lower_digit l.digits ≡ list_all is_lower_digit (drop l.digit-index l.digits);
 }

@@ -1,10 +1,11 @@
 use Rattle.std.proofs.Common.{◌≡◌, ◌∙◌, ◌≤◌, map, length, Some, None, true, false, sym, ap, subst, arith, string_bytes}
 use Rattle.std.proofs.lemmas.Bool.{and_parts, false≢true}
+use Rattle.wb_values.specs.Value.{truth}
 use Rattle.model_meaning.specs.Model.{holds, point_of}
 use Rattle.wb_terms.specs.Graph.{tree}
 use Rattle.wb_terms.specs.Environment.{as_value, values_of, valuation}
 use Rattle.ila_model.specs.Scope.{nesting}
-use Rattle.ila_model.specs.Sorted.{is_condition}
+use Rattle.ila_model.specs.Sorted.{is_condition, is_term_of}
 use Rattle.ila_model.specs.Meaning.{model_from}
 use Rattle.ila_model.proofs.Declarations.{sorted}
 use Rattle.ila_child.specs.declared.decoding.Decoded.TheVariants.{Several}
@@ -45,6 +46,12 @@ start-requires-clause-fits c =
     let a = given p s name q w c.requires.state c.requires.inputs in
     environment_fits p q w e a i
 
+pub holds-requires-clause-condition : goal.holds-requires-clause-condition
+holds-requires-clause-condition c =
+    let p = c.args.model.now.parts in
+    let top = and_parts (is_condition p None p.valid.0) _ (sorted p c.args.model.now.well_sorted).top in
+    (and_parts (is_term_of p.terms truth p.valid.0) _ top.0).0
+
 pub returns-then-not-holds : goal.returns-then-not-holds
 returns-then-not-holds c =
     let m = c.args.model.now in
@@ -62,7 +69,7 @@ returns-then-not-holds c =
     let at = start_point p s name q w e a i in
     let start = point_of (model_from name p) (state_valuation (model_from name p) q) (input_valuation (model_from name p) w) in
     let same = sym (holds_same p None 0 e p.valid.0 tt low top.0) ∙ sym c.holds.ensures in
-    λ t. false≢true (sym (subst (λ v. holds (tree p.terms p.valid.0) v ≡ false) at (same ∙ c.if-not-holds.true)) ∙ t)
+    (λ t. false≢true (sym (subst (λ v. holds (tree p.terms p.valid.0) v ≡ false) at (same ∙ c.if-not-holds.true)) ∙ t), tt)
 
 pub find_decoded-requires-clause-conditions : goal.find_decoded-requires-clause-conditions
 find_decoded-requires-clause-conditions c =
@@ -109,7 +116,7 @@ returns-in-Nothing c =
     let is = p.instructions.items in
     let by = decodes_same p None 0 e is tt low top.1 ∙ ap (λ v. decodes p.terms v is) at in
     let found = subst (λ js. IsFound (decodes p.terms (valuation p.terms e) js) (length js) None) c.deref.ensures.value c.in-Nothing.ensures in
-    (valid, none_decode name p (state_valuation (model_from name p) q) (input_valuation (model_from name p) w) (subst (λ t. IsFound t (length is) None) by found))
+    ((valid, none_decode name p (state_valuation (model_from name p) q) (input_valuation (model_from name p) w) (subst (λ t. IsFound t (length is) None) by found)), tt)
 
 pub returns-in-Several : goal.returns-in-Several
 returns-in-Several c =
@@ -134,7 +141,7 @@ returns-in-Several c =
     let j = c.in-Several.first in
     let k = c.in-Several.second in
     let found = subst (λ js. AreDecoded (decodes p.terms (valuation p.terms e) js) (length js) (Several j k)) c.deref.ensures.value c.in-Several.ensures in
-    (valid, first_two name p (state_valuation (model_from name p) q) (input_valuation (model_from name p) w) j k (subst (λ t. AreDecoded t (length is) (Several j k)) by found))
+    ((valid, first_two name p (state_valuation (model_from name p) q) (input_valuation (model_from name p) w) j k (subst (λ t. AreDecoded t (length is) (Several j k)) by found)), tt)
 
 pub returns-in_ok-stepped-in-One : goal.returns-in_ok-stepped-in-One
 returns-in_ok-stepped-in-One c =

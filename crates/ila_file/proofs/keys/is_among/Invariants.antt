@@ -1,5 +1,5 @@
 use Rattle.std.proofs.Common.{◌≡◌, drop, map}
-use Rattle.model_files.specs.Keys.{is_among}
+use Rattle.model_meaning.specs.Among.{is_among}
 use Rattle.ila_file.proofs.keys.is_among.Given as goal
 
 abbrev pub invariant-loop-key : goal.invariant-loop-key

@@ -1,12 +1,15 @@
 use Rattle.std.proofs.Common.{◌++◌, ◌+◌, [], ◌∷◌, List, map, drop, ap, ◌∙◌, subst, arith, append-nil, Vec, Global}
 use Rattle.std.proofs.lemmas.List.{map-append, drop_all}
+use Rattle.std.proofs.lemmas.List.Elements.{All-same, All-push}
 use Rattle.scripts.specs.Script.{settables_of, inputs_of, first_state}
-use Rattle.scripts.specs.Simulation.{IsOutcome, AreOutcomes}
+use Rattle.model_meaning.specs.Outcome.{IsOutcome}
+use Rattle.scripts.specs.Simulation.{AreOutcomes}
 use Rattle.ila_child.specs.State.{state_valuation}
 use Rattle.ila_model.specs.Model.{model_of}
 use Rattle.ila_sim.specs.declared.set.Set.{Set}
 use Rattle.ila_sim.specs.Lines.{sets_view}
-use Rattle.ila_sim.specs.Outcomes.{outcome_view, inputs_from}
+use Rattle.ila_child.specs.Step.{outcome_view, IsWell}
+use Rattle.ila_sim.specs.Outcomes.{inputs_from}
 use Rattle.ila_sim.specs.Scripts.{script_view}
 use Rattle.ila_sim.specs.Sets.{are_right}
 use Rattle.ila_sim.proofs.Steps.{after_well, one_more, lines_next, rest_right, ended}
@@ -23,14 +26,15 @@ loop-sets-preserved c =
     subst (λ (ss : List Set). IsOutcome m (state_valuation m c.loop-sets.state) (inputs_of m (sets_view (settables_of m).inputs ss)) (outcome_view m a)) c.deref-in-loop-sets.ensures.value c.in_ok-answer.ensures.outcome in
     let cut = lines_next items k line (omega arith) c.sets-item.is in
     let pushed = ap (map (outcome_view m)) c.in_ok-push.ensures.items ∙ map-append (outcome_view m) c.loop-sets.answers.items (a ∷ []) in record {
+      well = All-same (IsWell m) c.push.new.self.items (c.loop-sets.answers.items ++ a ∷ []) c.in_ok-push.ensures.items (All-push (IsWell m) c.loop-sets.answers.items a c.loop-sets.invariant.well c.in_ok-answer.ensures.well);
       state = after_well m c.loop-sets.state c.in_ok-state-2.state a c.loop-sets.invariant.state c.in_ok-answer.ensures.well c.in_ok-state-2.ensures;
       right = rest_right (λ (l : Vec Set Global). are_right (settables_of m).inputs l.items) (drop k items) (drop (k + 1) items) line cut c.loop-sets.invariant.right;
       runs = one_more m (first_state m (script_view (settables_of m) c.args.script.now)) (inputs_from m c.args.script.now.inputs.items) c.loop-sets.state c.in_ok-state-2.state a (drop k items) (drop (k + 1) items) line
           (map (outcome_view m) c.loop-sets.answers.items) (map (outcome_view m) c.push.new.self.items) cut c.loop-sets.invariant.runs outcome c.in_ok-state-2.ensures pushed;
     }
 
-pub returns : goal.returns
-returns c =
+pub returns-clause-outcomes : goal.returns-clause-outcomes
+returns-clause-outcomes c =
     let m = model_of c.args.model.now in
     let done = map (outcome_view m) c.loop-sets.answers.items in
     let v = first_state m (script_view (settables_of m) c.args.script.now) in

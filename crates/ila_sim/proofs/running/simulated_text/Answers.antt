@@ -2,12 +2,14 @@ use Rattle.std.proofs.Common.{◌≡◌, ◌++◌, ◌+◌, suc, List, drop, tru
 use Rattle.std.specs.List.{list_all}
 use Rattle.std.proofs.lemmas.List.{drop_all}
 use Rattle.scripts.specs.Script.{settables_of, inputs_of, initial_state, first_state, with_sets}
-use Rattle.scripts.specs.Simulation.{IsOutcome, outcome_lines}
+use Rattle.model_meaning.specs.Outcome.{IsOutcome}
+use Rattle.scripts.specs.Simulation.{outcome_lines}
 use Rattle.ila_child.specs.State.{state_valuation}
 use Rattle.ila_model.specs.Model.{model_of}
 use Rattle.ila_sim.specs.declared.set.Set.{Set}
 use Rattle.ila_sim.specs.Lines.{sets_view}
-use Rattle.ila_sim.specs.Outcomes.{outcome_view, inputs_from, IsToldFrom}
+use Rattle.ila_child.specs.Step.{outcome_view}
+use Rattle.ila_sim.specs.Outcomes.{inputs_from, IsToldFrom}
 use Rattle.ila_sim.specs.Scripts.{script_view}
 use Rattle.ila_sim.specs.Sets.{are_right}
 use Rattle.ila_sim.specs.Texts.{outcome_line}

@@ -1,7 +1,8 @@
 use Rattle.std.proofs.Common.{suc, IsTrue, List, ◌++◌, drop}
 use Rattle.std.specs.List.{list_all}
 use Rattle.scripts.specs.Script.{settables_of, first_state}
-use Rattle.scripts.specs.Simulation.{Outcome, AreOutcomes, outcome_lines}
+use Rattle.model_meaning.specs.Outcome.{Outcome}
+use Rattle.scripts.specs.Simulation.{AreOutcomes, outcome_lines}
 use Rattle.ila_child.specs.State.{IsStateOf, state_valuation}
 use Rattle.ila_model.specs.Model.{model_of}
 use Rattle.ila_sim.specs.Outcomes.{IsToldFrom, inputs_from}

@@ -4,7 +4,7 @@ use Rattle.std.specs.String.{string_bytes}
 use Rattle.scripts.specs.Simulation.{name_of_instruction, outcome_text}
 use Rattle.ila_child.specs.declared.stepping.Stepped.{Stepped}
 use Rattle.ila_model.specs.Model.{model_of}
-use Rattle.ila_sim.specs.Outcomes.{outcome_view}
+use Rattle.ila_child.specs.Step.{outcome_view}
 use Rattle.ila_sim.specs.Texts.{next_text}
 use Rattle.ila_sim.proofs.Declared.{states_apart}
 use Rattle.ila_sim.proofs.Told.{states_told}

@@ -1,7 +1,7 @@
 use Rattle.std.proofs.Common.{◌≡◌, suc, ◌++◌, drop, map}
 use Rattle.scripts.specs.Simulation.{simulation_text, outcome_lines}
 use Rattle.ila_model.specs.Model.{model_of}
-use Rattle.ila_sim.specs.Outcomes.{outcome_view}
+use Rattle.ila_child.specs.Step.{outcome_view}
 use Rattle.ila_sim.proofs.text.simulation_text.Given as goal
 
 abbrev pub invariant-loop-place : goal.invariant-loop-place

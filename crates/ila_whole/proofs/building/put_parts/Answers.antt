@@ -1,4 +1,4 @@
-use Rattle.std.proofs.Common.{◌∙◌, map, None, arith, ap, subst}
+use Rattle.std.proofs.Common.{◌∙◌, length, map, None, arith, ap, subst}
 use Rattle.std.proofs.lemmas.List.{length-map}
 use Rattle.std.proofs.lemmas.Result.{err_from_is_err_and}
 use Rattle.ila_file.specs.View.{input_view, model_view}
@@ -7,6 +7,7 @@ use Rattle.ila_build.specs.Inside.{AreChildrenPut}
 use Rattle.ila_build.specs.Layout.{AreLaidPut}
 use Rattle.ila_whole.proofs.Reading.{parts_read}
 use Rattle.ila_whole.proofs.Refusals.{machine_unrefused, children_unrefused}
+use Rattle.ila_whole.proofs.Small.{small_whole}
 use Rattle.ila_whole.proofs.SortedParts.{parts_sorted}
 use Rattle.ila_whole.proofs.building.put_parts.Goals as goal
 
@@ -36,4 +37,8 @@ pub returns-in_err-put_children-clause-unrefused : goal.returns-in_err-put_child
 returns-in_err-put_children-clause-unrefused c =
     let p = err_from_is_err_and c.from_residual-in_err-put_children.result c.from_residual-in_err-put_children.ensures.1 in
     rw (p.1, p.2) (children_unrefused c.in_ok-terms.terms c.put_machine.new.terms c.in_ok-terms.known c.put_machine.new.known c.deref.result.now (model_view c.args.written.now) c.in_ok-valid.valid c.in_ok-valid.instructions.items c.in_err-put_children.field-0.0
-    c.in_ok-terms.ensures.table c.in_ok-terms.ensures.names c.in_ok-terms.ensures.fresh c.in_ok-valid.ensures.grown c.in_ok-valid.ensures.put c.in_ok-valid.ensures.besides c.in_err-put_children.ensures.unrefused)
+    c.in_ok-terms.ensures.table c.in_ok-terms.ensures.names c.in_ok-terms.ensures.fresh c.in_ok-valid.ensures.grown c.in_ok-valid.ensures.put c.in_ok-valid.ensures.left.besides c.in_err-put_children.ensures.unrefused)
+
+pub returns-clause-small : goal.returns-clause-small
+returns-clause-small c =
+    small_whole (length c.in_ok-terms.terms.nodes) (length c.put_machine.new.terms.nodes) (length c.put_children.new.terms.nodes) (model_view c.args.written.now) c.in_ok-terms.ensures.small c.in_ok-valid.ensures.left.added c.in_ok-put_children.ensures.left.added

@@ -7,6 +7,8 @@ use Rattle.v_expr.specs.Reading.{after_mark}
 use Rattle.v_expr.proofs.Repeat.{with_front}
 use Rattle.v_body.specs.Words.{behind_comma, listed_at}
 use Rattle.v_body.specs.Targets.{target_in}
+use Rattle.v_expr.specs.Flat.{Each}
+use Rattle.v_body.specs.Flat.{IsFlatTarget}
 use Rattle.v_body.proofs.target.+target.Given as goal
 
 abbrev pub decreases-nested : goal.decreases-nested
@@ -23,7 +25,8 @@ decreases-outer l = 4 * l.levels + 3
 
 abbrev pub invariant-parts-loop-after : goal.invariant-parts-loop-after
 invariant-parts-loop-after l =
-    with_front (map target_of l.targets.items) (repeated (after_mark right_brace) (behind_comma (target_in l.levels)) (tokens_of l.rest)) ≡ listed_at right_brace (target_in l.levels) (tokens_of l.tokens)
+    (with_front (map target_of l.targets.items) (repeated (after_mark right_brace) (behind_comma (target_in l.levels)) (tokens_of l.rest)) ≡ listed_at right_brace (target_in l.levels) (tokens_of l.tokens))
+    × Each IsFlatTarget l.targets.items
 
 abbrev pub decreases-parts-loop-after : goal.decreases-parts-loop-after
 decreases-parts-loop-after l = length (tokens_of l.rest)

@@ -1,7 +1,7 @@
 use Rattle.std.proofs.Common.{refl, ◌∙◌, ap}
 use Rattle.v_value.specs.Scope.{object_of, scope_at}
 use Rattle.v_syntax.specs.Tree.{selects_of}
-use Rattle.v_narrow.specs.Test.{selects_at}
+use Rattle.v_narrow.specs.Test.{selects_narrow_at}
 use Rattle.v_narrow.proofs.Arms as arms
 use Rattle.v_narrow.proofs.expression.+narrow.Goals as goal
 
@@ -12,7 +12,7 @@ narrow-returns-in-Number t c =
 pub narrow-returns-in-Name : goal.narrow-returns-in-Name
 narrow-returns-in-Name t c =
     arms.at-Name c.args.checked.objects (scope_at c.args.checked.scope.now) c.args.expression.now c.selects_narrow.result c.in-Name.name c.in-Name.selects c.in-Name.is
-    (c.selects_narrow.ensures ∙ ap (λ o. selects_at c.args.checked.objects (scope_at c.args.checked.scope.now) o (selects_of c.in-Name.selects)) c.object.ensures)
+    (c.selects_narrow.ensures ∙ ap (λ o. selects_narrow_at c.args.checked.objects (scope_at c.args.checked.scope.now) o (selects_of c.in-Name.selects)) c.object.ensures)
 
 pub narrow-returns-in-Concatenation : goal.narrow-returns-in-Concatenation
 narrow-returns-in-Concatenation t c =

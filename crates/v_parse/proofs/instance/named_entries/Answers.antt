@@ -8,32 +8,38 @@ use Rattle.v_parse.specs.View.{named_entry_of}
 use Rattle.v_parse.proofs.Lists.{keeps, list_begins, list_is_none, list_goes_on, list_shrinks, list_ends, list_fails}
 use Rattle.verilog_text.specs.Grammar.{IsNamedEntry}
 use Rattle.v_parse.proofs.Spelled.{comma_advances, named_entry_read}
+use Rattle.v_expr.proofs.Flat.{each-one, each-pushed}
+use Rattle.v_parse.specs.Flat.{IsFlatNamed}
 use Rattle.v_parse.proofs.instance.named_entries.Goals as goal
 
-pub returns-in_err-first : goal.returns-in_err-first
+pub returns-in_err-first-clause-read : goal.returns-in_err-first-clause-read
 unfolding named_entries_at
-returns-in_err-first c =
+returns-in_err-first-clause-read c =
     let p = err_from_is_err_and c.from_residual.result c.from_residual.ensures.1 in
-    rw (p.1, p.2) (list_is_none (after_mark comma) named_entry_at c.in_err-first.field-0.0 (tokens_of c.args.tokens.now) c.in_err-first.ensures)
+    rw (p.1, p.2) (list_is_none (after_mark comma) named_entry_at c.in_err-first.field-0.0 (tokens_of c.args.tokens.now) c.in_err-first.ensures.read)
 
 pub loop-entries-init : goal.loop-entries-init
 unfolding named_entries_at
-loop-entries-init c =
-    list_begins named_entry_of (after_mark comma) named_entry_at (tokens_of c.args.tokens.now) c.in_ok-first.first (tokens_of c.in_ok-first.rest.now) c.in_ok-entries.entries.items c.in_ok-entries.ensures c.in_ok-first.ensures
+loop-entries-init c = (
+  (list_begins named_entry_of (after_mark comma) named_entry_at (tokens_of c.args.tokens.now) c.in_ok-first.first (tokens_of c.in_ok-first.rest.now) c.in_ok-entries.entries.items c.in_ok-entries.ensures c.in_ok-first.ensures.read),
+  each-one IsFlatNamed c.in_ok-first.first c.in_ok-entries.entries.items c.in_ok-entries.ensures c.in_ok-first.ensures.flat,
+)
 
-pub returns-in-None : goal.returns-in-None
-returns-in-None c = list_ends (after_mark comma) named_entry_at (map named_entry_of c.loop-entries.entries.items) (tokens_of c.loop-entries.rest.now) (named_entries_at (tokens_of c.args.tokens.now)) c.in-None.ensures c.loop-entries.invariant
+pub returns-in-None-clause-read : goal.returns-in-None-clause-read
+returns-in-None-clause-read c = list_ends (after_mark comma) named_entry_at (map named_entry_of c.loop-entries.entries.items) (tokens_of c.loop-entries.rest.now) (named_entries_at (tokens_of c.args.tokens.now)) c.in-None.ensures c.loop-entries.invariant.0
 
-pub returns-in_err-next-in-Some : goal.returns-in_err-next-in-Some
-returns-in_err-next-in-Some c =
+pub returns-in_err-next-in-Some-clause-read : goal.returns-in_err-next-in-Some-clause-read
+returns-in_err-next-in-Some-clause-read c =
     let p = err_from_is_err_and c.from_residual-in_err-next-in-Some.result c.from_residual-in_err-next-in-Some.ensures.1 in
-    rw (p.1, p.2) (list_fails (after_mark comma) named_entry_at c.in_err-next-in-Some.field-0.0 (map named_entry_of c.loop-entries.entries.items) (tokens_of c.loop-entries.rest.now) (tokens_of c.in-Some.more.now) (named_entries_at (tokens_of c.args.tokens.now)) c.in-Some.ensures c.in_err-next-in-Some.ensures c.loop-entries.invariant)
+    rw (p.1, p.2) (list_fails (after_mark comma) named_entry_at c.in_err-next-in-Some.field-0.0 (map named_entry_of c.loop-entries.entries.items) (tokens_of c.loop-entries.rest.now) (tokens_of c.in-Some.more.now) (named_entries_at (tokens_of c.args.tokens.now)) c.in-Some.ensures c.in_err-next-in-Some.ensures.read c.loop-entries.invariant.0)
 
 pub loop-entries-smaller : goal.loop-entries-smaller
 loop-entries-smaller c =
-    list_shrinks (after_mark comma) named_entry_at comma_advances (keeps IsNamedEntry named_entry_read) (tokens_of c.loop-entries.rest.now) (tokens_of c.in-Some.more.now) _ (tokens_of c.in_ok-next-in-Some.after.now) c.in-Some.ensures c.in_ok-next-in-Some.ensures
+    list_shrinks (after_mark comma) named_entry_at comma_advances (keeps IsNamedEntry named_entry_read) (tokens_of c.loop-entries.rest.now) (tokens_of c.in-Some.more.now) _ (tokens_of c.in_ok-next-in-Some.after.now) c.in-Some.ensures c.in_ok-next-in-Some.ensures.read
 
 pub loop-entries-preserved : goal.loop-entries-preserved
-loop-entries-preserved c =
-    list_goes_on named_entry_of (after_mark comma) named_entry_at comma_advances (keeps IsNamedEntry named_entry_read) c.loop-entries.entries.items c.push.new.self.items (tokens_of c.loop-entries.rest.now) (tokens_of c.in-Some.more.now) c.in_ok-next-in-Some.next (tokens_of c.in_ok-next-in-Some.after.now)
-    (named_entries_at (tokens_of c.args.tokens.now)) c.in_ok-push-in-Some.ensures.items c.in-Some.ensures c.in_ok-next-in-Some.ensures c.loop-entries.invariant
+loop-entries-preserved c = (
+  (list_goes_on named_entry_of (after_mark comma) named_entry_at comma_advances (keeps IsNamedEntry named_entry_read) c.loop-entries.entries.items c.push.new.self.items (tokens_of c.loop-entries.rest.now) (tokens_of c.in-Some.more.now) c.in_ok-next-in-Some.next (tokens_of c.in_ok-next-in-Some.after.now)
+      (named_entries_at (tokens_of c.args.tokens.now)) c.in_ok-push-in-Some.ensures.items c.in-Some.ensures c.in_ok-next-in-Some.ensures.read c.loop-entries.invariant.0),
+  each-pushed IsFlatNamed c.loop-entries.entries.items c.in_ok-next-in-Some.next c.push.new.self.items c.in_ok-push-in-Some.ensures.items c.loop-entries.invariant.1 c.in_ok-next-in-Some.ensures.flat,
+)

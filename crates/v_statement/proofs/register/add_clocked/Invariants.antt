@@ -1,5 +1,5 @@
 use Rattle.std.proofs.Common.{◌≡◌, ◌++◌, drop, map}
-use Rattle.verilog_meaning.specs.Register.{clocked_blocks, updates_of as updates_of_blocks}
+use Rattle.verilog_meaning.specs.Register.{clocked_blocks, updates_of_blocks}
 use Rattle.v_value.specs.Scope.{scope_at, valuation_at}
 use Rattle.v_syntax.specs.Source.{item_of}
 use Rattle.v_statement.specs.Places.{updates_of}

@@ -1,5 +1,5 @@
 use Rattle.std.proofs.Common.{◌≡◌, drop}
-use Rattle.verilog_meaning.specs.Statement.{behind, run_all}
+use Rattle.verilog_meaning.specs.Statement.{after_updates, run_all}
 use Rattle.v_value.specs.Scope.{scope_at, valuation_at}
 use Rattle.v_statement.specs.Places.{updates_of}
 use Rattle.v_statement.specs.Statements.{IsReadyFor, AreNarrowStatements, statement_list}
@@ -8,8 +8,8 @@ use Rattle.v_statement.proofs.statement.+run.Given as goal
 
 abbrev pub invariant-run_all-loop-statement : goal.invariant-run_all-loop-statement
 invariant-run_all-loop-statement l = record {
-  same : behind (updates_of l.initial.updates.items) (run_all (scope_at l.scope) (statement_list l.statements) (valuation_at l.initial.values.entries.items))
-      ≡ behind (updates_of l.updates.items) (run_all (scope_at l.scope) (statement_list (drop l.statement-index l.statements)) (valuation_at l.values.entries.items));
+  same : after_updates (updates_of l.initial.updates.items) (run_all (scope_at l.scope) (statement_list l.statements) (valuation_at l.initial.values.entries.items))
+      ≡ after_updates (updates_of l.updates.items) (run_all (scope_at l.scope) (statement_list (drop l.statement-index l.statements)) (valuation_at l.values.entries.items));
   ready : IsReadyFor (scope_at l.scope) (valuation_at l.values.entries.items);
   narrow : AreNarrowStatements (scope_at l.scope) (statement_list (drop l.statement-index l.statements));
 }

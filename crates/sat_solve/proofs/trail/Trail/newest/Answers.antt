@@ -8,4 +8,4 @@ returns-clause-known c =
     let e = c.index.result.now in
     let within : c.args.k < length (reverse xs) = rw (← c.self.view_is) at c.requires in
     let is : e ≡ get_or xs (length xs - 1 - c.args.k) e = c.index.ensures ∙ ap (λ n. get_or xs (n - 1 - c.args.k) e) (c.len.ensures ∙ c.self.inside.entries.ok.0) in
-    rw (← c.self.view_is) (entry_known (reverse xs) c.self.inside.signs.items c.args.k e c.self.invariant (entry_from_end xs c.args.k e within is))
+    rw (← c.self.view_is) (entry_known (reverse xs) c.self.inside.signs.items c.args.k e c.self.invariant.0 (entry_from_end xs c.args.k e within is))

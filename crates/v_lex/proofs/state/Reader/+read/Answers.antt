@@ -1,7 +1,7 @@
 use Rattle.std.proofs.Common.{ℕ, ◌-◌, length, Some, Ok, arith, sym, ap, ◌∙◌, subst}
 use Rattle.std.specs.Prelude.{option_map, ⊤, IfSome}
 use Rattle.std.proofs.lemmas.Result.{err_from_is_err_and}
-use Rattle.verilog_text.specs.Text.{Reading, Outcome, macro_read}
+use Rattle.v_lex.specs.Walk.{Reading, Outcome, macro_read}
 use Rattle.v_lex.specs.Reading.{reading_of, IsOutcome, span_front}
 use Rattle.v_lex.specs.View.{piece_of}
 use Rattle.v_lex.specs.Sites.{piece_sites, sites_from, macro_sites}

@@ -3,7 +3,7 @@ use Rattle.v_lex.specs.Places.{AreShort}
 use Rattle.v_lex.specs.Sites.{sites_from, macro_sites}
 use Rattle.v_lex.specs.Sited.{site_of, sites_of}
 use Rattle.v_lex.specs.Placed.{IsTextAt, IsReaderPlaced, reached}
-use Rattle.verilog_text.specs.Text.{text_from, macro_read}
+use Rattle.v_lex.specs.Walk.{text_from, macro_read}
 use Rattle.v_lex.specs.Reading.{reading_of}
 use Rattle.v_lex.proofs.state.Reader.+read.Given as goal
 

@@ -1,7 +1,7 @@
 use Rattle.std.proofs.Common.{◌≡◌, ℕ, suc, ◌+◌, map, take, drop, length, ap, Ok, sym, ◌∙◌, arith, subst}
 use Rattle.v_lex.specs.Placed.{IsReaderPlaced}
 use Rattle.v_lex.specs.Reading.{reading_of}
-use Rattle.verilog_text.specs.Text.{first_reading, files_read}
+use Rattle.v_lex.specs.Walk.{first_reading, files_read}
 use Rattle.v_lex.specs.Sites.{file_sites, files_sites}
 use Rattle.v_lex.specs.Sited.{sites_of}
 use Rattle.v_lex.proofs.Sited.{files_turn, files_end}

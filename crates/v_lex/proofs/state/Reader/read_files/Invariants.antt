@@ -1,5 +1,5 @@
 use Rattle.std.proofs.Common.{◌≡◌, map, take, drop, Ok}
-use Rattle.verilog_text.specs.Text.{files_read, first_reading}
+use Rattle.v_lex.specs.Walk.{files_read, first_reading}
 use Rattle.v_lex.specs.Reading.{reading_of}
 use Rattle.v_lex.specs.Places.{AreShort}
 use Rattle.v_lex.specs.Sites.{files_sites}

@@ -1,0 +1,9 @@
+pub mod Growing
+pub mod Listing
+pub mod Naming
+pub mod Choosing
+pub mod Storing
+pub mod Renaming
+pub mod Imaging
+pub mod Wording
+pub mod Spreading

@@ -1,0 +1,53 @@
+use Rattle.std.proofs.Common.{◌≡◌, ◌∙◌, ◌+◌, ◌<◌, List, length, ap, sym, subst, arith}
+use Rattle.wb_values.specs.Value.{Sort, truth, Entries, Valuation}
+use Rattle.wb_terms.specs.Graph.{HasDistinctNames, tree}
+use Rattle.ob_mem.specs.declared.words.MemoryWord.{MemoryWord}
+use Rattle.ob_mem.specs.Words.{HasWords}
+use Rattle.ob_mem.specs.Spread.{GivesSorts, IsSpread}
+use Rattle.ob_mem.specs.Images.{HasFirsts}
+use Rattle.ob_mem.proofs.Imaging.{goal_means}
+use Rattle.ob_mem.proofs.Wording.{has_firsts}
+use Rattle.ob_mem.proofs.Spreading.{spread, gathered}
+use Rattle.ob_mem.proofs.expansion.expand.Goals as goal
+
+pub put_images-requires-clause-firsts : goal.put_images-requires-clause-firsts
+put_images-requires-clause-firsts c =
+    let n = c.in_ok-named.named in
+    let es = c.args.terms.now.names in
+    let h = has_firsts es n.terms.names n.list.items n.firsts.items c.in_ok-named.ensures.names c.in_ok-named.ensures.list c.in_ok-named.ensures.firsts in
+    subst (λ rs. HasFirsts es n.terms.names rs c.as_slice-places.result.now) (sym c.as_slice-words.ensures.value)
+    (subst (HasFirsts es n.terms.names n.list.items) (sym c.as_slice-places.ensures.value) h)
+
+pub returns-clause-goal : goal.returns-clause-goal
+returns-clause-goal c =
+    (goal_means c.args.terms.now c.put_images.new.terms c.in_ok-named.named.list.items c.as_slice-words.result.now c.in_ok-images.images.items c.args.id.0 c.index-goal.result.now
+    c.as_slice-words.ensures.value c.requires.sort c.in_ok-images.ensures.images c.index-goal.ensures).plain.below
+
+pub returns-clause-sort : goal.returns-clause-sort
+returns-clause-sort c =
+    (goal_means c.args.terms.now c.put_images.new.terms c.in_ok-named.named.list.items c.as_slice-words.result.now c.in_ok-images.images.items c.args.id.0 c.index-goal.result.now
+    c.as_slice-words.ensures.value c.requires.sort c.in_ok-images.ensures.images c.index-goal.ensures).plain.sort
+
+pub returns-clause-blastable : goal.returns-clause-blastable
+returns-clause-blastable c =
+    (goal_means c.args.terms.now c.put_images.new.terms c.in_ok-named.named.list.items c.as_slice-words.result.now c.in_ok-images.images.items c.args.id.0 c.index-goal.result.now
+    c.as_slice-words.ensures.value c.requires.sort c.in_ok-images.ensures.images c.index-goal.ensures).plain.blastable
+
+pub returns-clause-value : goal.returns-clause-value
+returns-clause-value c =
+    (goal_means c.args.terms.now c.put_images.new.terms c.in_ok-named.named.list.items c.as_slice-words.result.now c.in_ok-images.images.items c.args.id.0 c.index-goal.result.now
+    c.as_slice-words.ensures.value c.requires.sort c.in_ok-images.ensures.images c.index-goal.ensures).value
+
+pub returns-clause-spread : goal.returns-clause-spread
+returns-clause-spread c =
+    let n = c.in_ok-named.named in
+    let es = c.args.terms.now.names in
+    subst (λ (new : Entries Sort). (v : Valuation) → GivesSorts es v → (w : Valuation) × IsSpread es new n.list.items v w × GivesSorts new w) (sym c.in_ok-images.ensures.names)
+    (λ v s. spread es n.terms.names n.list.items v c.in_ok-named.ensures.names c.in_ok-named.ensures.list c.in_ok-named.ensures.distinct s)
+
+pub returns-clause-gathered : goal.returns-clause-gathered
+returns-clause-gathered c =
+    let n = c.in_ok-named.named in
+    let es = c.args.terms.now.names in
+    subst (λ (new : Entries Sort). (w : Valuation) → GivesSorts new w → (v : Valuation) × IsSpread es new n.list.items v w) (sym c.in_ok-images.ensures.names)
+    (λ w s. gathered es n.terms.names n.list.items w c.in_ok-named.ensures.names c.in_ok-named.ensures.list c.with_words.ensures.old_distinct s)

@@ -1,0 +1,4 @@
+pub mod Words
+pub mod Spread
+pub mod Rows
+pub mod Images
