@@ -6,3 +6,4 @@ pub mod Lists
 pub mod Operations
 pub mod Shapes
 pub mod Shown
+pub mod Ways

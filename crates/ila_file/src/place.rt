@@ -1,12 +1,12 @@
 //! Where in a model file a walk is, and the notes that lead there.
 
-ghost use Rattle.std.specs.Prelude.{◌≡◌, IfOk, ◌++◌, ◌∷◌, []};
+ghost use Rattle.std.specs.Prelude.{◌≡◌, IfOk, OnOk, ◌-◌, ◌++◌, ◌∷◌, [], None, Some, codes, length, take, option_map};
+ghost use Rattle.ila_file.specs.Notes.{note_of};
+ghost use Rattle.ila_file.specs.Places.{item_text, head_text, after_mark, way_text, spot_text};
 
 use crate::{NoMemory, Note};
+use itoa::Buffer;
 use std::alloc::Global;
-
-/// How much of a text is worth keeping for a note.
-const ENOUGH: usize = 80;
 
 /// The way to a machine of a model file: the places of the instructions through whose children it leads, the outermost first.
 #[derive(Drop)]
@@ -32,7 +32,9 @@ pub struct Spot<'e> {
 
 impl<'e> Spot<'e> {
     /// What stands under a key of the machine's object, as `valid`.
-    pub fn key(key: &'e str) -> Spot<'e> {
+    pub fn key(key: &'e str) -> Spot<'e>
+        ensures { result ≡ record { key = key.entry; index = None; name = None; part = None; member = None } }
+    {
         Spot {
             key,
             index: None,
@@ -43,7 +45,9 @@ impl<'e> Spot<'e> {
     }
 
     /// An item of the list under a key, as `states[0] i`.
-    pub fn item(key: &'e str, index: usize, name: Option<&'e str>) -> Spot<'e> {
+    pub fn item(key: &'e str, index: usize, name: Option<&'e str>) -> Spot<'e>
+        ensures { result ≡ record { key = key.entry; index = Some index; name = name.entry; part = None; member = None } }
+    {
         Spot {
             key,
             index: Some(index),
@@ -54,7 +58,9 @@ impl<'e> Spot<'e> {
     }
 
     /// What stands under a key of the item's object, as `states[0] i: init`.
-    pub fn part(self, part: &'e str) -> Spot<'e> {
+    pub fn part(self, part: &'e str) -> Spot<'e>
+        ensures { result ≡ record { key = self.entry.key; index = self.entry.index; name = self.entry.name; part = Some part.entry; member = self.entry.member } }
+    {
         Spot {
             part: Some(part),
             ..self
@@ -62,7 +68,9 @@ impl<'e> Spot<'e> {
     }
 
     /// What stands under a key of the object under that, as `instructions[1] ADD: update q`.
-    pub fn member(self, member: &'e str) -> Spot<'e> {
+    pub fn member(self, member: &'e str) -> Spot<'e>
+        ensures { result ≡ record { key = self.entry.key; index = self.entry.index; name = self.entry.name; part = self.entry.part; member = Some member.entry } }
+    {
         Spot {
             member: Some(member),
             ..self
@@ -72,7 +80,9 @@ impl<'e> Spot<'e> {
 
 impl Place {
     /// The machine of the model itself.
-    pub fn top(alloc: Global) -> Place {
+    pub fn top(alloc: Global) -> Place
+        ensures { result.instructions.items ≡ [] }
+    {
         Place {
             alloc,
             instructions: Vec::new(alloc),
@@ -80,75 +90,81 @@ impl Place {
     }
 
     /// Goes to the machine of the child of an instruction, by its place in the list, from 0.
-    pub fn enter(&mut self, instruction: usize) -> Result<(), NoMemory> {
+    pub fn enter(&mut self, instruction: usize) -> Result<(), NoMemory>
+        ensures { OnOk result (self.new.instructions.items ≡ self.old.instructions.items ++ instruction ∷ []) }
+    {
         self.instructions.push(instruction)?;
         Ok(())
     }
 
     /// Goes back to the machine around it.
-    pub fn leave(&mut self) {
+    pub fn leave(&mut self)
+        ensures { self.new.instructions.items ≡ take (length self.old.instructions.items - 1) self.old.instructions.items }
+    {
         self.instructions.pop();
     }
 
     /// The note of a spot of the machine, as `instructions[1].child.states[0] i: init`.
-    pub fn note(&self, spot: Spot<'_>) -> Result<Note, NoMemory> {
+    pub fn note(&self, spot: Spot<'_>) -> Result<Note, NoMemory>
+        ensures { IfOk result (λ n. n.text.items ≡ note_of (way_text self.now.instructions.items ++ spot_text spot.entry)) }
+    {
         let mut text = Vec::new(self.alloc);
-        for instruction in &self.instructions {
-            append_item(&mut text, "instructions", *instruction)?;
-            append(&mut text, ".child.")?;
-        }
+        append_way(&mut text, &self.instructions)?;
         append_spot(&mut text, spot)?;
         Note::new(self.alloc, &text)
     }
 }
 
-fn append_spot(text: &mut Vec<u8>, spot: Spot<'_>) -> Result<(), NoMemory> {
-    match spot.index {
-        Some(index) => append_item(text, spot.key, index)?,
-        None => append(text, spot.key)?,
+/// Appends the children of the instructions, one within the other, as `instructions[1].child.`.
+fn append_way(text: &mut Vec<u8>, instructions: &[usize]) -> Result<(), NoMemory>
+    ensures { OnOk result (text.new.items ≡ text.old.items ++ way_text instructions.now) }
+{
+    for instruction in instructions {
+        append_item(text, "instructions", *instruction)?;
+        text.extend_from_slice(b".child.")?;
     }
-    append_behind(text, " ", spot.name)?;
-    append_behind(text, ": ", spot.part)?;
-    append_behind(text, " ", spot.member)
+    Ok(())
 }
 
-fn append_behind(text: &mut Vec<u8>, mark: &str, part: Option<&str>) -> Result<(), NoMemory> {
-    match part {
-        Some(part) => {
-            append(text, mark)?;
-            append(text, part)
+fn append_spot(text: &mut Vec<u8>, spot: Spot<'_>) -> Result<(), NoMemory>
+    ensures { OnOk result (text.new.items ≡ text.old.items ++ spot_text spot.entry) }
+{
+    append_head(text, spot.key, spot.index)?;
+    append_after(text, " ", spot.name)?;
+    append_after(text, ": ", spot.part)?;
+    append_after(text, " ", spot.member)
+}
+
+/// Appends the key, or an item of the list under it.
+fn append_head(text: &mut Vec<u8>, key: &str, index: Option<usize>) -> Result<(), NoMemory>
+    ensures { OnOk result (text.new.items ≡ text.old.items ++ head_text key.now index) }
+{
+    match index {
+        Some(index) => append_item(text, key, index),
+        None => text.extend_from_slice(key.as_bytes()),
+    }
+}
+
+/// Appends a mark and a word, where there is a word.
+fn append_after(text: &mut Vec<u8>, mark: &str, word: Option<&str>) -> Result<(), NoMemory>
+    ensures { OnOk result (text.new.items ≡ text.old.items ++ after_mark mark.now (option_map (λ w. w.now) word.entry)) }
+{
+    match word {
+        Some(word) => {
+            text.extend_from_slice(mark.as_bytes())?;
+            text.extend_from_slice(word.as_bytes())
         }
         None => Ok(()),
     }
 }
 
-fn append_item(text: &mut Vec<u8>, key: &str, index: usize) -> Result<(), NoMemory> {
-    append(text, key)?;
-    append(text, "[")?;
-    append_number(text, index)?;
-    append(text, "]")
-}
-
-/// Appends as much of the piece as a note may show.
-fn append(text: &mut Vec<u8>, piece: &str) -> Result<(), NoMemory> {
-    for byte in piece.as_bytes() {
-        if text.len() >= ENOUGH {
-            return Ok(());
-        }
-        text.push(*byte)?;
-    }
-    Ok(())
-}
-
-/// Appends the decimal digits of a number.
-fn append_number(text: &mut Vec<u8>, number: usize) -> Result<(), NoMemory> {
-    let start = text.len();
-    let mut left = number;
-    loop {
-        text.insert(start, b'0' + (left % 10) as u8)?;
-        left = left / 10;
-        if left == 0 {
-            return Ok(());
-        }
-    }
+/// Appends an item of the list under a key, as `states[0]`.
+fn append_item(text: &mut Vec<u8>, key: &str, index: usize) -> Result<(), NoMemory>
+    ensures { OnOk result (text.new.items ≡ text.old.items ++ item_text key.now index) }
+{
+    let mut buffer = Buffer::new();
+    text.extend_from_slice(key.as_bytes())?;
+    text.extend_from_slice(b"[")?;
+    text.extend_from_slice(buffer.format(index).as_bytes())?;
+    text.extend_from_slice(b"]")
 }

@@ -1,26 +1,19 @@
 -- Notes of model files and of scripts are notes of refusals.
-use Rattle.std.proofs.Common.{◌≡◌, ◌≤◌, ◌∙◌, ◌++◌, ◌&&◌, ◌==◌, ℕ, Bool, true, false, not, List, [], ◌∷◌, Result, Ok, Err, IfOk, Vec, Global, ap, codes, length, IsTrue, refl, arith}
+use Rattle.std.proofs.Common.{◌≡◌, ◌<◌, ◌≤◌, ◌∙◌, ◌++◌, ℕ, List, [], ◌∷◌, Result, Ok, Err, IfOk, Vec, Global, ap, sym, subst, codes, length, map, take, IsTrue, arith}
 use Rattle.std.specs.List.{list_all}
-use Rattle.std.proofs.lemmas.Bool.{false≢true}
-use Rattle.std.proofs.lemmas.Bool.Decides.{nat_tests}
-use Rattle.ila_file.specs.Notes.{is_printable}
-use Rattle.wb_top.specs.Texts.{IsNote, IsRefusalBy}
+use Rattle.v_lex.specs.Notes.{shown}
+use Rattle.wb_top.specs.Texts.{is_printable, IsNote, IsRefusalBy}
 
-no_line_feed : (b : ℕ) → IsTrue (is_printable b) → not (b == 10) ≡ true
-no_line_feed b h = grind (arith, nat_tests, h)
+some_first : (b : ℕ) (bs : List ℕ) → 0 < length (map shown (take 80 (b ∷ bs)))
+some_first b bs = omega arith
 
-both : (a b : Bool) → IsTrue (a && b) → IsTrue a × IsTrue b
-both true b h = (refl, h)
-both false b h = absurd (false≢true h)
+pub is_note : (text : List ℕ) → 0 < length text → length text ≤ 80 → IsTrue (list_all is_printable text) → IsNote text
+is_note text some short printable = record { some = some; short = short; printable = printable }
 
-one_line : (text : List ℕ) → IsTrue (list_all is_printable text) → list_all (λ b. not (b == 10)) text ≡ true
-one_line [] h = refl
-one_line (b ∷ bs) h =
-    let each = both (is_printable b) (list_all is_printable bs) h in
-    λ i. no_line_feed b each.0 i && one_line bs each.1 i
-
-pub is_note : (text : List ℕ) → length text ≤ 80 → IsTrue (list_all is_printable text) → IsNote text
-is_note text short printable = record { short = short; one_line = one_line text printable }
+-- a note with a name before it is never empty
+pub some_named : (text name note : List ℕ) → text ≡ map shown (take 80 (name ++ 32 ∷ note)) → 0 < length text
+some_named text [] note is = subst (λ (t : List ℕ). 0 < length t) (sym is) (some_first 32 note)
+some_named text (b ∷ bs) note is = subst (λ (t : List ℕ). 0 < length t) (sym is) (some_first b (bs ++ 32 ∷ note))
 
 -- a text of a rule's name and a note is a refusal by it
 pub refused : {E : Type 0} (r : Result (Vec ℕ Global) E) (rule name note : List ℕ) → name ≡ rule → IsNote note

@@ -1,6 +1,7 @@
 pub mod Words
 pub mod Wanted
 pub mod Files
+pub mod Profile
 pub mod Texts
 pub mod Simulated
 pub mod Outcome

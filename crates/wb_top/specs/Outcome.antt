@@ -13,7 +13,8 @@ use Rattle.wb_top.specs.declared.verb.Verb.TheVariants.{Check, Simulate}
 use Rattle.wb_top.specs.Words.{Command, command_of}
 use Rattle.wb_top.specs.Files.{first_long, IsRefusingKind, IsCase, AreHeld}
 use Rattle.wb_top.specs.Simulated.{AreSimulated}
-use Rattle.wb_top.specs.Texts.{usage_text, limit_text, IsRefusalBy, IsRefusal}
+use Rattle.wb_top.specs.Profile.{Part, KeepFilesOutside}
+use Rattle.wb_top.specs.Texts.{usage_text, limit_text, IsRefusalBy, not_yet_text}
 use Rattle.wb_top.specs.declared.status.Status.{Status}
 use Rattle.wb_top.specs.declared.status.Status.TheVariants.{Done, Failed, Unknown, Usage, Refused, Limit}
 
@@ -31,10 +32,11 @@ IsReported f budget Unknown t = IsReport (setting_of f) budget t.text some_unkno
 IsReported f budget _ t = ⊥
 
 -- Refused: by the first kind that refuses the model file or the Verilog files; where none does, the files stand for no case of the
--- profile.
+-- profile, and the text says what keeps them outside.
 abbrev pub IsRefused : List (List ℕ) → Option (List ℕ) → List ℕ → Type 0
 IsRefused contents (Some kind) text = IsRefusalBy kind text
-IsRefused contents None text = ((f : First) → ¬ IsCase contents f) × IsRefusal text
+IsRefused contents None text =
+    ((f : First) → ¬ IsCase contents f) × (part : Part) × KeepFilesOutside contents part × (text ≡ not_yet_text part)
 
 -- A check of these files, and what it tells.
 abbrev pub IsChecked : (budget : ℕ) → List (List ℕ) → Status → Told → Type 0

@@ -1,6 +1,7 @@
 -- The texts that a call writes beside reports.
-use Rattle.std.specs.Prelude.{◌≡◌, ◌≤◌, ℕ, not, ◌==◌, List, [], ◌∷◌, ◌++◌, length, codes, decimal, IsTrue}
+use Rattle.std.specs.Prelude.{◌≡◌, ◌<◌, ◌≤◌, ℕ, Bool, ◌&&◌, nat_le, List, [], ◌∷◌, ◌++◌, length, codes, decimal, IsTrue}
 use Rattle.std.specs.List.{list_all}
+use Rattle.wb_top.specs.Profile.{Part, part_text}
 
 abbrev pub usage_text : List ℕ
 usage_text = codes "usage" ++ 10 ∷ []
@@ -9,17 +10,21 @@ usage_text = codes "usage" ++ 10 ∷ []
 abbrev pub limit_text : ℕ → List ℕ
 limit_text k = codes "limit length " ++ (decimal k ++ 10 ∷ [])
 
--- a note is one line of at most 80 bytes
+-- printable ASCII, the space included
+abbrev pub is_printable : ℕ → Bool
+is_printable b = nat_le 32 b && nat_le b 126
+
+-- a note has at least one byte and at most 80, each printable
 pub record IsNote (text : List ℕ) : Type 0 where
+  pub some : 0 < length text
   pub short : length text ≤ 80
-  pub one_line : IsTrue (list_all (λ b. not (b == 10)) text)
+  pub printable : IsTrue (list_all is_printable text)
 
 -- A refusal by a rule: its name, and a note that leads to the place.
 abbrev pub IsRefusalBy : List ℕ → List ℕ → Type 0
 IsRefusalBy rule text =
     (note : List ℕ) × IsNote note × (text ≡ codes "refused " ++ (rule ++ 10 ∷ (codes "note " ++ (note ++ 10 ∷ []))))
 
--- What is written of files that are not accepted yet: the kind of the refusal, and a note that says where.
-abbrev pub IsRefusal : List ℕ → Type 0
-IsRefusal text =
-    (note : List ℕ) × IsNote note × (text ≡ codes "refused N1 NotYet" ++ 10 ∷ (codes "note " ++ (note ++ 10 ∷ [])))
+-- what is written of files that are outside the first profile: the kind of the refusal, and what keeps them outside
+abbrev pub not_yet_text : Part → List ℕ
+not_yet_text part = codes "refused N1 NotYet" ++ 10 ∷ (codes "note " ++ (part_text part ++ 10 ∷ []))

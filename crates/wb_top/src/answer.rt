@@ -97,7 +97,8 @@ fn checked(
     designs: &[Vec<u8>],
     budget: u64,
 ) -> Result<Outcome, NoMemory>
-    requires { 0 < budget }
+    requires budget { 0 < budget }
+    requires some { 0 < length designs.now }
     ensures { IfOk result (λ o. IsChecked budget (model.now ∷ map_file.now ∷ map (λ d. d.items) designs.now) o.status (told_of o)) }
 {
     match judge(alloc, model, map_file, designs)? {

@@ -1,6 +1,6 @@
 //! Whether files are a case of the first profile, and which kind refuses the model file or the Verilog files.
 
-ghost use Rattle.std.specs.Prelude.{◌≡◌, ◌∷◌, [], None, Ok, IfOk, IfSome, IfNone, map};
+ghost use Rattle.std.specs.Prelude.{◌≡◌, ◌<◌, ◌∷◌, [], None, Ok, IfOk, IfSome, IfNone, map, length};
 ghost use Rattle.model_files.specs.Meaning.{model_reading};
 ghost use Rattle.verilog_text.specs.Text.{tokens_in};
 ghost use Rattle.verilog_text.specs.Grammar.{IsTreeOf};
@@ -62,6 +62,7 @@ pub(crate) fn judge(
     map_file: &[u8],
     designs: &[Vec<u8>],
 ) -> Result<Judged, NoMemory>
+    requires { 0 < length designs.now }
     ensures { IfOk result (IsJudged model.now map_file.now (map (λ d. d.items) designs.now)) }
 {
     match model_refusal(alloc, model)? {
@@ -77,7 +78,8 @@ fn of_text(
     map_file: &[u8],
     designs: &[Vec<u8>],
 ) -> Result<Judged, NoMemory>
-    requires { refusal_in (model_reading model.now) ≡ None }
+    requires some { 0 < length designs.now }
+    requires unbroken { refusal_in (model_reading model.now) ≡ None }
     ensures { IfOk result (IsJudged model.now map_file.now (map (λ d. d.items) designs.now)) }
 {
     match tokens(alloc, designs) {
@@ -95,6 +97,7 @@ fn of_tokens(
     designs: &[Vec<u8>],
     tokens: &[Token<'_>],
 ) -> Result<Judged, NoMemory>
+    requires some { 0 < length designs.now }
     requires unbroken { refusal_in (model_reading model.now) ≡ None }
     requires are_tokens { tokens_in (map (λ d. d.items) designs.now) ≡ Ok (tokens_of tokens.now) }
     ensures { IfOk result (IsJudged model.now map_file.now (map (λ d. d.items) designs.now)) }
@@ -120,7 +123,8 @@ fn in_profile(
     designs: &[Vec<u8>],
     tree: &Tree<'_>,
 ) -> Result<Judged, NoMemory>
-    requires { IsTreeOf (map (λ d. d.items) designs.now) (source_of tree.now) }
+    requires some { 0 < length designs.now }
+    requires is_tree { IsTreeOf (map (λ d. d.items) designs.now) (source_of tree.now) }
     ensures { IfOk result (IsInProfile model.now map_file.now (map (λ d. d.items) designs.now)) }
 {
     if designs.len() != 1 {

@@ -1,11 +1,12 @@
 //! The texts that a call writes beside reports.
 
-ghost use Rattle.std.specs.Prelude.{◌≡◌, ◌++◌, ◌∷◌, [], codes, IfOk};
+ghost use Rattle.std.specs.Prelude.{◌≡◌, ◌<◌, ◌++◌, ◌∷◌, [], codes, length, IfOk};
 ghost use Rattle.ila_rules.specs.Rule.{rule_view, rule_name};
 ghost use Rattle.ila_sim.specs.Scripts.{name_of_kind};
 ghost use Rattle.v_lex.specs.Reading.{refusal_of};
 ghost use Rattle.wb_top.specs.Files.{text_kind};
-ghost use Rattle.wb_top.specs.Texts.{usage_text, limit_text, IsRefusalBy, IsRefusal};
+ghost use Rattle.wb_top.specs.Judged.{part_of};
+ghost use Rattle.wb_top.specs.Texts.{usage_text, limit_text, IsRefusalBy, not_yet_text};
 
 use crate::judged::Place;
 use crate::stop::NoMemory;
@@ -68,7 +69,9 @@ fn shown_name(names: &[String], number: u32) -> &[u8] {
 
 /// The note with the name of its file before it. The names are those of all files that are read: of the model, of the map, and then
 /// of each Verilog file.
-fn with_name(alloc: Global, names: &[String], note: &Note) -> Result<Note, NoMemory> {
+fn with_name(alloc: Global, names: &[String], note: &Note) -> Result<Note, NoMemory>
+    ensures { IfOk result (λ n. 0 < length n.text.items) }
+{
     match note.named(alloc, shown_name(names, note.file)) {
         Some(note) => Ok(note),
         None => Err(AllocError),
@@ -125,13 +128,13 @@ pub(crate) fn limit(alloc: Global, number: usize) -> Result<Vec<u8>, NoMemory>
 
 /// The text for files that are not accepted yet.
 pub(crate) fn refusal(alloc: Global, place: Place) -> Result<Vec<u8>, NoMemory>
-    ensures { IfOk result (λ text. IsRefusal text.items) }
+    ensures { IfOk result (λ text. text.items ≡ not_yet_text (part_of place)) }
 {
     Vec::from_slice(alloc, refusal_text(place))
 }
 
 fn refusal_text(place: Place) -> &'static [u8]
-    ensures { IsRefusal result.now }
+    ensures { result.now ≡ not_yet_text (part_of place) }
 {
     match place {
         Place::Model => b"refused N1 NotYet\nnote the model file\n",

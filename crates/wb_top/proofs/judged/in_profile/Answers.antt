@@ -10,5 +10,5 @@ returns-in-None-2 c =
     not_accepted _ _ _ _ c.in-Some.model c.in-Some-2.map c.in-Some-3.design
     (ap (option_map first_model_of) (sym c.in-Some.is) ∙ c.in_ok-model.ensures)
     (ap (option_map map_of) (sym c.in-Some-2.is) ∙ c.in_ok-map.ensures)
-    c.requires read.0 c.one_source.ensures c.one_module.ensures
+    c.requires.is_tree read.0 c.one_source.ensures c.one_module.ensures
     (ap is_some (sym c.in-None-2.is) ∙ c.in_ok-case-in-Some-3.ensures.accepted)
