@@ -1,0 +1,2 @@
+//! What is refused in whole designs: rules over the top and the modules below it, one for each kind of refusal (IEEE 1364-2005).
+#![tactic(auto)]
