@@ -8,3 +8,4 @@ pub mod Paths
 pub mod Drivers
 pub mod Dependence
 pub mod Accepted
+pub mod Worked
