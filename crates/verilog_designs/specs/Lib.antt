@@ -1,0 +1,11 @@
+pub mod Known
+pub mod Names
+pub mod Ports
+pub mod Expressions
+pub mod Clocks
+pub mod Reads
+pub mod Paths
+pub mod Drivers
+pub mod Dependence
+pub mod Accepted
+pub mod Worked
