@@ -122,14 +122,15 @@ abbrev mutual
       || (not (is_in (surely_reaches s t) u) && one_takes s ts u j)
 
 abbrev mutual
-  -- the bits of the indexes of the parts that may reach the bit
+  -- the bits of the indexes of the parts that may give the bit its value
   pub index_reads : Scope → Target → Bit → BitSet
   index_reads s (place n x) u m k b = may_reach s (place n x) u.of_name u.word u.place && selects_read s x m k b
   index_reads s (joined ts) u m k b = one_index_reads s ts u m k b
 
   pub one_index_reads : Scope → Targets → Bit → BitSet
   one_index_reads s no_targets u m k b = false
-  one_index_reads s (target t ts) u m k b = index_reads s t u m k b || one_index_reads s ts u m k b
+  one_index_reads s (target t ts) u m k b =
+      index_reads s t u m k b || (not (is_in (surely_reaches s t) u) && one_index_reads s ts u m k b)
 
 -- The bit of the target gets its value from this bit: the one that is copied to it, where the right side is plain, and else each
 -- that the right side reads. The target and the expression have scopes of their own, as the two sides of a connection do.

@@ -153,7 +153,7 @@ abbrev mutual
   arms_read s (default_arm x items) n k b = statement_reads s x n k b || arms_read s items n k b
 
 -- The bit is read: by an assignment, a block or what is connected to an input; or as a bit of an output that is connected to
--- something. Events read nothing, and clock nets are no data.
+-- something. Events read nothing.
 pub data IsRead (d : Design) (p : Placed) (n : Name) (k b : ℕ) : Type 0 where
   by_assignment : (a : Target × Expression) → Contains (assignments p.of_module.items) a → IsTrue (reads (placed_scope p) a.1 n k b)
       → IsRead d p n k b

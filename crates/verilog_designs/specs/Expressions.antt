@@ -2,7 +2,7 @@
 use Rattle.std.specs.Prelude.{Bool, true, false, cond, not, ◌&&◌, ◌||◌, nat_lt, List, [], ◌∷◌, Option, Some, None, is_some, is_none, ℤ}
 use Rattle.wb_values.specs.Value.{Name, entry_of}
 use Rattle.wb_values.specs.Choice.{some_if}
-use Rattle.verilog_trees.specs.Syntax.{Expression, number, name, Expressions, no_expressions, expression, Target, place, joined, Targets, no_targets, target, CaseKind, exact_case, wild_case, Statement, empty, blocking, nonblocking, if_then, if_else, case, block, Statements, no_statements, statement, CaseItems, no_items, arm, default_arm, Event, Events, any_change, on_events, Range, PortDeclaration, ParameterDeclaration, Connections, by_name, by_order, Item, port, parameter, wires, variables, assign, always, instances, Module, Source}
+use Rattle.verilog_trees.specs.Syntax.{Number, Expression, number, name, concatenation, replication, as_signed, as_unsigned, unary, reduction, binary, shift, power, comparison, logical, conditional, Expressions, no_expressions, expression, Target, place, joined, Targets, no_targets, target, CaseKind, exact_case, wild_case, Statement, empty, blocking, nonblocking, if_then, if_else, case, block, Statements, no_statements, statement, CaseItems, no_items, arm, default_arm, Event, Events, any_change, on_events, Range, PortDeclaration, ParameterDeclaration, Connections, by_name, by_order, Item, port, parameter, wires, variables, assign, always, instances, Module, Source}
 use Rattle.verilog_meaning.specs.Expression.{Scope, object_width, is_memory}
 use Rattle.verilog_meaning.specs.Statement.{targets_width}
 use Rattle.verilog_meaning.specs.Register.{is_clocked}
@@ -11,6 +11,7 @@ use Rattle.verilog_meaning.specs.Settled.{port_directions, as_target, Connection
 use Rattle.verilog_rules.specs.Expression.{Broken, nothing, also, constant_if, width_if, Place, anywhere, constant, by_name as by_a_name, by_total, broken, broken_selects, has_width, broken_constant, constant_number, is_over_128}
 use Rattle.verilog_designs.specs.Known.{as_bound, known_range_width, value_place, known_scope}
 use Rattle.verilog_designs.specs.Ports.{is_output, port_direction}
+use Rattle.verilog_designs.specs.Constants.{has_net_as_constant}
 
 -- one rule, where this is so
 abbrev pub memory_if : Bool → Broken
@@ -93,17 +94,29 @@ broken_net_target s p t = also (memory_if (writes_memory s t)) (broken_target s 
 -- ---- statements
 
 -- HasXZ: as an item of a casez a z or ? digit may stand in a number with a size, without s, that is the whole item.
-abbrev pub is_wild_item : CaseKind → Expression → Bool
-is_wild_item exact_case e = false
-is_wild_item wild_case (number k) = k.sized && not k.signed
-is_wild_item wild_case _ = false
+abbrev pub may_be_wild : CaseKind → Number → Bool
+may_be_wild exact_case k = false
+may_be_wild wild_case k = k.sized && not k.signed
 
-abbrev pub without_wild_digits : Expression → Expression
-without_wild_digits (number k) = number (record k { has_wild = false })
-without_wild_digits e = e
+-- an item with its wild digits left out, where they may stand
+abbrev pub judged_item : CaseKind → Expression → Expression
+judged_item kind (number k) = number (cond (may_be_wild kind k) (record k { has_wild = false }) k)
+judged_item kind (name n x) = name n x
+judged_item kind (concatenation es) = concatenation es
+judged_item kind (replication k es) = replication k es
+judged_item kind (as_signed x) = as_signed x
+judged_item kind (as_unsigned x) = as_unsigned x
+judged_item kind (unary op x) = unary op x
+judged_item kind (reduction op x) = reduction op x
+judged_item kind (binary op x y) = binary op x y
+judged_item kind (shift op x n) = shift op x n
+judged_item kind (power x n) = power x n
+judged_item kind (comparison op x y) = comparison op x y
+judged_item kind (logical op x y) = logical op x y
+judged_item kind (conditional c x y) = conditional c x y
 
 abbrev pub broken_item : Scope → CaseKind → Expression → Broken
-broken_item s kind e = broken s anywhere (cond (is_wild_item kind e) (without_wild_digits e) e)
+broken_item s kind e = broken s anywhere (judged_item kind e)
 
 abbrev pub broken_items : Scope → CaseKind → Expressions → Broken
 broken_items s kind no_expressions = nothing
@@ -223,5 +236,6 @@ broken_module_items source s (i ∷ items) = also (broken_module_item source s i
 abbrev pub broken_module : Source → Placed → Broken
 broken_module source p =
     let s : Scope = known_scope p in
-    also (also (broken_header s p.of_module.parameters) (broken_ports s (header_ports p.of_module.ports)))
-    (also (broken_declarations s p.of_module (declarations p.of_module)) (broken_module_items source s p.of_module.items))
+    also (constant_if (has_net_as_constant source p.of_module))
+    (also (also (broken_header s p.of_module.parameters) (broken_ports s (header_ports p.of_module.ports)))
+    (also (broken_declarations s p.of_module (declarations p.of_module)) (broken_module_items source s p.of_module.items)))

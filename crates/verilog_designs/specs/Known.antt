@@ -1,6 +1,6 @@
 -- Which constants of a module have values: the bounds of a range, a parameter, and with them the range of a name. A constant has
--- none where a rule on expressions is broken in it, or where it rests on a parameter that has none.
-use Rattle.std.specs.Prelude.{ℕ, ◌+◌, Bool, true, false, cond, ◌&&◌, nat_le, List, [], ◌∷◌, ◌++◌, Option, Some, None, is_some, option_map, option_and_then, ℤ, pos, negsuc}
+-- none where a rule on expressions is broken in it, where it is a bound outside 0 to 65,535, or where it rests on one that has none.
+use Rattle.std.specs.Prelude.{ℕ, ◌+◌, Bool, true, false, cond, ◌&&◌, nat_le, List, [], ◌∷◌, ◌++◌, Option, Some, None, is_some, option_map, option_and_then, unwrap_or, ℤ, pos, negsuc}
 use Rattle.wb_values.specs.Value.{Name, Entries, entry_of}
 use Rattle.wb_values.specs.Choice.{first_of, some_if}
 use Rattle.verilog_trees.specs.Syntax.{Expression, Range, ParameterDeclaration, Connections, Module, Source}
@@ -80,13 +80,14 @@ with_known_parameters (d ∷ ds) given known = with_known_parameters ds given (w
 abbrev pub known_constants : Module → KnownOverrides → Entries Object
 known_constants m given = with_known_parameters (all_parameters m) given []
 
-abbrev pub with_known_addresses : Scope → Option Range → Object → Option Object
-with_known_addresses s None o = Some o
-with_known_addresses s (Some r) o = option_map (λ a. record o { addresses = Some a }) (known_range s r)
+-- a memory, also where only its addresses have no value: then those of one word
+abbrev pub with_known_addresses : Scope → Option Range → Object → Object
+with_known_addresses s None o = o
+with_known_addresses s (Some r) o = record o { addresses = Some (unwrap_or (known_range s r) (0, 0)) }
 
--- a declared net, variable or memory, where its ranges have values
+-- a declared net, variable or memory, where its range has a value
 abbrev pub known_declaration : Scope → Declaration → Option Object
-known_declaration s d = option_and_then (with_known_addresses s d.addresses) (known_object s d.signed d.range)
+known_declaration s d = option_map (with_known_addresses s d.addresses) (known_object s d.signed d.range)
 
 -- The scope of a module of which these parameters have values. Names without a value are not declared in it.
 abbrev pub known_module_scope : Module → Entries Object → Scope

@@ -1,6 +1,7 @@
 pub mod Known
 pub mod Names
 pub mod Ports
+pub mod Constants
 pub mod Expressions
 pub mod Clocks
 pub mod Reads

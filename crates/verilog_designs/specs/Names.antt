@@ -132,7 +132,7 @@ abbrev pub uses : List Name → List Mention
 uses [] = []
 uses (n ∷ ns) = used n ∷ uses ns
 
--- Each parameter of a declaration is declared behind its own value.
+-- Each parameter of a declaration is declared after its own value.
 abbrev pub value_mentions : List (Name × Expression) → List Mention
 value_mentions [] = []
 value_mentions (v ∷ vs) = uses (names_in v.1) ++ declares v.0 ∷ value_mentions vs

@@ -111,8 +111,8 @@ abbrev pub items_have_all : Scope → ℕ → Bool → (n : ℕ) → CaseItems �
 items_have_all s w signed zero items = true
 items_have_all s w signed (suc n) items = items_have s w signed n items && items_have_all s w signed n items
 
--- A case is full with a default; and a case without wild digits too whose constant items have all values of the width, at most 8,
--- to which its expression and items are widened.
+-- A case or casez is full with a default. A case is also full where its constant items have all values of the width, at most 8, to
+-- which its expression and items are widened.
 abbrev pub is_full : Scope → CaseKind → Expression → CaseItems → Bool
 is_full s wild_case e items = has_default items
 is_full s exact_case e items =

@@ -1,11 +1,11 @@
 -- The modules, statements and scopes of the worked cases.
-use Rattle.std.specs.Prelude.{ℕ, Bool, true, false, List, [], ◌∷◌, Option, Some, None, codes}
+use Rattle.std.specs.Prelude.{ℕ, true, false, List, [], ◌∷◌, Option, Some, None, codes}
 use Rattle.wb_values.specs.Value.{Name}
 use Rattle.verilog_trees.specs.Syntax.{Number, Expression, name, concatenation, Expressions, no_expressions, expression, index, Selects, whole, one, Target, place, joined, no_targets, target, CaseKind, Statement, blocking, if_then, if_else, case, block, Statements, no_statements, statement, CaseItems, no_items, arm, default_arm, Range, input, output, NetKind, reg, Direction, PortDeclaration, ParameterDeclaration, Connections, by_name, by_order, Item, port, parameter, wires, variables, assign, instances, Ports, no_ports, listed, declared, Module}
 use Rattle.verilog_trees.specs.Syntax as verilog
-use Rattle.verilog_meaning.specs.Expression.{Object, Scope, scope_of, undeclared}
+use Rattle.verilog_meaning.specs.Expression.{Scope, scope_of, undeclared}
 use Rattle.verilog_meaning.specs.Hierarchy.{Placed}
-use Rattle.verilog_rules.specs.Worked.{bits, plain, byte, with_wild}
+use Rattle.verilog_rules.specs.Worked.{bits, plain}
 use Rattle.verilog_designs.specs.Dependence.{Bit}
 
 -- ---- modules
@@ -44,6 +44,13 @@ parameter_P e = parameter (record { is_local = false; signed = false; range = No
 -- wire name = value, and reg name
 abbrev pub wire_of : Name → Option Expression → Item
 wire_of n e = wires false None ((n, e) ∷ [])
+
+abbrev pub wire_of_range : Expression → Expression → Name → Item
+wire_of_range l r n = wires false (Some (record { left = l; right = r })) ((n, None) ∷ [])
+
+-- a module of which the parameter P has the value 1
+abbrev pub with_P : Module → Placed
+with_P m = record { path = []; of_module = m; constants = (P, record (bits 31 0) { signed = true; constant = Some 1 }) ∷ [] }
 
 abbrev pub reg_of : Option Range → Name → Item
 reg_of r n = variables false r ((n, None) ∷ [])

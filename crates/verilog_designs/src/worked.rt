@@ -1,14 +1,15 @@
 //! Worked cases: small modules and blocks that break a rule, and those beside them that break none.
 ghost use Rattle.std.specs.Prelude.{◌≡◌, ◌∷◌, [], true, false, Some, None, codes};
-ghost use Rattle.verilog_trees.specs.Syntax.{no_ports, listed, declared, input, output, reg, wire, by_name, by_order, assign, place, whole, exact_case, wild_case, no_items, default_arm, if_then, if_else, binary, add, joined, target, no_targets};
+ghost use Rattle.verilog_trees.specs.Syntax.{no_ports, listed, declared, input, output, reg, wire, by_name, by_order, port, assign, place, whole, exact_case, wild_case, no_items, default_arm, if_then, if_else, binary, add, joined, target, no_targets};
 ghost use Rattle.verilog_rules.specs.Worked.{plain, byte, with_wild};
 ghost use Rattle.verilog_designs.specs.Names.{has_undeclared, has_duplicate, has_duplicate_module};
 ghost use Rattle.verilog_designs.specs.Ports.{has_bad_port};
 ghost use Rattle.verilog_designs.specs.Expressions.{broken_module, broken_statement};
 ghost use Rattle.verilog_designs.specs.Reads.{reads, reads_outside, surely_assigns, is_full};
 ghost use Rattle.verilog_designs.specs.Paths.{is_latched};
+ghost use Rattle.verilog_designs.specs.Accepted.{has_no_clock};
 ghost use Rattle.verilog_designs.specs.Dependence.{copied, takes};
-ghost use Rattle.verilog_designs.specs.Worked.{module_of, placed, whole_name, range, port_as, a, b, q, P, r, i, parameter_P, wire_of, reg_of, instance_of, child, nets, set, set_bit, both, bit_of, choice, item, pair, one_bit, bit, at};
+ghost use Rattle.verilog_designs.specs.Worked.{module_of, placed, whole_name, range, port_as, a, b, q, P, r, i, parameter_P, wire_of, wire_of_range, with_P, reg_of, instance_of, child, nets, set, set_bit, both, bit_of, choice, item, pair, one_bit, bit, at};
 
 /// A net may be used before its declaration, a parameter may not, not even in its own value.
 pub fn undeclared_names()
@@ -54,6 +55,26 @@ pub fn expressions()
     ensures wide { (broken_module [] (placed (module_of no_ports (reg_of (range 128 0) a ∷ [])))).width_over_128 ≡ true }
     ensures in_casez { (broken_statement nets false (choice wild_case (whole_name a) (item with_wild (set q (byte 1)) no_items))).has_xz ≡ false }
     ensures in_case { (broken_statement nets false (choice exact_case (whole_name a) (item with_wild (set q (byte 1)) no_items))).has_xz ≡ true }
+{}
+
+/// A range that rests on a net is no constant, also where it rests on its own name; a width is judged where addresses have no value.
+pub fn values_that_are_not_there()
+    ensures own_name { (broken_module [] (placed (module_of no_ports (wire_of_range (whole_name a) (plain 0) a ∷ [])))).bad_constant ≡ true }
+    ensures other_name { (broken_module [] (placed (module_of no_ports (wire_of_range (whole_name a) (plain 0) b ∷ wire_of a None ∷ [])))).bad_constant ≡ true }
+    ensures number { (broken_module [] (placed (module_of no_ports (wire_of_range (plain 3) (plain 0) b ∷ wire_of a None ∷ [])))).bad_constant ≡ false }
+{}
+
+/// The clock is an input port of one bit: a range of another name, or one that uses a parameter too early, says nothing.
+pub fn clocks()
+    ensures scalar { has_no_clock (placed (module_of (declared (port_as input None None a ∷ [])) [])) a ≡ false }
+    ensures one_bit { has_no_clock (placed (module_of (declared (port_as input None (range 5 5) a ∷ [])) [])) a ≡ false }
+    ensures two_bits { has_no_clock (placed (module_of (declared (port_as input None (range 1 0) a ∷ [])) [])) a ≡ true }
+    ensures output_port { has_no_clock (placed (module_of (declared (port_as output None None a ∷ [])) [])) a ≡ true }
+    ensures not_listed { has_no_clock (placed (module_of (listed (b ∷ [])) (port (port_as input None None a) ∷ []))) a ≡ true }
+    ensures listed { has_no_clock (placed (module_of (listed (a ∷ [])) (port (port_as input None None a) ∷ []))) a ≡ false }
+    ensures wide_wire { has_no_clock (placed (module_of (declared (port_as input None None a ∷ [])) (wire_of_range (plain 1) (plain 0) a ∷ []))) a ≡ true }
+    ensures too_early { has_no_clock (with_P (module_of (declared (port_as input None (Some (record { left = whole_name P; right = plain 0 })) a ∷ [])) (parameter_P (plain 1) ∷ []))) a ≡ false }
+    ensures after_it { has_no_clock (with_P (module_of (listed (a ∷ [])) (parameter_P (plain 1) ∷ port (port_as input None (Some (record { left = whole_name P; right = plain 0 })) a) ∷ []))) a ≡ true }
 {}
 
 /// A bit is latched where some path does not assign it, or where it is read before.
