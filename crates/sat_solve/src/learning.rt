@@ -27,7 +27,7 @@ pub struct Lesson {
 }
 
 /// What a conflict teaches: its first unique implication point, without what the rest implies.
-/// `base` is how many entries are taken to be older than all decisions: those are never kept.
+/// `base` is how many entries are taken to be older than all decisions.
 pub fn explain(
     alloc: Global,
     cnf: &Cnf,
