@@ -102,11 +102,14 @@ fn finish(walk: Walk, back: usize) -> Lesson
 {
     let Walk {
         marks: _,
-        lits,
+        mut lits,
         mut numbers,
         seen: _,
     } = walk;
     numbers.reverse();
+    // The log keeps them: without the room for more.
+    lits.shrink_to_fit();
+    numbers.shrink_to_fit();
     Lesson {
         lemma: Lemma {
             lits: Clause::from_vec(lits),
