@@ -8,13 +8,15 @@ use sat_base::{Lit, NoMemory};
 use std::alloc::Global;
 use std::marker::Model;
 
-// Where the literals of a clause begin in the buffer, and where they end; and its watched ones.
+// Where the literals of a clause begin in the buffer, and where they end; its watched ones; and where the
+// search for another one to watch goes on, of which nothing is proved.
 #[derive(Clone, Copy)]
 struct Slot {
     start: u32,
     end: u32,
     first: u32,
     second: u32,
+    from: u32,
 }
 
 /// The codes of the two literals at which a clause is watched.
@@ -69,6 +71,7 @@ impl Arena {
             end: end as u32,
             first: pair.first,
             second: pair.second,
+            from: 0,
         })?;
         Ok(())
     }
@@ -103,9 +106,17 @@ impl Arena {
         }
     }
 
-    /// Has a clause watched at two other literals.
+    /// Where in the clause the search for another literal to watch goes on: a guess that is to be checked.
     #[inline]
-    pub fn watch_at(&mut self, number: usize, pair: Pair)
+    pub fn from(&self, number: usize) -> u32
+        requires { number < length self.now }
+    {
+        self.slots[number].from
+    }
+
+    /// Has a clause watched at two other literals. The search for the next one goes on at `from`.
+    #[inline]
+    pub fn watch_at(&mut self, number: usize, pair: Pair, from: u32)
         requires { number < length self.old }
         ensures { (h : Held) → slice_get self.old number ≡ Some h → self.new ≡ slice_set self.old number record { lits = h.lits; first = pair.first; second = pair.second } }
     {
@@ -115,6 +126,7 @@ impl Arena {
             end: slot.end,
             first: pair.first,
             second: pair.second,
+            from,
         };
     }
 }

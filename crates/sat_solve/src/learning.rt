@@ -27,7 +27,7 @@ pub struct Lesson {
 }
 
 /// What a conflict teaches: its first unique implication point, without what the rest implies.
-/// `base` is how many entries are taken to be older than all decisions: those are never kept.
+/// `base` is how many entries are taken to be older than all decisions.
 pub fn explain(
     alloc: Global,
     cnf: &Cnf,
@@ -102,11 +102,14 @@ fn finish(walk: Walk, back: usize) -> Lesson
 {
     let Walk {
         marks: _,
-        lits,
+        mut lits,
         mut numbers,
         seen: _,
     } = walk;
     numbers.reverse();
+    // The log keeps them: without the room for more.
+    lits.shrink_to_fit();
+    numbers.shrink_to_fit();
     Lesson {
         lemma: Lemma {
             lits: Clause::from_vec(lits),

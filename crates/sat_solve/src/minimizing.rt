@@ -29,8 +29,9 @@ impl Minimizer {
         })
     }
 
-    /// Whether the literal of a variable is implied by those of marked variables, or stands below all
-    /// decisions.
+    /// Whether the literal of a variable is implied by those of marked variables. One that stands below all decisions
+    /// counts only where a clause of one literal says it: the hints of others would lead through all that implies them, and
+    /// it costs little to keep a literal that stays false.
     pub fn is_implied(
         &mut self,
         cnf: &Cnf,
@@ -62,10 +63,11 @@ impl Minimizer {
         match trail.reason(var) {
             None => false,
             Some(reason) => {
+                let lits = clause(cnf, log, reason);
                 if trail.place(var) < self.base {
-                    return true;
+                    return lits.len() == 1;
                 }
-                for lit in clause(cnf, log, reason) {
+                for lit in lits {
                     if lit.var != var
                         && !marks.contains(lit.var)
                         && !self.is_known(cnf, log, trail, marks, lit.var, depth)

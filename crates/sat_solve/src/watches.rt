@@ -1,5 +1,5 @@
 //! Unit propagation by watched literals.
-ghost use Rattle.std.specs.Prelude.{true, false, ◌≡◌, ◌≢◌, ℕ, ◌+◌, ◌-◌, ◌*◌, ◌^◌, ◌<◌, ◌≤◌, ◌⊎◌, [], ◌∷◌, ◌++◌, length, map, All, IfOk, OnOk, MatchOption, Contains, Some, None, slice_get};
+ghost use Rattle.std.specs.Prelude.{true, false, ◌≡◌, ◌≢◌, ℕ, ◌+◌, ◌-◌, ◌*◌, ◌^◌, ◌<◌, ◌≤◌, ◌⊎◌, [], ◌∷◌, ◌++◌, length, map, All, IfOk, OnOk, MatchOption, Contains, Some, None, slice_get, slice_index_or};
 ghost use Rattle.sat_solve.specs.Trail.{IsFalseIn, IsClosed};
 ghost use Rattle.sat_solve.specs.State.{known_clauses, IsState};
 ghost use Rattle.sat_solve.specs.Found.{IsConflictAt};
@@ -34,23 +34,52 @@ pub enum Outcome {
     Falsified,
 }
 
-// A literal of the clause besides `other` that is not false.
-fn replacement(trail: &Trail, codes: &[u32], other: u32) -> Option<u32>
+/// A literal that may be watched, and where it stands in its clause.
+#[derive(Clone, Copy)]
+pub struct Found {
+    pub code: u32,
+    pub at: u32,
+}
+
+// A literal besides `other` that is not false, between two places of a clause.
+#[inline]
+fn open_between(trail: &Trail, codes: &[u32], other: u32, begin: usize, end: usize) -> Option<Found>
+    requires { end ≤ length codes.now }
     ensures { MatchOption result
-        ((c : ℕ) → Contains codes.now c → (c ≡ other) ⊎ IsFalseIn trail.now.entries (literal_of c))
-        (λ c. Contains codes.now c × (c ≢ other) × (¬ IsFalseIn trail.now.entries (literal_of c))) }
+        ((k : ℕ) → begin ≤ k → k < end → (slice_index_or codes.now k 0 ≡ other) ⊎ IsFalseIn trail.now.entries (literal_of (slice_index_or codes.now k 0)))
+        (λ f. Contains codes.now f.code × (f.code ≢ other) × (¬ IsFalseIn trail.now.entries (literal_of f.code))) }
 {
-    for code in codes {
-        match trail.truth(*code) {
+    for at in begin..end {
+        let code = codes[at];
+        match trail.truth(code) {
             Truth::False => {}
             _ => {
-                if *code != other {
-                    return Some(*code);
+                if code != other {
+                    return Some(Found {
+                        code,
+                        at: u32::try_from(at).unwrap_or(0),
+                    });
                 }
             }
         }
     }
     None
+}
+
+// A literal of the clause besides `other` that is not false. The search begins at `from`, where the last one
+// ended: what stands before is mostly false still.
+#[inline]
+fn replacement(trail: &Trail, codes: &[u32], other: u32, from: u32) -> Option<Found>
+    ensures { MatchOption result
+        ((c : ℕ) → Contains codes.now c → (c ≡ other) ⊎ IsFalseIn trail.now.entries (literal_of c))
+        (λ f. Contains codes.now f.code × (f.code ≢ other) × (¬ IsFalseIn trail.now.entries (literal_of f.code))) }
+{
+    let count = codes.len();
+    let middle = count.min(from as usize);
+    match open_between(trail, codes, other, middle, count) {
+        Some(found) => Some(found),
+        None => open_between(trail, codes, other, 0, middle),
+    }
 }
 
 // Looks at the clause of a watch, since the literal of `code` at which it is watched is false.
@@ -92,25 +121,27 @@ fn look(
         Truth::True => return Ok(Outcome::Stays(stays)),
         _ => {}
     }
-    match replacement(trail, watches.arena.codes(number), other) {
+    let from = watches.arena.from(number);
+    match replacement(trail, watches.arena.codes(number), other, from) {
         Some(next) => {
             // A true literal need not be watched: it will do as the blocker.
-            match trail.truth(next) {
+            match trail.truth(next.code) {
                 Truth::True => {
                     return Ok(Outcome::Stays(Watch {
                         clause: watch.clause,
-                        blocker: next,
+                        blocker: next.code,
                     }));
                 }
                 _ => {}
             }
-            watches.lists.push(next, stays)?;
+            watches.lists.push(next.code, stays)?;
             watches.arena.watch_at(
                 number,
                 Pair {
                     first: other,
-                    second: next,
+                    second: next.code,
                 },
+                next.at,
             );
             Ok(Outcome::Moved)
         }

@@ -3,11 +3,12 @@
 
     compare.py PROGRAM FOLDER
 
-Times are processor seconds of one run; of the solver only what `solve` takes, by the clock, is printed beside. "Constrained"
-is cadical without simplifying and without forgetting, as this solver has to be. Memory is the greatest resident set."""
+Times are processor seconds of one run, and so is the limit; of the solver only what `solve` takes, by the clock, is
+printed beside. "Constrained" is cadical without simplifying and without forgetting, as this solver has to be. Memory is the greatest resident set."""
 import math
 import pathlib
 import re
+import resource
 import subprocess
 import sys
 import tempfile
@@ -21,11 +22,17 @@ OTHERS = {
 }
 
 
+def limited():
+    """No run takes more processor seconds than the limit, however full the machine is."""
+    resource.setrlimit(resource.RLIMIT_CPU, (LIMIT, LIMIT))
+
+
 def run(words):
     """Processor seconds, kB and output."""
     with tempfile.NamedTemporaryFile("r") as note:
         done = subprocess.run(
-            ["/usr/bin/time", "-f", "%U %S %M", "-o", note.name, "timeout", str(LIMIT), *words],
+            ["/usr/bin/time", "-f", "%U %S %M", "-o", note.name, *words],
+            preexec_fn=limited,
             stdout=subprocess.PIPE,
             stderr=subprocess.STDOUT,
             text=True,

@@ -45,8 +45,8 @@ other_among c = other_in (clause c) c.args.code c.if-pair-code.other (paired c) 
 pub push-requires : goal.push-requires
 push-requires c =
     let here = (goal.at.push-requires c).After-codes in
-    let known = held_known c.args.cnf.now c.args.log.now c.args.trail.now c.args.watches.now.arena c.args.watch.clause (clause here) c.in-Some.next c.requires.state c.requires.lits (at here) (in_clause (clause here) c.codes.result.now (codes_are here) c.in-Some.next (c.in-Some.ensures).0) in
-    omega (arith, code_known c.in-Some.next c.args.trail.now.vars known, c.requires.sized)
+    let known = held_known c.args.cnf.now c.args.log.now c.args.trail.now c.args.watches.now.arena c.args.watch.clause (clause here) c.in-Some.next.code c.requires.state c.requires.lits (at here) (in_clause (clause here) c.codes.result.now (codes_are here) c.in-Some.next.code (c.in-Some.ensures).0) in
+    omega (arith, code_known c.in-Some.next.code c.args.trail.now.vars known, c.requires.sized)
 
 pub watch_at-requires : goal.watch_at-requires
 watch_at-requires c = slice_get_within c.args.watches.now.arena c.args.watch.clause c.requires.fitting.0 c.requires.fitting.1
@@ -66,7 +66,7 @@ returns-in_ok-push-in-Some c =
     let here = (goal.at.returns-in_ok-push-in-Some c).After-codes in
     record {
       state = c.requires.state;
-      looked = (refl, look_moved (clause here) c.codes.result.now (codes_are here) c.args.trail.now.entries c.args.watches.now.arena c.watch_at.new.self c.args.watches.now.lists c.push.new.self c.args.code c.args.watch.clause c.if-pair-code.other c.in-Some.next (at here) (paired here) (other_is here) c.in-Some.ensures (c.watch_at.ensures (clause here) (at here)) c.in_ok-push-in-Some.ensures);
+      looked = (refl, look_moved (clause here) c.codes.result.now (codes_are here) c.args.trail.now.entries c.args.watches.now.arena c.watch_at.new.self c.args.watches.now.lists c.push.new.self c.args.code c.args.watch.clause c.if-pair-code.other c.in-Some.next.code (at here) (paired here) (other_is here) c.in-Some.ensures (c.watch_at.ensures (clause here) (at here)) c.in_ok-push-in-Some.ensures);
       head = refl;
     }
 
@@ -124,7 +124,7 @@ returns-in_ok-push-in_default-truth-3 c =
 pub returns-in-True-truth-2 : goal.returns-in-True-truth-2
 returns-in-True-truth-2 c =
     let here = (goal.at.returns-in-True-truth-2 c).After-codes in
-    let among = in_clause (clause here) c.codes.result.now (codes_are here) c.in-Some.next (c.in-Some.ensures).0 in
+    let among = in_clause (clause here) c.codes.result.now (codes_are here) c.in-Some.next.code (c.in-Some.ensures).0 in
     record {
       state = c.requires.state;
       looked = (
@@ -134,7 +134,7 @@ returns-in-True-truth-2 c =
         (clause here, at here, among),
         λ h there.
             let same : clause here ≡ h = same_some (slice_get c.args.watches.now.arena c.args.watch.clause) (clause here) h (at here) there in
-            (literal_of c.in-Some.next, subst (λ (y : Held). Contains y.lits (literal_of c.in-Some.next)) same among, c.in-True-truth-2.ensures),
+            (literal_of c.in-Some.next.code, subst (λ (y : Held). Contains y.lits (literal_of c.in-Some.next.code)) same among, c.in-True-truth-2.ensures),
         inl refl,
       );
       head = refl;

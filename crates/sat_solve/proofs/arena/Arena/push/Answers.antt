@@ -10,7 +10,7 @@ returns c =
     let codes = c.self.inside.codes.items in
     let lits = c.args.lits.now in
     let slots = c.self.inside.slots.items in
-    let slot : Slot = record { start = c.len-start.result; end = c.len-end.result; first = c.args.pair.first; second = c.args.pair.second } in
+    let slot : Slot = record { start = c.len-start.result; end = c.len-end.result; first = c.args.pair.first; second = c.args.pair.second; from = 0 } in
     let one : Held = record { lits = lits; first = c.args.pair.first; second = c.args.pair.second } in
     ap (λ (cs : List ℕ). map (held_in cs) c.push.new.self.items) c.in_ok-push_codes.ensures.codes
     ∙ ap (λ (s : List Slot). map (held_in (codes ++ map code_of lits)) s) c.in_ok-push.ensures.items

@@ -11,7 +11,7 @@ returns c =
     let slots = c.self.inside.slots.items in
     let held = held_in c.self.inside.codes.items in
     let slot = c.index-slot.result.now in
-    let new : Slot = record { start = slot.start; end = slot.end; first = c.args.pair.first; second = c.args.pair.second } in
+    let new : Slot = record { start = slot.start; end = slot.end; first = c.args.pair.first; second = c.args.pair.second; from = c.args.from } in
     let with_lits : List Lit → Held = λ ls. record { lits = ls; first = c.args.pair.first; second = c.args.pair.second } in
     λ h at.
     let within : c.args.number < length slots = omega (arith, c.requires, ap length c.self.view_is, length-map slots held) in
