@@ -118,6 +118,9 @@ pub half_value : (xs : List ℕ) (i p k : ℕ) (t : Bool) → ((i / 2 ^ p) % 2 =
 half_value xs i p k true e l = ap (λ j. number (slice_index xs j)) (place_up i p k e l)
 half_value xs i p k false e l = ap (λ j. number (slice_index xs j)) (place_down i p k e)
 
+pub half_twice : (p : ℕ) → 2 ^ (p + 1) ≡ 2 ^ p + 2 ^ p
+half_twice p = omega (arith, twice p)
+
 pub half_below : (p : ℕ) → 2 ^ p < 2 ^ (p + 1)
 half_below p =
     let q : 0 < 2 ^ p = pow_pos p in

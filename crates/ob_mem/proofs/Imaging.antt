@@ -18,6 +18,7 @@ use Rattle.wb_terms.proofs.InRange.{is_sort-sort_of}
 use Rattle.wb_terms.proofs.EnvironmentLemmas.{length-memory}
 use Rattle.wb_terms.proofs.HeldLemmas.{both, below, same_number, load_sorts, store_sorts}
 use Rattle.sat_gates.specs.Names.{is_blastable}
+use Rattle.sat_gates.specs.Marks.{IsMarked}
 use Rattle.ob_mem.specs.declared.words.MemoryWord.{MemoryWord}
 use Rattle.ob_mem.specs.declared.rows.Row.TheVariants.{Names, Choices, Matches, Constants, Updates}
 use Rattle.ob_mem.specs.Words.{entry_at, word_count, word_width}
@@ -98,19 +99,19 @@ IsImage-kept {h} {k} es rs id t a i =
     }
 
 -- one image more
-pub images_more : (g h k : Graph) (rs : List MemoryWord) (is js : List TermId) (n : ℕ) (x : TermId) → Grows h k → length is ≡ n → js ≡ is ++ x ∷ [] → AreImages g rs h is n
-    → IsImage g.names rs k x.0 (tree g n) → AreImages g rs k js (n + 1)
-images_more g h k rs is js n x a l e i o j d b =
+pub images_more : (g h k : Graph) (rs : List MemoryWord) (marks : List Bool) (is js : List TermId) (n : ℕ) (x : TermId) → Grows h k → length is ≡ n → js ≡ is ++ x ∷ [] → AreImages g rs h marks is n
+    → (IsMarked marks n → IsImage g.names rs k x.0 (tree g n)) → AreImages g rs k marks js (n + 1)
+images_more g h k rs marks is js n x a l e i o j d b m =
     subst (λ ys. IsImage g.names rs k (get_or ys j d).0 (tree g j)) (sym e) (by_place (cases_lt j n))
   where
     by_place : (j < n) ⊎ (n ≤ j) → IsImage g.names rs k (get_or (is ++ x ∷ []) j d).0 (tree g j)
     by_place (inl c) =
         let f : get_or (is ++ x ∷ []) j d ≡ get_or is j d = get_or_append_left is (x ∷ []) d j (omega (arith, l, c)) in
-        subst (λ (y : TermId). IsImage g.names rs k y.0 (tree g j)) (sym f) (IsImage-kept g.names rs (get_or is j d).0 (tree g j) a (i j d c))
+        subst (λ (y : TermId). IsImage g.names rs k y.0 (tree g j)) (sym f) (IsImage-kept g.names rs (get_or is j d).0 (tree g j) a (i j d c m))
     by_place (inr c) =
         let s : n ≡ j = omega (arith, b, c) in
         let f : get_or (is ++ x ∷ []) j d ≡ x = get_or_push is x d j (l ∙ s) in
-        subst (λ (y : TermId). IsImage g.names rs k y.0 (tree g j)) (sym f) (subst (λ p. IsImage g.names rs k x.0 (tree g p)) s o)
+        subst (λ (y : TermId). IsImage g.names rs k y.0 (tree g j)) (sym f) (subst (λ p. IsImage g.names rs k x.0 (tree g p)) s (o (subst (IsMarked marks) (sym s) m)))
 
 -- sorts of the operands of a choice of memories
 same_memory : (s : Sort) (a d : ℕ) (t : Sort) → some_if (same_sort s t) s ≡ Some (memory a d) → (s ≡ memory a d) × (t ≡ memory a d)
@@ -301,11 +302,11 @@ load_parts_sorts m i a s e =
     same_words s a b e f = let g : Some (word a) ≡ Some (word b) = sym e ∙ f in cc
 
 -- what the goal means
-pub goal_means : (g h : Graph) (rs qs : List MemoryWord) (is : List TermId) (id : ℕ) (x : TermId) → qs ≡ rs → sort_of (tree g id) ≡ Some truth → AreImages g qs h is (id + 1) → x ≡ get_or is id x
+pub goal_means : (g h : Graph) (rs qs : List MemoryWord) (marks : List Bool) (is : List TermId) (id : ℕ) (x : TermId) → qs ≡ rs → sort_of (tree g id) ≡ Some truth → IsMarked marks id → AreImages g qs h marks is (id + 1) → x ≡ get_or is id x
     → Means g.names rs h x.0 truth (val (tree g id))
-goal_means g h rs qs is id x e s i at =
+goal_means g h rs qs marks is id x e s m i at =
     let b : id < id + 1 = omega arith in
-    subst (λ ps. Means g.names ps h x.0 truth (val (tree g id))) e (truth_image g.names qs h x.0 (tree g id) s (image_at g.names qs h is id x (tree g id) at (λ d. i id d b)))
+    subst (λ ps. Means g.names ps h x.0 truth (val (tree g id))) e (truth_image g.names qs h x.0 (tree g id) s (image_at g.names qs h is id x (tree g id) at (λ d. i id d b m)))
 
 -- the constant of a node
 pub const_from_part : (g : Graph) (n : Node) (x : ℕ) (t : Term) → t ≡ tree_of_node g n → Some x ≡ const_part n → (w : ℕ) × (t ≡ const w x)

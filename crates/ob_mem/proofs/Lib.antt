@@ -7,3 +7,4 @@ pub mod Renaming
 pub mod Imaging
 pub mod Wording
 pub mod Spreading
+pub mod Counting

@@ -12,6 +12,7 @@ use Rattle.wb_terms.specs.Graph.{Graph, IsOver, tree, tree_at, trees_of, tree_of
 use Rattle.wb_terms.proofs.StoreLemmas.{AllBelow-le}
 use Rattle.wb_terms.proofs.ValueSorts.{NamesFit}
 use Rattle.sat_gates.specs.Names.{is_blastable}
+use Rattle.sat_gates.specs.Marks.{AreMarked}
 use Rattle.ob_mem.specs.declared.words.MemoryWord.{MemoryWord}
 use Rattle.ob_mem.specs.Words.{entry_at}
 use Rattle.ob_mem.specs.Spread.{KeepsValue, IsSpread}
@@ -139,14 +140,14 @@ choice A c d x y p q k i j =
       value = λ v w a. ap (λ n. cond (as_truth n) (val x w) (val p w)) (k.value v w a) ∙ (ap (λ n. cond (as_truth (val d v)) n (val p w)) (i.value v w a) ∙ ap (cond (as_truth (val d v)) (val y v)) (j.value v w a));
     }
 
-pub operands_below : (g h : Graph) (rs : List MemoryWord) (is : List TermId) (n : ℕ) (ks : List ℕ) → AreImages g rs h is n → AllBelow n ks → Operands g.names rs g h is ks
-operands_below g h rs is n [] i b = tt
-operands_below g h rs is n (k ∷ ks) i b = ((λ d. i k d b.0), operands_below g h rs is n ks i b.1)
+pub operands_below : (g h : Graph) (rs : List MemoryWord) (is : List TermId) (marks : List Bool) (n : ℕ) (ks : List ℕ) → AreImages g rs h marks is n → AreMarked marks ks → AllBelow n ks → Operands g.names rs g h is ks
+operands_below g h rs is marks n [] i m b = tt
+operands_below g h rs is marks n (k ∷ ks) i m b = ((λ d. i k d b.0 m.0), operands_below g h rs is marks n ks i m.1 b.1)
 
 same_name_at : (g h : Graph) (k : ℕ) → entry_at h.names k ≡ entry_at g.names k → leaf_at h.names k ≡ leaf_at g.names k
 same_name_at g h k e = ap (λ (x : Name × Sort). name x.0 x.1) e
 
-no_store : (m i x : Option Sort) → IsSome (store_sort m i x) → IsNoMemory (store_sort m i x) → ⊥
+pub no_store : (m i x : Option Sort) → IsSome (store_sort m i x) → IsNoMemory (store_sort m i x) → ⊥
 no_store (Some (memory a d)) (Some (word w)) (Some (word u)) h n = absurd (some_of_if _ (memory a d) n h)
 no_store _ _ _ h n = absurd (false≢true h)
 

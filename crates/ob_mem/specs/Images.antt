@@ -1,12 +1,13 @@
 -- What stands in the new store for a term of the old one.
-use Rattle.std.specs.Prelude.{◌≡◌, ℕ, ◌+◌, ◌<◌, ◌≤◌, ◌^◌, ⊤, List, [], ◌∷◌, length, Option, Some, None, slice_index, slice_index_or}
+use Rattle.std.specs.Prelude.{◌≡◌, ℕ, ◌+◌, ◌<◌, ◌≤◌, ◌^◌, ⊤, List, [], ◌∷◌, length, Option, Some, None, slice_get, slice_index, slice_index_or, Bool}
 use Rattle.wb_values.specs.Value.{Sort, truth, word, memory, Entries, Value, number, as_words, Valuation}
 use Rattle.model_meaning.specs.Term.{Term, sort_of, val}
 use Rattle.wb_terms.specs.declared.nodes.TermId.{TermId}
 use Rattle.wb_terms.specs.declared.nodes.Node.{Node}
 use Rattle.wb_terms.specs.declared.nodes.Node.TheVariants.{Name, Truth, Const, Not, And, Or, Xor, Neg, Add, Sub, Mul, Shl, Lshr, Ashr, Eq, Ult, Ule, Slt, Sle, Concat, Extract, Zext, Sext, Ite, Load, Store}
-use Rattle.wb_terms.specs.Graph.{Graph, tree}
+use Rattle.wb_terms.specs.Graph.{Graph, tree, operands_of}
 use Rattle.wb_terms.proofs.ValueSorts.{NamesFit}
+use Rattle.sat_gates.specs.Marks.{IsMarked}
 use Rattle.ob_mem.specs.declared.words.MemoryWord.{MemoryWord}
 use Rattle.ob_mem.specs.Words.{entry_at, word_count, word_width}
 use Rattle.ob_mem.specs.Spread.{IsSpread}
@@ -27,14 +28,18 @@ pub record IsImage (es : Entries Sort) (rs : List MemoryWord) (h : Graph) (id : 
   pub fits : (v w : Valuation) → IsSpread es h.names rs v w → NamesFit v t
   pub image : IsImageOf es rs h id (sort_of t) (val t)
 
--- each of the first terms of the old store has its image
-abbrev pub AreImages : Graph → List MemoryWord → Graph → List TermId → ℕ → Type 0
-AreImages g rs h images n = (k : ℕ) (d : TermId) → k < n → IsImage g.names rs h (slice_index_or images k d).0 (tree g k)
+-- each marked one of the first terms of the old store has its image
+abbrev pub AreImages : Graph → List MemoryWord → Graph → List Bool → List TermId → ℕ → Type 0
+AreImages g rs h marks images n = (k : ℕ) (d : TermId) → k < n → IsMarked marks k → IsImage g.names rs h (slice_index_or images k d).0 (tree g k)
 
 -- each of the operands has its image
 abbrev pub Operands : Entries Sort → List MemoryWord → Graph → Graph → List TermId → List ℕ → Type 0
 Operands es rs g h is [] = ⊤
 Operands es rs g h is (k ∷ ks) = ((d : TermId) → IsImage es rs h (slice_index_or is k d).0 (tree g k)) × Operands es rs g h is ks
+
+-- each operand of a term of the old store has its image
+abbrev pub HaveImages : Graph → List MemoryWord → Graph → List TermId → ℕ → Type 0
+HaveImages g rs h is id = (n : Node) → slice_get g.nodes id ≡ Some n → Operands g.names rs g h is (operands_of n)
 
 -- The name at a place of the new table is that of the word at an address of a memory.
 pub record HasWord (es new : Entries Sort) (rs : List MemoryWord) (j k place : ℕ) : Type 0 where

@@ -5,14 +5,17 @@ ghost use Rattle.wb_values.specs.Value.{truth, Valuation};
 ghost use Rattle.model_meaning.specs.Term.{sort_of, val};
 ghost use Rattle.wb_terms.specs.Graph.{tree};
 ghost use Rattle.sat_gates.specs.Names.{is_blastable};
+ghost use Rattle.sat_gates.specs.Marks.{AreMarks};
 ghost use Rattle.ob_mem.specs.Words.{words_of, HasWords};
 ghost use Rattle.ob_mem.specs.Spread.{GivesSorts, IsSpread};
+ghost use Rattle.ob_mem.specs.Size.{IsSmall};
 
 use crate::NoMemory;
 use crate::images::put_images;
 use crate::names::{Named, with_words};
 use crate::words::MemoryWord;
-use std::alloc::Global;
+use sat_gates::mark;
+use std::alloc::{AllocError, Global};
 use wb_terms::{TermId, Terms};
 
 /// A term without memories, in a store of its own.
@@ -40,6 +43,7 @@ pub fn expand(alloc: Global, terms: &Terms, id: TermId) -> Result<Expanded, NoMe
         → val (tree e.terms e.goal.0) w ≡ val (tree terms.now id.0) v) }
     ensures spread { IfOk result (λ e. (v : Valuation) → GivesSorts terms.now.names v
         → (w : Valuation) × IsSpread terms.now.names e.terms.names e.list.items v w × GivesSorts e.terms.names w) }
+    ensures size { IfOk result (λ e. IsSmall terms.now id.0 e.terms) }
     ensures gathered { IfOk result (λ e. (w : Valuation) → GivesSorts e.terms.names w
         → (v : Valuation) × IsSpread terms.now.names e.terms.names e.list.items v w) }
 {
@@ -51,11 +55,23 @@ pub fn expand(alloc: Global, terms: &Terms, id: TermId) -> Result<Expanded, NoMe
     } = named;
     let words = list.as_slice();
     let places = firsts.as_slice();
-    let images = put_images(alloc, &mut new, terms, words, places, id)?;
+    let reached = terms_under(alloc, terms, id)?;
+    let images = put_images(alloc, &mut new, terms, words, places, &reached, id)?;
     let goal = images[id.0];
     Ok(Expanded {
         terms: new,
         goal,
         list,
     })
+}
+
+/// For each term up to one whether that one stands on it.
+fn terms_under(alloc: Global, terms: &Terms, id: TermId) -> Result<Vec<bool>, NoMemory>
+    requires { id.0 < length terms.now.nodes }
+    ensures { IfOk result (λ reached. AreMarks terms.now id.0 0 reached.items) }
+{
+    match mark(alloc, terms, id) {
+        Ok(reached) => Ok(reached),
+        Err(_) => Err(AllocError),
+    }
 }

@@ -1,13 +1,15 @@
 //! What stands in the new store for the terms of the old one, term by term in ascending order.
 
-ghost use Rattle.std.specs.Prelude.{◌≡◌, ℕ, ◌<◌, ◌≤◌, ◌^◌, ◌+◌, List, length, Some, IfOk, OnOk, IsSome, IsTrue, slice_set, slice_index_or, [], ◌∷◌};
+ghost use Rattle.std.specs.Prelude.{◌≡◌, ℕ, ◌<◌, ◌≤◌, ◌^◌, ◌+◌, ◌*◌, List, length, cond, false, Some, IfOk, OnOk, IsSome, IsTrue, slice_get, slice_set, slice_index_or, [], ◌∷◌};
 ghost use Rattle.wb_values.specs.Value.{word, memory, number, Valuation};
 ghost use Rattle.model_meaning.specs.Term.{ite, load, store, is_sort, sort_of, load_sort, val};
 ghost use Rattle.wb_terms.specs.Graph.{AllBelow, IsOver, operands_of, leaf_at, tree, tree_of_node};
+ghost use Rattle.sat_gates.specs.Marks.{IsMarked, AreMarks};
 ghost use Rattle.ob_mem.specs.Words.{entry_at};
 ghost use Rattle.ob_mem.specs.declared.rows.Row.TheVariants.{Constants, Matches};
 ghost use Rattle.ob_mem.specs.Rows.{Grows, IsRow, tree_in, IsPlain, AreWords, HoldWords};
-ghost use Rattle.ob_mem.specs.Images.{Operands, load_parts, const_part, renamed, image_of, IsImage, AreImages, HasFirsts, IsNoMemory};
+ghost use Rattle.ob_mem.specs.Images.{Operands, HaveImages, load_parts, const_part, renamed, image_of, IsImage, AreImages, HasFirsts, IsNoMemory};
+ghost use Rattle.ob_mem.specs.Size.{node_at, load_count, node_count, total_count};
 
 use crate::NoMemory;
 use crate::loads::put_load;
@@ -89,6 +91,7 @@ fn put_store(
     ensures grows { OnOk result (Grows terms.old terms.new) }
     ensures words { IfOk result (λ r. (d : ℕ) → AreWords terms.old row.0 (2 ^ address_width) d → IsPlain terms.old x.0 (word d)
         → AreWords terms.new r.0 (2 ^ address_width) d) }
+    ensures count { OnOk result (length terms.new.nodes ≡ length terms.old.nodes + 3 * 2 ^ address_width) }
     ensures values { IfOk result (λ r. (w : Valuation) (xs : List ℕ) (i y : ℕ) → val (tree terms.old address.0) w ≡ number i
         → val (tree terms.old x.0) w ≡ number y → length xs ≡ 2 ^ address_width
         → HoldWords terms.old w row.0 (2 ^ address_width) xs 0 → HoldWords terms.new w r.0 (2 ^ address_width) (slice_set xs i y) 0) }
@@ -130,6 +133,7 @@ fn put_leaf(
     requires firsts { HasFirsts old.now.names terms.old.names list.now firsts.now }
     ensures grows { OnOk result (Grows terms.old terms.new) }
     ensures image { IfOk result (λ r. IsImage old.now.names list.now terms.new r.0 (leaf_at old.now.names name.0)) }
+    ensures count { OnOk result (length terms.new.nodes ≡ length terms.old.nodes + 2 ^ address_width) }
 {
     let _old = old;
     let _list = list;
@@ -153,6 +157,7 @@ fn put_choice(
     requires images { Operands old.now.names list.now old.now terms.old images.now (parts.0.0 ∷ parts.1.0 ∷ parts.2.0 ∷ []) }
     ensures grows { OnOk result (Grows terms.old terms.new) }
     ensures image { IfOk result (λ r. IsImage old.now.names list.now terms.new r.0 (ite (tree old.now parts.0.0) (tree old.now parts.1.0) (tree old.now parts.2.0))) }
+    ensures count { OnOk result (length terms.new.nodes ≡ length terms.old.nodes + 2 ^ address_width) }
 {
     let _old = old;
     let _list = list;
@@ -179,6 +184,7 @@ fn put_update(
     requires images { Operands old.now.names list.now old.now terms.old images.now (parts.0.0 ∷ parts.1.0 ∷ parts.2.0 ∷ []) }
     ensures grows { OnOk result (Grows terms.old terms.new) }
     ensures image { IfOk result (λ r. IsImage old.now.names list.now terms.new r.0 (store (tree old.now parts.0.0) (tree old.now parts.1.0) (tree old.now parts.2.0))) }
+    ensures count { OnOk result (length terms.new.nodes ≡ length terms.old.nodes + 3 * 2 ^ address_width) }
 {
     let _old = old;
     let _list = list;
@@ -205,9 +211,10 @@ fn put_memory(
     requires narrow { address_width ≤ 16 }
     requires firsts { HasFirsts old.now.names terms.old.names list.now firsts.now }
     requires room { id.0 ≤ length images.now }
-    requires images { AreImages old.now list.now terms.old images.now id.0 }
+    requires images { HaveImages old.now list.now terms.old images.now id.0 }
     ensures grows { OnOk result (Grows terms.old terms.new) }
     ensures image { IfOk result (λ r. IsImage old.now.names list.now terms.new r.0 (tree old.now id.0)) }
+    ensures count { OnOk result (length terms.new.nodes ≤ length terms.old.nodes + node_count old.now (node_at old.now id.0)) }
 {
     match *old.node(id) {
         Node::Name(name) => {
@@ -264,6 +271,7 @@ fn put_word(
     requires image_of_address { IsImage old.now.names list.now terms.old (image_of images.now address).0 (tree old.now address.0) }
     ensures grows { OnOk result (Grows terms.old terms.new) }
     ensures image { IfOk result (λ r. IsImage old.now.names list.now terms.new r.0 (load (tree old.now memory.0) (tree old.now address.0))) }
+    ensures count { OnOk result (length terms.new.nodes ≤ length terms.old.nodes + load_count (const_part (node_at old.now address.0)) (sort_of (tree old.now address.0))) }
 {
     let _list = list;
     let row = image(images, memory);
@@ -293,6 +301,7 @@ fn word_width(terms: &Terms, id: TermId) -> u32
 /// The node of a term.
 fn node_of(terms: &Terms, id: TermId) -> Node
     requires { id.0 < length terms.now.nodes }
+    ensures put { slice_get terms.now.nodes id.0 ≡ Some result }
     ensures tree { tree terms.now id.0 ≡ tree_of_node terms.now result }
     ensures over { IsOver terms.now id.0 result }
     ensures sorted { IsSome (sort_of (tree terms.now id.0)) }
@@ -313,9 +322,10 @@ fn put_value(
     requires sort { IsNoMemory (sort_of (tree old.now id.0)) }
     requires firsts { HasFirsts old.now.names terms.old.names list.now firsts.now }
     requires room { id.0 ≤ length images.now }
-    requires images { AreImages old.now list.now terms.old images.now id.0 }
+    requires images { HaveImages old.now list.now terms.old images.now id.0 }
     ensures grows { OnOk result (Grows terms.old terms.new) }
     ensures image { IfOk result (λ r. IsImage old.now.names list.now terms.new r.0 (tree old.now id.0)) }
+    ensures count { OnOk result (length terms.new.nodes ≤ length terms.old.nodes + node_count old.now (node_at old.now id.0)) }
 {
     let _firsts = firsts;
     let node = node_of(old, id);
@@ -343,9 +353,10 @@ fn put_image(
     requires id { id.0 < length old.now.nodes }
     requires firsts { HasFirsts old.now.names terms.old.names list.now firsts.now }
     requires room { id.0 ≤ length images.now }
-    requires images { AreImages old.now list.now terms.old images.now id.0 }
+    requires images { HaveImages old.now list.now terms.old images.now id.0 }
     ensures grows { OnOk result (Grows terms.old terms.new) }
     ensures image { IfOk result (λ r. IsImage old.now.names list.now terms.new r.0 (tree old.now id.0)) }
+    ensures count { OnOk result (length terms.new.nodes ≤ length terms.old.nodes + node_count old.now (node_at old.now id.0)) }
 {
     match old.sort(id) {
         Sort::Memory(address_width, _) => {
@@ -363,25 +374,67 @@ fn put_image(
     }
 }
 
-/// The images of the terms of the old store up to one, by ascending id.
+/// The image of a marked term, by those of its operands; for another some id.
+fn put_next(
+    terms: &mut Terms,
+    old: &Terms,
+    list: &[MemoryWord],
+    firsts: &[usize],
+    images: &[TermId],
+    reached: &[bool],
+    root: TermId,
+    id: TermId,
+) -> Result<TermId, NoMemory>
+    requires root { root.0 < length old.now.nodes }
+    requires id { id.0 ≤ root.0 }
+    requires firsts { HasFirsts old.now.names terms.old.names list.now firsts.now }
+    requires reached { AreMarks old.now root.0 0 reached.now }
+    requires room { length images.now ≡ id.0 }
+    requires images { AreImages old.now list.now terms.old reached.now images.now id.0 }
+    ensures grows { OnOk result (Grows terms.old terms.new) }
+    ensures image { IfOk result (λ r. IsMarked reached.now id.0 → IsImage old.now.names list.now terms.new r.0 (tree old.now id.0)) }
+    ensures count { OnOk result (length terms.new.nodes ≤ length terms.old.nodes + cond (slice_index_or reached.now id.0 false) (node_count old.now (node_at old.now id.0)) 0) }
+{
+    let _root = root;
+    if !reached[id.0] {
+        return Ok(TermId(0));
+    }
+    let _node = node_of(old, id);
+    let image = put_image(terms, old, list, firsts, images, id)?;
+    Ok(image)
+}
+
+/// The images of the terms on which a term stands, by ascending id; the others are not visited but for their reached.
 pub(crate) fn put_images(
     alloc: Global,
     terms: &mut Terms,
     old: &Terms,
     list: &[MemoryWord],
     firsts: &[usize],
-    last: TermId,
+    reached: &[bool],
+    root: TermId,
 ) -> Result<Vec<TermId>, NoMemory>
-    requires id { last.0 < length old.now.nodes }
+    requires root { root.0 < length old.now.nodes }
     requires firsts { HasFirsts old.now.names terms.old.names list.now firsts.now }
+    requires reached { AreMarks old.now root.0 0 reached.now }
     ensures names { OnOk result (terms.new.names ≡ terms.old.names) }
-    ensures room { IfOk result (λ images. length images.items ≡ last.0 + 1) }
-    ensures images { IfOk result (λ images. AreImages old.now list.now terms.new images.items (last.0 + 1)) }
+    ensures room { IfOk result (λ images. length images.items ≡ root.0 + 1) }
+    ensures images { IfOk result (λ images. AreImages old.now list.now terms.new reached.now images.items (root.0 + 1)) }
+    ensures count { OnOk result (length terms.new.nodes ≤ length terms.old.nodes + total_count old.now reached.now (root.0 + 1)) }
 {
     let _end = old.len();
     let mut images = Vec::new(alloc);
-    for place in 0..last.0 + 1 {
-        let image = put_image(terms, old, list, firsts, &images, TermId(place))?;
+    for place in 0..root.0 + 1 {
+        let image = put_next(
+            terms,
+            old,
+            list,
+            firsts,
+            &images,
+            reached,
+            root,
+            TermId(place),
+        )?;
         images.push(image)?;
     }
     Ok(images)

@@ -1,6 +1,6 @@
 //! The word of a row at an address, by choices over the bits of the address.
 
-ghost use Rattle.std.specs.Prelude.{◌≡◌, ℕ, ◌<◌, ◌≤◌, ◌+◌, ◌-◌, ◌/◌, ◌%◌, ◌^◌, ◌==◌, List, length, IfOk, OnOk, slice_index, true};
+ghost use Rattle.std.specs.Prelude.{◌≡◌, ℕ, ◌<◌, ◌≤◌, ◌+◌, ◌-◌, ◌*◌, ◌/◌, ◌%◌, ◌^◌, ◌==◌, List, length, IfOk, OnOk, slice_index, true};
 ghost use Rattle.wb_values.specs.Value.{truth, word, truth_value, number, Valuation};
 ghost use Rattle.model_meaning.specs.Term.{const, eq, extract, val};
 ghost use Rattle.wb_terms.specs.Graph.{tree};
@@ -16,6 +16,7 @@ fn put_part(terms: &mut Terms, address: TermId, bit: u32) -> Result<TermId, NoMe
     ensures grows { OnOk result (Grows terms.old terms.new) }
     ensures plain { IfOk result (λ r. IsPlain terms.new r.0 (word 1)) }
     ensures tree { IfOk result (λ r. tree terms.new r.0 ≡ extract bit bit (tree terms.old address.0)) }
+    ensures count { OnOk result (length terms.new.nodes ≡ length terms.old.nodes + 1) }
 {
     let id = put(terms, Node::Extract(bit, bit, address))?;
     Ok(id)
@@ -28,6 +29,7 @@ fn put_test(terms: &mut Terms, x: TermId, y: TermId) -> Result<TermId, NoMemory>
     ensures grows { OnOk result (Grows terms.old terms.new) }
     ensures plain { IfOk result (λ r. IsPlain terms.new r.0 truth) }
     ensures tree { IfOk result (λ r. tree terms.new r.0 ≡ eq (tree terms.old x.0) (tree terms.old y.0)) }
+    ensures count { OnOk result (length terms.new.nodes ≡ length terms.old.nodes + 1) }
 {
     let id = put(terms, Node::Eq(x, y))?;
     Ok(id)
@@ -42,6 +44,7 @@ fn put_bit(terms: &mut Terms, address: TermId, bit: u32, one: TermId) -> Result<
     ensures plain { IfOk result (λ r. IsPlain terms.new r.0 truth) }
     ensures value { IfOk result (λ r. (w : Valuation) (i : ℕ) → val (tree terms.old address.0) w ≡ number i
         → val (tree terms.new r.0) w ≡ truth_value ((i / 2 ^ bit) % 2 == 1)) }
+    ensures count { OnOk result (length terms.new.nodes ≡ length terms.old.nodes + 2) }
 {
     let part = put_part(terms, address, bit)?;
     let id = put_test(terms, part, one)?;
@@ -66,6 +69,7 @@ fn put_half(
     ensures values { IfOk result (λ r. (w : Valuation) (xs : List ℕ) (i : ℕ) → val (tree terms.old address.0) w ≡ number i
         → HoldWords terms.old w first.0 (2 ^ (bit + 1)) xs (i - i % 2 ^ (bit + 1))
         → HoldWords terms.new w r.0 (2 ^ bit) xs (i - i % 2 ^ bit)) }
+    ensures count { OnOk result (length terms.new.nodes ≡ length terms.old.nodes + 2 + 2 ^ bit) }
 {
     let condition = put_bit(terms, address, bit, one)?;
     let half = power(bit);
@@ -79,6 +83,7 @@ fn put_one(terms: &mut Terms) -> Result<TermId, NoMemory>
     ensures grows { OnOk result (Grows terms.old terms.new) }
     ensures plain { IfOk result (λ r. IsPlain terms.new r.0 (word 1)) }
     ensures tree { IfOk result (λ r. tree terms.new r.0 ≡ const 1 1) }
+    ensures count { OnOk result (length terms.new.nodes ≡ length terms.old.nodes + 1) }
 {
     let id = put(terms, Node::Const(1, 1))?;
     Ok(id)
@@ -98,6 +103,7 @@ pub(crate) fn put_load(
     ensures plain { IfOk result (λ r. (d : ℕ) → AreWords terms.old row.0 (2 ^ address_width) d → IsPlain terms.new r.0 (word d)) }
     ensures value { IfOk result (λ r. (w : Valuation) (xs : List ℕ) (i : ℕ) → val (tree terms.old address.0) w ≡ number i → i < 2 ^ address_width
         → HoldWords terms.old w row.0 (2 ^ address_width) xs 0 → val (tree terms.new r.0) w ≡ number (slice_index xs i)) }
+    ensures count { OnOk result (length terms.new.nodes ≡ length terms.old.nodes + (2 ^ address_width + 2 * address_width)) }
 {
     let one = put_one(terms)?;
     let mut first = row;

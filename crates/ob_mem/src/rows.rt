@@ -16,6 +16,7 @@ pub(crate) fn put(terms: &mut Terms, node: Node) -> Result<TermId, NoMemory>
     ensures id { IfOk result (λ id. id.0 ≡ length terms.old.nodes) }
     ensures names { OnOk result (terms.new.names ≡ terms.old.names) }
     ensures trees { OnOk result (trees_of terms.new ≡ trees_of terms.old ++ tree_of_node terms.old node ∷ []) }
+    ensures count { OnOk result (length terms.new.nodes ≡ length terms.old.nodes + 1) }
 {
     match terms.put(node) {
         Ok(id) => Ok(id),

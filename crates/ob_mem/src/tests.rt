@@ -77,8 +77,8 @@ fn load_at_a_constant(rt: HostRuntime) -> Result<(), Fail> {
     let loaded = terms.put(Node::Load(M, one))?;
     let claim = terms.put(Node::Eq(loaded, X))?;
     let expanded = expanded(alloc, &terms, claim)?;
-    // Two words, #i and x, the constant, and the claim.
-    assert_eq!(rt; expanded.terms.len(), 6);
+    // Two words, x, the constant, and the claim; #i is not read.
+    assert_eq!(rt; expanded.terms.len(), 5);
     if expanded.terms.name_count() != 5 {
         return Err("another number of names".into());
     }

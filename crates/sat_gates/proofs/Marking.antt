@@ -11,7 +11,7 @@ use Rattle.wb_terms.specs.declared.nodes.Node.{Node}
 use Rattle.wb_terms.specs.declared.nodes.Node.TheVariants.{Name as NameNode, Truth, Const, Not, And, Or, Xor, Neg, Add, Sub, Mul, Shl, Lshr, Ashr, Eq, Ult, Ule, Slt, Sle, Concat, Extract, Zext, Sext, Ite, Load, Store}
 use Rattle.wb_terms.specs.Graph.{Graph, tree, tree_at, tree_of, trees_of, tree_of_node, operands_of, AllBelow}
 use Rattle.sat_gates.specs.Names.{names_in, is_blastable}
-use Rattle.sat_gates.specs.Marks.{with_marks, IsMarked, AreMarked, IsPart, AreMarks}
+use Rattle.sat_gates.specs.Marks.{with_marks, IsMarked, AreMarked, StandsOn, IsPart, AreMarks}
 
 pub itself : (t : Term) → IsPart t t
 itself t = record { names = λ n s h. h; blastable = λ h. h }
@@ -123,6 +123,17 @@ marked_parts t ts (j ∷ js) marks p root r old k h =
       | inr d ↦ old i (sym (get_or-set_other marks j i true false d) ∙ m)
     ]) k h
 
+-- what is marked newly is an operand
+marked_reach : (g : Graph) (id : ℕ) (ks : List ℕ) (marks : List Bool) → ((k : ℕ) → Contains ks k → StandsOn g id k)
+    → ((k : ℕ) → IsMarked marks k → StandsOn g id k) → (k : ℕ) → IsMarked (with_marks ks marks) k → StandsOn g id k
+marked_reach g id [] marks new old k h = old k h
+marked_reach g id (j ∷ js) marks new old k h =
+    marked_reach g id js (set marks j true) (λ i c. new i (Contains-append_right (j ∷ []) js i c))
+    (λ i m. elim (cases_eq i j) [
+      | inl e ↦ new i (0, omega arith, sym e)
+      | inr d ↦ old i (sym (get_or-set_other marks j i true false d) ∙ m)
+    ]) k h
+
 old_mark : (ks : List ℕ) (marks : List Bool) (p k : ℕ) → AllBelow p ks → p ≤ k → IsMarked (with_marks ks marks) k → IsMarked marks k
 old_mark [] marks p k b i h = h
 old_mark (j ∷ js) marks p k b i h =
@@ -133,6 +144,10 @@ pub marks_start : (g : Graph) (id : ℕ) (marks : List Bool) → marks ≡ set (
 marks_start g id marks e = rw e (record {
   room = length-set (replicate (id + 1) false) id true ∙ length-replicate (id + 1) false;
   root = get_or-set_same (replicate (id + 1) false) id true false (omega (arith, length-replicate (id + 1) false));
+  reached = λ k h. elim (cases_eq k id) [
+    | inl s ↦ subst (StandsOn g id) (sym s) StandsOn.itself
+    | inr d ↦ absurd (unmarked k (sym (get_or-set_other (replicate (id + 1) false) id k true false d) ∙ h))
+  ];
   parts = λ k h. elim (cases_eq k id) [
     | inl s ↦ subst (λ x. IsPart (tree g id) (tree g x)) (sym s) (itself (tree g id))
     | inr d ↦ absurd (unmarked k (sym (get_or-set_other (replicate (id + 1) false) id k true false d) ∙ h))
@@ -153,6 +168,7 @@ pub marks_skip : (g : Graph) (id place : ℕ) (marks : List Bool) → get_or mar
 marks_skip g id place marks e h = record {
   room = h.room;
   root = h.root;
+  reached = h.reached;
   parts = h.parts;
   closed = λ k n i m s. elim (cases_eq k place) [
     | inl q ↦ absurd (false≢true (sym e ∙ (ap (λ x. get_or marks x false) (sym q) ∙ m)))
@@ -166,6 +182,7 @@ pub marks_turn : (g : Graph) (id place : ℕ) (marks new : List Bool) (n : Node)
 marks_turn g id place marks new n e found same below is h = rw is (record {
   room = length-with_marks (operands_of n) marks ∙ h.room;
   root = marks_stay (operands_of n) marks id h.root;
+  reached = marked_reach g id (operands_of n) marks (λ k c. StandsOn.operand place k n (h.reached place e) found c) h.reached;
   parts = marked_parts (tree_of_node g n) (trees_of g) (operands_of n) marks (operand_parts g.names (trees_of g) n) (tree g id)
       (subst (IsPart (tree g id)) same (h.parts place e)) h.parts;
   closed = λ k x i m s.

@@ -11,5 +11,6 @@ mod reading;
 
 pub use condition::can_blast;
 pub use formulas::{BitMap, Blasted, blast};
+pub use marks::mark;
 pub use reading::read_back;
 pub use sat_base::{Assignment, Cnf, NoMemory};

@@ -9,7 +9,7 @@ use std::alloc::Global;
 use wb_terms::{Node, TermId, Terms};
 
 /// For each term up to one whether that one stands on it.
-pub(crate) fn mark(alloc: Global, terms: &Terms, id: TermId) -> Result<Vec<bool>, NoMemory>
+pub fn mark(alloc: Global, terms: &Terms, id: TermId) -> Result<Vec<bool>, NoMemory>
     requires { id.0 < length terms.now.nodes }
     ensures { IfOk result (λ marks. AreMarks terms.now id.0 0 marks.items) }
 {

@@ -5,7 +5,9 @@ use Rattle.ob_mem.specs.declared.words.MemoryWord.{MemoryWord}
 use Rattle.ob_mem.specs.Words.{HasWords}
 use Rattle.ob_mem.specs.Spread.{GivesSorts, IsSpread}
 use Rattle.ob_mem.specs.Images.{HasFirsts}
+use Rattle.sat_gates.specs.Marks.{IsMarked, AreMarks}
 use Rattle.ob_mem.proofs.Imaging.{goal_means}
+use Rattle.ob_mem.proofs.Counting.{is_small}
 use Rattle.ob_mem.proofs.Wording.{has_firsts}
 use Rattle.ob_mem.proofs.Spreading.{spread, gathered}
 use Rattle.ob_mem.proofs.expansion.expand.Goals as goal
@@ -20,23 +22,23 @@ put_images-requires-clause-firsts c =
 
 pub returns-clause-goal : goal.returns-clause-goal
 returns-clause-goal c =
-    (goal_means c.args.terms.now c.put_images.new.terms c.in_ok-named.named.list.items c.as_slice-words.result.now c.in_ok-images.images.items c.args.id.0 c.index-goal.result.now
-    c.as_slice-words.ensures.value c.requires.sort c.in_ok-images.ensures.images c.index-goal.ensures).plain.below
+    (goal_means c.args.terms.now c.put_images.new.terms c.in_ok-named.named.list.items c.as_slice-words.result.now c.deref.result.now c.in_ok-images.images.items c.args.id.0 c.index-goal.result.now
+    c.as_slice-words.ensures.value c.requires.sort (subst (λ bs. IsMarked bs c.args.id.0) (sym c.deref.ensures.value) c.in_ok-reached.ensures.root) c.in_ok-images.ensures.images c.index-goal.ensures).plain.below
 
 pub returns-clause-sort : goal.returns-clause-sort
 returns-clause-sort c =
-    (goal_means c.args.terms.now c.put_images.new.terms c.in_ok-named.named.list.items c.as_slice-words.result.now c.in_ok-images.images.items c.args.id.0 c.index-goal.result.now
-    c.as_slice-words.ensures.value c.requires.sort c.in_ok-images.ensures.images c.index-goal.ensures).plain.sort
+    (goal_means c.args.terms.now c.put_images.new.terms c.in_ok-named.named.list.items c.as_slice-words.result.now c.deref.result.now c.in_ok-images.images.items c.args.id.0 c.index-goal.result.now
+    c.as_slice-words.ensures.value c.requires.sort (subst (λ bs. IsMarked bs c.args.id.0) (sym c.deref.ensures.value) c.in_ok-reached.ensures.root) c.in_ok-images.ensures.images c.index-goal.ensures).plain.sort
 
 pub returns-clause-blastable : goal.returns-clause-blastable
 returns-clause-blastable c =
-    (goal_means c.args.terms.now c.put_images.new.terms c.in_ok-named.named.list.items c.as_slice-words.result.now c.in_ok-images.images.items c.args.id.0 c.index-goal.result.now
-    c.as_slice-words.ensures.value c.requires.sort c.in_ok-images.ensures.images c.index-goal.ensures).plain.blastable
+    (goal_means c.args.terms.now c.put_images.new.terms c.in_ok-named.named.list.items c.as_slice-words.result.now c.deref.result.now c.in_ok-images.images.items c.args.id.0 c.index-goal.result.now
+    c.as_slice-words.ensures.value c.requires.sort (subst (λ bs. IsMarked bs c.args.id.0) (sym c.deref.ensures.value) c.in_ok-reached.ensures.root) c.in_ok-images.ensures.images c.index-goal.ensures).plain.blastable
 
 pub returns-clause-value : goal.returns-clause-value
 returns-clause-value c =
-    (goal_means c.args.terms.now c.put_images.new.terms c.in_ok-named.named.list.items c.as_slice-words.result.now c.in_ok-images.images.items c.args.id.0 c.index-goal.result.now
-    c.as_slice-words.ensures.value c.requires.sort c.in_ok-images.ensures.images c.index-goal.ensures).value
+    (goal_means c.args.terms.now c.put_images.new.terms c.in_ok-named.named.list.items c.as_slice-words.result.now c.deref.result.now c.in_ok-images.images.items c.args.id.0 c.index-goal.result.now
+    c.as_slice-words.ensures.value c.requires.sort (subst (λ bs. IsMarked bs c.args.id.0) (sym c.deref.ensures.value) c.in_ok-reached.ensures.root) c.in_ok-images.ensures.images c.index-goal.ensures).value
 
 pub returns-clause-spread : goal.returns-clause-spread
 returns-clause-spread c =
@@ -51,3 +53,12 @@ returns-clause-gathered c =
     let es = c.args.terms.now.names in
     subst (λ (new : Entries Sort). (w : Valuation) → GivesSorts new w → (v : Valuation) × IsSpread es new n.list.items v w) (sym c.in_ok-images.ensures.names)
     (λ w s. gathered es n.terms.names n.list.items w c.in_ok-named.ensures.names c.in_ok-named.ensures.list c.with_words.ensures.old_distinct s)
+
+pub put_images-requires-clause-reached : goal.put_images-requires-clause-reached
+put_images-requires-clause-reached c = subst (AreMarks c.args.terms.now c.args.id.0 0) (sym c.deref.ensures.value) c.in_ok-reached.ensures
+
+pub returns-clause-size : goal.returns-clause-size
+returns-clause-size c =
+    let g = c.args.terms.now in
+    let reached = subst (AreMarks g c.args.id.0 0) (sym c.deref.ensures.value) c.in_ok-reached.ensures in
+    is_small g c.args.id.0 c.deref.result.now c.put_images.new.terms (length c.in_ok-named.named.terms.nodes) reached (ap length c.in_ok-named.ensures.nodes) c.in_ok-images.ensures.count

@@ -4,6 +4,7 @@ use Rattle.model_meaning.specs.Term.{sort_of}
 use Rattle.wb_terms.specs.Graph.{tree}
 use Rattle.ob_mem.specs.Rows.{IsRow, tree_in, AreOver}
 use Rattle.ob_mem.specs.declared.rows.Row.TheVariants.{Choices}
+use Rattle.ob_mem.proofs.Counting.{row_counted}
 use Rattle.ob_mem.proofs.Growing.{row_grows}
 use Rattle.ob_mem.proofs.Choosing.{choices_over}
 use Rattle.ob_mem.proofs.Imaging.{image_by, ite_sorts, truth_image, memory_words, choice_image}
@@ -42,3 +43,8 @@ returns-clause-image c =
     let row = subst (IsRow h c.put_row.new.terms (tree_in h (Choices c.image-condition.result c.image-x.result c.image-y.result))) c.power.ensures c.in_ok-id.ensures.row in
     choice_image g h c.put_row.new.terms rs c.args.parts.0 c.args.parts.1 c.args.parts.2 c.image-condition.result c.image-x.result c.image-y.result c.in_ok-id.id.0 c.args.address_width c.requires.sort.0 c.requires.sort.1
     ic ix iy c.in_ok-id.ensures.first row
+
+pub returns-clause-count : goal.returns-clause-count
+returns-clause-count c =
+    let row = row_counted c.args.terms.now c.put_row.new.terms (tree_in c.args.terms.now (Choices c.image-condition.result c.image-x.result c.image-y.result)) c.power.result c.in_ok-id.ensures.row in
+    omega (arith, row, c.power.ensures)

@@ -1,7 +1,8 @@
-use Rattle.std.proofs.Common.{◌≡◌, ◌∙◌, ℕ, ◌+◌, ◌<◌, ◌^◌, ap, sym, subst, arith}
+use Rattle.std.proofs.Common.{◌≡◌, ◌∙◌, ℕ, ◌+◌, ◌<◌, ◌^◌, ap, sym, subst, length, arith}
 use Rattle.wb_values.specs.Value.{truth, word}
 use Rattle.ob_mem.specs.Rows.{IsRow, tree_in, AreOver, AreWords, IsPlain}
 use Rattle.ob_mem.specs.declared.rows.Row.TheVariants.{Constants, Matches, Updates}
+use Rattle.ob_mem.proofs.Counting.{row_counted}
 use Rattle.ob_mem.proofs.Growing.{Grows-trans, IsPlain-kept, AreWords-kept, row_grows}
 use Rattle.ob_mem.proofs.Storing.{constants_words, matches_plain, updates_over, updates_words, stored}
 use Rattle.ob_mem.proofs.images.put_store.Goals as goal
@@ -63,3 +64,15 @@ returns-clause-values c =
     stored c.args.terms.now c.put_constants.new.terms g2 g3 c.args.row c.args.address c.args.x c.in_ok-constants.constants c.in_ok-matches.matches c.in_ok-id.id c.args.address_width c.requires.words.0
     c.requires.some c.requires.narrow c.requires.address c.requires.words.2 c.requires.words.1
     c.in_ok-constants.ensures.id c.in_ok-constants.ensures.row c.in_ok-matches.ensures.id c.in_ok-matches.ensures.row c.in_ok-id.ensures.first row
+
+pub returns-clause-count : goal.returns-clause-count
+returns-clause-count c =
+    let g = c.args.terms.now in
+    let g1 = c.put_constants.new.terms in
+    let g2 = c.put_matches.new.terms in
+    let g3 = c.put_row.new.terms in
+    let a = c.args.address_width in
+    let constants = row_counted g g1 (tree_in g (Constants a)) (2 ^ a) c.in_ok-constants.ensures.row in
+    let matches = row_counted g1 g2 (tree_in g1 (Matches c.args.address c.in_ok-constants.constants)) (2 ^ a) c.in_ok-matches.ensures.row in
+    let updates = row_counted g2 g3 (tree_in g2 (Updates c.in_ok-matches.matches c.args.x c.args.row)) c.power.result c.in_ok-id.ensures.row in
+    omega (arith, constants, matches, updates, c.power.ensures)

@@ -6,6 +6,7 @@ use Rattle.wb_terms.specs.declared.nodes.TermId.{TermId}
 use Rattle.wb_terms.proofs.HeldLemmas.{load_sorts}
 use Rattle.ob_mem.specs.Images.{IsImage}
 use Rattle.ob_mem.proofs.Imaging.{const_small, const_from_part, picked_image, picked_below, address_narrow, load_parts_sorts, word_image, memory_words, load_image}
+use Rattle.ob_mem.proofs.Counting.{load_counted}
 use Rattle.ob_mem.proofs.images.put_word.Goals as goal
 
 pub later-requires : goal.later-requires
@@ -81,3 +82,12 @@ returns-in_ok-id-in-None-clause-image c =
     let r = c.in_ok-id-in-None.ensures in
     load_image g h c.put_load.new.terms rs m i c.image-row.result.0 c.image-place.result.0 c.in_ok-id-in-None.id.0 c.word_width-width.result s.0 s.1 c.word_width-width.ensures im ii r.grows
     (r.plain s.0 (memory_words g.names rs h c.image-row.result.0 m c.word_width-width.result s.0 s.1 im)) r.value
+
+pub returns-in-Some-clause-count : goal.returns-in-Some-clause-count
+returns-in-Some-clause-count c = omega arith
+
+pub returns-in_ok-id-in-None-clause-count : goal.returns-in_ok-id-in-None-clause-count
+returns-in_ok-id-in-None-clause-count c =
+    let g = c.args.old.now in
+    load_counted g c.args.address.0 c.node.result.now c.word_width-width.result (length c.args.terms.now.nodes) (length c.put_load.new.terms.nodes) c.node.ensures.put
+    (sym c.in-None.is ∙ c.const_part.ensures) c.word_width-width.ensures c.in_ok-id-in-None.ensures.count

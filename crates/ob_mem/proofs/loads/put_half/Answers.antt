@@ -6,6 +6,7 @@ use Rattle.model_meaning.specs.Term.{val}
 use Rattle.wb_terms.specs.Graph.{tree}
 use Rattle.ob_mem.specs.Rows.{IsRow, tree_in, AreOver, AreWords, HoldWords}
 use Rattle.ob_mem.specs.declared.rows.Row.TheVariants.{Choices}
+use Rattle.ob_mem.proofs.Counting.{row_counted}
 use Rattle.ob_mem.proofs.Growing.{Grows-trans, AreWords-kept, HoldWords-kept, row_grows}
 use Rattle.ob_mem.proofs.Choosing.{upper_half, lower_half, choices_over, choices_words, choices_value, half_value, half_below, half_above, half_within}
 use Rattle.ob_mem.proofs.loads.put_half.Goals as goal
@@ -53,3 +54,8 @@ returns-clause-values c w xs i e hold k b =
     choices_value h c.put_row.new.terms c.in_ok-condition.condition c.later-upper.result c.args.first c.in_ok-id.id.0 (2 ^ p) k w (truth_value ((i / 2 ^ p) % 2 == 1)) _ _ c.in_ok-id.ensures.first row b
     (c.in_ok-condition.ensures.value w i e) above below
     ∙ half_value xs i p k ((i / 2 ^ p) % 2 == 1) refl (mod-le i (2 ^ (p + 1)))
+
+pub returns-clause-count : goal.returns-clause-count
+returns-clause-count c =
+    let row = row_counted c.put_bit.new.terms c.put_row.new.terms (tree_in c.put_bit.new.terms (Choices c.in_ok-condition.condition c.later-upper.result c.args.first)) c.power-half.result c.in_ok-id.ensures.row in
+    omega (arith, c.in_ok-condition.ensures.count, row, c.power-half.ensures)

@@ -1,4 +1,4 @@
-use Rattle.std.proofs.Common.{◌≡◌, ℕ, ◌-◌, ◌%◌, ◌<◌, ◌≤◌, ◌^◌, List}
+use Rattle.std.proofs.Common.{◌≡◌, ℕ, ◌+◌, ◌*◌, ◌-◌, ◌%◌, ◌<◌, ◌≤◌, ◌^◌, List, length}
 use Rattle.wb_values.specs.Value.{word, number, Valuation}
 use Rattle.model_meaning.specs.Term.{const, val}
 use Rattle.wb_terms.specs.Graph.{tree}
@@ -11,6 +11,7 @@ invariant-loop-bit l =
     × ((d : ℕ) → AreWords l.fn.terms l.fn.row.0 (2 ^ l.address_width) d → AreWords l.terms l.first.0 (2 ^ l.bit) d)
     × ((w : Valuation) (xs : List ℕ) (i : ℕ) → val (tree l.fn.terms l.fn.address.0) w ≡ number i → i < 2 ^ l.address_width
     → HoldWords l.fn.terms w l.fn.row.0 (2 ^ l.address_width) xs 0 → HoldWords l.terms w l.first.0 (2 ^ l.bit) xs (i - i % 2 ^ l.bit))
+    × (length l.terms.nodes + (2 ^ l.bit + 2 * l.bit) ≡ length l.fn.terms.nodes + 1 + (2 ^ l.address_width + 2 * l.address_width))
 
 abbrev pub decreases-loop-bit : goal.decreases-loop-bit
 decreases-loop-bit l = l.bit

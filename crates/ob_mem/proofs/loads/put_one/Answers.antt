@@ -1,6 +1,7 @@
 use Rattle.std.proofs.Common.{refl}
 use Rattle.wb_values.specs.Value.{word}
 use Rattle.model_meaning.specs.Term.{const}
+use Rattle.ob_mem.proofs.Counting.{one_counted}
 use Rattle.ob_mem.proofs.Growing.{one_more, last_tree, last_plain}
 use Rattle.ob_mem.proofs.loads.put_one.Goals as goal
 
@@ -18,3 +19,6 @@ returns-clause-plain c = last_plain c.args.terms.now c.put.new.terms (const 1 1)
 
 pub returns-clause-tree : goal.returns-clause-tree
 returns-clause-tree c = last_tree c.args.terms.now c.put.new.terms (const 1 1) c.in_ok-id.id.0 c.in_ok-id.ensures.id c.in_ok-id.ensures.trees
+
+pub returns-clause-count : goal.returns-clause-count
+returns-clause-count c = one_counted c.args.terms.now c.put.new.terms _ c.in_ok-id.ensures.trees

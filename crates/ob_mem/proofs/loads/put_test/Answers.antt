@@ -3,6 +3,7 @@ use Rattle.std.specs.Prelude.{is_some}
 use Rattle.wb_values.specs.Value.{truth}
 use Rattle.model_meaning.specs.Term.{eq}
 use Rattle.wb_terms.specs.Graph.{tree}
+use Rattle.ob_mem.proofs.Counting.{one_counted}
 use Rattle.ob_mem.proofs.Growing.{one_more, last_tree, last_plain}
 use Rattle.ob_mem.proofs.Choosing.{eq_words, blastable_two}
 use Rattle.ob_mem.proofs.loads.put_test.Goals as goal
@@ -25,3 +26,6 @@ returns-clause-plain c =
 pub returns-clause-tree : goal.returns-clause-tree
 returns-clause-tree c =
     last_tree c.args.terms.now c.put.new.terms (eq (tree c.args.terms.now c.args.x.0) (tree c.args.terms.now c.args.y.0)) c.in_ok-id.id.0 c.in_ok-id.ensures.id c.in_ok-id.ensures.trees
+
+pub returns-clause-count : goal.returns-clause-count
+returns-clause-count c = one_counted c.args.terms.now c.put.new.terms _ c.in_ok-id.ensures.trees
