@@ -2,10 +2,12 @@
 use Rattle.std.specs.Prelude.{ℕ, Bool}
 use Rattle.wb_values.specs.Value.{truth, Valuation}
 use Rattle.verilog_trees.specs.Syntax as pure
-use Rattle.verilog_meaning.specs.Expression.{comparison_value, logical_value, integer_from, is_nonzero}
+use Rattle.verilog_meaning.specs.Expression.{comparison_value, logical_value, reduction_value, integer_from, is_nonzero}
 use Rattle.wb_terms.specs.Graph.{Graph}
 use Rattle.v_syntax.specs.declared.tree.TestOperator.{TestOperator}
 use Rattle.v_syntax.specs.declared.tree.TestOperator.TheVariants.{Less, LessOrEqual, Greater, GreaterOrEqual, NotEqual, Both}
+use Rattle.v_syntax.specs.declared.tree.PrefixOperator.{PrefixOperator}
+use Rattle.v_syntax.specs.declared.tree.PrefixOperator.TheVariants.{AllOnes, NotAllOnes, AnyOne, NoOne}
 use Rattle.v_operators.specs.Meaning.{IsOfSort, HasNumber, HasTruth}
 
 -- The term of the second store is a truth value, which is made of two numbers of the first, of u and v bits.
@@ -26,3 +28,11 @@ compared _ t w a b = comparison_value pure.equal (integer_from t w a) (integer_f
 abbrev pub connected : TestOperator → ℕ → ℕ → Bool
 connected Both a b = logical_value pure.both (is_nonzero a) (is_nonzero b)
 connected _ a b = logical_value pure.either (is_nonzero a) (is_nonzero b)
+
+-- what the operators that make one bit of a whole number of w bits say
+abbrev pub reduced : PrefixOperator → ℕ → ℕ → Bool
+reduced AllOnes w x = reduction_value pure.all_ones w x
+reduced NotAllOnes w x = reduction_value pure.not_all_ones w x
+reduced AnyOne w x = reduction_value pure.any_one w x
+reduced NoOne w x = reduction_value pure.no_one w x
+reduced _ w x = reduction_value pure.is_zero w x

@@ -14,6 +14,15 @@ keeps_width Minus = true
 keeps_width Complement = true
 keeps_width _ = false
 
+-- ! & ~& | ~| before an operand (^ and ~^ are not lowered yet)
+abbrev pub is_test_of_all : PrefixOperator → Bool
+is_test_of_all IsZero = true
+is_test_of_all AllOnes = true
+is_test_of_all NotAllOnes = true
+is_test_of_all AnyOne = true
+is_test_of_all NoOne = true
+is_test_of_all _ = false
+
 -- * + - & ^ ~^ | between two operands (/ % and ** stand in constants alone)
 abbrev pub is_plain : BinaryOperator → Bool
 is_plain Multiply = true
