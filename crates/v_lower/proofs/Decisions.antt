@@ -1,15 +1,14 @@
 -- Decisions, choices by them, numbers and parts side by side: what is made of lowered operands is what the whole is lowered to.
-use Rattle.std.proofs.Common.{◌≡◌, ℕ, ◌+◌, ◌-◌, ◌*◌, ◌<◌, ◌≤◌, ◌^◌, Bool, true, false, cond, ◌&&◌, ◌||◌, not, nat_le, nat_lt, max, length, refl, sym, ap, ◌∙◌, subst, arith, ℤ, pos, ◌-ℤ◌}
+use Rattle.std.proofs.Common.{◌≡◌, ℕ, ◌+◌, ◌*◌, ◌<◌, ◌≤◌, ◌^◌, Bool, true, false, cond, ◌&&◌, ◌||◌, not, nat_le, max, length, refl, sym, ap, ◌∙◌, subst, arith, ℤ, pos, ◌-ℤ◌}
 use Rattle.std.specs.Prelude.{◌==◌, int_lt, int_le}
-use Rattle.std.proofs.Math.Pow.{pow_pos}
 use Rattle.std.proofs.lemmas.Nat.{pow-add}
 use Rattle.std.proofs.lemmas.Int.{ints}
 use Rattle.std.proofs.lemmas.Bool.Decides.{nat_tests}
-use Rattle.wb_values.specs.Value.{Sort, truth, word, truth_value, Valuation}
+use Rattle.wb_values.specs.Value.{truth, word, Valuation}
 use Rattle.wb_values.specs.Number.{top_bit, word_concat}
 use Rattle.verilog_trees.specs.Syntax as pure
 use Rattle.verilog_trees.specs.Syntax.{Expression, Expressions, no_expressions, expression, number, comparison, logical, conditional, reduction, concatenation, replication, ComparisonOperator, LogicalOperator, ReductionOperator}
-use Rattle.verilog_meaning.specs.Expression.{Scope, width_of, widths_of, sign_of, value_of, joined_value, widened, comparison_value, logical_value, reduction_value, bit, is_nonzero, integer_from, natural_of, no_values, integer_of, side_by_side}
+use Rattle.verilog_meaning.specs.Expression.{Scope, width_of, widths_of, sign_of, value_of, joined_value, widened, comparison_value, logical_value, bit, is_nonzero, integer_from, natural_of, no_values, integer_of, side_by_side}
 use Rattle.model_meaning.specs.Term as pure_term
 use Rattle.model_meaning.specs.Term.{bits_sort, complement, term_width, val}
 use Rattle.wb_terms.specs.Graph.{Graph, tree}
@@ -20,8 +19,8 @@ use Rattle.v_syntax.specs.Tree.{tested}
 use Rattle.v_operators.proofs.Forms.{formed}
 use Rattle.v_lower.specs.Kinds.{is_logical}
 use Rattle.v_operators.specs.Meaning.{Grows, IsOfSort, HasNumber, HasTruth, Makes, Joins, Tests, Compares, Counts, Connects, Chooses}
-use Rattle.v_operators.proofs.Growing.{Grows-trans, IsOfSort-kept, number_kept, truth_kept}
-use Rattle.v_lower.specs.Lowered.{Images, HasImages, StandsFor, IsLowered, IsLoweredAlone, AreLowered, after}
+use Rattle.v_operators.proofs.Growing.{Grows-trans, number_kept, truth_kept}
+use Rattle.v_lower.specs.Lowered.{Images, HasImages, IsLowered, IsLoweredAlone, AreLowered, after}
 use Rattle.v_lower.specs.Deciding.{Decides, compared, connected}
 use Rattle.v_lower.proofs.Lowering.{stands_before}
 

@@ -1,16 +1,15 @@
 -- What is made of lowered operands is what the whole is lowered to.
-use Rattle.std.proofs.Common.{◌≡◌, ℕ, ◌<◌, ◌≤◌, ◌^◌, Bool, true, false, cond, ◌&&◌, ◌||◌, not, nat_le, nat_lt, max, Some, None, refl, sym, ap, ◌∙◌, subst, arith, ℤ, pos}
-use Rattle.std.specs.Prelude.{◌==◌, int_lt, int_le}
-use Rattle.wb_values.specs.Value.{Name, Sort, truth, word, Valuation}
-use Rattle.wb_values.specs.Number.{word_neg, word_not, word_add, word_sub, word_mul, word_and, word_or, word_xor, word_shl, word_lshr, word_ashr}
+use Rattle.std.proofs.Common.{◌≡◌, ℕ, Bool, true, false, refl, sym, ap, ◌∙◌, subst}
+use Rattle.wb_values.specs.Value.{word, Valuation}
+use Rattle.wb_values.specs.Number.{word_neg, word_not, word_xor, word_lshr, word_ashr}
 use Rattle.model_meaning.specs.Term.{Term, val}
 use Rattle.verilog_trees.specs.Syntax as pure
 use Rattle.verilog_trees.specs.Syntax.{Expression, UnaryOperator, BinaryOperator, ShiftOperator, ComparisonOperator, LogicalOperator, unary, binary, shift, comparison, logical, conditional, reduction, as_signed, as_unsigned, ReductionOperator}
-use Rattle.verilog_meaning.specs.Expression.{Scope, width_of, sign_of, value_of, widened, unary_value, binary_value, shift_value, comparison_value, logical_value, reduction_value, bit, is_nonzero, integer_from}
-use Rattle.wb_terms.specs.Graph.{Graph, tree}
-use Rattle.v_operators.specs.Meaning.{Grows, IsOfSort, HasNumber, HasTruth, Makes, Joins, Tests, Compares, Counts, Connects, Chooses}
-use Rattle.v_operators.proofs.Growing.{Grows-trans, IsOfSort-kept, number_kept, truth_kept, tree_kept}
-use Rattle.v_lower.specs.Lowered.{Images, IsImage, HasImages, StandsFor, IsLowered, IsLoweredAlone}
+use Rattle.verilog_meaning.specs.Expression.{Scope, sign_of, value_of, widened, binary_value, shift_value}
+use Rattle.wb_terms.specs.Graph.{Graph}
+use Rattle.v_operators.specs.Meaning.{Grows, HasNumber, Makes, Joins}
+use Rattle.v_operators.proofs.Growing.{IsOfSort-kept, number_kept, tree_kept}
+use Rattle.v_lower.specs.Lowered.{Images, HasImages, StandsFor, IsLowered, IsLoweredAlone}
 
 -- ---- stores that grow
 

@@ -1,5 +1,5 @@
 -- Operators that make one bit of a whole operand.
-use Rattle.std.proofs.Common.{◌≡◌, ℕ, ◌-◌, ◌<◌, ◌≤◌, ◌^◌, Bool, true, false, not, length, refl, sym, ap, ◌∙◌, subst, arith}
+use Rattle.std.proofs.Common.{◌≡◌, ℕ, ◌-◌, ◌<◌, ◌^◌, Bool, true, not, length, ap, ◌∙◌, subst, arith}
 use Rattle.std.specs.Prelude.{◌==◌}
 use Rattle.std.proofs.Math.Pow.{pow_pos}
 use Rattle.std.proofs.lemmas.Bool.{false≢true}
@@ -8,17 +8,17 @@ use Rattle.model_meaning.specs.Term as pure_term
 use Rattle.model_meaning.specs.Term.{bits_sort, complement, term_width, val}
 use Rattle.verilog_trees.specs.Syntax as pure
 use Rattle.verilog_trees.specs.Syntax.{Expression, reduction, ReductionOperator}
-use Rattle.verilog_meaning.specs.Expression.{Scope, width_of, sign_of, value_of, reduction_value, bit, is_nonzero}
+use Rattle.verilog_meaning.specs.Expression.{Scope, sign_of, value_of, reduction_value, bit}
 use Rattle.wb_terms.specs.Graph.{Graph, tree}
 use Rattle.v_syntax.specs.declared.tree.PrefixOperator.{PrefixOperator}
 use Rattle.v_syntax.specs.declared.tree.PrefixOperator.TheVariants.{Plus, Minus, Complement, IsZero, AllOnes, NotAllOnes, AnyOne, NoOne, OddOnes, EvenOnes}
 use Rattle.v_syntax.specs.Tree.{prefixed}
-use Rattle.v_operators.specs.Meaning.{Grows, IsOfSort, HasNumber, HasTruth, Tests, Compares, Counts}
+use Rattle.v_operators.specs.Meaning.{Grows, IsOfSort, HasNumber, Tests, Compares, Counts}
 use Rattle.v_operators.proofs.Growing.{Grows-trans, number_kept}
 use Rattle.v_operators.proofs.Forms.{formed}
 use Rattle.v_lower.specs.Kinds.{is_test_of_all}
 use Rattle.v_lower.specs.Deciding.{reduced}
-use Rattle.v_lower.specs.Lowered.{Images, HasImages, StandsFor, IsLowered, IsLoweredAlone}
+use Rattle.v_lower.specs.Lowered.{Images, HasImages, IsLowered, IsLoweredAlone}
 use Rattle.v_lower.proofs.Lowering.{stands_before}
 
 pub number_test : (g h k : Graph) (x w n c id : ℕ) → IsOfSort g x (word w) → Grows g h → ((p : Valuation) → HasNumber h c w p n) → Compares h k x c w id (λ a b. a == b) → Tests g k x w id (λ a. a == n)

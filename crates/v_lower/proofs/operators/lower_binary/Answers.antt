@@ -1,7 +1,7 @@
 use Rattle.std.proofs.Common.{sym, subst, refl}
 use Rattle.wb_values.specs.Number.{word_not, word_add, word_sub, word_mul, word_and, word_or, word_xor}
 use Rattle.verilog_trees.specs.Syntax as pure
-use Rattle.v_syntax.specs.Tree.{prefixed, combined}
+use Rattle.v_syntax.specs.Tree.{combined}
 use Rattle.v_lower.specs.Lowered.{IsLowered}
 use Rattle.v_lower.proofs.Lowering.{binary_lowered}
 use Rattle.v_lower.proofs.operators.lower_binary.Goals as goal

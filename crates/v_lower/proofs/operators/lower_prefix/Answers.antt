@@ -1,5 +1,5 @@
-use Rattle.std.proofs.Common.{sym, subst, refl}
-use Rattle.v_syntax.specs.Tree.{prefixed, combined}
+use Rattle.std.proofs.Common.{sym, subst}
+use Rattle.v_syntax.specs.Tree.{prefixed}
 use Rattle.v_operators.proofs.Growing.{Grows-refl}
 use Rattle.v_lower.specs.Lowered.{IsLowered}
 use Rattle.v_lower.proofs.Lowering.{plus_lowered, minus_lowered, complement_lowered}

@@ -2,7 +2,7 @@ use Rattle.std.proofs.Common.{sym, subst, refl}
 use Rattle.wb_values.specs.Number.{word_shl, word_lshr}
 use Rattle.verilog_trees.specs.Syntax as pure
 use Rattle.verilog_meaning.specs.Expression.{shift_value}
-use Rattle.v_syntax.specs.Tree.{prefixed, combined}
+use Rattle.v_syntax.specs.Tree.{combined}
 use Rattle.v_lower.specs.Lowered.{IsLowered}
 use Rattle.v_lower.proofs.Lowering.{shift_lowered}
 use Rattle.v_lower.proofs.operators.lower_shift.Goals as goal

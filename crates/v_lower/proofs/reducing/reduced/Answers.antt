@@ -1,7 +1,7 @@
 use Rattle.std.proofs.Common.{◌-◌, ◌^◌, sym, subst}
 use Rattle.v_operators.specs.Meaning.{Tests}
 use Rattle.v_lower.specs.Deciding.{reduced}
-use Rattle.v_lower.proofs.Wholes.{number_so, other_so, zero_below}
+use Rattle.v_lower.proofs.Wholes.{number_so, other_so}
 use Rattle.v_lower.proofs.reducing.reduced.Goals as goal
 
 pub returns-in_ok-id-in-IsZero-clause-made : goal.returns-in_ok-id-in-IsZero-clause-made
