@@ -1,0 +1,4 @@
+pub mod Lowered
+pub mod Answer
+pub mod Kinds
+pub mod Deciding

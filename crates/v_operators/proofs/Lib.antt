@@ -1,0 +1,5 @@
+pub mod Growing
+pub mod Bounds
+pub mod Forms
+pub mod Testing
+pub mod Spreading
