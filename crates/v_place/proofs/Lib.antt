@@ -1,0 +1,11 @@
+pub mod Terminals
+pub mod Meaning
+pub mod Sound
+pub mod Rules
+pub mod Filled
+pub mod Steps
+pub mod Firsts
+pub mod Runs
+pub mod Parts
+pub mod Sources
+pub mod Place
