@@ -1,11 +1,12 @@
 -- When a term of a store is what an expression of a module is lowered to.
-use Rattle.std.specs.Prelude.{◌≡◌, ℕ, Bool, not, Option, Some, None, IsSome, IsTrue}
+use Rattle.std.specs.Prelude.{◌≡◌, ℕ, Bool, not, ◌&&◌, nat_le, Option, Some, None, IsSome, IsTrue}
 use Rattle.wb_values.specs.Value.{Name, Sort, truth, word, memory, Valuation}
 use Rattle.model_meaning.specs.Term.{val}
 use Rattle.verilog_trees.specs.Syntax.{Expression, Expressions, no_expressions, expression}
 use Rattle.verilog_meaning.specs.Expression.{Object, Scope, object_width, is_memory, width_of, widths_of, sign_of, value_of, joined_value}
 use Rattle.verilog_meaning.specs.Register.{word_count}
 use Rattle.verilog_meaning.specs.Settled.{IsAddressWidth, IsValueOf}
+use Rattle.verilog_rules.specs.Expression.{has_many_words}
 use Rattle.wb_terms.specs.Graph.{Graph, tree}
 use Rattle.v_operators.specs.Meaning.{IsOfSort, HasNumber}
 
@@ -24,9 +25,13 @@ pub record IsImage (s : Scope) (g : Graph) (n : Name) (id : ℕ) : Type 0 where
   pub of_name : IsSortOf (s n) sort
   pub of_sort : IsOfSort g id sort
 
--- Each net, variable and memory of the module has a term, of its sort. (A parameter needs none, since its number is known.)
+-- A declared name has a sort where it has at most 128 bits, and as a memory at most 65,536 words.
+abbrev pub has_sort : Object → Bool
+has_sort o = o.is_declared && (nat_le (object_width o) 128 && not (has_many_words o.addresses))
+
+-- Each net, variable and memory of the module that has a sort has a term of it. (A parameter needs none, since its number is known.)
 pub record HasImages (s : Scope) (images : Images) (g : Graph) : Type 0 where
-  pub some : (n : Name) → IsTrue (s n).is_declared → (s n).constant ≡ None → IsSome (images n)
+  pub some : (n : Name) → IsTrue (has_sort (s n)) → (s n).constant ≡ None → IsSome (images n)
   pub image : (n : Name) (id : ℕ) → images n ≡ Some id → IsImage s g n id
 
 -- The environment stands for the valuation: each name has a value of its object, and it is what the name's term is worth.
