@@ -456,4 +456,3 @@ next_port-output = refl
 pub modules-module : behind_token modules (word (codes "module")) ≡ Some (token a_name ∷ header_parameters ∷ header_ports ∷ token (the_mark semicolon) ∷ items ∷ modules ∷ [])
 unfolding behind_token rules leads is_reserved
 modules-module = refl
-

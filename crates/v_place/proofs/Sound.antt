@@ -82,9 +82,11 @@ pub join_here : (m : Mark) (o : Operator) (k : ℕ) (e b : Expression) (text mor
 join_here m o k e b text more rest same is d db =
     let low : o.level ≤ 11 = low_level m o is in
     let twelve : 11 - o.level + suc o.level ≡ 12 = omega (arith, low) in
-    let right : IsExpression (suc o.level) b more rest = raised (11 - o.level) (suc o.level) b more rest (subst (λ (l : ℕ). IsExpression l b more rest) (sym twelve) db) in
-    (o.joins e b, subst (λ (l : ℕ). IsExpression l (o.joins e b) text rest) same
-        (spelled.joined m o e b text more rest is (subst (λ (l : ℕ). IsExpression l e text (mark m ∷ more)) (sym same) d) right))
+    let right : IsExpression (suc o.level) b more rest = raised (11 - o.level) (suc o.level) b more rest (subst (λ (l : ℕ). IsExpression l b more rest) (sym twelve) db) in (
+      o.joins e b,
+      subst (λ (l : ℕ). IsExpression l (o.joins e b) text rest) same
+          (spelled.joined m o e b text more rest is (subst (λ (l : ℕ). IsExpression l e text (mark m ∷ more)) (sym same) d) right),
+    )
 
 pub joined_with : (gap : ℕ) (m : Mark) (o : Operator) (b : Expression) (more rest : List Token) → operator_of m ≡ Some o → IsExpression 12 b more rest
     → (k : ℕ) (e : Expression) (text : List Token) → 1 ≤ k → o.level ≡ gap + k → IsExpression k e text (mark m ∷ more) → (f : Expression) × IsExpression k f text rest
@@ -251,9 +253,6 @@ value_last n x s text others before rest d ds is = record {
 }
 
 -- ---- declarations
-
-
-
 
 abbrev pub port_with : Direction → Option NetKind → Bool → Option Range → List Name → PortDeclaration
 port_with d k s r ns = record { direction = d; kind = k; signed = s; range = r; names = ns }

@@ -3,7 +3,6 @@ use Rattle.std.specs.Prelude.{◌==◌}
 use Rattle.wb_values.specs.Value.{word, truth_value}
 use Rattle.model_meaning.specs.Term.{Term, const, eq, extract, val}
 use Rattle.wb_terms.specs.Graph.{tree}
-
 use Rattle.ob_mem.proofs.Growing.{Grows-trans, IsPlain-kept, tree_kept}
 use Rattle.ob_mem.proofs.Choosing.{bit_value}
 use Rattle.ob_mem.proofs.loads.put_bit.Goals as goal
