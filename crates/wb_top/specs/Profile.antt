@@ -20,10 +20,10 @@ part_text design_file = codes "the Verilog file"
 part_text all_together = codes "the files together"
 
 -- The one Verilog file has the tree of a module of the profile.
-pub record IsDesign (designs : List (List ℕ)) (module : FirstModule) : Type 0 where
+pub record IsDesign (designs : List (List ℕ)) (design : FirstModule) : Type 0 where
   pub one_design : length designs ≡ 1
-  pub is_tree : IsTreeOf designs (module_tree module ∷ [])
-  pub is_within : IsWithinProfile module
+  pub is_tree : IsTreeOf designs (module_tree design ∷ [])
+  pub is_within : IsWithinProfile design
 
 -- Each of the files is in the profile, and the three are not accepted together.
 pub record IsNotAccepted (model_bytes map_bytes : List ℕ) (designs : List (List ℕ)) (f : First) : Type 0 where
@@ -38,7 +38,7 @@ KeepsOutside m p ds several_designs = 1 < length ds
 KeepsOutside m p ds model_file = (length ds ≡ 1) × (model_of_bytes m ≡ None)
 KeepsOutside m p ds map_file = (length ds ≡ 1) × IsTrue (is_some (model_of_bytes m)) × (map_of_bytes p ≡ None)
 KeepsOutside m p ds design_file =
-    (length ds ≡ 1) × IsTrue (is_some (model_of_bytes m)) × IsTrue (is_some (map_of_bytes p)) × ((module : FirstModule) → ¬ IsDesign ds module)
+    (length ds ≡ 1) × IsTrue (is_some (model_of_bytes m)) × IsTrue (is_some (map_of_bytes p)) × ((design : FirstModule) → ¬ IsDesign ds design)
 KeepsOutside m p ds all_together = (f : First) × IsNotAccepted m p ds f
 
 -- of the files of a check in their order
