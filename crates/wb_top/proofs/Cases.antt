@@ -1,5 +1,5 @@
 -- What files stand for, from what their readers give.
-use Rattle.std.proofs.Common.{Result, Ok, Err, ◌≡◌, ℕ, Bool, true, false, List, [], ◌∷◌, length, map, Some, None, refl, ap, sym, ◌∙◌, subst, codes}
+use Rattle.std.proofs.Common.{Result, Ok, Err, ◌≡◌, ℕ, Bool, true, false, List, [], ◌∷◌, length, map, Some, None, refl, ap, sym, ◌∙◌, subst, codes, is_some}
 use Rattle.std.specs.declared.option.Option.{Option}
 use Rattle.first_text.specs.Tree.{FirstModule as PureModule, module_tree}
 use Rattle.first_text.specs.View.{first_module_of}
@@ -25,6 +25,10 @@ use Rattle.verilog_text.specs.Text.{Refusal, tokens_in}
 use Rattle.verilog_text.specs.Grammar.{IsSource, IsTreeOf}
 use Rattle.wb_top.specs.Files.{IsKindOfText, IsFirstKind, IsKind, IsCaseOf, text_kind}
 use Rattle.wb_top.specs.Outcome.{Told, IsChecked, IsReported}
+use Rattle.wb_top.specs.Texts.{not_yet_text}
+use Rattle.wb_top.specs.Judged.{part_of, IsOutside}
+use Rattle.wb_top.specs.declared.judged.Place.{Place}
+use Rattle.wb_top.specs.declared.judged.Place.TheVariants.{Design, Together}
 use Rattle.wb_top.specs.declared.status.Status.{Status}
 use Rattle.wb_top.specs.declared.status.Status.TheVariants.{Done, Failed, Unknown, Usage, Refused, ReadFault, WriteFault, NoMemory, Limit}
 
@@ -86,6 +90,43 @@ not_accepted m p ds ms model map design is_model is_map is_tree is_design one_so
         pick : Bool → Type 0
         pick true = ⊥
         pick false = Unit {0}
+
+-- Files whose tree is no module of the profile: the Verilog file keeps them outside.
+pub outside_by_design : OneSource → (m p : List ℕ) (ds : List (List ℕ)) (ms : Source) (model : FirstModel) (map : FirstMap)
+    → length ds ≡ 1
+    → ◌≡◌ {A = Option Model} (Some (first_model_of model)) (model_of_bytes m)
+    → ◌≡◌ {A = Option Map} (Some (map_of map)) (map_of_bytes p)
+    → IsTreeOf ds ms → ((n : PureModule) → IsWithinProfile n → ¬ (ms ≡ module_tree n ∷ [])) → IsOutside m p ds Design
+outside_by_design one m p ds ms model map count is_model is_map is none =
+    (no_module one m p ds ms is none,
+    (count, (ap is_some (sym is_model), (ap is_some (sym is_map),
+    λ n h. none n h.is_within (one_tree one ds ms (module_tree n ∷ []) is h.is_tree)))))
+
+-- Files of which each is in the profile, and the three are not accepted.
+pub outside_together : (m p : List ℕ) (ds : List (List ℕ)) (ms : Source) (model : FirstModel) (map : FirstMap) (design : FirstModule)
+    → length ds ≡ 1
+    → ◌≡◌ {A = Option Model} (Some (first_model_of model)) (model_of_bytes m)
+    → ◌≡◌ {A = Option Map} (Some (map_of map)) (map_of_bytes p)
+    → IsTreeOf ds ms → ms ≡ module_tree (first_module_of design) ∷ [] → IsWithinProfile (first_module_of design)
+    → OneSource → ((a b : PureModule) → module_tree a ≡ module_tree b → a ≡ b)
+    → false ≡ is_accepted (first_of model map design) → IsOutside m p ds Together
+outside_together m p ds ms model map design count is_model is_map is_tree is_design within one_source one_module refused =
+    (not_accepted m p ds ms model map design is_model is_map is_tree is_design one_source one_module refused,
+    (first_of model map design, record {
+      is_model = sym is_model;
+      is_map = sym is_map;
+      is_design = record {
+        one_design = count;
+        is_tree = subst (λ (xs : Source). IsTreeOf ds xs) is_design is_tree;
+        is_within = within;
+      };
+      refused = sym refused;
+    }))
+
+-- Files outside the profile that no kind refuses are refused by what keeps them outside.
+pub refused_outside : (m p : List ℕ) (ds : List (List ℕ)) (place : Place) (budget : ℕ) (told : Told) → IsOutside m p ds place → IsKind m ds None
+    → told.text ≡ not_yet_text (part_of place) → told.spent ≡ [] → IsChecked budget (m ∷ p ∷ ds) Refused told
+refused_outside m p ds place budget told outside unbroken is nothing = (None, unbroken, (outside.0, part_of place, outside.1, is), nothing)
 
 -- Files whose tree is a module of the profile, accepted with the model and the map, are a case.
 pub is_case : (m p : List ℕ) (ds : List (List ℕ)) (ms : Source) (f : First) → model_of_bytes m ≡ Some f.model → map_of_bytes p ≡ Some f.map → length ds ≡ 1

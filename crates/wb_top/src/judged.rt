@@ -130,6 +130,21 @@ fn in_profile(
     if designs.len() != 1 {
         return Ok(Judged::Outside(Place::Designs));
     }
+    one_in_profile(alloc, model, map_file, designs, tree)
+}
+
+/// The same of files of which one is a Verilog file.
+fn one_in_profile(
+    alloc: Global,
+    model: &[u8],
+    map_file: &[u8],
+    designs: &[Vec<u8>],
+    tree: &Tree<'_>,
+) -> Result<Judged, NoMemory>
+    requires one { length designs.now ≡ 1 }
+    requires is_tree { IsTreeOf (map (λ d. d.items) designs.now) (source_of tree.now) }
+    ensures { IfOk result (IsInProfile model.now map_file.now (map (λ d. d.items) designs.now)) }
+{
     let Some(model) = read_model(alloc, model)? else {
         return Ok(Judged::Outside(Place::Model));
     };

@@ -9,4 +9,8 @@ returns-in-Some c =
     kind_of_model c.args.model.now _ _ (ap (option_map (λ (r : ModelRefusal). rule_view r.rule)) (sym c.in-Some.is) ∙ c.in_ok-refusal.ensures)
 
 pub of_text-requires : goal.of_text-requires
-of_text-requires c = sym (ap (option_map (λ (r : ModelRefusal). rule_view r.rule)) (sym c.in-None.is) ∙ c.in_ok-refusal.ensures)
+of_text-requires c =
+    record {
+      some = c.requires;
+      unbroken = sym (ap (option_map (λ (r : ModelRefusal). rule_view r.rule)) (sym c.in-None.is) ∙ c.in_ok-refusal.ensures);
+    }
