@@ -97,10 +97,19 @@ pub outside_by_design : OneSource → (m p : List ℕ) (ds : List (List ℕ)) (m
     → ◌≡◌ {A = Option Model} (Some (first_model_of model)) (model_of_bytes m)
     → ◌≡◌ {A = Option Map} (Some (map_of map)) (map_of_bytes p)
     → IsTreeOf ds ms → ((n : PureModule) → IsWithinProfile n → ¬ (ms ≡ module_tree n ∷ [])) → IsOutside m p ds Design
-outside_by_design one m p ds ms model map count is_model is_map is none =
-    (no_module one m p ds ms is none,
-    (count, (ap is_some (sym is_model), (ap is_some (sym is_map),
-    λ n h. none n h.is_within (one_tree one ds ms (module_tree n ∷ []) is h.is_tree)))))
+outside_by_design one m p ds ms model map count is_model is_map is none = (
+  no_module one m p ds ms is none,
+  (
+    count,
+    (
+      ap is_some (sym is_model),
+      (
+        ap is_some (sym is_map),
+        λ n h. none n h.is_within (one_tree one ds ms (module_tree n ∷ []) is h.is_tree),
+      ),
+    ),
+  ),
+)
 
 -- Files of which each is in the profile, and the three are not accepted.
 pub outside_together : (m p : List ℕ) (ds : List (List ℕ)) (ms : Source) (model : FirstModel) (map : FirstMap) (design : FirstModule)
@@ -110,9 +119,11 @@ pub outside_together : (m p : List ℕ) (ds : List (List ℕ)) (ms : Source) (mo
     → IsTreeOf ds ms → ms ≡ module_tree (first_module_of design) ∷ [] → IsWithinProfile (first_module_of design)
     → OneSource → ((a b : PureModule) → module_tree a ≡ module_tree b → a ≡ b)
     → false ≡ is_accepted (first_of model map design) → IsOutside m p ds Together
-outside_together m p ds ms model map design count is_model is_map is_tree is_design within one_source one_module refused =
-    (not_accepted m p ds ms model map design is_model is_map is_tree is_design one_source one_module refused,
-    (first_of model map design, record {
+outside_together m p ds ms model map design count is_model is_map is_tree is_design within one_source one_module refused = (
+  not_accepted m p ds ms model map design is_model is_map is_tree is_design one_source one_module refused,
+  (
+    first_of model map design,
+    record {
       is_model = sym is_model;
       is_map = sym is_map;
       is_design = record {
@@ -121,7 +132,9 @@ outside_together m p ds ms model map design count is_model is_map is_tree is_des
         is_within = within;
       };
       refused = sym refused;
-    }))
+    },
+  ),
+)
 
 -- Files outside the profile that no kind refuses are refused by what keeps them outside.
 pub refused_outside : (m p : List ℕ) (ds : List (List ℕ)) (place : Place) (budget : ℕ) (told : Told) → IsOutside m p ds place → IsKind m ds None
