@@ -97,18 +97,9 @@ pub outside_by_design : OneSource → (m p : List ℕ) (ds : List (List ℕ)) (m
     → ◌≡◌ {A = Option Model} (Some (first_model_of model)) (model_of_bytes m)
     → ◌≡◌ {A = Option Map} (Some (map_of map)) (map_of_bytes p)
     → IsTreeOf ds ms → ((n : PureModule) → IsWithinProfile n → ¬ (ms ≡ module_tree n ∷ [])) → IsOutside m p ds Design
-outside_by_design one m p ds ms model map count is_model is_map is none = (
+outside_by_design one m p ds ms model map_tree count is_model is_map is none = (
   no_module one m p ds ms is none,
-  (
-    count,
-    (
-      ap is_some (sym is_model),
-      (
-        ap is_some (sym is_map),
-        λ n h. none n h.is_within (one_tree one ds ms (module_tree n ∷ []) is h.is_tree),
-      ),
-    ),
-  ),
+  (count, ap is_some (sym is_model), ap is_some (sym is_map), λ n h. none n h.is_within (one_tree one ds ms (module_tree n ∷ []) is h.is_tree)),
 )
 
 -- Files of which each is in the profile, and the three are not accepted.
