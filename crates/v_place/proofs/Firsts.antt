@@ -1,4 +1,4 @@
--- What is expected behind each token at which a symbol begins.
+-- What is expected after each token at which a symbol begins.
 use Rattle.std.proofs.Common.{◌≡◌, ℕ, true, false, List, [], ◌∷◌, Option, Some, None, refl}
 use Rattle.std.specs.Prelude.{◌||◌, codes}
 use Rattle.std.specs.Str.{bytes_eq}

@@ -11,7 +11,7 @@ use Rattle.v_place.proofs.Terminals.{IsToken, Before, token_before}
 
 -- ---- what goes on with something
 
--- the items of a case behind one, up to endcase, with so many defaults at most
+-- the items of a case after one, up to endcase, with so many defaults at most
 pub data IsRestOfItems (n : ℕ) : (text rest : List Token) → Type 0 where
   no_item : (rest : List Token) → IsRestOfItems n (word (codes "endcase") ∷ rest) rest
   some_items : (items : CaseItems) (text rest : List Token) → AreItems items text (word (codes "endcase") ∷ rest) → count_defaults items ≤ n → IsRestOfItems n text rest
@@ -25,11 +25,11 @@ pub record IsValuesItem (n : ℕ) (text rest : List Token) : Type 0 where
   pub is_body : IsStatement body more others
   pub are_others : IsRestOfItems n others rest
 
--- behind one of a list, up to its end
+-- after one of a list, up to its end
 abbrev pub MoreOf : {A : Type 0} → (A → List Token → List Token → Type 0) → Mark → (text rest : List Token) → Type 0
 MoreOf {A} Is m text rest = (x : A) (before : List Token) → Is x before text → (xs : List A) × AreParted Is xs before (mark m ∷ rest)
 
--- behind a parameter of the header
+-- after a parameter of the header
 pub data IsParametersRest : (text rest : List Token) → Type 0 where
   no_parameter : (rest : List Token) → IsParametersRest (mark right_parenthesis ∷ rest) rest
   another_parameter : (ps : List ParameterDeclaration) (text rest : List Token) → AreParted IsHeaderParameter ps text (mark right_parenthesis ∷ rest)
@@ -41,7 +41,7 @@ pub record AreSettingsThen (text rest : List Token) : Type 0 where
   pub are_values : AreParted IsSetting values text more
   pub are_others : IsParametersRest more rest
 
--- behind a port of the header
+-- after a port of the header
 pub data IsPortsRest : (text rest : List Token) → Type 0 where
   no_port : (rest : List Token) → IsPortsRest (mark right_parenthesis ∷ rest) rest
   another_port : (ps : List PortDeclaration) (text rest : List Token) → AreParted IsPort ps text (mark right_parenthesis ∷ rest)

@@ -134,7 +134,7 @@ pub parenthesis_runs : {e : Expression} {text more : List Token} → IsWhole e t
     → Runs (mark left_parenthesis ∷ text) (token (the_mark left_parenthesis) ∷ whole ∷ token (the_mark right_parenthesis) ∷ ss)
 parenthesis_runs {text = text} d ss r = takes _ _ _ (whole ∷ token (the_mark right_parenthesis) ∷ ss) text (mark_taken left_parenthesis) (whole_and right_parenthesis at_right_parenthesis d ss r)
 
--- An else behind the statement would not belong to an if of it.
+-- An else after the statement would not belong to an if of it.
 abbrev IsNear : Statement → List Token → Type 0
 IsNear s rest = has_open_if s ≡ true → HasNoElse rest
 

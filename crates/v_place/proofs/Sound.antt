@@ -76,7 +76,7 @@ raised (suc d) k e text rest h =
 pub at_one : (e : Expression) (text rest : List Token) → IsExpression 12 e text rest → IsExpression 1 e text rest
 at_one e text rest h = raised 11 1 e text rest h
 
--- An operand behind an operator goes into the expression before it where the operator's level says.
+-- An operand after an operator goes into the expression before it where the operator's level says.
 pub join_here : (m : Mark) (o : Operator) (k : ℕ) (e b : Expression) (text more rest : List Token) → o.level ≡ k → operator_of m ≡ Some o → IsExpression k e text (mark m ∷ more)
     → IsExpression 12 b more rest → (f : Expression) × IsExpression k f text rest
 join_here m o k e b text more rest same is d db =
@@ -205,7 +205,7 @@ pub with_else : (c : Expression) (s u : Statement) (before more other rest : Lis
     → IsStatement u other rest → (v : Statement) × IsStatement v (word (codes "if") ∷ mark left_parenthesis ∷ before) rest
 with_else c s u before more other rest dc ds du = by_opening c s u before more other rest dc ds du (has_open_if s) refl (λ h. attached u other rest du s more ds h)
 
--- what a case has behind its parenthesis
+-- what a case has after its parenthesis
 abbrev pub HasItems : ℕ → (text rest : List Token) → Type 0
 HasItems n text rest = (is : CaseItems) × AreItems is text (word (codes "endcase") ∷ rest) × (count_defaults is ≤ n)
 

@@ -20,7 +20,7 @@ use Rattle.v_place.proofs.Parts.{no-range, no-overrides, no-header_parameters, n
 
 -- ---- marks between parts
 
--- A mark behind a part of a list: none of what may be left out begins with it.
+-- A mark after a part of a list: none of what may be left out begins with it.
 record Separates (m : Mark) : Type 0 where
   ends : EndsAll m
   no_value : behind_token perhaps_value (mark m) ≡ None
@@ -147,7 +147,7 @@ unfolding is_optional
 one_entry _ _ m rest ss sep (empty_entry _) r = passes entry ss (mark m) rest refl sep.no_entry r
 one_entry _ _ m rest ss sep (an_entry e text _ d) r = entry_leads text ss (expression_runs d sep.ends.no_bracket ss (no_rest m rest ss sep.ends r))
 
--- behind the dot
+-- after the dot
 named_rest_runs : (n : Name) {e : Option Expression} {text rest : List Token} → IsIdentifier n → IsEntry e text (mark right_parenthesis ∷ rest) → (ss : List Symbol) → Runs rest ss
     → Runs (word n ∷ mark left_parenthesis ∷ text) (token a_name ∷ token (the_mark left_parenthesis) ∷ entry ∷ token (the_mark right_parenthesis) ∷ ss)
 named_rest_runs n {e = e} {text = text} {rest = rest} free d ss r =
@@ -279,7 +279,7 @@ items_run (one_more i is text more _ d ds) ss q = item_runs d ss (items_run ds s
 
 -- ---- headers
 
--- settings of a header, up to the mark behind them
+-- settings of a header, up to the mark after them
 header_settings_run : {vs : List (Name × Expression)} {text : List Token} (m : Mark) (rest : List Token) → Separates m → AreParted IsSetting vs text (mark m ∷ rest) → (ss : List Symbol)
     → Runs (mark m ∷ rest) (more_parameters ∷ ss) → (s : Symbol) (new ys : List Symbol) → ((n : Name) → IsIdentifier n → behind_token s (word n) ≡ Some new)
     → new ++ ys ≡ token (the_mark equals) ∷ whole ∷ more_parameters ∷ ss → Runs text (s ∷ ys)

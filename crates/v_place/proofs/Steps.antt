@@ -1,4 +1,4 @@
--- A text of what is expected behind a token is, with the token before it, one of what is expected before it.
+-- A text of what is expected after a token is, with the token before it, one of what is expected before it.
 use Rattle.std.proofs.Common.{◌≡◌, ℕ, Bool, true, false, cond, List, [], ◌∷◌, ◌++◌, Option, Some, None, refl, sym, ap, ◌∙◌, subst}
 use Rattle.verilog_text.specs.Token.{Token}
 use Rattle.v_place.specs.Table.{Symbol, Rule, rules, leads, is_optional, matches, by_rule, or_else, and_then, led_by, behind_token, expected_after}

@@ -1,4 +1,4 @@
--- The grammar as a table: what may stand at each place, told by one token, and what is expected behind that token.
+-- The grammar as a table: what may stand at each place, told by one token, and what is expected after that token.
 use Prim.Native.Char.{code}
 use Rattle.std.specs.Prelude.{ℕ, suc, Bool, true, false, cond, not, ◌||◌, ◌==◌, List, [], ◌∷◌, ◌++◌, length, map, codes, Option, Some, None, is_some}
 use Rattle.std.specs.Str.{bytes_eq}
@@ -76,32 +76,32 @@ matches _ _ = false
 pub data Symbol : Type 0 where
   -- one token
   token : Terminal → Symbol
-  -- an expression; what an operator has before or behind it; what may stand behind that; the digits of a number behind a decimal
+  -- an expression; what an operator has before or after it; what may stand after that; the digits of a number after a decimal
   whole operand operand_rest digits : Symbol
-  -- the selects behind a name; the second one; what stands behind the first expression of a select, up to its bracket
+  -- the selects after a name; the second one; what stands after the first expression of a select, up to its bracket
   selects second_select limit : Symbol
-  -- what stands behind the first expression in braces; behind a part in braces
+  -- what stands after the first expression in braces; after a part in braces
   braces_rest more_parts : Symbol
   target more_targets : Symbol
-  -- a statement; behind its target; behind the statement of an if; behind begin; up to end
+  -- a statement; after its target; after the statement of an if; after begin; up to end
   statement assignment_rest else_part block_name statements : Symbol
-  -- the items of a case: the first one; the others up to endcase, and those behind default; behind a value of such items
+  -- the items of a case: the first one; the others up to endcase, and those after default; after a value of such items
   first_item case_items last_items more_values more_last_values perhaps_colon : Symbol
-  -- what declarations may have; behind a name, or a name and its value, of each kind of declaration, up to the semicolon
+  -- what declarations may have; after a name, or a name and its value, of each kind of declaration, up to the semicolon
   net_kind sign range perhaps_value : Symbol
   more_names more_settings more_nets more_variables more_assignments : Symbol
-  -- of instances: their parameters; what stands behind the opening parenthesis; an expression that may be left out; behind each entry
+  -- of instances: their parameters; what stands after the opening parenthesis; an expression that may be left out; after each entry
   overrides connections entry more_named more_entries more_instances : Symbol
-  -- behind @; behind @(; an event; behind an event
+  -- after @; after @(; an event; after an event
   control first_event event more_events : Symbol
   -- up to endmodule
   items : Symbol
-  -- of a header: its parameters and ports; behind a parameter's value, or a port's name, and behind the comma there
+  -- of a header: its parameters and ports; after a parameter's value, or a port's name, and after the comma there
   header_parameters more_parameters next_parameter header_ports first_port more_listed more_ports next_port : Symbol
   -- up to the end
   modules : Symbol
 
--- a token that may come, and what is expected behind it
+-- a token that may come, and what is expected after it
 abbrev pub Rule : Type 0
 Rule = Terminal × List Symbol
 
@@ -210,7 +210,7 @@ rules next_port =
     (a_name, more_ports ∷ []) ∷ (the_word (codes "input"), declared_port more_ports []) ∷ (the_word (codes "output"), declared_port more_ports []) ∷ []
 rules modules = (the_word (codes "module"), name ∷ header_parameters ∷ header_ports ∷ expects semicolon ∷ items ∷ modules ∷ []) ∷ []
 
--- What it may begin with besides: another symbol, by its rules, and what is expected behind that.
+-- What it may begin with besides: another symbol, by its rules, and what is expected after that.
 unfoldable pub leads : Symbol → Option (Symbol × List Symbol)
 leads whole = Some (operand, operand_rest ∷ [])
 leads entry = Some (operand, operand_rest ∷ [])
@@ -243,7 +243,7 @@ is_optional _ = false
 
 -- ---- one token more
 
--- what is expected behind a token by the first rule for it
+-- what is expected after a token by the first rule for it
 abbrev pub by_rule : List Rule → Token → Option (List Symbol)
 by_rule [] t = None
 by_rule (r ∷ rs) t = cond (matches r.0 t) (Some r.1) (by_rule rs t)
@@ -252,7 +252,7 @@ abbrev pub or_else : Option (List Symbol) → Option (List Symbol) → Option (L
 or_else (Some ss) other = Some ss
 or_else None other = other
 
--- with more expected behind it
+-- with more expected after it
 abbrev pub and_then : Option (List Symbol) → List Symbol → Option (List Symbol)
 and_then (Some ss) more = Some (ss ++ more)
 and_then None more = None
@@ -261,11 +261,11 @@ abbrev pub led_by : Option (Symbol × List Symbol) → Token → Option (List Sy
 led_by (Some l) t = and_then (by_rule (rules l.0) t) l.1
 led_by None t = None
 
--- what is expected behind a token at which the symbol begins
+-- what is expected after a token at which the symbol begins
 unfoldable pub behind_token : Symbol → Token → Option (List Symbol)
 behind_token s t = or_else (led_by (leads s) t) (by_rule (rules s) t)
 
--- What is expected behind a token where these are expected before it: of what may be left out each symbol is passed that does not
+-- What is expected after a token where these are expected before it: of what may be left out each symbol is passed that does not
 -- begin with the token.
 unfoldable pub expected_after : List Symbol → Token → Option (List Symbol)
 expected_after [] t = None
