@@ -5,6 +5,7 @@
 //! | `file NAME` | a file of this name, empty; it replaces an earlier one |
 //! | `\|TEXT` | one more line of that file |
 //! | `!TEXT` | more text of that file, without a line feed |
+//! | `repeat COUNT TEXT` | as much text, COUNT times, with its number from 0 on in place of each `#` |
 //! | `words WORD..` | the words of the command, after the program's name |
 //! | `in NAME`, then `-OLD`, `+NEW` once or more | in this file the first OLD is changed into NEW, for the next row alone |
 //! | `>TEXT` | one more line of what the next row writes, whole |
@@ -61,6 +62,20 @@ fn unmarked(alloc: Global, text: &str) -> Result<String, AllocError> {
     Ok(whole)
 }
 
+/// The text with a number in place of each `#`.
+fn numbered(alloc: Global, text: &str, number: u32) -> Result<String, AllocError> {
+    let mut whole = String::new(alloc);
+    for character in text.chars() {
+        if character == '#' {
+            let digits = format!(in alloc; "{number}")?;
+            whole.push_str(&digits)?;
+        } else {
+            whole.push(character)?;
+        }
+    }
+    Ok(whole)
+}
+
 /// The text with its first `old` changed into `new`.
 fn with_change(alloc: Global, text: &str, old: &str, new: &str) -> Result<String, AllocError> {
     let mut whole = String::new(alloc);
@@ -100,6 +115,8 @@ impl Table {
             self.add_text("\n")?;
         } else if let Some(text) = line.strip_prefix("!") {
             self.add_text(text)?;
+        } else if let Some(copies) = line.strip_prefix("repeat ") {
+            self.add_copies(alloc, copies)?;
         } else if let Some(words) = line.strip_prefix("words ") {
             self.words = words_of(alloc, words)?;
         } else if let Some(name) = line.strip_prefix("in ") {
@@ -138,6 +155,19 @@ impl Table {
     fn add_text(&mut self, text: &str) -> Result<(), AllocError> {
         if let Some(file) = self.files.last_mut() {
             file.text.push_str(text)?;
+        }
+        Ok(())
+    }
+
+    /// Adds copies of a text: `COUNT TEXT`.
+    fn add_copies(&mut self, alloc: Global, line: &str) -> Result<(), AllocError> {
+        let Some((count, text)) = line.split_once(" ") else {
+            return Ok(());
+        };
+        let text = unmarked(alloc, text)?;
+        for number in 0..count.parse::<u32>().unwrap_or(0) {
+            let copy = numbered(alloc, &text, number)?;
+            self.add_text(&copy)?;
         }
         Ok(())
     }

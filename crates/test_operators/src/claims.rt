@@ -2,6 +2,7 @@
 
 ghost use Rattle.std.specs.Prelude.{◌≡◌, ◌<◌, IfOk, IfSome, OnOk, length};
 ghost use Rattle.wb_terms.specs.Environment.{Fits};
+ghost use Rattle.sat_settle.specs.Settled.{IsSettled};
 ghost use Rattle.wb_terms.specs.Graph.{Graph, IsOver};
 
 use sat_gates::can_blast;
@@ -9,18 +10,21 @@ use sat_settle::{Settled, settle};
 use std::alloc::Global;
 use wb_terms::{Env, Node, PutStop, Scratch, Sort, TermId, Terms, Value, eval};
 
-/// The terms that each store begins with: the names x and y.
+/// The terms that each store begins with: the words x and y, and the truth value c.
 const X: TermId = TermId(0);
 
 const Y: TermId = TermId(1);
 
+const C: TermId = TermId(2);
+
 /// What the operator gives of them.
-const RESULT: TermId = TermId(2);
+const RESULT: TermId = TermId(3);
 
 /// How many lemmas a claim may take.
 const BUDGET: u64 = 100_000;
 
-/// An operator, the words that it is given, and the value that it is to have.
+/// An operator, the words that it is given, and the value that it is to have. Those that choose take c as the condition, which is false
+/// for `else` alone.
 #[derive(Clone, Copy)]
 pub struct Row<'t> {
     pub width: u32,
@@ -28,6 +32,12 @@ pub struct Row<'t> {
     pub x: u128,
     pub y: u128,
     pub value: u128,
+}
+
+impl Row<'_> {
+    fn c(self) -> bool {
+        self.operator != "else"
+    }
 }
 
 /// What came out.
@@ -72,7 +82,23 @@ fn tried_or_stop(alloc: Global, row: Row<'_>) -> Result<Found, PutStop> {
 fn allowed(alloc: Global, row: Row<'_>, value: u128) -> Result<Option<bool>, PutStop> {
     let mut terms = store_of(alloc, row)?;
     let claim = claim_of(&mut terms, row, value)?;
-    let Ok(blastable) = can_blast(alloc, &terms, claim) else {
+    match settled(alloc, &terms, claim, BUDGET)? {
+        Settled::Breaks(env) => {
+            let same = is_value(alloc, &terms, &env, row)?;
+            Ok(Some(same && is_row(&env, row)))
+        }
+        Settled::Holds(_) => Ok(None),
+        Settled::Spent(_, _) => Err(PutStop::NoMemory),
+    }
+}
+
+/// What is known of a term, with a budget of lemmas. A term that is no truth value, or has memories, is of a wrong sort.
+pub fn settled(alloc: Global, terms: &Terms, claim: TermId, budget: u64) -> Result<Settled, PutStop>
+    requires claim { claim.0 < length terms.now.nodes }
+    requires budget { 0 < budget }
+    ensures settled { IfOk result (IsSettled terms.now claim.0 budget) }
+{
+    let Ok(blastable) = can_blast(alloc, terms, claim) else {
         return Err(PutStop::NoMemory);
     };
     if !blastable {
@@ -82,19 +108,15 @@ fn allowed(alloc: Global, row: Row<'_>, value: u128) -> Result<Option<bool>, Put
         Sort::Truth => {}
         _ => return Err(PutStop::BadSort),
     }
-    match settle(alloc, &terms, claim, BUDGET) {
-        Ok(Settled::Breaks(env)) => {
-            let same = is_value(alloc, &terms, &env, row)?;
-            Ok(Some(same && are_words(&env, row)))
-        }
-        Ok(Settled::Holds(_)) => Ok(None),
-        Ok(Settled::Spent(_, _)) | Err(_) => Err(PutStop::NoMemory),
+    match settle(alloc, terms, claim, budget) {
+        Ok(found) => Ok(found),
+        Err(_) => Err(PutStop::NoMemory),
     }
 }
 
-/// A store with x, y and what the operator gives of them.
+/// A store with x, y, c and what the operator gives of them.
 fn store_of(alloc: Global, row: Row<'_>) -> Result<Terms, PutStop>
-    ensures { IfOk result (λ t. length t.nodes ≡ 3) }
+    ensures { IfOk result (λ t. length t.nodes ≡ 4) }
 {
     let mut terms = names_of(alloc, row.width)?;
     let Some(node) = node_of(row.operator, row.width) else {
@@ -104,9 +126,9 @@ fn store_of(alloc: Global, row: Row<'_>) -> Result<Terms, PutStop>
     Ok(terms)
 }
 
-/// A store with the names x and y, and the terms that are these names.
+/// A store with the names x, y and c, and the terms that are these names.
 fn names_of(alloc: Global, width: u32) -> Result<Terms, PutStop>
-    ensures { IfOk result (λ t. length t.nodes ≡ 2) }
+    ensures { IfOk result (λ t. length t.nodes ≡ 3) }
 {
     let Ok(mut terms) = Terms::new(alloc) else {
         return Err(PutStop::NoMemory);
@@ -117,16 +139,21 @@ fn names_of(alloc: Global, width: u32) -> Result<Terms, PutStop>
     let Ok(second) = String::from_str(alloc, "y") else {
         return Err(PutStop::NoMemory);
     };
+    let Ok(third) = String::from_str(alloc, "c") else {
+        return Err(PutStop::NoMemory);
+    };
     let x = terms.declare(first, Sort::Word(width))?;
     let y = terms.declare(second, Sort::Word(width))?;
+    let c = terms.declare(third, Sort::Truth)?;
     terms.put(Node::Name(x))?;
     terms.put(Node::Name(y))?;
+    terms.put(Node::Name(c))?;
     Ok(terms)
 }
 
 /// The term of an operator on x and y. Those on one word take x.
 fn node_of(operator: &str, width: u32) -> Option<Node>
-    ensures { IfSome result (λ n. (g : Graph) → IsOver g 2 n) }
+    ensures { IfSome result (λ n. (g : Graph) → IsOver g 3 n) }
 {
     match operator {
         "not" => Some(Node::Not(X)),
@@ -148,16 +175,17 @@ fn node_of(operator: &str, width: u32) -> Option<Node>
         "concat" => Some(Node::Concat(X, Y)),
         "zext" => Some(Node::Zext(128, X)),
         "sext" => Some(Node::Sext(128, X)),
+        "if" | "else" => Some(Node::Ite(C, X, Y)),
         "top" => Some(Node::Extract(width.saturating_sub(1), width.saturating_sub(1), X)),
         _ => None,
     }
 }
 
-/// The claim that x and y are not the row's words, or the operator does not have a value of them.
+/// The claim that x, y and c are not the row's values, or the operator does not have a value of them.
 fn claim_of(terms: &mut Terms, row: Row<'_>, value: u128) -> Result<TermId, PutStop>
-    requires { length terms.old.nodes ≡ 3 }
+    requires { length terms.old.nodes ≡ 4 }
     ensures id { IfOk result (λ id. id.0 < length terms.new.nodes) }
-    ensures room { OnOk result (2 < length terms.new.nodes) }
+    ensures room { OnOk result (3 < length terms.new.nodes) }
 {
     let wanted = match terms.sort(RESULT) {
         Sort::Truth => Node::Truth(value == 1),
@@ -170,23 +198,27 @@ fn claim_of(terms: &mut Terms, row: Row<'_>, value: u128) -> Result<TermId, PutS
     let is_x = terms.put(Node::Eq(X, first))?;
     let is_y = terms.put(Node::Eq(Y, second))?;
     let is_wanted = terms.put(Node::Eq(RESULT, third))?;
+    let is_c = if row.c() { C } else { terms.put(Node::Not(C))? };
     let are_words = terms.put(Node::And(is_x, is_y))?;
-    let all = terms.put(Node::And(are_words, is_wanted))?;
+    let are_values = terms.put(Node::And(are_words, is_c))?;
+    let all = terms.put(Node::And(are_values, is_wanted))?;
     let claim = terms.put(Node::Not(all))?;
     Ok(claim)
 }
 
-/// Whether the values are the row's words.
-fn are_words(env: &Env, row: Row<'_>) -> bool {
-    match (env.values.first(), env.values.last()) {
-        (Some(Value::Number(x)), Some(Value::Number(y))) => *x == row.x && *y == row.y,
+/// Whether the values are the row's.
+fn is_row(env: &Env, row: Row<'_>) -> bool {
+    match env.values.as_slice() {
+        [Value::Number(x), Value::Number(y), Value::Truth(c)] => *x == row.x
+            && *y == row.y
+            && *c == row.c(),
         _ => false,
     }
 }
 
 /// Whether the operator has the row's value under an environment.
 fn is_value(alloc: Global, terms: &Terms, env: &Env, row: Row<'_>) -> Result<bool, PutStop>
-    requires terms { 2 < length terms.now.nodes }
+    requires terms { 3 < length terms.now.nodes }
     requires fits { Fits terms.now env.now }
 {
     let Ok(mut scratch) = Scratch::new(alloc, terms) else {

@@ -1,8 +1,9 @@
-//! Rows of operators on two words: what the evaluator gives, and what the formula of a claim on it allows. The rows are read
-//! from standard input; what differs is printed, and how many there were.
+//! Rows of operators on two words: what the evaluator gives, and what the formula of a claim on it allows; and rows of products of
+//! sums. The rows are read from standard input; what differs is printed, and how many there were.
 #![tactic(auto)]
 
 mod claims;
+mod products;
 mod rows;
 
 use rows::Table;

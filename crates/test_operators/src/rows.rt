@@ -1,7 +1,9 @@
 //! A table of rows, line by line: `WIDTH OPERATOR X Y VALUE`, where X and Y are words of the width and VALUE is what the operator gives,
-//! a truth value as 0 or 1. Empty lines and those that begin with `#` are skipped.
+//! a truth value as 0 or 1; and `WIDTH product BUDGET ANSWER`, where ANSWER is what is known of x * (y + z) = x * y + x * z. Empty lines
+//! and those that begin with `#` are skipped.
 
 use crate::claims::{Found, Row, tried};
+use crate::products::answer;
 use std::alloc::{AllocError, Global};
 
 /// How many rows there were, and how many of them came out otherwise.
@@ -29,9 +31,11 @@ impl Table {
             return Ok(None);
         }
         self.rows = self.rows.saturating_add(1);
-        let told = match row_of(line) {
-            Some(row) => told_of(tried(alloc, row)),
-            None => "is no row",
+        let told = match (row_of(line), product_of(line)) {
+            (Some(row), _) => told_of(tried(alloc, row)),
+            (None, Some(row)) if answer(alloc, row.width, row.budget) == row.answer => "",
+            (None, Some(_)) => "is answered otherwise",
+            (None, None) => "is no row",
         };
         if told.is_empty() {
             return Ok(None);
@@ -68,5 +72,27 @@ fn row_of(line: &str) -> Option<Row<'_>> {
         x,
         y,
         value,
+    })
+}
+
+/// A row of a product of a sum.
+struct Product<'t> {
+    width: u32,
+    budget: u64,
+    answer: &'t str,
+}
+
+fn product_of(line: &str) -> Option<Product<'_>> {
+    let mut words = line.split_whitespace();
+    let width = words.next()?.parse::<u32>().ok()?;
+    if words.next()? != "product" {
+        return None;
+    }
+    let budget = words.next()?.parse::<u64>().ok()?;
+    let answer = words.next()?;
+    Some(Product {
+        width,
+        budget,
+        answer,
     })
 }

@@ -11,27 +11,27 @@ use Rattle.v_lex.specs.Walk.{Reading, first_reading, Outcome, then, with_bad_dir
 
 -- ---- what the walk knows after some parts
 
-abbrev reading_after : List Part → Reading
+abbrev pub reading_after : List Part → Reading
 reading_after ps = record { macros = macro_after ps; conditionals = open_after ps; tokens = tokens_read ps; behind_zero = is_zero_last ps; used = bytes_used ps; has_bad_directive = has_bad_directive ps; has_left_out = has_excluded ps }
 
-abbrev ending : (bad passed : Bool) → Option Refusal
+abbrev pub ending : (bad passed : Bool) → Option Refusal
 ending bad passed = cond bad (Some bad_token) (cond passed (Some bad_directive) None)
 
 -- why the reading ends within those parts, if it does
-abbrev ended_by : List Part → Option Refusal
+abbrev pub ended_by : List Part → Option Refusal
 ended_by ps = ending (has_bad_token ps) (passes_limit ps)
 
-abbrev unless_ended : Option Refusal → Reading → Outcome
+abbrev pub unless_ended : Option Refusal → Reading → Outcome
 unless_ended None r = Ok r
 unless_ended (Some k) r = Err k
 
-abbrev outcome_after : List Part → Outcome
+abbrev pub outcome_after : List Part → Outcome
 outcome_after ps = unless_ended (ended_by ps) (reading_after ps)
 
-abbrev Stays : (List Part → List Part) → Type 0
+abbrev pub Stays : (List Part → List Part) → Type 0
 Stays more = (ps : List Part) (k : Refusal) → ended_by ps ≡ Some k → ended_by (more ps) ≡ Some k
 
-abbrev Joins : (Reading → Outcome) → (List Part → List Part) → Type 0
+abbrev pub Joins : (Reading → Outcome) → (List Part → List Part) → Type 0
 Joins read more = (ps : List Part) → ended_by ps ≡ None → read (reading_after ps) ≡ outcome_after (more ps)
 
 lifted_by : (read : Reading → Outcome) (more : List Part → List Part) → Joins read more → Stays more → (ps : List Part) (o : Option Refusal) → ended_by ps ≡ o
@@ -131,7 +131,7 @@ limit_stays p ps e =
 
 -- ---- a part more
 
-part_stays : (p : Part) → Stays (λ ps. p ∷ ps)
+pub part_stays : (p : Part) → Stays (λ ps. p ∷ ps)
 unfolding has_bad_token
 part_stays p ps k e = stay (has_bad_token ps) (passes_limit ps) (is_bad_token p ps) (passes_limit (p ∷ ps)) k (limit_stays p ps) e
 
@@ -146,7 +146,7 @@ quiet p ps r e x same is =
     ap (λ (s : Reading). Ok s) is
     ∙ sym (ap (λ (o : Option Refusal). unless_ended o (reading_after (p ∷ ps))) (still_calm p ps e x (same ∙ (not_ended (has_bad_token ps) (passes_limit ps) e).1)))
 
-stray_ends : (ps : List Part) → ended_by ps ≡ None → ended_by (stray ∷ ps) ≡ Some bad_token
+pub stray_ends : (ps : List Part) → ended_by ps ≡ None → ended_by (stray ∷ ps) ≡ Some bad_token
 unfolding has_bad_token
 stray_ends ps e =
     let calm_so = not_ended (has_bad_token ps) (passes_limit ps) e in
@@ -203,10 +203,10 @@ token_joins t ps e =
 -- ---- the use of a macro
 
 -- the reading after a use of a macro, by the macro's text
-abbrev after_use : Option (List ℕ) → Reading → Reading
+abbrev pub after_use : Option (List ℕ) → Reading → Reading
 after_use o r = record { macros = r.macros; conditionals = r.conditionals; tokens = r.tokens; behind_zero = r.behind_zero; used = plus_length r.used o; has_bad_directive = not (is_defined o) || r.has_bad_directive; has_left_out = r.has_left_out }
 
-use_is : (n : List ℕ) (ps : List Part) (o : Option (List ℕ)) → macro_after ps n ≡ o → after_use o (reading_after ps) ≡ reading_after (piece (use_of n) ∷ ps)
+pub use_is : (n : List ℕ) (ps : List Part) (o : Option (List ℕ)) → macro_after ps n ≡ o → after_use o (reading_after ps) ≡ reading_after (piece (use_of n) ∷ ps)
 unfolding tokens_read bytes_used macro_after open_after is_zero_last is_bad_directive has_bad_directive has_excluded
 use_is n ps o is = ap (λ (x : Option (List ℕ)). after_use x (reading_after ps)) (sym is)
 
@@ -244,7 +244,7 @@ use_joins read expand joins stays n ps (Some text) e is = text_used read expand 
 
 -- ---- a piece
 
-piece_joins : (read : List ℕ → Reading → Outcome) (expand : List ℕ → List Part → List Part) → ((text : List ℕ) → Joins (read text) (expand text)) → ((text : List ℕ) → Stays (expand text))
+pub piece_joins : (read : List ℕ → Reading → Outcome) (expand : List ℕ → List Part → List Part) → ((text : List ℕ) → Joins (read text) (expand text)) → ((text : List ℕ) → Stays (expand text))
     → (p : Piece) → Joins (with_piece read p) (with_next expand p)
 unfolding with_piece begun continued ended passes_limit tokens_read bytes_used macro_after open_after is_zero_last is_bad_directive has_bad_directive has_excluded
 piece_joins read expand joins stays nothing ps e = quiet (piece nothing) ps _ e refl refl refl
@@ -264,7 +264,7 @@ use_stays : (expand : List ℕ → List Part → List Part) → ((text : List �
 use_stays expand stays n None ps k e = part_stays (piece (use_of n)) ps k e
 use_stays expand stays n (Some text) ps k e = stays text (piece (use_of n) ∷ ps) k (part_stays (piece (use_of n)) ps k e)
 
-piece_stays : (expand : List ℕ → List Part → List Part) → ((text : List ℕ) → Stays (expand text)) → (p : Piece) → Stays (with_next expand p)
+pub piece_stays : (expand : List ℕ → List Part → List Part) → ((text : List ℕ) → Stays (expand text)) → (p : Piece) → Stays (with_next expand p)
 piece_stays expand stays (use_of n) ps k e = use_stays expand stays n (macro_after ps n) ps k e
 piece_stays expand stays p ps k e = part_stays (piece p) ps k e
 
@@ -275,7 +275,7 @@ front_stays : (u : Bool) (expand : List ℕ → List Part → List Part) → ((t
 front_stays u expand stays bs more (Some f) ps k e = more f.1 (with_next expand f.0 ps) k (piece_stays expand stays f.0 ps k e)
 front_stays u expand stays bs more None ps k e = more 0 (stray ∷ ps) k (part_stays stray ps k e)
 
-parts_stay : (u : Bool) (expand : List ℕ → List Part → List Part) → ((text : List ℕ) → Stays (expand text)) → (n : ℕ) (text : List ℕ) → Stays (with_parts u expand n text)
+pub parts_stay : (u : Bool) (expand : List ℕ → List Part → List Part) → ((text : List ℕ) → Stays (expand text)) → (n : ℕ) (text : List ℕ) → Stays (with_parts u expand n text)
 unfolding with_parts
 parts_stay u expand stays n [] ps k e = e
 parts_stay u expand stays (suc n) (b ∷ bs) ps k e = parts_stay u expand stays n bs ps k e
@@ -290,19 +290,19 @@ front_joins u read expand joins stays bs more (Some f) ps e =
 front_joins u read expand joins stays bs more None ps e =
     sym (ap (λ (o : Option Refusal). unless_ended o (reading_after (with_parts u expand 0 bs (stray ∷ ps)))) (parts_stay u expand stays 0 bs (stray ∷ ps) bad_token (stray_ends ps e)))
 
-text_joins : (u : Bool) (read : List ℕ → Reading → Outcome) (expand : List ℕ → List Part → List Part) → ((text : List ℕ) → Joins (read text) (expand text)) → ((text : List ℕ) → Stays (expand text))
+pub text_joins : (u : Bool) (read : List ℕ → Reading → Outcome) (expand : List ℕ → List Part → List Part) → ((text : List ℕ) → Joins (read text) (expand text)) → ((text : List ℕ) → Stays (expand text))
     → (n : ℕ) (text : List ℕ) → Joins (text_from u read n text) (with_parts u expand n text)
 unfolding text_from with_parts front_at front_after
 text_joins u read expand joins stays n [] ps e = sym (ap (λ (o : Option Refusal). unless_ended o (reading_after ps)) e)
 text_joins u read expand joins stays (suc n) (b ∷ bs) ps e = text_joins u read expand joins stays n bs ps e
 text_joins u read expand joins stays zero (b ∷ bs) ps e = front_joins u read expand joins stays bs (λ m. text_joins u read expand joins stays m bs) (front_after ps u b bs) ps e
 
-macro_stays : (levels : ℕ) (text : List ℕ) → Stays (with_macro_text levels text)
+pub macro_stays : (levels : ℕ) (text : List ℕ) → Stays (with_macro_text levels text)
 unfolding with_macro_text
 macro_stays zero text ps k e = part_stays nested_use ps k e
 macro_stays (suc levels) text ps k e = parts_stay true (with_macro_text levels) (macro_stays levels) 0 text ps k e
 
-macro_joins : (levels : ℕ) (text : List ℕ) → Joins (macro_read levels text) (with_macro_text levels text)
+pub macro_joins : (levels : ℕ) (text : List ℕ) → Joins (macro_read levels text) (with_macro_text levels text)
 unfolding macro_read with_macro_text passes_limit tokens_read bytes_used macro_after open_after is_zero_last is_bad_directive has_bad_directive has_excluded
 macro_joins zero text ps e = quiet nested_use ps (with_bad_directive (reading_after ps)) e refl refl refl
 macro_joins (suc levels) text ps e = text_joins true (macro_read levels) (with_macro_text levels) (macro_joins levels) (macro_stays levels) 0 text ps e
@@ -315,7 +315,7 @@ file_stays f ps k e =
     part_stays end_of_file (with_parts false (with_macro_text 64) 0 (without_byte_order_mark f) ps) k
     (parts_stay false (with_macro_text 64) (macro_stays 64) 0 (without_byte_order_mark f) ps k e)
 
-files_stay : (fs : List (List ℕ)) → Stays (with_files fs)
+pub files_stay : (fs : List (List ℕ)) → Stays (with_files fs)
 unfolding with_files
 files_stay [] ps k e = e
 files_stay (f ∷ fs) ps k e = files_stay fs (with_file f ps) k (file_stays f ps k e)
@@ -329,7 +329,7 @@ answered_by true l x y k e = ap refused_by e
 answered_by false true x y k e = ap refused_by e
 answered_by false false x y k e = absurd cc
 
-ended_answer : (ps : List Part) (k : Refusal) → ended_by ps ≡ Some k → answer_of ps ≡ Err k
+pub ended_answer : (ps : List Part) (k : Refusal) → ended_by ps ≡ Some k → answer_of ps ≡ Err k
 unfolding answer_of
 ended_answer ps k e = answered_by (has_bad_token ps) (passes_limit ps) (has_bad_directive ps) _ k e
 
@@ -348,7 +348,7 @@ judged_opened : (r : Reading) → judged r ≡ judged (opened r)
 unfolding judged opened
 judged_opened r = refl
 
-closed_after : (ps : List Part) → opened (closed (reading_after ps)) ≡ reading_after (end_of_file ∷ ps)
+pub closed_after : (ps : List Part) → opened (closed (reading_after ps)) ≡ reading_after (end_of_file ∷ ps)
 unfolding closed tokens_read bytes_used macro_after open_after is_zero_last is_bad_directive has_bad_directive has_excluded
 closed_after ps = end_of_all (open_after ps) (reading_after ps)
 
@@ -375,11 +375,11 @@ files_join (f ∷ fs) r ps is e =
     (text_joins false (macro_read 64) (with_macro_text 64) (macro_joins 64) (macro_stays 64) 0 (without_byte_order_mark f) ps e)
     ∙ next_files fs (inside f ps) (ended_by (inside f ps)) refl (files_join fs)
 
-nothing_ended : ended_by [] ≡ None
+pub nothing_ended : ended_by [] ≡ None
 unfolding has_bad_token passes_limit tokens_read bytes_used most_tokens most_used
 nothing_ended = refl
 
-nothing_read : opened first_reading ≡ reading_after []
+pub nothing_read : opened first_reading ≡ reading_after []
 unfolding opened tokens_read bytes_used macro_after open_after is_zero_last has_bad_directive has_excluded
 nothing_read = refl
 

@@ -11,3 +11,4 @@ pub mod Quotes
 pub mod Sited
 pub mod Marks
 pub mod Joined
+pub mod Located

@@ -6,6 +6,7 @@ pub mod Notes
 pub mod Answer
 pub mod Places
 pub mod Sites
+pub mod Spots
 pub mod Sited
 pub mod Placed
 pub mod Walk

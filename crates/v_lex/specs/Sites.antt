@@ -1,4 +1,4 @@
--- Where the tokens of files are read: what the reading of the files comes to, with the places of what it reads.
+-- What the walk over the files comes to, with the places of what it reads.
 use Rattle.std.specs.Prelude.{ℕ, zero, suc, ◌+◌, ◌-◌, Bool, true, false, cond, List, [], ◌∷◌, ◌++◌, length, take, Option, Some, None, Ok, Err}
 use Rattle.wb_values.specs.Value.{Name, same_name}
 use Rattle.verilog_text.specs.Lexical.{Piece, token, define, undefine, use_of, Front}
@@ -79,6 +79,6 @@ unfoldable pub files_sites : (number : ℕ) → List (List ℕ) → Reading → 
 files_sites number [] r s = s
 files_sites number (f ∷ fs) r s = sites_on (file_read f r) (files_sites (suc number) fs) (file_sites number f r s)
 
--- Where each token of the files is read, in order, and how many bytes it has.
-unfoldable pub spots_in : List (List ℕ) → List Spot
-spots_in files = (files_sites 0 files first_reading first_sites).tokens
+-- where each token of the files is read on this walk
+unfoldable pub walked_spots : List (List ℕ) → List Spot
+walked_spots files = (files_sites 0 files first_reading first_sites).tokens

@@ -8,7 +8,8 @@ ghost use Rattle.v_lex.specs.Walk.{judged, walked};
 ghost use Rattle.v_lex.specs.Reading.{reading_of, IsRead};
 ghost use Rattle.v_lex.specs.Answer.{IsAnswer, IsOfKind};
 ghost use Rattle.v_lex.specs.Notes.{position_from, bytes_at, place_text, word_in, note_of, last_of, note_of_token};
-ghost use Rattle.v_lex.specs.Sites.{spots_in};
+ghost use Rattle.v_lex.specs.Sites.{walked_spots};
+ghost use Rattle.v_lex.specs.Spots.{spots_in};
 ghost use Rattle.v_lex.specs.Sited.{spot_of};
 ghost use Rattle.v_lex.specs.Places.{AreShort, IsSlice, AreInOrder};
 
@@ -77,7 +78,7 @@ fn read<'s>(alloc: Global, files: &'s [Vec<u8>]) -> Result<Vec<Token<'s>>, Stop>
     ensures read { IsRead result (walked (map (λ f. f.items) files.now)) }
     ensures slices { AreShort (map (λ f. f.items) files.now) → IfOk result (λ v. All (IsSlice (map (λ f. f.items) files.now)) v.items) }
     ensures order { AreShort (map (λ f. f.items) files.now) → IfOk result (λ v. AllPairs (AreInOrder (map (λ f. f.items) files.now)) v.items) }
-    ensures places { AreShort (map (λ f. f.items) files.now) → IfOk result (λ v. map spot_of v.items ≡ spots_in (map (λ f. f.items) files.now)) }
+    ensures places { AreShort (map (λ f. f.items) files.now) → IfOk result (λ v. map spot_of v.items ≡ walked_spots (map (λ f. f.items) files.now)) }
 {
     if let Some(place) = broken_text(files) {
         return Err(Stop::Refused(LexKind::NotText, place));
@@ -204,12 +205,11 @@ fn refusal(alloc: Global, files: &[Vec<u8>], kind: LexKind, place: Place) -> Lex
 
 /// The tokens of the files in order (1364-2005, clauses 3 and 19): macros carry over from file to file. Of several broken rules the
 /// first in the order of the kinds is answered, wherever it stands. Each token's text is a slice of its file, the text of what the
-/// token is, and stands where the reading took the token; outside the texts of macros tokens stand in the order of their places. (All
-/// three for at most 2^32 - 1 files of at most 2^32 - 1 bytes.)
+/// token is, and stands where the token is read, in the text of a macro's definition too. (Both for at most 2^32 - 1 files of at most
+/// 2^32 - 1 bytes.)
 pub fn tokens<'s>(alloc: Global, files: &'s [Vec<u8>]) -> Result<Vec<Token<'s>>, LexStop>
     ensures answer { IsAnswer result (tokens_in (map (λ f. f.items) files.now)) }
     ensures slices { AreShort (map (λ f. f.items) files.now) → IfOk result (λ v. All (IsSlice (map (λ f. f.items) files.now)) v.items) }
-    ensures order { AreShort (map (λ f. f.items) files.now) → IfOk result (λ v. AllPairs (AreInOrder (map (λ f. f.items) files.now)) v.items) }
     ensures places { AreShort (map (λ f. f.items) files.now) → IfOk result (λ v. map spot_of v.items ≡ spots_in (map (λ f. f.items) files.now)) }
 {
     match read(alloc, files) {

@@ -7,6 +7,7 @@ mod conditional;
 mod directive;
 mod files;
 mod front;
+pub mod laws;
 mod mark;
 mod nesting;
 mod note;

@@ -1,7 +1,7 @@
 use Rattle.std.proofs.Common.{◌≡◌, map, sym, ap, ◌∙◌}
 use Rattle.std.specs.List.{All, AllPairs}
 use Rattle.v_lex.specs.Places.{IsSlice, AreInOrder}
-use Rattle.v_lex.specs.Sites.{files_sites, spots_in}
+use Rattle.v_lex.specs.Sites.{files_sites, walked_spots}
 use Rattle.v_lex.specs.Sited.{spot_of}
 use Rattle.v_lex.proofs.Placed.{handed_out}
 use Rattle.v_lex.proofs.answer.read.Goals as goal
@@ -17,9 +17,9 @@ returns-clause-order c = λ s.
     handed_out (AllPairs (AreInOrder (map (λ f. f.items) c.args.files.now))) c.judge.result c.read_files.new.self.tokens c.judge.ensures.tokens placed.ordered
 
 pub returns-clause-places : goal.returns-clause-places
-unfolding spots_in
+unfolding walked_spots
 returns-clause-places c = λ s.
     let files = map (λ f. f.items) c.args.files.now in
     let sites = c.in_ok-read_files.ensures.sites s c.new-reader.ensures.reading (c.new-reader.ensures.places files) in
-    handed_out (λ ts. map spot_of ts ≡ spots_in files) c.judge.result c.read_files.new.self.tokens c.judge.ensures.tokens
+    handed_out (λ ts. map spot_of ts ≡ walked_spots files) c.judge.result c.read_files.new.self.tokens c.judge.ensures.tokens
     (sym (ap (λ x. x.tokens) sites) ∙ (λ i. (files_sites 0 files (c.new-reader.ensures.reading i) (c.new-reader.ensures.sites i)).tokens))

@@ -1,6 +1,8 @@
 use Rattle.std.proofs.Common.{map, sym, ◌∙◌}
+use Rattle.v_token.specs.View.{tokens_of}
 use Rattle.v_lex.proofs.Answered.{answered}
 use Rattle.v_lex.proofs.Joined.{walk_gives}
+use Rattle.v_lex.proofs.Located.{spots_are}
 use Rattle.v_lex.proofs.answer.tokens.Goals as goal
 
 pub returns-in-Err-Refused-clause-answer : goal.returns-in-Err-Refused-clause-answer
@@ -9,3 +11,8 @@ returns-in-Err-Refused-clause-answer c =
 
 pub returns-in-Ok-clause-answer : goal.returns-in-Ok-clause-answer
 returns-in-Ok-clause-answer c = sym (walk_gives (map (λ f. f.items) c.args.files.now)) ∙ c.in-Ok.ensures.read
+
+pub returns-in-Ok-clause-places : goal.returns-in-Ok-clause-places
+returns-in-Ok-clause-places c = λ s.
+    let files = map (λ f. f.items) c.args.files.now in
+    c.in-Ok.ensures.places s ∙ spots_are files (tokens_of c.in-Ok.tokens.items) (sym (walk_gives files) ∙ c.in-Ok.ensures.read)

@@ -1,0 +1,16 @@
+//! What holds of the places of tokens, as laws without code.
+
+ghost use Rattle.std.specs.Prelude.{◌≡◌, ℕ, List, []};
+ghost use Rattle.std.specs.List.{AllPairs};
+ghost use Rattle.verilog_text.specs.Text.{with_files};
+ghost use Rattle.v_lex.specs.Spots.{EndsBefore, parts_of, placed_parts, spots_outside};
+
+/// The parts that have places are the parts of the files after expansion.
+pub fn each_part_has_a_place()
+    ensures { (files : List (List ℕ)) → parts_of (placed_parts files) ≡ with_files files [] }
+{}
+
+/// Of two tokens that are read outside the texts of macros the first ends before the second begins, the files in order.
+pub fn places_ascend_outside_macros()
+    ensures { (files : List (List ℕ)) → AllPairs (λ s t. EndsBefore s t.site) (spots_outside (placed_parts files)) }
+{}
