@@ -376,4 +376,4 @@ unfolding spots_outside
 outside_ascends files = files_ascend 0 files [] (record { ordered = none_ordered; before = All-nil (λ s. EndsBefore s (record { file = 0; start = 0 })) })
   where
     none_ordered : AllPairs (λ s t. EndsBefore s t.site) []
-    none_ordered i j d lt within = omega (arith, within)
+    none_ordered i j d lt within = absurd (omega (arith, within))
