@@ -1,19 +1,19 @@
 -- The parts of files with their places are the definition's parts, the walk takes each token where it stands, and outside macros places
 -- ascend.
-use Rattle.std.proofs.Common.{◌≡◌, ℕ, zero, suc, ◌+◌, ◌-◌, ◌<◌, ◌≤◌, Bool, true, false, cond, List, [], ◌∷◌, ◌++◌, length, get_or, take, Option, Some, None, Result, Ok, Err, refl, sym, ap, ◌∙◌, arith, inl, inr, subst}
-use Rattle.std.specs.Prelude.{map, option_map}
+use Rattle.std.proofs.Common.{◌≡◌, ℕ, zero, suc, ◌+◌, ◌-◌, ◌≤◌, Bool, true, false, cond, List, [], ◌∷◌, ◌++◌, length, get_or, take, Option, Some, None, Result, Ok, Err, refl, sym, ap, ◌∙◌, arith, inl, inr, subst}
+use Rattle.std.specs.Prelude.{option_map}
 use Rattle.std.specs.List.{All, AllPairs, list_all}
 use Rattle.std.specs.Str.{is_utf8}
 use Rattle.std.proofs.lemmas.List.Elements.{All-append, All-cons, All-nil}
 use Rattle.std.proofs.lemmas.List.Quantifiers.{all_pairs_push}
 use Rattle.wb_values.specs.Value.{Name, same_name}
 use Rattle.verilog_text.specs.Token.{Token}
-use Rattle.verilog_text.specs.Lexical.{Piece, nothing, token, excluded, misdirected, define, undefine, if_defined, else_if, otherwise, end_if, use_of, Front}
-use Rattle.verilog_text.specs.Text.{Refusal, not_text, Part, piece, stray, nested_use, end_of_file, macro_after, Expansion, with_expansion, with_next, with_front, with_parts, with_macro_text, without_byte_order_mark, with_file, with_files, front_after, answer_of, tokens_in}
-use Rattle.v_lex.specs.Walk.{Reading, first_reading, Outcome, then, with_use, with_piece, front_at, text_from, macro_read, opened, closed, file_read}
-use Rattle.v_lex.specs.Sites.{Site, Spot, Sites, first_sites, moved_on, with_read_at, piece_sites, sites_on, sites_then, sites_from, macro_sites, file_sites, files_sites, walked_spots}
-use Rattle.v_lex.specs.Spots.{PlacedPart, parts_of, PlacedText, text_told, text_after, Placing, with_text_of, with_placed_piece, with_placed_front, with_placed_parts, with_placed_text, front_of_file, inside_file, with_placed_file, with_placed_files, placed_parts, spots_told, spots_read, spots_outside, spots_in, EndsBefore}
-use Rattle.v_lex.proofs.Joined.{reading_after, ended_by, unless_ended, outcome_after, Stays, Joins, after_use, part_stays, stray_ends, use_is, piece_joins, parts_stay, text_joins, macro_stays, macro_joins, files_stay, ended_answer, closed_after, nothing_ended, nothing_read}
+use Rattle.verilog_text.specs.Lexical.{Piece, token, define, undefine, use_of, Front}
+use Rattle.verilog_text.specs.Text.{Refusal, not_text, Part, piece, stray, end_of_file, macro_after, Expansion, with_expansion, with_next, with_front, with_parts, with_macro_text, without_byte_order_mark, with_file, with_files, front_after, answer_of, tokens_in}
+use Rattle.v_lex.specs.Walk.{Reading, first_reading, Outcome, then, with_piece, front_at, text_from, macro_read, opened, closed, file_read}
+use Rattle.v_lex.specs.Sites.{Sites, first_sites, with_read_at, piece_sites, sites_on, sites_then, sites_from, macro_sites, file_sites, files_sites, walked_spots}
+use Rattle.v_lex.specs.Spots.{Site, Spot, moved_on, PlacedPart, parts_of, PlacedText, text_told, text_after, Placing, with_text_of, with_placed_piece, with_placed_front, with_placed_parts, with_placed_text, front_of_file, inside_file, with_placed_file, with_placed_files, placed_parts, spots_read, spots_outside, spots_in, EndsBefore}
+use Rattle.v_lex.proofs.Joined.{reading_after, ended_by, unless_ended, outcome_after, Stays, Joins, part_stays, stray_ends, use_is, piece_joins, parts_stay, text_joins, macro_stays, macro_joins, files_stay, ended_answer, closed_after, nothing_ended, nothing_read}
 
 -- ---- they are the definition's parts
 
@@ -153,7 +153,7 @@ record Walking (read : List ℕ → Reading → Outcome) (add : Adding) (place :
 
 front_adds : (m : Bool) (read : List ℕ → Reading → Outcome) (add : Adding) (place : Placing) (expand : Expansion) → Walking read add place expand → (at : Site) (bs : List ℕ)
     → ((k : ℕ) (qs : List PlacedPart) → ended_by (parts_of qs) ≡ None → ended_by (parts_of (with_placed_parts m place k (moved_on 1 at) bs qs)) ≡ None
-      → sites_from m read add k (moved_on 1 at) bs (reading_after (parts_of qs)) (sites_after qs) ≡ sites_after (with_placed_parts m place k (moved_on 1 at) bs qs))
+    → sites_from m read add k (moved_on 1 at) bs (reading_after (parts_of qs)) (sites_after qs) ≡ sites_after (with_placed_parts m place k (moved_on 1 at) bs qs))
     → (f : Front) (ps : List PlacedPart) → ended_by (parts_of ps) ≡ None
     → ended_by (parts_of (with_placed_front m place f at bs ps (λ k qs. with_placed_parts m place k (moved_on 1 at) bs qs))) ≡ None
     → sites_then read add f at bs (reading_after (parts_of ps)) (sites_after ps) (λ k r t. sites_from m read add k (moved_on 1 at) bs r t)
@@ -330,7 +330,7 @@ piece_ascends place keeps p file start count ps a = raised file start (start + c
 
 front_ascends : (place : Placing) → KeepsOutside place → (file start : ℕ) (bs : List ℕ)
     → ((k : ℕ) (qs : List PlacedPart) → IsAscending file (start + 1 + length (take k bs)) (spots_outside qs)
-      → IsAscending file (start + 1 + length bs) (spots_outside (with_placed_parts false place k (record { file = file; start = start + 1 }) bs qs)))
+    → IsAscending file (start + 1 + length bs) (spots_outside (with_placed_parts false place k (record { file = file; start = start + 1 }) bs qs)))
     → (f : Front) (ps : List PlacedPart) → IsAscending file start (spots_outside ps)
     → IsAscending file (start + 1 + length bs)
     (spots_outside (with_placed_front false place f (record { file = file; start = start }) bs ps (λ k qs. with_placed_parts false place k (record { file = file; start = start + 1 }) bs qs)))

@@ -16,7 +16,8 @@ use Rattle.v_token.specs.declared.token.Token.{Token}
 use Rattle.v_lex.specs.View.{piece_of}
 use Rattle.v_lex.specs.Reading.{reading_of, front_in, text_in, text_under, IsTaken}
 use Rattle.v_lex.specs.Placed.{flat, span_under, Keeps, IsUse}
-use Rattle.v_lex.specs.Sites.{Site, Sites, moved_on, with_text, with_spot, with_read_at, piece_sites, sites_on, sites_then, sites_from, macro_sites, file_sites, files_sites}
+use Rattle.v_lex.specs.Sites.{Sites, with_text, with_spot, with_read_at, piece_sites, sites_on, sites_then, sites_from, macro_sites, file_sites, files_sites}
+use Rattle.v_lex.specs.Spots.{Site, moved_on}
 use Rattle.v_lex.specs.Sited.{site_of, spot_of, sites_of, LeavesSites}
 use Rattle.v_lex.proofs.Turns.{front_found}
 use Rattle.v_lex.specs.declared.piece.Piece.{Piece}

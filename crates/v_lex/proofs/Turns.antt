@@ -1,5 +1,5 @@
 -- Turns over the pieces of a text.
-use Rattle.std.proofs.Common.{◌≡◌, ℕ, zero, suc, ◌-◌, ◌<◌, Bool, true, List, [], ◌∷◌, length, get_or, take, drop, map, Option, Some, None, Ok, Err, refl, sym, ap, ◌∙◌, arith}
+use Rattle.std.proofs.Common.{◌≡◌, ℕ, zero, suc, ◌-◌, ◌<◌, Bool, true, List, [], ◌∷◌, length, get_or, drop, map, Option, Some, None, Ok, Err, refl, sym, ap, ◌∙◌, arith}
 use Rattle.std.specs.Prelude.{option_map, Vec}
 use Rattle.std.specs.Global.{Global}
 use Rattle.std.proofs.lemmas.List.{length-drop}
@@ -127,29 +127,3 @@ files_on (x ∷ vs) zero n v bytes r s lt m is b e =
 files_on (x ∷ vs) (suc k) n v bytes r s lt m is b e =
     files_on vs k (suc k) v bytes r s (omega (arith, lt)) refl is b e
     ∙ sym (ap (λ (i : ℕ). files_read (map (λ f. f.items) (drop i (x ∷ vs))) s) m)
-
--- the readings behind one file more
-to_next : (fs gs : List (List ℕ)) (r s : Reading) (o : Outcome) → ((q : Reading) → files_read fs q ≡ Ok r → files_read gs q ≡ Ok s) → then o (files_read fs) ≡ Ok r → then o (files_read gs) ≡ Ok s
-to_next fs gs r s (Ok q) more e = more q e
-to_next fs gs r s (Err k) more e = absurd cc
-
-abbrev read_or : Reading → Outcome → Reading
-read_or d (Ok r) = r
-read_or d (Err k) = d
-
-pub files_to : (vs : List (Vec ℕ Global)) (k n : ℕ) (v : Vec ℕ Global) (bytes : List ℕ) (q r s : Reading) → k < length vs → n ≡ suc k → v ≡ get_or vs k v → bytes ≡ v.items
-    → files_read (take k (map (λ f. f.items) vs)) q ≡ Ok r → file_read bytes r ≡ Ok s → files_read (take n (map (λ f. f.items) vs)) q ≡ Ok s
-unfolding files_read
-files_to [] k n v bytes q r s lt m is b before e = absurd (none lt)
-  where
-    none : k < 0 → ⊥
-    none h = omega (arith, h)
-files_to (x ∷ vs) zero n v bytes q r s lt m is b before e =
-    ap (λ (i : ℕ). files_read (take i (map (λ f. f.items) (x ∷ vs))) q) m
-    ∙ ap (λ (t : List ℕ). then (file_read t q) (λ y. Ok y)) (ap (λ f. f.items) (sym is) ∙ sym b)
-    ∙ ap (λ (y : Reading). then (file_read bytes y) (λ z. Ok z)) (ap (read_or q) before)
-    ∙ ap (λ (o : Outcome). then o (λ z. Ok z)) e
-files_to (x ∷ vs) (suc k) n v bytes q r s lt m is b before e =
-    ap (λ (i : ℕ). files_read (take i (map (λ f. f.items) (x ∷ vs))) q) m
-    ∙ to_next (take k (map (λ f. f.items) vs)) (take (suc k) (map (λ f. f.items) vs)) r s (file_read x.items q)
-    (λ p h. files_to vs k (suc k) v bytes p r s (omega (arith, lt)) refl is b h e) before

@@ -5,8 +5,8 @@ pub mod Nesting
 pub mod Notes
 pub mod Answer
 pub mod Places
-pub mod Sites
 pub mod Spots
+pub mod Sites
 pub mod Sited
 pub mod Placed
 pub mod Walk

@@ -4,7 +4,8 @@ use Rattle.v_lex.specs.Walk.{Reading}
 use Rattle.v_token.specs.declared.token.Token.{Token}
 use Rattle.v_lex.specs.Reading.{reading_of}
 use Rattle.v_lex.specs.Placed.{span_under}
-use Rattle.v_lex.specs.Sites.{Site, Spot, Sites}
+use Rattle.v_lex.specs.Sites.{Sites}
+use Rattle.v_lex.specs.Spots.{Site, Spot}
 use Rattle.v_lex.specs.declared.piece.Piece.{Piece}
 use Rattle.v_lex.specs.declared.piece.Piece.TheVariants as code
 use Rattle.v_lex.specs.declared.place.Place.{Place}

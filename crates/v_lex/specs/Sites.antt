@@ -1,19 +1,10 @@
 -- What the walk over the files comes to, with the places of what it reads.
-use Rattle.std.specs.Prelude.{ℕ, zero, suc, ◌+◌, ◌-◌, Bool, true, false, cond, List, [], ◌∷◌, ◌++◌, length, take, Option, Some, None, Ok, Err}
+use Rattle.std.specs.Prelude.{ℕ, zero, suc, ◌-◌, Bool, true, false, cond, List, [], ◌∷◌, ◌++◌, length, take, Option, Some, None, Ok, Err}
 use Rattle.wb_values.specs.Value.{Name, same_name}
 use Rattle.verilog_text.specs.Lexical.{Piece, token, define, undefine, use_of, Front}
 use Rattle.verilog_text.specs.Text.{without_byte_order_mark}
+use Rattle.v_lex.specs.Spots.{Site, Spot, moved_on}
 use Rattle.v_lex.specs.Walk.{Reading, Outcome, first_reading, opened, with_use, with_piece, front_at, macro_read, file_read}
-
--- a file by its number, and a byte in it
-pub record Site : Type 0 where
-  pub file : ℕ
-  pub start : ℕ
-
--- where a token was read, and how many bytes it has
-pub record Spot : Type 0 where
-  pub site : Site
-  pub count : ℕ
 
 -- What is known of places behind a part of the files: where the texts of the macros stand, and where the tokens so far were read, in order.
 pub record Sites : Type 0 where
@@ -22,10 +13,6 @@ pub record Sites : Type 0 where
 
 abbrev pub first_sites : Sites
 first_sites = record { texts = λ n. None; tokens = [] }
-
--- so many bytes on
-abbrev pub moved_on : ℕ → Site → Site
-moved_on n at = record { file = at.file; start = at.start + n }
 
 abbrev pub with_text : Name → Option Site → Sites → Sites
 with_text n at s = record { texts = λ q. cond (same_name n q) at (s.texts q); tokens = s.tokens }

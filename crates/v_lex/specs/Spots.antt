@@ -3,7 +3,20 @@ use Rattle.std.specs.Prelude.{ℕ, zero, suc, ◌+◌, ◌-◌, ◌<◌, ◌≤�
 use Rattle.wb_values.specs.Value.{Name, same_name}
 use Rattle.verilog_text.specs.Lexical.{Piece, token, define, undefine, use_of, Front}
 use Rattle.verilog_text.specs.Text.{Part, piece, stray, nested_use, end_of_file, front_after, without_byte_order_mark}
-use Rattle.v_lex.specs.Sites.{Site, Spot, moved_on}
+
+-- a file by its number, and a byte in it
+pub record Site : Type 0 where
+  pub file : ℕ
+  pub start : ℕ
+
+-- where a token was read, and how many bytes it has
+pub record Spot : Type 0 where
+  pub site : Site
+  pub count : ℕ
+
+-- so many bytes on
+abbrev pub moved_on : ℕ → Site → Site
+moved_on n at = record { file = at.file; start = at.start + n }
 
 -- A part, the bytes that it takes, and whether it is read in the text of a macro. That text stands in its definition.
 pub record PlacedPart : Type 0 where

@@ -1,7 +1,7 @@
 //! The tokens of files, or why they are refused.
 
 ghost use Rattle.std.specs.Prelude.{◌≡◌, ◌++◌, ℕ, List, length, min, map, not, is_some, string_bytes, IfOk, IfSome};
-ghost use Rattle.std.specs.List.{list_all, All, AllPairs};
+ghost use Rattle.std.specs.List.{list_all, All};
 ghost use Rattle.std.specs.Str.{is_utf8};
 ghost use Rattle.verilog_text.specs.Text.{tokens_in};
 ghost use Rattle.v_lex.specs.Walk.{judged, walked};
@@ -11,7 +11,7 @@ ghost use Rattle.v_lex.specs.Notes.{position_from, bytes_at, place_text, word_in
 ghost use Rattle.v_lex.specs.Sites.{walked_spots};
 ghost use Rattle.v_lex.specs.Spots.{spots_in};
 ghost use Rattle.v_lex.specs.Sited.{spot_of};
-ghost use Rattle.v_lex.specs.Places.{AreShort, IsSlice, AreInOrder};
+ghost use Rattle.v_lex.specs.Places.{AreShort, IsSlice};
 
 use crate::nesting::too_deep;
 use crate::note::Note;
@@ -77,7 +77,6 @@ fn judge<'s>(alloc: Global, reader: Reader<'s>) -> Result<Vec<Token<'s>>, Stop>
 fn read<'s>(alloc: Global, files: &'s [Vec<u8>]) -> Result<Vec<Token<'s>>, Stop>
     ensures read { IsRead result (walked (map (λ f. f.items) files.now)) }
     ensures slices { AreShort (map (λ f. f.items) files.now) → IfOk result (λ v. All (IsSlice (map (λ f. f.items) files.now)) v.items) }
-    ensures order { AreShort (map (λ f. f.items) files.now) → IfOk result (λ v. AllPairs (AreInOrder (map (λ f. f.items) files.now)) v.items) }
     ensures places { AreShort (map (λ f. f.items) files.now) → IfOk result (λ v. map spot_of v.items ≡ walked_spots (map (λ f. f.items) files.now)) }
 {
     if let Some(place) = broken_text(files) {

@@ -52,7 +52,7 @@ fn end_of(number: u32, bytes: &[u8]) -> Place {
 impl<'s> Reader<'s> {
     pub(crate) fn new(alloc: Global) -> Reader<'s>
         ensures reading { reading_of result ≡ first_reading }
-        ensures places { (files : List (List ℕ)) → IsReaderPlaced files 0 0 result }
+        ensures places { (files : List (List ℕ)) → IsReaderPlaced files result }
         ensures sites { sites_of result ≡ first_sites }
     {
         Reader {
@@ -87,8 +87,8 @@ impl<'s> Reader<'s> {
     #[tactic(auto, unfolding(crate::specs::Walk::file_read))]
     fn read_file(&mut self, number: u32, bytes: &'s [u8]) -> Result<(), Stop>
         ensures outcome { IsOutcome result (reading_of self.new) (file_read bytes.now (reading_of self.old)) }
-        ensures places { (files : List (List ℕ)) → AreShort files → slice_get files number ≡ Some bytes.now → files_read (take number files) first_reading ≡ Ok (reading_of self.old) → IsReaderPlaced files number 0 self.old → IfOk result (λ _. IsReaderPlaced files number (length bytes.now) self.new) }
-        ensures sites { (files : List (List ℕ)) → AreShort files → slice_get files number ≡ Some bytes.now → files_read (take number files) first_reading ≡ Ok (reading_of self.old) → IsReaderPlaced files number 0 self.old → IfOk result (λ _. file_sites number bytes.now (reading_of self.old) (sites_of self.old) ≡ sites_of self.new) }
+        ensures places { (files : List (List ℕ)) → AreShort files → slice_get files number ≡ Some bytes.now → IsReaderPlaced files self.old → IfOk result (λ _. IsReaderPlaced files self.new) }
+        ensures sites { (files : List (List ℕ)) → AreShort files → slice_get files number ≡ Some bytes.now → IsReaderPlaced files self.old → IfOk result (λ _. file_sites number bytes.now (reading_of self.old) (sites_of self.old) ≡ sites_of self.new) }
     {
         self.begin_file();
         self.read_text(64, false, file_span(number, bytes))?;
@@ -99,8 +99,8 @@ impl<'s> Reader<'s> {
     #[tactic(auto, unfolding(crate::specs::Walk::files_read))]
     pub(crate) fn read_files(&mut self, files: &'s [Vec<u8>]) -> Result<(), Stop>
         ensures outcome { IsOutcome result (reading_of self.new) (files_read (map (λ f. f.items) files.now) (reading_of self.old)) }
-        ensures places { AreShort (map (λ f. f.items) files.now) → reading_of self.old ≡ first_reading → IsReaderPlaced (map (λ f. f.items) files.now) 0 0 self.old → IfOk result (λ _. IsReaderPlaced (map (λ f. f.items) files.now) (length files.now) 0 self.new) }
-        ensures sites { AreShort (map (λ f. f.items) files.now) → reading_of self.old ≡ first_reading → IsReaderPlaced (map (λ f. f.items) files.now) 0 0 self.old → IfOk result (λ _. files_sites 0 (map (λ f. f.items) files.now) (reading_of self.old) (sites_of self.old) ≡ sites_of self.new) }
+        ensures places { AreShort (map (λ f. f.items) files.now) → IsReaderPlaced (map (λ f. f.items) files.now) self.old → IfOk result (λ _. IsReaderPlaced (map (λ f. f.items) files.now) self.new) }
+        ensures sites { AreShort (map (λ f. f.items) files.now) → IsReaderPlaced (map (λ f. f.items) files.now) self.old → IfOk result (λ _. files_sites 0 (map (λ f. f.items) files.now) (reading_of self.old) (sites_of self.old) ≡ sites_of self.new) }
     {
         for (number, file) in files.iter().enumerate() {
             self.read_file(short(number), file)?;

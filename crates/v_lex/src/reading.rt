@@ -10,9 +10,10 @@ ghost use Rattle.v_lex.specs.Quotes.{are_alone};
 ghost use Rattle.v_lex.specs.View.{piece_of, front_of, at_front, IsPart};
 ghost use Rattle.v_lex.specs.Reading.{reading_of, IsOutcome, Leaves, IsTaken, IsFront, front_in};
 ghost use Rattle.v_lex.specs.Places.{AreShort};
-ghost use Rattle.v_lex.specs.Sites.{Site, Sites, piece_sites, sites_from, macro_sites};
+ghost use Rattle.v_lex.specs.Sites.{Sites, piece_sites, sites_from, macro_sites};
+ghost use Rattle.v_lex.specs.Spots.{Site};
 ghost use Rattle.v_lex.specs.Sited.{site_of, sites_of, IsSited, LeavesSites};
-ghost use Rattle.v_lex.specs.Placed.{span_under, IsMacroText, IsReaderPlaced, Keeps, IsTextAt, reached, IsPieceAt, IsUse, IsTakenAt, IsFrontAt};
+ghost use Rattle.v_lex.specs.Placed.{span_under, IsSpanOf, IsReaderPlaced, Keeps, IsPieceAt, IsUse, IsTakenAt, IsFrontAt};
 
 use crate::conditional::{enter, first_branch, innermost, leave, leaves_out, next_branch};
 use crate::front::{left_out_front, read_front};
@@ -234,7 +235,7 @@ impl<'s> Reader<'s> {
         behind: Place,
     ) -> Result<Option<Span<'s>>, Stop>
         ensures taken { (read : List ℕ → Reading → Outcome) → IsTaken read result (reading_of self.new) (with_piece read (piece_of piece.entry) (reading_of self.old)) }
-        ensures places { (files : List (List ℕ)) (file limit next : ℕ) → AreShort files → IsPieceAt files file limit next piece.entry here behind → IsReaderPlaced files file limit self.old → IsTakenAt result files file next self.new }
+        ensures places { (files : List (List ℕ)) → AreShort files → IsPieceAt files piece.entry here behind → IsReaderPlaced files self.old → IsTakenAt result files self.new }
         ensures sites { (add : Site → List ℕ → Reading → Sites → Sites) (count : ℕ) → IsSited piece.entry here behind count → LeavesSites add result self.new (piece_sites add (piece_of piece.entry) (site_of here) count (reading_of self.old) (sites_of self.old)) }
     {
         match piece {
@@ -340,8 +341,8 @@ impl<'s> Reader<'s> {
         behind: Place,
     ) -> Result<(), Stop>
         ensures outcome { IsOutcome result (reading_of self.new) (with_piece (macro_read levels) (piece_of piece.entry) (reading_of self.old)) }
-        ensures places { (files : List (List ℕ)) (file limit next : ℕ) → AreShort files → IsPieceAt files file limit next piece.entry here behind → IsReaderPlaced files file limit self.old → IfOk result (λ _. IsReaderPlaced files file next self.new) }
-        ensures sites { (files : List (List ℕ)) (file limit next count : ℕ) → AreShort files → IsPieceAt files file limit next piece.entry here behind → IsReaderPlaced files file limit self.old → IsSited piece.entry here behind count → IfOk result (λ _. piece_sites (macro_sites levels) (piece_of piece.entry) (site_of here) count (reading_of self.old) (sites_of self.old) ≡ sites_of self.new) }
+        ensures places { (files : List (List ℕ)) → AreShort files → IsPieceAt files piece.entry here behind → IsReaderPlaced files self.old → IfOk result (λ _. IsReaderPlaced files self.new) }
+        ensures sites { (files : List (List ℕ)) (count : ℕ) → AreShort files → IsPieceAt files piece.entry here behind → IsReaderPlaced files self.old → IsSited piece.entry here behind count → IfOk result (λ _. piece_sites (macro_sites levels) (piece_of piece.entry) (site_of here) count (reading_of self.old) (sites_of self.old) ≡ sites_of self.new) }
     {
         match self.take(piece, here, behind)? {
             Some(text) => self.read_macro(levels, text, here),
@@ -353,8 +354,8 @@ impl<'s> Reader<'s> {
     #[cycle(read)]
     fn read_macro(&mut self, levels: u32, text: Span<'s>, place: Place) -> Result<(), Stop>
         ensures outcome { IsOutcome result (reading_of self.new) (macro_read levels text.entry.text.now (reading_of self.old)) }
-        ensures places { (files : List (List ℕ)) (file limit : ℕ) → AreShort files → IsMacroText files text.entry → IsReaderPlaced files file limit self.old → IfOk result (λ _. IsReaderPlaced files file limit self.new) }
-        ensures sites { (files : List (List ℕ)) (file limit : ℕ) → AreShort files → IsMacroText files text.entry → IsReaderPlaced files file limit self.old → IfOk result (λ _. macro_sites levels (site_of text.entry.place) text.entry.text.now (reading_of self.old) (sites_of self.old) ≡ sites_of self.new) }
+        ensures places { (files : List (List ℕ)) → AreShort files → IsSpanOf files text.entry → IsReaderPlaced files self.old → IfOk result (λ _. IsReaderPlaced files self.new) }
+        ensures sites { (files : List (List ℕ)) → AreShort files → IsSpanOf files text.entry → IsReaderPlaced files self.old → IfOk result (λ _. macro_sites levels (site_of text.entry.place) text.entry.text.now (reading_of self.old) (sites_of self.old) ≡ sites_of self.new) }
     {
         if levels == 0 {
             self.misdirect(place);
@@ -372,8 +373,8 @@ impl<'s> Reader<'s> {
         text: Span<'s>,
     ) -> Result<(), Stop>
         ensures outcome { IsOutcome result (reading_of self.new) (text_from is_macro (macro_read levels) 0 text.entry.text.now (reading_of self.old)) }
-        ensures places { (files : List (List ℕ)) (file limit : ℕ) → AreShort files → IsTextAt is_macro levels (reading_of self.old) files file limit text.entry → IsReaderPlaced files file limit self.old → IfOk result (λ _. IsReaderPlaced files file (reached is_macro limit (length text.entry.text.now)) self.new) }
-        ensures sites { (files : List (List ℕ)) (file limit : ℕ) → AreShort files → IsTextAt is_macro levels (reading_of self.old) files file limit text.entry → IsReaderPlaced files file limit self.old → IfOk result (λ _. sites_from is_macro (macro_read levels) (macro_sites levels) 0 (site_of text.entry.place) text.entry.text.now (reading_of self.old) (sites_of self.old) ≡ sites_of self.new) }
+        ensures places { (files : List (List ℕ)) → AreShort files → IsSpanOf files text.entry → IsReaderPlaced files self.old → IfOk result (λ _. IsReaderPlaced files self.new) }
+        ensures sites { (files : List (List ℕ)) → AreShort files → IsSpanOf files text.entry → IsReaderPlaced files self.old → IfOk result (λ _. sites_from is_macro (macro_read levels) (macro_sites levels) 0 (site_of text.entry.place) text.entry.text.now (reading_of self.old) (sites_of self.old) ≡ sites_of self.new) }
     {
         let mut rest = text;
         loop {

@@ -1,5 +1,5 @@
-use Rattle.std.proofs.Common.{◌≡◌, map, take, drop, Ok}
-use Rattle.v_lex.specs.Walk.{files_read, first_reading}
+use Rattle.std.proofs.Common.{◌≡◌, map, drop}
+use Rattle.v_lex.specs.Walk.{files_read}
 use Rattle.v_lex.specs.Reading.{reading_of}
 use Rattle.v_lex.specs.Places.{AreShort}
 use Rattle.v_lex.specs.Sites.{files_sites}
@@ -10,8 +10,6 @@ use Rattle.v_lex.proofs.state.Reader.read_files.Given as goal
 abbrev pub invariant-loop-number : goal.invariant-loop-number
 invariant-loop-number l =
     (files_read (map (λ f. f.items) l.files) (reading_of l.fn.self) ≡ files_read (map (λ f. f.items) (drop l.number l.files)) (reading_of l.self))
-    × (reading_of l.fn.self ≡ first_reading → files_read (take l.number (map (λ f. f.items) l.files)) first_reading ≡ Ok (reading_of l.self))
-    × (AreShort (map (λ f. f.items) l.files) → reading_of l.fn.self ≡ first_reading → IsReaderPlaced (map (λ f. f.items) l.files) 0 0 l.fn.self
-    → IsReaderPlaced (map (λ f. f.items) l.files) l.number 0 l.self)
-    × (AreShort (map (λ f. f.items) l.files) → reading_of l.fn.self ≡ first_reading → IsReaderPlaced (map (λ f. f.items) l.files) 0 0 l.fn.self
+    × (AreShort (map (λ f. f.items) l.files) → IsReaderPlaced (map (λ f. f.items) l.files) l.fn.self → IsReaderPlaced (map (λ f. f.items) l.files) l.self)
+    × (AreShort (map (λ f. f.items) l.files) → IsReaderPlaced (map (λ f. f.items) l.files) l.fn.self
     → files_sites 0 (map (λ f. f.items) l.files) (reading_of l.fn.self) (sites_of l.fn.self) ≡ files_sites l.number (map (λ f. f.items) (drop l.number l.files)) (reading_of l.self) (sites_of l.self))
