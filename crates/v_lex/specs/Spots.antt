@@ -118,3 +118,7 @@ spots_in files = spots_read (placed_parts files)
 -- The bytes end before that place.
 abbrev pub EndsBefore : Spot → Site → Type 0
 EndsBefore s at = (s.site.file < at.file) ⊎ ((s.site.file ≡ at.file) × (s.site.start + s.count ≤ at.start))
+
+-- a token of one byte, as the worked cases have them
+abbrev pub spot : (file start : ℕ) → Spot
+spot file start = record { site = record { file = file; start = start }; count = 1 }
