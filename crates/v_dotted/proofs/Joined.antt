@@ -17,7 +17,7 @@ use Rattle.v_expr.specs.Whole.{whole_at}
 use Rattle.v_expr.proofs.Whole.{whole_spelled, whole_again}
 use Rattle.v_expr.specs.Repeat.{◌>>=◌, Read}
 use Rattle.v_expr.specs.Reading.{after_mark}
-use Rattle.v_dotted.specs.Dotted.{identifier_at, further_name_at, IsOnly, IsPlace}
+use Rattle.v_dotted.specs.Dotted.{identifier_at, further_name_at, IsOnly}
 use Rattle.v_expr.proofs.Places.{mark_spelled}
 use Rattle.v_expr.proofs.Repeat.{some, some_is}
 use Rattle.v_expr.proofs.Spelled.{bound}
@@ -187,19 +187,3 @@ left_over x e u us h =
 pub more_left : (x : Expression) (ts : List Token) (us : List CodeToken) → 1 ≤ length us → whole_at ts ≡ Some (x, tokens_of us) → (e : Expression) → IsWhole e ts [] → ⊥
 more_left x ts [] h read e d = absurd (omega (arith, h))
 more_left x ts (u ∷ us) h read e d = left_over x e u us (sym read ∙ whole_again e ts [] d tt)
-
--- ---- the place of a refusal
-
-pub place_of_none : (stop : ExpressionStop) (ts : List Token) → Fails stop (whole_at ts) → IsPlace (Err stop) ts
-place_of_none NoMemory ts h = tt
-place_of_none (Refused left) ts h = λ e rest d ends. absurd (none_is_some (whole_at ts) (e, rest) h (whole_again e ts rest d ends))
-
-as_many : (us : List CodeToken) → length us ≡ length (tokens_of us)
-as_many [] = refl
-as_many (u ∷ us) = ap suc (as_many us)
-
-pub place_behind : (x : Expression) (ts : List Token) (us : List CodeToken) (left : ℕ) → left ≡ length us → whole_at ts ≡ Some (x, tokens_of us) → IsPlace (Err (Refused left)) ts
-place_behind x ts us left is read = λ e rest d ends.
-    let same = some_is {A = Expression × List Token} (x, tokens_of us) (e, rest) (sym read ∙ whole_again e ts rest d ends) in
-    let parts : tokens_of us ≡ rest = ap (λ (p : Expression × List Token). p.1) same in
-    is ∙ as_many us ∙ ap length parts

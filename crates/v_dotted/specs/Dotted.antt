@@ -1,5 +1,5 @@
 -- Dotted names as the reader joins them, and expressions that tokens spell as a whole.
-use Rattle.std.specs.Prelude.{◌≡◌, ℕ, cond, List, [], ◌∷◌, length, map, Option, Some, None, Result, Ok, Err}
+use Rattle.std.specs.Prelude.{ℕ, cond, List, [], ◌∷◌, map, Option, Some, None, Result, Ok, Err}
 use Rattle.std.specs.String.{string_bytes}
 use Rattle.wb_values.specs.Value.{Name}
 use Rattle.wb_values.specs.ReservedWords.{is_reserved}
@@ -11,10 +11,10 @@ use Rattle.v_token.specs.View.{token_of_kind}
 use Rattle.v_syntax.specs.declared.tree.Expression.{Expression}
 use Rattle.v_syntax.specs.Tree.{tree_of}
 use Rattle.v_expr.specs.Repeat.{◌>>=◌}
-use Rattle.v_expr.specs.Ending.{Ends}
 use Rattle.v_expr.specs.Reading.{after_mark}
 use Rattle.v_expr.specs.declared.stop.ExpressionStop.{ExpressionStop}
 use Rattle.v_expr.specs.declared.stop.ExpressionStop.TheVariants.{NoMemory, Refused}
+use Rattle.v_place.specs.Place.{IsExpressionText, IsFirstWrong}
 use Rattle.v_dotted.specs.declared.dotted.OwnedToken.{OwnedToken}
 
 -- an identifier, and what stands behind it
@@ -39,8 +39,8 @@ IsOnly (Ok e) ts = IsWhole (tree_of e) ts []
 IsOnly (Err NoMemory) ts = Unit {0}
 IsOnly (Err (Refused left)) ts = (e : PureExpression) → IsWhole e ts [] → ⊥
 
--- Where an expression stands in front of what does not go on with it, the place of the refusal is the token behind it.
+-- The place of a refusal is the first token with which no expression goes on.
 abbrev pub IsPlace : Result Expression ExpressionStop → List pure.Token → Type 0
 IsPlace (Ok e) ts = Unit {0}
 IsPlace (Err NoMemory) ts = Unit {0}
-IsPlace (Err (Refused left)) ts = (e : PureExpression) (rest : List pure.Token) → IsWhole e ts rest → Ends 0 rest → left ≡ length rest
+IsPlace (Err (Refused left)) ts = IsFirstWrong IsExpressionText left ts

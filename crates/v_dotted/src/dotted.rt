@@ -15,6 +15,7 @@ ghost use Rattle.v_expr.specs.declared.stop.ExpressionStop.TheVariants.{NoMemory
 use std::alloc::Global;
 use v_expr::reader::{behind_mark, from_here};
 use v_expr::{ExpressionStop, expression};
+use v_place::left_at_first_wrong_in_expression;
 use v_syntax::tree::Expression;
 use v_token::token::{Mark, Token, TokenKind};
 use wb_names::is_reserved_word;
@@ -174,7 +175,6 @@ fn only<'s>(
     read: Result<(Expression<'s>, &[Token<'s>]), ExpressionStop>,
 ) -> Result<Expression<'s>, ExpressionStop>
     ensures read { (ts : List PureToken) → Gives (λ x. (tree_of x.0, tokens_of x.1.now)) read.entry (whole_at ts) → IsOnly result ts }
-    ensures place { (ts : List PureToken) → Gives (λ x. (tree_of x.0, tokens_of x.1.now)) read.entry (whole_at ts) → IsPlace result ts }
     ensures flat { IfOk read.entry (λ x. IsFlat x.0) → IfOk result (λ e. IsFlat e) }
 {
     match read {
@@ -184,7 +184,23 @@ fn only<'s>(
     }
 }
 
-/// The expression that all of the tokens spell.
+/// The expression that all of the tokens spell, of tokens that borrow their texts.
+fn whole<'s>(alloc: Global, tokens: &[Token<'s>]) -> Result<Expression<'s>, ExpressionStop>
+    ensures spelled { IsOnly result (tokens_of tokens.now) }
+    ensures place { IsPlace result (tokens_of tokens.now) }
+    ensures flat { IfOk result (λ e. IsFlat e) }
+{
+    match only(expression(alloc, tokens)) {
+        Ok(expression) => Ok(expression),
+        Err(ExpressionStop::NoMemory) => Err(ExpressionStop::NoMemory),
+        Err(ExpressionStop::Refused(_)) => {
+            let left = left_at_first_wrong_in_expression(alloc, tokens)?;
+            Err(ExpressionStop::Refused(left))
+        }
+    }
+}
+
+/// The expression that all of the tokens spell. They are refused at the first token with which no expression goes on.
 pub fn whole_expression(
     alloc: Global,
     tokens: &[OwnedToken],
@@ -194,6 +210,5 @@ pub fn whole_expression(
     ensures flat { IfOk result (λ e. IsFlat e) }
 {
     let tokens = borrowed(alloc, tokens)?;
-    let read = expression(alloc, &tokens);
-    only(read)
+    whole(alloc, &tokens)
 }

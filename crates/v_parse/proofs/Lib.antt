@@ -7,4 +7,3 @@ pub mod Again
 pub mod AgainItems
 pub mod Turns
 pub mod Whole
-pub mod Place

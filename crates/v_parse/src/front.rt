@@ -2,8 +2,7 @@
 
 ghost use Rattle.std.specs.Prelude.{◌≡◌, ◌∷◌, [], option_map, Some, IfOk};
 ghost use Rattle.verilog_text.specs.Token.{comma};
-ghost use Rattle.v_token.specs.View.{mark_of, tokens_of};
-ghost use Rattle.v_expr.specs.Reading.{after_mark};
+ghost use Rattle.v_token.specs.View.{tokens_of};
 ghost use Rattle.v_expr.specs.View.{Gives};
 ghost use Rattle.v_body.specs.Words.{after_word};
 ghost use Rattle.v_parse.specs.Lists.{flag_at, at_name, before_name};
@@ -34,24 +33,6 @@ pub fn flag<'s, 't>(tokens: &'t [Token<'s>], word: &str) -> (bool, &'t [Token<'s
         Some(rest) => (true, rest),
         None => (false, tokens),
     }
-}
-
-/// How many tokens are left at the first that does not fit at the end of a list: a comma does.
-fn left_at_end(tokens: &[Token<'_>]) -> usize {
-    match behind_mark(tokens, Mark::Comma) {
-        Some(rest) => rest.len(),
-        None => tokens.len(),
-    }
-}
-
-/// What stands behind the mark at the end of a list.
-pub fn closing<'s, 't>(
-    tokens: &'t [Token<'s>],
-    mark: Mark,
-) -> Result<&'t [Token<'s>], ExpressionStop>
-    ensures { Gives (λ r. tokens_of r.now) result (after_mark (mark_of mark) (tokens_of tokens.now)) }
-{
-    behind_mark(tokens, mark).ok_or(ExpressionStop::Refused(left_at_end(tokens)))
 }
 
 /// The tokens, if a name stands in front.

@@ -15,7 +15,7 @@ use crate::declaration::{
     declared_parameter, declared_port, direction, parameter_word, perhaps_range, variables, wires,
 };
 use crate::event::control;
-use crate::front::{begun_with, closing, flag};
+use crate::front::{begun_with, flag};
 use crate::instance::{instances, overrides};
 use std::alloc::Global;
 use v_body::statement::statement;
@@ -37,7 +37,7 @@ fn port_item<'s, 't>(
     ensures flat { IfOk result (λ x. IsFlatItem x.0) }
 {
     let (port, rest) = declared_port(alloc, direction, tokens)?;
-    let rest = closing(rest, Mark::Semicolon)?;
+    let rest = mark(rest, Mark::Semicolon)?;
     Ok((Item::Port(port), rest))
 }
 
@@ -52,7 +52,7 @@ fn parameter_item<'s, 't>(
     ensures flat { IfOk result (λ x. IsFlatItem x.0) }
 {
     let (parameter, rest) = declared_parameter(alloc, is_local, tokens)?;
-    let rest = closing(rest, Mark::Semicolon)?;
+    let rest = mark(rest, Mark::Semicolon)?;
     Ok((Item::Parameter(parameter), rest))
 }
 

@@ -1,18 +1,17 @@
 //! Modules.
 
-ghost use Rattle.std.specs.Prelude.{◌≡◌, ◌≤◌, map, option_map, codes, length, None, IfOk, IfErr};
+ghost use Rattle.std.specs.Prelude.{◌≡◌, map, option_map, codes, IfOk};
 ghost use Rattle.v_token.specs.View.{tokens_of};
 ghost use Rattle.v_syntax.specs.Source.{parameter_of, port_of, ports_of, item_of, module_of};
 ghost use Rattle.v_expr.specs.View.{Gives};
 ghost use Rattle.v_expr.specs.Flat.{Each};
-ghost use Rattle.v_parse.specs.Place.{IsFirst, IsWithin, IsModulePlace};
 ghost use Rattle.v_parse.specs.Flat.{IsFlatItem, IsFlatModule, IsFlatParameter, IsFlatPort, IsFlatPorts};
 ghost use Rattle.v_body.specs.Words.{after_word};
 ghost use Rattle.v_parse.specs.Lists.{at_end};
 ghost use Rattle.v_parse.specs.Reading.{header_parameter_at, parameter_list_at, some_parameters_at, header_parameters_at, port_list_at, declared_ports_at, listed_ports_at, some_ports_at, ports_at, items_at, module_at, modules_at};
 
 use crate::declaration::{declared_parameter, direction, names, port};
-use crate::front::{begun_with, closing, keyword};
+use crate::front::{begun_with, keyword};
 use crate::item::item;
 use std::alloc::Global;
 use v_body::word::{behind_word, name};
@@ -125,7 +124,7 @@ fn listed_ports<'s, 't>(
     ensures flat { IfOk result (λ x. IsFlatPorts x.0) }
 {
     let (names, rest) = names(alloc, tokens)?;
-    let rest = closing(rest, Mark::RightParenthesis)?;
+    let rest = mark(rest, Mark::RightParenthesis)?;
     Ok((Ports::Listed(names), rest))
 }
 
@@ -232,40 +231,6 @@ fn the_end<'s, 't>(tokens: &'t [Token<'s>]) -> Option<&'t [Token<'s>]>
     }
 }
 
-/// The place that is told by how many tokens are left there, or the first of the tokens if so many there are not.
-fn within(left: usize, tokens: &[Token<'_>]) -> usize
-    ensures { result ≤ length (tokens_of tokens.now) }
-{
-    if left <= tokens.len() {
-        left
-    } else {
-        tokens.len()
-    }
-}
-
-/// A module, which is refused at a place in these tokens, at the first of them where that is not `module`.
-#[tactic(auto, unfolding(crate::specs::Reading::module_at))]
-fn module_within<'s, 't>(
-    alloc: Global,
-    tokens: &'t [Token<'s>],
-) -> Result<(Module<'s>, &'t [Token<'s>]), ExpressionStop>
-    ensures read { Gives (λ x. (module_of x.0, tokens_of x.1.now)) result (module_at (tokens_of tokens.now)) }
-    ensures flat { IfOk result (λ x. IsFlatModule x.0) }
-    ensures first { after_word (codes "module") (tokens_of tokens.now) ≡ None → IfErr result (λ e. IsFirst e (tokens_of tokens.now)) }
-    ensures place { IfErr result (λ e. IsWithin e (tokens_of tokens.now)) }
-{
-    match behind_word(tokens, "module") {
-        None => Err(ExpressionStop::Refused(tokens.len())),
-        Some(_) => match module(alloc, tokens) {
-            Ok(read) => Ok(read),
-            Err(ExpressionStop::NoMemory) => Err(ExpressionStop::NoMemory),
-            Err(ExpressionStop::Refused(left)) => {
-                Err(ExpressionStop::Refused(within(left, tokens)))
-            }
-        },
-    }
-}
-
 /// The modules up to the end of the tokens.
 #[tactic(auto, unfolding(crate::specs::Reading::modules_at))]
 pub fn modules<'s, 't>(
@@ -273,7 +238,6 @@ pub fn modules<'s, 't>(
     tokens: &'t [Token<'s>],
 ) -> Result<(Vec<Module<'s>>, &'t [Token<'s>]), ExpressionStop>
     ensures read { Gives (λ x. (map module_of x.0.items, tokens_of x.1.now)) result (modules_at (tokens_of tokens.now)) }
-    ensures place { IfErr result (λ e. IsModulePlace e (tokens_of tokens.now)) }
     ensures flat { IfOk result (λ x. Each IsFlatModule x.0.items) }
 {
     let mut rest = from_here(tokens)?;
@@ -282,7 +246,7 @@ pub fn modules<'s, 't>(
         match the_end(rest) {
             Some(after) => return Ok((modules, after)),
             None => {
-                let (next, after) = module_within(alloc, rest)?;
+                let (next, after) = module(alloc, rest)?;
                 modules.push(next)?;
                 rest = after;
             }

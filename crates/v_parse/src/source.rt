@@ -11,10 +11,11 @@ use crate::module::modules;
 use crate::stop::ParseStop;
 use std::alloc::Global;
 use v_expr::ExpressionStop;
+use v_place::left_at_first_wrong;
 use v_syntax::module::Tree;
 use v_token::token::Token;
 
-/// The tree that all of the tokens are spelled by.
+/// The tree that all of the tokens are spelled by. They are refused at the first token with which no source goes on.
 #[tactic(auto, unfolding(crate::specs::Reading::source_at))]
 pub fn parse<'s>(alloc: Global, tokens: &[Token<'s>]) -> Result<Tree<'s>, ParseStop>
     ensures read { Parses result (source_at (tokens_of tokens.now)) }
@@ -25,6 +26,9 @@ pub fn parse<'s>(alloc: Global, tokens: &[Token<'s>]) -> Result<Tree<'s>, ParseS
     match modules(alloc, tokens) {
         Ok((modules, _)) => Ok(Tree { modules }),
         Err(ExpressionStop::NoMemory) => Err(ParseStop::NoMemory),
-        Err(ExpressionStop::Refused(left)) => Err(ParseStop::Refused(left)),
+        Err(ExpressionStop::Refused(_)) => match left_at_first_wrong(alloc, tokens) {
+            Ok(left) => Err(ParseStop::Refused(left)),
+            Err(_) => Err(ParseStop::NoMemory),
+        },
     }
 }

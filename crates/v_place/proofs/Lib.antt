@@ -9,3 +9,4 @@ pub mod Runs
 pub mod Parts
 pub mod Sources
 pub mod Place
+pub mod Taken

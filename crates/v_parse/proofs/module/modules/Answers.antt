@@ -9,7 +9,6 @@ use Rattle.v_parse.proofs.Lists.{row_fails, shrinking}
 use Rattle.v_parse.proofs.Turns.{row_begins, row_goes_on, row_ends}
 use Rattle.v_parse.proofs.SpelledItems.{module_read}
 use Rattle.v_expr.proofs.Flat.{each-none, each-pushed}
-use Rattle.v_parse.proofs.Place.{nothing_in_front, one_module_more, wrong_module}
 use Rattle.v_parse.specs.Flat.{IsFlatModule}
 use Rattle.v_parse.proofs.module.modules.Goals as goal
 
@@ -18,7 +17,6 @@ unfolding modules_at
 loop-after-init c = (
   (row_begins module_of at_end module_at (tokens_of c.args.tokens.now) (tokens_of c.in_ok-rest.rest.now) c.new-modules.result.items c.new-modules.ensures.items (ap tokens_of c.in_ok-rest.ensures.same)),
   each-none IsFlatModule c.new-modules.result.items c.new-modules.ensures.items,
-  nothing_in_front (tokens_of c.args.tokens.now) (tokens_of c.in_ok-rest.rest.now) (ap tokens_of c.in_ok-rest.ensures.same),
 )
 
 pub returns-in-Some-clause-read : goal.returns-in-Some-clause-read
@@ -38,10 +36,4 @@ loop-after-preserved c = (
   (row_goes_on module_of at_end module_at (shrinking IsModule module_read) c.loop-after.modules.items c.push.new.self.items (tokens_of c.loop-after.rest.now) c.in_ok-next-in-None.next (tokens_of c.in_ok-next-in-None.after.now)
       (modules_at (tokens_of c.args.tokens.now)) c.in_ok-push-in-None.ensures.items c.in-None.ensures c.in_ok-next-in-None.ensures.read c.loop-after.invariant.0),
   each-pushed IsFlatModule c.loop-after.modules.items c.in_ok-next-in-None.next c.push.new.self.items c.in_ok-push-in-None.ensures.items c.loop-after.invariant.1 c.in_ok-next-in-None.ensures.flat,
-  one_module_more (tokens_of c.args.tokens.now) (tokens_of c.loop-after.rest.now) (module_of c.in_ok-next-in-None.next) (tokens_of c.in_ok-next-in-None.after.now) c.in_ok-next-in-None.ensures.read c.loop-after.invariant.2,
 )
-
-pub returns-in_err-next-in-None-clause-place : goal.returns-in_err-next-in-None-clause-place
-returns-in_err-next-in-None-clause-place c =
-    let p = err_from_is_err_and c.from_residual-in_err-next-in-None.result c.from_residual-in_err-next-in-None.ensures.1 in
-    rw (p.1, p.2) (wrong_module c.in_err-next-in-None.field-0.0 (tokens_of c.args.tokens.now) (tokens_of c.loop-after.rest.now) c.loop-after.invariant.2 c.in_err-next-in-None.ensures.read c.in_err-next-in-None.ensures.place c.in_err-next-in-None.ensures.first)

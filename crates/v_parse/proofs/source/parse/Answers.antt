@@ -5,8 +5,5 @@ use Rattle.v_parse.proofs.source.parse.Goals as goal
 pub returns-in-Ok-clause-spelled : goal.returns-in-Ok-clause-spelled
 returns-in-Ok-clause-spelled c = modules_spelled (tokens_of c.args.tokens.now) _ _ c.in-Ok.ensures.read
 
-pub returns-in-Err-Refused-clause-spelled : goal.returns-in-Err-Refused-clause-spelled
-returns-in-Err-Refused-clause-spelled c = no_modules (tokens_of c.args.tokens.now) (rw c.in-Err-Refused.field-0-is at c.in-Err-Refused.ensures.read)
-
-pub returns-in-Err-Refused-clause-place : goal.returns-in-Err-Refused-clause-place
-returns-in-Err-Refused-clause-place c = rw c.in-Err-Refused.field-0-is at c.in-Err-Refused.ensures.place
+pub returns-in-Ok-left_at_first_wrong-clause-spelled : goal.returns-in-Ok-left_at_first_wrong-clause-spelled
+returns-in-Ok-left_at_first_wrong-clause-spelled c = no_modules (tokens_of c.args.tokens.now) (rw c.in-Err-Refused.field-0-is at c.in-Err-Refused.ensures.read)

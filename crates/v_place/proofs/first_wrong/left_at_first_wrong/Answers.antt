@@ -1,0 +1,8 @@
+use Rattle.std.proofs.Common.{ℕ, sym, subst}
+use Rattle.v_token.specs.View.{tokens_of}
+use Rattle.v_place.specs.Place.{IsSourceText, IsFirstWrong}
+use Rattle.v_place.proofs.Place.{the_place}
+use Rattle.v_place.proofs.first_wrong.left_at_first_wrong.Goals as goal
+
+pub returns : goal.returns
+returns c = subst (λ (n : ℕ). IsFirstWrong IsSourceText n (tokens_of c.args.tokens.now)) (sym c.in_ok-left.ensures) (the_place (tokens_of c.args.tokens.now))
