@@ -1,5 +1,7 @@
 -- Literals and their codes are one to one.
-use Rattle.std.proofs.Common.{◌≡◌, ℕ, ◌+◌, ◌*◌, ◌/◌, ◌%◌, ◌<◌, Bool, true, false, cond, nat_eq, List, [], ◌∷◌, map, ⊎_elim, refl, sym, ap, ◌∙◌, arith}
+use Rattle.std.proofs.Common.{◌≡◌, ℕ, ◌+◌, ◌*◌, ◌/◌, ◌%◌, ◌<◌, Bool, true, false, cond, nat_eq, List, [], ◌∷◌, length, get_or, map, ⊎_elim, refl, sym, ap, ◌∙◌, subst, arith}
+use Rattle.std.specs.List.{Contains}
+use Rattle.std.proofs.lemmas.List.{get_or-map, length-map}
 use Rattle.std.proofs.lemmas.Bool.{eqb-true, eq-eqb, cases_eq}
 use Rattle.sat_base.specs.declared.literals.Lit.{Lit}
 use Rattle.sat_solve.specs.Codes.{code_of, literal_of}
@@ -42,3 +44,13 @@ code_below l n h = below l.var l.negative h
     below : (v : ℕ) (b : Bool) → v < n → 2 * v + cond b 1 0 < 2 * n
     below v true h = omega (arith, h)
     below v false h = omega (arith, h)
+
+-- a code's literal is one of those of the codes
+pub code_in : (codes : List ℕ) (k : ℕ) → k < length codes → Contains (map literal_of codes) (literal_of (get_or codes k 0))
+code_in codes k l = (k, omega (arith, l, length-map codes literal_of), get_or-map literal_of codes k 0 (literal_of (get_or codes k 0)) l)
+
+-- what all the codes' variables have, those of their literals have
+pub codes_all : (codes : List ℕ) (P : ℕ → Type 0) → ((k : ℕ) → k < length codes → P (get_or codes k 0 / 2)) → (x : Lit) → Contains (map literal_of codes) x → P x.var
+codes_all codes P all x i =
+    let l : i.0 < length codes = omega (arith, i.1, length-map codes literal_of) in
+    subst (λ (y : Lit). P y.var) (sym (get_or-map literal_of codes i.0 0 x l) ∙ i.2) (all i.0 l)

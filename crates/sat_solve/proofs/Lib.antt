@@ -3,6 +3,7 @@ pub mod NewLemma
 pub mod KeptLemmas
 pub mod TruthLemmas
 pub mod FoundLemmas
+pub mod CodeLemmas
 pub mod StateLemmas
 pub mod Places
 pub mod Walks
@@ -10,7 +11,6 @@ pub mod Forced
 pub mod Members
 pub mod LogLemmas
 pub mod ModelLemmas
-pub mod CodeLemmas
 pub mod Watching
 pub mod Parts
 pub mod Moves

@@ -1,19 +1,38 @@
-//! The clauses by their numbers: the formula's, then the lemmas.
-ghost use Rattle.std.specs.Prelude.{◌≡◌, ◌<◌, length, slice_get, Some};
+//! The clauses by their numbers, as the search holds them: the formula's, then the lemmas.
+ghost use Rattle.std.specs.Prelude.{◌≡◌, ◌<◌, length, map, slice_get, Some, IfOk};
 ghost use Rattle.sat_solve.specs.State.{known_clauses};
+ghost use Rattle.sat_solve.specs.Codes.{literal_of};
 
-use sat_base::{Cnf, Lit, Log};
+use crate::arena::{Arena, Pair};
+use sat_base::{Cnf, Log, NoMemory};
+use std::alloc::Global;
 
-/// The clause of this number: the formula's are counted from 0, and the lemmas go on from there.
-pub fn clause<'a>(cnf: &'a Cnf, log: &'a Log, number: u64) -> &'a [Lit]
-    requires { number < length (known_clauses cnf.now log.now) }
-    ensures { slice_get (known_clauses cnf.now log.now) number ≡ Some result.now }
+/// The codes of the clause of this number: the formula's are counted from 0, and the lemmas go on from there.
+#[inline]
+pub fn clause<'a>(cnf: &Cnf, log: &Log, arena: &'a Arena, number: u64) -> &'a [u32]
+    requires number { number < length (known_clauses cnf.now log.now) }
+    requires holding { map (λ h. h.lits) arena.now ≡ known_clauses cnf.now log.now }
+    ensures { slice_get (known_clauses cnf.now log.now) number ≡ Some (map literal_of result.now) }
 {
-    let clauses = cnf.clauses();
-    let index = number as usize;
-    if index < clauses.len() {
-        clauses[index].as_slice()
-    } else {
-        log.as_slice()[index - clauses.len()].lits.as_slice()
+    arena.codes(number as usize)
+}
+
+/// All clauses of a formula, which are watched at no literal of theirs.
+pub fn hold(alloc: Global, cnf: &Cnf) -> Result<Arena, NoMemory>
+    ensures { IfOk result (λ a. map (λ h. h.lits) a ≡ cnf.now.clauses) }
+{
+    // More variables would take more than 50 GiB.
+    if cnf.vars() >= 1 << 31 {
+        return Err(NoMemory);
     }
+    let mut arena = Arena::new(alloc);
+    let clauses = cnf.clauses();
+    for number in 0..clauses.len() {
+        let nowhere = Pair {
+            first: 0,
+            second: 0,
+        };
+        arena.push(clauses[number].as_slice(), nowhere)?;
+    }
+    Ok(arena)
 }

@@ -1,5 +1,5 @@
 //! Learning: the lemma that a conflict teaches, the hints by which it follows, and the way back.
-ghost use Rattle.std.specs.Prelude.{◌≡◌, ◌≢◌, ℕ, ◌+◌, ◌^◌, ◌<◌, ◌≤◌, [], ◌∷◌, length, drop, IfOk, OnOk, slice_get, Some, None, reverse};
+ghost use Rattle.std.specs.Prelude.{◌≡◌, ◌≢◌, ℕ, ◌+◌, ◌^◌, ◌<◌, ◌≤◌, [], ◌∷◌, length, map, drop, IfOk, OnOk, slice_get, Some, None, reverse};
 ghost use Rattle.sat_base.specs.Formula.{IsClauseOver};
 ghost use Rattle.sat_base.specs.Log.{HasEachVariableOnce};
 ghost use Rattle.sat_base.specs.Propagation.{Follows};
@@ -10,6 +10,7 @@ ghost use Rattle.sat_solve.specs.Walk.{IsWalked, AreUnmarked};
 ghost use Rattle.sat_solve.specs.Search.{IsSearch};
 ghost use Rattle.sat_solve.specs.Lesson.{IsTaught, IsLesson, IsForcedFrom, IsDescended};
 
+use crate::arena::Arena;
 use crate::clauses::clause;
 use crate::minimizing::Minimizer;
 use crate::order::Order;
@@ -32,12 +33,14 @@ pub fn explain(
     alloc: Global,
     cnf: &Cnf,
     log: &Log,
+    arena: &Arena,
     trail: &Trail,
     conflict: u64,
     base: usize,
     order: &mut Order,
 ) -> Result<Lesson, NoMemory>
     requires state { IsState cnf.now log.now trail.now }
+    requires holding { map (λ h. h.lits) arena.now ≡ known_clauses cnf.now log.now }
     requires conflict { IsConflictAt (known_clauses cnf.now log.now) trail.now.entries conflict }
     ensures known { IfOk result (λ s. IsClauseOver trail.now.vars s.lemma.lits) }
     ensures once { IfOk result (λ s. HasEachVariableOnce s.lemma.lits) }
@@ -45,18 +48,18 @@ pub fn explain(
     ensures undecided { IfOk result (λ s. IsUndecided trail.now.entries 0 (length trail.now.entries) → s.lemma.lits ≡ []) }
     ensures taught { IfOk result (λ s. IsTaught (known_clauses cnf.now log.now) trail.now.entries s.lemma.lits s.back) }
 {
-    let mut walk = begin(alloc, cnf, log, trail, conflict)?;
+    let mut walk = begin(alloc, cnf, log, arena, trail, conflict)?;
     match below_level(trail) {
         None => {
-            walk_all(cnf, log, trail, &mut walk)?;
+            walk_all(cnf, log, arena, trail, &mut walk)?;
             Ok(finish(walk, 0))
         }
         Some(start) => {
-            let point = walk_to_point(cnf, log, trail, &mut walk, start)?;
+            let point = walk_to_point(cnf, log, arena, trail, &mut walk, start)?;
             keep_point(cnf, log, trail, &mut walk, point, start)?;
             bump(order, walk.seen.as_slice());
-            let back = walk_below(alloc, cnf, log, trail, &mut walk, start, base)?;
-            bump_reasons(cnf, log, trail, order, walk.lits.as_slice());
+            let back = walk_below(alloc, cnf, log, arena, trail, &mut walk, start, base)?;
+            bump_reasons(cnf, log, arena, trail, order, walk.lits.as_slice());
             weigh(trail, order, walk.lits.as_slice());
             Ok(finish(walk, back))
         }
@@ -71,15 +74,16 @@ fn bump(order: &mut Order, seen: &[u64]) {
 }
 
 // The variables in the reasons of the lemma's literals have had a part in it too.
-fn bump_reasons(cnf: &Cnf, log: &Log, trail: &Trail, order: &mut Order, lits: &[Lit])
-    requires { IsState cnf.now log.now trail.now }
+fn bump_reasons(cnf: &Cnf, log: &Log, arena: &Arena, trail: &Trail, order: &mut Order, lits: &[Lit])
+    requires state { IsState cnf.now log.now trail.now }
+    requires holding { map (λ h. h.lits) arena.now ≡ known_clauses cnf.now log.now }
 {
     for lit in lits {
         match trail.reason(lit.var) {
             None => {}
             Some(reason) => {
-                for other in clause(cnf, log, reason) {
-                    order.bump(other.var);
+                for code in clause(cnf, log, arena, reason) {
+                    order.bump((*code / 2) as u64);
                 }
             }
         }
@@ -147,12 +151,14 @@ fn walk_below(
     alloc: Global,
     cnf: &Cnf,
     log: &Log,
+    arena: &Arena,
     trail: &Trail,
     walk: &mut Walk,
     start: usize,
     base: usize,
 ) -> Result<usize, NoMemory>
     requires state { IsState cnf.now log.now trail.now }
+    requires holding { map (λ h. h.lits) arena.now ≡ known_clauses cnf.now log.now }
     requires start { start ≤ length trail.now.entries }
     requires walked { IsWalked (known_clauses cnf.now log.now) trail.now.entries trail.now.vars start walk.old.marks walk.old.lits.items walk.old.numbers.items }
     requires point { IsForcedFrom trail.now.entries start start start walk.old.lits.items }
@@ -169,8 +175,8 @@ fn walk_below(
         }
         let var = trail.newest(k).lit.var;
         let implied = walk.marks.contains(var)
-            && minimizer.is_implied(cnf, log, trail, &walk.marks, var);
-        step(cnf, log, trail, walk, k, implied)?;
+            && minimizer.is_implied(cnf, log, arena, trail, &walk.marks, var);
+        step(cnf, log, arena, trail, walk, k, implied)?;
         back = lowered(cnf, log, trail, walk, k, start, back);
     }
     Ok(back)

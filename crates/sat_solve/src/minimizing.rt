@@ -1,8 +1,9 @@
 //! Which literals a lemma can do without, since its others imply them. The lemma is right whatever this
 //! says, so nothing is proved of it but that it is safe.
-ghost use Rattle.std.specs.Prelude.{◌≡◌, ◌<◌, length};
-ghost use Rattle.sat_solve.specs.State.{IsState};
+ghost use Rattle.std.specs.Prelude.{◌≡◌, ◌<◌, length, map};
+ghost use Rattle.sat_solve.specs.State.{known_clauses, IsState};
 
+use crate::arena::Arena;
 use crate::clauses::clause;
 use crate::marks::Marks;
 use crate::trail::Trail;
@@ -36,14 +37,16 @@ impl Minimizer {
         &mut self,
         cnf: &Cnf,
         log: &Log,
+        arena: &Arena,
         trail: &Trail,
         marks: &Marks,
         var: u64,
     ) -> bool
         requires state { IsState cnf.now log.now trail.now }
+        requires holding { map (λ h. h.lits) arena.now ≡ known_clauses cnf.now log.now }
         requires sized { length marks.now ≡ trail.now.vars }
     {
-        self.are_implied(cnf, log, trail, marks, var, DEPTH)
+        self.are_implied(cnf, log, arena, trail, marks, var, DEPTH)
     }
 
     // Whether the literal of the variable has a reason whose other literals are implied.
@@ -52,25 +55,28 @@ impl Minimizer {
         &mut self,
         cnf: &Cnf,
         log: &Log,
+        arena: &Arena,
         trail: &Trail,
         marks: &Marks,
         var: u64,
         depth: u32,
     ) -> bool
         requires state { IsState cnf.now log.now trail.now }
+        requires holding { map (λ h. h.lits) arena.now ≡ known_clauses cnf.now log.now }
         requires sized { length marks.now ≡ trail.now.vars }
     {
         match trail.reason(var) {
             None => false,
             Some(reason) => {
-                let lits = clause(cnf, log, reason);
+                let codes = clause(cnf, log, arena, reason);
                 if trail.place(var) < self.base {
-                    return lits.len() == 1;
+                    return codes.len() == 1;
                 }
-                for lit in lits {
-                    if lit.var != var
-                        && !marks.contains(lit.var)
-                        && !self.is_known(cnf, log, trail, marks, lit.var, depth)
+                for code in codes {
+                    let other = (*code / 2) as u64;
+                    if other != var
+                        && !marks.contains(other)
+                        && !self.is_known(cnf, log, arena, trail, marks, other, depth)
                     {
                         return false;
                     }
@@ -86,12 +92,14 @@ impl Minimizer {
         &mut self,
         cnf: &Cnf,
         log: &Log,
+        arena: &Arena,
         trail: &Trail,
         marks: &Marks,
         var: u64,
         depth: u32,
     ) -> bool
         requires state { IsState cnf.now log.now trail.now }
+        requires holding { map (λ h. h.lits) arena.now ≡ known_clauses cnf.now log.now }
         requires sized { length marks.now ≡ trail.now.vars }
     {
         let found = match self.found.get(var as usize) {
@@ -101,7 +109,7 @@ impl Minimizer {
         if found != 0 || depth == 0 {
             return found == 1;
         }
-        let implied = self.are_implied(cnf, log, trail, marks, var, depth - 1);
+        let implied = self.are_implied(cnf, log, arena, trail, marks, var, depth - 1);
         if let Some(own) = self.found.get_mut(var as usize) {
             *own = if implied { 1 } else { 2 };
         }

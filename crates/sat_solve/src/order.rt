@@ -8,8 +8,15 @@ use std::alloc::Global;
 // The scores are divided by this once one is greater.
 const LARGEST: f64 = 1e100;
 
-// What a part in a lemma counts, of what a part in the next one does.
+// What a part in a lemma counts, of what a part in the next one does: less at first, when much is still to be found out;
+// and more with each RAMP lemmas, up to a greatest share.
 const DECAY: f64 = 0.9;
+
+const DECAY_STEP: f64 = 0.01;
+
+const DECAY_MOST: f64 = 0.95;
+
+const RAMP: u64 = 3000;
 
 // The share of the last lemma in the two averages of the lemmas' levels, and how far the one of late has to be above the
 // one of all for a restart.
@@ -25,8 +32,9 @@ const MARGIN: f64 = 1.1;
 #[derive(Drop)]
 pub struct Order {
     scores: Vec<f64>,
-    // What a part in a lemma counts; more from lemma to lemma.
+    // What a part in a lemma counts; more from lemma to lemma, by this.
     weight: f64,
+    decay: f64,
     heap: Vec<u64>,
     // Where a variable stands in the heap, one more; 0 where it doesn't.
     places: Vec<usize>,
@@ -57,6 +65,7 @@ impl Order {
         Ok(Order {
             scores: vec![in alloc; 0.0; count]?,
             weight: 1.0,
+            decay: DECAY,
             heap,
             places,
             negative: vec![in alloc; true; count]?,
@@ -112,7 +121,10 @@ impl Order {
         self.all_weight = self.all_weight + (1.0 - self.all_weight) * ALL;
         self.levels = 0.0;
         self.lemmas = self.lemmas.wrapping_add(1);
-        self.weight = self.weight / DECAY;
+        self.weight = self.weight / self.decay;
+        if self.lemmas % RAMP == 0 && self.decay < DECAY_MOST {
+            self.decay = self.decay + DECAY_STEP;
+        }
     }
 
     /// Whether the lemmas of late are of more levels than those before.

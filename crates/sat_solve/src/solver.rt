@@ -6,6 +6,7 @@ ghost use Rattle.sat_solve.specs.State.{IsState};
 ghost use Rattle.sat_solve.specs.Search.{IsSearch};
 ghost use Rattle.sat_solve.specs.RightAnswer.{IsRightAnswer};
 
+use crate::clauses::hold;
 use crate::learning::{back_up, explain, learn};
 use crate::order::Order;
 use crate::pace::Pace;
@@ -41,7 +42,8 @@ pub fn solve(alloc: Global, cnf: &Cnf, budget: u64) -> Result<Answer, NoMemory>
     let mut order = Order::new(alloc, cnf.vars())?;
     match found {
         Some(conflict) => {
-            let lesson = explain(alloc, cnf, &log, &trail, conflict, 0, &mut order)?;
+            let arena = hold(alloc, cnf)?;
+            let lesson = explain(alloc, cnf, &log, &arena, &trail, conflict, 0, &mut order)?;
             log.push(lesson.lemma)?;
             Ok(Answer::Refuted(log))
         }
@@ -77,7 +79,16 @@ fn search(
     loop {
         match propagate(alloc, cnf, &log, &mut watches, &mut trail)? {
             Some(conflict) => {
-                let lesson = explain(alloc, cnf, &log, &trail, conflict, base, &mut order)?;
+                let lesson = explain(
+                    alloc,
+                    cnf,
+                    &log,
+                    &watches.arena,
+                    &trail,
+                    conflict,
+                    base,
+                    &mut order,
+                )?;
                 if lesson.lemma.lits.is_empty() {
                     log.push(lesson.lemma)?;
                     return Ok(Answer::Refuted(log));

@@ -1,7 +1,6 @@
 //! The walk back over the trail from a conflict: it gathers the literals of a lemma, and the hints by
 //! which the lemma follows.
-ghost use Rattle.std.specs.Prelude.{◌≡◌, ℕ, ◌+◌, ◌<◌, ◌≤◌, [], ◌∷◌, ◌++◌, ◌⊎◌, length, IfOk, OnOk, All, Contains, Some, None, IsSome, MatchOption, slice_get, slice_index_or, drop, Bool, true, false};
-ghost use Rattle.sat_base.specs.declared.literals.Lit.{Lit};
+ghost use Rattle.std.specs.Prelude.{◌≡◌, ℕ, ◌+◌, ◌<◌, ◌≤◌, [], ◌∷◌, ◌++◌, ◌⊎◌, ◌/◌, length, map, IfOk, OnOk, Some, None, IsSome, MatchOption, slice_get, slice_index_or, drop, Bool, true, false};
 ghost use Rattle.sat_base.specs.Literal.{negation};
 ghost use Rattle.sat_solve.specs.declared.trail.Entry.{Entry};
 ghost use Rattle.sat_solve.specs.State.{known_clauses, IsState};
@@ -9,6 +8,7 @@ ghost use Rattle.sat_solve.specs.Found.{IsConflictAt};
 ghost use Rattle.sat_solve.specs.Decisions.{IsUndecided, IsBelowLevel};
 ghost use Rattle.sat_solve.specs.Walk.{IsWalked, AreUnmarked};
 
+use crate::arena::Arena;
 use crate::clauses::clause;
 use crate::marks::Marks;
 use crate::trail::Trail;
@@ -31,10 +31,12 @@ pub fn begin(
     alloc: Global,
     cnf: &Cnf,
     log: &Log,
+    arena: &Arena,
     trail: &Trail,
     conflict: u64,
 ) -> Result<Walk, NoMemory>
     requires state { IsState cnf.now log.now trail.now }
+    requires holding { map (λ h. h.lits) arena.now ≡ known_clauses cnf.now log.now }
     requires conflict { IsConflictAt (known_clauses cnf.now log.now) trail.now.entries conflict }
     ensures walked { IfOk result (λ w. IsWalked (known_clauses cnf.now log.now) trail.now.entries trail.now.vars 0 w.marks w.lits.items w.numbers.items) }
     ensures lits { IfOk result (λ w. w.lits.items ≡ []) }
@@ -42,7 +44,7 @@ pub fn begin(
     let mut marks = Marks::new(alloc, trail.vars() as usize)?;
     let mut numbers = Vec::new(alloc);
     let mut seen = Vec::new(alloc);
-    mark(&mut marks, &mut seen, clause(cnf, log, conflict))?;
+    mark(&mut marks, &mut seen, clause(cnf, log, arena, conflict))?;
     numbers.push(conflict)?;
     Ok(Walk {
         marks,
@@ -52,17 +54,18 @@ pub fn begin(
     })
 }
 
-// Marks the variables of the clause, and lists those that were not marked.
-fn mark(marks: &mut Marks, seen: &mut Vec<u64>, clause: &[Lit]) -> Result<(), NoMemory>
-    requires { All (λ l. l.var < length marks.old) clause.now }
+// Marks the variables of the codes, and lists those that were not marked.
+fn mark(marks: &mut Marks, seen: &mut Vec<u64>, codes: &[u32]) -> Result<(), NoMemory>
+    requires { (k : ℕ) → k < length codes.now → slice_index_or codes.now k 0 / 2 < length marks.old }
     ensures sized { OnOk result (length marks.new ≡ length marks.old) }
     ensures kept { OnOk result ((v : ℕ) → slice_index_or marks.old v false ≡ true → slice_index_or marks.new v false ≡ true) }
-    ensures all { OnOk result ((l : Lit) → Contains clause.now l → slice_index_or marks.new l.var false ≡ true) }
+    ensures all { OnOk result ((k : ℕ) → k < length codes.now → slice_index_or marks.new (slice_index_or codes.now k 0 / 2) false ≡ true) }
 {
-    for lit in clause {
-        if !marks.contains(lit.var) {
-            marks.insert(lit.var);
-            seen.push(lit.var)?;
+    for code in codes {
+        let var = (*code / 2) as u64;
+        if !marks.contains(var) {
+            marks.insert(var);
+            seen.push(var)?;
         }
     }
     Ok(())
@@ -88,19 +91,21 @@ pub fn keep(cnf: &Cnf, log: &Log, trail: &Trail, walk: &mut Walk, k: usize) -> R
 pub fn expand(
     cnf: &Cnf,
     log: &Log,
+    arena: &Arena,
     trail: &Trail,
     walk: &mut Walk,
     k: usize,
     reason: u64,
 ) -> Result<(), NoMemory>
     requires state { IsState cnf.now log.now trail.now }
+    requires holding { map (λ h. h.lits) arena.now ≡ known_clauses cnf.now log.now }
     requires reason { (e : Entry) × (slice_get trail.now.entries k ≡ Some e) × (e.reason ≡ Some reason) }
     requires walked { IsWalked (known_clauses cnf.now log.now) trail.now.entries trail.now.vars k walk.old.marks walk.old.lits.items walk.old.numbers.items }
     ensures walked { OnOk result (IsWalked (known_clauses cnf.now log.now) trail.now.entries trail.now.vars (k + 1) walk.new.marks walk.new.lits.items walk.new.numbers.items) }
     ensures lits { OnOk result (walk.new.lits.items ≡ walk.old.lits.items) }
 {
-    let lits = clause(cnf, log, reason);
-    mark(&mut walk.marks, &mut walk.seen, lits)?;
+    let codes = clause(cnf, log, arena, reason);
+    mark(&mut walk.marks, &mut walk.seen, codes)?;
     walk.marks.remove(trail.newest(k).lit.var);
     walk.numbers.push(reason)?;
     Ok(())
@@ -111,12 +116,14 @@ pub fn expand(
 pub fn step(
     cnf: &Cnf,
     log: &Log,
+    arena: &Arena,
     trail: &Trail,
     walk: &mut Walk,
     k: usize,
     implied: bool,
 ) -> Result<(), NoMemory>
     requires state { IsState cnf.now log.now trail.now }
+    requires holding { map (λ h. h.lits) arena.now ≡ known_clauses cnf.now log.now }
     requires place { k < length trail.now.entries }
     requires walked { IsWalked (known_clauses cnf.now log.now) trail.now.entries trail.now.vars k walk.old.marks walk.old.lits.items walk.old.numbers.items }
     ensures walked { OnOk result (IsWalked (known_clauses cnf.now log.now) trail.now.entries trail.now.vars (k + 1) walk.new.marks walk.new.lits.items walk.new.numbers.items) }
@@ -131,7 +138,7 @@ pub fn step(
         None => keep(cnf, log, trail, walk, k),
         Some(reason) => {
             if implied {
-                expand(cnf, log, trail, walk, k, reason)
+                expand(cnf, log, arena, trail, walk, k, reason)
             } else {
                 keep(cnf, log, trail, walk, k)
             }
@@ -152,8 +159,15 @@ pub fn below_level(trail: &Trail) -> Option<usize>
 }
 
 /// Where there is no decision, all that is looked at has a reason, and the lemma stays empty.
-pub fn walk_all(cnf: &Cnf, log: &Log, trail: &Trail, walk: &mut Walk) -> Result<(), NoMemory>
+pub fn walk_all(
+    cnf: &Cnf,
+    log: &Log,
+    arena: &Arena,
+    trail: &Trail,
+    walk: &mut Walk,
+) -> Result<(), NoMemory>
     requires state { IsState cnf.now log.now trail.now }
+    requires holding { map (λ h. h.lits) arena.now ≡ known_clauses cnf.now log.now }
     requires undecided { IsUndecided trail.now.entries 0 (length trail.now.entries) }
     requires walked { IsWalked (known_clauses cnf.now log.now) trail.now.entries trail.now.vars 0 walk.old.marks walk.old.lits.items walk.old.numbers.items }
     requires lits { walk.old.lits.items ≡ [] }
@@ -161,7 +175,7 @@ pub fn walk_all(cnf: &Cnf, log: &Log, trail: &Trail, walk: &mut Walk) -> Result<
     ensures lits { OnOk result (walk.new.lits.items ≡ []) }
 {
     for k in 0..trail.len() {
-        step(cnf, log, trail, walk, k, true)?;
+        step(cnf, log, arena, trail, walk, k, true)?;
     }
     Ok(())
 }
@@ -185,11 +199,13 @@ fn are_unmarked(trail: &Trail, marks: &Marks, from: usize, to: usize) -> bool
 pub fn walk_to_point(
     cnf: &Cnf,
     log: &Log,
+    arena: &Arena,
     trail: &Trail,
     walk: &mut Walk,
     start: usize,
 ) -> Result<usize, NoMemory>
     requires state { IsState cnf.now log.now trail.now }
+    requires holding { map (λ h. h.lits) arena.now ≡ known_clauses cnf.now log.now }
     requires level { IsBelowLevel trail.now.entries start }
     requires walked { IsWalked (known_clauses cnf.now log.now) trail.now.entries trail.now.vars 0 walk.old.marks walk.old.lits.items walk.old.numbers.items }
     requires lits { walk.old.lits.items ≡ [] }
@@ -204,7 +220,7 @@ pub fn walk_to_point(
         {
             return Ok(k);
         }
-        step(cnf, log, trail, walk, k, true)?;
+        step(cnf, log, arena, trail, walk, k, true)?;
     }
     Ok(start - 1)
 }

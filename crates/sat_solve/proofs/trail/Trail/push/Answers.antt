@@ -1,4 +1,4 @@
-use Rattle.std.proofs.Common.{◌≡◌, ◌<◌, ℕ, List, ◌∷◌, Option, Bool, None, Some, length, reverse, set, ap, sym, subst, arith}
+use Rattle.std.proofs.Common.{◌≡◌, ◌<◌, ℕ, List, ◌∷◌, None, Some, length, reverse, set, ap, sym, subst, arith}
 use Rattle.std.proofs.lemmas.List.{length-set}
 use Rattle.sat_solve.specs.declared.trail.Entry.{Entry}
 use Rattle.sat_solve.specs.declared.trail.Truth.{Truth}
