@@ -76,6 +76,7 @@ fn row_of(line: &str) -> Option<Row<'_>> {
 }
 
 /// A row of a product of a sum.
+#[derive(Clone, Copy)]
 struct Product<'t> {
     width: u32,
     budget: u64,
