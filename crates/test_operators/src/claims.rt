@@ -1,6 +1,6 @@
 //! What is found for a row: by the evaluator, and by the solver on the formulas of two claims.
 
-ghost use Rattle.std.specs.Prelude.{◌≡◌, ◌<◌, IfOk, IfSome, OnOk, length};
+ghost use Rattle.std.specs.Prelude.{◌≡◌, ◌<◌, ◌≤◌, IfOk, IfSome, OnOk, length};
 ghost use Rattle.wb_terms.specs.Environment.{Fits};
 ghost use Rattle.sat_settle.specs.Settled.{IsSettled};
 ghost use Rattle.wb_terms.specs.Graph.{Graph, IsOver};
@@ -181,26 +181,59 @@ fn node_of(operator: &str, width: u32) -> Option<Node>
     }
 }
 
-/// The claim that x, y and c are not the row's values, or the operator does not have a value of them.
-fn claim_of(terms: &mut Terms, row: Row<'_>, value: u128) -> Result<TermId, PutStop>
-    requires { length terms.old.nodes ≡ 4 }
+/// The term that x and y are the row's words.
+fn are_words(terms: &mut Terms, row: Row<'_>) -> Result<TermId, PutStop>
+    requires room { 3 < length terms.old.nodes }
     ensures id { IfOk result (λ id. id.0 < length terms.new.nodes) }
-    ensures room { OnOk result (3 < length terms.new.nodes) }
+    ensures kept { OnOk result (length terms.old.nodes ≤ length terms.new.nodes) }
+{
+    let first = terms.put(Node::Const(row.width, row.x))?;
+    let second = terms.put(Node::Const(row.width, row.y))?;
+    let is_x = terms.put(Node::Eq(X, first))?;
+    let is_y = terms.put(Node::Eq(Y, second))?;
+    let both = terms.put(Node::And(is_x, is_y))?;
+    Ok(both)
+}
+
+/// The term that c is so.
+fn is_condition(terms: &mut Terms, holds: bool) -> Result<TermId, PutStop>
+    requires room { 3 < length terms.old.nodes }
+    ensures id { IfOk result (λ id. id.0 < length terms.new.nodes) }
+    ensures kept { OnOk result (length terms.old.nodes ≤ length terms.new.nodes) }
+{
+    if holds {
+        return Ok(C);
+    }
+    let id = terms.put(Node::Not(C))?;
+    Ok(id)
+}
+
+/// The term that the operator gives a value.
+fn is_wanted(terms: &mut Terms, value: u128) -> Result<TermId, PutStop>
+    requires room { 3 < length terms.old.nodes }
+    ensures id { IfOk result (λ id. id.0 < length terms.new.nodes) }
+    ensures kept { OnOk result (length terms.old.nodes ≤ length terms.new.nodes) }
 {
     let wanted = match terms.sort(RESULT) {
         Sort::Truth => Node::Truth(value == 1),
         Sort::Word(width) => Node::Const(width, value),
         Sort::Memory(_, _) => return Err(PutStop::BadSort),
     };
-    let first = terms.put(Node::Const(row.width, row.x))?;
-    let second = terms.put(Node::Const(row.width, row.y))?;
-    let third = terms.put(wanted)?;
-    let is_x = terms.put(Node::Eq(X, first))?;
-    let is_y = terms.put(Node::Eq(Y, second))?;
-    let is_wanted = terms.put(Node::Eq(RESULT, third))?;
-    let is_c = if row.c() { C } else { terms.put(Node::Not(C))? };
-    let are_words = terms.put(Node::And(is_x, is_y))?;
-    let are_values = terms.put(Node::And(are_words, is_c))?;
+    let constant = terms.put(wanted)?;
+    let id = terms.put(Node::Eq(RESULT, constant))?;
+    Ok(id)
+}
+
+/// The claim that x, y and c are not the row's values, or the operator does not have a value of them.
+fn claim_of(terms: &mut Terms, row: Row<'_>, value: u128) -> Result<TermId, PutStop>
+    requires { length terms.old.nodes ≡ 4 }
+    ensures id { IfOk result (λ id. id.0 < length terms.new.nodes) }
+    ensures room { OnOk result (3 < length terms.new.nodes) }
+{
+    let are_words = are_words(terms, row)?;
+    let is_condition = is_condition(terms, row.c())?;
+    let is_wanted = is_wanted(terms, value)?;
+    let are_values = terms.put(Node::And(are_words, is_condition))?;
     let all = terms.put(Node::And(are_values, is_wanted))?;
     let claim = terms.put(Node::Not(all))?;
     Ok(claim)
