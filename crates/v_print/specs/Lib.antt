@@ -1,0 +1,6 @@
+pub mod Reads
+pub mod Writes
+pub mod Spelled
+pub mod Whole
+pub mod Printable
+pub mod Links

@@ -1,0 +1,11 @@
+//! Trees of Verilog sources written as text that reads as the same trees.
+#![tactic(auto)]
+
+mod byte;
+pub mod expression;
+pub mod last;
+mod level;
+mod mark;
+mod number;
+mod operator;
+pub mod writer;
