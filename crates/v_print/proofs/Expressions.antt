@@ -28,7 +28,7 @@ IsSpelled k e f = (r : List Token) → IsExpression k e (f r) r
 abbrev Wholly : Expression → (List Token → List Token) → Type 0
 Wholly e f = (r : List Token) → IsExpression 0 e (f r) r
 
-whole_of : (l : ℕ) (e : Expression) (f : List Token → List Token) → IsSpelled l e f → IsSpelled 0 e f
+pub whole_of : (l : ℕ) (e : Expression) (f : List Token → List Token) → IsSpelled l e f → IsSpelled 0 e f
 whole_of l e f d r = lower 0 l e (f r) r (omega arith) (d r)
 
 in_brackets_of : (l k : ℕ) (e : Expression) (f : List Token → List Token) → k ≤ 13 → IsSpelled l e f → (r : List Token)

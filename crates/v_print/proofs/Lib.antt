@@ -6,3 +6,6 @@ pub mod Texts
 pub mod Chains
 pub mod Numbers
 pub mod Expressions
+pub mod Statements
+pub mod Clean
+pub mod Items

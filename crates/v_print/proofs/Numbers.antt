@@ -41,10 +41,10 @@ digit_stands d h = grind (arith, nat_tests)
 digit_behind : (n d : ℕ) → d < 10 → digits_from 10 digit_value n ((48 + d) ∷ []) ≡ n * 10 + d
 digit_behind n d h = cond-false (is_silent (48 + d)) _ _ (digit_speaks d h) ∙ ap (λ (k : ℕ). n * 10 + k) (digit_means d h)
 
-record IsNumeral (n : ℕ) (ds : List ℕ) : Type 0 where
-  value : decimal_value ds ≡ n
-  are_digits : list_all is_digit ds ≡ true
-  is_written : is_printed_decimal ds ≡ true
+pub record IsNumeral (n : ℕ) (ds : List ℕ) : Type 0 where
+  pub value : decimal_value ds ≡ n
+  pub are_digits : list_all is_digit ds ≡ true
+  pub is_written : is_printed_decimal ds ≡ true
 
 one_digit : (n : ℕ) → n < 10 → IsNumeral n ((48 + n) ∷ [])
 one_digit n h = record {
@@ -74,10 +74,10 @@ more_digits n ds h k =
     together : (m : ℕ) → m / 10 * 10 + m % 10 ≡ m
     together m = omega arith
 
-numeral_is : (n : ℕ) → n < 10 ^ 64 → IsNumeral n (numeral n)
+pub numeral_is : (n : ℕ) → n < 10 ^ 64 → IsNumeral n (numeral n)
 numeral_is n h = decimal_by_steps_wide IsNumeral one_digit more_digits n h
 
-narrow : (v w : ℕ) → v < 2 ^ kept_width w → v < 10 ^ 64
+pub narrow : (v w : ℕ) → v < 2 ^ kept_width w → v < 10 ^ 64
 narrow v w h = omega (arith, h, pow-le-pow_right {n = 2} (omega arith) {i = kept_width w} {j = 128} (omega arith))
 
 -- digits of no such kind
@@ -279,11 +279,11 @@ in_base : (n : Number) (size : Option ℕ) (s : Bool) (base : ℕ) (digits : Lis
     → number_in_base size s base digits ≡ n
 in_base n size s base digits e f g h =
     let value : digits_from base digit_value 0 digits % 2 ^ kept_width (width_of_size size) ≡ n.value =
-      ap (λ (w : ℕ). digits_from base digit_value 0 digits % 2 ^ kept_width w) e ∙ h.value in
+    ap (λ (w : ℕ). digits_from base digit_value 0 digits % 2 ^ kept_width w) e ∙ h.value in
     let unknown : digits_from base (filled_where base is_x) 0 digits % 2 ^ kept_width (width_of_size size) ≡ n.unknown =
-      ap (λ (w : ℕ). digits_from base (filled_where base is_x) 0 digits % 2 ^ kept_width w) e ∙ h.unknown in
+    ap (λ (w : ℕ). digits_from base (filled_where base is_x) 0 digits % 2 ^ kept_width w) e ∙ h.unknown in
     let wild : digits_from base (filled_where base is_z) 0 digits % 2 ^ kept_width (width_of_size size) + filled_above (bits_of_base base) (kept_width (width_of_size size)) digits ≡ n.wild =
-      ap (λ (w : ℕ). digits_from base (filled_where base is_z) 0 digits % 2 ^ kept_width w + filled_above (bits_of_base base) (kept_width w) digits) e ∙ h.wild in
+    ap (λ (w : ℕ). digits_from base (filled_where base is_z) 0 digits % 2 ^ kept_width w + filled_above (bits_of_base base) (kept_width w) digits) e ∙ h.wild in
     let signed : s ≡ n.signed = sym g in
     λ i. record { width = e i; sized = f i; signed = signed i; value = value i; unknown = unknown i; wild = wild i; has_unknown = h.has_unknown i; has_wild = h.has_wild i }
 
@@ -297,9 +297,9 @@ in_decimal n p x z =
       value = ap (λ (v : ℕ). v % q) k.value ∙ mod-eq_of_lt p.value_fits;
       unknown = ap (λ (v : ℕ). v % q) (nothing_filled is_x digit_not_x ds k.are_digits) ∙ zero-mod q ∙ sym (p.no_unknown x);
       wild = ap (λ (v : ℕ). v % q + filled_above 4 (kept_width n.width) ds) (nothing_filled is_z digit_not_z ds k.are_digits)
-        ∙ ap (λ (v : ℕ). v + filled_above 4 (kept_width n.width) ds) (zero-mod q)
-        ∙ ap (λ (t : Bool). 0 + cond t (2 ^ kept_width n.width - 2 ^ min (bits_of_digits 4 ds) (kept_width n.width)) 0) (no_z_in_front ds k.are_digits)
-        ∙ sym (p.no_wild z);
+          ∙ ap (λ (v : ℕ). v + filled_above 4 (kept_width n.width) ds) (zero-mod q)
+          ∙ ap (λ (t : Bool). 0 + cond t (2 ^ kept_width n.width - 2 ^ min (bits_of_digits 4 ds) (kept_width n.width)) 0) (no_z_in_front ds k.are_digits)
+          ∙ sym (p.no_wild z);
       has_unknown = none_of is_x digit_not_x ds k.are_digits ∙ sym x;
       has_wild = none_of is_z digit_not_z ds k.are_digits ∙ sym z;
     }
@@ -380,11 +380,11 @@ in_binary n p =
     record {
       value = ap (λ (ds : List ℕ). digits_from 2 digit_value 0 ds % 2 ^ k) (sym same) ∙ cut_read digit_value n.value n.value n.unknown n.wild (means_value n p) k p.value_fits cut;
       unknown = ap (λ (ds : List ℕ). digits_from 2 (filled_where 2 is_x) 0 ds % 2 ^ k) (sym same)
-        ∙ cut_read (filled_where 2 is_x) n.unknown n.value n.unknown n.wild (means_unknown n p) k p.unknown_fits cut;
+          ∙ cut_read (filled_where 2 is_x) n.unknown n.value n.unknown n.wild (means_unknown n p) k p.unknown_fits cut;
       wild = ap (λ (ds : List ℕ). digits_from 2 (filled_where 2 is_z) 0 ds % 2 ^ k + filled_above 1 k ds) (sym same)
-        ∙ ap (λ (x : ℕ). x + filled_above 1 k (cut ++ bits)) (cut_read (filled_where 2 is_z) n.wild n.value n.unknown n.wild (means_wild n p) k p.wild_fits cut)
-        ∙ ap (λ (x : ℕ). n.wild + x) (not_filled k (cut ++ bits) (enough_digits n))
-        ∙ alone n.wild;
+          ∙ ap (λ (x : ℕ). x + filled_above 1 k (cut ++ bits)) (cut_read (filled_where 2 is_z) n.wild n.value n.unknown n.wild (means_wild n p) k p.wild_fits cut)
+          ∙ ap (λ (x : ℕ). n.wild + x) (not_filled k (cut ++ bits) (enough_digits n))
+          ∙ alone n.wild;
       has_unknown = binary_has_unknown n p;
       has_wild = binary_has_wild n p;
     }
@@ -404,11 +404,14 @@ text_by n p size e f false false g b = let none = or_parts n.has_unknown n.has_w
 based_is : (n : Number) → IsPrintableNumber n → (size : Option ℕ) → width_of_size size ≡ n.width → has_size size ≡ n.sized → based_number size (based_text n) ≡ n
 based_is n p size e f = text_by n p size e f n.signed (n.has_unknown || n.has_wild) refl refl
 
+small_size : (w : ℕ) → w ≤ greatest_size → w < 10 ^ 64
+small_size w h = omega (arith, h)
+
+pub size_small : (n : Number) → IsPrintableNumber n → n.width < 10 ^ 64
+size_small n p = small_size n.width p.width_fits
+
 size_is : (n : Number) → IsPrintableNumber n → decimal_value (numeral n.width) ≡ n.width
-size_is n p = (numeral_is n.width (small n.width p.width_fits)).value
-  where
-    small : (w : ℕ) → w ≤ greatest_size → w < 10 ^ 64
-    small w h = omega (arith, h)
+size_is n p = (numeral_is n.width (size_small n p)).value
 
 size_kept : (w : ℕ) → w ≤ greatest_size → min w greatest_size ≡ w
 size_kept w h = omega (arith, h)
@@ -426,7 +429,7 @@ plain_is n p h =
     let sized : false ≡ n.sized = sym unsized in
     let signed : true ≡ n.signed = sym b.0 in
     let value : decimal_value (numeral n.value) % 2 ^ 32 ≡ n.value =
-      ap (λ (v : ℕ). v % 2 ^ 32) (numeral_is n.value (narrow n.value n.width p.value_fits)).value ∙ mod-eq_of_lt fits in
+    ap (λ (v : ℕ). v % 2 ^ 32) (numeral_is n.value (narrow n.value n.width p.value_fits)).value ∙ mod-eq_of_lt fits in
     let unknown : 0 ≡ n.unknown = sym (p.no_unknown x) in
     let wild : 0 ≡ n.wild = sym (p.no_wild z) in
     let has_unknown : false ≡ n.has_unknown = sym x in

@@ -1,10 +1,10 @@
 -- What a token or a blank at the front of a text adds to the parts before it.
-use Rattle.std.proofs.Common.{◌≡◌, ℕ, zero, suc, ◌+◌, Bool, true, false, List, [], ◌∷◌, ◌++◌, length, take, drop, Option, Some, None, refl, sym, ap, ◌∙◌, subst, append_assoc}
+use Rattle.std.proofs.Common.{◌≡◌, ℕ, zero, suc, ◌+◌, ◌≤◌, Bool, true, false, List, [], ◌∷◌, ◌++◌, length, take, drop, Option, Some, None, refl, sym, ap, ◌∙◌, subst, append_assoc, arith}
 use Rattle.std.specs.Prelude.{cond, ◌&&◌}
 use Rattle.std.specs.List.{list_all}
 use Rattle.std.specs.Char.{is_ascii}
 use Rattle.std.proofs.lemmas.Bool.{and_parts, and_from, cond-true}
-use Rattle.std.proofs.lemmas.List.{drop_at}
+use Rattle.std.proofs.lemmas.List.{drop_at, length-append}
 use Rattle.verilog_text.specs.Token.{Token, text_of}
 use Rattle.verilog_text.specs.Lexical.{Piece, nothing, token, Front, blank_length, is_blank_before, read_at, left_out_at}
 use Rattle.verilog_text.specs.Text.{Part, piece, Conditional, leaves_out, open_after, front_after, Expansion, with_front, with_parts, with_macro_text, tokens_read}
@@ -69,12 +69,19 @@ after_token kind t k rest before go h =
     ∙ skipped_text (length k.others) (k.others ++ rest) (piece (token t) ∷ before)
     ∙ ap (λ (bs : List ℕ). after_text bs (piece (token t) ∷ before)) (drop_at k.others rest (length k.others) refl)
 
+longer : (r rest others all : ℕ) → r ≤ rest → all ≡ others + rest → suc r ≤ suc all
+longer r rest others all h e = omega (arith, h, e)
+
+one_longer : (r rest : ℕ) → r ≤ rest → r ≤ suc rest
+one_longer r rest h = omega (arith, h)
+
 pub token_first : (kind : Last) (t : Token) → IsToken kind t → (rest : List ℕ) (r : List Token) → may_go_on kind rest ≡ true → HasTokens rest r → HasTokens (text_of t ++ rest) (t ∷ r)
 unfolding tokens_read
 token_first kind t k rest r go has = record {
   is_plain = all_joined is_ascii (text_of t) rest (ap (list_all is_ascii) k.is_text ∙ k.is_plain) has.is_plain;
   is_calm = λ before h. subst IsCalm (sym (after_token kind t k rest before go h)) (has.is_calm (piece (token t) ∷ before) h);
   tokens = λ before h. ap tokens_read (after_token kind t k rest before go h) ∙ has.tokens (piece (token t) ∷ before) h ∙ append_assoc (tokens_read before) (t ∷ []) r;
+  are_few = subst (λ bs. suc (length r) ≤ length (bs ++ rest)) (sym k.is_text) (longer (length r) (length rest) (length k.others) (length (k.others ++ rest)) has.are_few (length-append k.others rest));
 }
 
 -- ---- blanks
@@ -103,7 +110,8 @@ unfolding tokens_read
 blank_first b rest r plain reads has = record {
   is_plain = and_from (is_ascii b) (list_all is_ascii rest) plain has.is_plain;
   is_calm = λ before h. subst IsCalm (sym (blank_turn (blank_length false rest) b rest before h (reads rest)))
-    (blanks IsCalm rest before h (has.is_calm before h) (has.is_calm (piece nothing ∷ before) h));
+      (blanks IsCalm rest before h (has.is_calm before h) (has.is_calm (piece nothing ∷ before) h));
   tokens = λ before h. ap tokens_read (blank_turn (blank_length false rest) b rest before h (reads rest))
-    ∙ blanks (λ ps. tokens_read ps ≡ tokens_read before ++ r) rest before h (has.tokens before h) (has.tokens (piece nothing ∷ before) h);
+      ∙ blanks (λ ps. tokens_read ps ≡ tokens_read before ++ r) rest before h (has.tokens before h) (has.tokens (piece nothing ∷ before) h);
+  are_few = one_longer (length r) (length rest) has.are_few;
 }

@@ -12,7 +12,7 @@ use Rattle.wb_values.specs.Names.{is_letter, is_digit, begins_with}
 use Rattle.verilog_text.specs.Token.{Token, text_of, word, system, decimal, based}
 use Rattle.verilog_text.specs.Lexical.{Piece, nothing, token, excluded, Front, run_length, is_blank, is_blank_before, blank_length, is_word_byte, is_decimal_byte, is_excluded, word_piece, word_front, fraction_length, exponent_length, real_from, real_length, signed_length, number_front, number_at, is_base, is_digit_of, runs_on, are_digits_of, if_digits, digits_length, base_length, behind_quote, based_of, based_at, system_piece, system_at, read_at}
 use Rattle.v_print.specs.declared.last.Last.{Last}
-use Rattle.v_print.specs.declared.last.Last.TheVariants.{Run}
+use Rattle.v_print.specs.declared.last.Last.TheVariants.{Run, Digits}
 use Rattle.v_print.specs.Reads.{may_follow, may_go_on, is_printed_word, is_printed_decimal, is_bit_digit, is_printed_binary, is_printed_base, is_printed_based, is_printed}
 use Rattle.v_print.proofs.Parts.{IsToken}
 
@@ -66,11 +66,11 @@ not_word (b ∷ bs) h = by_byte b h
     by_byte : (b : ℕ) → may_follow Run b ≡ true → is_word_byte b ≡ false
     by_byte b h = grind (arith, nat_tests)
 
-not_decimal : (rest : List ℕ) → may_go_on Run rest ≡ true → begins_with is_decimal_byte rest ≡ false
+not_decimal : (rest : List ℕ) → may_go_on Digits rest ≡ true → begins_with is_decimal_byte rest ≡ false
 not_decimal [] h = refl
 not_decimal (b ∷ bs) h = by_byte b h
   where
-    by_byte : (b : ℕ) → may_follow Run b ≡ true → is_decimal_byte b ≡ false
+    by_byte : (b : ℕ) → may_follow Digits b ≡ true → is_decimal_byte b ≡ false
     by_byte b h = grind (arith, nat_tests)
 
 not_running : (base : ℕ) (rest : List ℕ) → may_go_on Run rest ≡ true → begins_with (runs_on base) rest ≡ false
@@ -80,13 +80,13 @@ not_running base (b ∷ bs) h = by_byte base b h
     by_byte : (base b : ℕ) → may_follow Run b ≡ true → runs_on base b ≡ false
     by_byte base b h = grind (arith, nat_tests)
 
-no_point : (b : ℕ) → may_follow Run b ≡ true → (b == 46) ≡ false
+no_point : (b : ℕ) → may_follow Digits b ≡ true → (b == 46) ≡ false
 no_point b h = grind (arith, nat_tests)
 
-no_exponent : (b : ℕ) → may_follow Run b ≡ true → (b == 101 || b == 69) ≡ false
+no_exponent : (b : ℕ) → may_follow Digits b ≡ true → (b == 101 || b == 69) ≡ false
 no_exponent b h = grind (arith, nat_tests)
 
-not_real : (rest : List ℕ) → may_go_on Run rest ≡ true → real_length rest ≡ None
+not_real : (rest : List ℕ) → may_go_on Digits rest ≡ true → real_length rest ≡ None
 unfolding real_length fraction_length exponent_length
 not_real [] h = refl
 not_real (b ∷ bs) h =
@@ -138,7 +138,7 @@ unfolding read_at
 at_digit b bs h =
     cond-false (is_blank_before false b bs) _ _ (digit_not_blank b bs h) ∙ cond-false (is_letter b) _ _ (digit_not_letter b h) ∙ cond-true (is_digit b) _ _ h
 
-decimal_read : (b : ℕ) (bs rest : List ℕ) → is_digit b ≡ true → list_all is_digit bs ≡ true → may_go_on Run rest ≡ true
+decimal_read : (b : ℕ) (bs rest : List ℕ) → is_digit b ≡ true → list_all is_digit bs ≡ true → may_go_on Digits rest ≡ true
     → read_at false b (bs ++ rest) ≡ Some (token (decimal (b ∷ bs)), length bs)
 unfolding number_at
 decimal_read b bs rest digit digits go =
@@ -149,7 +149,7 @@ decimal_read b bs rest digit digits go =
     ∙ ap (λ (o : Option ℕ). number_front b (bs ++ rest) (length bs) o) (not_real rest go)
     ∙ ap (λ (q : List ℕ). Some (token (decimal (b ∷ q)), length bs)) (take_at bs rest (length bs) refl)
 
-pub decimal_token : (text : List ℕ) → is_printed (decimal text) ≡ true → IsToken Run (decimal text)
+pub decimal_token : (text : List ℕ) → is_printed (decimal text) ≡ true → IsToken Digits (decimal text)
 unfolding is_printed
 decimal_token [] h = absurd (false≢true h)
 decimal_token (b ∷ bs) h =
@@ -217,11 +217,11 @@ unfolding base_length
 base_read b digits h rest go =
     elim (or_cases (b == 100 && is_printed_decimal digits) (b == 98 && is_printed_binary digits) h) [
       | inl d ↦
-        let parts = and_parts (b == 100) (is_printed_decimal digits) d in
-        subst (λ c. base_length false (c ∷ digits ++ rest) ≡ Some (suc (length digits))) (sym (eqb-true b 100 parts.0)) (ap (λ (o : Option ℕ). option_map suc o) (in_decimal digits rest parts.1 go))
+          let parts = and_parts (b == 100) (is_printed_decimal digits) d in
+          subst (λ c. base_length false (c ∷ digits ++ rest) ≡ Some (suc (length digits))) (sym (eqb-true b 100 parts.0)) (ap (λ (o : Option ℕ). option_map suc o) (in_decimal digits rest parts.1 go))
       | inr d ↦
-        let parts = and_parts (b == 98) (is_printed_binary digits) d in
-        subst (λ c. base_length false (c ∷ digits ++ rest) ≡ Some (suc (length digits))) (sym (eqb-true b 98 parts.0)) (ap (λ (o : Option ℕ). option_map suc o) (in_binary digits rest parts.1 go))
+          let parts = and_parts (b == 98) (is_printed_binary digits) d in
+          subst (λ c. base_length false (c ∷ digits ++ rest) ≡ Some (suc (length digits))) (sym (eqb-true b 98 parts.0)) (ap (λ (o : Option ℕ). option_map suc o) (in_binary digits rest parts.1 go))
     ]
 
 no_sign : (b : ℕ) (digits : List ℕ) → is_printed_base (b ∷ digits) ≡ true → (b == 115 || b == 83) ≡ false
@@ -241,10 +241,10 @@ unfolding behind_quote
 quote_read s text rest h go =
     elim (or_cases (s == 115 && is_printed_base text) (is_printed_base (s ∷ text)) h) [
       | inl d ↦
-        let parts = and_parts (s == 115) (is_printed_base text) d in
-        subst (λ c. behind_quote false (c ∷ text ++ rest) ≡ Some (suc (length text))) (sym (eqb-true s 115 parts.0)) (ap (λ (o : Option ℕ). option_map suc o) (signed_read text rest parts.1 go))
+          let parts = and_parts (s == 115) (is_printed_base text) d in
+          subst (λ c. behind_quote false (c ∷ text ++ rest) ≡ Some (suc (length text))) (sym (eqb-true s 115 parts.0)) (ap (λ (o : Option ℕ). option_map suc o) (signed_read text rest parts.1 go))
       | inr d ↦
-        cond-false (s == 115 || s == 83) _ _ (no_sign s text d) ∙ base_read s text d rest go
+          cond-false (s == 115 || s == 83) _ _ (no_sign s text d) ∙ base_read s text d rest go
     ]
 
 based_read : (s : ℕ) (text rest : List ℕ) → (s == 115 && is_printed_base text || is_printed_base (s ∷ text)) ≡ true → may_go_on Run rest ≡ true
@@ -258,11 +258,11 @@ base_plain : (b : ℕ) (digits : List ℕ) → is_printed_base (b ∷ digits) �
 base_plain b digits h =
     elim (or_cases (b == 100 && is_printed_decimal digits) (b == 98 && is_printed_binary digits) h) [
       | inl d ↦
-        let parts = and_parts (b == 100) (is_printed_decimal digits) d in
-        subst (λ c. list_all is_ascii (c ∷ digits) ≡ true) (sym (eqb-true b 100 parts.0)) (decimal_plain digits parts.1)
+          let parts = and_parts (b == 100) (is_printed_decimal digits) d in
+          subst (λ c. list_all is_ascii (c ∷ digits) ≡ true) (sym (eqb-true b 100 parts.0)) (decimal_plain digits parts.1)
       | inr d ↦
-        let parts = and_parts (b == 98) (is_printed_binary digits) d in
-        subst (λ c. list_all is_ascii (c ∷ digits) ≡ true) (sym (eqb-true b 98 parts.0)) (binary_plain digits parts.1)
+          let parts = and_parts (b == 98) (is_printed_binary digits) d in
+          subst (λ c. list_all is_ascii (c ∷ digits) ≡ true) (sym (eqb-true b 98 parts.0)) (binary_plain digits parts.1)
     ]
   where
     decimal_plain : (ds : List ℕ) → is_printed_decimal ds ≡ true → list_all is_ascii ds ≡ true
@@ -277,8 +277,8 @@ quote_plain : (s : ℕ) (text : List ℕ) → (s == 115 && is_printed_base text 
 quote_plain s text h =
     elim (or_cases (s == 115 && is_printed_base text) (is_printed_base (s ∷ text)) h) [
       | inl d ↦
-        let parts = and_parts (s == 115) (is_printed_base text) d in
-        subst (λ c. list_all is_ascii (c ∷ text) ≡ true) (sym (eqb-true s 115 parts.0)) (text_plain text parts.1)
+          let parts = and_parts (s == 115) (is_printed_base text) d in
+          subst (λ c. list_all is_ascii (c ∷ text) ≡ true) (sym (eqb-true s 115 parts.0)) (text_plain text parts.1)
       | inr d ↦ base_plain s text d
     ]
   where
@@ -319,7 +319,7 @@ unfolding is_printed system_piece
 system_token n h =
     elim (or_cases (same_name n (codes "$signed")) (same_name n (codes "$unsigned")) h) [
       | inl e ↦ subst (λ m. IsToken Run (system m)) (sym ((bytes_eq-Decides n (codes "$signed")).0 e))
-        (record { first = 36; others = codes "signed"; is_text = refl; is_plain = refl; is_read = λ rest go. system_read (codes "signed") rest refl refl refl go })
+          (record { first = 36; others = codes "signed"; is_text = refl; is_plain = refl; is_read = λ rest go. system_read (codes "signed") rest refl refl refl go })
       | inr e ↦ subst (λ m. IsToken Run (system m)) (sym ((bytes_eq-Decides n (codes "$unsigned")).0 e))
-        (record { first = 36; others = codes "unsigned"; is_text = refl; is_plain = refl; is_read = λ rest go. system_read (codes "unsigned") rest refl refl refl go })
+          (record { first = 36; others = codes "unsigned"; is_text = refl; is_plain = refl; is_read = λ rest go. system_read (codes "unsigned") rest refl refl refl go })
     ]

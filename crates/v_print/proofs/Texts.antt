@@ -109,8 +109,8 @@ none_broken : (ps : List Part) (ts : List Token) → IsCalm ps → tokens_read p
 unfolding answer_of has_bad_token passes_limit tokens_read bytes_used has_bad_directive is_bad_directive has_excluded most_used
 none_broken ps ts calm are few sized shallow =
     let small : passes_limit (end_of_file ∷ ps) ≡ false =
-      or_from (nat_lt most_tokens (length (tokens_read ps))) (nat_lt most_used (bytes_used ps))
-      (ap (λ (q : List Token). nat_lt most_tokens (length q)) are ∙ few) (ap (λ (n : ℕ). nat_lt most_used n) (calm_used ps calm)) in
+    or_from (nat_lt most_tokens (length (tokens_read ps))) (nat_lt most_used (bytes_used ps))
+    (ap (λ (q : List Token). nat_lt most_tokens (length q)) are ∙ few) (ap (λ (n : ℕ). nat_lt most_used n) (calm_used ps calm)) in
     cond-false (has_bad_token (end_of_file ∷ ps)) _ _
     (or_from (has_bad_token ps) (not (passes_limit ps) && false) (calm_tokens ps calm (ap has_zero_size are ∙ sized)) (and_right (not (passes_limit ps)) false refl))
     ∙ cond-false (passes_limit (end_of_file ∷ ps) || has_bad_directive (end_of_file ∷ ps)) _ _

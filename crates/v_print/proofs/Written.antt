@@ -10,7 +10,7 @@ use Rattle.wb_values.specs.Value.{Name}
 use Rattle.verilog_text.specs.Token.{Mark, Token, text_of, word, system, decimal, based, mark}
 use Rattle.verilog_text.specs.Lexical.{nothing, blank_length, read_at}
 use Rattle.v_print.specs.declared.last.Last.{Last}
-use Rattle.v_print.specs.declared.last.Last.TheVariants.{Blank, Run, Opened, Stop, Prefix, Operator}
+use Rattle.v_print.specs.declared.last.Last.TheVariants.{Blank, Run, Digits, Opened, Stop, Prefix, Operator}
 use Rattle.v_print.specs.declared.writer.Writer.{Writer}
 use Rattle.v_print.specs.Reads.{may_follow, may_go_on, last_of_mark, is_printed, are_printed, HasTokens, ReadsAs}
 use Rattle.v_print.specs.Writes.{Front, GoesOn, IsWriting, Writes}
@@ -36,6 +36,10 @@ blank_follows Run b h = in_run b h
   where
     in_run : (b : ℕ) → may_follow Operator b ≡ true → may_follow Run b ≡ true
     in_run b h = grind (arith, nat_tests)
+blank_follows Digits b h = in_digits b h
+  where
+    in_digits : (b : ℕ) → may_follow Operator b ≡ true → may_follow Digits b ≡ true
+    in_digits b h = grind (arith, nat_tests)
 blank_follows Opened b h = in_opened b h
   where
     in_opened : (b : ℕ) → may_follow Operator b ≡ true → may_follow Opened b ≡ true
@@ -64,7 +68,7 @@ line_feed = record { is_plain = refl; follows = refl; is_read = λ bs. refl }
 gap_written : (b : ℕ) → IsGap b → (old new : Writer) → string_bytes new.text ≡ string_bytes old.text ++ b ∷ [] → Writes old new (λ r. r)
 gap_written b gap old new e = record {
   goes_on = λ f w rest r has. subst (λ bs. ReadsAs bs (f r)) (sym (ap (λ (t : List ℕ). t ++ rest) e ∙ append_assoc (string_bytes old.text) (b ∷ []) rest))
-    (w (b ∷ rest) r (λ p. (blank_follows old.last b gap.follows, blank_first b rest r gap.is_plain gap.is_read (has p).1)));
+      (w (b ∷ rest) r (λ p. (blank_follows old.last b gap.follows, blank_first b rest r gap.is_plain gap.is_read (has p).1)));
 }
 
 pub blank_written : (old new : Writer) → string_bytes new.text ≡ string_bytes old.text ++ 32 ∷ [] → Writes old new (λ r. r)
@@ -82,7 +86,7 @@ token_written : (kind : Last) (t : Token) → (is_printed t ≡ true → IsToken
     → string_bytes new.text ≡ string_bytes old.text ++ text_of t → new.last ≡ kind → Writes old new (λ r. t ∷ r)
 token_written kind t reads old new go e same = record {
   goes_on = λ f w rest r has. subst (λ bs. ReadsAs bs (f (t ∷ r))) (sym (ap (λ (q : List ℕ). q ++ rest) e ∙ append_assoc (string_bytes old.text) (text_of t) rest))
-    (w (text_of t ++ rest) (t ∷ r) (λ p.
+      (w (text_of t ++ rest) (t ∷ r) (λ p.
       let parts = and_parts (is_printed t) (are_printed r) p in
       let k = reads parts.0 in
       let more = has parts.1 in
@@ -95,8 +99,8 @@ word_written n = token_written Run (word n) (word_token n)
 pub system_written : (n : Name) (old new : Writer) → may_go_on old.last n ≡ true → string_bytes new.text ≡ string_bytes old.text ++ n → new.last ≡ Run → Writes old new (λ r. system n ∷ r)
 system_written n = token_written Run (system n) (system_token n)
 
-pub decimal_written : (n : List ℕ) (old new : Writer) → may_go_on old.last n ≡ true → string_bytes new.text ≡ string_bytes old.text ++ n → new.last ≡ Run → Writes old new (λ r. decimal n ∷ r)
-decimal_written n = token_written Run (decimal n) (decimal_token n)
+pub decimal_written : (n : List ℕ) (old new : Writer) → may_go_on old.last n ≡ true → string_bytes new.text ≡ string_bytes old.text ++ n → new.last ≡ Digits → Writes old new (λ r. decimal n ∷ r)
+decimal_written n = token_written Digits (decimal n) (decimal_token n)
 
 pub based_written : (n : List ℕ) (old new : Writer) → may_go_on old.last n ≡ true → string_bytes new.text ≡ string_bytes old.text ++ n → new.last ≡ Run → Writes old new (λ r. based n ∷ r)
 based_written n = token_written Run (based n) (based_token n)

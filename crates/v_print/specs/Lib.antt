@@ -4,3 +4,5 @@ pub mod Spelled
 pub mod Whole
 pub mod Printable
 pub mod Links
+pub mod Bodies
+pub mod Ladder

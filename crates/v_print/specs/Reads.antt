@@ -1,6 +1,6 @@
 -- Which bytes may stand directly after a token of a printed text, and which tokens such a text has.
 use Prim.Native.Char.{code}
-use Rattle.std.specs.Prelude.{◌≡◌, ℕ, Bool, true, false, not, ◌&&◌, ◌||◌, ◌==◌, List, [], ◌∷◌, ◌++◌, codes}
+use Rattle.std.specs.Prelude.{◌≡◌, ℕ, ◌≤◌, length, Bool, true, false, not, ◌&&◌, ◌||◌, ◌==◌, List, [], ◌∷◌, ◌++◌, codes}
 use Rattle.std.specs.List.{list_any, list_all}
 use Rattle.std.specs.Char.{is_ascii}
 use Rattle.wb_values.specs.Value.{Name, same_name}
@@ -9,7 +9,7 @@ use Rattle.verilog_text.specs.Token.{Mark, left_parenthesis, right_parenthesis, 
 use Rattle.verilog_text.specs.Lexical.{nothing, token, is_word_byte, is_excluded}
 use Rattle.verilog_text.specs.Text.{Part, piece, with_parts, with_macro_text, tokens_read}
 use Rattle.v_print.specs.declared.last.Last.{Last}
-use Rattle.v_print.specs.declared.last.Last.TheVariants.{Blank, Run, Opened, Stop, Prefix, Operator}
+use Rattle.v_print.specs.declared.last.Last.TheVariants.{Blank, Run, Digits, Opened, Stop, Prefix, Operator}
 
 -- ---- what may follow
 
@@ -20,6 +20,7 @@ is_among bytes b = list_any (λ c. c == b) bytes
 abbrev pub may_follow : Last → ℕ → Bool
 may_follow Blank b = true
 may_follow Run b = is_among (codes " \n()[]{},;:") b
+may_follow Digits b = is_among (codes " \n()[]{},;:'") b
 may_follow Opened b = not (b == code "*")
 may_follow Stop b = true
 may_follow Prefix b = is_letter b || (is_digit b || is_among (codes " \n({'$") b)
@@ -114,6 +115,7 @@ pub record HasTokens (bytes : List ℕ) (ts : List Token) : Type 0 where
   pub is_plain : list_all is_ascii bytes ≡ true
   pub is_calm : (before : List Part) → IsCalm before → IsCalm (after_text bytes before)
   pub tokens : (before : List Part) → IsCalm before → tokens_read (after_text bytes before) ≡ tokens_read before ++ ts
+  pub are_few : length ts ≤ length bytes
 
 -- The same where the tokens are such as are printed.
 abbrev pub ReadsAs : List ℕ → List Token → Type 0

@@ -30,6 +30,7 @@ fn may_follow(last: Last, byte: u8) -> bool
     match last {
         Last::Blank => true,
         Last::Run => is_among(b" \n()[]{},;:", byte),
+        Last::Digits => is_among(b" \n()[]{},;:'", byte),
         Last::Opened => byte != b'*',
         Last::Stop => true,
         Last::Prefix => { is_letter(byte) || is_digit(byte) || is_among(b" \n({'$", byte) }

@@ -11,9 +11,7 @@ use crate::number::write_number;
 use crate::operator::{link_level, link_mark, prefix_mark, test_level, test_mark};
 use crate::writer::Writer;
 use std::alloc::AllocError;
-use v_syntax::tree::{
-    BinaryLink, Choice, Expression, PrefixOperator, Select, Selects, TestLink,
-};
+use v_syntax::tree::{BinaryLink, Choice, Expression, PrefixOperator, Select, Selects, TestLink};
 use v_token::token::Mark;
 
 /// `$signed(` or `$unsigned(`.
@@ -132,13 +130,22 @@ fn write_braced(parts: &[Expression<'_>], out: &mut Writer) -> Result<(), AllocE
     ensures { OnOk result (Writes out.old out.new (λ r. mark left_brace ∷ printed_parts false (expressions_of parts.now) (mark right_brace ∷ r))) }
 {
     out.mark(Mark::LeftBrace)?;
+    write_parts(parts, out)?;
+    out.mark(Mark::RightBrace)?;
+    Ok(())
+}
+
+/// Expressions with commas between them.
+#[cycle(expression)]
+pub fn write_parts(parts: &[Expression<'_>], out: &mut Writer) -> Result<(), AllocError>
+    ensures { OnOk result (Writes out.old out.new (λ r. printed_parts false (expressions_of parts.now) r)) }
+{
     let mut started = false;
     for part in parts {
         out.comma_if(started)?;
         write(part, out)?;
         started = true;
     }
-    out.mark(Mark::RightBrace)?;
     Ok(())
 }
 

@@ -5,8 +5,10 @@
 pub enum Last {
     /// Nothing, or a blank: anything may follow.
     Blank,
-    /// A word or a number: a bracket, `,`, `;` or `:` may follow.
+    /// A word or a based number: a bracket, `,`, `;` or `:` may follow.
     Run,
+    /// A plain decimal: these or a quote may follow, before which it is a size.
+    Digits,
     /// `(`: anything but `*` may follow, which would begin an attribute.
     Opened,
     /// A mark with which no longer mark begins: anything may follow.

@@ -2,10 +2,20 @@
 #![tactic(auto)]
 
 mod byte;
+mod declaration;
 pub mod expression;
+mod instance;
+mod item;
 pub mod last;
 mod level;
 mod mark;
+mod module;
 mod number;
 mod operator;
+mod statement;
 pub mod writer;
+
+pub use module::print;
+
+#[cfg(test)]
+mod trial;

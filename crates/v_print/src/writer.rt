@@ -34,6 +34,14 @@ impl Writer {
         }
     }
 
+    /// The text.
+    pub fn into_text(self) -> String
+        ensures { result ≡ self.text }
+    {
+        let Writer { text, last: _ } = self;
+        text
+    }
+
     /// Bytes of a token, with what they leave for the next one.
     pub(crate) fn piece(&mut self, text: &str, last: Last) -> Result<(), AllocError>
         ensures text { OnOk result (string_bytes self.new.text ≡ string_bytes self.old.text ++ text.now) }
@@ -102,7 +110,7 @@ impl Writer {
         let mut buffer = Buffer::new();
         let text = buffer.format(number);
         self.part_from(text)?;
-        self.piece(text, Last::Run)?;
+        self.piece(text, Last::Digits)?;
         Ok(())
     }
 
