@@ -49,12 +49,12 @@ printed_arm c a r = word (codes "if") ∷ mark left_parenthesis ∷ bare (tree_o
 
 abbrev pub arms_before : Bool → Bool → List Arm → List Token → List Token
 arms_before c b [] r = r
-arms_before c b (a ∷ as) r = else_if b (printed_arm c a (arms_before c true as r))
+arms_before c b (a ∷ arms) r = else_if b (printed_arm c a (arms_before c true arms r))
 
 -- arms stand before it
 abbrev pub are_some : List Arm → Bool
 are_some [] = false
-are_some (a ∷ as) = true
+are_some (a ∷ arms) = true
 
 -- what stands behind the last else; where there is neither an arm nor that, nothing is done
 abbrev pub last_before : Bool → Bool → Option Statement → List Token → List Token

@@ -5,4 +5,8 @@ pub mod Whole
 pub mod Printable
 pub mod Links
 pub mod Bodies
+pub mod Depth
 pub mod Ladder
+pub mod Views
+pub mod Modules
+pub mod Within

@@ -1,11 +1,13 @@
 //! Declarations of ports, parameters, nets and variables.
-ghost use Rattle.std.specs.Prelude.{◌≡◌, ◌∷◌, [], map, codes, OnOk};
-ghost use Rattle.verilog_text.specs.Token.{word};
+ghost use Rattle.std.specs.Prelude.{◌≡◌, ◌∷◌, false, map, codes, OnOk};
+ghost use Rattle.verilog_text.specs.Token.{word, mark, left_bracket, right_bracket, colon};
 ghost use Rattle.verilog_text.specs.Grammar.{direction_word, parameter_word};
-ghost use Rattle.v_syntax.specs.Source.{direction_of, kind_of, optional_range_of, port_of, parameter_of};
 ghost use Rattle.v_syntax.specs.Tree.{tree_of};
+ghost use Rattle.v_syntax.specs.Source.{direction_of, kind_of, optional_range_of, port_of, parameter_of};
+ghost use Rattle.v_print.specs.Spelled.{printed};
 ghost use Rattle.v_print.specs.Bodies.{flag_before, kind_before};
-ghost use Rattle.v_print.specs.Modules.{printed_range, printed_port, printed_parameter, names_before, settings_before, wires_before, variables_before};
+ghost use Rattle.v_print.specs.Views.{setting_view, wire_view, variable_view};
+ghost use Rattle.v_print.specs.Modules.{printed_range, printed_names, printed_port, printed_setting, printed_settings, printed_parameter, printed_wire, printed_wires, printed_variable, printed_variables};
 ghost use Rattle.v_print.specs.Writes.{Writes};
 
 use crate::expression::write;
@@ -30,7 +32,9 @@ fn write_flag(name: &str, wanted: bool, out: &mut Writer) -> Result<(), AllocErr
 }
 
 /// A range.
-fn write_bounds(range: &Range<'_>, out: &mut Writer) -> Result<(), AllocError> {
+fn write_bounds(range: &Range<'_>, out: &mut Writer) -> Result<(), AllocError>
+    ensures { OnOk result (Writes out.old out.new (λ r. mark left_bracket ∷ printed (tree_of range.now.left) (mark colon ∷ printed (tree_of range.now.right) (mark right_bracket ∷ r)))) }
+{
     out.mark(Mark::LeftBracket)?;
     write(&range.left, out)?;
     out.mark(Mark::Colon)?;
@@ -40,7 +44,9 @@ fn write_bounds(range: &Range<'_>, out: &mut Writer) -> Result<(), AllocError> {
 }
 
 /// A range with a blank after it, where there is one.
-fn write_range(range: &Option<Box<Range<'_>>>, out: &mut Writer) -> Result<(), AllocError> {
+fn write_range(range: &Option<Box<Range<'_>>>, out: &mut Writer) -> Result<(), AllocError>
+    ensures { OnOk result (Writes out.old out.new (λ r. printed_range (optional_range_of range.now) r)) }
+{
     match range {
         None => Ok(()),
         Some(range) => {
@@ -52,7 +58,9 @@ fn write_range(range: &Option<Box<Range<'_>>>, out: &mut Writer) -> Result<(), A
 }
 
 /// A range of addresses with a blank before it, where there is one.
-fn write_addresses(range: &Option<Box<Range<'_>>>, out: &mut Writer) -> Result<(), AllocError> {
+fn write_addresses(range: &Option<Box<Range<'_>>>, out: &mut Writer) -> Result<(), AllocError>
+    ensures { OnOk result (Writes out.old out.new (λ r. printed_range (optional_range_of range.now) r)) }
+{
     match range {
         None => Ok(()),
         Some(range) => {
@@ -64,7 +72,9 @@ fn write_addresses(range: &Option<Box<Range<'_>>>, out: &mut Writer) -> Result<(
 }
 
 /// Names with commas between them.
-pub(crate) fn write_names(names: &[&str], out: &mut Writer) -> Result<(), AllocError> {
+pub(crate) fn write_names(names: &[&str], out: &mut Writer) -> Result<(), AllocError>
+    ensures { OnOk result (Writes out.old out.new (λ r. printed_names false (map (λ n. n.now) names.now) r)) }
+{
     let mut started = false;
     for name in names {
         out.comma_if(started)?;
@@ -103,7 +113,9 @@ fn write_kind(kind: Option<NetKind>, out: &mut Writer) -> Result<(), AllocError>
 }
 
 /// A declaration of ports.
-pub(crate) fn write_port(port: &PortDeclaration<'_>, out: &mut Writer) -> Result<(), AllocError> {
+pub(crate) fn write_port(port: &PortDeclaration<'_>, out: &mut Writer) -> Result<(), AllocError>
+    ensures { OnOk result (Writes out.old out.new (λ r. printed_port (port_of port.now) r)) }
+{
     out.word(direction_text(port.direction))?;
     out.blank()?;
     write_kind(port.kind, out)?;
@@ -120,7 +132,9 @@ fn parameter_text(is_local: bool) -> &'static str
 }
 
 /// A name with its value.
-fn write_setting(setting: &ParameterValue<'_>, out: &mut Writer) -> Result<(), AllocError> {
+fn write_setting(setting: &ParameterValue<'_>, out: &mut Writer) -> Result<(), AllocError>
+    ensures { OnOk result (Writes out.old out.new (λ r. printed_setting (setting_view setting.now) r)) }
+{
     out.word(setting.name)?;
     out.between(Mark::Equals)?;
     write(&setting.value, out)?;
@@ -128,7 +142,9 @@ fn write_setting(setting: &ParameterValue<'_>, out: &mut Writer) -> Result<(), A
 }
 
 /// Names with values, with commas between them.
-fn write_settings(settings: &[ParameterValue<'_>], out: &mut Writer) -> Result<(), AllocError> {
+fn write_settings(settings: &[ParameterValue<'_>], out: &mut Writer) -> Result<(), AllocError>
+    ensures { OnOk result (Writes out.old out.new (λ r. printed_settings false (map setting_view settings.now) r)) }
+{
     let mut started = false;
     for setting in settings {
         out.comma_if(started)?;
@@ -142,7 +158,9 @@ fn write_settings(settings: &[ParameterValue<'_>], out: &mut Writer) -> Result<(
 pub(crate) fn write_parameter(
     parameter: &ParameterDeclaration<'_>,
     out: &mut Writer,
-) -> Result<(), AllocError> {
+) -> Result<(), AllocError>
+    ensures { OnOk result (Writes out.old out.new (λ r. printed_parameter (parameter_of parameter.now) r)) }
+{
     out.word(parameter_text(parameter.is_local))?;
     out.blank()?;
     write_flag("signed", parameter.signed, out)?;
@@ -152,7 +170,9 @@ pub(crate) fn write_parameter(
 }
 
 /// A net, perhaps with what it is assigned.
-fn write_wire(wire: &Wire<'_>, out: &mut Writer) -> Result<(), AllocError> {
+fn write_wire(wire: &Wire<'_>, out: &mut Writer) -> Result<(), AllocError>
+    ensures { OnOk result (Writes out.old out.new (λ r. printed_wire (wire_view wire.now) r)) }
+{
     out.word(wire.name)?;
     match &wire.value {
         None => Ok(()),
@@ -165,7 +185,9 @@ fn write_wire(wire: &Wire<'_>, out: &mut Writer) -> Result<(), AllocError> {
 }
 
 /// Nets with commas between them.
-fn write_wires(wires: &[Wire<'_>], out: &mut Writer) -> Result<(), AllocError> {
+fn write_wires(wires: &[Wire<'_>], out: &mut Writer) -> Result<(), AllocError>
+    ensures { OnOk result (Writes out.old out.new (λ r. printed_wires false (map wire_view wires.now) r)) }
+{
     let mut started = false;
     for wire in wires {
         out.comma_if(started)?;
@@ -176,14 +198,18 @@ fn write_wires(wires: &[Wire<'_>], out: &mut Writer) -> Result<(), AllocError> {
 }
 
 /// A variable, or a memory where it has addresses.
-fn write_variable(variable: &Variable<'_>, out: &mut Writer) -> Result<(), AllocError> {
+fn write_variable(variable: &Variable<'_>, out: &mut Writer) -> Result<(), AllocError>
+    ensures { OnOk result (Writes out.old out.new (λ r. printed_variable (variable_view variable.now) r)) }
+{
     out.word(variable.name)?;
     write_addresses(&variable.addresses, out)?;
     Ok(())
 }
 
 /// Variables with commas between them.
-fn write_variables(variables: &[Variable<'_>], out: &mut Writer) -> Result<(), AllocError> {
+fn write_variables(variables: &[Variable<'_>], out: &mut Writer) -> Result<(), AllocError>
+    ensures { OnOk result (Writes out.old out.new (λ r. printed_variables false (map variable_view variables.now) r)) }
+{
     let mut started = false;
     for variable in variables {
         out.comma_if(started)?;
@@ -199,7 +225,9 @@ pub(crate) fn write_nets(
     range: &Option<Box<Range<'_>>>,
     wires: &[Wire<'_>],
     out: &mut Writer,
-) -> Result<(), AllocError> {
+) -> Result<(), AllocError>
+    ensures { OnOk result (Writes out.old out.new (λ r. word (codes "wire") ∷ flag_before (codes "signed") signed (printed_range (optional_range_of range.now) (printed_wires false (map wire_view wires.now) r)))) }
+{
     out.word("wire")?;
     out.blank()?;
     write_flag("signed", signed, out)?;
@@ -214,7 +242,9 @@ pub(crate) fn write_registers(
     range: &Option<Box<Range<'_>>>,
     variables: &[Variable<'_>],
     out: &mut Writer,
-) -> Result<(), AllocError> {
+) -> Result<(), AllocError>
+    ensures { OnOk result (Writes out.old out.new (λ r. word (codes "reg") ∷ flag_before (codes "signed") signed (printed_range (optional_range_of range.now) (printed_variables false (map variable_view variables.now) r)))) }
+{
     out.word("reg")?;
     out.blank()?;
     write_flag("signed", signed, out)?;

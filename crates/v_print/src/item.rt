@@ -1,4 +1,11 @@
 //! Module items.
+ghost use Rattle.std.specs.Prelude.{false, map, OnOk};
+ghost use Rattle.v_syntax.specs.Source.{events_of, item_of};
+ghost use Rattle.v_print.specs.Bodies.{or_if};
+ghost use Rattle.v_print.specs.Views.{assignment_view, event_view};
+ghost use Rattle.v_print.specs.Modules.{printed_assignments, printed_event, printed_event_list, printed_control, printed_item};
+ghost use Rattle.v_print.specs.Writes.{Writes};
+
 use crate::declaration::{write_nets, write_parameter, write_port, write_registers};
 use crate::instance::write_instances;
 use crate::statement::{begin_body, write_assignment, write_statement};
@@ -8,7 +15,9 @@ use v_syntax::module::{Assignment, EdgeKind, Event, Events, Item};
 use v_token::token::Mark;
 
 /// Continuous assignments with commas between them.
-fn write_assignments(assignments: &[Assignment<'_>], out: &mut Writer) -> Result<(), AllocError> {
+fn write_assignments(assignments: &[Assignment<'_>], out: &mut Writer) -> Result<(), AllocError>
+    ensures { OnOk result (Writes out.old out.new (λ r. printed_assignments false (map assignment_view assignments.now) r)) }
+{
     let mut started = false;
     for assignment in assignments {
         out.comma_if(started)?;
@@ -19,7 +28,9 @@ fn write_assignments(assignments: &[Assignment<'_>], out: &mut Writer) -> Result
 }
 
 /// An event.
-fn write_event(event: &Event<'_>, out: &mut Writer) -> Result<(), AllocError> {
+fn write_event(event: &Event<'_>, out: &mut Writer) -> Result<(), AllocError>
+    ensures { OnOk result (Writes out.old out.new (λ r. printed_event (event_view event.now) r)) }
+{
     match event.edge {
         EdgeKind::Posedge => {
             out.word("posedge")?;
@@ -41,7 +52,9 @@ fn write_event(event: &Event<'_>, out: &mut Writer) -> Result<(), AllocError> {
 }
 
 /// `or` between blanks, where something stands before.
-fn write_or(started: bool, out: &mut Writer) -> Result<(), AllocError> {
+fn write_or(started: bool, out: &mut Writer) -> Result<(), AllocError>
+    ensures { OnOk result (Writes out.old out.new (λ r. or_if started r)) }
+{
     if !started {
         return Ok(());
     }
@@ -52,7 +65,9 @@ fn write_or(started: bool, out: &mut Writer) -> Result<(), AllocError> {
 }
 
 /// Events with the word or between them.
-fn write_event_list(events: &[Event<'_>], out: &mut Writer) -> Result<(), AllocError> {
+fn write_event_list(events: &[Event<'_>], out: &mut Writer) -> Result<(), AllocError>
+    ensures { OnOk result (Writes out.old out.new (λ r. printed_event_list false (map event_view events.now) r)) }
+{
     let mut started = false;
     for event in events {
         write_or(started, out)?;
@@ -63,7 +78,9 @@ fn write_event_list(events: &[Event<'_>], out: &mut Writer) -> Result<(), AllocE
 }
 
 /// What a block waits for.
-fn write_control(events: &Events<'_>, out: &mut Writer) -> Result<(), AllocError> {
+fn write_control(events: &Events<'_>, out: &mut Writer) -> Result<(), AllocError>
+    ensures { OnOk result (Writes out.old out.new (λ r. printed_control (events_of events.now) r)) }
+{
     match events {
         Events::AnyChange => {
             out.mark(Mark::Star)?;
@@ -84,7 +101,9 @@ pub(crate) fn write_item(
     level: u64,
     colons: bool,
     out: &mut Writer,
-) -> Result<(), AllocError> {
+) -> Result<(), AllocError>
+    ensures { OnOk result (Writes out.old out.new (λ r. printed_item colons (item_of item.now) r)) }
+{
     match item {
         Item::Port(port) => {
             write_port(port, out)?;

@@ -1,5 +1,5 @@
 //! Text that grows token by token, with a blank wherever two tokens would run into one another.
-ghost use Rattle.std.specs.Prelude.{◌≡◌, ◌++◌, [], ◌∷◌, true, OnOk};
+ghost use Rattle.std.specs.Prelude.{◌≡◌, ◌++◌, [], ◌∷◌, true, cond, OnOk};
 ghost use Rattle.std.specs.String.{string_bytes};
 ghost use Rattle.std.specs.Fmt.{decimal as numeral};
 ghost use Rattle.verilog_text.specs.Token.{word, system, decimal, based, mark as mark_token};
@@ -163,14 +163,33 @@ impl Writer {
         Ok(())
     }
 
-    /// An opening bracket, where one is wanted.
-    pub fn open_if(&mut self, wanted: bool) -> Result<(), AllocError>
-        ensures { OnOk result (Writes self.old self.new (λ r. opened wanted r)) }
+    /// A new line, where one is wanted.
+    pub fn line_if(&mut self, wanted: bool) -> Result<(), AllocError>
+        ensures { OnOk result (Writes self.old self.new (λ r. r)) }
     {
         if !wanted {
             return Ok(());
         }
-        self.mark(Mark::LeftParenthesis)?;
+        self.line(0)?;
+        Ok(())
+    }
+
+    /// A mark, where it is wanted.
+    pub fn mark_if(&mut self, mark: Mark, wanted: bool) -> Result<(), AllocError>
+        ensures { OnOk result (Writes self.old self.new (λ r. cond wanted (mark_token (mark_of mark) ∷ r) r)) }
+    {
+        if !wanted {
+            return Ok(());
+        }
+        self.mark(mark)?;
+        Ok(())
+    }
+
+    /// An opening bracket, where one is wanted.
+    pub fn open_if(&mut self, wanted: bool) -> Result<(), AllocError>
+        ensures { OnOk result (Writes self.old self.new (λ r. opened wanted r)) }
+    {
+        self.mark_if(Mark::LeftParenthesis, wanted)?;
         Ok(())
     }
 
@@ -178,10 +197,7 @@ impl Writer {
     pub fn close_if(&mut self, wanted: bool) -> Result<(), AllocError>
         ensures { OnOk result (Writes self.old self.new (λ r. closed wanted r)) }
     {
-        if !wanted {
-            return Ok(());
-        }
-        self.mark(Mark::RightParenthesis)?;
+        self.mark_if(Mark::RightParenthesis, wanted)?;
         Ok(())
     }
 
