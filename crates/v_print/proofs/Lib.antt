@@ -10,3 +10,5 @@ pub mod Expressions
 pub mod Statements
 pub mod Clean
 pub mod Items
+pub mod CleanBodies
+pub mod Printed
