@@ -4,6 +4,7 @@ pub mod Fitting
 pub mod Written
 pub mod Texts
 pub mod Chains
+pub mod Bits
 pub mod Loops
 pub mod Numbers
 pub mod Expressions

@@ -2,20 +2,11 @@
 #![tactic(auto)]
 
 mod byte;
-mod declaration;
 pub mod expression;
-mod instance;
-mod item;
 pub mod last;
+pub mod laws;
 mod level;
 mod mark;
-mod module;
 mod number;
 mod operator;
-mod statement;
 pub mod writer;
-
-pub use module::print;
-
-#[cfg(test)]
-mod trial;

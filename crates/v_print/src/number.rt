@@ -1,6 +1,5 @@
 //! Numbers, in decimal, or in binary where some digit is x, z or `?`.
-ghost use Prim.Native.Char.{code};
-ghost use Rattle.std.specs.Prelude.{◌≡◌, ◌≤◌, ◌++◌, ◌∷◌, [], cond, OnOk};
+ghost use Rattle.std.specs.Prelude.{◌≡◌, ◌≤◌, ◌++◌, ◌∷◌, [], cond, codes, OnOk};
 ghost use Rattle.std.specs.Fmt.{decimal as numeral};
 ghost use Rattle.std.specs.String.{string_bytes};
 ghost use Rattle.v_syntax.specs.Tree.{number_of};
@@ -78,7 +77,7 @@ fn append_decimal(number: u128, out: &mut Writer) -> Result<(), AllocError>
 
 /// Appends the base and digits in binary.
 fn append_binary(number: &Number, out: &mut Writer) -> Result<(), AllocError>
-    ensures { OnOk result (string_bytes out.new.text ≡ string_bytes out.old.text ++ code "b" ∷ (cut_unknown (number_of number.now) ++ (cut_wild (number_of number.now) ++ bit_digits (kept_width number.now.width) number.now.value number.now.unknown number.now.wild))) }
+    ensures { OnOk result (string_bytes out.new.text ≡ string_bytes out.old.text ++ (codes "b" ++ (cut_unknown (number_of number.now) ++ (cut_wild (number_of number.now) ++ bit_digits (kept_width number.now.width) number.now.value number.now.unknown number.now.wild)))) }
 {
     out.piece("b", Last::Run)?;
     append_cut(number.has_unknown && number.unknown == 0, "x", out)?;
