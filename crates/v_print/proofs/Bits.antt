@@ -1,5 +1,5 @@
 -- Digits of bits, appended one after the other.
-use Rattle.std.proofs.Common.{◌≡◌, ℕ, suc, ◌-◌, ◌/◌, ◌%◌, ◌^◌, ◌<◌, List, [], ◌∷◌, ◌++◌, refl, sym, ap, ◌∙◌, subst, arith, append_assoc}
+use Rattle.std.proofs.Common.{◌≡◌, ℕ, suc, ◌-◌, ◌<◌, List, [], ◌∷◌, ◌++◌, ap, ◌∙◌, subst, arith, append_assoc}
 use Rattle.v_print.specs.Spelled.{bit_digit, bit_of, bit_digits}
 
 next_by : (left : ℕ) (v u w : ℕ) (text new digit goal : List ℕ) → text ++ bit_digits (suc left) v u w ≡ goal → new ≡ text ++ digit

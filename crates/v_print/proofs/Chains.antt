@@ -1,7 +1,7 @@
 -- Printed chains of operators, link by link.
-use Rattle.std.proofs.Common.{◌≡◌, ℕ, suc, Bool, true, false, List, [], ◌∷◌, refl, sym, ap, ◌∙◌, arith, le-ltb}
-use Rattle.std.specs.Prelude.{cond, nat_lt, nat_le}
-use Rattle.verilog_text.specs.Token.{left_parenthesis, right_parenthesis, question, colon, Token, mark}
+use Rattle.std.proofs.Common.{◌≡◌, ℕ, Bool, true, false, List, [], ◌∷◌, refl, sym, ap, ◌∙◌, arith, le-ltb}
+use Rattle.std.specs.Prelude.{nat_lt}
+use Rattle.verilog_text.specs.Token.{left_parenthesis, Token, mark}
 use Rattle.verilog_trees.specs.Syntax as pure
 use Rattle.v_syntax.specs.declared.tree.PrefixOperator.{PrefixOperator}
 use Rattle.v_syntax.specs.declared.tree.PrefixOperator.TheVariants.{Plus, Minus, Complement, IsZero, AllOnes, NotAllOnes, AnyOne, NoOne, OddOnes, EvenOnes}
@@ -14,7 +14,7 @@ use Rattle.v_syntax.specs.declared.tree.TestLink.{TestLink}
 use Rattle.v_syntax.specs.declared.tree.Choice.{Choice}
 use Rattle.v_syntax.specs.Tree.{tree_of, prefixed, all_prefixed, combined, tested}
 use Rattle.v_syntax.specs.Chain.{linked, test_linked, chosen}
-use Rattle.v_print.specs.Spelled.{opened, closed, bracketed, joined_before, level_of, bare}
+use Rattle.v_print.specs.Spelled.{opened, bracketed, joined_before, level_of, bare}
 use Rattle.v_print.specs.Links.{prefix_mark, link_mark, link_level, test_mark, test_level, level_after, level_after_tests, prefix_level, openings_before, test_openings_before, link_before, test_before, links_before, tests_before, choice_before, choices_before, prefixes_before}
 
 none_below : (n : ℕ) → nat_lt n 0 ≡ false

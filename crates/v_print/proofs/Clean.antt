@@ -1,24 +1,23 @@
 -- The printed tokens of printable trees are such as are printed, and no size among them is 0.
-use Rattle.std.proofs.Common.{◌≡◌, ℕ, zero, suc, ◌+◌, ◌*◌, ◌^◌, ◌<◌, ◌≤◌, Bool, true, false, List, [], ◌∷◌, ◌++◌, length, Option, Some, None, refl, sym, ap, ◌∙◌, subst, arith}
-use Rattle.std.specs.Prelude.{cond, not, ◌&&◌, ◌||◌, ◌==◌, nat_lt, nat_le, codes}
+use Rattle.std.proofs.Common.{◌≡◌, ℕ, zero, suc, ◌+◌, ◌*◌, ◌^◌, ◌<◌, ◌≤◌, Bool, true, false, List, [], ◌∷◌, ◌++◌, length, refl, sym, ap, ◌∙◌, arith}
+use Rattle.std.specs.Prelude.{cond, ◌&&◌, ◌||◌, ◌==◌, nat_lt, codes}
 use Rattle.std.specs.List.{list_all}
 use Rattle.std.specs.Fmt.{decimal as numeral}
-use Rattle.std.proofs.lemmas.Bool.{false≢true, true≢false, and_parts, and_from, and_left, and_right, or_from, or_left, false_from_ne_true}
+use Rattle.std.proofs.lemmas.Bool.{and_parts, and_from, and_left, and_right, or_from, or_left, false_from_ne_true}
 use Rattle.std.proofs.lemmas.List.{length-append}
 use Rattle.std.proofs.lemmas.Bool.Decides.{nat_tests}
 use Rattle.wb_values.specs.Value.{Name}
-use Rattle.wb_values.specs.ReservedWords.{is_reserved}
 use Rattle.verilog_text.specs.Token.{Mark, left_parenthesis, right_parenthesis, left_bracket, right_bracket, left_brace, right_brace, comma, colon, question, plus_colon, minus_colon, Token, word, system, decimal, based, mark}
-use Rattle.verilog_text.specs.Text.{is_zero, is_based}
-use Rattle.verilog_text.specs.Spelling.{digit_value, is_silent, digits_from, decimal_value, kept_width, greatest_size}
+use Rattle.verilog_text.specs.Text.{is_zero}
+use Rattle.verilog_text.specs.Spelling.{digit_value, is_silent, digits_from, kept_width}
 use Rattle.verilog_trees.specs.Syntax as tree
 use Rattle.verilog_trees.specs.Syntax.{Number, Expression, Expressions, no_expressions, expression, Select, Selects, whole, one, two}
 use Rattle.v_print.specs.Reads.{is_bit_digit, is_printed_decimal, is_printed_binary, is_printed, are_printed}
 use Rattle.v_print.specs.Whole.{begins_based, has_zero_size}
-use Rattle.v_print.specs.Spelled.{is_plain, bit_digit, bit_of, bit_digits, cut_unknown, cut_wild, digits_text, sign_text, based_text, size_before, number_before, level_of, opened, closed, parted, bracketed, bare, bare_parts, bare_select, bare_selects}
-use Rattle.v_print.specs.Printable.{IsPrintableNumber, IsPrintableName, IsPrintable, ArePrintable, IsPrintableSelect, ArePrintableSelects}
+use Rattle.v_print.specs.Spelled.{is_plain, bit_digit, bit_of, bit_digits, cut_unknown, cut_wild, sign_text, based_text, size_before, number_before, level_of, opened, closed, parted, bracketed, bare, bare_parts, bare_select, bare_selects}
+use Rattle.v_print.specs.Printable.{IsPrintableNumber, IsPrintable, ArePrintable, IsPrintableSelect, ArePrintableSelects}
 use Rattle.v_print.proofs.Parts.{all_joined}
-use Rattle.v_print.proofs.Numbers.{IsNumeral, numeral_is, narrow, size_small}
+use Rattle.v_print.proofs.Numbers.{numeral_is, narrow, size_small}
 
 pub record IsClean (ts : List Token) : Type 0 where
   pub printed : are_printed ts ≡ true

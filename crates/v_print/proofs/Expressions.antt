@@ -1,12 +1,12 @@
 -- A printable expression is spelled by its printed tokens.
-use Rattle.std.proofs.Common.{◌≡◌, ℕ, zero, suc, ◌+◌, ◌-◌, ◌≤◌, Bool, true, false, List, [], ◌∷◌, Some, refl, sym, subst, arith}
-use Rattle.std.specs.Prelude.{cond, nat_lt, nat_le}
+use Rattle.std.proofs.Common.{◌≡◌, ℕ, zero, suc, ◌+◌, ◌-◌, ◌≤◌, Bool, true, false, List, ◌∷◌, Some, refl, subst, arith}
+use Rattle.std.specs.Prelude.{nat_lt, nat_le}
 use Rattle.std.proofs.lemmas.Bool.{ltb-false, leb-false}
-use Rattle.verilog_text.specs.Token.{Mark, left_parenthesis, right_parenthesis, left_bracket, right_bracket, left_brace, right_brace, comma, colon, question, plus_colon, minus_colon, double_star, Token, mark}
+use Rattle.verilog_text.specs.Token.{Mark, left_parenthesis, right_parenthesis, right_bracket, left_brace, right_brace, comma, colon, question, plus_colon, minus_colon, double_star, Token, mark}
 use Rattle.verilog_trees.specs.Syntax as tree
 use Rattle.verilog_trees.specs.Syntax.{UnaryOperator, ReductionOperator, BinaryOperator, ShiftOperator, ComparisonOperator, LogicalOperator, Expression, Expressions, no_expressions, expression, Select, Selects, whole, one, two}
-use Rattle.verilog_text.specs.Spelling.{prefix_of, Operator, operator_of, IsExpression, tighter, chosen, joined, prefixed, a_number, a_name, bracketed as in_brackets, concatenated, replicated, made_signed, made_unsigned, AreExpressions, last_one, and_more, IsSelect, by_index, by_part, by_part_up, by_part_down, AreSelects, no_select, one_select, two_selects}
-use Rattle.v_print.specs.Spelled.{unary_mark, reduction_mark, binary_mark, binary_level, shift_mark, comparison_mark, comparison_level, logical_mark, logical_level, level_of, opened, closed, parted, bracketed, joined_before, number_before, bare, bare_parts, bare_select, bare_selects}
+use Rattle.verilog_text.specs.Spelling.{prefix_of, operator_of, IsExpression, tighter, chosen, joined, prefixed, a_number, a_name, bracketed as in_brackets, concatenated, replicated, made_signed, made_unsigned, AreExpressions, last_one, and_more, IsSelect, by_index, by_part, by_part_up, by_part_down, AreSelects, no_select, one_select, two_selects}
+use Rattle.v_print.specs.Spelled.{unary_mark, reduction_mark, binary_mark, binary_level, shift_mark, comparison_mark, comparison_level, logical_mark, logical_level, level_of, bracketed, joined_before, number_before, bare, bare_parts, bare_select, bare_selects}
 use Rattle.v_print.specs.Printable.{AreSome, IsPrintable, ArePrintable, IsPrintableSelect, ArePrintableSelects}
 use Rattle.v_print.proofs.Numbers.{number_spelled}
 

@@ -1,12 +1,12 @@
 -- Operators and marks are read as themselves, in front of what may follow them.
-use Rattle.std.proofs.Common.{◌≡◌, ℕ, zero, suc, Bool, true, false, List, [], ◌∷◌, ◌++◌, length, drop, Option, Some, None, refl, sym, ap, ◌∙◌, subst, arith, inl, inr}
-use Rattle.std.specs.Prelude.{cond, not, ◌&&◌, ◌||◌, ◌==◌, codes, option_map}
+use Rattle.std.proofs.Common.{◌≡◌, ℕ, suc, Bool, true, false, List, [], ◌∷◌, ◌++◌, length, drop, Some, refl, sym, ap, ◌∙◌, subst}
+use Rattle.std.specs.Prelude.{cond, not, ◌&&◌, ◌==◌, option_map}
 use Rattle.std.specs.List.{list_all}
-use Rattle.std.proofs.lemmas.Bool.{false≢true, true≢false, and_parts, and_left, or_cases, eqb-true, not-true, cases_Bool}
-use Rattle.verilog_text.specs.Token.{Mark, left_parenthesis, right_parenthesis, left_bracket, right_bracket, left_brace, right_brace, comma, semicolon, colon, dot, hash, at, question, equals, plus_colon, minus_colon, plus, minus, star, double_star, slash, percent, exclamation, tilde, ampersand, tilde_ampersand, bar, tilde_bar, caret, tilde_caret, caret_tilde, double_ampersand, double_bar, less, less_equals, greater, greater_equals, double_less, double_greater, triple_less, triple_greater, double_equals, exclamation_equals, triple_equals, exclamation_double_equals, spelling_of, marks, Token, mark}
-use Rattle.verilog_text.specs.Lexical.{nothing, token, Front, if_closed, closing_length, line_length, is_prefix, or_longer, longest_of, mark_front, mark_at, slash_at, is_star_alone, bracket_at, read_at}
+use Rattle.std.proofs.lemmas.Bool.{true≢false, and_parts, and_left, eqb-true, not-true}
+use Rattle.verilog_text.specs.Token.{Mark, left_parenthesis, right_parenthesis, left_bracket, right_bracket, left_brace, right_brace, comma, semicolon, colon, dot, hash, at, question, equals, plus_colon, minus_colon, plus, minus, star, double_star, slash, percent, exclamation, tilde, ampersand, tilde_ampersand, bar, tilde_bar, caret, tilde_caret, caret_tilde, double_ampersand, double_bar, less, less_equals, greater, greater_equals, double_less, double_greater, triple_less, triple_greater, double_equals, exclamation_equals, triple_equals, exclamation_double_equals, spelling_of, marks, mark}
+use Rattle.verilog_text.specs.Lexical.{nothing, token, if_closed, closing_length, line_length, is_prefix, or_longer, longest_of, mark_front, mark_at, slash_at, is_star_alone, bracket_at, read_at}
 use Rattle.v_print.specs.declared.last.Last.{Last}
-use Rattle.v_print.specs.declared.last.Last.TheVariants.{Opened, Stop, Prefix, Operator}
+use Rattle.v_print.specs.declared.last.Last.TheVariants.{Opened, Prefix, Operator}
 use Rattle.v_print.specs.Reads.{may_follow, may_go_on, last_of_mark}
 use Rattle.v_print.proofs.Parts.{IsToken}
 

@@ -1,13 +1,13 @@
 -- Printable items, modules and sources are spelled by their printed tokens.
-use Rattle.std.proofs.Common.{◌≡◌, Bool, true, false, List, [], ◌∷◌, Option, Some, None, refl}
+use Rattle.std.proofs.Common.{Bool, true, false, List, [], ◌∷◌, Option, Some, None}
 use Rattle.std.specs.Prelude.{codes}
 use Rattle.wb_values.specs.Value.{Name}
-use Rattle.verilog_text.specs.Token.{left_parenthesis, right_parenthesis, left_bracket, right_bracket, comma, semicolon, colon, dot, hash, at, equals, star, Token, word, mark}
+use Rattle.verilog_text.specs.Token.{right_parenthesis, right_bracket, comma, semicolon, colon, equals, Token, word, mark}
 use Rattle.verilog_trees.specs.Syntax as tree
 use Rattle.verilog_trees.specs.Syntax.{Expression, Target, EdgeKind, Event, Events, any_change, on_events, Range, Direction, NetKind, PortDeclaration, ParameterDeclaration, Connections, by_name, by_order, Item, Ports, no_ports, listed, declared, Module, Source}
-use Rattle.verilog_text.specs.Grammar.{AreParted, last_part, and_parts, AreInRow, no_more, one_more, IsPerhaps, left_out, given, IsFlag, absent, present, IsName, a_name, IsWhole, IsRange, bounds, IsPerhapsRange, IsAssignment, direction_word, IsNetKind, no_kind, a_wire, a_variable, IsPort, a_port, IsSetting, set_to, parameter_word, IsParameter, a_parameter, IsWire, net, IsVariable, variable, IsEntry, empty_entry, an_entry, IsNamedEntry, under_name, AreConnections, named_entries, entries, IsInstance, an_instance, AreOverrides, no_overrides, overrides, edge_words, IsEvent, an_event, AreEvents, last_event, or_event, IsControl, by_star, by_events, IsItem, a_port_item, a_parameter_item, some_wires, some_variables, some_assignments, a_block, some_instances, IsHeaderParameter, in_header, AreHeaderParameters, no_parameters, some_parameters, ArePorts, none_listed, empty_list, names_listed, ports_declared, IsModule, a_module, IsSource}
+use Rattle.verilog_text.specs.Grammar.{AreParted, last_part, and_parts, AreInRow, no_more, one_more, IsPerhaps, left_out, given, IsFlag, absent, present, IsName, a_name, IsWhole, bounds, IsPerhapsRange, IsAssignment, IsNetKind, no_kind, a_wire, a_variable, IsPort, a_port, IsSetting, set_to, IsParameter, a_parameter, IsWire, net, IsVariable, variable, IsEntry, empty_entry, an_entry, IsNamedEntry, under_name, AreConnections, named_entries, entries, IsInstance, an_instance, AreOverrides, no_overrides, overrides, IsEvent, an_event, AreEvents, last_event, or_event, IsControl, by_star, by_events, IsItem, a_port_item, a_parameter_item, some_wires, some_variables, some_assignments, a_block, some_instances, IsHeaderParameter, in_header, AreHeaderParameters, no_parameters, some_parameters, ArePorts, none_listed, empty_list, names_listed, ports_declared, IsModule, a_module, IsSource}
 use Rattle.v_print.specs.Spelled.{bare}
-use Rattle.v_print.specs.Bodies.{assignment_before, bare_statement, parts_before, row_before, name_before, flag_before, range_before, kind_before, port_before, setting_before, parameter_before, value_before, wire_before, variable_before, entry_before, named_before, connections_before, instance_before, overrides_before, event_before, events_before, control_before, continuous_before, item_before, header_before, ports_before, module_before, source_before}
+use Rattle.v_print.specs.Bodies.{bare_statement, parts_before, row_before, name_before, flag_before, range_before, kind_before, port_before, setting_before, parameter_before, value_before, wire_before, variable_before, entry_before, named_before, connections_before, instance_before, overrides_before, event_before, events_before, control_before, continuous_before, item_before, header_before, ports_before, module_before, source_before}
 use Rattle.v_print.specs.Printable.{IsPrintableName, IsPrintableOptional, Each, EachOfSome, IsPrintableRange, IsPrintablePort, IsPrintableSetting, IsPrintableParameter, IsPrintableWire, IsPrintableVariable, ArePrintableConnections, IsPrintableInstance, ArePrintableOverrides, IsPrintableEvent, ArePrintableEvents, IsPrintableAssignment, IsPrintableItem, IsPrintableHeader, ArePrintablePorts, IsPrintableModule, IsPrintableSource}
 use Rattle.v_print.proofs.Statements.{whole_spelled, assignment_spelled, statement_spelled}
 

@@ -6,10 +6,13 @@ pub mod Texts
 pub mod Chains
 pub mod Bits
 pub mod Loops
+pub mod Levels
+pub mod Shown
+pub mod Arms
 pub mod Numbers
 pub mod Expressions
 pub mod Statements
 pub mod Clean
 pub mod Items
-pub mod CleanBodies
-pub mod Printed
+pub mod Open
+pub mod Finished

@@ -1,19 +1,19 @@
 -- A printable number is what its printed tokens say.
-use Rattle.std.proofs.Common.{◌≡◌, ℕ, zero, suc, ◌+◌, ◌*◌, ◌-◌, ◌/◌, ◌%◌, ◌^◌, ◌<◌, ◌≤◌, min, Bool, true, false, List, [], ◌∷◌, ◌++◌, length, Option, Some, None, refl, sym, ap, ◌∙◌, subst, arith, append_assoc}
-use Rattle.std.specs.Prelude.{cond, not, ◌&&◌, ◌||◌, ◌==◌, nat_le}
+use Rattle.std.proofs.Common.{◌≡◌, ℕ, zero, suc, ◌+◌, ◌*◌, ◌-◌, ◌/◌, ◌%◌, ◌^◌, ◌<◌, ◌≤◌, min, Bool, true, false, List, [], ◌∷◌, ◌++◌, Option, Some, None, refl, sym, ap, ◌∙◌, subst, arith, append_assoc}
+use Rattle.std.specs.Prelude.{cond, not, ◌&&◌, ◌||◌, ◌==◌}
 use Rattle.std.specs.List.{list_all, list_any}
 use Rattle.std.specs.Fmt.{decimal as numeral}
-use Rattle.std.proofs.lemmas.Bool.{false≢true, true≢false, and_parts, and_from, and_left, or_from, or_parts, eqb-true, eqb-false, not-true, not-false, cond-true, cond-false, cases_Bool}
+use Rattle.std.proofs.lemmas.Bool.{false≢true, and_parts, and_from, or_from, or_parts, eqb-true, eqb-false, not-true, cond-true, cond-false}
 use Rattle.std.proofs.lemmas.Bool.Decides.{nat_tests}
 use Rattle.std.proofs.lemmas.Fmt.{decimal_by_steps_wide}
-use Rattle.std.proofs.lemmas.Nat.{mod-pow-add, mod_low, mod_below, pow-add, pow_pos}
+use Rattle.std.proofs.lemmas.Nat.{mod-pow-add, mod_low, mod_below, pow_pos}
 use Rattle.std.proofs.Math.Nat.{mod-eq_of_lt, zero-div, zero-mod, mod-one, pow-le-pow_right, pow-succ'}
 use Rattle.wb_values.specs.Names.{is_digit}
 use Rattle.verilog_text.specs.Token.{Token, decimal, based}
-use Rattle.verilog_text.specs.Spelling.{is_decimal_digit, digit_value, is_x, is_z, is_silent, digits_from, decimal_value, base_of, filled_where, bits_of_base, bits_of_digits, begins_with_z, kept_width, greatest_size, filled_above, width_of_size, has_size, plain_number, number_in_base, behind_sign, based_number, IsNumber, plain, unsized, of_size}
+use Rattle.verilog_text.specs.Spelling.{is_decimal_digit, digit_value, is_x, is_z, is_silent, digits_from, decimal_value, filled_where, bits_of_base, bits_of_digits, begins_with_z, kept_width, greatest_size, filled_above, width_of_size, has_size, plain_number, number_in_base, based_number, IsNumber, plain, unsized, of_size}
 use Rattle.verilog_trees.specs.Syntax.{Number}
 use Rattle.v_print.specs.Reads.{is_printed_decimal}
-use Rattle.v_print.specs.Spelled.{is_plain, bit_digit, bit_of, bit_digits, cut_unknown, cut_wild, digits_text, sign_text, based_text, size_before, number_before}
+use Rattle.v_print.specs.Spelled.{is_plain, bit_digit, bit_of, bit_digits, cut_unknown, cut_wild, sign_text, based_text, size_before, number_before}
 use Rattle.v_print.specs.Printable.{IsPrintableNumber}
 use Rattle.v_print.proofs.Parts.{all_joined}
 

@@ -1,12 +1,12 @@
 -- What a token or a blank at the front of a text adds to the parts before it.
-use Rattle.std.proofs.Common.{◌≡◌, ℕ, zero, suc, ◌+◌, ◌≤◌, Bool, true, false, List, [], ◌∷◌, ◌++◌, length, take, drop, Option, Some, None, refl, sym, ap, ◌∙◌, subst, append_assoc, arith}
-use Rattle.std.specs.Prelude.{cond, ◌&&◌}
+use Rattle.std.proofs.Common.{◌≡◌, ℕ, zero, suc, ◌+◌, ◌≤◌, Bool, true, false, List, [], ◌∷◌, ◌++◌, length, drop, Some, refl, sym, ap, ◌∙◌, subst, append_assoc, arith}
+use Rattle.std.specs.Prelude.{cond}
 use Rattle.std.specs.List.{list_all}
 use Rattle.std.specs.Char.{is_ascii}
 use Rattle.std.proofs.lemmas.Bool.{and_parts, and_from, cond-true}
 use Rattle.std.proofs.lemmas.List.{drop_at, length-append}
 use Rattle.verilog_text.specs.Token.{Token, text_of}
-use Rattle.verilog_text.specs.Lexical.{Piece, nothing, token, Front, blank_length, is_blank_before, read_at, left_out_at}
+use Rattle.verilog_text.specs.Lexical.{nothing, token, Front, blank_length, is_blank_before, read_at, left_out_at}
 use Rattle.verilog_text.specs.Text.{Part, piece, Conditional, leaves_out, open_after, front_after, Expansion, with_front, with_parts, with_macro_text, tokens_read}
 use Rattle.v_print.specs.declared.last.Last.{Last}
 use Rattle.v_print.specs.Reads.{may_go_on, IsCalm, after_text, HasTokens}

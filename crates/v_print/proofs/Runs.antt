@@ -1,5 +1,5 @@
 -- Words and numbers that are printed are read as themselves, in front of what may follow them.
-use Rattle.std.proofs.Common.{◌≡◌, ℕ, zero, suc, ◌+◌, Bool, true, false, List, [], ◌∷◌, ◌++◌, length, take, drop, Option, Some, None, refl, sym, ap, ◌∙◌, subst, arith, inl, inr}
+use Rattle.std.proofs.Common.{◌≡◌, ℕ, suc, ◌+◌, Bool, true, false, List, [], ◌∷◌, ◌++◌, length, take, drop, Option, Some, None, refl, sym, ap, ◌∙◌, subst, arith, inl, inr}
 use Rattle.std.specs.Prelude.{cond, not, ◌&&◌, ◌||◌, ◌==◌, codes, option_map}
 use Rattle.std.specs.List.{list_all, list_any}
 use Rattle.std.specs.Char.{is_ascii}
@@ -9,11 +9,10 @@ use Rattle.std.proofs.lemmas.List.{take_at, drop_at}
 use Rattle.std.proofs.lemmas.Slice.Eq.{bytes_eq-Decides}
 use Rattle.wb_values.specs.Value.{Name, same_name}
 use Rattle.wb_values.specs.Names.{is_letter, is_digit, begins_with}
-use Rattle.verilog_text.specs.Token.{Token, text_of, word, system, decimal, based}
-use Rattle.verilog_text.specs.Lexical.{Piece, nothing, token, excluded, Front, run_length, is_blank, is_blank_before, blank_length, is_word_byte, is_decimal_byte, is_excluded, word_piece, word_front, fraction_length, exponent_length, real_from, real_length, signed_length, number_front, number_at, is_base, is_digit_of, runs_on, are_digits_of, if_digits, digits_length, base_length, behind_quote, based_of, based_at, system_piece, system_at, read_at}
-use Rattle.v_print.specs.declared.last.Last.{Last}
+use Rattle.verilog_text.specs.Token.{word, system, decimal, based}
+use Rattle.verilog_text.specs.Lexical.{Piece, token, excluded, run_length, is_blank_before, blank_length, is_word_byte, is_decimal_byte, is_excluded, word_piece, word_front, fraction_length, exponent_length, real_from, real_length, signed_length, number_front, number_at, is_digit_of, runs_on, are_digits_of, if_digits, digits_length, base_length, behind_quote, based_of, based_at, system_piece, system_at, read_at}
 use Rattle.v_print.specs.declared.last.Last.TheVariants.{Run, Digits}
-use Rattle.v_print.specs.Reads.{may_follow, may_go_on, is_printed_word, is_printed_decimal, is_bit_digit, is_printed_binary, is_printed_base, is_printed_based, is_printed}
+use Rattle.v_print.specs.Reads.{may_follow, may_go_on, is_printed_decimal, is_bit_digit, is_printed_binary, is_printed_base, is_printed}
 use Rattle.v_print.proofs.Parts.{IsToken}
 
 -- ---- bytes

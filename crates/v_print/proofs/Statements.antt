@@ -1,12 +1,11 @@
 -- Printable targets and statements are spelled by their printed tokens.
-use Rattle.std.proofs.Common.{◌≡◌, ◌≤◌, Bool, true, false, List, [], ◌∷◌, Option, Some, None, refl}
+use Rattle.std.proofs.Common.{Bool, true, false, List, ◌∷◌, Option, Some, None}
 use Rattle.std.specs.Prelude.{codes}
 use Rattle.wb_values.specs.Value.{Name}
-use Rattle.verilog_text.specs.Token.{Mark, left_parenthesis, right_parenthesis, left_brace, right_brace, comma, semicolon, colon, equals, less_equals, Token, word, mark}
+use Rattle.verilog_text.specs.Token.{Mark, right_parenthesis, right_brace, comma, semicolon, colon, equals, less_equals, Token, word, mark}
 use Rattle.verilog_trees.specs.Syntax as tree
 use Rattle.verilog_trees.specs.Syntax.{Expression, Expressions, Target, Targets, no_targets, target, Statement, Statements, no_statements, statement, CaseItems, no_items, arm, default_arm}
-use Rattle.verilog_text.specs.Spelling.{IsExpression, AreExpressions}
-use Rattle.verilog_text.specs.Grammar.{IsWhole, IsTarget, a_place, some_joined, AreTargets, last_target, and_targets, IsAssignment, assigned, IsBlockName, unnamed, named, IsPerhapsColon, with_colon, without_colon, case_word, IsStatement, nothing, blocks, waits, tested, decided, selected, in_block, AreStatements, no_statement, and_statements, IsItemBefore, for_values, for_others, AreItems, last_item, and_items}
+use Rattle.verilog_text.specs.Grammar.{IsWhole, IsTarget, a_place, some_joined, AreTargets, last_target, and_targets, IsAssignment, assigned, IsBlockName, unnamed, named, IsPerhapsColon, with_colon, without_colon, IsStatement, nothing, blocks, waits, tested, decided, selected, in_block, AreStatements, no_statement, and_statements, for_values, for_others, AreItems, last_item, and_items}
 use Rattle.v_print.specs.Spelled.{level_of, bare, bare_parts, bare_selects}
 use Rattle.v_print.specs.Bodies.{bare_target, bare_targets, assignment_before, block_name_before, colon_if, bare_statement, bare_statements, bare_items}
 use Rattle.v_print.specs.Printable.{IsPrintable, AreSomeTargets, IsPrintableTarget, ArePrintableTargets, IsPrintableBlockName, AreSomeItems, IsPrintableStatement, ArePrintableStatements, ArePrintableItems}

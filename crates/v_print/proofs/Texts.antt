@@ -1,17 +1,17 @@
 -- A text that has tokens is read as them.
-use Rattle.std.proofs.Common.{◌≡◌, ℕ, zero, suc, Bool, true, false, List, [], ◌∷◌, ◌++◌, length, Result, Ok, Err, refl, sym, ap, ◌∙◌, arith}
-use Rattle.std.specs.Prelude.{cond, not, ◌&&◌, ◌||◌, ◌==◌, nat_lt}
+use Rattle.std.proofs.Common.{◌≡◌, ℕ, zero, suc, Bool, true, false, List, [], ◌∷◌, ◌++◌, length, Ok, refl, sym, ap, ◌∙◌, arith}
+use Rattle.std.specs.Prelude.{not, ◌&&◌, ◌||◌, ◌==◌, nat_lt}
 use Rattle.std.specs.List.{list_all}
 use Rattle.std.specs.Char.{is_ascii}
-use Rattle.std.specs.Str.{IsAscii, IsUtf8, is_utf8}
+use Rattle.std.specs.Str.{IsAscii, is_utf8}
 use Rattle.std.proofs.lemmas.Bool.{and_parts, and_from, and_left, and_right, or_from, or_parts, cond-true, cond-false}
 use Rattle.std.proofs.lemmas.Bool.Decides.{nat_tests}
 use Rattle.std.proofs.lemmas.Str.{IsUtf8-from_ascii, is_utf8-from_IsUtf8}
 use Rattle.verilog_text.specs.Token.{Token}
 use Rattle.verilog_text.specs.Lexical.{nothing, token}
-use Rattle.verilog_text.specs.Text.{Refusal, not_text, Part, piece, end_of_file, Conditional, open_after, with_parts, with_macro_text, without_byte_order_mark, with_file, with_files, tokens_read, bytes_used, most_tokens, most_used, passes_limit, is_zero, is_based, is_zero_last, is_bad_token, has_bad_token, is_none_open, is_bad_directive, has_bad_directive, has_excluded, is_too_deep, answer_of, tokens_in}
+use Rattle.verilog_text.specs.Text.{Part, piece, end_of_file, Conditional, open_after, with_parts, with_macro_text, without_byte_order_mark, with_file, with_files, tokens_read, bytes_used, most_tokens, most_used, passes_limit, is_zero, is_based, is_zero_last, has_bad_token, is_none_open, is_bad_directive, has_bad_directive, has_excluded, is_too_deep, answer_of, tokens_in}
 use Rattle.v_print.specs.Reads.{IsCalm, after_text, HasTokens}
-use Rattle.v_print.specs.Whole.{begins_based, has_zero_size}
+use Rattle.v_print.specs.Whole.{has_zero_size}
 use Rattle.v_print.proofs.Parts.{calm_open}
 
 -- ---- tokens and blanks break no rule

@@ -1,8 +1,6 @@
 -- What is written token by token.
-use Rattle.std.proofs.Common.{◌≡◌, ℕ, suc, Bool, true, false, List, [], ◌∷◌, ◌++◌, Some, refl, sym, ap, ◌∙◌, subst, arith, append_assoc}
+use Rattle.std.proofs.Common.{◌≡◌, ℕ, true, false, List, [], ◌∷◌, ◌++◌, Some, refl, sym, ap, ◌∙◌, subst, arith, append_assoc}
 use Rattle.std.proofs.lemmas.Bool.Decides.{nat_tests}
-use Rattle.std.specs.Prelude.{◌&&◌}
-use Rattle.std.specs.List.{list_all}
 use Rattle.std.specs.Char.{is_ascii}
 use Rattle.std.specs.String.{string_bytes}
 use Rattle.std.proofs.lemmas.Bool.{and_parts}
@@ -12,8 +10,8 @@ use Rattle.verilog_text.specs.Lexical.{nothing, blank_length, read_at}
 use Rattle.v_print.specs.declared.last.Last.{Last}
 use Rattle.v_print.specs.declared.last.Last.TheVariants.{Blank, Run, Digits, Opened, Stop, Prefix, Operator}
 use Rattle.v_print.specs.declared.writer.Writer.{Writer}
-use Rattle.v_print.specs.Reads.{may_follow, may_go_on, last_of_mark, is_printed, are_printed, HasTokens, ReadsAs}
-use Rattle.v_print.specs.Writes.{Front, GoesOn, IsWriting, Writes}
+use Rattle.v_print.specs.Reads.{may_follow, may_go_on, last_of_mark, is_printed, are_printed, ReadsAs}
+use Rattle.v_print.specs.Writes.{Front, Writes}
 use Rattle.v_print.proofs.Parts.{IsToken, token_first, blank_first}
 use Rattle.v_print.proofs.Runs.{word_token, system_token, decimal_token, based_token}
 use Rattle.v_print.proofs.Fitting.{mark_token}

@@ -2,7 +2,7 @@
 -- its colon behind it.
 use Rattle.std.specs.Prelude.{Bool, true, false, cond, List, [], ◌∷◌, codes, Option, Some, None}
 use Rattle.wb_values.specs.Value.{Name}
-use Rattle.verilog_text.specs.Token.{Mark, left_parenthesis, right_parenthesis, left_bracket, right_bracket, left_brace, right_brace, comma, semicolon, colon, dot, hash, at, equals, star, less_equals, Token, word, mark}
+use Rattle.verilog_text.specs.Token.{Mark, left_parenthesis, right_parenthesis, left_bracket, right_bracket, left_brace, right_brace, semicolon, colon, dot, hash, at, equals, star, less_equals, Token, word, mark}
 use Rattle.verilog_text.specs.Grammar.{case_word, direction_word, parameter_word, edge_words}
 use Rattle.verilog_trees.specs.Syntax as tree
 use Rattle.verilog_trees.specs.Syntax.{Expression, Target, Targets, no_targets, target, CaseKind, Statement, Statements, no_statements, statement, CaseItems, no_items, arm, default_arm, EdgeKind, Event, Events, any_change, on_events, Range, Direction, NetKind, PortDeclaration, ParameterDeclaration, Connections, by_name, by_order, Item, Ports, no_ports, listed, declared, Module, Source}

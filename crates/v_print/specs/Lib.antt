@@ -6,7 +6,4 @@ pub mod Printable
 pub mod Links
 pub mod Bodies
 pub mod Depth
-pub mod Ladder
-pub mod Views
-pub mod Modules
-pub mod Within
+pub mod Reading

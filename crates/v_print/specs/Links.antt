@@ -85,6 +85,14 @@ abbrev pub level_after_tests : ℕ → List TestLink → ℕ
 level_after_tests l [] = l
 level_after_tests l (k ∷ ks) = level_after_tests (test_level k.operator) ks
 
+abbrev pub level_over : ℕ → List PrefixOperator → ℕ
+level_over l [] = l
+level_over l (o ∷ os) = 12
+
+abbrev pub level_with : ℕ → List Choice → ℕ
+level_with l [] = l
+level_with l (c ∷ cs) = 0
+
 abbrev pub prefix_level : List PrefixOperator → ℕ
 prefix_level [] = 0
 prefix_level (o ∷ os) = 12

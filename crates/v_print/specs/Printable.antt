@@ -1,5 +1,5 @@
 -- Which trees can be printed: those that some tokens of a text spell.
-use Rattle.std.specs.Prelude.{◌≡◌, ℕ, ◌+◌, ◌^◌, ◌<◌, ◌≤◌, Bool, true, false, List, [], ◌∷◌, Option, Some, None}
+use Rattle.std.specs.Prelude.{◌≡◌, ℕ, ◌+◌, ◌^◌, ◌<◌, ◌≤◌, true, false, List, [], ◌∷◌, Option, Some, None}
 use Rattle.wb_values.specs.Value.{Name}
 use Rattle.wb_values.specs.ReservedWords.{is_reserved}
 use Rattle.verilog_text.specs.Token.{word}

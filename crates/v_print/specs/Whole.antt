@@ -1,7 +1,7 @@
 -- What a list of tokens must meet to be the tokens of a text.
-use Rattle.std.specs.Prelude.{◌≡◌, ◌≤◌, Bool, false, ◌&&◌, ◌||◌, List, [], ◌∷◌, length}
+use Rattle.std.specs.Prelude.{Bool, false, ◌&&◌, ◌||◌, List, [], ◌∷◌}
 use Rattle.verilog_text.specs.Token.{Token}
-use Rattle.verilog_text.specs.Text.{most_tokens, is_zero, is_based, is_too_deep}
+use Rattle.verilog_text.specs.Text.{is_zero, is_based}
 
 abbrev pub begins_based : List Token → Bool
 begins_based [] = false

@@ -1,11 +1,11 @@
 //! How tightly the outermost operator of an expression binds.
-ghost use Rattle.std.specs.Prelude.{◌≡◌, ◌≤◌, length};
+ghost use Rattle.std.specs.Prelude.{◌≡◌};
 ghost use Rattle.v_syntax.specs.Tree.{tree_of};
 ghost use Rattle.v_print.specs.Spelled.{printed_level};
-ghost use Rattle.v_print.specs.Links.{level_after, level_after_tests, prefix_level};
+ghost use Rattle.v_print.specs.Links.{level_over, level_after, level_after_tests, level_with, prefix_level};
 
 use crate::operator::{link_level, test_level};
-use v_syntax::tree::{BinaryLink, Expression, PrefixOperator, TestLink};
+use v_syntax::tree::{BinaryLink, Choice, Expression, PrefixOperator, TestLink};
 
 /// How tightly an operand of prefix operators must bind, where there are any.
 pub(crate) fn prefix_level(operators: &[PrefixOperator]) -> u64
@@ -17,26 +17,46 @@ pub(crate) fn prefix_level(operators: &[PrefixOperator]) -> u64
     }
 }
 
-/// The level of a chain with a link at least.
-fn level_of_links(links: &[BinaryLink<'_>]) -> u64
-    ensures { result ≡ level_after 0 links.now }
+/// The level of operators before an operand of a level.
+fn over_prefixes(operators: &[PrefixOperator], inner: u64) -> u64
+    ensures { result ≡ level_over inner operators.now }
 {
-    let mut level = 0;
+    match operators {
+        [] => inner,
+        [_, ..] => 12,
+    }
+}
+
+/// The level of a chain whose first operand has a level.
+fn level_of_links(first: u64, links: &[BinaryLink<'_>]) -> u64
+    ensures { result ≡ level_after first links.now }
+{
+    let mut level = first;
     for link in links {
         level = link_level(link.operator);
     }
     level
 }
 
-/// The level of a chain of tests with a link at least.
-fn level_of_tests(links: &[TestLink<'_>]) -> u64
-    ensures { result ≡ level_after_tests 0 links.now }
+/// The level of a chain of tests whose first operand has a level.
+fn level_of_tests(first: u64, links: &[TestLink<'_>]) -> u64
+    ensures { result ≡ level_after_tests first links.now }
 {
-    let mut level = 0;
+    let mut level = first;
     for link in links {
         level = test_level(link.operator);
     }
     level
+}
+
+/// The level of choices before a last value of a level.
+fn over_choices(choices: &[Choice<'_>], last: u64) -> u64
+    ensures { result ≡ level_with last choices.now }
+{
+    match choices {
+        [] => last,
+        [_, ..] => 0,
+    }
 }
 
 /// How tightly the outermost operator binds: 0 for `?:`, 1 to 11 for operators between operands, 12 for prefix operators, 13 for what
@@ -45,27 +65,15 @@ pub fn level_of(expression: &Expression<'_>) -> u64
     ensures { result ≡ printed_level (tree_of expression.now) }
 {
     match expression {
-        Expression::Number(_)
-        | Expression::Name(_, _)
-        | Expression::Concatenation(_)
-        | Expression::Replication(_, _)
-        | Expression::AsSigned(_)
-        | Expression::AsUnsigned(_) => 13,
-        Expression::Prefix(operators, operand) => match operators.as_slice() {
-            [] => level_of(operand),
-            [_, ..] => 12,
-        },
-        Expression::Binary(first, links) => match links.as_slice() {
-            [] => level_of(first),
-            [_, ..] => level_of_links(links),
-        },
-        Expression::Test(first, links) => match links.as_slice() {
-            [] => level_of(first),
-            [_, ..] => level_of_tests(links),
-        },
-        Expression::Conditional(choices, last) => match choices.as_slice() {
-            [] => level_of(last),
-            [_, ..] => 0,
-        },
+        Expression::Number(_) => 13,
+        Expression::Name(_, _) => 13,
+        Expression::Concatenation(_) => 13,
+        Expression::Replication(_, _) => 13,
+        Expression::AsSigned(_) => 13,
+        Expression::AsUnsigned(_) => 13,
+        Expression::Prefix(operators, operand) => over_prefixes(operators, level_of(operand)),
+        Expression::Binary(first, links) => level_of_links(level_of(first), links),
+        Expression::Test(first, links) => level_of_tests(level_of(first), links),
+        Expression::Conditional(choices, last) => over_choices(choices, level_of(last)),
     }
 }

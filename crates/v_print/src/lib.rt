@@ -9,4 +9,5 @@ mod level;
 mod mark;
 mod number;
 mod operator;
+pub mod print;
 pub mod writer;

@@ -123,7 +123,8 @@ fn write_based(number: &Number, out: &mut Writer) -> Result<(), AllocError>
 fn write_size(number: &Number, out: &mut Writer) -> Result<(), AllocError>
     ensures { OnOk result (Writes out.old out.new (λ r. size_before (number_of number.now) r)) }
 {
-    if !number.sized {
+    let sized = number.sized;
+    if !sized {
         return Ok(());
     }
     out.decimal(number.width as u128)?;
@@ -134,7 +135,8 @@ fn write_size(number: &Number, out: &mut Writer) -> Result<(), AllocError>
 pub(crate) fn write_number(number: &Number, out: &mut Writer) -> Result<(), AllocError>
     ensures { OnOk result (Writes out.old out.new (λ r. number_before (number_of number.now) r)) }
 {
-    if is_plain(number) {
+    let plain = is_plain(number);
+    if plain {
         out.decimal(number.value)?;
         return Ok(());
     }

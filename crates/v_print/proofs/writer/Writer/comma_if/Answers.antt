@@ -1,7 +1,4 @@
-use Rattle.std.proofs.Common.{sym, subst, ◌∷◌}
-use Rattle.std.specs.Prelude.{cond}
-use Rattle.verilog_text.specs.Token.{mark}
-use Rattle.v_token.specs.View.{mark_of}
+use Rattle.std.proofs.Common.{sym, subst}
 use Rattle.v_print.specs.Spelled.{parted}
 use Rattle.v_print.specs.Writes.{Writes}
 use Rattle.v_print.proofs.Written.{nothing_written}
