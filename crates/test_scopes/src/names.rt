@@ -1,6 +1,6 @@
 //! Texts that break a rule on names, and texts beside them that break none.
 
-use crate::texts::{Found, found};
+use crate::texts::{Found, found_in};
 use std::alloc::Global;
 use std::process::Abort;
 use std::test::Fail;
@@ -8,7 +8,7 @@ use std::test::Fail;
 /// The number of the first text of which something else is found, or how many there are.
 fn first_other(alloc: Global, wanted: Found, texts: &[&str]) -> usize {
     for (index, text) in texts.iter().enumerate() {
-        match found(alloc, text) {
+        match found_in(alloc, text) {
             Ok(answer) if answer == wanted => {}
             _ => return index,
         }

@@ -17,7 +17,7 @@ pub(crate) enum Found {
 }
 
 /// What is found of the text.
-pub(crate) fn found(alloc: Global, text: &str) -> Result<Found, AllocError> {
+pub(crate) fn found_in(alloc: Global, text: &str) -> Result<Found, AllocError> {
     let files = vec![in alloc; Vec::from_slice(alloc, text.as_bytes())?]?;
     let Ok(tokens) = tokens(alloc, &files) else {
         return Ok(Found::Unread);
