@@ -1,0 +1,10 @@
+mod Listed
+mod Arms
+mod Statements
+mod Texts
+mod Mentions
+mod UnderNames
+mod Named
+mod Counted
+mod Declared
+mod Events

@@ -1,0 +1,7 @@
+use Rattle.std.proofs.Common.{◌≡◌, drop, map}
+use Rattle.v_syntax.specs.Source.{boxed_tree_of}
+use Rattle.v_hier.specs.Reading.{knows, named_known}
+use Rattle.v_hier.proofs.item.are_wires_known.Given as goal
+
+abbrev pub invariant-loop-wire : goal.invariant-loop-wire
+invariant-loop-wire l = named_known (knows l.names) (map (λ w. (w.name.now, boxed_tree_of w.value)) l.wires) ≡ named_known (knows l.names) (map (λ w. (w.name.now, boxed_tree_of w.value)) (drop l.wire-index l.wires))

@@ -1,0 +1,5 @@
+pub mod Tables
+pub mod Reading
+pub mod Entries
+pub mod Standings
+pub mod Instances

@@ -1,0 +1,40 @@
+//! Which names may be used at a point of a module's text.
+ghost use Rattle.std.specs.Prelude.{◌≡◌, ◌&&◌, ◌∷◌, [], ℕ, List, true, IfOk};
+ghost use Rattle.verilog_designs.specs.Names.{declares};
+ghost use Rattle.v_hier.specs.Reading.{knows, IsRead};
+
+use std::alloc::AllocError;
+use std::collections::BTreeSet;
+
+/// The names of a module: its parameters, its nets and variables, and the parameters that are declared already.
+#[derive(Drop)]
+pub(crate) struct Names<'t> {
+    pub(crate) parameters: BTreeSet<&'t str>,
+    pub(crate) nets: BTreeSet<&'t str>,
+    pub(crate) before: BTreeSet<&'t str>,
+}
+
+/// Whether the name may be used.
+pub(crate) fn is_known(names: &Names<'_>, name: &str) -> bool
+    ensures { result ≡ knows names.now name.now }
+{
+    if names.parameters.contains(name) {
+        return names.before.contains(name);
+    }
+    names.nets.contains(name)
+}
+
+/// Whether both hold.
+pub(crate) fn both(x: bool, y: bool) -> bool
+    ensures { result ≡ (x && y) }
+{
+    x && y
+}
+
+/// A parameter is declared.
+pub(crate) fn declare<'t>(names: &mut Names<'t>, name: &'t str) -> Result<(), AllocError>
+    ensures { IfOk result (λ _. IsRead names.old (declares name.now ∷ []) true names.new) }
+{
+    names.before.insert(name)?;
+    Ok(())
+}
