@@ -4,12 +4,12 @@ use Rattle.wb_values.specs.Value.{word, Valuation}
 use Rattle.wb_values.specs.Number.{word_neg, word_not, word_xor, word_lshr, word_ashr}
 use Rattle.model_meaning.specs.Term.{Term, val}
 use Rattle.verilog_trees.specs.Syntax as pure
-use Rattle.verilog_trees.specs.Syntax.{Expression, UnaryOperator, BinaryOperator, ShiftOperator, ComparisonOperator, LogicalOperator, unary, binary, shift, comparison, logical, conditional, reduction, as_signed, as_unsigned, ReductionOperator}
-use Rattle.verilog_meaning.specs.Expression.{Scope, sign_of, value_of, widened, binary_value, shift_value}
+use Rattle.verilog_trees.specs.Syntax.{Expression, Expressions, UnaryOperator, BinaryOperator, ShiftOperator, ComparisonOperator, LogicalOperator, unary, binary, shift, comparison, logical, conditional, reduction, as_signed, as_unsigned, ReductionOperator}
+use Rattle.verilog_meaning.specs.Expression.{Scope, joined_value, sign_of, value_of, widened, binary_value, shift_value}
 use Rattle.wb_terms.specs.Graph.{Graph}
 use Rattle.v_operators.specs.Meaning.{Grows, HasNumber, Makes, Joins}
 use Rattle.v_operators.proofs.Growing.{IsOfSort-kept, number_kept, tree_kept}
-use Rattle.v_lower.specs.Lowered.{Images, HasImages, StandsFor, IsLowered, IsLoweredAlone}
+use Rattle.v_lower.specs.Lowered.{Images, HasImages, StandsFor, IsLowered, IsLoweredAlone, AreLowered}
 
 -- ---- stores that grow
 
@@ -29,6 +29,15 @@ lowered_kept s im g h e w t id a k l =
     record {
       of_sort = IsOfSort-kept id (word w) a l.of_sort;
       value = λ p v st. number_kept id w p (value_of s v e w t) a l.of_sort.below (l.value p v (stands_before s im g h p v a k st));
+    }
+
+-- parts that have a term in a store have it in one that has grown
+pub parts_kept : (s : Scope) (im : Images) (g h : Graph) (es : Expressions) (w : ℕ) (id : ℕ) → Grows g h → HasImages s im g → AreLowered s im g es w id → AreLowered s im h es w id
+parts_kept s im g h es w id a k l =
+    record {
+      width = l.width;
+      of_sort = IsOfSort-kept id (word w) a l.of_sort;
+      value = λ p v st. number_kept id w p (joined_value s v es) a l.of_sort.below (l.value p v (stands_before s im g h p v a k st));
     }
 
 -- ---- operators

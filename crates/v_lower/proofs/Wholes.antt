@@ -63,5 +63,5 @@ module _ (s : Scope) (im : Images) (g h k : Graph) (gh : Grows g h) (hk : Grows 
   reduced_lowered Plus e x u w t a c id l d m = absurd (false≢true e)
   reduced_lowered Minus e x u w t a c id l d m = absurd (false≢true e)
   reduced_lowered Complement e x u w t a c id l d m = absurd (false≢true e)
-  reduced_lowered OddOnes e x u w t a c id l d m = absurd (false≢true e)
-  reduced_lowered EvenOnes e x u w t a c id l d m = absurd (false≢true e)
+  reduced_lowered OddOnes e x u w t a c id l d m = whole pure.odd_ones x u w t a c id l d m
+  reduced_lowered EvenOnes e x u w t a c id l d m = whole pure.even_ones x u w t a c id l d m

@@ -7,7 +7,7 @@ use Rattle.wb_terms.specs.Graph.{Graph}
 use Rattle.v_syntax.specs.declared.tree.TestOperator.{TestOperator}
 use Rattle.v_syntax.specs.declared.tree.TestOperator.TheVariants.{Less, LessOrEqual, Greater, GreaterOrEqual, NotEqual, Both}
 use Rattle.v_syntax.specs.declared.tree.PrefixOperator.{PrefixOperator}
-use Rattle.v_syntax.specs.declared.tree.PrefixOperator.TheVariants.{AllOnes, NotAllOnes, AnyOne, NoOne}
+use Rattle.v_syntax.specs.declared.tree.PrefixOperator.TheVariants.{AllOnes, NotAllOnes, AnyOne, NoOne, OddOnes, EvenOnes}
 use Rattle.v_operators.specs.Meaning.{IsOfSort, HasNumber, HasTruth}
 
 -- The term of the second store is a truth value, which is made of two numbers of the first, of u and v bits.
@@ -35,4 +35,6 @@ reduced AllOnes w x = reduction_value pure.all_ones w x
 reduced NotAllOnes w x = reduction_value pure.not_all_ones w x
 reduced AnyOne w x = reduction_value pure.any_one w x
 reduced NoOne w x = reduction_value pure.no_one w x
+reduced OddOnes w x = reduction_value pure.odd_ones w x
+reduced EvenOnes w x = reduction_value pure.even_ones w x
 reduced _ w x = reduction_value pure.is_zero w x

@@ -1,7 +1,7 @@
 -- Which operators are lowered by which function.
 use Rattle.std.specs.Prelude.{Bool, true, false}
 use Rattle.v_syntax.specs.declared.tree.PrefixOperator.{PrefixOperator}
-use Rattle.v_syntax.specs.declared.tree.PrefixOperator.TheVariants.{Plus, Minus, Complement, IsZero, AllOnes, NotAllOnes, AnyOne, NoOne}
+use Rattle.v_syntax.specs.declared.tree.PrefixOperator.TheVariants.{Plus, Minus, Complement, IsZero, AllOnes, NotAllOnes, AnyOne, NoOne, OddOnes, EvenOnes}
 use Rattle.v_syntax.specs.declared.tree.BinaryOperator.{BinaryOperator}
 use Rattle.v_syntax.specs.declared.tree.BinaryOperator.TheVariants.{Multiply, Add, Subtract, ShiftLeft, ShiftRight, ArithmeticShiftRight, And, Xor, Xnor, Or}
 use Rattle.v_syntax.specs.declared.tree.TestOperator.{TestOperator}
@@ -14,13 +14,15 @@ keeps_width Minus = true
 keeps_width Complement = true
 keeps_width _ = false
 
--- ! & ~& | ~| before an operand (^ and ~^ are not lowered yet)
+-- ! & ~& | ~| ^ ~^ before an operand
 abbrev pub is_test_of_all : PrefixOperator → Bool
 is_test_of_all IsZero = true
 is_test_of_all AllOnes = true
 is_test_of_all NotAllOnes = true
 is_test_of_all AnyOne = true
 is_test_of_all NoOne = true
+is_test_of_all OddOnes = true
+is_test_of_all EvenOnes = true
 is_test_of_all _ = false
 
 -- * + - & ^ ~^ | between two operands (/ % and ** stand in constants alone)

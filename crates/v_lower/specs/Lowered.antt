@@ -1,5 +1,5 @@
 -- When a term of a store is what an expression of a module is lowered to.
-use Rattle.std.specs.Prelude.{◌≡◌, ℕ, Bool, not, ◌&&◌, nat_le, Option, Some, None, IsSome, IsTrue}
+use Rattle.std.specs.Prelude.{◌≡◌, ℕ, Bool, false, not, ◌&&◌, nat_le, Option, Some, is_some, IsSome, IsTrue}
 use Rattle.wb_values.specs.Value.{Name, Sort, truth, word, memory, Valuation}
 use Rattle.model_meaning.specs.Term.{val}
 use Rattle.verilog_trees.specs.Syntax.{Expression, Expressions, no_expressions, expression}
@@ -29,9 +29,13 @@ pub record IsImage (s : Scope) (g : Graph) (n : Name) (id : ℕ) : Type 0 where
 abbrev pub has_sort : Object → Bool
 has_sort o = o.is_declared && (nat_le (object_width o) 128 && not (has_many_words o.addresses))
 
--- Each net, variable and memory of the module that has a sort has a term of it. (A parameter needs none, since its number is known.)
+-- The number of a parameter is known.
+abbrev pub has_number : Object → Bool
+has_number o = is_some o.constant && not (is_memory o)
+
+-- Each net, variable and memory of the module that has a sort has a term of it. (A parameter needs none.)
 pub record HasImages (s : Scope) (images : Images) (g : Graph) : Type 0 where
-  pub some : (n : Name) → IsTrue (has_sort (s n)) → (s n).constant ≡ None → IsSome (images n)
+  pub some : (n : Name) → IsTrue (has_sort (s n)) → has_number (s n) ≡ false → IsSome (images n)
   pub image : (n : Name) (id : ℕ) → images n ≡ Some id → IsImage s g n id
 
 -- The environment stands for the valuation: each name has a value of its object, and it is what the name's term is worth.

@@ -87,6 +87,7 @@ pub fn lower_comparison(
     requires some_bits { 1 ≤ width }
     requires at_most_128 { width ≤ 128 }
     ensures grows { Grows terms.old terms.new }
+    ensures of_sort { IfOk result (λ r. IsOfSort terms.new r.0 (word width)) }
     ensures lowered { IfOk result (λ r. (s : Scope) (images : Images) (x y : Expression) (t : Bool) → HasImages s images terms.old
         → own ≡ max (width_of s x) (width_of s y) → signed ≡ sign_of s x && sign_of s y
         → IsLowered s images terms.old x own signed left.0 → IsLowered s images terms.old y own signed right.0
@@ -143,6 +144,7 @@ pub fn lower_logical(
     requires some_bits { 1 ≤ width }
     requires at_most_128 { width ≤ 128 }
     ensures grows { Grows terms.old terms.new }
+    ensures of_sort { IfOk result (λ r. IsOfSort terms.new r.0 (word width)) }
     ensures lowered { IfOk result (λ r. (s : Scope) (images : Images) (x y : Expression) (t : Bool) → HasImages s images terms.old
         → IsLoweredAlone s images terms.old x left_width left.0 → IsLoweredAlone s images terms.old y right_width right.0
         → IsLowered s images terms.new (tested operator x y) width t r.0) }
@@ -165,6 +167,7 @@ pub fn lower_conditional(
     requires chosen { IsOfSort terms.old chosen.0 (word width) }
     requires other { IsOfSort terms.old other.0 (word width) }
     ensures grows { Grows terms.old terms.new }
+    ensures of_sort { IfOk result (λ r. IsOfSort terms.new r.0 (word width)) }
     ensures lowered { IfOk result (λ r. (s : Scope) (images : Images) (x y z : Expression) (t : Bool) → HasImages s images terms.old
         → IsLoweredAlone s images terms.old x condition_width condition.0 → IsLowered s images terms.old y width t chosen.0
         → IsLowered s images terms.old z width t other.0 → IsLowered s images terms.new (conditional x y z) width t r.0) }

@@ -66,6 +66,7 @@ pub fn lower_prefix(
     requires operator { keeps_width operator ≡ true }
     requires operand { IsOfSort terms.old operand.0 (word width) }
     ensures grows { Grows terms.old terms.new }
+    ensures of_sort { IfOk result (λ r. IsOfSort terms.new r.0 (word width)) }
     ensures lowered { IfOk result (λ r. (s : Scope) (images : Images) (x : Expression) (signed : Bool) → HasImages s images terms.old
         → IsLowered s images terms.old x width signed operand.0 → IsLowered s images terms.new (prefixed operator x) width signed r.0) }
 {
@@ -112,6 +113,7 @@ pub fn lower_binary(
     requires left { IsOfSort terms.old left.0 (word width) }
     requires right { IsOfSort terms.old right.0 (word width) }
     ensures grows { Grows terms.old terms.new }
+    ensures of_sort { IfOk result (λ r. IsOfSort terms.new r.0 (word width)) }
     ensures lowered { IfOk result (λ r. (s : Scope) (images : Images) (x y : Expression) (signed : Bool) → HasImages s images terms.old
         → IsLowered s images terms.old x width signed left.0 → IsLowered s images terms.old y width signed right.0
         → IsLowered s images terms.new (combined operator x y) width signed r.0) }
@@ -185,6 +187,7 @@ pub fn lower_shift(
     requires operand { IsOfSort terms.old operand.0 (word width) }
     requires count { IsOfSort terms.old count.0 (word count_width) }
     ensures grows { Grows terms.old terms.new }
+    ensures of_sort { IfOk result (λ r. IsOfSort terms.new r.0 (word width)) }
     ensures lowered { IfOk result (λ r. (s : Scope) (images : Images) (x y : Expression) → HasImages s images terms.old
         → IsLowered s images terms.old x width signed operand.0 → IsLoweredAlone s images terms.old y count_width count.0
         → IsLowered s images terms.new (combined operator x y) width signed r.0) }

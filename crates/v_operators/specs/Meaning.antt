@@ -3,10 +3,13 @@ use Rattle.std.specs.Prelude.{◌≡◌, ℕ, ◌<◌, ◌^◌, Bool, cond, List
 use Rattle.wb_values.specs.Value.{Sort, truth, word, truth_value, number, Valuation}
 use Rattle.model_meaning.specs.Term.{Term, val, sort_of}
 use Rattle.wb_terms.specs.Graph.{Graph, tree, trees_of}
+use Rattle.wb_terms.specs.declared.nodes.Node.{Node}
 
--- The second store has the names and the terms of the first, and perhaps further terms after them.
+-- The second store has the names and the terms of the first, node by node, and perhaps further terms after them.
 pub record Grows (g h : Graph) : Type 0 where
   pub names : h.names ≡ g.names
+  pub added : List Node
+  pub nodes : h.nodes ≡ g.nodes ++ added
   pub further : List Term
   pub trees : trees_of h ≡ trees_of g ++ further
 

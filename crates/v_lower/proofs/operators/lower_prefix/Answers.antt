@@ -19,3 +19,6 @@ pub returns-in_ok-id-in-Complement-clause-lowered : goal.returns-in_ok-id-in-Com
 returns-in_ok-id-in-Complement-clause-lowered c s im x t known l =
     subst (λ o. IsLowered s im c.complement.new.terms (prefixed o x) c.args.width t c.in_ok-id-in-Complement.id.0) (sym c.in-Complement.is)
     (complement_lowered s im c.args.terms.now c.complement.new.terms c.in_ok-id-in-Complement.ensures.grows known x c.args.width t c.args.operand.0 c.in_ok-id-in-Complement.id.0 l c.in_ok-id-in-Complement.ensures.made)
+
+pub returns-in-Plus-clause-grows : goal.returns-in-Plus-clause-grows
+returns-in-Plus-clause-grows c = Grows-refl c.args.terms.now

@@ -1,7 +1,7 @@
-use Rattle.std.proofs.Common.{rules, ◌≡◌, ◌+◌, refl}
+use Rattle.std.proofs.Common.{rules, ◌≡◌, ◌+◌, ◌*◌, refl, arith}
 use Rattle.wb_values.specs.Value.{word}
-use Rattle.v_operators.proofs.Growing.{Grows-trans, IsOfSort-kept}
-use Rattle.v_operators.proofs.Spreading.{copies_go_on, copies_end, step_total}
+use Rattle.v_operators.proofs.Growing.{Grows-refl, Grows-trans, IsOfSort-kept}
+use Rattle.v_operators.proofs.Spreading.{copies_begin, copies_go_on, copies_end, step_total}
 use Rattle.v_operators.proofs.parts.copies.Goals as goal
 
 pub beside-requires-clause-high : goal.beside-requires-clause-high
@@ -22,3 +22,11 @@ returns-clause-made c =
     let l = c.loop-i in
     let e : l._i ≡ c.args.count = search rules in
     copies_end c.args.terms.now l.terms c.args.operand.0 c.args.width l.all.0 l._i c.args.count l.total e l.invariant.total l.invariant.made
+
+pub loop-i-init : goal.loop-i-init
+loop-i-init c =
+    record {
+      grows = Grows-refl c.args.terms.now;
+      total = (let e : c.args.width ≡ 1 * c.args.width = omega arith in e);
+      made = copies_begin c.args.terms.now c.args.operand.0 c.args.width c.args.width refl c.requires.operand;
+    }
