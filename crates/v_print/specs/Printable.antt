@@ -1,4 +1,4 @@
--- Which trees can be printed: those that some tokens of a text spell.
+-- Which trees can be printed: names as texts have them, no empty list, numbers that fit, each else with the nearest if.
 use Rattle.std.specs.Prelude.{◌≡◌, ℕ, ◌+◌, ◌^◌, ◌<◌, ◌≤◌, true, false, List, [], ◌∷◌, Option, Some, None}
 use Rattle.wb_values.specs.Value.{Name}
 use Rattle.wb_values.specs.ReservedWords.{is_reserved}
