@@ -17,7 +17,7 @@ use Rattle.v_value.specs.Evaluation.{sign_at, count_at, taken_at}
 use Rattle.v_value.proofs.Selected as selected
 use Rattle.v_operators.specs.Meaning.{Grows, IsOfSort, Joins}
 use Rattle.v_lower.specs.Lowered.{Images, HasImages, IsLoweredAlone, has_sort}
-use Rattle.v_lower.specs.Moving.{taken_from}
+use Rattle.v_bits.specs.Moving.{taken_from}
 use Rattle.v_lower.specs.Reading.{IsRead, IsWordRead, TakesBits}
 use Rattle.v_lower.specs.Walking.{IsSound, IsNameSound, IsIndex, IsBounded}
 use Rattle.v_lower.specs.Contexts.{IsAddressed, IsTaken}

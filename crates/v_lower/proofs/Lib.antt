@@ -1,14 +1,10 @@
 pub mod Lowering
 pub mod Decisions
 pub mod Wholes
-pub mod Places
-pub mod Shifting
 pub mod Parity
 pub mod Named
-pub mod Placing
 pub mod Inserted
 pub mod Loading
-pub mod AtIndexes
 pub mod Soundness
 pub mod Stepping
 pub mod Branches

@@ -21,10 +21,10 @@ use Rattle.v_operators.specs.Meaning.{Grows, IsOfSort, HasNumber, Makes, Compare
 use Rattle.v_operators.proofs.Growing.{Grows-trans, IsOfSort-kept, number_kept, truth_kept, tree_kept}
 use Rattle.v_operators.proofs.Forms.{formed}
 use Rattle.v_lower.specs.Lowered.{Images, IsSortOf, IsImage, has_sort, has_number, HasImages, StandsFor, IsLoweredAlone}
-use Rattle.v_lower.specs.Moving.{near, IsPlace, at_place, below_zero, far_above, far_below}
+use Rattle.v_bits.specs.Moving.{near, IsPlace, at_place, below_zero, far_above, far_below}
 use Rattle.v_lower.specs.Reading.{IsWordRead, Loads, loaded}
 use Rattle.v_lower.proofs.Lowering.{stands_before}
-use Rattle.v_lower.proofs.Shifting.{HaveRoom, place-sub, near-place}
+use Rattle.v_bits.proofs.Shifting.{place-sub, address_room, near-place}
 
 -- ---- the sort of a memory's term
 
@@ -172,9 +172,6 @@ words_of_value : (o : Object) (x : Value) → is_memory o ≡ true → IsValueOf
 words_of_value o (number x) m h = absurd (false≢true (sym (ap not m) ∙ h.0))
 words_of_value o (words xs) m h = (xs, refl, h.1)
 words_of_value o (truth_value b) m h = absurd h
-
-pub address_room : HaveRoom (2 ^ 61) (2 ^ 62) (2 ^ 60) (2 ^ 62 + 2 ^ 34) (2 ^ 33)
-address_room = record { some = omega arith; less = omega arith; more = omega arith; within = omega arith; far = omega arith }
 
 -- where an object has addresses
 addresses_of : (o : Object) → is_memory o ≡ true → (x : ℕ × ℕ) × (o.addresses ≡ Some x)

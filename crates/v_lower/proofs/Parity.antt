@@ -11,7 +11,7 @@ use Rattle.wb_values.specs.Number.{word_xor, word_extract}
 use Rattle.wb_terms.specs.Graph.{Graph}
 use Rattle.v_operators.specs.Meaning.{Grows, IsOfSort, HasNumber, Makes, Joins, Tests}
 use Rattle.v_operators.proofs.Growing.{number_kept}
-use Rattle.v_lower.proofs.Places.{makes_so}
+use Rattle.v_bits.proofs.Places.{makes_so}
 
 one_place : (k : ℕ) → k + 1 - k ≡ 1
 one_place k = omega arith

@@ -10,7 +10,7 @@ use Rattle.v_value.specs.Evaluation.{count_at, sign_at}
 use Rattle.v_operators.specs.Meaning.{Grows, IsOfSort, HasNumber, Makes, Joins}
 use Rattle.v_operators.proofs.Growing.{Grows-trans, IsOfSort-kept, number_kept}
 use Rattle.v_lower.specs.Lowered.{Images, HasImages, IsLoweredAlone}
-use Rattle.v_lower.specs.Moving.{taken_from}
+use Rattle.v_bits.specs.Moving.{taken_from}
 use Rattle.v_lower.specs.Reading.{IsRead, IsWordRead, TakesBits}
 use Rattle.v_lower.specs.Walking.{IsBounded}
 use Rattle.v_lower.proofs.Lowering.{images_kept, stands_before}

@@ -2,7 +2,6 @@ pub mod Lowered
 pub mod Answer
 pub mod Kinds
 pub mod Deciding
-pub mod Moving
 pub mod Table
 pub mod Reading
 pub mod Walking

@@ -1,15 +1,12 @@
 //! Lowers Verilog expressions to terms, operator by operator: where the operands are lowered, so is what is put for the whole.
 #![tactic(auto)]
 
-mod bits;
 mod deciding;
 mod expression;
-mod moving;
 mod names;
 mod operators;
 mod parts;
 mod reducing;
-mod selecting;
 mod steps;
 mod table;
 mod taking;

@@ -13,8 +13,8 @@ ghost use Rattle.v_lower.specs.Table.{images_at};
 ghost use Rattle.v_lower.specs.Reading.{IsRead, IsWordRead, Loads, loaded};
 
 use crate::NoMemory;
-use crate::moving::{less_by, near};
 use crate::table::NamedTerms;
+use v_bits::{Operand, less_by, natural, near};
 use v_operators::{choice, constant, is_below, part, put};
 use v_value::scope::{Object, Scope};
 use v_value::width::object_width;
@@ -26,14 +26,6 @@ pub(crate) struct Names<'a, 's, 'b, 't> {
     pub(crate) scope: &'a Scope<'s>,
     pub(crate) table: &'b NamedTerms<'t>,
     pub(crate) ghost narrow: { HasNarrowObjects (scope_at scope.now) } by { Prim.hlevel props },
-}
-
-/// A term that stands for an operand by itself: how many bits it has, and its sign.
-#[derive(Clone, Copy, PartialEq, Eq, Debug)]
-pub(crate) struct Operand {
-    pub(crate) id: TermId,
-    pub(crate) width: u32,
-    pub(crate) signed: bool,
 }
 
 /// A name that is no memory, and stands whole.
@@ -74,14 +66,6 @@ fn named(names: Names<'_, '_, '_, '_>, _terms: &Terms, name: &str) -> TermId
         Some(id) => id,
         None => unreachable!(),
     }
-}
-
-/// The number as one of 128 bits.
-pub(crate) fn natural(number: u32) -> u128
-    ensures same { result ≡ number }
-    ensures fits { result < 2 ^ 32 }
-{
-    u128::from(number)
 }
 
 /// How many words a memory's term has.

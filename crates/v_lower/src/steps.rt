@@ -15,9 +15,9 @@ ghost use Rattle.v_lower.specs.Contexts.{AreContexts};
 
 use crate::NoMemory;
 use crate::deciding::{lower_comparison, lower_logical};
-use crate::names::Operand;
 use crate::operators::lower_prefix;
 use crate::reducing::lower_reduction;
+use v_bits::Operand;
 use v_operators::widened;
 use v_syntax::tree::{BinaryOperator, PrefixOperator, TestOperator};
 use wb_terms::{TermId, Terms};

@@ -18,7 +18,7 @@ ghost use Rattle.v_lower.specs.Contexts.{IsAddressed, IsTaken, IsTestContext, Ar
 
 use crate::NoMemory;
 use crate::deciding::lower_conditional;
-use crate::names::{Names, Operand, lower_whole, lower_word};
+use crate::names::{Names, lower_whole, lower_word};
 use crate::operators::{lower_binary, lower_shift, lower_signed, lower_unsigned};
 use crate::parts::{lower_concatenation, lower_number, lower_part, lower_replication};
 use crate::steps::{
@@ -28,6 +28,7 @@ use crate::steps::{
 use crate::taking::{
     bounded_bits, count_of, downward, one_bit_of, own_context, taken_bits, upward,
 };
+use v_bits::Operand;
 use v_syntax::tree::{BinaryLink, Choice, Expression, PrefixOperator, Select, Selects, TestLink};
 use v_value::scope::Object;
 use wb_terms::{TermId, Terms};
