@@ -31,12 +31,7 @@ fn near_wide(terms: &mut Terms, index: TermId, width: u32, signed: bool) -> Resu
 }
 
 /// An index as a word of 64 bits, where 62 bits are enough for it, and else 2^62.
-pub fn near(
-    terms: &mut Terms,
-    index: TermId,
-    width: u32,
-    signed: bool,
-) -> Result<TermId, NoMemory>
+pub fn near(terms: &mut Terms, index: TermId, width: u32, signed: bool) -> Result<TermId, NoMemory>
     requires index { IsOfSort terms.old index.0 (word width) }
     ensures grows { Grows terms.old terms.new }
     ensures made { IfOk result (λ r. Makes terms.old terms.new index.0 width r.0 64 (near signed width)) }

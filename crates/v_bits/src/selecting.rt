@@ -36,7 +36,12 @@ pub(crate) fn known_number(terms: &Terms, id: TermId, width: u32) -> Option<u128
 }
 
 /// The place of a bit by the 64 bits of its index, and so many places back.
-pub(crate) fn placed(terms: &mut Terms, object: Object, index: TermId, back: u32) -> Result<TermId, NoMemory>
+pub(crate) fn placed(
+    terms: &mut Terms,
+    object: Object,
+    index: TermId,
+    back: u32,
+) -> Result<TermId, NoMemory>
     requires index { IsOfSort terms.old index.0 (word 64) }
     requires small { back ≤ 128 }
     ensures grows { Grows terms.old terms.new }
