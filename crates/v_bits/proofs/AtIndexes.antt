@@ -1,15 +1,15 @@
 -- Bits that selects take by the terms of their indexes.
-use Rattle.std.proofs.Common.{◌≡◌, ℕ, ◌+◌, ◌-◌, ◌<◌, ◌≤◌, ◌^◌, max, Bool, true, false, cond, ◌&&◌, nat_le, nat_lt, length, Option, Some, None, refl, sym, ap, ◌∙◌, subst, arith, ℤ, pos, ◌-ℤ◌}
+use Rattle.std.proofs.Common.{◌≡◌, ℕ, ◌+◌, ◌<◌, ◌≤◌, ◌^◌, max, Bool, true, false, cond, ◌&&◌, nat_le, nat_lt, Option, Some, None, refl, sym, ap, ◌∙◌, subst, arith, ℤ, pos, ◌-ℤ◌}
 use Rattle.std.proofs.Math.Pow.{pow_mono}
 use Rattle.std.proofs.lemmas.Bool.{false≢true}
 use Rattle.std.proofs.lemmas.Bool.Decides.{nat_tests}
 use Rattle.std.proofs.lemmas.Int.{ints}
 use borrow.Author.Tests.{lt-leb, le-leb}
-use Rattle.wb_values.specs.Value.{Sort, truth, word, memory, Value, number, as_number, Valuation}
+use Rattle.wb_values.specs.Value.{Sort, word, number, as_number, Valuation}
 use Rattle.wb_values.specs.Number.{word_sub}
 use Rattle.wb_values.specs.Choice.{some_if}
 use Rattle.model_meaning.specs.Term.{const, is_width, sort_of, val}
-use Rattle.verilog_meaning.specs.Expression.{Object, place_of_bit, integer_from, bits_from, bits_taken}
+use Rattle.verilog_meaning.specs.Expression.{Object, integer_from, bits_from}
 use Rattle.wb_terms.specs.Graph.{Graph, tree}
 use Rattle.v_operators.specs.Meaning.{Grows, IsOfSort, HasNumber, Makes, Joins}
 use Rattle.v_operators.proofs.Growing.{Grows-trans, number_kept}

@@ -4,3 +4,4 @@ pub mod Placing
 pub mod AtIndexes
 pub mod Replacing
 pub mod Written
+pub mod Stores

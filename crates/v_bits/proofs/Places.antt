@@ -1,13 +1,13 @@
 -- Bits of a number at known places: what is taken of it, and the terms that take it.
-use Rattle.std.proofs.Common.{◌≡◌, ℕ, zero, suc, ◌+◌, ◌-◌, ◌*◌, ◌/◌, ◌%◌, ◌<◌, ◌≤◌, ◌^◌, Bool, true, false, cond, not, refl, sym, ap, ◌∙◌, subst, arith, ℤ, pos, negsuc, ◌-ℤ◌}
+use Rattle.std.proofs.Common.{◌≡◌, ℕ, ◌+◌, ◌-◌, ◌*◌, ◌/◌, ◌%◌, ◌<◌, ◌≤◌, ◌^◌, Bool, true, false, cond, not, sym, ap, ◌∙◌, subst, arith, pos, negsuc, ◌-ℤ◌}
 use Rattle.std.proofs.Math.Nat.{mod-eq_of_lt, div-one, mul-mod_left}
 use Rattle.std.proofs.Math.Pow.{pow_mono, mod-pow-add, shl-shr}
 use Rattle.std.proofs.lemmas.Nat.{shr_below}
 use Rattle.std.proofs.lemmas.Int.{ints}
 use Rattle.std.proofs.lemmas.Bool.{false≢true}
-use Rattle.wb_values.specs.Value.{word, number, Valuation}
+use Rattle.wb_values.specs.Value.{word, Valuation}
 use Rattle.wb_values.specs.Number.{word_extract, word_concat}
-use Rattle.verilog_meaning.specs.Expression.{widened, Bits, bits_from, bits_taken}
+use Rattle.verilog_meaning.specs.Expression.{widened, bits_from}
 use Rattle.wb_terms.specs.Graph.{Graph}
 use Rattle.v_operators.specs.Meaning.{Grows, IsOfSort, HasNumber, Makes, Joins}
 use Rattle.v_operators.proofs.Growing.{number_kept}

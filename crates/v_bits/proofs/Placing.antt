@@ -1,5 +1,5 @@
 -- The terms that take bits at such places.
-use Rattle.std.proofs.Common.{◌≡◌, ℕ, ◌+◌, ◌-◌, ◌*◌, ◌/◌, ◌%◌, ◌<◌, ◌≤◌, ◌^◌, min, max, Bool, true, false, cond, ◌==◌, nat_le, refl, sym, ap, ◌∙◌, subst, arith}
+use Rattle.std.proofs.Common.{◌≡◌, ℕ, ◌%◌, ◌<◌, ◌≤◌, ◌^◌, max, Bool, true, false, cond, ◌==◌, nat_le, sym, ap, subst, arith}
 use borrow.Author.Tests.{lt-leb, le-leb}
 use Rattle.wb_values.specs.Value.{word, Valuation}
 use Rattle.wb_values.specs.Number.{word_or, word_shl, word_lshr, word_neg, word_sub, word_extract}

@@ -1,13 +1,13 @@
 -- Bits at places that are known only when the term is worth something.
-use Rattle.std.proofs.Common.{◌≡◌, ℕ, zero, suc, ◌+◌, ◌-◌, ◌*◌, ◌/◌, ◌%◌, ◌<◌, ◌≤◌, ◌^◌, min, max, Bool, true, false, cond, ◌==◌, nat_le, refl, sym, ap, ◌∙◌, subst, arith, ⊎_elim, ℤ, pos, negsuc, ◌-ℤ◌}
+use Rattle.std.proofs.Common.{◌≡◌, ℕ, ◌+◌, ◌-◌, ◌*◌, ◌/◌, ◌%◌, ◌<◌, ◌≤◌, ◌^◌, min, Bool, true, false, cond, ◌==◌, nat_le, refl, sym, ap, ◌∙◌, subst, arith, ⊎_elim, ℤ, pos, negsuc, ◌-ℤ◌}
 use Rattle.std.proofs.Math.Nat.{mod-lt, mod-eq_of_lt, add-mod_right, div-eq_of_lt, div-one, mul-mod_left, zero-mod, eq-zero-or-pos}
 use Rattle.std.proofs.Math.Pow.{pow_mono, pow_pos, pow-add, mod-mod-pow}
-use Rattle.std.proofs.lemmas.Bool.{cases_lt, false≢true}
+use Rattle.std.proofs.lemmas.Bool.{cases_lt}
 use Rattle.std.proofs.lemmas.Int.{ints}
 use borrow.Author.Tests.{leb-true, leb-false, eqb-true, eqb-false, lt-leb, le-leb}
 use Rattle.std.proofs.lemmas.Nat.{mod_low}
 use lib.Bits.{or_zero_l, or_zero_r, or_self}
-use Rattle.wb_values.specs.Number.{top_bit, word_or, word_shl, word_lshr, word_neg, word_sub}
+use Rattle.wb_values.specs.Number.{top_bit, word_or, word_neg, word_sub}
 use Rattle.verilog_meaning.specs.Expression.{widened, integer_from, bits_from}
 use Rattle.v_value.proofs.Bits.{below}
 use Rattle.v_bits.specs.Moving.{near, IsPlace, at_place, below_zero, far_above, far_below, moved}

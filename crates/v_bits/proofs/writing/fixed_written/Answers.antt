@@ -1,9 +1,9 @@
-use Rattle.std.proofs.Common.{◌≤◌, ◌-◌, ◌^◌, sym, ap, ◌∙◌, subst, pos, ◌-ℤ◌}
+use Rattle.std.proofs.Common.{◌≤◌, ◌-◌, ◌^◌, sym, ap, ◌∙◌, subst}
 use Rattle.wb_values.specs.Value.{word}
 use Rattle.wb_values.specs.Number.{word_not}
 use Rattle.verilog_meaning.specs.Expression.{Bits, bits_taken}
 use Rattle.verilog_meaning.specs.Statement.{with_bits_at}
-use Rattle.v_value.specs.Index.{integer_at, span_of}
+use Rattle.v_value.specs.Index.{span_of}
 use Rattle.v_operators.specs.Meaning.{Makes}
 use Rattle.v_operators.proofs.Growing.{Grows-refl, Grows-trans, IsOfSort-kept}
 use Rattle.v_operators.proofs.Testing.{some_bits, at_most_128}
