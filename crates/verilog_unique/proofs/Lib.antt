@@ -1,0 +1,13 @@
+pub mod Options
+pub mod Descent
+pub mod Chains
+pub mod Paths
+pub mod Bits
+pub mod Values
+pub mod Standing
+pub mod Reading
+pub mod Mentioned
+pub mod Parameters
+pub mod Ports
+pub mod Steps
+pub mod Unique
