@@ -1,6 +1,7 @@
 -- The bits of all declared names of a design stand in one list.
 use Rattle.std.proofs.Common.{◌≡◌, ℕ, zero, suc, ◌<◌, ◌≤◌, Bool, true, false, cond, List, [], ◌∷◌, ◌++◌, ◌⊎◌, inl, inr, refl, sym, ap, subst, Option, Some, None, arith}
 use Rattle.std.specs.Prelude.{IsTrue, ◌||◌, ◌&&◌, nat_lt}
+use Rattle.std.proofs.lemmas.Bool.{cases_lt}
 use Rattle.std.proofs.lemmas.Bool.Decides.{nat_tests}
 use Rattle.wb_values.specs.Value.{Name, same_name}
 use Rattle.verilog_meaning.specs.Expression.{Scope, object_width}
@@ -8,9 +9,9 @@ use Rattle.verilog_meaning.specs.Register.{word_count, is_bit_of}
 use Rattle.verilog_meaning.specs.Hierarchy.{Declaration, declarations, PathStep, Placed, placed_scope}
 use Rattle.verilog_meaning.specs.Settled.{Design, at_path, IsPlacedIn, is_declared_among, IsDeclared}
 use Rattle.verilog_designs.specs.Dependence.{Bit, PlacedBit, bit_of, IsBitIn}
-use Rattle.verilog_designs.specs.Accepted.{HasBadHierarchy}
-use Rattle.verilog_unique.proofs.Options.{split, same_is, both_true}
-use Rattle.verilog_unique.proofs.Descent.{IsAmong, among_left, among_right}
+use Rattle.verilog_unique.specs.Finite.{BitsAreFinite}
+use Rattle.verilog_unique.proofs.Options.{same_is, both_true}
+use Rattle.verilog_unique.proofs.Descent.{IsAmong, among_left, among_right, contains_among}
 use Rattle.verilog_unique.proofs.Paths.{paths_are_finite}
 
 abbrev bit : Name → ℕ → ℕ → Bit
@@ -26,7 +27,7 @@ name_bits n zero w = []
 name_bits n (suc k) w = word_bits n k w ++ name_bits n k w
 
 below_or_same : (m n : ℕ) → m < suc n → (n ≡ m) ⊎ (m < n)
-below_or_same m n l = grind (arith, l)
+below_or_same m n l = elim (cases_lt m n) as (λ _. (n ≡ m) ⊎ (m < n)) [ inl k ↦ inr k | inr k ↦ inl (omega (arith, l, k)) ]
 
 in_word : (n : Name) (k w b : ℕ) → b < w → IsAmong (word_bits n k w) (bit n k b)
 in_word n k zero b l = absurd (omega (arith, l))
@@ -56,14 +57,14 @@ in_object s n k b t =
 in_declared : (s : Scope) (ds : List Declaration) (n : Name) (k b : ℕ) → IsTrue (is_declared_among ds n) → IsTrue (is_bit_of (s n) k b)
     → IsAmong (declared_bits s ds) (bit n k b)
 in_declared s [] n k b declared t = cc
-in_declared s (d ∷ ds) n k b declared t = chosen (same_name d.of_name n) (same_is d.of_name n) declared
+in_declared s (d ∷ ds) n k b declared t = chosen (same_name d.of_name n) (same_is d.of_name n) (λ h. in_declared s ds n k b h t) declared
   where
-    chosen : (x : Bool) → (x ≡ true → d.of_name ≡ n) → IsTrue (x || is_declared_among ds n)
-        → IsAmong (object_bits s d.of_name ++ declared_bits s ds) (bit n k b)
-    chosen true f h =
+    chosen : (x : Bool) → (x ≡ true → d.of_name ≡ n) → (IsTrue (is_declared_among ds n) → IsAmong (declared_bits s ds) (bit n k b))
+        → IsTrue (x || is_declared_among ds n) → IsAmong (object_bits s d.of_name ++ declared_bits s ds) (bit n k b)
+    chosen true f g h =
         among_left (object_bits s d.of_name) (declared_bits s ds) (bit n k b)
         (subst (λ m. IsAmong (object_bits s m) (bit n k b)) (sym (f refl)) (in_object s n k b t))
-    chosen false f h = among_right (object_bits s d.of_name) (declared_bits s ds) (bit n k b) (in_declared s ds n k b h t)
+    chosen false f g h = among_right (object_bits s d.of_name) (declared_bits s ds) (bit n k b) (g h)
 
 -- ---- of all modules
 
@@ -97,8 +98,8 @@ in_all d (path ∷ paths) p u (inr h) at declared t =
     among_right (placed_bits path (at_path d path)) (all_bits d paths) (bit_of p u) (in_all d paths p u h at declared t)
 
 -- A list that has each bit of each declared name of each module of the design.
-pub bits_are_finite : (d : Design) → ¬ HasBadHierarchy d
-    → (bits : List PlacedBit) × ((p : Placed) (u : Bit) → IsPlacedIn d p → IsDeclared p u.of_name → IsBitIn p u → IsAmong bits (bit_of p u))
+pub bits_are_finite : BitsAreFinite
 bits_are_finite d good =
     let paths = paths_are_finite d good in
-    (all_bits d paths.0, λ p u at declared t. in_all d paths.0 p u (paths.1 p.path p at) at declared t)
+    (all_bits d paths.0,
+    λ p u at declared t. contains_among (all_bits d paths.0) (bit_of p u) (in_all d paths.0 p u (paths.1 p.path p at) at declared t))

@@ -1,5 +1,5 @@
 -- A property that goes down from each element to another one cannot hold within a list, where nothing is below itself.
-use Rattle.std.proofs.Common.{◌≡◌, ℕ, zero, suc, ◌+◌, ◌<◌, ◌≤◌, List, [], ◌∷◌, ◌++◌, length, ◌⊎◌, inl, inr, refl, sym, ap, subst, arith, get_or}
+use Rattle.std.proofs.Common.{◌≡◌, ℕ, zero, suc, ◌+◌, ◌<◌, ◌≤◌, List, [], ◌∷◌, ◌++◌, length, ◌⊎◌, inl, inr, refl, sym, ap, ◌∙◌, subst, arith, get_or}
 use Rattle.std.specs.List.{Contains}
 
 -- x is an element of the list
@@ -28,25 +28,25 @@ contains_among (y ∷ ys) x (inr h) = let c : Contains ys x = contains_among ys 
 
 pub among_contains : {A : Type 0} (xs : List A) (x : A) → Contains xs x → IsAmong xs x
 among_contains [] x c = absurd (omega (arith, c.1))
-among_contains (y ∷ ys) x c = at c.0 c.1 c.2
+among_contains (y ∷ ys) x c = at (λ d. among_contains ys x d) c.0 c.1 c.2
   where
-    at : (k : ℕ) → k < length (y ∷ ys) → get_or (y ∷ ys) k x ≡ x → IsAmong (y ∷ ys) x
-    at zero l e = inl e
-    at (suc k) l e = inr (among_contains ys x (k, omega (arith, l), e))
+    at : (Contains ys x → IsAmong ys x) → (k : ℕ) → k < length (y ∷ ys) → get_or (y ∷ ys) k x ≡ x → IsAmong (y ∷ ys) x
+    at f zero l e = inl e
+    at f (suc k) l e = inr (f (k, omega (arith, l), e))
 
 -- the list without one place at which the element stands
-without : {A : Type 0} (xs : List A) (x : A) → IsAmong xs x → List A
+pub without : {A : Type 0} (xs : List A) (x : A) → IsAmong xs x → List A
 without [] x h = []
 without (y ∷ ys) x (inl e) = ys
 without (y ∷ ys) x (inr h) = y ∷ without ys x h
 
-length_without : {A : Type 0} (xs : List A) (x : A) (h : IsAmong xs x) → suc (length (without xs x h)) ≡ length xs
+pub length_without : {A : Type 0} (xs : List A) (x : A) (h : IsAmong xs x) → suc (length (without xs x h)) ≡ length xs
 unfolding without
 length_without [] x h = absurd h
 length_without (y ∷ ys) x (inl e) = refl
 length_without (y ∷ ys) x (inr h) = ap suc (length_without ys x h)
 
-kept : {A : Type 0} (xs : List A) (x : A) (h : IsAmong xs x) (z : A) → IsAmong xs z → (x ≡ z → ⊥) → IsAmong (without xs x h) z
+pub kept : {A : Type 0} (xs : List A) (x : A) (h : IsAmong xs x) (z : A) → IsAmong xs z → (x ≡ z → ⊥) → IsAmong (without xs x h) z
 unfolding without
 kept [] x h z g n = absurd g
 kept (y ∷ ys) x (inl e) z (inl f) n = absurd (n (sym e ∙ f))

@@ -10,4 +10,8 @@ pub mod Mentioned
 pub mod Parameters
 pub mod Ports
 pub mod Steps
+pub mod Instances
+pub mod Constants
+pub mod Fitting
+pub mod Local
 pub mod Unique

@@ -5,16 +5,18 @@ use Rattle.std.specs.List.{list_any}
 use Rattle.wb_values.specs.Value.{Name, same_name, Entries, entry_of}
 use Rattle.wb_values.specs.Choice.{first_of}
 use Rattle.verilog_trees.specs.Syntax.{Expression, Range, ParameterDeclaration, Module, Source}
-use Rattle.verilog_meaning.specs.Expression.{Object, Scope, object_or_undeclared, scope_of}
-use Rattle.verilog_meaning.specs.Hierarchy.{parameter_object, overridden_object, Overrides, one_parameter, override_of, with_values, with_parameters, all_parameters, constants_of, declarations, declaration_of, Declaration, declared_object, PathStep, Placed, placed_scope, value_names, module_named, Instance, connected, overridable, overrides_of, placed_instance, no_overrides}
+use Rattle.verilog_meaning.specs.Expression.{Object, Scope, is_memory, object_or_undeclared, scope_of}
+use Rattle.verilog_meaning.specs.Hierarchy.{ranged_object, parameter_object, overridden_object, Overrides, one_parameter, override_of, with_values, with_parameters, all_parameters, constants_of, declarations, declaration_of, Declaration, declared_object, PathStep, Placed, placed_scope, value_names, module_named, Instance, connected, overridable, overrides_of, placed_instance, no_overrides}
 use Rattle.verilog_meaning.specs.Settled.{Design, at_path, IsDeclared}
 use Rattle.verilog_designs.specs.Names.{is_among, parameter_names}
+use Rattle.verilog_settled.specs.Locality.{HasNoConstantMemory}
 use Rattle.verilog_unique.proofs.Options.{same_is, is_same, either_true, from_map}
-use Rattle.verilog_unique.proofs.Paths.{StepsTo, step_of}
+use Rattle.verilog_unique.proofs.Paths.{StepsTo, step_of, instance_from, top_from}
 use Rattle.verilog_unique.proofs.Standing.{IsKnownIn}
 
-abbrev HasNumber : Object → Type 0
-HasNumber o = IsTrue (is_some o.constant)
+-- it has a number, and is no memory
+abbrev pub HasNumber : Object → Type 0
+HasNumber o = IsTrue (is_some o.constant) × (is_memory o ≡ false)
 
 abbrev HaveNumbers : Entries Object → Type 0
 HaveNumbers [] = Unit {0}
@@ -30,38 +32,39 @@ HasEntry es n = IsTrue (is_some (entry_of es n))
 
 entry_number : (es : Entries Object) (n : Name) (o : Object) → HaveNumbers es → entry_of es n ≡ Some o → HasNumber o
 entry_number [] n o h e = cc
-entry_number (x ∷ es) n o h e = chosen (same_name x.0 n) e
+entry_number (x ∷ es) n o h e = chosen (same_name x.0 n) (entry_number es n o h.1) e
   where
-    chosen : (b : Bool) → cond b (Some x.1) (entry_of es n) ≡ Some o → HasNumber o
-    chosen true f = let same : x.1 ≡ o = cc in subst HasNumber same h.0
-    chosen false f = entry_number es n o h.1 f
+    chosen : (b : Bool) → (entry_of es n ≡ Some o → HasNumber o) → cond b (Some x.1) (entry_of es n) ≡ Some o → HasNumber o
+    chosen true g f = let same : x.1 ≡ o = cc in subst HasNumber same h.0
+    chosen false g f = g f
 
 entry_kept : (es fs : Entries Object) (n : Name) → HasEntry es n → HasEntry (es ++ fs) n
 entry_kept [] fs n h = cc
-entry_kept (x ∷ es) fs n h = chosen (same_name x.0 n) h
+entry_kept (x ∷ es) fs n h = chosen (same_name x.0 n) (entry_kept es fs n) h
   where
-    chosen : (b : Bool) → IsTrue (is_some (cond b (Some x.1) (entry_of es n))) → IsTrue (is_some (cond b (Some x.1) (entry_of (es ++ fs) n)))
-    chosen true f = refl
-    chosen false f = entry_kept es fs n f
+    chosen : (b : Bool) → (HasEntry es n → HasEntry (es ++ fs) n) → IsTrue (is_some (cond b (Some x.1) (entry_of es n)))
+        → IsTrue (is_some (cond b (Some x.1) (entry_of (es ++ fs) n)))
+    chosen true g f = refl
+    chosen false g f = g f
 
 entry_new : (es : Entries Object) (n : Name) (o : Object) → HasEntry (es ++ (n, o) ∷ []) n
 entry_new [] n o = subst (λ b. IsTrue (is_some (cond b (Some o) None))) (sym (is_same n)) refl
-entry_new (x ∷ es) n o = chosen (same_name x.0 n)
+entry_new (x ∷ es) n o = chosen (same_name x.0 n) (entry_new es n o)
   where
-    chosen : (b : Bool) → IsTrue (is_some (cond b (Some x.1) (entry_of (es ++ (n, o) ∷ []) n)))
-    chosen true = refl
-    chosen false = entry_new es n o
+    chosen : (b : Bool) → HasEntry (es ++ (n, o) ∷ []) n → IsTrue (is_some (cond b (Some x.1) (entry_of (es ++ (n, o) ∷ []) n)))
+    chosen true f = refl
+    chosen false f = f
 
 abbrev OverridesHaveNumbers : Overrides → Type 0
 OverridesHaveNumbers given = (n : Name) (o : Object) → given n ≡ Some o → HasNumber o
 
 value_number : (s : Scope) (signed : Bool) (r : Option Range) (e : Expression) → HasNumber (parameter_object s signed r e)
-value_number s signed None e = refl
-value_number s signed (Some r) e = refl
+value_number s signed None e = (refl, refl)
+value_number s signed (Some r) e = (refl, refl)
 
 override_number : (s : Scope) (signed : Bool) (r : Option Range) (given : Object) → HasNumber given → HasNumber (overridden_object s signed r given)
 override_number s signed None given h = h
-override_number s signed (Some r) given h = refl
+override_number s signed (Some r) given h = (refl, refl)
 
 one_number : (s : Scope) (signed : Bool) (r : Option Range) (e : Expression) (given : Option Object) → ((o : Object) → given ≡ Some o → HasNumber o)
     → HasNumber (one_parameter s signed r e given)
@@ -98,11 +101,12 @@ values_grow d given (v ∷ vs) known g h =
 
 among_either : (ns ms : List Name) (n : Name) → IsTrue (is_among (ns ++ ms) n) → IsTrue (is_among ns n) ⊎ IsTrue (is_among ms n)
 among_either [] ms n t = inr t
-among_either (k ∷ ns) ms n t = chosen (same_name k n) t
+among_either (k ∷ ns) ms n t = chosen (same_name k n) (among_either ns ms n) t
   where
-    chosen : (b : Bool) → IsTrue (b || is_among (ns ++ ms) n) → IsTrue (b || is_among ns n) ⊎ IsTrue (is_among ms n)
-    chosen true f = inl refl
-    chosen false f = among_either ns ms n f
+    chosen : (b : Bool) → (IsTrue (is_among (ns ++ ms) n) → IsTrue (is_among ns n) ⊎ IsTrue (is_among ms n)) → IsTrue (b || is_among (ns ++ ms) n)
+        → IsTrue (b || is_among ns n) ⊎ IsTrue (is_among ms n)
+    chosen true g f = inl refl
+    chosen false g f = g f
 
 parameters_grow : (ds : List ParameterDeclaration) (given : Overrides) (known : Entries Object) → OverridesHaveNumbers given → HaveNumbers known
     → Grows known (with_parameters ds given known) (parameter_names ds)
@@ -120,7 +124,7 @@ parameters_grow (d ∷ ds) given known g h =
 
 -- the constants of a module: each has a number, and each parameter is one of them
 pub record AreConstants (m : Module) (es : Entries Object) : Type 0 where
-  pub numbers : (n : Name) (o : Object) → entry_of es n ≡ Some o → IsTrue (is_some o.constant)
+  pub numbers : (n : Name) (o : Object) → entry_of es n ≡ Some o → HasNumber o
   pub all : (n : Name) → IsTrue (is_among (parameter_names (all_parameters m)) n) → IsTrue (is_some (entry_of es n))
 
 constants_are : (m : Module) (given : Overrides) → OverridesHaveNumbers given → AreConstants m (constants_of m given)
@@ -130,18 +134,18 @@ constants_are m given g =
 
 given_number : (s : Scope) (i : Instance) (m : Module) → OverridesHaveNumbers (overrides_of s i.parameters m)
 given_number s i m n o e =
-    let f = from_map _ (connected i.parameters (overridable (all_parameters m)) n) o e in subst HasNumber f.2 (value_number s false None f.0)
+    let f = from_map (λ x. parameter_object s false None x) (connected i.parameters (overridable (all_parameters m)) n) o e in subst HasNumber f.2 (value_number s false None f.0)
 
 instance_constants : (source : Source) (path : List PathStep) (s : Scope) (i : Instance) (p : Placed) → placed_instance source path s i ≡ Some p
     → AreConstants p.of_module p.constants
 instance_constants source path s i p e =
-    let f = from_map _ (module_named source i.of_module) p e in
-    subst (λ q. AreConstants q.of_module q.constants) f.2 (constants_are f.0 (overrides_of s i.parameters f.0) (given_number s i f.0))
+    let f = instance_from source path s i p e in
+    subst (λ (q : Placed). AreConstants q.of_module q.constants) f.2 (constants_are f.0 (overrides_of s i.parameters f.0) (given_number s i f.0))
 
 pub placed_constants : (d : Design) (path : List PathStep) (p : Placed) → at_path d path ≡ Some p → AreConstants p.of_module p.constants
 placed_constants d [] p e =
-    let f = from_map _ (module_named d.source d.top) p e in
-    subst (λ q. AreConstants q.of_module q.constants) f.2 (constants_are f.0 no_overrides (λ n o k. cc))
+    let f = top_from d p e in
+    subst (λ (q : Placed). AreConstants q.of_module q.constants) f.2 (constants_are f.0 no_overrides (λ n o k. cc))
 placed_constants d (u ∷ around) p e =
     let s : StepsTo d u around p = step_of d u around p e in
     instance_constants d.source (u ∷ s.outer.path) (placed_scope s.outer) s.instance p s.is_placed
@@ -152,10 +156,28 @@ pub parameter_number : (d : Design) (path : List PathStep) (p : Placed) → at_p
 parameter_number d path p e n t =
     let c = placed_constants d path p e in found (entry_of p.constants n) (c.numbers n) (c.all n t)
   where
-    found : (x : Option Object) → ((o : Object) → x ≡ Some o → IsTrue (is_some o.constant)) → IsTrue (is_some x)
+    found : (x : Option Object) → ((o : Object) → x ≡ Some o → HasNumber o) → IsTrue (is_some x)
         → IsTrue (is_some (object_or_undeclared (first_of x (option_map (declared_object (scope_of p.constants)) (declaration_of (declarations p.of_module) n)))).constant)
     found None f g = cc
-    found (Some o) f g = f o refl
+    found (Some o) f g = (f o refl).0
+
+-- a name with a number is no memory
+pub no_constant_memory : (d : Design) (path : List PathStep) (p : Placed) → at_path d path ≡ Some p → HasNoConstantMemory (placed_scope p)
+no_constant_memory d path p e n t =
+    found (entry_of p.constants n) (declaration_of (declarations p.of_module) n) ((placed_constants d path p e).numbers n) t
+  where
+    object : Option Object → Option Declaration → Object
+    object x y = object_or_undeclared (first_of x (option_map (declared_object (scope_of p.constants)) y))
+
+    plain : (signed : Bool) (r : Option Range) → IsTrue (is_some (ranged_object (scope_of p.constants) signed r).constant) → ⊥
+    plain signed None h = cc
+    plain signed (Some r) h = cc
+
+    found : (x : Option Object) (y : Option Declaration) → ((o : Object) → x ≡ Some o → HasNumber o) → IsTrue (is_some (object x y).constant)
+        → is_memory (object x y) ≡ false
+    found None None f h = refl
+    found None (Some y) f h = absurd (plain y.signed y.range h)
+    found (Some o) y f h = (f o refl).1
 
 -- what is known and has no number is a net or a variable
 pub net_is_declared : (d : Design) (path : List PathStep) (p : Placed) → at_path d path ≡ Some p → (n : Name) → IsKnownIn p.of_module n

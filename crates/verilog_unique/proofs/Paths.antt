@@ -7,11 +7,12 @@ use Rattle.wb_values.specs.Value.{Name, same_name}
 use Rattle.wb_values.specs.Choice.{first_of}
 use Rattle.verilog_trees.specs.Syntax.{Connections, Item, port, parameter, wires, variables, assign, always, instances, Module, Source}
 use Rattle.verilog_meaning.specs.Expression.{Scope}
-use Rattle.verilog_meaning.specs.Hierarchy.{PathStep, instance_step, Placed, placed_scope, module_named, Instance, instance_among, instance_named, instance_reached, placed_instance, placed_below, placed_at}
+use Rattle.verilog_meaning.specs.Hierarchy.{PathStep, instance_step, Placed, placed_scope, module_named, Instance, instance_among, instance_named, instance_reached, placed_instance, placed_below, constants_of, overrides_of, no_overrides}
 use Rattle.verilog_meaning.specs.Settled.{Design, at_path, IsPlacedIn}
 use Rattle.verilog_designs.specs.Names.{instance_names, all_instance_names}
 use Rattle.verilog_designs.specs.Accepted.{AreInstances, HasBadHierarchy}
-use Rattle.verilog_unique.proofs.Options.{split, same_is, from_map, from_chain}
+use Rattle.verilog_unique.specs.Finite.{PathsAreShort}
+use Rattle.verilog_unique.proofs.Options.{same_is, from_map, from_chain}
 use Rattle.verilog_unique.proofs.Descent.{IsAmong, among_left, among_right, among_contains, contains_among}
 
 -- ---- one step
@@ -29,12 +30,26 @@ step_of d u around p e =
     let two = from_chain (placed_instance d.source (u ∷ one.0.path) (placed_scope one.0)) (instance_reached one.0.of_module.items u) p one.2 in
     record { outer = one.0; instance = two.0; is_outer = one.1; is_reached = two.1; is_placed = two.2 }
 
+-- the module that an instance is, and the top
+abbrev pub placed_of : List PathStep → Scope → Instance → Module → Placed
+placed_of path s i m = record { path = path; of_module = m; constants = constants_of m (overrides_of s i.parameters m) }
+
+abbrev pub top_of : Module → Placed
+top_of m = record { path = []; of_module = m; constants = constants_of m no_overrides }
+
+pub instance_from : (source : Source) (path : List PathStep) (s : Scope) (i : Instance) (p : Placed) → placed_instance source path s i ≡ Some p
+    → (m : Module) × (module_named source i.of_module ≡ Some m) × (placed_of path s i m ≡ p)
+instance_from source path s i p e = from_map (placed_of path s i) (module_named source i.of_module) p e
+
+pub top_from : (d : Design) (p : Placed) → at_path d [] ≡ Some p → (m : Module) × (module_named d.source d.top ≡ Some m) × (top_of m ≡ p)
+top_from d p e = from_map top_of (module_named d.source d.top) p e
+
 path_of_instance : (source : Source) (path : List PathStep) (s : Scope) (i : Instance) (p : Placed) → placed_instance source path s i ≡ Some p → p.path ≡ path
-path_of_instance source path s i p e = let f = from_map _ (module_named source i.of_module) p e in ap (λ q. q.path) (sym f.2)
+path_of_instance source path s i p e = let f = instance_from source path s i p e in ap (λ (q : Placed). q.path) (sym f.2)
 
 -- a module stands where its path says
 pub stands_at : (d : Design) (path : List PathStep) (p : Placed) → at_path d path ≡ Some p → p.path ≡ path
-stands_at d [] p e = let f = from_map _ (module_named d.source d.top) p e in ap (λ q. q.path) (sym f.2)
+stands_at d [] p e = let f = top_from d p e in ap (λ (q : Placed). q.path) (sym f.2)
 stands_at d (u ∷ around) p e =
     let s = step_of d u around p e in
     path_of_instance d.source (u ∷ s.outer.path) (placed_scope s.outer) s.instance p s.is_placed ∙ ap (λ path. u ∷ path) (stands_at d around s.outer s.is_outer)
@@ -142,7 +157,8 @@ in_levels d (suc n) path p l e =
     | inr k ↦ among_right (level d (suc n)) (levels d n) path (in_levels d n path p k e) ]
   where
     deepest : (m k : ℕ) → m ≤ suc k → (m ≡ suc k) ⊎ (m ≤ k)
-    deepest m k h = grind (arith, h)
+    deepest m k h =
+        elim (cases_lt m (suc k)) as (λ _. (m ≡ suc k) ⊎ (m ≤ k)) [ inl l ↦ inr (omega (arith, l)) | inr l ↦ inl (omega (arith, l, h)) ]
 
 -- ---- a path has no more steps than instances may stand below the top
 
@@ -166,8 +182,8 @@ suffix_place [] q i e = cc
 suffix_place (u ∷ around) q zero e = let same : u ∷ around ≡ q = cc in subst (λ x. length x + 0 ≡ length (u ∷ around)) same (omega arith)
 suffix_place (u ∷ around) q (suc i) e = let h = suffix_place around q i e in omega (arith, h)
 
-pub depth : (d : Design) → ¬ HasBadHierarchy d → (path : List PathStep) (p : Placed) → at_path d path ≡ Some p → length path ≤ 65536
-depth d good path p e =
+pub depth : PathsAreShort
+depth d path p good e =
     elim (cases_lt 65536 (length path)) as (λ _. length path ≤ 65536)
     [ inl more ↦ absurd (good (HasBadHierarchy.crowded (suffixes path) instances (subst (λ k. 65536 < k) (sym (suffix_count path)) more)))
     | inr enough ↦ enough ]
@@ -182,7 +198,7 @@ depth d good path p e =
 -- All paths of an accepted design stand in one list.
 pub paths_are_finite : (d : Design) → ¬ HasBadHierarchy d
     → (paths : List (List PathStep)) × ((path : List PathStep) (p : Placed) → at_path d path ≡ Some p → IsAmong paths path)
-paths_are_finite d good = finite 65536 (depth d good)
+paths_are_finite d good = finite 65536 (λ path p e. depth d path p good e)
   where
     finite : (n : ℕ) → ((path : List PathStep) (p : Placed) → at_path d path ≡ Some p → length path ≤ n)
         → (paths : List (List PathStep)) × ((path : List PathStep) (p : Placed) → at_path d path ≡ Some p → IsAmong paths path)

@@ -14,37 +14,37 @@ Declares ds n = IsTrue (is_declared_among ds n)
 
 entry_either : (es fs : Entries Direction) (n : Name) → HasEntry (es ++ fs) n → HasEntry es n ⊎ HasEntry fs n
 entry_either [] fs n h = inr h
-entry_either (x ∷ es) fs n h = chosen (same_name x.0 n) h
+entry_either (x ∷ es) fs n h = chosen (same_name x.0 n) (entry_either es fs n) h
   where
-    chosen : (b : Bool) → IsTrue (is_some (cond b (Some x.1) (entry_of (es ++ fs) n)))
+    chosen : (b : Bool) → (HasEntry (es ++ fs) n → HasEntry es n ⊎ HasEntry fs n) → IsTrue (is_some (cond b (Some x.1) (entry_of (es ++ fs) n)))
         → IsTrue (is_some (cond b (Some x.1) (entry_of es n))) ⊎ HasEntry fs n
-    chosen true f = inl refl
-    chosen false f = entry_either es fs n f
+    chosen true g f = inl refl
+    chosen false g f = g f
 
 declares_left : (ds es : List Declaration) (n : Name) → Declares ds n → Declares (ds ++ es) n
 declares_left [] es n h = cc
-declares_left (d ∷ ds) es n h = chosen (same_name d.of_name n) h
+declares_left (d ∷ ds) es n h = chosen (same_name d.of_name n) (declares_left ds es n) h
   where
-    chosen : (b : Bool) → IsTrue (b || is_declared_among ds n) → IsTrue (b || is_declared_among (ds ++ es) n)
-    chosen true f = refl
-    chosen false f = declares_left ds es n f
+    chosen : (b : Bool) → (Declares ds n → Declares (ds ++ es) n) → IsTrue (b || is_declared_among ds n) → IsTrue (b || is_declared_among (ds ++ es) n)
+    chosen true g f = refl
+    chosen false g f = g f
 
 declares_right : (ds es : List Declaration) (n : Name) → Declares es n → Declares (ds ++ es) n
 declares_right [] es n h = h
-declares_right (d ∷ ds) es n h = chosen (same_name d.of_name n)
+declares_right (d ∷ ds) es n h = chosen (same_name d.of_name n) (declares_right ds es n h)
   where
-    chosen : (b : Bool) → IsTrue (b || is_declared_among (ds ++ es) n)
-    chosen true = refl
-    chosen false = declares_right ds es n h
+    chosen : (b : Bool) → Declares (ds ++ es) n → IsTrue (b || is_declared_among (ds ++ es) n)
+    chosen true f = refl
+    chosen false f = f
 
 port_named : (d : PortDeclaration) (ns : List Name) (n : Name) → HasEntry (named_ports d.direction ns) n → Declares (each_port d ns) n
 port_named d [] n h = cc
-port_named d (m ∷ ns) n h = chosen (same_name m n) h
+port_named d (m ∷ ns) n h = chosen (same_name m n) (port_named d ns n) h
   where
-    chosen : (b : Bool) → IsTrue (is_some (cond b (Some d.direction) (entry_of (named_ports d.direction ns) n)))
-        → IsTrue (b || is_declared_among (each_port d ns) n)
-    chosen true f = refl
-    chosen false f = port_named d ns n f
+    chosen : (b : Bool) → (HasEntry (named_ports d.direction ns) n → Declares (each_port d ns) n)
+        → IsTrue (is_some (cond b (Some d.direction) (entry_of (named_ports d.direction ns) n))) → IsTrue (b || is_declared_among (each_port d ns) n)
+    chosen true g f = refl
+    chosen false g f = g f
 
 header_port : (ds : List PortDeclaration) (n : Name) → HasEntry (declared_ports ds) n → Declares (port_declarations ds) n
 header_port [] n h = cc

@@ -37,13 +37,21 @@ both_are s ns ms p q f g y t =
     elim (either_true (is_in p y) (is_in q y) t) as (λ _. IsNetBit s (ns ++ ms) y)
     [ inl h ↦ net_left s ns ms y (f y h) | inr h ↦ net_right s ns ms y (g y h) ]
 
+three_are : (s : Scope) (ns ms ks : List Name) (p q r : BitSet) → AreNetBits s ns p → AreNetBits s ms q → AreNetBits s ks r
+    → AreNetBits s ((ns ++ ms) ++ ks) (or_in p (or_in q r))
+three_are s ns ms ks p q r f g h y t =
+    elim (either_true (is_in p y) (is_in q y || is_in r y) t) as (λ _. IsNetBit s ((ns ++ ms) ++ ks) y)
+    [ inl a ↦ net_left s (ns ++ ms) ks y (net_left s ns ms y (f y a))
+    | inr a ↦ elim (either_true (is_in q y) (is_in r y) a) as (λ _. IsNetBit s ((ns ++ ms) ++ ks) y)
+    [ inl b ↦ net_left s (ns ++ ms) ks y (net_right s ns ms y (g y b)) | inr b ↦ net_right s (ns ++ ms) ks y (h y b) ] ]
+
 left_are : (s : Scope) (ns ms : List Name) (p : BitSet) → AreNetBits s ns p → AreNetBits s (ns ++ ms) p
 left_are s ns ms p f y t = net_left s ns ms y (f y t)
 
 right_are : (s : Scope) (ns ms : List Name) (p : BitSet) → AreNetBits s ms p → AreNetBits s (ns ++ ms) p
 right_are s ns ms p f y t = net_right s ns ms y (f y t)
 
-name_bits : (s : Scope) (n : Name) (x : Selects) (ms : List Name) → AreNetBits s (n ∷ ms) (name_reads s n x)
+pub name_bits : (s : Scope) (n : Name) (x : Selects) (ms : List Name) → AreNetBits s (n ∷ ms) (name_reads s n x)
 name_bits s n x ms y t =
     let m = y.of_name in
     let one = both_true (same_name n m) (is_none (s n).constant && (is_bit_of (s n) y.word y.place && cond (selects_are_constant s x) (may_mean s (s n) x y.word y.place) true)) t in
@@ -70,8 +78,7 @@ mutual
   read s (comparison op x y) = both_are s (names_in x) (names_in y) (reads s x) (reads s y) (read s x) (read s y)
   read s (logical op x y) = both_are s (names_in x) (names_in y) (reads s x) (reads s y) (read s x) (read s y)
   read s (conditional c x y) =
-      both_are s (names_in c) (names_in x ++ names_in y) (reads s c) (or_in (reads s x) (reads s y)) (read s c)
-      (both_are s (names_in x) (names_in y) (reads s x) (reads s y) (read s x) (read s y))
+      three_are s (names_in c) (names_in x) (names_in y) (reads s c) (reads s x) (reads s y) (read s c) (read s x) (read s y)
 
   pub read_all : (s : Scope) (es : Expressions) → AreNetBits s (names_in_all es) (reads_in_all s es)
   read_all s no_expressions = none_are s []
@@ -102,7 +109,7 @@ some_bit o n (Some k) (Some b) y e = chosen (is_none o.constant && is_bit_of o k
         → (n ≡ y.of_name) × IsTrue (is_none o.constant) × IsTrue (is_bit_of o y.word y.place)
     chosen true f h =
         let same : record { of_name = n; word = k; place = b } ≡ y = cc in
-        subst (λ z. (n ≡ z.of_name) × IsTrue (is_none o.constant) × IsTrue (is_bit_of o z.word z.place)) same (refl, (f refl).0, (f refl).1)
+        subst (λ (z : Bit). (n ≡ z.of_name) × IsTrue (is_none o.constant) × IsTrue (is_bit_of o z.word z.place)) same (refl, (f refl).0, (f refl).1)
     chosen false f h = cc
 
 at_net : (s : Scope) (n : Name) (x : Selects) (j : ℕ) (ms : List Name) (y : Bit) → bit_at s n x j ≡ Some y → IsNetBit s (n ∷ ms) y
@@ -111,11 +118,11 @@ at_net s n x j ms y e =
     let f = some_bit (s n) n (word_of_cell p.cell) (natural_in (p.bits.low +ℤ pos j)) y e in
     record { is_named = inl f.0; is_net = subst (λ k. IsTrue (is_none (s k).constant)) f.0 f.1; is_bit = subst (λ k. IsTrue (is_bit_of (s k) y.word y.place)) f.0 f.2 }
 
-either_option : {A : Type 0} (b : Bool) (x z : Option A) (y : A) → cond b x z ≡ Some y → (x ≡ Some y) ⊎ (z ≡ Some y)
+pub either_option : {A : Type 0} (b : Bool) (x z : Option A) (y : A) → cond b x z ≡ Some y → (x ≡ Some y) ⊎ (z ≡ Some y)
 either_option true x z y e = inl e
 either_option false x z y e = inr e
 
-widened_net : (s : Scope) (signed : Bool) (n : Name) (x : Selects) (j : ℕ) (ms : List Name) (y : Bit) → widened_bit s signed n x j ≡ Some y
+pub widened_net : (s : Scope) (signed : Bool) (n : Name) (x : Selects) (j : ℕ) (ms : List Name) (y : Bit) → widened_bit s signed n x j ≡ Some y
     → IsNetBit s (n ∷ ms) y
 widened_net s signed n x j ms y e =
     let w : ℕ = selects_width s (s n) x in
@@ -229,8 +236,8 @@ no_arm false otherwise goal f h = f h
 items_are_read : (s : Scope) (items : CaseItems) → AreNetBits s (names_in_items items) (items_read s items)
 items_are_read s no_items = none_are s []
 items_are_read s (arm es x items) =
-    both_are s (names_in_all es) (names_in_statement x ++ names_in_items items) (reads_in_all s es) (items_read s items) (read_all s es)
-    (right_are s (names_in_statement x) (names_in_items items) (items_read s items) (items_are_read s items))
+    both_are s (names_in_all es ++ names_in_statement x) (names_in_items items) (reads_in_all s es) (items_read s items)
+    (left_are s (names_in_all es) (names_in_statement x) (reads_in_all s es) (read_all s es)) (items_are_read s items)
 items_are_read s (default_arm x items) = right_are s (names_in_statement x) (names_in_items items) (items_read s items) (items_are_read s items)
 
 mutual
@@ -245,12 +252,12 @@ mutual
       (one_of (λ f. after_keeps s before Good x k (covers_right s Good (names_in e) (names_in_statement x) c) u y f g) (λ f. k u y f g))
       (λ f. k u y f g) h
   after_keeps s before Good (if_else e x z) k c u y h g =
-      let cx = covers_right s Good (names_in e) (names_in_statement x ++ names_in_statement z) c in
+      let cx = covers_left s Good (names_in e ++ names_in_statement x) (names_in_statement z) c in
       choice_keeps (may_assign s x u.of_name u.word u.place || may_assign s z u.of_name u.word u.place) (ThroughReads before (reads s e) y)
       (After s before x u y ⊎ After s before z u y) (before u y) (Good y)
-      (λ f. through_keeps s before Good (names_in e) (reads s e) y k (covers_left s Good (names_in e) (names_in_statement x ++ names_in_statement z) c) (read s e) f)
-      (one_of (λ f. after_keeps s before Good x k (covers_left s Good (names_in_statement x) (names_in_statement z) cx) u y f g)
-      (λ f. after_keeps s before Good z k (covers_right s Good (names_in_statement x) (names_in_statement z) cx) u y f g))
+      (λ f. through_keeps s before Good (names_in e) (reads s e) y k (covers_left s Good (names_in e) (names_in_statement x) cx) (read s e) f)
+      (one_of (λ f. after_keeps s before Good x k (covers_right s Good (names_in e) (names_in_statement x) cx) u y f g)
+      (λ f. after_keeps s before Good z k (covers_right s Good (names_in e ++ names_in_statement x) (names_in_statement z) c) u y f g))
       (λ f. k u y f g) h
   after_keeps s before Good (case kind e items) k c u y h g =
       choice_keeps (may_assign_in_case s items u.of_name u.word u.place) (ThroughReads before (or_in (reads s e) (items_read s items)) y)
@@ -273,9 +280,9 @@ mutual
       → Keeps (AfterArms s before items) Good
   arms_keep s before Good no_items k c u y h g = absurd h
   arms_keep s before Good (arm es x items) k c u y h g =
-      let cx = covers_right s Good (names_in_all es) (names_in_statement x ++ names_in_items items) c in
-      one_of (λ f. after_keeps s before Good x k (covers_left s Good (names_in_statement x) (names_in_items items) cx) u y f g)
-      (λ f. arms_keep s before Good items k (covers_right s Good (names_in_statement x) (names_in_items items) cx) u y f g) h
+      let cx = covers_left s Good (names_in_all es ++ names_in_statement x) (names_in_items items) c in
+      one_of (λ f. after_keeps s before Good x k (covers_right s Good (names_in_all es) (names_in_statement x) cx) u y f g)
+      (λ f. arms_keep s before Good items k (covers_right s Good (names_in_all es ++ names_in_statement x) (names_in_items items) c) u y f g) h
   arms_keep s before Good (default_arm x items) k c u y h g =
       one_of (λ f. after_keeps s before Good x k (covers_left s Good (names_in_statement x) (names_in_items items) c) u y f g)
       (λ f. arms_keep s before Good items k (covers_right s Good (names_in_statement x) (names_in_items items) c) u y f g) h

@@ -9,13 +9,13 @@ use Rattle.verilog_meaning.specs.Expression.{Scope}
 use Rattle.verilog_meaning.specs.Hierarchy.{PathStep, Placed, placed_scope, module_named, Instance, instance_among, instance_named, instance_reached, placed_instance, all_parameters, declarations}
 use Rattle.verilog_meaning.specs.Settled.{Design, at_path, is_declared_among}
 use Rattle.verilog_designs.specs.Names.{is_among, parameter_names, Mention, used, declares, may_be_used, uses_unknown, mentions, has_undeclared, instantiates_unknown}
-use Rattle.verilog_designs.specs.Accepted.{StandsIn, HasUndeclared}
-use Rattle.verilog_unique.proofs.Options.{first_false, second_false, not_is_false, not_true, from_map}
+use Rattle.verilog_designs.specs.Accepted.{StandsIn, at_top, below, HasUndeclared}
+use Rattle.verilog_unique.proofs.Options.{first_false, second_false, not_is_false, not_true}
 use Rattle.verilog_unique.proofs.Descent.{IsAmong, among_left, among_right, contains_among}
-use Rattle.verilog_unique.proofs.Paths.{StepsTo, step_of}
+use Rattle.verilog_unique.proofs.Paths.{StepsTo, step_of, instance_from, top_from}
 
 -- the item in which an instance stands
-record Item_of (items : List Item) (i : Instance) : Type 0 where
+record HasItem (items : List Item) (i : Instance) : Type 0 where
   given : Connections
   each : List (Name × Connections)
   is_item : IsAmong items (instances i.of_module given each)
@@ -23,17 +23,17 @@ record Item_of (items : List Item) (i : Instance) : Type 0 where
 module_of : (m : Name) (given : Connections) (is : List (Name × Connections)) (u : Name) (i : Instance) → instance_among m given is u ≡ Some i
     → i.of_module ≡ m
 module_of m given [] u i e = cc
-module_of m given (x ∷ is) u i e = chosen (same_name x.0 u) e
+module_of m given (x ∷ is) u i e = chosen (same_name x.0 u) (module_of m given is u i) e
   where
-    chosen : (b : Bool) → cond b (Some (record { of_module = m; parameters = given; connections = x.1 })) (instance_among m given is u) ≡ Some i
-        → i.of_module ≡ m
-    chosen true h = let same : record { of_module = m; parameters = given; connections = x.1 } ≡ i = cc in ap (λ j. j.of_module) (sym same)
-    chosen false h = module_of m given is u i h
+    chosen : (b : Bool) → (instance_among m given is u ≡ Some i → i.of_module ≡ m)
+        → cond b (Some (record { of_module = m; parameters = given; connections = x.1 })) (instance_among m given is u) ≡ Some i → i.of_module ≡ m
+    chosen true f h = let same : record { of_module = m; parameters = given; connections = x.1 } ≡ i = cc in ap (λ (j : Instance). j.of_module) (sym same)
+    chosen false f h = f h
 
-later : (x : Item) (items : List Item) (i : Instance) → Item_of items i → Item_of (x ∷ items) i
+later : (x : Item) (items : List Item) (i : Instance) → HasItem items i → HasItem (x ∷ items) i
 later x items i h = record { given = h.given; each = h.each; is_item = inr h.is_item }
 
-item_of : (items : List Item) (u : Name) (i : Instance) → instance_named items u ≡ Some i → Item_of items i
+item_of : (items : List Item) (u : Name) (i : Instance) → instance_named items u ≡ Some i → HasItem items i
 item_of [] u i e = cc
 item_of (port d ∷ items) u i e = later (port d) items i (item_of items u i e)
 item_of (parameter d ∷ items) u i e = later (parameter d) items i (item_of items u i e)
@@ -43,8 +43,8 @@ item_of (assign ts ∷ items) u i e = later (assign ts) items i (item_of items u
 item_of (always es x ∷ items) u i e = later (always es x) items i (item_of items u i e)
 item_of (instances m given is ∷ items) u i e = found (instance_among m given is u) (module_of m given is u) (item_of items u i) e
   where
-    found : (x : Option Instance) → ((j : Instance) → x ≡ Some j → j.of_module ≡ m) → (instance_named items u ≡ Some i → Item_of items i)
-        → first_of x (instance_named items u) ≡ Some i → Item_of (instances m given is ∷ items) i
+    found : (x : Option Instance) → ((j : Instance) → x ≡ Some j → j.of_module ≡ m) → (instance_named items u ≡ Some i → HasItem items i)
+        → first_of x (instance_named items u) ≡ Some i → HasItem (instances m given is ∷ items) i
     found None f g h = later (instances m given is) items i (g h)
     found (Some j) f g h = record { given = given; each = is; is_item = inl (ap (λ k. instances k given is) (sym (f i h))) }
 
@@ -59,15 +59,15 @@ without_index items u i e = plain (is_some u.index) e
 pub module_of_instance : (source : Source) (path : List PathStep) (s : Scope) (i : Instance) (p : Placed) → placed_instance source path s i ≡ Some p
     → module_named source i.of_module ≡ Some p.of_module
 module_of_instance source path s i p e =
-    let f = from_map _ (module_named source i.of_module) p e in f.1 ∙ ap Some (ap (λ q. q.of_module) f.2)
+    let f = instance_from source path s i p e in f.1 ∙ ap Some (ap (λ (q : Placed). q.of_module) f.2)
 
 pub stands_in : (d : Design) (path : List PathStep) (p : Placed) → at_path d path ≡ Some p → StandsIn d p.of_module
 stands_in d [] p e =
-    let f = from_map _ (module_named d.source d.top) p e in StandsIn.at_top p.of_module (f.1 ∙ ap Some (ap (λ q. q.of_module) f.2))
+    let f = top_from d p e in at_top p.of_module (f.1 ∙ ap Some (ap (λ (q : Placed). q.of_module) f.2))
 stands_in d (u ∷ around) p e =
     let s : StepsTo d u around p = step_of d u around p e in
     let i = item_of s.outer.of_module.items u.of_name s.instance (without_index s.outer.of_module.items u s.instance s.is_reached) in
-    StandsIn.below s.outer.of_module p.of_module s.instance.of_module i.given i.each (stands_in d around s.outer s.is_outer)
+    below s.outer.of_module p.of_module s.instance.of_module i.given i.each (stands_in d around s.outer s.is_outer)
     (contains_among s.outer.of_module.items (instances s.instance.of_module i.given i.each) i.is_item)
     (module_of_instance d.source (u ∷ s.outer.path) (placed_scope s.outer) s.instance p s.is_placed)
 

@@ -1,13 +1,20 @@
 //! The laws, each the contract of a function without code.
-ghost use Rattle.verilog_unique.specs.Finite.{NoEndlessDependence};
+ghost use Rattle.verilog_unique.specs.Finite.{PathsAreShort, BitsAreFinite, ChainsAreShort};
 ghost use Rattle.verilog_unique.specs.Unique.{OneValueWhereLocal};
 
-/// In a design without a combinational loop no property of finitely many bits passes for ever from a bit to one that it depends on.
-pub fn no_dependence_is_endless()
-    ensures { NoEndlessDependence }
+/// In a design that breaks no rule on the hierarchy paths are short, and all bits of declared names stand in a list.
+pub fn a_design_is_finite()
+    ensures paths { PathsAreShort }
+    ensures bits { BitsAreFinite }
 {}
 
-/// Two settled valuations of an accepted design have one value under each declared name, where drivers determine what they drive.
-pub fn settled_values_are_one()
+/// In a design without a combinational loop a chain of bits, each of which depends on the next, has each bit once.
+pub fn chains_of_dependence_are_short()
+    ensures { ChainsAreShort }
+{}
+
+/// Two settled valuations of an accepted design have one value under each declared name, given that drivers determine what they
+/// drive.
+pub fn values_are_one_where_drivers_are_local()
     ensures { OneValueWhereLocal }
 {}
