@@ -74,16 +74,17 @@ mutual
   all_fixed_placed : (s : Scope) (v w : Valuation) → HasNoConstantMemory s → (ts : Targets) → IsTrue (all_have_constant_selects s ts)
       → AllArePlaced s v w (λ n. ⊥) ts
   all_fixed_placed s v w p no_targets h = tt
-  all_fixed_placed s v w p (target t ts) h =
-      (fixed_placed s v w p t (and_parts (has_constant_selects s t) (all_have_constant_selects s ts) h).0,
-      all_fixed_placed s v w p ts (and_parts (has_constant_selects s t) (all_have_constant_selects s ts) h).1)
+  all_fixed_placed s v w p (target t ts) h = (
+    fixed_placed s v w p t (and_parts (has_constant_selects s t) (all_have_constant_selects s ts) h).0,
+    all_fixed_placed s v w p ts (and_parts (has_constant_selects s t) (all_have_constant_selects s ts) h).1,
+  )
 
 mutual
   fixed_surely : (s : Scope) (t : Target) (u : Bit) → IsTrue (has_constant_selects s t) → IsTrue (may_reach s t u.of_name u.word u.place)
       → IsTrue (is_in (surely_reaches s t) u)
   fixed_surely s (place n x) u c h =
       let both : (same_name n u.of_name ≡ true) × (may_mean s (s n) x u.word u.place ≡ true) =
-          and_parts (same_name n u.of_name) (may_mean s (s n) x u.word u.place) h in
+      and_parts (same_name n u.of_name) (may_mean s (s n) x u.word u.place) h in
       and_from (same_name n u.of_name) (selects_are_constant s x && may_mean s (s n) x u.word u.place) both.0
       (and_from (selects_are_constant s x) (may_mean s (s n) x u.word u.place) c both.1)
   fixed_surely s (joined ts) u c h = one_fixed_surely s ts u c h

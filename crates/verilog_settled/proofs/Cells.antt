@@ -1,6 +1,6 @@
 -- What a write to a place leaves of a value: its kind, and each of its bits.
-use Rattle.std.proofs.Common.{◌≡◌, ◌≢◌, ℕ, zero, suc, ◌+◌, ◌^◌, ◌<◌, ◌≤◌, Bool, true, false, not, ◌&&◌, ◌==◌, ◌⊎◌, inl, inr, refl, sym, ap, ◌∙◌, subst, List, [], ◌∷◌, length, slice_index, slice_set, Option, Some, None, IsTrue, is_some, arith, eqb-true, eqb-false, eq-eqb, length-set, get_or-set_same, get_or-set_other}
-use Rattle.std.proofs.lemmas.Bool.{cases_lt, cases_eq, cases_Bool, and_parts, and_cases, false≢true}
+use Rattle.std.proofs.Common.{◌≡◌, ◌≢◌, ℕ, zero, suc, ◌+◌, ◌^◌, ◌<◌, ◌≤◌, Bool, true, false, not, ◌&&◌, ◌==◌, ◌⊎◌, inl, inr, refl, sym, ap, ◌∙◌, subst, List, [], ◌∷◌, length, slice_index, slice_set, Option, Some, None, IsTrue, is_some, arith, eqb-true, length-set, get_or-set_same, get_or-set_other}
+use Rattle.std.proofs.lemmas.Bool.{cases_lt, cases_eq, eqb-false, cases_Bool, and_parts, and_cases, false≢true}
 use Rattle.std.proofs.lemmas.List.{set_past, get_or_past}
 use Rattle.wb_values.specs.Value.{Value, truth_value, number as a_number, words, as_number, as_words}
 use Rattle.verilog_meaning.specs.Expression.{Object, object_width, is_memory, Bits}
@@ -23,10 +23,11 @@ Spoiled o x = IsTrue (is_memory o) × (as_words x ≡ [])
 
 pub spoiled_stays : (o : Object) (old : Value) (c : Cell) (p : Bits) (x : ℕ) → Spoiled o old → Spoiled o (written_cell o old c p x)
 spoiled_stays o old variable_cell p x h = (h.0, refl)
-spoiled_stays o old (word_cell k) p x h =
-    (h.0,
-    ap (λ l. slice_set l k (with_bits (object_width o) (slice_index l k) p x)) h.1
-    ∙ set_past [] k (with_bits (object_width o) (slice_index [] k) p x) (omega arith))
+spoiled_stays o old (word_cell k) p x h = (
+  h.0,
+  ap (λ l. slice_set l k (with_bits (object_width o) (slice_index l k) p x)) h.1
+      ∙ set_past [] k (with_bits (object_width o) (slice_index [] k) p x) (omega arith),
+)
 spoiled_stays o old no_cell p x h = h
 
 pub never_spoiled : (o : Object) (z x : Value) → Alike o z x → Spoiled o x → ⊥
@@ -59,8 +60,13 @@ kind_stays o (a_number a) (a_number b) (word_cell k) p x f h = absurd (not_both 
 kind_stays o (a_number a) (a_number b) no_cell p x f h = inl h
 kind_stays o (words xs) (words ys) variable_cell p x f h = inr (h.0, refl)
 kind_stays o (words xs) (words ys) (word_cell k) p x f h =
-    inl (h.0, h.1 ∙ sym (length-set ys k (with_bits (object_width o) (slice_index ys k) p x)), h.2, h.3,
-    word_narrow (object_width o) ys k (with_bits (object_width o) (slice_index ys k) p x) h.4 (with_bits_fits (object_width o) (slice_index ys k) x p))
+    inl (
+      h.0,
+      h.1 ∙ sym (length-set ys k (with_bits (object_width o) (slice_index ys k) p x)),
+      h.2,
+      h.3,
+      word_narrow (object_width o) ys k (with_bits (object_width o) (slice_index ys k) p x) h.4 (with_bits_fits (object_width o) (slice_index ys k) x p),
+    )
 kind_stays o (words xs) (words ys) no_cell p x f h = inl h
 kind_stays o (a_number a) (words ys) c p x f h = absurd h
 kind_stays o (a_number a) (truth_value t) c p x f h = absurd h

@@ -62,9 +62,12 @@ whole_bit : (s : Scope) (n : Name) (a b : Value) (j : ℕ) → (s n).constant �
 whole_bit s n a b j c al h =
     settled (whole_value (s n) a) (whole_value (s n) b) (as_number a) (as_number b) j a b (IsAt s n whole j) n
     (ap (λ q. unwrap_or q (as_number a)) c) (ap (λ q. unwrap_or q (as_number b)) c)
-    (λ d. (0, j,
-    copied_there s n whole j 0 j c (in_range (s n) 0 j (some_word (s n).addresses) h) refl (ap (λ i. Some i) (zero-add j)),
-    number_bit (s n) a b j al d))
+    (λ d. (
+      0,
+      j,
+      copied_there s n whole j 0 j c (in_range (s n) 0 j (some_word (s n).addresses) h) refl (ap (λ i. Some i) (zero-add j)),
+      number_bit (s n) a b j al d,
+    ))
 
 one_bit : (s : Scope) (n : Name) (i : Select) (a b : Value) (j : ℕ) → (s n).constant ≡ None → Alike (s n) a b
     → j < selects_width s (s n) (one i)
@@ -90,12 +93,15 @@ one_bit s n i a b j c al h = by_kind (is_memory (s n)) refl
         let l : j < object_width (s n) = subst (λ t. j < cond t (object_width (s n)) (select_bits s no_values (s n) i).count) m h in
         settled (selected s no_values (s n) a (one i)) (selected s no_values (s n) b (one i)) (slice_index (as_words a) k) (slice_index (as_words b) k) j a b
         (IsAt s n (one i) j) n (word_there a (Some k) m e) (word_there b (Some k) m e)
-        (λ d. (k, j,
-        copied_there s n (one i) j k j c (in_range (s n) k j (word_within (s n).addresses (select_index s no_values i) k e) l)
-        (ap (λ t. word_of_cell (cond t (word_place s n i) (bits_place s n i)).cell) m
-        ∙ cell_word (option_and_then (λ r. word_number r (select_index s no_values i)) (s n).addresses) ∙ e)
-        (ap (λ t. natural_in ((cond t (word_place s n i) (bits_place s n i)).bits.low +ℤ pos j)) m ∙ ap (λ o. Some o) (zero-add j)),
-        word_bit (s n) a b k j al d))
+        (λ d. (
+          k,
+          j,
+          copied_there s n (one i) j k j c (in_range (s n) k j (word_within (s n).addresses (select_index s no_values i) k e) l)
+              (ap (λ t. word_of_cell (cond t (word_place s n i) (bits_place s n i)).cell) m
+              ∙ cell_word (option_and_then (λ r. word_number r (select_index s no_values i)) (s n).addresses) ∙ e)
+              (ap (λ t. natural_in ((cond t (word_place s n i) (bits_place s n i)).bits.low +ℤ pos j)) m ∙ ap (λ o. Some o) (zero-add j)),
+          word_bit (s n) a b k j al d,
+        ))
 
     at_bits : is_memory (s n) ≡ false
         → BitOr (selected s no_values (s n) a (one i)) (selected s no_values (s n) b (one i)) j a b (IsAt s n (one i) j) n
@@ -109,12 +115,14 @@ one_bit s n i a b j c al h = by_kind (is_memory (s n)) refl
         found : is_memory (s n) ≡ false
             → (e : ℕ) × ((select_bits s no_values (s n) i).low +ℤ pos j ≡ pos e) × (e < object_width (s n)) × (is_set (as_number a) e ≢ is_set (as_number b) e)
             → (k : ℕ) × (e : ℕ) × IsAt s n (one i) j (record { of_name = n; word = k; place = e }) × (value_bit a k e ≢ value_bit b k e)
-        found m2 f =
-            (0, f.0,
-            copied_there s n (one i) j 0 f.0 c (in_range (s n) 0 f.0 (some_word (s n).addresses) f.2)
-            (ap (λ t. word_of_cell (cond t (word_place s n i) (bits_place s n i)).cell) m2)
-            (ap (λ t. natural_in ((cond t (word_place s n i) (bits_place s n i)).bits.low +ℤ pos j)) m2 ∙ ap natural_in f.1),
-            number_bit (s n) a b f.0 al f.3)
+        found m2 f = (
+          0,
+          f.0,
+          copied_there s n (one i) j 0 f.0 c (in_range (s n) 0 f.0 (some_word (s n).addresses) f.2)
+              (ap (λ t. word_of_cell (cond t (word_place s n i) (bits_place s n i)).cell) m2)
+              (ap (λ t. natural_in ((cond t (word_place s n i) (bits_place s n i)).bits.low +ℤ pos j)) m2 ∙ ap natural_in f.1),
+          number_bit (s n) a b f.0 al f.3,
+        )
 
     by_kind : (m : Bool) → is_memory (s n) ≡ m
         → BitOr (selected s no_values (s n) a (one i)) (selected s no_values (s n) b (one i)) j a b (IsAt s n (one i) j) n
@@ -134,11 +142,13 @@ two_bit s n i x a b j c al h = by_word (option_and_then (λ r. word_number r (se
         → (e : ℕ) × ((select_bits s no_values (s n) x).low +ℤ pos j ≡ pos e) × (e < object_width (s n))
         × (is_set (slice_index (as_words a) k) e ≢ is_set (slice_index (as_words b) k) e)
         → (l : ℕ) × (e : ℕ) × IsAt s n (two i x) j (record { of_name = n; word = l; place = e }) × (value_bit a l e ≢ value_bit b l e)
-    found k e f =
-        (k, f.0,
-        copied_there s n (two i x) j k f.0 c (in_range (s n) k f.0 (word_within (s n).addresses (select_index s no_values i) k e) f.2)
-        (cell_word (option_and_then (λ r. word_number r (select_index s no_values i)) (s n).addresses) ∙ e) (ap natural_in f.1),
-        word_bit (s n) a b k f.0 al f.3)
+    found k e f = (
+      k,
+      f.0,
+      copied_there s n (two i x) j k f.0 c (in_range (s n) k f.0 (word_within (s n).addresses (select_index s no_values i) k e) f.2)
+          (cell_word (option_and_then (λ r. word_number r (select_index s no_values i)) (s n).addresses) ∙ e) (ap natural_in f.1),
+      word_bit (s n) a b k f.0 al f.3,
+    )
 
     by_word : (q : Option ℕ) → option_and_then (λ r. word_number r (select_index s no_values i)) (s n).addresses ≡ q
         → BitOr (selected s no_values (s n) a (two i x)) (selected s no_values (s n) b (two i x)) j a b (IsAt s n (two i x) j) n

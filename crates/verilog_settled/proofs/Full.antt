@@ -25,7 +25,7 @@ one_matches s v p w signed a (expression e es) h =
     elim (or_cases (is_constant s e && (value_of s no_values e w signed == a)) (one_is s w signed a es) h) [
       | inl g ↦ or_left (a == value_of s v e w signed) (any_matches s v exact_case w signed a es)
           (let both : IsTrue (is_constant s e) × IsTrue (value_of s no_values e w signed == a) =
-            and_parts (is_constant s e) (value_of s no_values e w signed == a) g in
+          and_parts (is_constant s e) (value_of s no_values e w signed == a) g in
           eq-eqb a (value_of s v e w signed) (sym (eqb-true (value_of s no_values e w signed) a both.1) ∙ same_value s no_values v p e w signed both.0))
       | inr g ↦ or_right (a == value_of s v e w signed) (any_matches s v exact_case w signed a es) (one_matches s v p w signed a es g)
     ]

@@ -121,7 +121,7 @@ covers_means s v p n (one i) k b h = by_kind (is_memory (s n)) h
     by_kind false c = means_bit s v (s n) i b p c
 covers_means s v p n (two i j) k b h =
     let both : (option_and_then (λ a. word_number a (select_index s v i)) (s n).addresses ≡ Some k) × (is_within (select_bits s v (s n) j) b ≡ true) =
-        covered_word (option_and_then (λ a. word_number a (select_index s v i)) (s n).addresses) (select_bits s v (s n) j) k b h in
+    covered_word (option_and_then (λ a. word_number a (select_index s v i)) (s n).addresses) (select_bits s v (s n) j) k b h in
     and_from (may_mean_word s (s n) i k) (may_mean_bit s (s n) j b) (means_word s v (s n) i k p both.0) (means_bit s v (s n) j b p both.1)
 
 within_all : (o : Object) (b : ℕ) → b < object_width o → is_within (all_bits o) b ≡ true

@@ -115,7 +115,7 @@ written_apart s v (p ∷ ps) a n k b z f h kv ka =
         high_unset (s n) z (written s v (p ∷ ps) a n) k b ka l ∙ sym (high_unset (s n) z (written s v ps (a % 2 ^ places_width ps) n) k b middle l)
     last (inl e) (inl l) =
         let g : written s v (p ∷ ps) a n ≡ written_cell (s n) (written s v ps (a % 2 ^ places_width ps) n) p.cell p.bits (a / 2 ^ places_width ps) =
-            at_name s (written s v ps (a % 2 ^ places_width ps)) p (a / 2 ^ places_width ps) n e in
+        at_name s (written s v ps (a % 2 ^ places_width ps)) p (a / 2 ^ places_width ps) n e in
         ap (λ x. value_bit x k b) g
         ∙ bit_stays (s n) z (written s v ps (a % 2 ^ places_width ps) n) p.cell p.bits (a / 2 ^ places_width ps) k b middle (subst (Alike (s n) z) g ka) l (h.0 e)
 
@@ -151,7 +151,7 @@ mutual
   all_apart s p no_statements v n k b z h kv ka = refl
   all_apart s p (statement x xs) v n k b z h kv ka =
       let middle : Alike (s n) z ((run s x v).valuation n) =
-          before_all s xs (run s x v).valuation n z (run_kind s x v n z (inl kv)) ka in
+      before_all s xs (run s x v).valuation n z (run_kind s x v n z (inl kv)) ka in
       all_apart s p xs (run s x v).valuation n k b z (or_parts (may_assign s x n k b) (may_assign_in_all s xs n k b) h).1 middle ka
       ∙ run_apart s p x v n k b z (or_parts (may_assign s x n k b) (may_assign_in_all s xs n k b) h).0 kv middle
 

@@ -32,7 +32,7 @@ mutual
   targets_bits s v no_targets = refl
   targets_bits s v (target t ts) =
       let e : places_width (places s v t ++ all_places s v ts) ≡ places_width (places s v t) + places_width (all_places s v ts) =
-          added_width (places s v t) (all_places s v ts) in
+      added_width (places s v t) (all_places s v ts) in
       let f : places_width (places s v t) ≡ target_width s t = target_bits s v t in
       let g : places_width (all_places s v ts) ≡ targets_width s ts = targets_bits s v ts in
       omega (arith, e, f, g)
@@ -91,18 +91,24 @@ joined_takes s t ts u q m Takes e j (inl h) =
     let l : m ≤ j = h.0 in
     let g : j - m < target_width s t = h.1 in
     let same : j - q - targets_width s ts ≡ j - m = omega (arith, e) in
-    inl (omega (arith, e, l), omega (arith, e, l, g),
-    or_left (not (nat_lt (j - q) (targets_width s ts)) && takes s t u (j - q - targets_width s ts))
-    (not (is_in (surely_reaches s t) u) && one_takes s ts u (j - q))
-    (and_from (not (nat_lt (j - q) (targets_width s ts))) (takes s t u (j - q - targets_width s ts))
-    (not_less (j - q) (targets_width s ts) (omega (arith, e, l))) (subst (λ i. IsTrue (takes s t u i)) (sym same) h.2)))
+    inl (
+      omega (arith, e, l),
+      omega (arith, e, l, g),
+      or_left (not (nat_lt (j - q) (targets_width s ts)) && takes s t u (j - q - targets_width s ts))
+          (not (is_in (surely_reaches s t) u) && one_takes s ts u (j - q))
+          (and_from (not (nat_lt (j - q) (targets_width s ts))) (takes s t u (j - q - targets_width s ts))
+          (not_less (j - q) (targets_width s ts) (omega (arith, e, l))) (subst (λ i. IsTrue (takes s t u i)) (sym same) h.2)),
+    )
 joined_takes s t ts u q m Takes e j (inr (n, inl h)) =
     let l : q ≤ j = h.0 in
     let g : j - q < targets_width s ts = h.1 in
-    inl (l, omega (arith, g),
-    or_right (not (nat_lt (j - q) (targets_width s ts)) && takes s t u (j - q - targets_width s ts))
-    (not (is_in (surely_reaches s t) u) && one_takes s ts u (j - q))
-    (and_from (not (is_in (surely_reaches s t) u)) (one_takes s ts u (j - q)) n h.2))
+    inl (
+      l,
+      omega (arith, g),
+      or_right (not (nat_lt (j - q) (targets_width s ts)) && takes s t u (j - q - targets_width s ts))
+          (not (is_in (surely_reaches s t) u) && one_takes s ts u (j - q))
+          (and_from (not (is_in (surely_reaches s t) u)) (one_takes s ts u (j - q)) n h.2),
+    )
 joined_takes s t ts u q m Takes e j (inr (n, inr h)) =
     inr (neither (is_in (surely_reaches s t) u) (is_in (one_surely_reaches s ts) u) n h.0, h.1)
 

@@ -1,8 +1,8 @@
 -- Bits of widened numbers, and of several copies of a number.
-use Rattle.std.proofs.Common.{◌≡◌, ℕ, zero, suc, ◌+◌, ◌-◌, ◌*◌, ◌/◌, ◌%◌, ◌^◌, ◌<◌, ◌≤◌, Bool, true, false, cond, ◌==◌, nat_le, ◌⊎◌, inl, inr, refl, sym, ap, ◌∙◌, subst, arith, pow_pos, pow-add, mod-lt, lt-ltb, le-leb, lt-leb}
+use Rattle.std.proofs.Common.{◌≡◌, ℕ, zero, suc, ◌+◌, ◌-◌, ◌*◌, ◌/◌, ◌%◌, ◌^◌, ◌<◌, ◌≤◌, Bool, true, false, cond, ◌==◌, nat_le, ◌⊎◌, inl, inr, refl, sym, ap, ◌∙◌, subst, arith, pow_pos, mod-lt, le-leb}
 use Rattle.std.specs.Int.{bit_at}
-use Rattle.std.proofs.lemmas.Bool.{cases_lt}
-use Rattle.std.proofs.lemmas.Nat.{shr_split, shr_below, mod-mul-add, mul-add-lt}
+use Rattle.std.proofs.lemmas.Bool.{cases_lt, lt-leb}
+use Rattle.std.proofs.lemmas.Nat.{pow-add, shr_split, shr_below, mod-mul-add, mul-add-lt}
 use Rattle.std.proofs.lemmas.Nat.Bits.{bit_at_cat_low, bit_at_cat_high}
 use Rattle.wb_values.specs.Number.{top_bit, word_sext}
 use Rattle.verilog_meaning.specs.Expression.{widened, side_by_side}
@@ -25,7 +25,7 @@ top_is w x h =
     ap (λ p. nat_le p (2 * x)) e ∙ ap (λ z. nat_le (2 * 2 ^ w) (2 * z)) (sym whole) ∙ top_at (2 ^ w) (x / 2 ^ w) (x % 2 ^ w) low high
   where
     twice : (k : ℕ) → 2 ^ suc k ≡ 2 * 2 ^ k
-    twice k = let e : 2 ^ (k + 1) ≡ 2 ^ k * 2 ^ 1 = pow-add k 1 in let g : k + 1 ≡ suc k = omega arith in
+    twice k = let e : 2 ^ (k + 1) ≡ 2 ^ k * 2 ^ 1 = pow-add 2 k 1 in let g : k + 1 ≡ suc k = omega arith in
         subst (λ m. 2 ^ m ≡ 2 * 2 ^ k) g (omega (arith, e))
 
     below : x / 2 ^ w < 2
@@ -48,7 +48,7 @@ unfolding past
 sext_is to from x h = by_top (top_bit from x)
   where
     split : 2 ^ to ≡ 2 ^ (to - from) * 2 ^ from
-    split = let e : to ≡ to - from + from = omega (arith, h) in ap (λ m. 2 ^ m) e ∙ pow-add (to - from) from
+    split = let e : to ≡ to - from + from = omega (arith, h) in ap (λ m. 2 ^ m) e ∙ pow-add 2 (to - from) from
 
     by_top : (b : Bool) → x + cond b (2 ^ to - 2 ^ from) 0 ≡ cond b (2 ^ (to - from) - 1) 0 * 2 ^ from + x
     by_top false = omega arith
@@ -83,7 +83,7 @@ pub side_fits : (count n x : ℕ) → x < 2 ^ n → side_by_side count n x < 2 ^
 side_fits zero n x h = pow_pos (zero * n)
 side_fits (suc c) n x h =
     let more : x * 2 ^ (c * n) + side_by_side c n x < 2 ^ (c * n) * 2 ^ n = mul-add-lt x (2 ^ (c * n)) (side_by_side c n x) (2 ^ n) h (side_fits c n x h) in
-    let split : 2 ^ (c * n + n) ≡ 2 ^ (c * n) * 2 ^ n = pow-add (c * n) n in
+    let split : 2 ^ (c * n + n) ≡ 2 ^ (c * n) * 2 ^ n = pow-add 2 (c * n) n in
     let width : c * n + n ≡ suc c * n = omega arith in
     subst (λ k. x * 2 ^ (c * n) + side_by_side c n x < 2 ^ k) width (subst (λ k. x * 2 ^ (c * n) + side_by_side c n x < k) (sym split) more)
 

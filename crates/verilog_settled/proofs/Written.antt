@@ -41,7 +41,7 @@ abbrev pub AreFit : Scope → List Place → Type 0
 AreFit s [] = Unit {0}
 AreFit s (p ∷ ps) = FitsCell (s p.of_name) p.cell × AreFit s ps
 
-fit_append : (s : Scope) (ps qs : List Place) → AreFit s ps → AreFit s qs → AreFit s (ps ++ qs)
+pub fit_append : (s : Scope) (ps qs : List Place) → AreFit s ps → AreFit s qs → AreFit s (ps ++ qs)
 fit_append s [] qs h k = k
 fit_append s (p ∷ ps) qs h k = (h.0, fit_append s ps qs h.1 k)
 
@@ -99,7 +99,7 @@ Told s v w HasValue u ps qs Kept Takes Index =
     (x y : ℕ) → Alike (s u.of_name) (v u.of_name) (written s v ps x u.of_name) → Alike (s u.of_name) (w u.of_name) (written s w qs y u.of_name)
     → IsSame (written s v ps x) (written s w qs y) u ⊎ Why v w HasValue Kept Takes Index x y u
 
-why_so : (v w : Valuation) (HasValue : Name → Type 0) (Kept Kept2 : Type 0) (Takes Takes2 : ℕ → Type 0) (Index Index2 : Bit → Type 0) (x y : ℕ) (u : Bit)
+pub why_so : (v w : Valuation) (HasValue : Name → Type 0) (Kept Kept2 : Type 0) (Takes Takes2 : ℕ → Type 0) (Index Index2 : Bit → Type 0) (x y : ℕ) (u : Bit)
     → (Kept → Kept2) → ((j : ℕ) → Takes j → Takes2 j) → ((z : Bit) → Index z → Index2 z)
     → Why v w HasValue Kept Takes Index x y u → Why v w HasValue Kept2 Takes2 Index2 x y u
 why_so v w HasValue Kept Kept2 Takes Takes2 Index Index2 x y u f g h (stays k d) = stays (f k) d
@@ -120,24 +120,24 @@ why_cut v w HasValue Kept Takes Index x y m u (takes_bit j k d) = by_place (case
         absurd (d (set_from_bit (x % 2 ^ m) (y % 2 ^ m) j j (bit_past_cut x m j h ∙ sym (bit_past_cut y m j h))))
 
 -- the causes with a part in front of what is written already, of q bits
-abbrev NotSurely : Scope → Target → Bit → Type 0
+abbrev pub NotSurely : Scope → Target → Bit → Type 0
 NotSurely s t u = IsTrue (not (is_in (surely_reaches s t) u))
 
-abbrev InFront : Scope → Target → Bit → (q : ℕ) → (ℕ → Type 0) → ℕ → Type 0
+abbrev pub InFront : Scope → Target → Bit → (q : ℕ) → (ℕ → Type 0) → ℕ → Type 0
 InFront s t u q Takes j =
     ((q ≤ j) × (j - q < target_width s t) × IsTrue (takes s t u (j - q))) ⊎ (NotSurely s t u × Takes j)
 
-abbrev IndexInFront : Scope → Target → Bit → (Bit → Type 0) → Bit → Type 0
+abbrev pub IndexInFront : Scope → Target → Bit → (Bit → Type 0) → Bit → Type 0
 IndexInFront s t u Index z = In (index_reads s t u) z ⊎ (NotSurely s t u × Index z)
 
-abbrev AllNotSurely : Scope → Targets → Bit → Type 0
+abbrev pub AllNotSurely : Scope → Targets → Bit → Type 0
 AllNotSurely s ts u = IsTrue (not (is_in (one_surely_reaches s ts) u))
 
-abbrev AllInFront : Scope → Targets → Bit → (q : ℕ) → (ℕ → Type 0) → ℕ → Type 0
+abbrev pub AllInFront : Scope → Targets → Bit → (q : ℕ) → (ℕ → Type 0) → ℕ → Type 0
 AllInFront s ts u q Takes j =
     ((q ≤ j) × (j - q < targets_width s ts) × IsTrue (one_takes s ts u (j - q))) ⊎ (AllNotSurely s ts u × Takes j)
 
-abbrev AllIndexInFront : Scope → Targets → Bit → (Bit → Type 0) → Bit → Type 0
+abbrev pub AllIndexInFront : Scope → Targets → Bit → (Bit → Type 0) → Bit → Type 0
 AllIndexInFront s ts u Index z = In (one_index_reads s ts u) z ⊎ (AllNotSurely s ts u × Index z)
 
 -- ---- one part
@@ -344,7 +344,7 @@ part_at_name s v w HasValue p x u l al ps qs e fp fq Kept Takes Index told a b k
         ∙ sym (high_unset (s u.of_name) (w u.of_name) (written s w (named_place s w u.of_name x ∷ qs) b u.of_name) u.word u.place kb h))
 
 -- a part of any name
-part_told : (s : Scope) (v w : Valuation) (HasValue : Name → Type 0) → HasNoConstantMemory s
+pub part_told : (s : Scope) (v w : Valuation) (HasValue : Name → Type 0) → HasNoConstantMemory s
     → (n : Name) (x : Selects) (u : Bit) → SameOr (named_place s v n x) (named_place s w n x) v w HasValue (selects_read s x) → Alike (s u.of_name) (v u.of_name) (w u.of_name)
     → (ps qs : List Place) → places_width qs ≡ places_width ps → AreFit s ps → AreFit s qs
     → (Kept : Type 0) (Takes : ℕ → Type 0) (Index : Bit → Type 0) → Told s v w HasValue u ps qs Kept Takes Index
@@ -361,11 +361,11 @@ part_told s v w HasValue p n x u l al ps qs e fp fq Kept Takes Index told = by_n
         (part_at_name s v w HasValue p x u (subst (λ m. SameOr (named_place s v m x) (named_place s w m x) v w HasValue (selects_read s x)) (same_from n u.of_name h) l) al ps qs e fp fq Kept Takes Index told)
     by_name (inr h) = λ a b ka kb.
         let ev : written s v (named_place s v n x ∷ ps) a u.of_name ≡ Before s v ps a u.of_name =
-            off_name s (Before s v ps a) (named_place s v n x) (a / 2 ^ places_width ps) u.of_name
-            (ap (λ m. same_name m u.of_name) (place_name s v n x) ∙ h) in
+        off_name s (Before s v ps a) (named_place s v n x) (a / 2 ^ places_width ps) u.of_name
+        (ap (λ m. same_name m u.of_name) (place_name s v n x) ∙ h) in
         let ew : written s w (named_place s w n x ∷ qs) b u.of_name ≡ Before s w qs b u.of_name =
-            off_name s (Before s w qs b) (named_place s w n x) (b / 2 ^ places_width qs) u.of_name
-            (ap (λ m. same_name m u.of_name) (place_name s w n x) ∙ h) in
+        off_name s (Before s w qs b) (named_place s w n x) (b / 2 ^ places_width qs) u.of_name
+        (ap (λ m. same_name m u.of_name) (place_name s w n x) ∙ h) in
         after_rest s v w HasValue (place n x) u (places_width ps) Kept Takes Index a b (Before s v ps a) (Before s w qs b)
         (written s v (named_place s v n x ∷ ps) a) (written s w (named_place s w n x ∷ qs) b)
         (ap (λ t. not (t && (selects_are_constant s x && may_mean s (s n) x u.word u.place))) h)

@@ -104,29 +104,30 @@ abbrev mutual
 -- ---- expressions
 
 -- The value of an expression in a context is the same under two valuations, or they differ at a bit that it reads.
-abbrev pub ValueIsLocal : Type 0
-ValueIsLocal =
-    (s : Scope) (v w : Valuation) (IsKnown : Name → Type 0) (e : Expression) (width : ℕ) (signed : Bool)
+abbrev pub ValueIsLocalAt : (s : Scope) (v w : Valuation) (IsKnown : Name → Type 0) → Type 0
+ValueIsLocalAt s v w IsKnown =
+    (e : Expression) (width : ℕ) (signed : Bool)
     → HasNoConstantMemory s → AllFit s IsKnown v → AllFit s IsKnown w → LeavesAre IsKnown e
     → (value_of s v e width signed ≡ value_of s w e width signed) ⊎ DifferAt v w (λ y. IsTrue (is_in (reads s e) y))
 
 -- So is its value by itself,
-abbrev pub SelfValueIsLocal : Type 0
-SelfValueIsLocal =
-    (s : Scope) (v w : Valuation) (IsKnown : Name → Type 0) (e : Expression)
-    → HasNoConstantMemory s → AllFit s IsKnown v → AllFit s IsKnown w → LeavesAre IsKnown e → (self_value s v e ≡ self_value s w e) ⊎ DifferAt v w (λ y. IsTrue (is_in (reads s e) y))
+abbrev pub SelfValueIsLocalAt : (s : Scope) (v w : Valuation) (IsKnown : Name → Type 0) → Type 0
+SelfValueIsLocalAt s v w IsKnown =
+    (e : Expression)
+    → HasNoConstantMemory s → AllFit s IsKnown v → AllFit s IsKnown w → LeavesAre IsKnown e
+    → (self_value s v e ≡ self_value s w e) ⊎ DifferAt v w (λ y. IsTrue (is_in (reads s e) y))
 
 -- and the one that is assigned to a target.
-abbrev pub AssignedValueIsLocal : Type 0
-AssignedValueIsLocal =
-    (s : Scope) (v w : Valuation) (IsKnown : Name → Type 0) (e : Expression) (width : ℕ)
+abbrev pub AssignedValueIsLocalAt : (s : Scope) (v w : Valuation) (IsKnown : Name → Type 0) → Type 0
+AssignedValueIsLocalAt s v w IsKnown =
+    (e : Expression) (width : ℕ)
     → HasNoConstantMemory s → AllFit s IsKnown v → AllFit s IsKnown w → LeavesAre IsKnown e
     → (assigned_value s v width e ≡ assigned_value s w width e) ⊎ DifferAt v w (λ y. IsTrue (is_in (reads s e) y))
 
 -- Of a plain right side each bit of the assigned value is the same, or the valuations differ at the bit that is copied to it.
-abbrev pub CopiedBitIsLocal : Type 0
-CopiedBitIsLocal =
-    (s : Scope) (v w : Valuation) (IsKnown : Name → Type 0) (e : Expression) (width j : ℕ)
+abbrev pub CopiedBitIsLocalAt : (s : Scope) (v w : Valuation) (IsKnown : Name → Type 0) → Type 0
+CopiedBitIsLocalAt s v w IsKnown =
+    (e : Expression) (width j : ℕ)
     → HasNoConstantMemory s → AllFit s IsKnown v → AllFit s IsKnown w → LeavesAre IsKnown e → IsTrue (is_plain s e) → j < width
     → (is_set (assigned_value s v width e) j ≡ is_set (assigned_value s w width e) j)
     ⊎ DifferAt v w (λ y. copied s e (sign_of s e) j ≡ Some y)
@@ -141,9 +142,9 @@ pub data WhyWritten (s : Scope) (v w : Valuation) (t : Target) (x y : ℕ) (u : 
   indexed : DifferAt v w (λ z. IsTrue (is_in (index_reads s t u) z)) → WhyWritten s v w t x y u
 
 -- The bit's name has a value of its object before and after, so that no memory is written as a whole.
-abbrev pub WrittenBitIsLocal : Type 0
-WrittenBitIsLocal =
-    (s : Scope) (v w : Valuation) (IsKnown : Name → Type 0) (t : Target) (x y : ℕ) (u : Bit)
+abbrev pub WrittenBitIsLocalAt : (s : Scope) (v w : Valuation) (IsKnown : Name → Type 0) → Type 0
+WrittenBitIsLocalAt s v w IsKnown =
+    (t : Target) (x y : ℕ) (u : Bit)
     → HasNoConstantMemory s → AllFit s IsKnown v → AllFit s IsKnown w → IndexesAre IsKnown t
     → IsValueOf (s u.of_name) (v u.of_name) → IsValueOf (s u.of_name) (written s v (places s v t) x u.of_name)
     → IsValueOf (s u.of_name) (w u.of_name) → IsValueOf (s u.of_name) (written s w (places s w t) y u.of_name)
@@ -164,9 +165,9 @@ abbrev mutual
 -- An assignment holds as an equation under two pairs of valuations, the target in the one's scope and the right side in the other's,
 -- as the two sides of a connection are. Then each bit that the target reaches is the same, or the others differ at a bit that gives
 -- it its value.
-abbrev pub AssignedBitIsLocal : Type 0
-AssignedBitIsLocal =
-    (around inner : Scope) (v w inner_v inner_w : Valuation) (IsKnown : Name → Type 0) (t : Target) (e : Expression) (u : Bit)
+abbrev pub AssignedBitIsLocalAt : (around inner : Scope) (v w inner_v inner_w : Valuation) (IsKnown : Name → Type 0) → Type 0
+AssignedBitIsLocalAt around inner v w inner_v inner_w IsKnown =
+    (t : Target) (e : Expression) (u : Bit)
     → HasNoConstantMemory around → HasNoConstantMemory inner → AllFit inner IsKnown inner_v → AllFit inner IsKnown inner_w → LeavesAre IsKnown e
     → IsValueOf (around u.of_name) (v u.of_name) → IsValueOf (around u.of_name) (w u.of_name)
     → IsTrue (has_constant_selects around t) → IsTrue (may_reach around t u.of_name u.word u.place)
@@ -178,9 +179,9 @@ AssignedBitIsLocal =
 
 -- After runs of a statement, which leave each name a value of its object where it had one, each bit of a name that has one is the
 -- same, or the valuations before differ at a bit on which it depends.
-abbrev pub RunBitIsLocal : Type 0
-RunBitIsLocal =
-    (s : Scope) (v w : Valuation) (IsKnown : Name → Type 0) (x : Statement) (u : Bit)
+abbrev pub RunBitIsLocalAt : (s : Scope) (v w : Valuation) (IsKnown : Name → Type 0) → Type 0
+RunBitIsLocalAt s v w IsKnown =
+    (x : Statement) (u : Bit)
     → HasNoConstantMemory s → AllFit s IsKnown v → AllFit s IsKnown w → StatementIs IsKnown x
     → ((n : Name) → IsValueOf (s n) (v n) → IsValueOf (s n) ((run s x v).valuation n))
     → ((n : Name) → IsValueOf (s n) (w n) → IsValueOf (s n) ((run s x w).valuation n))
@@ -188,9 +189,35 @@ RunBitIsLocal =
     → IsSame (run s x v).valuation (run s x w).valuation u ⊎ DifferAt v w (After s at_start x u)
 
 -- So where runs of a block give both valuations back, each bit is the same, or they differ at a bit on which it depends.
-abbrev pub BlockBitIsLocal : Type 0
-BlockBitIsLocal =
-    (s : Scope) (v w : Valuation) (IsKnown : Name → Type 0) (x : Statement) (u : Bit)
+abbrev pub BlockBitIsLocalAt : (s : Scope) (v w : Valuation) (IsKnown : Name → Type 0) → Type 0
+BlockBitIsLocalAt s v w IsKnown =
+    (x : Statement) (u : Bit)
     → HasNoConstantMemory s → AllFit s IsKnown v → AllFit s IsKnown w → StatementIs IsKnown x → HasRun s v x → HasRun s w x
     → IsValueOf (s u.of_name) (v u.of_name) → IsValueOf (s u.of_name) (w u.of_name)
     → IsSame v w u ⊎ DifferAt v w (After s at_start x u)
+
+-- ---- for all valuations, and names that are known by whatever they are known
+
+abbrev pub ValueIsLocal : Type 1
+ValueIsLocal = (s : Scope) (v w : Valuation) (IsKnown : Name → Type 0) → ValueIsLocalAt s v w IsKnown
+
+abbrev pub SelfValueIsLocal : Type 1
+SelfValueIsLocal = (s : Scope) (v w : Valuation) (IsKnown : Name → Type 0) → SelfValueIsLocalAt s v w IsKnown
+
+abbrev pub AssignedValueIsLocal : Type 1
+AssignedValueIsLocal = (s : Scope) (v w : Valuation) (IsKnown : Name → Type 0) → AssignedValueIsLocalAt s v w IsKnown
+
+abbrev pub CopiedBitIsLocal : Type 1
+CopiedBitIsLocal = (s : Scope) (v w : Valuation) (IsKnown : Name → Type 0) → CopiedBitIsLocalAt s v w IsKnown
+
+abbrev pub WrittenBitIsLocal : Type 1
+WrittenBitIsLocal = (s : Scope) (v w : Valuation) (IsKnown : Name → Type 0) → WrittenBitIsLocalAt s v w IsKnown
+
+abbrev pub AssignedBitIsLocal : Type 1
+AssignedBitIsLocal = (around inner : Scope) (v w inner_v inner_w : Valuation) (IsKnown : Name → Type 0) → AssignedBitIsLocalAt around inner v w inner_v inner_w IsKnown
+
+abbrev pub RunBitIsLocal : Type 1
+RunBitIsLocal = (s : Scope) (v w : Valuation) (IsKnown : Name → Type 0) → RunBitIsLocalAt s v w IsKnown
+
+abbrev pub BlockBitIsLocal : Type 1
+BlockBitIsLocal = (s : Scope) (v w : Valuation) (IsKnown : Name → Type 0) → BlockBitIsLocalAt s v w IsKnown
