@@ -1,14 +1,13 @@
 -- A bit that an assignment or a connection gives its value: what the right side gives, and the assignment that holds.
-use Rattle.std.proofs.Common.{◌≡◌, ◌≢◌, ℕ, ◌-◌, ◌<◌, Bool, true, false, cond, not, ◌&&◌, ◌||◌, nat_lt, ◌⊎◌, inl, inr, refl, sym, ap, ◌∙◌, subst, Some, IsTrue, lt-ltb}
+use Rattle.std.proofs.Common.{◌≡◌, ◌≢◌, ℕ, ◌-◌, ◌<◌, Bool, true, false, not, ◌&&◌, nat_lt, ◌⊎◌, inl, inr, sym, ap, ◌∙◌, subst, Some, IsTrue, lt-ltb}
 use Rattle.std.proofs.lemmas.Bool.{cases_Bool, and_parts, and_from, or_cases, or_left, or_right, false≢true}
-use Rattle.wb_values.specs.Value.{Name, same_name, Value, Valuation}
-use Rattle.verilog_trees.specs.Syntax.{Expression, Selects, Target, place, joined, Targets, no_targets, target}
-use Rattle.verilog_meaning.specs.Expression.{Scope, no_values, sign_of, selects_width, assigned_value}
-use Rattle.verilog_meaning.specs.Statement.{named_place, places, target_width, targets_width, written}
+use Rattle.wb_values.specs.Value.{Name, same_name, Valuation}
+use Rattle.verilog_trees.specs.Syntax.{Expression, Target, place, joined, Targets, no_targets, target}
+use Rattle.verilog_meaning.specs.Expression.{Scope, sign_of, assigned_value}
+use Rattle.verilog_meaning.specs.Statement.{places, target_width, targets_width, written}
 use Rattle.verilog_meaning.specs.Register.{selects_are_constant, may_mean, may_reach, may_reach_one, is_set, value_bit}
-use Rattle.verilog_meaning.specs.Settled.{IsValueOf, Has}
 use Rattle.verilog_designs.specs.Reads.{reads, surely_reaches, one_surely_reaches}
-use Rattle.verilog_designs.specs.Dependence.{Bit, is_in, is_plain, copied, is_same_cell, natural_in, takes, one_takes, index_reads, IsGivenBy, copied_to, computed}
+use Rattle.verilog_designs.specs.Dependence.{Bit, is_in, is_plain, copied, takes, one_takes, index_reads, IsGivenBy, copied_to, computed}
 use Rattle.verilog_settled.specs.Locality.{IsSame, DifferAt, HasNoConstantMemory, LeavesAre, has_constant_selects, all_have_constant_selects, AssignedBitIsLocal}
 use Rattle.verilog_settled.proofs.Values.{Alike, alike_values}
 use Rattle.verilog_settled.proofs.Found.{Found, In, SameOr, found_so, differ_at}

@@ -1,13 +1,13 @@
 -- Bits of numbers: of parts, of shifted numbers, of numbers with some bits replaced; and two numbers are one or differ at a bit.
-use Rattle.std.proofs.Common.{◌≡◌, ◌≢◌, ℕ, zero, suc, ◌+◌, ◌-◌, ◌*◌, ◌/◌, ◌%◌, ◌^◌, ◌<◌, ◌≤◌, Bool, true, false, ◌⊎◌, inl, inr, sym, refl, ap, ◌∙◌, subst, ℤ, pos, negsuc, int_le, int_lt, ◌+ℤ◌, ◌-ℤ◌, IsTrue, arith, pow_pos, mod-lt, shr-shr, ltb-true, lt-ltb}
-use Rattle.std.specs.Prelude.{◌==◌, ◌&&◌, nat_lt}
+use Rattle.std.proofs.Common.{◌≡◌, ◌≢◌, ℕ, zero, suc, ◌+◌, ◌-◌, ◌*◌, ◌/◌, ◌%◌, ◌^◌, ◌<◌, ◌≤◌, Bool, true, false, ◌⊎◌, inl, inr, sym, refl, ap, ◌∙◌, subst, ℤ, pos, negsuc, int_le, int_lt, ◌+ℤ◌, ◌-ℤ◌, IsTrue, arith, pow_pos, mod-lt, shr-shr}
+use Rattle.std.specs.Prelude.{◌==◌, ◌&&◌}
 use Rattle.std.specs.Int.{bit_at}
-use Rattle.std.proofs.lemmas.Bool.{cases_lt, cases_eq}
+use Rattle.std.proofs.lemmas.Bool.{cases_eq}
 use Rattle.std.proofs.lemmas.Bool.Decides.{nat_tests}
 use Rattle.std.proofs.lemmas.Int.{ints}
 use Rattle.std.proofs.lemmas.Nat.{pow-add, shr_split, mul-add-lt}
 use Rattle.std.proofs.lemmas.Nat.Bits.{bit_at-lt, bit_at-zero, bit_at_above, bit_at_cat_low, bit_at_cat_high, same_from_bits_below}
-use Rattle.verilog_meaning.specs.Expression.{Bits, bits_from, bits_taken}
+use Rattle.verilog_meaning.specs.Expression.{Bits, bits_from}
 use Rattle.verilog_meaning.specs.Statement.{with_bits_from, with_bits_at, with_bits}
 use Rattle.verilog_meaning.specs.Register.{is_set, is_within}
 

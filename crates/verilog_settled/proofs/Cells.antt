@@ -1,12 +1,12 @@
 -- What a write to a place leaves of a value: its kind, and each of its bits.
-use Rattle.std.proofs.Common.{◌≡◌, ◌≢◌, ℕ, zero, suc, ◌+◌, ◌^◌, ◌<◌, ◌≤◌, Bool, true, false, not, ◌&&◌, ◌==◌, ◌⊎◌, inl, inr, refl, sym, ap, ◌∙◌, subst, List, [], ◌∷◌, length, slice_index, slice_set, Option, Some, None, IsTrue, is_some, arith, eqb-true, length-set, get_or-set_same, get_or-set_other}
-use Rattle.std.proofs.lemmas.Bool.{cases_lt, cases_eq, eqb-false, cases_Bool, and_parts, and_cases, false≢true}
+use Rattle.std.proofs.Common.{◌≡◌, ℕ, zero, suc, ◌^◌, ◌<◌, ◌≤◌, Bool, false, ◌&&◌, ◌==◌, ◌⊎◌, inl, inr, refl, sym, ap, ◌∙◌, subst, List, [], length, slice_index, slice_set, IsTrue, arith, eqb-true, length-set, get_or-set_same, get_or-set_other}
+use Rattle.std.proofs.lemmas.Bool.{cases_lt, cases_eq, eqb-false, and_parts, and_cases, false≢true}
 use Rattle.std.proofs.lemmas.List.{set_past, get_or_past}
-use Rattle.wb_values.specs.Value.{Value, truth_value, number as a_number, words, as_number, as_words}
+use Rattle.wb_values.specs.Value.{Value, truth_value, number as a_number, words, as_words}
 use Rattle.verilog_meaning.specs.Expression.{Object, object_width, is_memory, Bits}
 use Rattle.verilog_meaning.specs.Statement.{Cell, variable_cell, word_cell, no_cell, with_bits, written_cell}
 use Rattle.verilog_meaning.specs.Register.{is_set, is_within, value_bit}
-use Rattle.verilog_settled.proofs.Bits.{alike_or_not, offset, offset_below, set_written, set_kept, with_bits_fits, unset_past}
+use Rattle.verilog_settled.proofs.Bits.{offset, set_written, set_kept, with_bits_fits, unset_past}
 use Rattle.verilog_settled.proofs.Values.{Narrow, Alike, not_both}
 
 -- ---- kinds

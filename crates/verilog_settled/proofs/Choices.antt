@@ -1,18 +1,16 @@
 -- A bit after an assignment or a choice in a block: the same, or the valuations outside differ at a bit on which it depends.
-use Rattle.std.proofs.Common.{◌≡◌, ◌≢◌, ℕ, ◌^◌, ◌<◌, ◌≤◌, max, Bool, true, false, cond, not, ◌&&◌, ◌||◌, ◌⊎◌, inl, inr, refl, sym, ap, ap₂, ◌∙◌, subst, Option, Some, None, IsTrue, arith}
-use Rattle.std.proofs.lemmas.Bool.{cases_Bool, or_left, or_right, or_parts, false≢true}
-use Rattle.wb_values.specs.Value.{Name, Value, Valuation}
-use Rattle.verilog_trees.specs.Syntax.{Expression, Expressions, no_expressions, expression, Target, CaseKind, Statement, empty, blocking, nonblocking, if_then, if_else, case, block, Statements, no_statements, statement, CaseItems, no_items, arm, default_arm}
-use Rattle.verilog_meaning.specs.Expression.{Scope, object_width, sign_of, width_of, value_of, is_true, is_nonzero, assigned_value}
-use Rattle.verilog_meaning.specs.Statement.{places, target_width, written, Effect, unchanged, items_width, items_signed, wild_bits, matches, any_matches, run, run_all, run_case}
-use Rattle.verilog_meaning.specs.Register.{may_assign, may_assign_in_all, may_assign_in_case, is_set, value_bit}
+use Rattle.std.proofs.Common.{◌≡◌, ℕ, ◌<◌, Bool, true, false, cond, ◌||◌, ◌⊎◌, inl, inr, refl, sym, ◌∙◌, subst, IsTrue}
+use Rattle.wb_values.specs.Value.{Name, Valuation}
+use Rattle.verilog_trees.specs.Syntax.{Expression, Expressions, no_expressions, expression, Target, CaseKind, Statement, CaseItems, no_items, arm, default_arm}
+use Rattle.verilog_meaning.specs.Expression.{Scope, assigned_value}
+use Rattle.verilog_meaning.specs.Statement.{places, target_width, written, Effect, wild_bits, matches, any_matches}
+use Rattle.verilog_meaning.specs.Register.{value_bit}
 use Rattle.verilog_meaning.specs.Settled.{IsValueOf}
-use Rattle.verilog_designs.specs.Reads.{BitSet, or_in, reads, reads_in_all, items_read, surely_reaches, is_full}
-use Rattle.verilog_designs.specs.Dependence.{Bit, is_in, takes, index_reads, IsGivenBy, Dependences, at_start, ThroughReads, AfterAssignment, kept, given, indexed, AfterChoice, NoArm, After, AfterAll, AfterArms}
+use Rattle.verilog_designs.specs.Reads.{BitSet, or_in, reads, reads_in_all, items_read}
+use Rattle.verilog_designs.specs.Dependence.{Bit, takes, index_reads, IsGivenBy, Dependences, ThroughReads, AfterAssignment, kept, given, indexed, AfterChoice}
 use Rattle.verilog_settled.specs.Locality.{IsSame, DifferAt, HasNoConstantMemory, Fits, AllFit, LeavesAre, AllLeavesAre, IndexesAre, ItemsAre}
 use Rattle.verilog_settled.proofs.Values.{Alike, alike_values, alike_turned, alike_further}
-use Rattle.verilog_settled.proofs.Found.{Found, In, SameOr, found_left, found_right, one_part, two_parts}
-use Rattle.verilog_settled.proofs.Names.{IsReadable}
+use Rattle.verilog_settled.proofs.Found.{Found, In, SameOr, found_left, found_right, two_parts}
 use Rattle.verilog_settled.proofs.Expressions.{AreReadable, value_local}
 use Rattle.verilog_settled.proofs.Written.{Why, stays, takes_bit, by_index, NotSurely}
 use Rattle.verilog_settled.proofs.Targets.{target_placed, target_why}

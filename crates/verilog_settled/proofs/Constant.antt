@@ -1,9 +1,9 @@
 -- What is constant has the same value under all valuations.
-use Rattle.std.proofs.Common.{◌≡◌, ℕ, ◌*◌, ◌+◌, ◌^◌, Bool, true, false, cond, ◌&&◌, refl, sym, ap, ap₂, ◌∙◌, Option, Some, None, max, ℤ, IsTrue, is_some, unwrap_or, option_and_then}
+use Rattle.std.proofs.Common.{◌≡◌, ℕ, ◌*◌, ◌+◌, ◌^◌, Bool, true, false, cond, ◌&&◌, refl, ap, ap₂, ◌∙◌, Option, Some, None, max, ℤ, IsTrue, is_some, unwrap_or, option_and_then}
 use Rattle.std.proofs.lemmas.Bool.{and_parts}
 use Rattle.wb_values.specs.Value.{Name, Value, Valuation}
 use Rattle.verilog_trees.specs.Syntax.{Expression, number, name, concatenation, replication, as_signed, as_unsigned, unary, reduction, binary, shift, power, comparison, logical, conditional, Expressions, no_expressions, expression, Select, index, part, part_up, part_down, Selects, whole, one, two}
-use Rattle.verilog_meaning.specs.Expression.{Object, Scope, is_memory, Bits, word_number, word_or_zero, indexed_word, whole_value, widened, bit, bits_taken, bits_upward, bits_downward, place_of_bit, integer_from, natural_of, side_by_side, unary_value, reduction_value, binary_value, shift_value, power_value, comparison_value, logical_value, is_nonzero, no_values, sign_of, width_of, widths_of, selects_width, value_of, joined_value, selected, select_index, select_bits}
+use Rattle.verilog_meaning.specs.Expression.{Object, Scope, is_memory, word_number, word_or_zero, indexed_word, whole_value, widened, bit, bits_taken, bits_upward, bits_downward, place_of_bit, integer_from, natural_of, side_by_side, unary_value, reduction_value, binary_value, shift_value, power_value, comparison_value, logical_value, is_nonzero, no_values, sign_of, width_of, widths_of, selects_width, value_of, joined_value, selected, select_index, select_bits}
 use Rattle.verilog_meaning.specs.Register.{is_constant, are_constant, select_is_constant, selects_are_constant}
 use Rattle.verilog_settled.specs.Locality.{HasNoConstantMemory}
 

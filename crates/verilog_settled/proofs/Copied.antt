@@ -1,11 +1,11 @@
 -- Each bit of a name with constant selects is the same, or the valuations differ at the bit that stands there.
-use Rattle.std.proofs.Common.{◌≡◌, ◌≢◌, ℕ, ◌+◌, ◌-◌, ◌^◌, ◌<◌, ◌≤◌, Bool, true, false, cond, ◌&&◌, nat_lt, ◌⊎◌, inl, inr, refl, sym, ap, ap₂, ◌∙◌, subst, Option, Some, None, ℤ, pos, ◌+ℤ◌, slice_index, IsTrue, is_some, is_none, unwrap_or, option_and_then, arith, zero-add, lt-ltb, le-ltb}
-use Rattle.std.proofs.lemmas.Bool.{cases_lt, and_from, and_parts, cond-true, cond-false}
+use Rattle.std.proofs.Common.{◌≡◌, ◌≢◌, ℕ, ◌-◌, ◌^◌, ◌<◌, ◌≤◌, Bool, true, false, cond, nat_lt, ◌⊎◌, inl, inr, refl, sym, ap, ap₂, ◌∙◌, subst, Option, Some, None, pos, ◌+ℤ◌, slice_index, IsTrue, is_some, is_none, unwrap_or, option_and_then, arith, zero-add, lt-ltb, le-ltb}
+use Rattle.std.proofs.lemmas.Bool.{cases_lt, and_from, cond-true, cond-false}
 use Rattle.wb_values.specs.Value.{Name, Value, as_number, as_words, Valuation}
 use Rattle.wb_values.specs.Choice.{some_if}
-use Rattle.verilog_trees.specs.Syntax.{Expression, name, Select, Selects, whole, one, two}
-use Rattle.verilog_meaning.specs.Expression.{Object, Scope, object_width, is_memory, Bits, bits_taken, word_number, word_or_zero, indexed_word, whole_value, widened, no_values, selected, selects_width, select_index, select_bits}
-use Rattle.verilog_meaning.specs.Statement.{Cell, variable_cell, word_cell, no_cell, Place, cell_at, indexed_cell, all_bits, named_place}
+use Rattle.verilog_trees.specs.Syntax.{Select, Selects, whole, one, two}
+use Rattle.verilog_meaning.specs.Expression.{Scope, object_width, is_memory, bits_taken, word_number, word_or_zero, indexed_word, whole_value, widened, no_values, selected, selects_width, select_index, select_bits}
+use Rattle.verilog_meaning.specs.Statement.{variable_cell, Place, cell_at, indexed_cell, all_bits, named_place}
 use Rattle.verilog_meaning.specs.Register.{selects_are_constant, is_bit_of, is_set, value_bit}
 use Rattle.verilog_designs.specs.Dependence.{Bit, word_of_cell, natural_in, bit_in, bit_at, widened_bit}
 use Rattle.verilog_settled.specs.Locality.{HasNoConstantMemory}
@@ -13,7 +13,7 @@ use Rattle.verilog_settled.proofs.Bits.{alike_or_not}
 use Rattle.verilog_settled.proofs.Values.{Alike, alike_turned, part_bit, numbers_below, words_below, number_bit, word_bit}
 use Rattle.verilog_settled.proofs.Constant.{same_selected, fixed_selects}
 use Rattle.verilog_settled.proofs.Found.{Found}
-use Rattle.verilog_settled.proofs.Names.{IsReadable, in_range, some_word, word_within, is_addressed}
+use Rattle.verilog_settled.proofs.Names.{IsReadable, in_range, some_word, word_within}
 use Rattle.verilog_settled.proofs.Fitting.{selected_fits}
 use Rattle.verilog_settled.proofs.Widened.{widened_low, widened_high, widened_signed}
 

@@ -1,14 +1,12 @@
 -- The value of an expression is the same, or the valuations differ at a bit that it reads.
-use Rattle.std.proofs.Common.{◌≡◌, ℕ, ◌+◌, ◌*◌, ◌%◌, ◌^◌, ◌<◌, max, Bool, true, false, cond, ◌&&◌, ◌⊎◌, inl, inr, refl, ap, ◌∙◌, subst, Option, Some, None, IsTrue}
-use Rattle.wb_values.specs.Value.{Name, Value, Valuation}
+use Rattle.std.proofs.Common.{◌≡◌, ℕ, ◌+◌, ◌*◌, ◌%◌, ◌^◌, max, Bool, cond, ◌&&◌, ◌⊎◌, inl, inr, refl, subst}
+use Rattle.wb_values.specs.Value.{Name, Valuation}
 use Rattle.verilog_trees.specs.Syntax.{Expression, number, name, concatenation, replication, as_signed, as_unsigned, unary, reduction, binary, shift, power, comparison, logical, conditional, Expressions, no_expressions, expression, Select, index, part, part_up, part_down, Selects, whole, one, two}
-use Rattle.verilog_meaning.specs.Expression.{Object, Scope, object_width, Bits, widened, bit, bits_upward, bits_downward, place_of_bit, integer_from, natural_of, side_by_side, unary_value, reduction_value, binary_value, shift_value, power_value, comparison_value, logical_value, is_nonzero, no_values, sign_of, width_of, widths_of, selects_width, value_of, joined_value, selected, select_index, select_bits, self_value, assigned_value}
-use Rattle.verilog_meaning.specs.Settled.{IsValueOf}
-use Rattle.verilog_designs.specs.Reads.{BitSet, or_in, no_bits, reads, reads_in_all, select_reads, selects_read}
-use Rattle.verilog_designs.specs.Dependence.{Bit, is_in}
+use Rattle.verilog_meaning.specs.Expression.{Object, Scope, Bits, widened, bit, bits_upward, bits_downward, place_of_bit, integer_from, natural_of, side_by_side, unary_value, reduction_value, binary_value, shift_value, power_value, comparison_value, logical_value, is_nonzero, no_values, sign_of, width_of, widths_of, selects_width, value_of, joined_value, selected, select_index, select_bits, assigned_value}
+use Rattle.verilog_designs.specs.Reads.{BitSet, or_in, reads, reads_in_all, select_reads}
 use Rattle.verilog_settled.specs.Locality.{DifferAt, HasNoConstantMemory, Fits, AllFit, LeavesAre, AllLeavesAre, SelectIs, SelectsAre, ValueIsLocal, SelfValueIsLocal, AssignedValueIsLocal}
 use Rattle.verilog_settled.proofs.Values.{alike_values}
-use Rattle.verilog_settled.proofs.Found.{Found, In, SameOr, found_left, found_right, differ_at, one_part, two_parts}
+use Rattle.verilog_settled.proofs.Found.{In, SameOr, differ_at, one_part, two_parts}
 use Rattle.verilog_settled.proofs.Names.{IsReadable, name_whole, name_one, name_two}
 
 -- all names of a kind are readable

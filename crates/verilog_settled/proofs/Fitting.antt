@@ -1,12 +1,12 @@
 -- The value of an expression fits its context, where what is read fits.
-use Rattle.std.proofs.Common.{◌≡◌, ℕ, ◌^◌, ◌<◌, ◌≤◌, Bool, true, false, refl, sym, ap, ◌∙◌, subst, Option, Some, None, IsTrue, unwrap_or, slice_index, arith}
-use Rattle.wb_values.specs.Value.{Name, as_number, as_words, Valuation}
+use Rattle.std.proofs.Common.{◌≡◌, ℕ, ◌^◌, ◌<◌, ◌≤◌, Bool, false, refl, Option, Some, None, unwrap_or, arith}
+use Rattle.wb_values.specs.Value.{Name, as_number, Valuation}
 use Rattle.verilog_trees.specs.Syntax.{Expression, number, name, concatenation, replication, as_signed, as_unsigned, unary, reduction, binary, shift, power, comparison, logical, conditional, Expressions, no_expressions, expression, Selects, whole, one, two}
-use Rattle.verilog_meaning.specs.Expression.{Scope, object_width, is_memory, width_of, widths_of, sign_of, value_of, joined_value, selected, selects_width}
+use Rattle.verilog_meaning.specs.Expression.{Scope, object_width, width_of, widths_of, value_of, joined_value, selected, selects_width}
 use Rattle.wb_laws.specs.Widths.{ReadFits, LeavesFit, AllLeavesFit}
 use Rattle.wb_laws.proofs.Widths.{fits}
 use Rattle.verilog_settled.specs.Locality.{HasNoConstantMemory, LeavesAre, AllLeavesAre}
-use Rattle.verilog_settled.proofs.Values.{Alike, alike_turned, numbers_below, words_below}
+use Rattle.verilog_settled.proofs.Values.{alike_turned, numbers_below, words_below}
 use Rattle.verilog_settled.proofs.Names.{IsReadable, no_constant}
 use Rattle.verilog_settled.proofs.Expressions.{AreReadable}
 

@@ -1,6 +1,6 @@
 -- A bit that was found: one of a kind at which two valuations differ. What is made of several things is the same, or a bit is found
 -- for one of them.
-use Rattle.std.proofs.Common.{◌≡◌, ℕ, Bool, true, false, cond, ◌||◌, ◌⊎◌, inl, inr, refl, ap, ap₂, ◌∙◌, IsTrue}
+use Rattle.std.proofs.Common.{◌≡◌, ◌⊎◌, inl, inr, ap, ap₂, ◌∙◌, IsTrue}
 use Rattle.std.proofs.lemmas.Bool.{or_left, or_right}
 use Rattle.wb_values.specs.Value.{Name, Valuation}
 use Rattle.verilog_designs.specs.Reads.{BitSet, or_in}

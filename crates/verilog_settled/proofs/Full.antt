@@ -1,10 +1,10 @@
 -- A full case takes an arm: what is done where none is taken doesn't matter.
-use Rattle.std.proofs.Common.{◌≡◌, ◌≢◌, ℕ, zero, suc, ◌^◌, ◌<◌, ◌≤◌, max, Bool, true, false, cond, ◌&&◌, ◌||◌, ◌==◌, nat_le, ◌⊎◌, inl, inr, refl, sym, ap, ◌∙◌, subst, IsTrue, arith, eqb-true, eq-eqb}
-use Rattle.std.proofs.lemmas.Bool.{cases_eq, cases_Bool, and_parts, or_cases, or_left, or_right, cond-true, false≢true}
+use Rattle.std.proofs.Common.{◌≡◌, ◌≢◌, ℕ, zero, suc, ◌^◌, ◌<◌, max, Bool, true, cond, ◌&&◌, ◌==◌, nat_le, inl, inr, refl, sym, ap, ◌∙◌, subst, IsTrue, arith, eqb-true, eq-eqb}
+use Rattle.std.proofs.lemmas.Bool.{cases_eq, and_parts, or_cases, or_left, or_right, cond-true, false≢true}
 use Rattle.wb_values.specs.Value.{Valuation}
 use Rattle.verilog_trees.specs.Syntax.{Expression, Expressions, no_expressions, expression, CaseKind, exact_case, wild_case, CaseItems, no_items, arm, default_arm}
 use Rattle.verilog_meaning.specs.Expression.{Scope, no_values, width_of, sign_of, value_of}
-use Rattle.verilog_meaning.specs.Statement.{Effect, wild_bits, matches, any_matches, items_width, items_signed, run, run_case}
+use Rattle.verilog_meaning.specs.Statement.{Effect, any_matches, items_width, items_signed, run, run_case}
 use Rattle.verilog_meaning.specs.Register.{is_constant}
 use Rattle.verilog_designs.specs.Reads.{has_default, one_is, items_have, items_have_all, is_full}
 use Rattle.verilog_settled.specs.Locality.{HasNoConstantMemory}

@@ -1,19 +1,18 @@
 -- What a name with selects reads of a valuation.
-use Rattle.std.proofs.Common.{◌≡◌, ◌≢◌, ℕ, ◌+◌, ◌-◌, ◌^◌, ◌<◌, ◌≤◌, Bool, true, false, cond, not, ◌&&◌, ◌||◌, ◌==◌, nat_le, nat_lt, ◌⊎◌, inl, inr, refl, sym, ap, ◌∙◌, subst, Option, Some, None, min, max, ℤ, pos, negsuc, slice_index, IsTrue, is_some, is_none, unwrap_or, option_and_then, arith, eq-eqb, lt-ltb}
+use Rattle.std.proofs.Common.{◌≡◌, ◌≢◌, ℕ, ◌+◌, ◌-◌, ◌^◌, ◌<◌, ◌≤◌, Bool, true, false, cond, ◌&&◌, nat_le, nat_lt, ◌⊎◌, inl, inr, refl, sym, ap, ◌∙◌, subst, Option, Some, None, min, max, ℤ, pos, negsuc, slice_index, IsTrue, is_some, is_none, unwrap_or, option_and_then, arith, eq-eqb, lt-ltb}
 use Rattle.std.proofs.lemmas.Bool.{and_from, false≢true}
 use Rattle.std.proofs.lemmas.Bool.Decides.{nat_tests}
 use Rattle.std.proofs.lemmas.Slice.Eq.{bytes_eq-Decides}
-use Rattle.wb_values.specs.Value.{Name, same_name, Value, as_number, as_words, Valuation}
-use Rattle.verilog_trees.specs.Syntax.{Expression, name, Select, Selects, whole, one, two}
-use Rattle.verilog_meaning.specs.Expression.{Object, Scope, object_width, is_memory, distance, Bits, bits_taken, word_number, word_or_zero, indexed_word, whole_value, no_values, selected, select_index, select_bits}
-use Rattle.verilog_meaning.specs.Register.{select_is_constant, selects_are_constant, is_within, may_mean_bit, is_word_number, may_mean_word, may_mean, words_between, word_count, is_bit_of, is_set, value_bit}
-use Rattle.verilog_designs.specs.Reads.{BitSet, or_in, name_reads, reads, select_reads, selects_read}
-use Rattle.verilog_designs.specs.Dependence.{Bit}
-use Rattle.verilog_settled.specs.Locality.{HasNoConstantMemory, IsSame}
+use Rattle.wb_values.specs.Value.{Name, same_name, as_number, as_words, Valuation}
+use Rattle.verilog_trees.specs.Syntax.{name, Select, Selects, whole, one, two}
+use Rattle.verilog_meaning.specs.Expression.{Object, Scope, object_width, is_memory, distance, bits_taken, word_number, word_or_zero, indexed_word, whole_value, no_values, selected, select_index, select_bits}
+use Rattle.verilog_meaning.specs.Register.{select_is_constant, selects_are_constant, is_within, may_mean_bit, is_word_number, may_mean_word, may_mean, words_between, word_count, is_bit_of, is_set}
+use Rattle.verilog_designs.specs.Reads.{or_in, name_reads, reads, select_reads, selects_read}
+use Rattle.verilog_settled.specs.Locality.{HasNoConstantMemory}
 use Rattle.verilog_settled.proofs.Bits.{DifferBelow, one_or_differ}
 use Rattle.verilog_settled.proofs.Values.{Alike, alike_turned, part_or_differ, numbers_below, words_below, number_bit, word_bit}
-use Rattle.verilog_settled.proofs.Constant.{constant_whole, constant_word, same_bits, same_index}
-use Rattle.verilog_settled.proofs.Found.{Found, In, SameOr, found_left, found_right, one_part, then_same, and_then}
+use Rattle.verilog_settled.proofs.Constant.{same_bits, same_index}
+use Rattle.verilog_settled.proofs.Found.{SameOr, found_left, found_right, and_then}
 
 -- What is known of a name that is read: its constant fits, or the valuations have values of its object.
 pub record IsReadable (s : Scope) (v w : Valuation) (HasValue : Name → Type 0) (n : Name) : Type 0 where

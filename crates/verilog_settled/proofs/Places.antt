@@ -1,20 +1,19 @@
 -- The place that a name with selects means: what it may mean it covers where its selects are constant, and it covers nothing else.
-use Rattle.std.proofs.Common.{◌≡◌, ℕ, ◌-◌, ◌<◌, ◌≤◌, Bool, true, false, cond, not, ◌&&◌, ◌==◌, nat_lt, ◌⊎◌, inl, inr, refl, sym, ap, ap₂, ◌∙◌, subst, Option, Some, None, ℤ, pos, ◌-ℤ◌, IsTrue, is_some, option_and_then, arith, eq-eqb, lt-ltb, le-ltb}
-use Rattle.std.specs.Prelude.{int_le, int_lt, ◌+ℤ◌}
-use Rattle.std.proofs.lemmas.Bool.{and_parts, and_from, cond-true, cond-false, false≢true}
+use Rattle.std.proofs.Common.{◌≡◌, ℕ, ◌<◌, Bool, true, false, cond, not, ◌&&◌, ◌==◌, nat_lt, inl, inr, refl, sym, ap, ap₂, ◌∙◌, subst, Option, Some, None, ℤ, pos, ◌-ℤ◌, IsTrue, option_and_then, arith, lt-ltb}
+use Rattle.std.proofs.lemmas.Bool.{and_parts, and_from, cond-true, false≢true}
 use Rattle.std.proofs.lemmas.Bool.Decides.{nat_tests}
 use Rattle.std.proofs.lemmas.Int.{ints}
-use Rattle.wb_values.specs.Value.{Name, same_name, Valuation}
+use Rattle.wb_values.specs.Value.{Name, Valuation}
 use Rattle.verilog_trees.specs.Syntax.{Select, index, part, part_up, part_down, Selects, whole, one, two}
 use Rattle.verilog_meaning.specs.Expression.{Object, Scope, object_width, is_memory, Bits, word_number, no_values, selects_width, select_index, select_bits}
 use Rattle.verilog_meaning.specs.Statement.{Cell, variable_cell, word_cell, no_cell, Place, cell_at, indexed_cell, all_bits, named_place}
 use Rattle.verilog_meaning.specs.Register.{select_is_constant, selects_are_constant, is_within, may_mean_bit, may_mean_word, is_word_number, may_mean}
-use Rattle.verilog_designs.specs.Reads.{BitSet, or_in, select_reads, selects_read}
+use Rattle.verilog_designs.specs.Reads.{select_reads, selects_read}
 use Rattle.verilog_designs.specs.Dependence.{is_same_cell, natural_in}
 use Rattle.verilog_settled.specs.Locality.{HasNoConstantMemory, SelectsAre}
 use Rattle.verilog_settled.proofs.Bits.{offset, is_offset, offset_below}
 use Rattle.verilog_settled.proofs.Constant.{same_bits, same_index}
-use Rattle.verilog_settled.proofs.Found.{Found, In, SameOr, one_part, two_parts}
+use Rattle.verilog_settled.proofs.Found.{SameOr, two_parts}
 use Rattle.verilog_settled.proofs.Names.{means_bit, means_word, is_addressed}
 use Rattle.verilog_settled.proofs.Expressions.{AreReadable, index_local, bits_local}
 use Rattle.verilog_settled.proofs.Cells.{FitsCell, covers}

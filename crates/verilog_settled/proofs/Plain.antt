@@ -1,5 +1,5 @@
 -- Each bit of a plain right side is the same, or the valuations differ at the bit that is copied to it.
-use Rattle.std.proofs.Common.{◌≡◌, ℕ, ◌+◌, ◌-◌, ◌*◌, ◌%◌, ◌^◌, ◌<◌, ◌≤◌, max, Bool, true, false, cond, ◌&&◌, nat_lt, ◌⊎◌, inl, inr, refl, sym, ap, ◌∙◌, Option, Some, None, IsTrue, arith, lt-ltb, le-ltb}
+use Rattle.std.proofs.Common.{◌≡◌, ℕ, ◌+◌, ◌-◌, ◌*◌, ◌%◌, ◌^◌, ◌<◌, ◌≤◌, max, true, false, cond, nat_lt, ◌⊎◌, inl, inr, refl, sym, ap, ◌∙◌, Some, None, IsTrue, arith, lt-ltb, le-ltb}
 use Rattle.std.proofs.lemmas.Bool.{cases_lt, and_parts, cond-true, cond-false, false≢true}
 use Rattle.std.proofs.lemmas.Nat.Bits.{bit_at_cat_low, bit_at_cat_high}
 use Rattle.wb_values.specs.Value.{Name, Valuation}
@@ -9,7 +9,7 @@ use Rattle.verilog_meaning.specs.Register.{is_set}
 use Rattle.verilog_designs.specs.Dependence.{Bit, is_plain, are_plain, copied, copied_in}
 use Rattle.verilog_settled.specs.Locality.{DifferAt, HasNoConstantMemory, LeavesAre, AllLeavesAre, CopiedBitIsLocal}
 use Rattle.verilog_settled.proofs.Bits.{set_from_bit, bit_of_cut, unset_past}
-use Rattle.verilog_settled.proofs.Found.{Found, found_so, differ_at}
+use Rattle.verilog_settled.proofs.Found.{found_so, differ_at}
 use Rattle.verilog_settled.proofs.Expressions.{AreReadable, readable}
 use Rattle.verilog_settled.proofs.Fitting.{turned, value_fits, parts_fit}
 use Rattle.verilog_settled.proofs.Widened.{side_bit, side_fits}

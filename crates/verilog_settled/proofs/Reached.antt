@@ -1,14 +1,14 @@
 -- What a run leaves of a value: its kind, and each bit that it may not assign.
-use Rattle.std.proofs.Common.{◌≡◌, ℕ, ◌/◌, ◌%◌, ◌^◌, ◌<◌, ◌≤◌, max, Bool, true, false, cond, ◌&&◌, ◌||◌, ◌⊎◌, inl, inr, refl, sym, ap, ◌∙◌, subst, List, [], ◌∷◌, ◌++◌, IsTrue}
-use Rattle.std.proofs.lemmas.Bool.{cases_lt, cases_Bool, or_parts, and_cases, cond-true, cond-false, false≢true}
+use Rattle.std.proofs.Common.{◌≡◌, ℕ, ◌/◌, ◌%◌, ◌^◌, ◌<◌, ◌≤◌, max, Bool, true, false, cond, ◌&&◌, ◌⊎◌, inl, inr, refl, sym, ap, ◌∙◌, subst, List, [], ◌∷◌, ◌++◌}
+use Rattle.std.proofs.lemmas.Bool.{cases_lt, cases_Bool, or_parts, and_cases, false≢true}
 use Rattle.wb_values.specs.Value.{Name, same_name, Value, truth_value, number as a_number, words, Valuation}
-use Rattle.verilog_trees.specs.Syntax.{Expression, Selects, Target, place, joined, Targets, no_targets, target, CaseKind, Statement, empty, blocking, nonblocking, if_then, if_else, case, block, Statements, no_statements, statement, CaseItems, no_items, arm, default_arm}
+use Rattle.verilog_trees.specs.Syntax.{Target, place, joined, Targets, no_targets, target, CaseKind, Statement, empty, blocking, nonblocking, if_then, if_else, case, block, Statements, no_statements, statement, CaseItems, no_items, arm, default_arm}
 use Rattle.verilog_meaning.specs.Expression.{Scope, object_width, sign_of, width_of, value_of, is_true, assigned_value}
-use Rattle.verilog_meaning.specs.Statement.{Place, named_place, places, all_places, places_width, target_width, written_cell, written_place, written, Effect, unchanged, items_width, items_signed, any_matches, run, run_all, run_case}
+use Rattle.verilog_meaning.specs.Statement.{Place, named_place, places, all_places, places_width, target_width, written_cell, written, Effect, unchanged, items_width, items_signed, any_matches, run, run_all, run_case}
 use Rattle.verilog_meaning.specs.Register.{may_mean, may_reach, may_reach_one, may_assign, may_assign_in_all, may_assign_in_case, value_bit}
 use Rattle.verilog_settled.specs.Locality.{HasNoConstantMemory}
 use Rattle.verilog_settled.proofs.Values.{Alike}
-use Rattle.verilog_settled.proofs.Cells.{FitsCell, Spoiled, never_spoiled, high_unset, covers, bit_stays}
+use Rattle.verilog_settled.proofs.Cells.{Spoiled, never_spoiled, high_unset, covers, bit_stays}
 use Rattle.verilog_settled.proofs.Places.{place_name}
 use Rattle.verilog_settled.proofs.Written.{Kind, AreFit, target_fits, written_kind, before_place, at_name, off_name, same_from, never_covers}
 

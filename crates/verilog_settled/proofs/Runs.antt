@@ -1,17 +1,17 @@
 -- A bit after runs of a statement: the same, or the valuations outside differ at a bit on which it depends.
-use Rattle.std.proofs.Common.{◌≡◌, ◌≢◌, ℕ, ◌≤◌, max, Bool, true, false, cond, ◌&&◌, ◌||◌, ◌⊎◌, inl, inr, refl, sym, ap, ◌∙◌, subst, IsTrue, arith}
+use Rattle.std.proofs.Common.{◌≡◌, ◌≢◌, ℕ, ◌≤◌, max, Bool, true, false, cond, ◌&&◌, ◌||◌, ◌⊎◌, inl, inr, refl, sym, ap, ◌∙◌, subst, arith}
 use Rattle.std.proofs.lemmas.Bool.{cases_Bool}
-use Rattle.wb_values.specs.Value.{Name, Value, Valuation}
-use Rattle.verilog_trees.specs.Syntax.{Expression, Target, CaseKind, Statement, empty, blocking, nonblocking, if_then, if_else, case, block, Statements, no_statements, statement, CaseItems, no_items, arm, default_arm}
-use Rattle.verilog_meaning.specs.Expression.{Scope, sign_of, width_of, value_of, self_value, is_true, is_nonzero}
+use Rattle.wb_values.specs.Value.{Name, Valuation}
+use Rattle.verilog_trees.specs.Syntax.{Expression, CaseKind, Statement, empty, blocking, nonblocking, if_then, if_else, case, block, Statements, no_statements, statement, CaseItems, no_items, arm, default_arm}
+use Rattle.verilog_meaning.specs.Expression.{Scope, sign_of, width_of, value_of, self_value, is_nonzero}
 use Rattle.verilog_meaning.specs.Statement.{Effect, unchanged, items_width, items_signed, any_matches, run, run_all, run_case}
 use Rattle.verilog_meaning.specs.Register.{may_assign, may_assign_in_case, value_bit}
-use Rattle.verilog_meaning.specs.Settled.{IsValueOf, HasRun}
+use Rattle.verilog_meaning.specs.Settled.{IsValueOf}
 use Rattle.verilog_designs.specs.Reads.{BitSet, or_in, reads, items_read, is_full}
 use Rattle.verilog_designs.specs.Dependence.{Bit, Dependences, at_start, NoArm, After, AfterAll, AfterArms}
-use Rattle.verilog_settled.specs.Locality.{IsSame, DifferAt, AllFit, HasNoConstantMemory, StatementIs, StatementsAre, ItemsAre, RunBitIsLocal, BlockBitIsLocal}
+use Rattle.verilog_settled.specs.Locality.{IsSame, DifferAt, StatementIs, StatementsAre, ItemsAre, RunBitIsLocal, BlockBitIsLocal}
 use Rattle.verilog_settled.proofs.Bits.{alike_or_not}
-use Rattle.verilog_settled.proofs.Values.{Alike, alike_values}
+use Rattle.verilog_settled.proofs.Values.{alike_values}
 use Rattle.verilog_settled.proofs.Found.{Found, In, SameOr, found_left, found_right}
 use Rattle.verilog_settled.proofs.Expressions.{value_local}
 use Rattle.verilog_settled.proofs.Fitting.{value_fits}

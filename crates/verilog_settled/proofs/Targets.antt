@@ -5,17 +5,16 @@ use Rattle.wb_values.specs.Value.{Name, Valuation}
 use Rattle.verilog_trees.specs.Syntax.{Target, place, joined, Targets, no_targets, target}
 use Rattle.verilog_meaning.specs.Expression.{Scope, selects_width}
 use Rattle.verilog_meaning.specs.Statement.{Place, named_place, places, all_places, places_width, target_width, targets_width, written}
-use Rattle.verilog_meaning.specs.Register.{is_set, value_bit}
-use Rattle.verilog_meaning.specs.Settled.{IsValueOf}
+use Rattle.verilog_meaning.specs.Register.{value_bit}
 use Rattle.verilog_designs.specs.Reads.{selects_read, surely_reaches, one_surely_reaches}
 use Rattle.verilog_designs.specs.Dependence.{Bit, is_in, takes, one_takes, index_reads, one_index_reads}
 use Rattle.verilog_settled.specs.Locality.{IsSame, HasNoConstantMemory, IndexesAre, AllIndexesAre, WhyWritten, kept, given, indexed, WrittenBitIsLocal}
 use Rattle.verilog_settled.proofs.Bits.{alike_or_not}
 use Rattle.verilog_settled.proofs.Values.{Alike, alike_values}
-use Rattle.verilog_settled.proofs.Found.{Found, In, SameOr, differ_at}
+use Rattle.verilog_settled.proofs.Found.{In, SameOr, differ_at}
 use Rattle.verilog_settled.proofs.Expressions.{AreReadable, readable}
 use Rattle.verilog_settled.proofs.Places.{place_local, place_count}
-use Rattle.verilog_settled.proofs.Written.{AreFit, fit_append, target_fits, targets_fit, Why, stays, takes_bit, by_index, Told, why_so, NotSurely, InFront, IndexInFront, AllNotSurely, AllInFront, AllIndexInFront, part_told}
+use Rattle.verilog_settled.proofs.Written.{AreFit, fit_append, targets_fit, Why, stays, takes_bit, by_index, Told, why_so, NotSurely, InFront, IndexInFront, AllNotSurely, AllInFront, AllIndexInFront, part_told}
 
 -- ---- widths
 

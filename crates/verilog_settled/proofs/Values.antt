@@ -1,16 +1,13 @@
 -- Two values of one object are two numbers, or as many words; two that are read differ at a bit, or what is read of them is the same.
-use Rattle.std.proofs.Common.{◌≡◌, ◌≢◌, ℕ, zero, suc, ◌+◌, ◌-◌, ◌^◌, ◌<◌, ◌≤◌, Bool, true, false, not, ◌&&◌, ◌⊎◌, inl, inr, sym, refl, ap, ◌∙◌, subst, List, [], ◌∷◌, length, slice_index, Option, Some, None, ℤ, pos, negsuc, int_le, int_lt, ◌+ℤ◌, IsTrue, arith, pow_pos, mod-lt, le_antisymm}
-use Rattle.std.specs.Prelude.{nat_lt, ◌==◌}
-use Rattle.std.specs.Int.{bit_at}
-use Rattle.std.proofs.lemmas.Bool.{cases_lt, false≢true}
+use Rattle.std.proofs.Common.{◌≡◌, ◌≢◌, ℕ, ◌+◌, ◌-◌, ◌^◌, ◌<◌, ◌≤◌, Bool, true, false, not, ◌&&◌, ◌⊎◌, inl, inr, sym, refl, ap, ◌∙◌, subst, List, length, slice_index, ℤ, pos, negsuc, int_le, int_lt, ◌+ℤ◌, IsTrue, arith, pow_pos, mod-lt, le_antisymm}
+use Rattle.std.specs.Prelude.{◌==◌}
+use Rattle.std.proofs.lemmas.Bool.{cases_lt}
 use Rattle.std.proofs.lemmas.Bool.Decides.{nat_tests}
 use Rattle.std.proofs.lemmas.Int.{ints}
-use Rattle.wb_values.specs.Value.{Name, Value, truth_value, number as a_number, words, as_number, as_words, Valuation}
-use Rattle.verilog_meaning.specs.Expression.{Object, Scope, object_width, is_memory, Bits, bits_from, bits_taken}
+use Rattle.wb_values.specs.Value.{Value, truth_value, number as a_number, words, as_number, as_words}
+use Rattle.verilog_meaning.specs.Expression.{Object, object_width, is_memory, Bits, bits_from, bits_taken}
 use Rattle.verilog_meaning.specs.Register.{is_set, is_within, value_bit, word_count}
 use Rattle.verilog_meaning.specs.Settled.{IsAddressWidth, AreWords, IsValueOf}
-use Rattle.verilog_designs.specs.Dependence.{Bit}
-use Rattle.verilog_settled.specs.Locality.{IsSame}
 use Rattle.verilog_settled.proofs.Bits.{DifferBelow, one_or_differ, set_from_bit, bit_of_part, bit_before_part, bit_within_part, unset_past}
 
 -- ---- values of one object

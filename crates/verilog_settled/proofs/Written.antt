@@ -1,13 +1,13 @@
 -- A bit after numbers were written to a target: it is the same under two valuations, or one of the definition's causes is found.
-use Rattle.std.proofs.Common.{◌≡◌, ◌≢◌, ℕ, ◌+◌, ◌-◌, ◌/◌, ◌%◌, ◌^◌, ◌<◌, ◌≤◌, Bool, true, false, cond, not, ◌&&◌, ◌||◌, nat_lt, ◌⊎◌, inl, inr, refl, sym, ap, ◌∙◌, subst, List, [], ◌∷◌, ◌++◌, append-nil, append_assoc, ℤ, pos, ◌-ℤ◌, IsTrue, arith, lt-ltb, le-ltb}
-use Rattle.std.proofs.lemmas.Bool.{cases_lt, cases_Bool, and_parts, and_from, and_left, or_left, or_right, or_from, not_from_false, not-true, cond-true, cond-false, false≢true}
+use Rattle.std.proofs.Common.{◌≡◌, ◌≢◌, ℕ, ◌+◌, ◌-◌, ◌/◌, ◌%◌, ◌^◌, ◌<◌, ◌≤◌, Bool, true, false, cond, not, ◌&&◌, nat_lt, ◌⊎◌, inl, inr, refl, sym, ap, ◌∙◌, subst, List, [], ◌∷◌, ◌++◌, pos, ◌-ℤ◌, IsTrue, arith}
+use Rattle.std.proofs.lemmas.Bool.{cases_lt, cases_Bool, and_from, cond-true, cond-false, false≢true}
 use Rattle.std.proofs.lemmas.Slice.Eq.{bytes_eq-Decides}
-use Rattle.wb_values.specs.Value.{Name, same_name, Value, Valuation, with_value}
+use Rattle.wb_values.specs.Value.{Name, same_name, Value, Valuation}
 use Rattle.verilog_trees.specs.Syntax.{Selects, Target, place, joined, Targets, no_targets, target}
 use Rattle.verilog_meaning.specs.Expression.{Scope, object_width, no_values, selects_width}
 use Rattle.verilog_meaning.specs.Statement.{Place, named_place, places, all_places, places_width, target_width, targets_width, written_cell, written_place, written}
 use Rattle.verilog_meaning.specs.Register.{selects_are_constant, may_mean, may_reach, is_set, value_bit}
-use Rattle.verilog_designs.specs.Reads.{BitSet, selects_read, surely_reaches, one_surely_reaches}
+use Rattle.verilog_designs.specs.Reads.{selects_read, surely_reaches, one_surely_reaches}
 use Rattle.verilog_designs.specs.Dependence.{Bit, is_in, is_same_cell, natural_in, part_takes, takes, one_takes, index_reads, one_index_reads}
 use Rattle.verilog_settled.specs.Locality.{IsSame, HasNoConstantMemory}
 use Rattle.verilog_settled.proofs.Bits.{alike_or_not, offset, set_from_bit, bit_of_shifted, bit_of_cut, bit_past_cut}
@@ -186,7 +186,8 @@ never_covers s v p n x k b e = by_cases (cases_Bool (covers (named_place s v n x
     by_cases (inr h) = h
 
 one_part_written : (s : Scope) (v w : Valuation) (HasValue : Name → Type 0) → HasNoConstantMemory s
-    → (x : Selects) (u : Bit) → SameOr (named_place s v u.of_name x) (named_place s w u.of_name x) v w HasValue (selects_read s x) → Alike (s u.of_name) (v u.of_name) (w u.of_name) → u.place < object_width (s u.of_name)
+    → (x : Selects) (u : Bit) → SameOr (named_place s v u.of_name x) (named_place s w u.of_name x) v w HasValue (selects_read s x)
+    → Alike (s u.of_name) (v u.of_name) (w u.of_name) → u.place < object_width (s u.of_name)
     → (c d : Valuation) (a b : ℕ) → Alike (s u.of_name) (v u.of_name) (c u.of_name) → Alike (s u.of_name) (w u.of_name) (d u.of_name)
     → Alike (s u.of_name) (v u.of_name) (written_place s c (named_place s v u.of_name x) a u.of_name)
     → Alike (s u.of_name) (w u.of_name) (written_place s d (named_place s w u.of_name x) b u.of_name)
@@ -310,7 +311,8 @@ rest_told s v w HasValue u ps qs Kept Takes Index e told a b ka kb = cut (told (
 
 -- the part's name is the bit's
 part_at_name : (s : Scope) (v w : Valuation) (HasValue : Name → Type 0) → HasNoConstantMemory s
-    → (x : Selects) (u : Bit) → SameOr (named_place s v u.of_name x) (named_place s w u.of_name x) v w HasValue (selects_read s x) → Alike (s u.of_name) (v u.of_name) (w u.of_name)
+    → (x : Selects) (u : Bit) → SameOr (named_place s v u.of_name x) (named_place s w u.of_name x) v w HasValue (selects_read s x)
+    → Alike (s u.of_name) (v u.of_name) (w u.of_name)
     → (ps qs : List Place) → places_width qs ≡ places_width ps → AreFit s ps → AreFit s qs
     → (Kept : Type 0) (Takes : ℕ → Type 0) (Index : Bit → Type 0) → Told s v w HasValue u ps qs Kept Takes Index
     → Told s v w HasValue u (named_place s v u.of_name x ∷ ps) (named_place s w u.of_name x ∷ qs) (NotSurely s (place u.of_name x) u × Kept)
@@ -345,7 +347,8 @@ part_at_name s v w HasValue p x u l al ps qs e fp fq Kept Takes Index told a b k
 
 -- a part of any name
 pub part_told : (s : Scope) (v w : Valuation) (HasValue : Name → Type 0) → HasNoConstantMemory s
-    → (n : Name) (x : Selects) (u : Bit) → SameOr (named_place s v n x) (named_place s w n x) v w HasValue (selects_read s x) → Alike (s u.of_name) (v u.of_name) (w u.of_name)
+    → (n : Name) (x : Selects) (u : Bit) → SameOr (named_place s v n x) (named_place s w n x) v w HasValue (selects_read s x)
+    → Alike (s u.of_name) (v u.of_name) (w u.of_name)
     → (ps qs : List Place) → places_width qs ≡ places_width ps → AreFit s ps → AreFit s qs
     → (Kept : Type 0) (Takes : ℕ → Type 0) (Index : Bit → Type 0) → Told s v w HasValue u ps qs Kept Takes Index
     → Told s v w HasValue u (named_place s v n x ∷ ps) (named_place s w n x ∷ qs) (NotSurely s (place n x) u × Kept)
@@ -358,7 +361,8 @@ part_told s v w HasValue p n x u l al ps qs e fp fq Kept Takes Index told = by_n
     by_name (inl h) =
         subst (λ m. Told s v w HasValue u (named_place s v m x ∷ ps) (named_place s w m x ∷ qs) (NotSurely s (place m x) u × Kept)
         (InFront s (place m x) u (places_width ps) Takes) (IndexInFront s (place m x) u Index)) (sym (same_from n u.of_name h))
-        (part_at_name s v w HasValue p x u (subst (λ m. SameOr (named_place s v m x) (named_place s w m x) v w HasValue (selects_read s x)) (same_from n u.of_name h) l) al ps qs e fp fq Kept Takes Index told)
+        (part_at_name s v w HasValue p x u
+        (subst (λ m. SameOr (named_place s v m x) (named_place s w m x) v w HasValue (selects_read s x)) (same_from n u.of_name h) l) al ps qs e fp fq Kept Takes Index told)
     by_name (inr h) = λ a b ka kb.
         let ev : written s v (named_place s v n x ∷ ps) a u.of_name ≡ Before s v ps a u.of_name =
         off_name s (Before s v ps a) (named_place s v n x) (a / 2 ^ places_width ps) u.of_name
