@@ -37,10 +37,11 @@ in_word n k (suc w) b l =
 in_name : (n : Name) (count w k b : ℕ) → k < count → b < w → IsAmong (name_bits n count w) (bit n k b)
 in_name n zero w k b l h = absurd (omega (arith, l))
 in_name n (suc count) w k b l h =
-    elim (below_or_same k count l) as (λ _. IsAmong (name_bits n (suc count) w) (bit n k b))
-    [ inl e ↦ among_left (word_bits n count w) (name_bits n count w) (bit n k b)
-    (subst (λ j. IsAmong (word_bits n j w) (bit n k b)) (sym e) (in_word n k w b h))
-    | inr m ↦ among_right (word_bits n count w) (name_bits n count w) (bit n k b) (in_name n count w k b m h) ]
+    elim (below_or_same k count l) as (λ _. IsAmong (name_bits n (suc count) w) (bit n k b)) [
+      | inl e ↦ among_left (word_bits n count w) (name_bits n count w) (bit n k b)
+          (subst (λ j. IsAmong (word_bits n j w) (bit n k b)) (sym e) (in_word n k w b h))
+      | inr m ↦ among_right (word_bits n count w) (name_bits n count w) (bit n k b) (in_name n count w k b m h)
+    ]
 
 abbrev object_bits : Scope → Name → List Bit
 object_bits s n = name_bits n (word_count (s n)) (object_width (s n))
@@ -100,6 +101,7 @@ in_all d (path ∷ paths) p u (inr h) at declared t =
 -- A list that has each bit of each declared name of each module of the design.
 pub bits_are_finite : BitsAreFinite
 bits_are_finite d good =
-    let paths = paths_are_finite d good in
-    (all_bits d paths.0,
-    λ p u at declared t. contains_among (all_bits d paths.0) (bit_of p u) (in_all d paths.0 p u (paths.1 p.path p at) at declared t))
+    let paths = paths_are_finite d good in (
+      all_bits d paths.0,
+      λ p u at declared t. contains_among (all_bits d paths.0) (bit_of p u) (in_all d paths.0 p u (paths.1 p.path p at) at declared t),
+    )

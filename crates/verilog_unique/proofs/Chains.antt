@@ -21,9 +21,9 @@ short d (u ∷ y ∷ rest) bits loopless h within =
     let here : IsAmong bits u = within u (inl refl) in
     let fewer : suc (length (without bits u here)) ≡ length bits = length_without bits u here in
     let rest_short : length (y ∷ rest) ≤ length (without bits u here) =
-      short d (y ∷ rest) (without bits u here) loopless h.1
-      (λ z k. kept bits u here z (within z (inr k))
-      (λ e. loopless (record { bit = u; loops = subst (DependsFar d u) (sym e) (far d u y rest h z k) }))) in
+    short d (y ∷ rest) (without bits u here) loopless h.1
+    (λ z k. kept bits u here z (within z (inr k))
+    (λ e. loopless (record { bit = u; loops = subst (DependsFar d u) (sym e) (far d u y rest h z k) }))) in
     omega (arith, fewer, rest_short)
 
 pub chains_are_short : ChainsAreShort

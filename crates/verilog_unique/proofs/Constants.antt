@@ -149,15 +149,17 @@ in_assignments source (parameter d ∷ items) a h n k =
     among_right (constant_names_in_item source (parameter d)) (constant_names_in_module_items source items) n (in_assignments source items a h n k)
 in_assignments source (wires signed r ws ∷ items) a h n k =
     elim (among_either (wire_assignments ws) (assignments items) a h)
-    as (λ _. IsAmong (constant_names_in_module_items source (wires signed r ws ∷ items)) n)
-    [ inl g ↦ absurd (wire_indexes ws a g n k)
-    | inr g ↦ among_right (constant_names_in_item source (wires signed r ws)) (constant_names_in_module_items source items) n (in_assignments source items a g n k) ]
+    as (λ _. IsAmong (constant_names_in_module_items source (wires signed r ws ∷ items)) n) [
+      | inl g ↦ absurd (wire_indexes ws a g n k)
+      | inr g ↦ among_right (constant_names_in_item source (wires signed r ws)) (constant_names_in_module_items source items) n (in_assignments source items a g n k)
+    ]
 in_assignments source (variables signed r vs ∷ items) a h n k =
     among_right (constant_names_in_item source (variables signed r vs)) (constant_names_in_module_items source items) n (in_assignments source items a h n k)
 in_assignments source (assign ts ∷ items) a h n k =
-    elim (among_either ts (assignments items) a h) as (λ _. IsAmong (constant_names_in_module_items source (assign ts ∷ items)) n)
-    [ inl g ↦ among_left (constant_names_in_item source (assign ts)) (constant_names_in_module_items source items) n (assigned ts a g n k)
-    | inr g ↦ among_right (constant_names_in_item source (assign ts)) (constant_names_in_module_items source items) n (in_assignments source items a g n k) ]
+    elim (among_either ts (assignments items) a h) as (λ _. IsAmong (constant_names_in_module_items source (assign ts ∷ items)) n) [
+      | inl g ↦ among_left (constant_names_in_item source (assign ts)) (constant_names_in_module_items source items) n (assigned ts a g n k)
+      | inr g ↦ among_right (constant_names_in_item source (assign ts)) (constant_names_in_module_items source items) n (in_assignments source items a g n k)
+    ]
 in_assignments source (always es x ∷ items) a h n k =
     among_right (constant_names_in_item source (always es x)) (constant_names_in_module_items source items) n (in_assignments source items a h n k)
 in_assignments source (instances m given is ∷ items) a h n k =
@@ -219,10 +221,11 @@ is_known d (u ∷ around) p e =
     let s : StepsTo d u around p = step_of d u around p e in
     let f = is_known d around s.outer s.is_outer in
     let g = known_of_instance d.source (u ∷ s.outer.path) (u ∷ f.0.path) (placed_scope s.outer) (known_scope f.0) s.instance p s.is_placed in
-    let reached : instance_reached f.0.of_module.items u ≡ Some s.instance = subst (λ (m : Module). instance_reached m.items u ≡ Some s.instance) (sym f.2) s.is_reached in
-    (g.0,
-    ap (option_and_then (known_below d.source u)) f.1 ∙ ap (option_and_then (known_instance d.source (u ∷ f.0.path) (known_scope f.0))) reached ∙ g.1,
-    g.2)
+    let reached : instance_reached f.0.of_module.items u ≡ Some s.instance = subst (λ (m : Module). instance_reached m.items u ≡ Some s.instance) (sym f.2) s.is_reached in (
+      g.0,
+      ap (option_and_then (known_below d.source u)) f.1 ∙ ap (option_and_then (known_instance d.source (u ∷ f.0.path) (known_scope f.0))) reached ∙ g.1,
+      g.2,
+    )
 
 -- ---- a name that must be constant is that of a parameter
 

@@ -46,9 +46,11 @@ mutual
   leaves K (comparison op x y) f h = (leaves K x (left K (names_in x) (names_in y) f) h.0, leaves K y (right K (names_in x) (names_in y) f) h.1)
   leaves K (logical op x y) f h = (leaves K x (left K (names_in x) (names_in y) f) h.0, leaves K y (right K (names_in x) (names_in y) f) h.1)
   leaves K (conditional c x y) f h =
-      let g = left K (names_in c ++ names_in x) (names_in y) f in
-      (leaves K c (left K (names_in c) (names_in x) g) h.0, leaves K x (right K (names_in c) (names_in x) g) h.1,
-      leaves K y (right K (names_in c ++ names_in x) (names_in y) f) h.2)
+      let g = left K (names_in c ++ names_in x) (names_in y) f in (
+        leaves K c (left K (names_in c) (names_in x) g) h.0,
+        leaves K x (right K (names_in c) (names_in x) g) h.1,
+        leaves K y (right K (names_in c ++ names_in x) (names_in y) f) h.2,
+      )
 
   all_leaves : (K : Name → Type 0) (es : Expressions) → Known K (names_in_all es) → AllLeavesAre AnyName es → AllLeavesAre K es
   all_leaves K no_expressions f h = h
@@ -87,25 +89,30 @@ mutual
   statements K (if_then c x) f h =
       (leaves K c (left K (names_in c) (names_in_statement x) f) h.0, statements K x (right K (names_in c) (names_in_statement x) f) h.1)
   statements K (if_else c x y) f h =
-      let g = left K (names_in c ++ names_in_statement x) (names_in_statement y) f in
-      (leaves K c (left K (names_in c) (names_in_statement x) g) h.0, statements K x (right K (names_in c) (names_in_statement x) g) h.1,
-      statements K y (right K (names_in c ++ names_in_statement x) (names_in_statement y) f) h.2)
+      let g = left K (names_in c ++ names_in_statement x) (names_in_statement y) f in (
+        leaves K c (left K (names_in c) (names_in_statement x) g) h.0,
+        statements K x (right K (names_in c) (names_in_statement x) g) h.1,
+        statements K y (right K (names_in c ++ names_in_statement x) (names_in_statement y) f) h.2,
+      )
   statements K (case kind e items) f h =
       (leaves K e (left K (names_in e) (names_in_items items) f) h.0, arms K items (right K (names_in e) (names_in_items items) f) h.1)
   statements K (block n xs) f h = all_statements K xs f h
 
   all_statements : (K : Name → Type 0) (xs : Statements) → Known K (names_in_statements xs) → StatementsAre AnyName xs → StatementsAre K xs
   all_statements K no_statements f h = h
-  all_statements K (statement x xs) f h =
-      (statements K x (left K (names_in_statement x) (names_in_statements xs) f) h.0,
-      all_statements K xs (right K (names_in_statement x) (names_in_statements xs) f) h.1)
+  all_statements K (statement x xs) f h = (
+    statements K x (left K (names_in_statement x) (names_in_statements xs) f) h.0,
+    all_statements K xs (right K (names_in_statement x) (names_in_statements xs) f) h.1,
+  )
 
   arms : (K : Name → Type 0) (items : CaseItems) → Known K (names_in_items items) → ItemsAre AnyName items → ItemsAre K items
   arms K no_items f h = h
   arms K (arm es x items) f h =
-      let g = left K (names_in_all es ++ names_in_statement x) (names_in_items items) f in
-      (all_leaves K es (left K (names_in_all es) (names_in_statement x) g) h.0, statements K x (right K (names_in_all es) (names_in_statement x) g) h.1,
-      arms K items (right K (names_in_all es ++ names_in_statement x) (names_in_items items) f) h.2)
+      let g = left K (names_in_all es ++ names_in_statement x) (names_in_items items) f in (
+        all_leaves K es (left K (names_in_all es) (names_in_statement x) g) h.0,
+        statements K x (right K (names_in_all es) (names_in_statement x) g) h.1,
+        arms K items (right K (names_in_all es ++ names_in_statement x) (names_in_items items) f) h.2,
+      )
   arms K (default_arm x items) f h =
       (statements K x (left K (names_in_statement x) (names_in_items items) f) h.0, arms K items (right K (names_in_statement x) (names_in_items items) f) h.1)
 

@@ -50,10 +50,11 @@ each_of : (is : List (Name × Connections)) (c : Connection) → IsAmong (connec
 each_of [] c h = absurd h
 each_of (i ∷ is) c h =
     elim (among_either (instance_connections i.0 i.1) (connections_of_each is) c h)
-    as (λ _. (cs : Connections) × IsAmong (i ∷ is) (c.of_instance, cs) × IsAmong (instance_connections c.of_instance cs) c)
-    [ inl k ↦ let e : i.0 ≡ c.of_instance = instance_of i.0 i.1 c k in
-    (i.1, inl (ap (λ u. (u, i.1)) e), subst (λ u. IsAmong (instance_connections u i.1) c) e k)
-    | inr k ↦ let f = each_of is c k in (f.0, inr f.1, f.2) ]
+    as (λ _. (cs : Connections) × IsAmong (i ∷ is) (c.of_instance, cs) × IsAmong (instance_connections c.of_instance cs) c) [
+      | inl k ↦ let e : i.0 ≡ c.of_instance = instance_of i.0 i.1 c k in
+          (i.1, inl (ap (λ u. (u, i.1)) e), subst (λ u. IsAmong (instance_connections u i.1) c) e k)
+      | inr k ↦ let f = each_of is c k in (f.0, inr f.1, f.2)
+    ]
 
 further : (x : Item) (items : List Item) (c : Connection) → Belongs items c → Belongs (x ∷ items) c
 further x items c h =
@@ -68,10 +69,11 @@ belongs (variables signed r vs ∷ items) c h = further (variables signed r vs) 
 belongs (assign ts ∷ items) c h = further (assign ts) items c (belongs items c h)
 belongs (always es x ∷ items) c h = further (always es x) items c (belongs items c h)
 belongs (instances m given is ∷ items) c h =
-    elim (among_either (connections_of_each is) (port_connections items) c h) as (λ _. Belongs (instances m given is ∷ items) c)
-    [ inl k ↦ let f = each_of is c k in
-    record { of_module = m; given = given; each = is; connections = f.0; is_item = inl refl; is_instance = f.1; is_one = f.2 }
-    | inr k ↦ further (instances m given is) items c (belongs items c k) ]
+    elim (among_either (connections_of_each is) (port_connections items) c h) as (λ _. Belongs (instances m given is ∷ items) c) [
+      | inl k ↦ let f = each_of is c k in
+          record { of_module = m; given = given; each = is; connections = f.0; is_item = inl refl; is_instance = f.1; is_one = f.2 }
+      | inr k ↦ further (instances m given is) items c (belongs items c k)
+    ]
 
 -- ---- counts
 
@@ -228,15 +230,15 @@ instance_once m u e h =
     let all : List Name = names_where (λ d. true) (declarations m) in
     let parameters : List Name = parameter_names (all_parameters m) in
     let is_true : is_once m u ≡ true =
-      not_is_false (is_once m u)
-      (any_false (λ n. not (is_once m n)) (declared_names m) u (first_false (list_any (λ n. not (is_once m n)) (declared_names m)) (has_repeated (port_order m)) e)
-      (among_right (all ++ parameters) (all_instance_names m.items) u h)) in
+    not_is_false (is_once m u)
+    (any_false (λ n. not (is_once m n)) (declared_names m) u (first_false (list_any (λ n. not (is_once m n)) (declared_names m)) (has_repeated (port_order m)) e)
+    (among_right (all ++ parameters) (all_instance_names m.items) u h)) in
     let sum : count_of u (declared_names m) ≡ count_of u all + (count_of u parameters + count_of u (all_instance_names m.items)) =
-      three u all parameters (all_instance_names m.items) in
+    three u all parameters (all_instance_names m.items) in
     let some : count_of u parameters + count_of u (all_instance_names m.items) ≤ 1 =
-      once (count_of u parameters + count_of u (all_instance_names m.items)) (count_of u (names_where is_bare_port (declarations m))) (count_of u (names_where is_net_alone (declarations m)))
-      (count_of u all) (port_and_net u (declarations m)) (subst (λ k. IsTrue (nat_le k 1 || ((k == 2)
-      && (count_of u (names_where is_bare_port (declarations m)) == 1 && count_of u (names_where is_net_alone (declarations m)) == 1)))) sum is_true) in
+    once (count_of u parameters + count_of u (all_instance_names m.items)) (count_of u (names_where is_bare_port (declarations m))) (count_of u (names_where is_net_alone (declarations m)))
+    (count_of u all) (port_and_net u (declarations m)) (subst (λ k. IsTrue (nat_le k 1 || ((k == 2)
+    && (count_of u (names_where is_bare_port (declarations m)) == 1 && count_of u (names_where is_net_alone (declarations m)) == 1)))) sum is_true) in
     omega (arith, some)
 
 -- The instance that has the name of a connection is of the module of the item where the connection stands.

@@ -91,11 +91,11 @@ output_constants d accepted p at c stands below m t connected is_target n h =
     let s : StepsTo d (instance_step c.of_instance) p.path below = step_of d (instance_step c.of_instance) p.path below connected.is_below in
     let outer : p ≡ s.outer = some_same (sym at ∙ s.is_outer) in
     let reached : instance_named p.of_module.items c.of_instance ≡ Some s.instance =
-      subst (λ (q : Placed). instance_named q.of_module.items c.of_instance ≡ Some s.instance) (sym outer) s.is_reached in
+    subst (λ (q : Placed). instance_named q.of_module.items c.of_instance ≡ Some s.instance) (sym outer) s.is_reached in
     let name : s.instance.of_module ≡ b.of_module = one_module p.of_module c s.instance (no_duplicate d accepted p at) b reached in
     let is_below : module_named d.source b.of_module ≡ Some below.of_module =
-      subst (λ k. module_named d.source k ≡ Some below.of_module) name
-      (module_of_instance d.source (instance_step c.of_instance ∷ s.outer.path) (placed_scope s.outer) s.instance below s.is_placed) in
+    subst (λ k. module_named d.source k ≡ Some below.of_module) name
+    (module_of_instance d.source (instance_step c.of_instance ∷ s.outer.path) (placed_scope s.outer) s.instance below s.is_placed) in
     in_item d.source p.of_module.items (instances b.of_module b.given b.each) b.is_item n
     (among_right (names_in_connections b.given) (constant_names_in_instances (module_named d.source b.of_module) b.each) n
     (subst (λ x. IsAmong (constant_names_in_instances x b.each) n) (sym is_below)
@@ -114,8 +114,7 @@ output_constants d accepted p at c stands below m t connected is_target n h =
 -- ---- all drivers
 
 module _ (law : SettledValueFitsItsWidth) (assigned_bit : AssignedBitIsLocal) (block_bit : BlockBitIsLocal) (d : Design) (accepted : IsAccepted d) (fit : NumbersFit d.source)
-  (registers inputs v w : Valuation) (v_settled : IsSettled d registers inputs v) (w_settled : IsSettled d registers inputs w) where
-
+    (registers inputs v w : Valuation) (v_settled : IsSettled d registers inputs v) (w_settled : IsSettled d registers inputs w) where
   value_of_bit : (x : Valuation) → IsSettled d registers inputs x → (p : Placed) (u : Bit) → IsPlacedIn d p → IsBitDeclared p u
       → IsValueOf (placed_scope p u.of_name) (inside x p u.of_name)
   value_of_bit x settled p u at declared = (settled.modules p at).fits u.of_name declared.is_declared

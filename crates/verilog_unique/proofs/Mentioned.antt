@@ -57,15 +57,17 @@ assignment_used [] a h = absurd h
 assignment_used (port d ∷ items) a h = later (port d) items (names_in a.1) (assignment_used items a h)
 assignment_used (parameter d ∷ items) a h = later (parameter d) items (names_in a.1) (assignment_used items a h)
 assignment_used (wires signed r ws ∷ items) a h =
-    elim (among_either (wire_assignments ws) (assignments items) a h) as (λ _. AreUsed (all_item_mentions (wires signed r ws ∷ items)) (names_in a.1))
-    [ inl k ↦ first (wires signed r ws) items (names_in a.1) (names_in_range r ++ names_in_named ws) refl
-    (λ n g. among_right (names_in_range r) (names_in_named ws) n (wire_names ws a k n g))
-    | inr k ↦ later (wires signed r ws) items (names_in a.1) (assignment_used items a k) ]
+    elim (among_either (wire_assignments ws) (assignments items) a h) as (λ _. AreUsed (all_item_mentions (wires signed r ws ∷ items)) (names_in a.1)) [
+      | inl k ↦ first (wires signed r ws) items (names_in a.1) (names_in_range r ++ names_in_named ws) refl
+          (λ n g. among_right (names_in_range r) (names_in_named ws) n (wire_names ws a k n g))
+      | inr k ↦ later (wires signed r ws) items (names_in a.1) (assignment_used items a k)
+    ]
 assignment_used (variables signed r vs ∷ items) a h = later (variables signed r vs) items (names_in a.1) (assignment_used items a h)
 assignment_used (assign ts ∷ items) a h =
-    elim (among_either ts (assignments items) a h) as (λ _. AreUsed (all_item_mentions (assign ts ∷ items)) (names_in a.1))
-    [ inl k ↦ first (assign ts) items (names_in a.1) (names_in_assignments ts) refl (assigned_names ts a k)
-    | inr k ↦ later (assign ts) items (names_in a.1) (assignment_used items a k) ]
+    elim (among_either ts (assignments items) a h) as (λ _. AreUsed (all_item_mentions (assign ts ∷ items)) (names_in a.1)) [
+      | inl k ↦ first (assign ts) items (names_in a.1) (names_in_assignments ts) refl (assigned_names ts a k)
+      | inr k ↦ later (assign ts) items (names_in a.1) (assignment_used items a k)
+    ]
 assignment_used (always es x ∷ items) a h = later (always es x) items (names_in a.1) (assignment_used items a h)
 assignment_used (instances m given is ∷ items) a h = later (instances m given is) items (names_in a.1) (assignment_used items a h)
 
@@ -79,9 +81,10 @@ mutual
   all_indexes_in : (ts : Targets) (n : Name) → IsAmong (index_names_in_all ts) n → IsAmong (names_in_targets ts) n
   all_indexes_in no_targets n h = h
   all_indexes_in (target t ts) n h =
-      elim (among_either (index_names t) (index_names_in_all ts) n h) as (λ _. IsAmong (names_in_target t ++ names_in_targets ts) n)
-      [ inl k ↦ among_left (names_in_target t) (names_in_targets ts) n (indexes_in t n k)
-      | inr k ↦ among_right (names_in_target t) (names_in_targets ts) n (all_indexes_in ts n k) ]
+      elim (among_either (index_names t) (index_names_in_all ts) n h) as (λ _. IsAmong (names_in_target t ++ names_in_targets ts) n) [
+        | inl k ↦ among_left (names_in_target t) (names_in_targets ts) n (indexes_in t n k)
+        | inr k ↦ among_right (names_in_target t) (names_in_targets ts) n (all_indexes_in ts n k)
+      ]
 
 pub wire_indexes : (ws : List (Name × Option Expression)) (a : Target × Expression) → IsAmong (wire_assignments ws) a → (n : Name) → IsAmong (index_names a.0) n → ⊥
 wire_indexes [] a h n k = h
@@ -111,9 +114,10 @@ indexes_used (wires signed r ws ∷ items) a h =
     [ inl k ↦ λ n g. absurd (wire_indexes ws a k n g) | inr k ↦ later (wires signed r ws) items (index_names a.0) (indexes_used items a k) ]
 indexes_used (variables signed r vs ∷ items) a h = later (variables signed r vs) items (index_names a.0) (indexes_used items a h)
 indexes_used (assign ts ∷ items) a h =
-    elim (among_either ts (assignments items) a h) as (λ _. AreUsed (all_item_mentions (assign ts ∷ items)) (index_names a.0))
-    [ inl k ↦ first (assign ts) items (index_names a.0) (names_in_assignments ts) refl (target_names ts a k)
-    | inr k ↦ later (assign ts) items (index_names a.0) (indexes_used items a k) ]
+    elim (among_either ts (assignments items) a h) as (λ _. AreUsed (all_item_mentions (assign ts ∷ items)) (index_names a.0)) [
+      | inl k ↦ first (assign ts) items (index_names a.0) (names_in_assignments ts) refl (target_names ts a k)
+      | inr k ↦ later (assign ts) items (index_names a.0) (indexes_used items a k)
+    ]
 indexes_used (always es x ∷ items) a h = later (always es x) items (index_names a.0) (indexes_used items a h)
 indexes_used (instances m given is ∷ items) a h = later (instances m given is) items (index_names a.0) (indexes_used items a h)
 
@@ -151,17 +155,19 @@ if_any u q (Some e) c (inr f) n k = absurd f
 named : (u : Name) (cs : List (Name × Option Expression)) (c : Connection) → IsAmong (named_connections u cs) c → Gives c (names_in_named cs)
 named u [] c h n k = absurd h
 named u (x ∷ cs) c h n k =
-    elim (among_either (connection_if_any u (port_named x.0) x.1) (named_connections u cs) c h) as (λ _. IsAmong (names_in_optional x.1 ++ names_in_named cs) n)
-    [ inl g ↦ among_left (names_in_optional x.1) (names_in_named cs) n (if_any u (port_named x.0) x.1 c g n k)
-    | inr g ↦ among_right (names_in_optional x.1) (names_in_named cs) n (named u cs c g n k) ]
+    elim (among_either (connection_if_any u (port_named x.0) x.1) (named_connections u cs) c h) as (λ _. IsAmong (names_in_optional x.1 ++ names_in_named cs) n) [
+      | inl g ↦ among_left (names_in_optional x.1) (names_in_named cs) n (if_any u (port_named x.0) x.1 c g n k)
+      | inr g ↦ among_right (names_in_optional x.1) (names_in_named cs) n (named u cs c g n k)
+    ]
 
 ordered : (u : Name) (i : ℕ) (es : List (Option Expression)) (c : Connection) → IsAmong (ordered_connections u i es) c → Gives c (names_in_ordered es)
 ordered u i [] c h n k = absurd h
 ordered u i (x ∷ es) c h n k =
     elim (among_either (connection_if_any u (port_numbered i) x) (ordered_connections u (suc i) es) c h)
-    as (λ _. IsAmong (names_in_optional x ++ names_in_ordered es) n)
-    [ inl g ↦ among_left (names_in_optional x) (names_in_ordered es) n (if_any u (port_numbered i) x c g n k)
-    | inr g ↦ among_right (names_in_optional x) (names_in_ordered es) n (ordered u (suc i) es c g n k) ]
+    as (λ _. IsAmong (names_in_optional x ++ names_in_ordered es) n) [
+      | inl g ↦ among_left (names_in_optional x) (names_in_ordered es) n (if_any u (port_numbered i) x c g n k)
+      | inr g ↦ among_right (names_in_optional x) (names_in_ordered es) n (ordered u (suc i) es c g n k)
+    ]
 
 of_instance : (u : Name) (cs : Connections) (c : Connection) → IsAmong (instance_connections u cs) c → Gives c (names_in_connections cs)
 of_instance u (by_name cs) c h = named u cs c h
@@ -170,9 +176,10 @@ of_instance u (by_order es) c h = ordered u 0 es c h
 of_each : (is : List (Name × Connections)) (c : Connection) → IsAmong (connections_of_each is) c → Gives c (names_in_instances is)
 of_each [] c h n k = absurd h
 of_each (i ∷ is) c h n k =
-    elim (among_either (instance_connections i.0 i.1) (connections_of_each is) c h) as (λ _. IsAmong (names_in_connections i.1 ++ names_in_instances is) n)
-    [ inl g ↦ among_left (names_in_connections i.1) (names_in_instances is) n (of_instance i.0 i.1 c g n k)
-    | inr g ↦ among_right (names_in_connections i.1) (names_in_instances is) n (of_each is c g n k) ]
+    elim (among_either (instance_connections i.0 i.1) (connections_of_each is) c h) as (λ _. IsAmong (names_in_connections i.1 ++ names_in_instances is) n) [
+      | inl g ↦ among_left (names_in_connections i.1) (names_in_instances is) n (of_instance i.0 i.1 c g n k)
+      | inr g ↦ among_right (names_in_connections i.1) (names_in_instances is) n (of_each is c g n k)
+    ]
 
 pub connection_used : (items : List Item) (c : Connection) → IsAmong (port_connections items) c → AreUsed (all_item_mentions items) (names_in c.expression)
 connection_used [] c h = absurd h
@@ -184,7 +191,8 @@ connection_used (assign ts ∷ items) c h = later (assign ts) items (names_in c.
 connection_used (always es x ∷ items) c h = later (always es x) items (names_in c.expression) (connection_used items c h)
 connection_used (instances m given is ∷ items) c h =
     elim (among_either (connections_of_each is) (port_connections items) c h)
-    as (λ _. AreUsed (all_item_mentions (instances m given is ∷ items)) (names_in c.expression))
-    [ inl k ↦ first (instances m given is) items (names_in c.expression) (names_in_connections given ++ names_in_instances is) refl
-    (λ n g. among_right (names_in_connections given) (names_in_instances is) n (of_each is c k n g))
-    | inr k ↦ later (instances m given is) items (names_in c.expression) (connection_used items c k) ]
+    as (λ _. AreUsed (all_item_mentions (instances m given is ∷ items)) (names_in c.expression)) [
+      | inl k ↦ first (instances m given is) items (names_in c.expression) (names_in_connections given ++ names_in_instances is) refl
+          (λ n g. among_right (names_in_connections given) (names_in_instances is) n (of_each is c k n g))
+      | inr k ↦ later (instances m given is) items (names_in c.expression) (connection_used items c k)
+    ]

@@ -96,7 +96,7 @@ values_grow d given (v ∷ vs) known g h =
       numbers = rest.numbers;
       kept = λ n f. rest.kept n (entry_kept known ((v.0, o) ∷ []) n f);
       new = λ n f. elim (either_true (same_name v.0 n) (is_among (value_names vs) n) f) as (λ _. HasEntry (with_values d given vs (known ++ (v.0, o) ∷ [])) n)
-      [ inl t ↦ rest.kept n (subst (HasEntry (known ++ (v.0, o) ∷ [])) (same_is v.0 n t) (entry_new known v.0 o)) | inr t ↦ rest.new n t ];
+          [ inl t ↦ rest.kept n (subst (HasEntry (known ++ (v.0, o) ∷ [])) (same_is v.0 n t) (entry_new known v.0 o)) | inr t ↦ rest.new n t ];
     }
 
 among_either : (ns ms : List Name) (n : Name) → IsTrue (is_among (ns ++ ms) n) → IsTrue (is_among ns n) ⊎ IsTrue (is_among ms n)
@@ -118,8 +118,8 @@ parameters_grow (d ∷ ds) given known g h =
       numbers = rest.numbers;
       kept = λ n f. rest.kept n (one.kept n f);
       new = λ n f. elim (among_either (value_names d.values) (parameter_names ds) n f)
-      as (λ _. HasEntry (with_parameters ds given (with_values d given d.values known)) n)
-      [ inl t ↦ rest.kept n (one.new n t) | inr t ↦ rest.new n t ];
+          as (λ _. HasEntry (with_parameters ds given (with_values d given d.values known)) n)
+          [ inl t ↦ rest.kept n (one.new n t) | inr t ↦ rest.new n t ];
     }
 
 -- the constants of a module: each has a number, and each parameter is one of them

@@ -152,9 +152,10 @@ in_levels : (d : Design) (n : ℕ) (path : List PathStep) (p : Placed) → lengt
 unfolding levels
 in_levels d zero path p l e = subst (λ k. IsAmong (level d k) path) (omega (arith, l)) (in_level d path p e)
 in_levels d (suc n) path p l e =
-    elim (deepest (length path) n l) as (λ _. IsAmong (level d (suc n) ++ levels d n) path)
-    [ inl k ↦ among_left (level d (suc n)) (levels d n) path (subst (λ m. IsAmong (level d m) path) k (in_level d path p e))
-    | inr k ↦ among_right (level d (suc n)) (levels d n) path (in_levels d n path p k e) ]
+    elim (deepest (length path) n l) as (λ _. IsAmong (level d (suc n) ++ levels d n) path) [
+      | inl k ↦ among_left (level d (suc n)) (levels d n) path (subst (λ m. IsAmong (level d m) path) k (in_level d path p e))
+      | inr k ↦ among_right (level d (suc n)) (levels d n) path (in_levels d n path p k e)
+    ]
   where
     deepest : (m k : ℕ) → m ≤ suc k → (m ≡ suc k) ⊎ (m ≤ k)
     deepest m k h =
@@ -184,9 +185,10 @@ suffix_place (u ∷ around) q (suc i) e = let h = suffix_place around q i e in o
 
 pub depth : PathsAreShort
 depth d path p good e =
-    elim (cases_lt 65536 (length path)) as (λ _. length path ≤ 65536)
-    [ inl more ↦ absurd (good (HasBadHierarchy.crowded (suffixes path) instances (subst (λ k. 65536 < k) (sym (suffix_count path)) more)))
-    | inr enough ↦ enough ]
+    elim (cases_lt 65536 (length path)) as (λ _. length path ≤ 65536) [
+      | inl more ↦ absurd (good (HasBadHierarchy.crowded (suffixes path) instances (subst (λ k. 65536 < k) (sym (suffix_count path)) more)))
+      | inr enough ↦ enough
+    ]
   where
     instances : AreInstances d (suffixes path)
     instances =

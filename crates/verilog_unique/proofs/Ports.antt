@@ -49,16 +49,18 @@ port_named d (m ∷ ns) n h = chosen (same_name m n) (port_named d ns n) h
 header_port : (ds : List PortDeclaration) (n : Name) → HasEntry (declared_ports ds) n → Declares (port_declarations ds) n
 header_port [] n h = cc
 header_port (d ∷ ds) n h =
-    elim (entry_either (named_ports d.direction d.names) (declared_ports ds) n h) as (λ _. Declares (each_port d d.names ++ port_declarations ds) n)
-    [ inl k ↦ declares_left (each_port d d.names) (port_declarations ds) n (port_named d d.names n k)
-    | inr k ↦ declares_right (each_port d d.names) (port_declarations ds) n (header_port ds n k) ]
+    elim (entry_either (named_ports d.direction d.names) (declared_ports ds) n h) as (λ _. Declares (each_port d d.names ++ port_declarations ds) n) [
+      | inl k ↦ declares_left (each_port d d.names) (port_declarations ds) n (port_named d d.names n k)
+      | inr k ↦ declares_right (each_port d d.names) (port_declarations ds) n (header_port ds n k)
+    ]
 
 item_port : (items : List Item) (n : Name) → HasEntry (item_ports items) n → Declares (item_declarations items) n
 item_port [] n h = cc
 item_port (port d ∷ items) n h =
-    elim (entry_either (named_ports d.direction d.names) (item_ports items) n h) as (λ _. Declares (each_port d d.names ++ item_declarations items) n)
-    [ inl k ↦ declares_left (each_port d d.names) (item_declarations items) n (port_named d d.names n k)
-    | inr k ↦ declares_right (each_port d d.names) (item_declarations items) n (item_port items n k) ]
+    elim (entry_either (named_ports d.direction d.names) (item_ports items) n h) as (λ _. Declares (each_port d d.names ++ item_declarations items) n) [
+      | inl k ↦ declares_left (each_port d d.names) (item_declarations items) n (port_named d d.names n k)
+      | inr k ↦ declares_right (each_port d d.names) (item_declarations items) n (item_port items n k)
+    ]
 item_port (parameter d ∷ items) n h = item_port items n h
 item_port (wires signed r ws ∷ items) n h = declares_right (wire_declarations signed r ws) (item_declarations items) n (item_port items n h)
 item_port (variables signed r vs ∷ items) n h = declares_right (variable_declarations signed r vs) (item_declarations items) n (item_port items n h)
@@ -69,11 +71,12 @@ item_port (instances m given is ∷ items) n h = item_port items n h
 pub port_is_declared : (p : Placed) (n : Name) (way : Direction) → HasPort p.of_module n way → IsDeclared p n
 port_is_declared p n way h =
     elim (entry_either (declared_ports (header_ports p.of_module.ports)) (item_ports p.of_module.items) n (there (entry_of (port_directions p.of_module) n) h))
-    as (λ _. Declares (port_declarations (header_ports p.of_module.ports) ++ item_declarations p.of_module.items) n)
-    [ inl k ↦ declares_left (port_declarations (header_ports p.of_module.ports)) (item_declarations p.of_module.items) n
-    (header_port (header_ports p.of_module.ports) n k)
-    | inr k ↦ declares_right (port_declarations (header_ports p.of_module.ports)) (item_declarations p.of_module.items) n
-    (item_port p.of_module.items n k) ]
+    as (λ _. Declares (port_declarations (header_ports p.of_module.ports) ++ item_declarations p.of_module.items) n) [
+      | inl k ↦ declares_left (port_declarations (header_ports p.of_module.ports)) (item_declarations p.of_module.items) n
+          (header_port (header_ports p.of_module.ports) n k)
+      | inr k ↦ declares_right (port_declarations (header_ports p.of_module.ports)) (item_declarations p.of_module.items) n
+          (item_port p.of_module.items n k)
+    ]
   where
     there : (x : Option Direction) → x ≡ Some way → IsTrue (is_some x)
     there None e = cc

@@ -40,10 +40,11 @@ both_are s ns ms p q f g y t =
 three_are : (s : Scope) (ns ms ks : List Name) (p q r : BitSet) → AreNetBits s ns p → AreNetBits s ms q → AreNetBits s ks r
     → AreNetBits s ((ns ++ ms) ++ ks) (or_in p (or_in q r))
 three_are s ns ms ks p q r f g h y t =
-    elim (either_true (is_in p y) (is_in q y || is_in r y) t) as (λ _. IsNetBit s ((ns ++ ms) ++ ks) y)
-    [ inl a ↦ net_left s (ns ++ ms) ks y (net_left s ns ms y (f y a))
-    | inr a ↦ elim (either_true (is_in q y) (is_in r y) a) as (λ _. IsNetBit s ((ns ++ ms) ++ ks) y)
-    [ inl b ↦ net_left s (ns ++ ms) ks y (net_right s ns ms y (g y b)) | inr b ↦ net_right s (ns ++ ms) ks y (h y b) ] ]
+    elim (either_true (is_in p y) (is_in q y || is_in r y) t) as (λ _. IsNetBit s ((ns ++ ms) ++ ks) y) [
+      | inl a ↦ net_left s (ns ++ ms) ks y (net_left s ns ms y (f y a))
+      | inr a ↦ elim (either_true (is_in q y) (is_in r y) a) as (λ _. IsNetBit s ((ns ++ ms) ++ ks) y)
+          [ inl b ↦ net_left s (ns ++ ms) ks y (net_right s ns ms y (g y b)) | inr b ↦ net_right s (ns ++ ms) ks y (h y b) ]
+    ]
 
 left_are : (s : Scope) (ns ms : List Name) (p : BitSet) → AreNetBits s ns p → AreNetBits s (ns ++ ms) p
 left_are s ns ms p f y t = net_left s ns ms y (f y t)
@@ -126,10 +127,11 @@ pub widened_net : (s : Scope) (signed : Bool) (n : Name) (x : Selects) (j : ℕ)
     → IsNetBit s (n ∷ ms) y
 widened_net s signed n x j ms y e =
     let w : ℕ = selects_width s (s n) x in
-    elim (either_option (nat_lt j w) (bit_at s n x j) (cond signed (bit_at s n x (w - 1)) None) y e) as (λ _. IsNetBit s (n ∷ ms) y)
-    [ inl h ↦ at_net s n x j ms y h
-    | inr h ↦ elim (either_option signed (bit_at s n x (w - 1)) None y h) as (λ _. IsNetBit s (n ∷ ms) y)
-    [ inl k ↦ at_net s n x (w - 1) ms y k | inr k ↦ cc ] ]
+    elim (either_option (nat_lt j w) (bit_at s n x j) (cond signed (bit_at s n x (w - 1)) None) y e) as (λ _. IsNetBit s (n ∷ ms) y) [
+      | inl h ↦ at_net s n x j ms y h
+      | inr h ↦ elim (either_option signed (bit_at s n x (w - 1)) None y h) as (λ _. IsNetBit s (n ∷ ms) y)
+          [ inl k ↦ at_net s n x (w - 1) ms y k | inr k ↦ cc ]
+    ]
 
 mutual
   pub copied_net : (s : Scope) (e : Expression) (signed : Bool) (j : ℕ) (y : Bit) → copied s e signed j ≡ Some y → IsNetBit s (names_in e) y
@@ -155,11 +157,12 @@ mutual
   copied_nets s (expression e es) j y h =
       elim (either_option (nat_lt j (widths_of s es)) (copied_in s es j)
       (cond (nat_lt (j - widths_of s es) (width_of s e)) (copied s e (sign_of s e) (j - widths_of s es)) None) y h)
-      as (λ _. IsNetBit s (names_in e ++ names_in_all es) y)
-      [ inl f ↦ net_right s (names_in e) (names_in_all es) y (copied_nets s es j y f)
-      | inr f ↦ elim (either_option (nat_lt (j - widths_of s es) (width_of s e)) (copied s e (sign_of s e) (j - widths_of s es)) None y f)
-      as (λ _. IsNetBit s (names_in e ++ names_in_all es) y)
-      [ inl k ↦ net_left s (names_in e) (names_in_all es) y (copied_net s e (sign_of s e) (j - widths_of s es) y k) | inr k ↦ cc ] ]
+      as (λ _. IsNetBit s (names_in e ++ names_in_all es) y) [
+        | inl f ↦ net_right s (names_in e) (names_in_all es) y (copied_nets s es j y f)
+        | inr f ↦ elim (either_option (nat_lt (j - widths_of s es) (width_of s e)) (copied s e (sign_of s e) (j - widths_of s es)) None y f)
+            as (λ _. IsNetBit s (names_in e ++ names_in_all es) y)
+            [ inl k ↦ net_left s (names_in e) (names_in_all es) y (copied_net s e (sign_of s e) (j - widths_of s es) y k) | inr k ↦ cc ]
+      ]
 
 pub given_net : (around inner : Scope) (t : Target) (e : Expression) (u y : Bit) → IsGivenBy around t inner e u y → IsNetBit inner (names_in e) y
 given_net around inner t e u y (copied_to j plain within takes copy) = copied_net inner e (sign_of inner e) j y copy
@@ -188,10 +191,11 @@ mutual
   index_nets s no_targets u y h = cc
   index_nets s (target t ts) u y h =
       elim (either_true (is_in (index_reads s t u) y) (not (is_in (surely_reaches s t) u) && is_in (one_index_reads s ts u) y) h)
-      as (λ _. IsNetBit s (names_in_target t ++ names_in_targets ts) y)
-      [ inl f ↦ net_left s (names_in_target t) (names_in_targets ts) y (index_net s t u y f)
-      | inr f ↦ net_right s (names_in_target t) (names_in_targets ts) y
-      (index_nets s ts u y (both_true (not (is_in (surely_reaches s t) u)) (is_in (one_index_reads s ts u) y) f).1) ]
+      as (λ _. IsNetBit s (names_in_target t ++ names_in_targets ts) y) [
+        | inl f ↦ net_left s (names_in_target t) (names_in_targets ts) y (index_net s t u y f)
+        | inr f ↦ net_right s (names_in_target t) (names_in_targets ts) y
+            (index_nets s ts u y (both_true (not (is_in (surely_reaches s t) u)) (is_in (one_index_reads s ts u) y) f).1)
+      ]
 
 -- A property of bits that each net bit of the names has; and one that what depends on it keeps.
 abbrev pub Covers : Scope → (Bit → Type 0) → List Name → Type 0

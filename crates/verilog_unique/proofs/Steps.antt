@@ -75,8 +75,7 @@ pub record Differs (d : Design) (v w : Valuation) (u : PlacedBit) : Type 0 where
   pub differ : ¬ Agree v w place bit
 
 module _ (d : Design) (registers inputs v w : Valuation) (good : ¬ HasUndeclared d) (v_settled : IsSettled d registers inputs v)
-  (w_settled : IsSettled d registers inputs w) (local : AreLocal d v w) where
-
+    (w_settled : IsSettled d registers inputs w) (local : AreLocal d v w) where
   -- where no bit on which it depends differs, each of them agrees
   depended : (p : Placed) (u : Bit) → ((y : PlacedBit) → Depends d (bit_of p u) y → ¬ Differs d v w y) → (q : Placed) (y : Bit) → IsPlacedIn d q
       → IsBitDeclared q y → Depends d (bit_of p u) (bit_of q y) → Agree v w q y
@@ -129,6 +128,6 @@ module _ (d : Design) (registers inputs v w : Valuation) (good : ¬ HasUndeclare
       agrees : ((y : PlacedBit) → Depends d (bit_of h.place h.bit) y → ¬ Differs d v w y) → Agree v w h.place h.bit
       agrees f =
           let undriven : ¬ IsDriven d h.place h.bit.of_name h.bit.word h.bit.place =
-            λ driven. h.differ (driven_agrees h.place h.bit h.is_placed h.is_declared f driven) in
+          λ driven. h.differ (driven_agrees h.place h.bit h.is_placed h.is_declared f driven) in
           (v_settled.modules h.place h.is_placed).undriven h.bit.of_name h.bit.word h.bit.place h.is_declared.is_declared h.is_declared.is_bit undriven
           ∙ sym ((w_settled.modules h.place h.is_placed).undriven h.bit.of_name h.bit.word h.bit.place h.is_declared.is_declared h.is_declared.is_bit undriven)

@@ -41,9 +41,10 @@ same_words n w xs ys f g h =
   where
     at : (k : ℕ) → slice_index xs k ≡ slice_index ys k
     at k =
-        elim (cases_lt k n) as (λ _. slice_index xs k ≡ slice_index ys k)
-        [ inl l ↦ same_numbers w (slice_index xs k) (slice_index ys k) (f.narrow k) (g.narrow k) (λ b m. h k b l m)
-        | inr l ↦ f.past k l ∙ sym (g.past k l) ]
+        elim (cases_lt k n) as (λ _. slice_index xs k ≡ slice_index ys k) [
+          | inl l ↦ same_numbers w (slice_index xs k) (slice_index ys k) (f.narrow k) (g.narrow k) (λ b m. h k b l m)
+          | inr l ↦ f.past k l ∙ sym (g.past k l)
+        ]
 
 both_ways : (b : Bool) → IsTrue b → IsTrue (not b) → ⊥
 both_ways true t f = cc

@@ -1,6 +1,6 @@
 //! The laws, each the contract of a function without code.
 ghost use Rattle.verilog_unique.specs.Finite.{PathsAreShort, BitsAreFinite, ChainsAreShort};
-ghost use Rattle.verilog_unique.specs.Unique.{OneValueWhereLocal};
+ghost use Rattle.verilog_unique.specs.Unique.{OneValueWhereLocal, SettledValuationIsUnique};
 
 /// In a design that breaks no rule on the hierarchy paths are short, and all bits of declared names stand in a list.
 pub fn a_design_is_finite()
@@ -17,4 +17,9 @@ pub fn chains_of_dependence_are_short()
 /// drive.
 pub fn values_are_one_where_drivers_are_local()
     ensures { OneValueWhereLocal }
+{}
+
+/// An accepted design, whose numbers fit, has at most one settled valuation for the same registers and inputs.
+pub fn a_settled_valuation_is_unique()
+    ensures { SettledValuationIsUnique }
 {}
