@@ -1,5 +1,5 @@
 -- Chains of dependence are short, and no property of finitely many bits passes along dependence for ever.
-use Rattle.std.proofs.Common.{◌≡◌, ℕ, suc, ◌≤◌, List, [], ◌∷◌, ◌⊎◌, inl, inr, length, refl, sym, subst, arith}
+use Rattle.std.proofs.Common.{◌≡◌, suc, ◌≤◌, List, [], ◌∷◌, inl, inr, length, refl, sym, subst, arith}
 use Rattle.std.specs.List.{Contains}
 use Rattle.verilog_meaning.specs.Settled.{Design}
 use Rattle.verilog_designs.specs.Dependence.{PlacedBit, Depends, DependsFar, HasLoop}

@@ -1,13 +1,12 @@
 -- The indexes in the targets of continuous assignments and of outputs are constant.
-use Rattle.std.proofs.Common.{◌≡◌, ℕ, Bool, true, false, cond, List, [], ◌∷◌, ◌++◌, ◌⊎◌, inl, inr, refl, sym, ap, ◌∙◌, subst, Option, Some, None}
-use Rattle.std.specs.Prelude.{IsTrue, is_some, not, ◌||◌, ◌&&◌, option_map, option_and_then}
-use Rattle.std.specs.List.{list_any}
-use Rattle.wb_values.specs.Value.{Name, entry_of}
-use Rattle.verilog_trees.specs.Syntax.{Expression, number, name, concatenation, replication, as_signed, as_unsigned, unary, reduction, binary, shift, power, comparison, logical, conditional, Expressions, no_expressions, expression, Select, index, part, part_up, part_down, Selects, whole, one, two, Target, place, joined, Targets, no_targets, target, Direction, output, Connections, Item, port, parameter, wires, variables, assign, always, instances, Module, Source}
+use Rattle.std.proofs.Common.{◌≡◌, Bool, true, false, cond, List, [], ◌∷◌, ◌++◌, inl, inr, refl, sym, ap, ◌∙◌, subst, Option, Some, None}
+use Rattle.std.specs.Prelude.{IsTrue, is_some, not, ◌&&◌, option_map, option_and_then}
+use Rattle.wb_values.specs.Value.{Name}
+use Rattle.verilog_trees.specs.Syntax.{Expression, number, name, concatenation, replication, as_signed, as_unsigned, unary, reduction, binary, shift, power, comparison, logical, conditional, Expressions, no_expressions, expression, Select, index, part, part_up, part_down, Selects, whole, one, two, Target, place, joined, Targets, no_targets, target, Connections, Item, port, parameter, wires, variables, assign, always, instances, Module, Source}
 use Rattle.verilog_meaning.specs.Expression.{Scope}
 use Rattle.verilog_meaning.specs.Register.{is_constant, are_constant, select_is_constant, selects_are_constant}
-use Rattle.verilog_meaning.specs.Hierarchy.{PathStep, Placed, placed_scope, module_named, Instance, instance_reached, placed_instance, declarations, all_parameters}
-use Rattle.verilog_meaning.specs.Settled.{Design, at_path, is_declared_among, wire_assignment, wire_assignments, assignments, as_target, all_as_targets, Connection, instance_connections, port_connections, port_meant, port_directions, HasPort}
+use Rattle.verilog_meaning.specs.Hierarchy.{PathStep, Placed, placed_scope, Instance, instance_reached, placed_instance, declarations, all_parameters}
+use Rattle.verilog_meaning.specs.Settled.{Design, at_path, is_declared_among, wire_assignments, assignments, as_target, all_as_targets, Connection, instance_connections, port_meant}
 use Rattle.verilog_designs.specs.Names.{is_among, parameter_names, names_in, names_in_all, names_in_select, names_in_selects}
 use Rattle.verilog_designs.specs.Ports.{is_output, port_direction}
 use Rattle.verilog_designs.specs.Constants.{index_names, index_names_in_all, constant_names, constant_names_in_assignments, constant_names_in_output, constant_names_in_connection, constant_names_in_connections, constant_names_in_instances, constant_names_in_item, constant_names_in_module_items, constant_names_in_module, is_net, has_net_as_constant}

@@ -1,13 +1,13 @@
 -- What a module of an accepted design names is known, and fits in a settled valuation.
-use Rattle.std.proofs.Common.{◌≡◌, ℕ, ◌+◌, ◌-◌, ◌^◌, ◌<◌, Bool, true, false, cond, List, [], ◌∷◌, ◌++◌, ◌⊎◌, inl, inr, refl, sym, subst, Option, Some, None, arith}
-use Rattle.std.specs.Prelude.{IsTrue, is_some, is_none, unwrap_or}
-use Rattle.wb_values.specs.Value.{Name, Value, as_number, Valuation, entry_of}
-use Rattle.wb_values.specs.Number.{top_bit, word_sext}
-use Rattle.verilog_trees.specs.Syntax.{Expression, number, name, concatenation, replication, as_signed, as_unsigned, unary, reduction, binary, shift, power, comparison, logical, conditional, Expressions, no_expressions, expression, Select, index, part, part_up, part_down, Selects, whole, one, two, Target, place, joined, Targets, no_targets, target, Statement, empty, blocking, nonblocking, if_then, if_else, case, block, Statements, no_statements, statement, CaseItems, no_items, arm, default_arm, Module, Source}
-use Rattle.verilog_meaning.specs.Expression.{Object, Scope, object_width, whole_value, widened, self_value, width_of}
+use Rattle.std.proofs.Common.{◌≡◌, ℕ, ◌+◌, ◌-◌, ◌^◌, ◌<◌, Bool, true, false, cond, List, [], ◌∷◌, ◌++◌, inl, inr, refl, subst, Option, Some, None, arith}
+use Rattle.std.specs.Prelude.{IsTrue, is_none, unwrap_or}
+use Rattle.wb_values.specs.Value.{Name, as_number, Valuation}
+use Rattle.wb_values.specs.Number.{top_bit}
+use Rattle.verilog_trees.specs.Syntax.{Expression, number, name, concatenation, replication, as_signed, as_unsigned, unary, reduction, binary, shift, power, comparison, logical, conditional, Expressions, no_expressions, expression, Select, index, part, part_up, part_down, Selects, whole, one, two, Target, place, joined, Targets, no_targets, target, Statement, empty, blocking, nonblocking, if_then, if_else, case, block, Statements, no_statements, statement, CaseItems, no_items, arm, default_arm, Source}
+use Rattle.verilog_meaning.specs.Expression.{object_width, whole_value, widened}
 use Rattle.verilog_meaning.specs.Hierarchy.{PathStep, Placed, placed_scope, module_named}
-use Rattle.verilog_meaning.specs.Settled.{Design, at_path, IsPlacedIn, inside, IsDeclared, IsValueOf, IsSettled}
-use Rattle.verilog_designs.specs.Names.{is_among, parameter_names, names_in, names_in_all, names_in_select, names_in_selects, names_in_target, names_in_targets, names_in_statement, names_in_statements, names_in_items, all_item_mentions}
+use Rattle.verilog_meaning.specs.Settled.{Design, at_path, IsPlacedIn, inside, IsValueOf, IsSettled}
+use Rattle.verilog_designs.specs.Names.{names_in, names_in_all, names_in_select, names_in_selects, names_in_target, names_in_targets, names_in_statement, names_in_statements, names_in_items, all_item_mentions}
 use Rattle.verilog_designs.specs.Accepted.{HasUndeclared}
 use Rattle.verilog_settled.specs.Locality.{Fits, AllFit, LeavesAre, AllLeavesAre, SelectIs, SelectsAre, IndexesAre, AllIndexesAre, StatementIs, StatementsAre, ItemsAre}
 use Rattle.wb_laws.specs.Settled.{SourceHasFittingNumbers, SettledValueFitsItsWidth}
@@ -17,7 +17,7 @@ use Rattle.verilog_unique.proofs.Descent.{IsAmong, among_left, among_right}
 use Rattle.verilog_unique.proofs.Paths.{StepsTo, step_of, top_from}
 use Rattle.verilog_unique.proofs.Standing.{IsKnownIn, mentioned_known, module_of_instance}
 use Rattle.verilog_unique.proofs.Mentioned.{AreUsed, in_module}
-use Rattle.verilog_unique.proofs.Parameters.{AreConstants, placed_constants, net_is_declared}
+use Rattle.verilog_unique.proofs.Parameters.{placed_constants, net_is_declared}
 
 -- ---- fitting numbers and known names make fitting leaves
 

@@ -1,25 +1,25 @@
 -- In an accepted design two settled valuations agree on each bit that is driven, if they agree on all on which it depends.
-use Rattle.std.proofs.Common.{◌≡◌, ℕ, Bool, true, false, cond, List, [], ◌∷◌, ◌++◌, ◌⊎◌, inl, inr, refl, sym, ap, ◌∙◌, subst, Option, Some, None}
-use Rattle.std.specs.Prelude.{IsTrue, ◌||◌, ◌&&◌}
+use Rattle.std.proofs.Common.{◌≡◌, true, false, List, [], ◌∷◌, ◌++◌, ◌⊎◌, inl, inr, refl, sym, ap, ◌∙◌, subst, Some}
+use Rattle.std.specs.Prelude.{IsTrue, ◌&&◌}
 use Rattle.std.specs.List.{Contains}
-use Rattle.wb_values.specs.Value.{Name, Valuation, same_name, entry_of}
-use Rattle.verilog_trees.specs.Syntax.{Expression, Target, Statement, Direction, input, output, Connections, Item, port, parameter, wires, variables, assign, always, instances, Module}
+use Rattle.wb_values.specs.Value.{Name, Valuation}
+use Rattle.verilog_trees.specs.Syntax.{Expression, Target, Statement, input, output, instances}
 use Rattle.verilog_meaning.specs.Expression.{Scope, assigned_value}
 use Rattle.verilog_meaning.specs.Statement.{target_width}
-use Rattle.verilog_meaning.specs.Register.{combinational_blocks, may_reach, may_assign, value_bit}
-use Rattle.verilog_meaning.specs.Hierarchy.{header_ports, PathStep, instance_step, Placed, placed_scope, module_named, Instance, instance_named}
-use Rattle.verilog_meaning.specs.Settled.{Design, at_path, IsPlacedIn, inside, IsDeclared, IsValueOf, port_directions, HasPort, Has, whole_of, whole_name, assignments, HasAssigned, HasRun, HasRunAll, as_target, Connection, instance_connections, port_connections, port_meant, IsConnectedTo, HasConnection, HasConnected, IsSettledIn, IsSettled}
-use Rattle.verilog_designs.specs.Names.{names_in, names_in_statement, names_in_connections, names_in_parameters, names_in_ports, all_item_mentions, is_among, parameter_names, has_duplicate}
+use Rattle.verilog_meaning.specs.Register.{combinational_blocks, may_reach, may_assign}
+use Rattle.verilog_meaning.specs.Hierarchy.{header_ports, instance_step, Placed, placed_scope, module_named, instance_named}
+use Rattle.verilog_meaning.specs.Settled.{Design, IsPlacedIn, inside, IsValueOf, HasPort, Has, whole_of, whole_name, assignments, HasAssigned, HasRun, HasRunAll, as_target, Connection, instance_connections, port_connections, port_meant, IsConnectedTo, HasConnection, HasConnected, IsSettled}
+use Rattle.verilog_designs.specs.Names.{names_in, names_in_statement, names_in_connections, names_in_parameters, names_in_ports, all_item_mentions, has_duplicate}
 use Rattle.verilog_designs.specs.Ports.{is_output, port_direction}
-use Rattle.verilog_designs.specs.Constants.{index_names, constant_names_in_instances, constant_names_in_connection, constant_names_in_connections, constant_names_in_item, constant_names_in_module_items, constant_names_in_module, has_net_as_constant}
-use Rattle.verilog_designs.specs.Dependence.{Bit, IsBitIn, IsGivenBy, at_start, After}
-use Rattle.verilog_designs.specs.Accepted.{HasUndeclared, HasDuplicateName, IsAccepted, undeclared, duplicate_name, bad_constant}
-use Rattle.verilog_settled.specs.Locality.{DifferAt, LeavesAre, has_constant_selects, AssignedBitIsLocal, BlockBitIsLocal}
+use Rattle.verilog_designs.specs.Constants.{index_names, constant_names_in_instances, constant_names_in_module_items, constant_names_in_module, has_net_as_constant}
+use Rattle.verilog_designs.specs.Dependence.{Bit, IsGivenBy, at_start, After}
+use Rattle.verilog_designs.specs.Accepted.{HasDuplicateName, IsAccepted, undeclared, duplicate_name, bad_constant}
+use Rattle.verilog_settled.specs.Locality.{LeavesAre, has_constant_selects, AssignedBitIsLocal, BlockBitIsLocal}
 use Rattle.wb_laws.specs.Settled.{SettledValueFitsItsWidth}
 use Rattle.verilog_unique.specs.Agreement.{Agree, IsBitDeclared, AreLocal}
 use Rattle.verilog_unique.specs.Unique.{AnyName, NumbersFit}
 use Rattle.verilog_unique.proofs.Options.{is_same, left_true, not_true}
-use Rattle.verilog_unique.proofs.Descent.{IsAmong, among_left, among_right, among_contains}
+use Rattle.verilog_unique.proofs.Descent.{IsAmong, among_right, among_contains}
 use Rattle.verilog_unique.proofs.Paths.{StepsTo, step_of, placed_in}
 use Rattle.verilog_unique.proofs.Standing.{IsKnownIn, stands_in, module_of_instance, mentioned_known}
 use Rattle.verilog_unique.proofs.Mentioned.{AreUsed, in_module, assignment_used, indexes_used, block_used, connection_used}

@@ -1,11 +1,11 @@
 -- What stands in the assignments, blocks and connections of a module is mentioned in it.
-use Rattle.std.proofs.Common.{◌≡◌, ℕ, suc, Bool, true, false, cond, List, [], ◌∷◌, ◌++◌, ◌⊎◌, inl, inr, refl, sym, ap, subst, Option, Some, None}
+use Rattle.std.proofs.Common.{◌≡◌, ℕ, suc, Bool, true, false, cond, List, [], ◌∷◌, ◌++◌, inl, inr, refl, sym, ap, subst, Option, Some, None}
 use Rattle.wb_values.specs.Value.{Name}
-use Rattle.verilog_trees.specs.Syntax.{Expression, Target, place, joined, Targets, no_targets, target, Statement, Events, any_change, on_events, Connections, by_name, by_order, Item, port, parameter, wires, variables, assign, always, instances, Module}
-use Rattle.verilog_meaning.specs.Register.{is_clocked, clocked_blocks, combinational_blocks}
+use Rattle.verilog_trees.specs.Syntax.{Expression, Target, place, joined, Targets, no_targets, target, Statement, Connections, by_name, by_order, Item, port, parameter, wires, variables, assign, always, instances, Module}
+use Rattle.verilog_meaning.specs.Register.{is_clocked, combinational_blocks}
 use Rattle.verilog_meaning.specs.Hierarchy.{header_ports}
-use Rattle.verilog_meaning.specs.Settled.{whole_of, wire_assignment, wire_assignments, assignments, PortPlace, port_named, port_numbered, Connection, connection_if_any, named_connections, ordered_connections, instance_connections, connections_of_each, port_connections}
-use Rattle.verilog_designs.specs.Names.{names_in, names_in_target, names_in_targets, names_in_statement, names_in_optional, names_in_range, names_in_named, names_in_ordered, names_in_connections, names_in_events, names_in_addresses, names_in_assignments, names_in_instances, names_in_ports, Mention, used, uses, parameter_mentions, all_parameter_mentions, item_mentions, all_item_mentions, mentions}
+use Rattle.verilog_meaning.specs.Settled.{wire_assignment, wire_assignments, assignments, PortPlace, port_named, port_numbered, Connection, connection_if_any, named_connections, ordered_connections, instance_connections, connections_of_each, port_connections}
+use Rattle.verilog_designs.specs.Names.{names_in, names_in_target, names_in_targets, names_in_statement, names_in_optional, names_in_range, names_in_named, names_in_ordered, names_in_connections, names_in_events, names_in_assignments, names_in_instances, names_in_ports, Mention, used, uses, all_parameter_mentions, item_mentions, all_item_mentions, mentions}
 use Rattle.verilog_designs.specs.Constants.{index_names, index_names_in_all}
 use Rattle.verilog_unique.proofs.Descent.{IsAmong, among_left, among_right, among_either}
 

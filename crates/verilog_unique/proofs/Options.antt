@@ -1,5 +1,5 @@
 -- Names, tests and values that may be missing.
-use Rattle.std.proofs.Common.{◌≡◌, ℕ, Bool, true, false, cond, List, [], ◌∷◌, ◌⊎◌, inl, inr, refl, sym, ◌∙◌, subst, Option, Some, None}
+use Rattle.std.proofs.Common.{◌≡◌, Bool, true, false, ◌⊎◌, inl, inr, refl, Option, Some, None}
 use Rattle.std.specs.Prelude.{◌||◌, ◌&&◌, not, IsTrue, option_map, option_and_then}
 use Rattle.std.proofs.lemmas.Slice.Eq.{bytes_eq-Decides}
 use Rattle.wb_values.specs.Value.{Name, same_name}

@@ -1,12 +1,11 @@
 -- Each parameter of a module that stands in a design has a number.
-use Rattle.std.proofs.Common.{◌≡◌, ℕ, Bool, true, false, cond, List, [], ◌∷◌, ◌++◌, ◌⊎◌, inl, inr, refl, sym, ap, ◌∙◌, subst, Option, Some, None}
+use Rattle.std.proofs.Common.{◌≡◌, ℕ, Bool, true, false, cond, List, [], ◌∷◌, ◌++◌, ◌⊎◌, inl, inr, refl, sym, subst, Option, Some, None}
 use Rattle.std.specs.Prelude.{IsTrue, is_some, is_none, option_map, ◌||◌}
-use Rattle.std.specs.List.{list_any}
 use Rattle.wb_values.specs.Value.{Name, same_name, Entries, entry_of}
 use Rattle.wb_values.specs.Choice.{first_of}
 use Rattle.verilog_trees.specs.Syntax.{Expression, Range, ParameterDeclaration, Module, Source}
 use Rattle.verilog_meaning.specs.Expression.{Object, Scope, is_memory, object_or_undeclared, scope_of}
-use Rattle.verilog_meaning.specs.Hierarchy.{ranged_object, parameter_object, overridden_object, Overrides, one_parameter, override_of, with_values, with_parameters, all_parameters, constants_of, declarations, declaration_of, Declaration, declared_object, PathStep, Placed, placed_scope, value_names, module_named, Instance, connected, overridable, overrides_of, placed_instance, no_overrides}
+use Rattle.verilog_meaning.specs.Hierarchy.{ranged_object, parameter_object, overridden_object, Overrides, one_parameter, override_of, with_values, with_parameters, all_parameters, constants_of, declarations, declaration_of, Declaration, declared_object, PathStep, Placed, placed_scope, value_names, Instance, connected, overridable, overrides_of, placed_instance, no_overrides}
 use Rattle.verilog_meaning.specs.Settled.{Design, at_path, IsDeclared}
 use Rattle.verilog_designs.specs.Names.{is_among, parameter_names}
 use Rattle.verilog_settled.specs.Locality.{HasNoConstantMemory}

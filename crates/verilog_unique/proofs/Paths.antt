@@ -1,7 +1,6 @@
 -- The modules that stand in a design: their paths are written so in them, lie at most so deep, and stand in a list.
-use Rattle.std.proofs.Common.{◌≡◌, ℕ, zero, suc, ◌+◌, ◌<◌, ◌≤◌, Bool, true, false, cond, List, [], ◌∷◌, ◌++◌, length, ◌⊎◌, inl, inr, refl, sym, ap, ◌∙◌, subst, Option, Some, None, arith, get_or}
-use Rattle.std.specs.Prelude.{◌≢◌, IsTrue, is_some, option_map, option_and_then, slice_get, ℤ}
-use Rattle.std.specs.List.{Contains}
+use Rattle.std.proofs.Common.{◌≡◌, ℕ, zero, suc, ◌+◌, ◌<◌, ◌≤◌, Bool, true, false, cond, List, [], ◌∷◌, ◌++◌, length, ◌⊎◌, inl, inr, refl, sym, ap, ◌∙◌, subst, Option, Some, None, arith}
+use Rattle.std.specs.Prelude.{◌≢◌, slice_get, ℤ}
 use Rattle.std.proofs.lemmas.Bool.{cases_lt}
 use Rattle.wb_values.specs.Value.{Name, same_name}
 use Rattle.wb_values.specs.Choice.{first_of}
@@ -13,7 +12,7 @@ use Rattle.verilog_designs.specs.Names.{instance_names, all_instance_names}
 use Rattle.verilog_designs.specs.Accepted.{AreInstances, HasBadHierarchy}
 use Rattle.verilog_unique.specs.Finite.{PathsAreShort}
 use Rattle.verilog_unique.proofs.Options.{same_is, from_map, from_chain}
-use Rattle.verilog_unique.proofs.Descent.{IsAmong, among_left, among_right, among_contains, contains_among}
+use Rattle.verilog_unique.proofs.Descent.{IsAmong, among_left, among_right, among_contains}
 
 -- ---- one step
 

@@ -1,9 +1,9 @@
 -- A port of a module is declared in it.
-use Rattle.std.proofs.Common.{◌≡◌, Bool, true, false, cond, List, [], ◌∷◌, ◌++◌, ◌⊎◌, inl, inr, refl, sym, ap, subst, Option, Some, None}
+use Rattle.std.proofs.Common.{◌≡◌, Bool, true, false, cond, List, [], ◌∷◌, ◌++◌, ◌⊎◌, inl, inr, refl, Option, Some, None}
 use Rattle.std.specs.Prelude.{IsTrue, is_some, ◌||◌}
 use Rattle.wb_values.specs.Value.{Name, same_name, Entries, entry_of}
-use Rattle.verilog_trees.specs.Syntax.{Expression, Range, Direction, PortDeclaration, Item, port, parameter, wires, variables, assign, always, instances, Module}
-use Rattle.verilog_meaning.specs.Hierarchy.{Declaration, each_port, port_declarations, wire_declarations, variable_declarations, item_declarations, header_ports, declarations, Placed}
+use Rattle.verilog_trees.specs.Syntax.{Direction, PortDeclaration, Item, port, parameter, wires, variables, assign, always, instances}
+use Rattle.verilog_meaning.specs.Hierarchy.{Declaration, each_port, port_declarations, wire_declarations, variable_declarations, item_declarations, header_ports, Placed}
 use Rattle.verilog_meaning.specs.Settled.{is_declared_among, IsDeclared, named_ports, declared_ports, item_ports, port_directions, HasPort}
 
 abbrev HasEntry : Entries Direction → Name → Type 0

@@ -1,6 +1,6 @@
 -- Bits that an expression or a block reads are bits of nets that it names.
-use Rattle.std.proofs.Common.{◌≡◌, ℕ, ◌-◌, ◌%◌, Bool, true, false, cond, List, [], ◌∷◌, ◌++◌, ◌⊎◌, inl, inr, refl, sym, subst, Option, Some, None}
-use Rattle.std.specs.Prelude.{IsTrue, is_none, not, ◌&&◌, ◌||◌, nat_lt, ℤ, pos, ◌+ℤ◌}
+use Rattle.std.proofs.Common.{◌≡◌, ℕ, ◌-◌, ◌%◌, Bool, true, false, cond, List, [], ◌∷◌, ◌++◌, ◌⊎◌, inl, inr, refl, subst, Option, Some, None}
+use Rattle.std.specs.Prelude.{IsTrue, is_none, not, ◌&&◌, ◌||◌, nat_lt, pos, ◌+ℤ◌}
 use Rattle.wb_values.specs.Value.{Name, same_name}
 use Rattle.wb_values.specs.Choice.{some_if}
 use Rattle.verilog_trees.specs.Syntax.{Expression, number, name, concatenation, replication, as_signed, as_unsigned, unary, reduction, binary, shift, power, comparison, logical, conditional, Expressions, no_expressions, expression, Select, index, part, part_up, part_down, Selects, whole, one, two, Target, place, joined, Targets, no_targets, target, Statement, empty, blocking, nonblocking, if_then, if_else, case, block, Statements, no_statements, statement, CaseItems, no_items, arm, default_arm}

@@ -1,7 +1,6 @@
 -- Modules that stand in an accepted design use no unknown name.
-use Rattle.std.proofs.Common.{◌≡◌, Bool, true, false, cond, List, [], ◌∷◌, ◌++◌, ◌⊎◌, inl, inr, refl, sym, ap, ◌∙◌, subst, Option, Some, None}
-use Rattle.std.specs.Prelude.{IsTrue, is_some, not, ◌||◌, option_map, ℤ}
-use Rattle.std.specs.List.{Contains}
+use Rattle.std.proofs.Common.{◌≡◌, Bool, true, false, cond, List, [], ◌∷◌, ◌⊎◌, inl, inr, refl, sym, ap, ◌∙◌, subst, Option, Some, None}
+use Rattle.std.specs.Prelude.{IsTrue, is_some, not}
 use Rattle.wb_values.specs.Value.{Name, same_name}
 use Rattle.wb_values.specs.Choice.{first_of}
 use Rattle.verilog_trees.specs.Syntax.{Connections, Item, port, parameter, wires, variables, assign, always, instances, Module, Source}
@@ -11,7 +10,7 @@ use Rattle.verilog_meaning.specs.Settled.{Design, at_path, is_declared_among}
 use Rattle.verilog_designs.specs.Names.{is_among, parameter_names, Mention, used, declares, may_be_used, uses_unknown, mentions, has_undeclared, instantiates_unknown}
 use Rattle.verilog_designs.specs.Accepted.{StandsIn, at_top, below, HasUndeclared}
 use Rattle.verilog_unique.proofs.Options.{first_false, second_false, not_is_false, not_true}
-use Rattle.verilog_unique.proofs.Descent.{IsAmong, among_left, among_right, contains_among}
+use Rattle.verilog_unique.proofs.Descent.{IsAmong, contains_among}
 use Rattle.verilog_unique.proofs.Paths.{StepsTo, step_of, instance_from, top_from}
 
 -- the item in which an instance stands

@@ -1,22 +1,22 @@
 -- Where two settled valuations differ at a bit, they differ at one on which it depends.
-use Rattle.std.proofs.Common.{◌≡◌, ℕ, Bool, true, false, List, [], ◌∷◌, ◌⊎◌, inl, inr, refl, sym, ap, ◌∙◌, subst, Option, Some, None}
-use Rattle.std.specs.Prelude.{◌≢◌, IsTrue, ◌||◌}
+use Rattle.std.proofs.Common.{◌≡◌, ℕ, Bool, true, false, List, [], ◌∷◌, inl, inr, refl, sym, ap, ◌∙◌, subst, Some}
+use Rattle.std.specs.Prelude.{IsTrue}
 use Rattle.std.specs.List.{Contains}
-use Rattle.wb_values.specs.Value.{Name, Value, Valuation}
-use Rattle.verilog_trees.specs.Syntax.{Expression, Target, Statement, Direction, input, output}
+use Rattle.wb_values.specs.Value.{Name, Valuation}
+use Rattle.verilog_trees.specs.Syntax.{Expression, Target, Statement, Direction, output}
 use Rattle.verilog_meaning.specs.Expression.{Scope}
 use Rattle.verilog_meaning.specs.Register.{combinational_blocks, value_bit, may_reach, may_assign, one_may_assign}
-use Rattle.verilog_meaning.specs.Hierarchy.{PathStep, instance_step, Placed, placed_scope, dotted}
-use Rattle.verilog_meaning.specs.Settled.{Design, at_path, IsPlacedIn, inside, IsDeclared, HasPort, assignments, as_target, whole_of, whole_name, Connection, port_connections, IsConnectedTo, one_may_reach, IsDriven, by_clock, by_block, by_assignment, by_top_input, by_input, by_output, IsSettledIn, IsSettled}
-use Rattle.verilog_designs.specs.Names.{names_in, names_in_statement, all_item_mentions, mentions}
-use Rattle.verilog_designs.specs.Dependence.{Bit, PlacedBit, bit_of, IsBitIn, IsGivenBy, at_start, After, Depends}
+use Rattle.verilog_meaning.specs.Hierarchy.{instance_step, Placed, placed_scope, dotted}
+use Rattle.verilog_meaning.specs.Settled.{Design, at_path, IsPlacedIn, inside, IsDeclared, HasPort, assignments, whole_of, whole_name, port_connections, one_may_reach, IsDriven, by_clock, by_block, by_assignment, by_top_input, by_input, by_output, IsSettled}
+use Rattle.verilog_designs.specs.Names.{names_in, names_in_statement, all_item_mentions}
+use Rattle.verilog_designs.specs.Dependence.{Bit, PlacedBit, bit_of, Depends}
 use Rattle.verilog_designs.specs.Accepted.{HasUndeclared}
 use Rattle.verilog_unique.specs.Agreement.{Agree, IsBitDeclared, AreLocal}
 use Rattle.verilog_unique.proofs.Options.{either_true}
 use Rattle.verilog_unique.proofs.Descent.{IsAmong, contains_among, among_contains}
 use Rattle.verilog_unique.proofs.Paths.{placed_in}
 use Rattle.verilog_unique.proofs.Standing.{mentioned_known}
-use Rattle.verilog_unique.proofs.Reading.{IsNetBit, Covers, given_net, after_block}
+use Rattle.verilog_unique.proofs.Reading.{Covers, given_net, after_block}
 use Rattle.verilog_unique.proofs.Mentioned.{AreUsed, in_module, assignment_used, block_used, connection_used}
 use Rattle.verilog_unique.proofs.Parameters.{net_is_declared}
 use Rattle.verilog_unique.proofs.Ports.{port_is_declared}

@@ -1,15 +1,13 @@
 -- Two settled valuations of an accepted design have one value under each declared name.
-use Rattle.std.proofs.Common.{◌≡◌, ℕ, List, refl, subst}
-use Rattle.std.specs.Prelude.{IsTrue}
+use Rattle.std.proofs.Common.{List, refl, subst}
 use Rattle.std.specs.List.{Contains}
-use Rattle.wb_values.specs.Value.{Name, Valuation}
-use Rattle.verilog_meaning.specs.Register.{is_bit_of, value_bit}
+use Rattle.verilog_meaning.specs.Register.{value_bit}
 use Rattle.verilog_meaning.specs.Hierarchy.{Placed, placed_scope}
-use Rattle.verilog_meaning.specs.Settled.{Design, IsPlacedIn, inside, IsDeclared, IsSettled}
+use Rattle.verilog_meaning.specs.Settled.{IsPlacedIn, inside, IsDeclared}
 use Rattle.verilog_designs.specs.Dependence.{Bit, PlacedBit, bit_of, IsBitIn}
-use Rattle.verilog_designs.specs.Accepted.{IsAccepted, undeclared, bad_hierarchy, comb_loop}
+use Rattle.verilog_designs.specs.Accepted.{undeclared, bad_hierarchy, comb_loop}
 use Rattle.wb_laws.specs.Settled.{SettledValueFitsItsWidth}
-use Rattle.verilog_unique.specs.Agreement.{Agree, IsBitDeclared, AreLocal}
+use Rattle.verilog_unique.specs.Agreement.{Agree, IsBitDeclared}
 use Rattle.verilog_settled.specs.Locality.{AssignedBitIsLocal, BlockBitIsLocal}
 use Rattle.verilog_unique.specs.Unique.{OneValueWhereLocal, SettledValuationIsUnique}
 use Rattle.verilog_unique.proofs.Chains.{ends}

@@ -1,6 +1,6 @@
 -- Values of one object with the same bits are the same.
-use Rattle.std.proofs.Common.{◌≡◌, ℕ, zero, suc, ◌+◌, ◌/◌, ◌%◌, ◌^◌, ◌<◌, ◌≤◌, Bool, true, false, List, [], ◌∷◌, length, inl, inr, refl, sym, ap, ◌∙◌, subst, Option, Some, None, arith, get_or}
-use Rattle.std.specs.Prelude.{IsTrue, is_some, not, ◌&&◌, ◌==◌, nat_lt, slice_index}
+use Rattle.std.proofs.Common.{◌≡◌, ℕ, ◌^◌, ◌<◌, Bool, true, false, List, inl, inr, sym, ap, ◌∙◌, Option, Some, None, arith}
+use Rattle.std.specs.Prelude.{IsTrue, is_some, not, ◌==◌, slice_index}
 use Rattle.std.specs.Int.{bit_at}
 use Rattle.std.proofs.lemmas.Nat.Bits.{bit_at-lt, same_from_bits_below}
 use Rattle.std.proofs.lemmas.List.{ext_get_or}

@@ -1,5 +1,5 @@
 -- An accepted design has at most one settled valuation.
-use Rattle.std.specs.Prelude.{◌≡◌, List, Contains, Some, ⊤}
+use Rattle.std.specs.Prelude.{◌≡◌, Contains, Some, ⊤}
 use Rattle.wb_values.specs.Value.{Name, Valuation}
 use Rattle.verilog_trees.specs.Syntax.{Expression, Target, Statement, Module, Source}
 use Rattle.verilog_meaning.specs.Register.{combinational_blocks}
