@@ -14,4 +14,5 @@ pub mod Instances
 pub mod Constants
 pub mod Fitting
 pub mod Local
+pub mod Next
 pub mod Unique

@@ -5,6 +5,7 @@ use Rattle.verilog_trees.specs.Syntax.{Expression, Target, Statement, Module, So
 use Rattle.verilog_meaning.specs.Register.{combinational_blocks}
 use Rattle.verilog_meaning.specs.Hierarchy.{Placed, module_named}
 use Rattle.verilog_meaning.specs.Settled.{Design, IsPlacedIn, inside, IsDeclared, assignments, Connection, port_connections, IsSettled}
+use Rattle.verilog_meaning.specs.Next.{IsNext}
 use Rattle.verilog_designs.specs.Accepted.{IsAccepted}
 use Rattle.verilog_settled.specs.Locality.{LeavesAre, StatementIs}
 use Rattle.wb_laws.specs.Settled.{HasFittingNumbers}
@@ -35,7 +36,14 @@ HasOneValue d =
 abbrev pub SettledValuationIsUnique : Type 0
 SettledValuationIsUnique = (d : Design) → IsAccepted d → NumbersFit d.source → HasOneValue d
 
--- It has at most one also where it is only known that two valuations agree on each bit if they agree on all that drives it.
+-- For one valuation the registers after the clock's edge have one value there, too.
+abbrev pub NextRegistersAreUnique : Type 0
+NextRegistersAreUnique =
+    (d : Design) (v next other : Valuation) (p : Placed) (n : Name) → IsNext d v next → IsNext d v other → IsPlacedIn d p → IsDeclared p n
+    → inside next p n ≡ inside other p n
+
+-- An accepted design has at most one settled valuation also where all that is known of the valuations is that they agree on each
+-- bit if they agree on what that depends on.
 abbrev pub OneValueWhereLocal : Type 0
 OneValueWhereLocal =
     (d : Design) (registers inputs v w : Valuation) → IsAccepted d → AreLocal d v w → IsSettled d registers inputs v → IsSettled d registers inputs w

@@ -1,6 +1,6 @@
 //! The laws, each the contract of a function without code.
 ghost use Rattle.verilog_unique.specs.Finite.{PathsAreShort, BitsAreFinite, ChainsAreShort};
-ghost use Rattle.verilog_unique.specs.Unique.{OneValueWhereLocal, SettledValuationIsUnique};
+ghost use Rattle.verilog_unique.specs.Unique.{NextRegistersAreUnique, OneValueWhereLocal, SettledValuationIsUnique};
 
 /// In a design that breaks no rule on the hierarchy paths are short, and all bits of declared names stand in a list.
 pub fn a_design_is_finite()
@@ -22,4 +22,9 @@ pub fn values_are_one_where_drivers_are_local()
 /// An accepted design, whose numbers fit, has at most one settled valuation for the same registers and inputs.
 pub fn a_settled_valuation_is_unique()
     ensures { SettledValuationIsUnique }
+{}
+
+/// For one valuation the registers after the clock's edge have one value under each declared name.
+pub fn the_next_registers_are_unique()
+    ensures { NextRegistersAreUnique }
 {}
