@@ -43,15 +43,15 @@ copied_there s n x j k b c r e g =
     there : ℕ → ℕ → Bit
     there i l = record { of_name = n; word = i; place = l }
 
-cell_word : (q : Option ℕ) → word_of_cell (cell_at q) ≡ q
+pub cell_word : (q : Option ℕ) → word_of_cell (cell_at q) ≡ q
 cell_word None = refl
 cell_word (Some k) = refl
 
 -- what a single select means: a word of a memory, or bits of what is none
-abbrev word_place : Scope → Name → Select → Place
+abbrev pub word_place : Scope → Name → Select → Place
 word_place s n i = record { of_name = n; cell = indexed_cell (s n) (select_index s no_values i); bits = all_bits (s n) }
 
-abbrev bits_place : Scope → Name → Select → Place
+abbrev pub bits_place : Scope → Name → Select → Place
 bits_place s n i = record { of_name = n; cell = variable_cell; bits = select_bits s no_values (s n) i }
 
 abbrev IsAt : Scope → Name → Selects → ℕ → Bit → Type 0

@@ -17,3 +17,5 @@ pub mod Reached
 pub mod Full
 pub mod Choices
 pub mod Runs
+pub mod Shown
+pub mod PlainShown

@@ -15,13 +15,13 @@ use Rattle.verilog_settled.proofs.Fitting.{turned, value_fits, parts_fit}
 use Rattle.verilog_settled.proofs.Widened.{side_bit, side_fits}
 use Rattle.verilog_settled.proofs.Copied.{SetOr, name_copied}
 
-at_most : (x : ℕ) → x ≤ x
+pub at_most : (x : ℕ) → x ≤ x
 at_most x = omega arith
 
-second_most : (x y : ℕ) → y ≤ max x y
+pub second_most : (x y : ℕ) → y ≤ max x y
 second_most x y = omega arith
 
-not_plain : {A : Type 0} → false ≡ true → A
+pub not_plain : {A : Type 0} → false ≡ true → A
 not_plain h = absurd (false≢true h)
 
 -- a bit that stands elsewhere in other numbers
@@ -34,10 +34,10 @@ both_unset : (width x y j : ℕ) (v w : Valuation) (HasValue : Name → Type 0) 
     → SetOr x y j v w HasValue P
 both_unset width x y j v w HasValue P h k l = inl (unset_past width x j h l ∙ sym (unset_past width y j k l))
 
-low_of_two : (x n rest j : ℕ) → j < n → is_set (x * 2 ^ n + rest) j ≡ is_set rest j
+pub low_of_two : (x n rest j : ℕ) → j < n → is_set (x * 2 ^ n + rest) j ≡ is_set rest j
 low_of_two x n rest j h = set_from_bit (x * 2 ^ n + rest) rest j j (bit_at_cat_low x n rest j h)
 
-high_of_two : (x n rest j : ℕ) → rest < 2 ^ n → n ≤ j → is_set (x * 2 ^ n + rest) j ≡ is_set x (j - n)
+pub high_of_two : (x n rest j : ℕ) → rest < 2 ^ n → n ≤ j → is_set (x * 2 ^ n + rest) j ≡ is_set x (j - n)
 high_of_two x n rest j f h = set_from_bit (x * 2 ^ n + rest) x j (j - n) (bit_at_cat_high x n rest j f h)
 
 -- the bits of copies, from those of what is copied

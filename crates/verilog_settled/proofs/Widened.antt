@@ -2,8 +2,9 @@
 use Rattle.std.proofs.Common.{◌≡◌, ℕ, zero, suc, ◌+◌, ◌-◌, ◌*◌, ◌/◌, ◌%◌, ◌^◌, ◌<◌, ◌≤◌, Bool, true, false, cond, ◌==◌, nat_le, ◌⊎◌, inl, inr, refl, sym, ap, ◌∙◌, subst, arith, pow_pos, mod-lt, le-leb}
 use Rattle.std.specs.Int.{bit_at}
 use Rattle.std.proofs.lemmas.Bool.{cases_lt, lt-leb}
+use Rattle.std.proofs.lemmas.Bool.Decides.{nat_tests}
 use Rattle.std.proofs.lemmas.Nat.{pow-add, shr_split, shr_below, mod-mul-add, mul-add-lt}
-use Rattle.std.proofs.lemmas.Nat.Bits.{bit_at_cat_low, bit_at_cat_high}
+use Rattle.std.proofs.lemmas.Nat.Bits.{bit_at_cat_low, bit_at_cat_high, bit_at_ones}
 use Rattle.wb_values.specs.Number.{top_bit, word_sext}
 use Rattle.verilog_meaning.specs.Expression.{widened, side_by_side}
 use Rattle.verilog_meaning.specs.Register.{is_set}
@@ -16,7 +17,7 @@ top_at p zero r h g = lt-leb (2 * p) (2 * (zero * p + r)) (omega (arith, h))
 top_at p (suc zero) r h g = le-leb (2 * p) (2 * (suc zero * p + r)) (omega (arith, h))
 top_at p (suc (suc q)) r h g = absurd (omega (arith, g))
 
-top_is : (w x : ℕ) → x < 2 ^ suc w → top_bit (suc w) x ≡ is_set x w
+pub top_is : (w x : ℕ) → x < 2 ^ suc w → top_bit (suc w) x ≡ is_set x w
 top_is w x h =
     let e : 2 ^ suc w ≡ 2 * 2 ^ w = twice w in
     let whole : x / 2 ^ w * 2 ^ w + x % 2 ^ w ≡ x = shr_split x w in
@@ -34,7 +35,7 @@ top_is w x h =
 -- ---- wider words
 
 -- the bits past the width, by the top bit
-past : Bool → ℕ → ℕ
+pub past : Bool → ℕ → ℕ
 past b n = cond b (2 ^ n - 1) 0
 
 filled : (x t d f : ℕ) → t ≡ d * f → 0 < d → x + (t - f) ≡ (d - 1) * f + x
@@ -64,7 +65,7 @@ widened_low true from to x j h g =
 pub widened_high : (from to x y j : ℕ) → from ≤ to → from ≤ j → x < 2 ^ from → y < 2 ^ from → is_set (widened false from to x) j ≡ is_set (widened false from to y) j
 widened_high from to x y j h g p q = unset_past from x j p g ∙ sym (unset_past from y j q g)
 
-signed_bit : (from to x j : ℕ) → from ≤ to → from ≤ j → x < 2 ^ from → is_set (word_sext to from x) j ≡ is_set (past (top_bit from x) (to - from)) (j - from)
+pub signed_bit : (from to x j : ℕ) → from ≤ to → from ≤ j → x < 2 ^ from → is_set (word_sext to from x) j ≡ is_set (past (top_bit from x) (to - from)) (j - from)
 signed_bit from to x j h g p =
     set_from_bit (word_sext to from x) (past (top_bit from x) (to - from)) j (j - from)
     (ap (λ z. bit_at z j) (sext_is to from x h) ∙ bit_at_cat_high (past (top_bit from x) (to - from)) from x j p g)
@@ -76,6 +77,14 @@ widened_signed (suc w) to x y j h g p q e =
     let same : is_set x w ≡ is_set y w = (let k : suc w - 1 ≡ w = omega arith in subst (λ i. is_set x i ≡ is_set y i) k e) in
     let tops : top_bit (suc w) x ≡ top_bit (suc w) y = top_is w x p ∙ same ∙ sym (top_is w y q) in
     signed_bit (suc w) to x j h g p ∙ ap (λ b. is_set (past b (to - suc w)) (j - suc w)) tops ∙ sym (signed_bit (suc w) to y j h g q)
+
+zero_unset : (b : ℕ) → is_set 0 b ≡ false
+zero_unset b = grind (arith, nat_tests)
+
+pub top_past : (t : Bool) (n i : ℕ) → i < n → is_set (past t n) i ≡ t
+unfolding past
+top_past true n i h = ap (λ b. b == 1) (bit_at_ones n i h)
+top_past false n i h = zero_unset i
 
 -- ---- copies
 

@@ -2,7 +2,7 @@
 use Rattle.std.specs.Prelude.{Bool, IsTrue}
 use Rattle.wb_values.specs.Value.{Name, Valuation}
 use Rattle.verilog_meaning.specs.Expression.{Scope}
-use Rattle.verilog_settled.specs.Locality.{ValueIsLocalAt, SelfValueIsLocalAt, AssignedValueIsLocalAt, CopiedBitIsLocalAt, WrittenBitIsLocalAt, AssignedBitIsLocalAt, RunBitIsLocalAt, BlockBitIsLocalAt}
+use Rattle.verilog_settled.specs.Locality.{ValueIsLocalAt, SelfValueIsLocalAt, AssignedValueIsLocalAt, CopiedBitIsLocalAt, CopiedBitIsThereAt, WrittenBitIsLocalAt, AssignedBitIsLocalAt, RunBitIsLocalAt, BlockBitIsLocalAt}
 
 abbrev pub ValuesAreLocal : Type 0
 ValuesAreLocal = (s : Scope) (v w : Valuation) (is_known : Name → Bool) → ValueIsLocalAt s v w (λ n. IsTrue (is_known n))
@@ -15,6 +15,9 @@ AssignedValuesAreLocal = (s : Scope) (v w : Valuation) (is_known : Name → Bool
 
 abbrev pub CopiedBitsAreLocal : Type 0
 CopiedBitsAreLocal = (s : Scope) (v w : Valuation) (is_known : Name → Bool) → CopiedBitIsLocalAt s v w (λ n. IsTrue (is_known n))
+
+abbrev pub CopiedBitsAreThere : Type 0
+CopiedBitsAreThere = (s : Scope) (v : Valuation) (is_known : Name → Bool) → CopiedBitIsThereAt s v (λ n. IsTrue (is_known n))
 
 abbrev pub WrittenBitsAreLocal : Type 0
 WrittenBitsAreLocal = (s : Scope) (v w : Valuation) (is_known : Name → Bool) → WrittenBitIsLocalAt s v w (λ n. IsTrue (is_known n))

@@ -1,12 +1,13 @@
 -- What a value depends on is what the definitions of reads and of dependence say, within one module or between two: where two
 -- valuations give two results, they differ at a bit that is read, or on which the result is said to depend.
-use Rattle.std.specs.Prelude.{◌≡◌, ◌≢◌, ℕ, ◌^◌, ◌<◌, Bool, true, false, not, ◌&&◌, Option, Some, None, is_some, IsTrue, ⊤, ◌⊎◌}
+use Rattle.std.specs.Prelude.{◌≡◌, ◌≢◌, ℕ, ◌^◌, ◌<◌, Bool, true, false, not, ◌&&◌, ◌||◌, Option, Some, None, is_some, IsTrue, ⊤, ◌⊎◌}
 use Rattle.wb_values.specs.Value.{Name, Value, Valuation}
 use Rattle.verilog_trees.specs.Syntax.{Expression, number, name, concatenation, replication, as_signed, as_unsigned, unary, reduction, binary, shift, power, comparison, logical, conditional, Expressions, no_expressions, expression, Select, index, part, part_up, part_down, Selects, whole, one, two, Target, place, joined, Targets, no_targets, target, Statement, empty, blocking, nonblocking, if_then, if_else, case, block, Statements, no_statements, statement, CaseItems, no_items, arm, default_arm}
 use Rattle.verilog_meaning.specs.Expression.{Object, Scope, object_width, is_memory, sign_of, value_of, self_value, assigned_value}
 use Rattle.verilog_meaning.specs.Statement.{places, target_width, written, run}
 use Rattle.verilog_meaning.specs.Register.{value_bit, is_set, selects_are_constant, may_reach}
 use Rattle.verilog_meaning.specs.Settled.{IsValueOf, Has, HasRun}
+use Rattle.verilog_rules.specs.Expression.{lacks_index}
 use Rattle.verilog_designs.specs.Reads.{reads, surely_reaches}
 use Rattle.verilog_designs.specs.Dependence.{Bit, is_in, is_plain, copied, takes, index_reads, IsGivenBy, at_start, After}
 
@@ -131,6 +132,25 @@ CopiedBitIsLocalAt s v w IsKnown =
     → HasNoConstantMemory s → AllFit s IsKnown v → AllFit s IsKnown w → LeavesAre IsKnown e → IsTrue (is_plain s e) → j < width
     → (is_set (assigned_value s v width e) j ≡ is_set (assigned_value s w width e) j)
     ⊎ DifferAt v w (λ y. copied s e (sign_of s e) j ≡ Some y)
+
+abbrev mutual
+  -- a memory stands in a plain right side without an index
+  pub has_bare_memory : Scope → Expression → Bool
+  has_bare_memory s (name n x) = is_memory (s n) && lacks_index x
+  has_bare_memory s (concatenation es) = some_bare_memory s es
+  has_bare_memory s (replication k es) = some_bare_memory s es
+  has_bare_memory s _ = false
+
+  pub some_bare_memory : Scope → Expressions → Bool
+  some_bare_memory s no_expressions = false
+  some_bare_memory s (expression e es) = has_bare_memory s e || some_bare_memory s es
+
+-- Where a bit is copied, the value has it: the bit is not only the one that decides.
+abbrev pub CopiedBitIsThereAt : (s : Scope) (v : Valuation) (IsKnown : Name → Type 0) → Type 0
+CopiedBitIsThereAt s v IsKnown =
+    (e : Expression) (width j : ℕ) (y : Bit)
+    → HasNoConstantMemory s → AllFit s IsKnown v → LeavesAre IsKnown e → IsTrue (is_plain s e) → has_bare_memory s e ≡ false → j < width
+    → copied s e (sign_of s e) j ≡ Some y → is_set (assigned_value s v width e) j ≡ value_bit (v y.of_name) y.word y.place
 
 -- ---- targets
 

@@ -1,5 +1,5 @@
 //! The laws, each the contract of a function without code.
-ghost use Rattle.verilog_settled.specs.Laws.{ValuesAreLocal, SelfValuesAreLocal, AssignedValuesAreLocal, CopiedBitsAreLocal, WrittenBitsAreLocal, AssignedBitsAreLocal, RunBitsAreLocal, BlockBitsAreLocal};
+ghost use Rattle.verilog_settled.specs.Laws.{ValuesAreLocal, SelfValuesAreLocal, AssignedValuesAreLocal, CopiedBitsAreLocal, CopiedBitsAreThere, WrittenBitsAreLocal, AssignedBitsAreLocal, RunBitsAreLocal, BlockBitsAreLocal};
 
 /// An expression has one value under two valuations, or they differ at a bit that it reads: in a context, by itself, and where it is
 /// assigned.
@@ -9,9 +9,11 @@ pub fn a_value_rests_on_what_is_read()
     ensures assigned { AssignedValuesAreLocal }
 {}
 
-/// Each bit of a plain right side is the same under two valuations, or they differ at the bit that is copied to it.
+/// Each bit of a plain right side is the same under two valuations, or they differ at the bit that is copied to it; and where a bit
+/// is copied, the value has it.
 pub fn a_plain_bit_rests_on_the_bit_that_is_copied()
-    ensures { CopiedBitsAreLocal }
+    ensures one { CopiedBitsAreLocal }
+    ensures there { CopiedBitsAreThere }
 {}
 
 /// After numbers were written to a target each of its bits is the same, or one of the causes is found that the definitions name.
