@@ -44,9 +44,9 @@ arms-row n end_of-Arm y = refl
 arms-row n (more_of-Arm e x k) y = ap (λ (o : Option pure.Statement). Some (arm_before (tree_of e) (statement_of x) o)) (arms-row _ k y)
 
 -- else and what stands behind it
-abbrev else_before : Option pure.Statement → List Token → List Token
-else_before None r = r
-else_before (Some s) r = word (codes "else") ∷ bare_statement c s r
+abbrev else_before : Bool → Option pure.Statement → List Token → List Token
+else_before c None r = r
+else_before c (Some s) r = word (codes "else") ∷ bare_statement c s r
 
 arm_bare : (c : Bool) (e : pure.Expression) (x : pure.Statement) (o : Option pure.Statement) (r : List Token)
     → bare_statement c (arm_before e x o) r ≡ word (codes "if") ∷ mark left_parenthesis ∷ bare e (mark right_parenthesis ∷ bare_statement c x (else_before c o r))
