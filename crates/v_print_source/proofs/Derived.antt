@@ -74,10 +74,10 @@ prefix_printable m f known = subst PrefixPrintable known (all_prefix m)
 mutual
   pub printable : (k : ℕ) (e : Expression) (text rest : List Token) → IsExpression k e text rest → AreLexed text → Leaves (IsPrintable e) rest
   printable _ _ _ _ (tighter k e text rest d) l = printable (suc k) e text rest d l
-  printable _ _ _ _ (chosen c x y text yes no rest dc dx dy) l =
-      let a = printable 1 c text (mark question ∷ yes) dc l in
-      let b = printable 0 x yes (mark colon ∷ no) dx (behind (mark question) yes a.lexed) in
-      let d = printable 0 y no rest dy (behind (mark colon) no b.lexed) in
+  printable _ _ _ _ (chosen c x y text value other rest dc dx dy) l =
+      let a = printable 1 c text (mark question ∷ value) dc l in
+      let b = printable 0 x value (mark colon ∷ other) dx (behind (mark question) value a.lexed) in
+      let d = printable 0 y other rest dy (behind (mark colon) other b.lexed) in
       record { is = (a.is, b.is, d.is); lexed = d.lexed }
   printable _ _ _ _ (joined m o a b text more rest known da db) l =
       let x = printable o.level a text (mark m ∷ more) da l in

@@ -15,7 +15,7 @@ use Rattle.v_print_source.proofs.Derived.{printable, assignment_printable, state
 
 -- what is spelled so is of a kind, and leaves tokens as texts have them
 abbrev Gives : {A : Type 0} → (A → List Token → List Token → Type 0) → (A → Type 0) → Type 0
-Gives {A} Is P = (x : A) (text rest : List Token) → Is x text rest → AreLexed text → Leaves (P x) rest
+Gives {A = A} Is P = (x : A) (text rest : List Token) → Is x text rest → AreLexed text → Leaves (P x) rest
 
 each_of : {A : Type 0} (P : A → Type 0) (xs : List A) → EachOfSome P xs → Each P xs
 each_of P [] h = absurd h

@@ -115,7 +115,7 @@ assignment_kept m _ _ _ (assigned t e text value rest dt de) st p r xs s =
 
 -- each part keeps what is open
 abbrev pub KeepsEach : {A : Type 0} → (A → List Token → List Token → Type 0) → (A → Type 0) → (A → List Token → List Token) → Type 0
-KeepsEach {A} Is P f = (x : A) (text rest : List Token) → Is x text rest → P x → (xs : List Opening) → IsShallow xs text → Keeps xs text rest (f x)
+KeepsEach {A = A} Is P f = (x : A) (text rest : List Token) → Is x text rest → P x → (xs : List Opening) → IsShallow xs text → Keeps xs text rest (f x)
 
 comma_parts : {A : Type 0} (Is : A → List Token → List Token → Type 0) (f : A → List Token → List Token) (as_ : List A) (text rest : List Token) → AreParted Is as_ text rest → (q : List Token)
     → parts_before f true as_ q ≡ mark comma ∷ parts_before f false as_ q

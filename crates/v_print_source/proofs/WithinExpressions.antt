@@ -2,9 +2,10 @@
 use Rattle.std.proofs.Common.{◌≡◌, ℕ, suc, ◌+◌, ◌≤◌, max, Bool, true, false, List, [], ◌∷◌, length, Option, Some, None, refl, sym, ap, ◌∙◌, subst, arith}
 use Rattle.std.specs.Prelude.{cond, ◌||◌, ◌==◌, nat_lt, nat_le, codes}
 use Rattle.std.specs.Fmt.{decimal as numeral}
+use Rattle.std.proofs.lemmas.Bool.{true≢false}
 use Rattle.verilog_text.specs.Token.{Mark, left_parenthesis, right_parenthesis, left_bracket, right_bracket, left_brace, right_brace, comma, colon, question, plus_colon, minus_colon, Token, word, system, decimal, based, mark}
 use Rattle.verilog_text.specs.Text.{Opening, in_parentheses, in_brackets, in_braces, in_choice, Step, stays, step_of_mark}
-use Rattle.verilog_text.specs.Spelling.{prefix_of, Operator, operator_of, behind_sign as number_behind, based_number, IsNumber, plain, unsized, of_size, IsExpression, tighter, chosen, joined, prefixed, a_number, a_name, bracketed as in_brackets_spelled, concatenated, replicated, made_signed, made_unsigned, AreExpressions, last_one, and_more, IsSelect, by_index, by_part, by_part_up, by_part_down, AreSelects, no_select, one_select, two_selects}
+use Rattle.verilog_text.specs.Spelling.{prefix_of, Operator, operator_of, behind_sign as number_behind, plain_number, decimal_value, based_number, IsNumber, plain, unsized, of_size, IsExpression, tighter, chosen, joined, prefixed, a_number, a_name, bracketed as in_brackets_spelled, concatenated, replicated, made_signed, made_unsigned, AreExpressions, last_one, and_more, IsSelect, by_index, by_part, by_part_up, by_part_down, AreSelects, no_select, one_select, two_selects}
 use Rattle.verilog_trees.specs.Syntax as tree
 use Rattle.verilog_trees.specs.Syntax.{Number, Expression, Expressions, Select, Selects}
 use Rattle.v_print.specs.Spelled.{is_plain, size_before, based_text, number_before, level_of, bracketed, bare, bare_parts, bare_select, bare_selects}
@@ -33,7 +34,7 @@ one_token n q h = by (is_plain n) n.sized h
   where
     by : (t s : Bool) → s ≡ false → length (cond t (decimal (numeral n.value) ∷ q) (cond s (decimal (numeral n.width) ∷ based (based_text n) ∷ q) (based (based_text n) ∷ q))) ≤ suc (length q)
     by true s e = omega arith
-    by false true e = absurd cc
+    by false true e = absurd (true≢false e)
     by false false e = omega arith
 
 two_tokens : (n : Number) (q : List Token) → length (number_before n q) ≤ suc (suc (length q))
@@ -51,7 +52,7 @@ nothing_more n h = omega (arith, h)
 number_inside : (n : Number) (text rest : List Token) → IsNumber n text rest → (xs : List Opening) → IsShallow xs text → Inside 0 (number_before n) xs text rest
 number_inside _ _ _ (plain text rest) xs s =
     let a = behind_stays (decimal text) xs rest refl s in
-    record { room = nothing_more (length xs) a.0; shallow = a.1; count = λ q. one (length (number_before _ q)) (length q) (length rest) (one_token _ q refl) }
+    record { room = nothing_more (length xs) a.0; shallow = a.1; count = λ q. one (length (number_before (plain_number text) q)) (length q) (length rest) (one_token (plain_number text) q refl) }
   where
     one : (n q r : ℕ) → n ≤ suc q → n + r ≤ suc r + q
     one n q r h = omega (arith, h)
@@ -64,7 +65,7 @@ number_inside _ _ _ (unsized text rest) xs s =
 number_inside _ _ _ (of_size size text rest) xs s =
     let a = behind_stays (decimal size) xs (based text ∷ rest) refl s in
     let b = behind_stays (based text) xs rest refl a.1 in
-    record { room = nothing_more (length xs) b.0; shallow = b.1; count = λ q. two (length (number_before _ q)) (length q) (length rest) (two_tokens _ q) }
+    record { room = nothing_more (length xs) b.0; shallow = b.1; count = λ q. two (length (number_before (based_number (Some (decimal_value size)) text) q)) (length q) (length rest) (two_tokens (based_number (Some (decimal_value size)) text) q) }
   where
     two : (n q r : ℕ) → n ≤ suc (suc q) → n + r ≤ suc (suc r) + q
     two n q r h = omega (arith, h)
@@ -145,8 +146,8 @@ lower l k n r m h = together (brackets (nat_lt l k)) n r m (count_falls l k (n +
 three : (n c x y : ℕ) → n + c ≤ 200 → suc n + x ≤ 200 → n + y ≤ 200 → n + max c (max (suc x) y) ≤ 200
 three n c x y h g k = omega (arith, h, g, k)
 
-sums : (c x y yes no r t q : ℕ) → c + suc yes ≤ t + suc x → x + suc no ≤ yes + suc y → y + r ≤ no + q → c + r ≤ t + q
-sums c x y yes no r t q h g k = omega (arith, h, g, k)
+sums : (c x y value other r t q : ℕ) → c + suc value ≤ t + suc x → x + suc other ≤ value + suc y → y + r ≤ other + q → c + r ≤ t + q
+sums c x y value other r t q h g k = omega (arith, h, g, k)
 
 one_more : (a b c : ℕ) → a + b ≤ c → suc a + b ≤ suc c
 one_more a b c h = omega (arith, h)
@@ -189,16 +190,16 @@ mutual
         shallow = w.shallow;
         count = λ q. lower (level_of e) k (length (bare e q)) (length rest) (length text + length q) (w.count q);
       }
-  within _ _ _ _ (chosen c x y text yes no rest dc dx dy) xs s =
-      let wc = within 1 c text (mark question ∷ yes) dc xs s in
-      let opened = behind_opens in_choice (mark question) xs yes refl wc.shallow in
-      let wx = whole x (in_choice ∷ xs) yes (mark colon ∷ no) (within 0 x yes (mark colon ∷ no) dx (in_choice ∷ xs) opened.1) in
-      let wy = whole y xs no rest (within 0 y no rest dy xs (behind_choice xs no wx.shallow).1) in
+  within _ _ _ _ (chosen c x y text value other rest dc dx dy) xs s =
+      let wc = within 1 c text (mark question ∷ value) dc xs s in
+      let opened = behind_opens in_choice (mark question) xs value refl wc.shallow in
+      let wx = whole x (in_choice ∷ xs) value (mark colon ∷ other) (within 0 x value (mark colon ∷ other) dx (in_choice ∷ xs) opened.1) in
+      let wy = whole y xs other rest (within 0 y other rest dy xs (behind_choice xs other wx.shallow).1) in
       alone 0 (tree.conditional c x y) xs text rest refl (record {
         room = three (length xs) (bracketed_depth (nat_lt (level_of c) 1) (depth_of c)) (depth_of x) (depth_of y) wc.room wx.room wy.room;
         shallow = wy.shallow;
-        count = λ q. sums (length (bracketed (nat_lt (level_of c) 1) (bare c) (mark question ∷ bare x (mark colon ∷ bare y q)))) (length (bare x (mark colon ∷ bare y q))) (length (bare y q)) (length yes) (length no) (length rest) (length text) (length q)
-            (bracketed_count (nat_lt (level_of c) 1) (bare c) (length (mark question ∷ yes)) (length text) wc.count (mark question ∷ bare x (mark colon ∷ bare y q)))
+        count = λ q. sums (length (bracketed (nat_lt (level_of c) 1) (bare c) (mark question ∷ bare x (mark colon ∷ bare y q)))) (length (bare x (mark colon ∷ bare y q))) (length (bare y q)) (length value) (length other) (length rest) (length text) (length q)
+            (bracketed_count (nat_lt (level_of c) 1) (bare c) (length (mark question ∷ value)) (length text) wc.count (mark question ∷ bare x (mark colon ∷ bare y q)))
             (wx.count (mark colon ∷ bare y q)) (wy.count q);
       })
   within _ _ _ _ (joined m o a b text more rest known da db) xs s =
