@@ -135,7 +135,6 @@ pub(crate) fn expression(expression_: &Expression<'_>, out: &mut String) -> Resu
             test_links(list, out)
         }
         Expression::Conditional(list, last) => {
-            word("conditional(", out)?;
             choices(list, out)?;
             expression(last, out)
         }
@@ -169,13 +168,15 @@ fn test_links(list: &[TestLink<'_>], out: &mut String) -> Result<(), AllocError>
     word(")", out)
 }
 
+/// Conditions with their values. A conditional in the place of the last value has the shape of one choice more.
 #[cycle(expression)]
 fn choices(list: &[Choice<'_>], out: &mut String) -> Result<(), AllocError> {
     for choice in list {
+        word("conditional", out)?;
         expression(&choice.condition, out)?;
         expression(&choice.value, out)?;
     }
-    word(")", out)
+    Ok(())
 }
 
 #[cycle(expression)]

@@ -94,8 +94,8 @@ then_follows c base xs text more rest f g a next =
       count = λ e q. sums (length (f (g q))) (length (g q)) (length more) (length rest) (length text) (length q) (a.count e (g q)) (b.count e q);
     }
 
-one_more : (a b c : ℕ) → a + b ≤ c → suc a + b ≤ suc c
-one_more a b c h = omega (arith, h)
+one_more : (a b n q : ℕ) → a + b ≤ n + q → suc a + b ≤ suc n + q
+one_more a b n q h = omega (arith, h)
 
 -- a token in front, behind which these are open
 pub token_then : (c : Bool) (base : List Opening) (t : Token) (xs ys : List Opening) (text rest : List Token) (f : List Token → List Token) → open_behind (step_of t) xs ≡ ys → IsShallow xs (t ∷ text)
@@ -108,7 +108,7 @@ token_then c base t xs ys text rest f e s next =
       over = b.over;
       shallow = b.shallow;
       fits = λ q h. shallow_by t xs ys (f q) e a.0 (b.fits q h);
-      count = λ n q. one_more (length (f q)) (length rest) (length text + length q) (b.count n q);
+      count = λ n q. one_more (length (f q)) (length rest) (length text) (length q) (b.count n q);
     }
 
 -- a token that is all

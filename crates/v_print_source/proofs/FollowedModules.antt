@@ -12,7 +12,7 @@ use Rattle.v_print.specs.Bodies.{bare_statement, parts_before, row_before, name_
 use Rattle.v_print.specs.Printable.{IsPrintableName, Each, EachOfSome, IsPrintablePort, IsPrintableWire, IsPrintableVariable, ArePrintableConnections, IsPrintableOptional, IsPrintableInstance, ArePrintableOverrides, IsPrintableEvent, ArePrintableEvents, IsPrintableAssignment, IsPrintableItem, IsPrintableHeader, ArePrintablePorts, IsPrintableModule, IsPrintableSource}
 use Rattle.v_print.proofs.Open.{IsShallow, name_stays, parenthesis_opens, parenthesis_closes, mark_stays}
 use Rattle.v_print_source.proofs.Within.{behind_stays, behind_opens, behind_closes}
-use Rattle.v_print_source.proofs.Kept.{Keeps, kept_as, nothing_kept, then_kept, other_kept, token_kept, after_token, pair_kept, assignment_kept, KeepsEach, some_kept, parted_kept, each_of, name_kept, flag_kept, range_kept, port_kept, parameter_kept, net_kept, variable_kept, connections_kept, instance_kept}
+use Rattle.v_print_source.proofs.Kept.{Keeps, kept_as, nothing_kept, then_kept, other_kept, token_kept, after_token, pair_kept, assignment_kept, KeepsEach, some_kept, parted_kept, name_kept, flag_kept, range_kept, port_kept, parameter_kept, net_kept, variable_kept, connections_kept, instance_kept}
 use Rattle.v_print_source.proofs.Followed.{IsBase, IsOver, at_base, nothing_base, Follows, nothing_follows, kept_then, then_follows, token_then, token_follows, ended_follows, statement_follows}
 
 -- ---- words

@@ -158,10 +158,10 @@ after_bound : (xs : List Opening) (text rest : List Token) (f : List Token → L
 after_bound xs text rest f s more =
     let a = behind_bound xs text s in
     let i = more a.1 in
-    record { shallow = i.shallow; fits = λ q h. bounds_stay xs (f q) a.0 (i.fits q h); count = λ q. one (length (f q)) (length rest) (length text + length q) (i.count q) }
+    record { shallow = i.shallow; fits = λ q h. bounds_stay xs (f q) a.0 (i.fits q h); count = λ q. one (length (f q)) (length rest) (length text) (length q) (i.count q) }
   where
-    one : (a b c : ℕ) → a + b ≤ c → suc a + b ≤ suc c
-    one a b c h = omega (arith, h)
+    one : (a b n q : ℕ) → a + b ≤ n + q → suc a + b ≤ suc n + q
+    one a b n q h = omega (arith, h)
 
 pub range_kept : KeepsEach IsPerhapsRange IsPrintableRange range_before
 range_kept _ _ _ (left_out rest) p xs s = nothing_kept xs rest s

@@ -16,3 +16,4 @@ pub mod WithinExpressions
 pub mod Kept
 pub mod Followed
 pub mod FollowedModules
+pub mod Turns

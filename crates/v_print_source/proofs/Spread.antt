@@ -105,11 +105,14 @@ further x a b h l = omega (arith, h, l)
 larger : (i j : ℕ) → i ≤ j → 2 ^ i ≤ 2 ^ j
 larger i j h = pow-le-pow_right {n = 2} (omega arith) {i = i} {j = j} h
 
+turned : (x y : ℕ) → x * y ≡ y * x
+turned x y = omega arith
+
 joined_fits : (b p n d : ℕ) → n < 2 ^ b → d < 2 ^ p → n * 2 ^ p + d < 2 ^ (b + p)
 joined_fits b p n d h g = by n d (2 ^ b) (2 ^ p) (2 ^ (b + p)) (pow-add 2 b p) h g
   where
     by : (n d x y z : ℕ) → z ≡ x * y → n < x → d < y → n * y + d < z
-    by n d x y z e h g = subst (λ q. n * y + d < q) (sym e) (mul-add-lt n y d x h g)
+    by n d x y z e h g = subst (λ q. n * y + d < q) (sym (e ∙ turned x y)) (mul-add-lt n y d x h g)
 
 -- a digit more
 pub joined_spread : (b p v u w dv du dw : ℕ) → IsSpread b v u w → IsSpread p dv du dw → IsSpread (b + p) (v * 2 ^ p + dv) (u * 2 ^ p + du) (w * 2 ^ p + dw)

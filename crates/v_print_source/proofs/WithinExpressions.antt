@@ -107,11 +107,11 @@ after_one : (d : ℕ) (f : List Token → List Token) (t : Token) (xs : List Ope
 after_one d f t xs text rest i = record {
   room = i.room;
   shallow = i.shallow;
-  count = λ q. by (length (f q)) (length rest) (length text + length q) (i.count q);
+  count = λ q. by (length (f q)) (length rest) (length text) (length q) (i.count q);
 }
   where
-    by : (a b c : ℕ) → a + b ≤ c → suc a + b ≤ suc c
-    by a b c h = omega (arith, h)
+    by : (a b n q : ℕ) → a + b ≤ n + q → suc a + b ≤ suc n + q
+    by a b n q h = omega (arith, h)
 
 comma_more : (es : Expressions) (text rest : List Token) → AreExpressions es text rest → (q : List Token) → length (bare_parts true es q) ≡ suc (length (bare_parts false es q))
 comma_more _ _ _ (last_one e text rest d) q = refl
@@ -149,8 +149,8 @@ three n c x y h g k = omega (arith, h, g, k)
 sums : (c x y value other r t q : ℕ) → c + suc value ≤ t + suc x → x + suc other ≤ value + suc y → y + r ≤ other + q → c + r ≤ t + q
 sums c x y value other r t q h g k = omega (arith, h, g, k)
 
-one_more : (a b c : ℕ) → a + b ≤ c → suc a + b ≤ suc c
-one_more a b c h = omega (arith, h)
+one_more : (a b n q : ℕ) → a + b ≤ n + q → suc a + b ≤ suc n + q
+one_more a b n q h = omega (arith, h)
 
 fewer : (t : Bool) (n d : ℕ) → suc n + d ≤ 200 → n + bracketed_depth t d ≤ 200
 fewer true n d h = omega (arith, h)
@@ -213,7 +213,7 @@ mutual
         shallow = w.shallow;
         count = λ q.
             subst (λ ts. length ts + length rest ≤ suc (length text) + length q) (sym (p.0.printed a q))
-            (one_more (length (bracketed (nat_lt (level_of a) 12) (bare a) q)) (length rest) (length text + length q) (bracketed_count (nat_lt (level_of a) 12) (bare a) (length rest) (length text) w.count q));
+            (one_more (length (bracketed (nat_lt (level_of a) 12) (bare a) q)) (length rest) (length text) (length q) (bracketed_count (nat_lt (level_of a) 12) (bare a) (length rest) (length text) w.count q));
       })
   within _ _ _ _ (a_number n text rest d) xs s = alone 13 (tree.number n) xs text rest refl (number_inside n text rest d xs s)
   within _ _ _ _ (a_name n q text rest free d) xs s =

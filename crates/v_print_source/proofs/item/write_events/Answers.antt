@@ -1,10 +1,8 @@
 use Rattle.std.proofs.Common.{true, false, refl}
-use Rattle.std.proofs.lemmas.List.{get_or_default}
-use Rattle.v_print.specs.Bodies.{event_before, or_if}
-use Rattle.v_print.proofs.Loops.{loop_begins, loop_goes_on, loop_ends}
+use Rattle.v_print.proofs.Loops.{loop_begins, loop_ends}
 use Rattle.v_print.proofs.Written.{then}
-use Rattle.v_print_source.specs.Lists.{event_of}
 use Rattle.v_print_source.proofs.Wholes.{events_front}
+use Rattle.v_print_source.proofs.Turns.{event_goes_on}
 use Rattle.v_print_source.proofs.item.write_events.Goals as goal
 
 pub loop-event-init : goal.loop-event-init
@@ -12,8 +10,7 @@ loop-event-init c = loop_begins events_front c.args.events.now false c.args.out.
 
 pub loop-event-preserved : goal.loop-event-preserved
 loop-event-preserved c =
-    loop_goes_on events_front c.args.events.now c.loop-event.event-index c.event-item.result c.loop-event.started true (λ r. or_if c.loop-event.started (event_before (event_of c.event-item.result) r)) c.loop-event-test.true
-    c.event-item.is (λ ys r. refl) c.loop-event.invariant (then c.in_ok-write_or.ensures c.in_ok-write_event.ensures)
+    event_goes_on c.args.events.now c.loop-event.event-index _ c.loop-event.started c.loop-event-test.true c.loop-event.invariant (then c.in_ok-write_or.ensures c.in_ok-write_event.ensures)
 
 pub returns : goal.returns
 returns c = loop_ends events_front c.args.events.now c.loop-event.event-index c.loop-event.started c.loop-event-test.false (λ r. refl) c.loop-event.invariant

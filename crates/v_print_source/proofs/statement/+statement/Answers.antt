@@ -17,7 +17,7 @@ write_statement-returns-in_ok-mark-in-Nonblocking t c = as_front (nonblocking_ar
 
 pub write_statement-returns-in_ok-write_statement-in-Some : goal.write_statement-returns-in_ok-write_statement-in-Some
 write_statement-returns-in_ok-write_statement-in-Some t c =
-    as_front (if_arm c.args.colons c.args.statement.now c.in-If.arms c.in-If.last c.in-Some.other c.deref-in-Some-4.result.now c.deref-in-Some-2.result.now c.deref-in-Some-3.result.now c.in-If.is c.in-Some.is c.deref-in-Some-4.ensures c.deref-in-Some-2.ensures.value c.deref-in-Some-3.ensures.value)
+    as_front (if_arm c.args.colons c.args.statement.now c.in-If.arms c.in-If.last c.in-Some.other c.deref-in-Some-3.result.now c.deref-in-Some.result.now c.deref-in-Some-2.result.now c.in-If.is c.in-Some.is c.deref-in-Some-3.ensures c.deref-in-Some.ensures.value c.deref-in-Some-2.ensures.value)
     (then c.in_ok-write_arms-in-Some.ensures (then c.in_ok-write_last_else-in-Some.ensures (then c.in_ok-gap-in-Some.ensures c.in_ok-write_statement-in-Some.ensures)))
 
 pub write_statement-returns-in_ok-write_nothing-in-None : goal.write_statement-returns-in_ok-write_nothing-in-None
