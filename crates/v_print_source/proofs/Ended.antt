@@ -1,5 +1,7 @@
 -- A source that was written reads as what was written.
-use Rattle.std.proofs.Common.{◌≡◌, ℕ, ◌≤◌, Bool, true, false, List, [], ◌∷◌, length, sym, subst, arith}
+use Rattle.std.proofs.Common.{◌≡◌, ℕ, ◌≤◌, Bool, true, false, List, [], ◌∷◌, length, sym, ◌∙◌, subst, arith}
+use Rattle.std.specs.Prelude.{nat_le}
+use Rattle.std.proofs.lemmas.Bool.{leb-true}
 use Rattle.std.specs.String.{string_bytes}
 use Rattle.verilog_text.specs.Token.{Token}
 use Rattle.verilog_text.specs.Text.{most_tokens, is_too_deep, tokens_in}
@@ -41,6 +43,9 @@ tokens_few c ms text has p n = by (length (source_before c ms [])) (length text)
   where
     by : (a b : ℕ) → a ≤ b → b ≤ 4194304 → a ≤ 4194304
     by a b h g = omega (arith, h, g)
+
+pub few_bytes : (bytes seen : List ℕ) (few : Bool) → seen ≡ bytes → few ≡ nat_le (length seen) 4194304 → few ≡ true → length bytes ≤ 4194304
+few_bytes bytes seen few is e h = subst (λ bs. length bs ≤ 4194304) is (leb-true (length seen) 4194304 (sym e ∙ h))
 
 pub short_reads : (ms : Source) (text : List ℕ) → ReadsAs text (printed_modules true ms []) → length text ≤ 4194304 → IsPrintableSource ms → ArePrintedWithin ms → IsTreeOf (text ∷ []) ms
 short_reads ms text has n p within = reads true ms text has p (within.are_shallow true) (tokens_few true ms text has p n)

@@ -1,5 +1,5 @@
 //! Whole sources as texts.
-ghost use Rattle.std.specs.Prelude.{ℕ, List, [], ◌∷◌, IfOk};
+ghost use Rattle.std.specs.Prelude.{◌≡◌, ℕ, nat_le, List, [], ◌∷◌, length, IfOk};
 ghost use Rattle.std.specs.String.{string_bytes};
 ghost use Rattle.verilog_text.specs.Grammar.{IsTreeOf};
 ghost use Rattle.v_syntax.specs.Source.{source_of};
@@ -16,6 +16,13 @@ use v_syntax::module::Tree;
 /// The most tokens that files may have.
 const MOST_TOKENS: usize = 4_194_304;
 
+/// Whether a text has so few bytes that it has no more tokens than files may have.
+fn is_short(text: &str) -> bool
+    ensures { result ≡ nat_le (length text.now) 4194304 }
+{
+    text.len() <= MOST_TOKENS
+}
+
 /// A text of the tree, with a colon behind each `default` or without one.
 fn written(alloc: Global, tree: &Tree<'_>, colons: bool) -> Result<String, AllocError>
     ensures { IfOk result (λ t. ReadsAs (string_bytes t) (printed_modules colons (source_of tree.now) [])) }
@@ -31,7 +38,7 @@ pub fn print(alloc: Global, tree: &Tree<'_>) -> Result<String, AllocError>
     ensures read { IfOk result (λ t. (files : List (List ℕ)) → IsTreeOf files (source_of tree.now) → IsTreeOf (string_bytes t ∷ []) (source_of tree.now)) }
 {
     let text = written(alloc, tree, true)?;
-    let few = text.len() <= MOST_TOKENS;
+    let few = is_short(text.as_str());
     if few {
         return Ok(text);
     }
