@@ -40,7 +40,7 @@ use Rattle.v_syntax.specs.Tree.{tree_of, target_of, statement_of}
 use Rattle.v_syntax.specs.Source.{edge_of, events_of, optional_range_of, optional_tree_of, boxed_tree_of, direction_of, kind_of, port_of, parameter_of, connections_of, item_of, ports_of, module_of, source_of}
 use Rattle.v_print.specs.Spelled.{printed}
 use Rattle.v_print.specs.Bodies.{parts_before, row_before, name_before, flag_before, kind_before, event_before, events_before, or_if, control_before}
-use Rattle.v_print_source.specs.Lists.{is_nil, name_of, setting_of, wire_of, variable_of, named_of, instance_of, event_of, continuous_of, are_left_out}
+use Rattle.v_print_source.specs.Lists.{is_nil, net_word, name_of, setting_of, wire_of, variable_of, named_of, instance_of, event_of, continuous_of, are_left_out}
 use Rattle.v_print_source.specs.Shown.{printed_assignment, printed_statement, printed_range, printed_value, printed_setting, printed_wire, printed_variable, printed_port, printed_parameter, printed_entry, printed_named, printed_connections, printed_overrides, printed_instance, printed_continuous, printed_item, printed_header, printed_ports, printed_module, printed_modules}
 
 -- ---- loops
@@ -67,11 +67,12 @@ pub no_range : (o : Option (Box Range Global)) → o ≡ None → (r : List Toke
 unfolding printed_range
 no_range o none r = ap (λ (p : Option (Box Range Global)). printed_range (optional_range_of p) r) (sym none)
 
-pub wire_arm : (k : Option NetKind) → k ≡ Some WireKind → (r : List Token) → word (codes "wire") ∷ r ≡ kind_before (kind_of k) r
-wire_arm k is r = ap (λ (j : Option NetKind). kind_before (kind_of j) r) (sym is)
+kind_shown : (k : NetKind) (r : List Token) → word (net_word k) ∷ r ≡ kind_before (kind_of (Some k)) r
+kind_shown WireKind r = refl
+kind_shown Reg r = refl
 
-pub reg_arm : (k : Option NetKind) → k ≡ Some Reg → (r : List Token) → word (codes "reg") ∷ r ≡ kind_before (kind_of k) r
-reg_arm k is r = ap (λ (j : Option NetKind). kind_before (kind_of j) r) (sym is)
+pub kind_arm : (o : Option NetKind) (k : NetKind) (w : Name) → o ≡ Some k → w ≡ net_word k → (r : List Token) → word w ∷ r ≡ kind_before (kind_of o) r
+kind_arm o k w some e r = ap (λ (n : Name). word n ∷ r) e ∙ kind_shown k r ∙ ap (λ (j : Option NetKind). kind_before (kind_of j) r) (sym some)
 
 pub no_kind_arm : (k : Option NetKind) → k ≡ None → (r : List Token) → r ≡ kind_before (kind_of k) r
 no_kind_arm k is r = ap (λ (j : Option NetKind). kind_before (kind_of j) r) (sym is)

@@ -1,10 +1,12 @@
 -- The parts of the code's lists, as the pure trees have them.
-use Rattle.std.specs.Prelude.{ℕ, Bool, true, false, List, [], ◌∷◌, Option}
+use Rattle.std.specs.Prelude.{ℕ, Bool, true, false, List, [], ◌∷◌, Option, codes}
 use Rattle.std.specs.Borrow.{Bor}
 use Rattle.wb_values.specs.Value.{Name}
 use Rattle.verilog_trees.specs.Syntax as pure
 use Rattle.verilog_trees.specs.Syntax.{no_targets, target}
 use Rattle.v_syntax.specs.declared.tree.Target.{Target}
+use Rattle.v_syntax.specs.declared.module.NetKind.{NetKind}
+use Rattle.v_syntax.specs.declared.module.NetKind.TheVariants.{Wire as WireKind, Reg}
 use Rattle.v_syntax.specs.declared.module.Event.{Event}
 use Rattle.v_syntax.specs.declared.module.ParameterValue.{ParameterValue}
 use Rattle.v_syntax.specs.declared.module.NamedConnection.{NamedConnection}
@@ -22,6 +24,10 @@ is_nil (x ∷ xs) = false
 abbrev pub target_list : List Target → pure.Targets
 target_list [] = no_targets
 target_list (t ∷ ts) = target (target_of t) (target_list ts)
+
+abbrev pub net_word : NetKind → Name
+net_word WireKind = codes "wire"
+net_word Reg = codes "reg"
 
 abbrev pub name_of : Bor (List ℕ) → Name
 name_of n = n.now

@@ -4,7 +4,7 @@ ghost use Rattle.verilog_text.specs.Grammar.{direction_word, parameter_word};
 ghost use Rattle.v_syntax.specs.Source.{direction_of, kind_of, optional_range_of, boxed_tree_of, port_of, parameter_of};
 ghost use Rattle.v_print.specs.Bodies.{parts_before, flag_before, kind_before, name_before};
 ghost use Rattle.v_print.specs.Writes.{Writes};
-ghost use Rattle.v_print_source.specs.Lists.{name_of, setting_of, wire_of, variable_of};
+ghost use Rattle.v_print_source.specs.Lists.{net_word, name_of, setting_of, wire_of, variable_of};
 ghost use Rattle.v_print_source.specs.Shown.{printed_range, printed_value, printed_setting, printed_wire, printed_variable, printed_port, printed_parameter};
 
 use std::alloc::AllocError;
@@ -71,17 +71,22 @@ fn direction_word(direction: Direction) -> &'static str
     }
 }
 
+fn net_word(kind: NetKind) -> &'static str
+    ensures { result.now ≡ net_word kind }
+{
+    match kind {
+        NetKind::Wire => "wire",
+        NetKind::Reg => "reg",
+    }
+}
+
 /// `wire` or `reg`, where it stands there.
 fn write_kind(kind: Option<NetKind>, out: &mut Writer) -> Result<(), AllocError>
     ensures { OnOk result (Writes out.old out.new (λ r. kind_before (kind_of kind) r)) }
 {
     match kind {
-        Some(NetKind::Wire) => {
-            out.word("wire")?;
-            Ok(())
-        }
-        Some(NetKind::Reg) => {
-            out.word("reg")?;
+        Some(net) => {
+            out.word(net_word(net))?;
             Ok(())
         }
         None => Ok(()),
