@@ -96,18 +96,18 @@ fn write_items(items: &[Item<'_>], colons: bool, out: &mut Writer) -> Result<(),
 
 /// A module.
 pub(crate) fn write_module(
-    module: &Module<'_>,
+    unit: &Module<'_>,
     colons: bool,
     out: &mut Writer,
 ) -> Result<(), AllocError>
-    ensures { OnOk result (Writes out.old out.new (λ r. printed_module colons (module_of module.now) r)) }
+    ensures { OnOk result (Writes out.old out.new (λ r. printed_module colons (module_of unit.now) r)) }
 {
     out.word("module")?;
-    out.word(module.name)?;
-    write_header(&module.parameters, out)?;
-    write_ports(&module.ports, out)?;
+    out.word(unit.name)?;
+    write_header(&unit.parameters, out)?;
+    write_ports(&unit.ports, out)?;
     out.mark(Mark::Semicolon)?;
-    write_items(&module.items, colons, out)?;
+    write_items(&unit.items, colons, out)?;
     begin_line(0, out)?;
     out.word("endmodule")?;
     Ok(())
