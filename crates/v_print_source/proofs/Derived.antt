@@ -1,13 +1,13 @@
 -- Expressions, targets and statements that are spelled by tokens as texts have them can be printed.
-use Rattle.std.proofs.Common.{◌≡◌, ℕ, suc, Bool, true, false, List, [], ◌∷◌, Option, Some, None, refl, subst}
+use Rattle.std.proofs.Common.{◌≡◌, ℕ, suc, List, ◌∷◌, Option, Some, None, subst}
 use Rattle.std.specs.Prelude.{codes}
 use Rattle.wb_values.specs.Value.{Name}
 use Rattle.verilog_text.specs.Token.{Mark, left_parenthesis, right_parenthesis, left_bracket, right_bracket, left_brace, right_brace, comma, semicolon, colon, question, plus_colon, minus_colon, plus, minus, star, double_star, slash, percent, exclamation, tilde, ampersand, tilde_ampersand, bar, tilde_bar, caret, tilde_caret, caret_tilde, double_ampersand, double_bar, less, less_equals, greater, greater_equals, double_less, double_greater, triple_less, triple_greater, double_equals, exclamation_equals, triple_equals, exclamation_double_equals, equals, Token, word, system, mark}
 use Rattle.verilog_trees.specs.Syntax as tree
-use Rattle.verilog_trees.specs.Syntax.{Number, Expression, Expressions, Select, Selects, Target, Targets, Statement, Statements, CaseItems, no_items}
+use Rattle.verilog_trees.specs.Syntax.{Expression, Expressions, Select, Selects, Target, Targets, Statement, Statements, CaseItems, no_items}
 use Rattle.verilog_text.specs.Spelling.{prefix_of, Operator, operator_of, IsExpression, tighter, chosen, joined, prefixed, a_number, a_name, bracketed, concatenated, replicated, made_signed, made_unsigned, AreExpressions, last_one, and_more, IsSelect, by_index, by_part, by_part_up, by_part_down, AreSelects, no_select, one_select, two_selects}
-use Rattle.verilog_text.specs.Grammar.{IsWhole, IsTarget, a_place, some_joined, AreTargets, last_target, and_targets, IsAssignment, assigned, case_word, IsBlockName, unnamed, named, IsPerhapsColon, with_colon, without_colon, IsStatement, nothing, blocks, waits, tested, decided, selected, in_block, AreStatements, no_statement, and_statements, IsItemBefore, for_values, for_others, AreItems, last_item, and_items}
-use Rattle.v_print.specs.Printable.{IsPrintableName, AreSome, IsPrintable, ArePrintable, IsPrintableSelect, ArePrintableSelects, AreSomeTargets, IsPrintableTarget, ArePrintableTargets, IsPrintableBlockName, AreSomeItems, IsPrintableStatement, ArePrintableStatements, ArePrintableItems}
+use Rattle.verilog_text.specs.Grammar.{IsTarget, a_place, some_joined, AreTargets, last_target, and_targets, IsAssignment, assigned, case_word, IsBlockName, unnamed, named, IsPerhapsColon, with_colon, without_colon, IsStatement, nothing, blocks, waits, tested, decided, selected, in_block, AreStatements, no_statement, and_statements, IsItemBefore, for_values, for_others, AreItems, last_item, and_items}
+use Rattle.v_print.specs.Printable.{AreSome, IsPrintable, ArePrintable, IsPrintableSelect, ArePrintableSelects, AreSomeTargets, IsPrintableTarget, ArePrintableTargets, IsPrintableBlockName, AreSomeItems, IsPrintableStatement, ArePrintableStatements, ArePrintableItems}
 use Rattle.v_print_source.proofs.Lexed.{AreLexed, behind, Leaves}
 use Rattle.v_print_source.proofs.Worth.{number_printable}
 

@@ -1,12 +1,11 @@
 -- Sources that are spelled by tokens as texts have them can be printed.
-use Rattle.std.proofs.Common.{◌≡◌, Bool, true, false, List, [], ◌∷◌, Option, Some, None, refl}
+use Rattle.std.proofs.Common.{Bool, List, [], ◌∷◌, Option}
 use Rattle.std.specs.Prelude.{codes}
 use Rattle.wb_values.specs.Value.{Name}
 use Rattle.verilog_text.specs.Token.{left_parenthesis, right_parenthesis, left_bracket, right_bracket, comma, semicolon, colon, dot, hash, at, equals, star, Token, word, mark}
 use Rattle.verilog_trees.specs.Syntax as tree
-use Rattle.verilog_trees.specs.Syntax.{Expression, Target, EdgeKind, Event, Events, Range, Direction, NetKind, PortDeclaration, ParameterDeclaration, Connections, by_order, Item, Ports, Module, Source}
+use Rattle.verilog_trees.specs.Syntax.{EdgeKind, Event, Range, NetKind, ParameterDeclaration, Connections, by_order, Source}
 use Rattle.verilog_text.specs.Grammar.{direction_word, parameter_word, edge_words, AreParted, last_part, and_parts, AreInRow, no_more, one_more, IsPerhaps, left_out, given, IsFlag, absent, present, IsName, a_name, IsWhole, IsRange, bounds, IsPerhapsRange, IsAssignment, IsNetKind, no_kind, a_wire, a_variable, IsPort, a_port, IsSetting, set_to, IsParameter, a_parameter, IsWire, net, IsVariable, variable, IsEntry, empty_entry, an_entry, IsNamedEntry, under_name, AreConnections, named_entries, entries, IsInstance, an_instance, AreOverrides, no_overrides, overrides, IsEvent, an_event, AreEvents, last_event, or_event, comma_event, IsControl, by_star, by_star_in_parentheses, by_events, IsItem, a_port_item, a_parameter_item, some_wires, some_variables, some_assignments, a_block, some_instances, IsHeaderParameter, in_header, AreHeaderParameters, no_parameters, some_parameters, ArePorts, none_listed, empty_list, names_listed, ports_declared, IsModule, a_module, IsSource}
-use Rattle.v_print.specs.Reads.{is_printed}
 use Rattle.v_print.specs.Printable.{IsPrintableName, IsPrintable, IsPrintableOptional, Each, EachOfSome, IsPrintableRange, IsPrintablePort, IsPrintableSetting, IsPrintableParameter, IsPrintableWire, IsPrintableVariable, ArePrintableConnections, IsPrintableInstance, ArePrintableOverrides, IsPrintableEvent, ArePrintableEvents, IsPrintableAssignment, IsPrintableItem, IsPrintableHeader, ArePrintablePorts, IsPrintableModule, IsPrintableSource}
 use Rattle.v_print_source.proofs.Lexed.{AreLexed, behind, Leaves}
 use Rattle.v_print_source.proofs.Derived.{printable, assignment_printable, statement_printable}

@@ -7,7 +7,6 @@ use Rattle.std.proofs.lemmas.Bool.Decides.{nat_tests}
 use Rattle.std.proofs.lemmas.Nat.{pow_pos, mod_below}
 use Rattle.std.proofs.Math.Nat.{zero-mod}
 use Rattle.wb_values.specs.Names.{is_digit}
-use Rattle.verilog_text.specs.Token.{decimal}
 use Rattle.verilog_text.specs.Lexical.{is_base, is_unknown_digit, is_digit_of}
 use Rattle.verilog_text.specs.Spelling.{is_decimal_digit, digit_value, is_x, is_z, is_silent, digits_from, base_of, filled_where, bits_of_base, bits_of_digits, begins_with_z, filled_above}
 use Rattle.v_print.specs.Spelled.{bit_of}

@@ -3,8 +3,7 @@ use Rattle.std.proofs.Common.{◌≡◌, ℕ, ◌≤◌, Bool, true, false, List
 use Rattle.std.specs.Prelude.{nat_le}
 use Rattle.std.proofs.lemmas.Bool.{leb-true}
 use Rattle.std.specs.String.{string_bytes}
-use Rattle.verilog_text.specs.Token.{Token}
-use Rattle.verilog_text.specs.Text.{most_tokens, is_too_deep, tokens_in}
+use Rattle.verilog_text.specs.Text.{most_tokens, is_too_deep}
 use Rattle.verilog_text.specs.Grammar.{IsTreeOf}
 use Rattle.verilog_trees.specs.Syntax.{Source}
 use Rattle.v_print.specs.declared.writer.Writer.{Writer}

@@ -1,21 +1,21 @@
 -- Printed statements are no deeper than any tokens that spell them; and no more, where no colon stands behind default.
-use Rattle.std.proofs.Common.{◌≡◌, ℕ, suc, ◌+◌, ◌≤◌, Bool, true, false, List, [], ◌∷◌, length, Option, Some, None, refl, sym, ap, ◌∙◌, subst, arith}
-use Rattle.std.specs.Prelude.{cond, codes}
+use Rattle.std.proofs.Common.{◌≡◌, ℕ, suc, ◌+◌, ◌≤◌, Bool, true, false, List, [], ◌∷◌, length, Option, Some, refl, ap, subst, arith}
+use Rattle.std.specs.Prelude.{codes}
 use Rattle.std.proofs.lemmas.Bool.{true≢false}
 use Rattle.wb_values.specs.Value.{Name}
-use Rattle.verilog_text.specs.Token.{Mark, left_parenthesis, right_parenthesis, semicolon, colon, equals, less_equals, Token, word, mark}
-use Rattle.verilog_text.specs.Text.{Opening, in_parentheses, in_block, in_case, in_if, Step, opens, closes, ends_statement, parts, stays, step_of_mark, step_of_word, step_of, behind_nearest, or_all, without_statements, without_choice, open_behind}
-use Rattle.verilog_text.specs.Grammar.{case_word, IsAssignment, IsBlockName, unnamed, named, IsPerhapsColon, with_colon, without_colon, IsStatement, nothing, blocks, waits, tested, decided, selected, in_block as block_spelled, AreStatements, no_statement, and_statements, IsItemBefore, for_values, for_others, AreItems, last_item, and_items}
+use Rattle.verilog_text.specs.Token.{left_parenthesis, right_parenthesis, semicolon, colon, equals, less_equals, Token, word, mark}
+use Rattle.verilog_text.specs.Text.{Opening, in_parentheses, in_block, in_case, in_if, stays, step_of_word, step_of, behind_nearest, or_all, without_statements, without_choice, open_behind}
+use Rattle.verilog_text.specs.Grammar.{case_word, IsBlockName, unnamed, named, IsPerhapsColon, with_colon, without_colon, IsStatement, nothing, blocks, waits, tested, decided, selected, in_block as block_spelled, AreStatements, no_statement, and_statements, IsItemBefore, for_values, for_others, AreItems, last_item, and_items}
 use Rattle.verilog_trees.specs.Syntax as tree
 use Rattle.verilog_trees.specs.Syntax.{Expression, Expressions, CaseKind, Statement, Statements, CaseItems, no_items}
 use Rattle.verilog_text.specs.Spelling.{AreExpressions}
 use Rattle.v_print.specs.Spelled.{bare, bare_parts}
 use Rattle.v_print.specs.Bodies.{assignment_before, block_name_before, colon_if, bare_statement, bare_statements, bare_items}
-use Rattle.v_print.specs.Printable.{IsPrintable, AreSome, ArePrintable, IsPrintableBlockName, IsPrintableStatement, ArePrintableStatements, ArePrintableItems}
+use Rattle.v_print.specs.Printable.{IsPrintable, ArePrintable, IsPrintableStatement, ArePrintableStatements, ArePrintableItems}
 use Rattle.v_print.proofs.Open.{IsShallow, shallow_by, name_stays, parts_fit}
 use Rattle.v_print_source.proofs.Within.{behind_token, behind_stays}
 use Rattle.v_print_source.proofs.WithinExpressions.{parts_inside}
-use Rattle.v_print_source.proofs.Kept.{Keeps, nothing_kept, then_kept, after_token, token_kept, pair_kept, whole_kept, assignment_kept}
+use Rattle.v_print_source.proofs.Kept.{Keeps, nothing_kept, token_kept, pair_kept, whole_kept, assignment_kept}
 
 -- ---- what may be open behind a statement: ifs over what was open
 

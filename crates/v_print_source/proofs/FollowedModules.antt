@@ -1,19 +1,19 @@
 -- Printed sources are no deeper than any tokens that spell them; and no more, where no colon stands behind default.
-use Rattle.std.proofs.Common.{◌≡◌, ℕ, suc, ◌+◌, ◌≤◌, Bool, true, false, List, [], ◌∷◌, length, Option, Some, None, refl, sym, ap, ◌∙◌, subst, arith}
+use Rattle.std.proofs.Common.{◌≡◌, ℕ, suc, ◌+◌, ◌≤◌, Bool, true, false, List, [], ◌∷◌, length, Option, refl, sym, ap, arith}
 use Rattle.std.specs.Prelude.{codes}
 use Rattle.wb_values.specs.Value.{Name}
 use Rattle.verilog_text.specs.Token.{left_parenthesis, right_parenthesis, semicolon, comma, hash, at, equals, star, Token, word, mark}
 use Rattle.verilog_text.specs.Text.{Opening, in_parentheses, stays, step_of_word, step_of, is_too_deep}
 use Rattle.verilog_text.specs.Grammar as grammar
-use Rattle.verilog_text.specs.Grammar.{edge_words, AreInRow, no_more, one_more, IsName, IsWire, IsVariable, IsAssignment, IsPort, IsInstance, IsParameter, AreOverrides, no_overrides, overrides, IsEvent, an_event, AreEvents, last_event, or_event, comma_event, IsControl, by_star, by_star_in_parentheses, by_events, IsItem, a_port_item, a_parameter_item, some_wires, some_variables, some_assignments, a_block, some_instances, IsHeaderParameter, in_header, AreHeaderParameters, no_parameters, some_parameters, ArePorts, none_listed, empty_list, names_listed, ports_declared, IsModule, a_module, IsSource}
+use Rattle.verilog_text.specs.Grammar.{edge_words, AreInRow, no_more, one_more, IsName, IsWire, IsVariable, IsAssignment, IsPort, IsInstance, AreOverrides, no_overrides, overrides, IsEvent, an_event, AreEvents, last_event, or_event, comma_event, IsControl, by_star, by_star_in_parentheses, by_events, IsItem, a_port_item, a_parameter_item, some_wires, some_variables, some_assignments, a_block, some_instances, IsHeaderParameter, in_header, AreHeaderParameters, no_parameters, some_parameters, ArePorts, none_listed, empty_list, names_listed, ports_declared, IsModule, a_module, IsSource}
 use Rattle.verilog_trees.specs.Syntax as tree
-use Rattle.verilog_trees.specs.Syntax.{Expression, Target, EdgeKind, Event, Events, ParameterDeclaration, Connections, Item, Ports, Module, Source}
-use Rattle.v_print.specs.Bodies.{bare_statement, parts_before, row_before, name_before, flag_before, range_before, port_before, parameter_before, wire_before, variable_before, connections_before, instance_before, overrides_before, event_before, or_if, events_before, control_before, continuous_before, item_before, header_before, ports_before, module_before, source_before}
-use Rattle.v_print.specs.Printable.{IsPrintableName, Each, EachOfSome, IsPrintablePort, IsPrintableWire, IsPrintableVariable, ArePrintableConnections, IsPrintableOptional, IsPrintableInstance, ArePrintableOverrides, IsPrintableEvent, ArePrintableEvents, IsPrintableAssignment, IsPrintableItem, IsPrintableHeader, ArePrintablePorts, IsPrintableModule, IsPrintableSource}
-use Rattle.v_print.proofs.Open.{IsShallow, name_stays, parenthesis_opens, parenthesis_closes, mark_stays}
+use Rattle.verilog_trees.specs.Syntax.{Expression, EdgeKind, Event, Events, ParameterDeclaration, Connections, Item, Ports, Module, Source}
+use Rattle.v_print.specs.Bodies.{bare_statement, parts_before, row_before, name_before, flag_before, range_before, port_before, parameter_before, wire_before, variable_before, connections_before, instance_before, overrides_before, event_before, events_before, control_before, continuous_before, item_before, header_before, ports_before, module_before, source_before}
+use Rattle.v_print.specs.Printable.{IsPrintableName, Each, EachOfSome, IsPrintablePort, IsPrintableWire, IsPrintableVariable, ArePrintableConnections, IsPrintableOptional, IsPrintableInstance, ArePrintableOverrides, IsPrintableAssignment, IsPrintableItem, IsPrintableHeader, ArePrintablePorts, IsPrintableModule, IsPrintableSource}
+use Rattle.v_print.proofs.Open.{IsShallow, name_stays, mark_stays}
 use Rattle.v_print_source.proofs.Within.{behind_stays, behind_opens, behind_closes}
 use Rattle.v_print_source.proofs.Kept.{Keeps, kept_as, nothing_kept, then_kept, other_kept, token_kept, after_token, pair_kept, assignment_kept, KeepsEach, some_kept, parted_kept, name_kept, flag_kept, range_kept, port_kept, parameter_kept, net_kept, variable_kept, connections_kept, instance_kept}
-use Rattle.v_print_source.proofs.Followed.{IsBase, IsOver, at_base, nothing_base, Follows, nothing_follows, kept_then, then_follows, token_then, token_follows, ended_follows, statement_follows}
+use Rattle.v_print_source.proofs.Followed.{IsOver, at_base, nothing_base, Follows, nothing_follows, kept_then, then_follows, ended_follows, statement_follows}
 
 -- ---- words
 

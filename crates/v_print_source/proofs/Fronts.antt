@@ -1,5 +1,5 @@
 -- What is written of each form of target and statement is what is printed of it.
-use Rattle.std.proofs.Common.{◌≡◌, ◌∙◌, refl, sym, ap, Bool, true, false, List, [], ◌∷◌, Option, Some, None, ℕ}
+use Rattle.std.proofs.Common.{◌≡◌, ◌∙◌, refl, sym, ap, Bool, true, false, List, ◌∷◌, Option, Some, None, ℕ}
 use Rattle.std.specs.Prelude.{cond, not, codes}
 use Rattle.std.specs.declared.boxed.Box.{Box}
 use Rattle.std.specs.declared.vec.Vec.{Vec}

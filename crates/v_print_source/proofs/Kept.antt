@@ -1,16 +1,14 @@
 -- Printed targets, declarations and lists are no deeper than any tokens that spell them, and no more.
-use Rattle.std.proofs.Common.{◌≡◌, ℕ, suc, ◌+◌, ◌≤◌, Bool, true, false, List, [], ◌∷◌, length, Option, Some, None, refl, sym, ap, ◌∙◌, subst, arith}
-use Rattle.std.specs.Prelude.{cond, codes}
-use Rattle.wb_values.specs.Value.{Name}
-use Rattle.verilog_text.specs.Token.{Mark, left_parenthesis, right_parenthesis, left_bracket, right_bracket, left_brace, right_brace, comma, colon, dot, hash, equals, less_equals, star, Token, word, mark}
+use Rattle.std.proofs.Common.{◌≡◌, ℕ, suc, ◌+◌, ◌≤◌, Bool, true, false, List, [], ◌∷◌, length, Option, Some, refl, sym, ap, ◌∙◌, subst, arith}
+use Rattle.std.specs.Prelude.{codes}
+use Rattle.verilog_text.specs.Token.{Mark, left_parenthesis, right_parenthesis, left_bracket, right_bracket, left_brace, right_brace, comma, colon, dot, equals, Token, word, mark}
 use Rattle.verilog_text.specs.Text.{Opening, in_parentheses, in_brackets, in_braces, Step, opens, closes, stays, step_of_mark, step_of_word, step_of, open_behind}
 use Rattle.verilog_text.specs.Grammar.{direction_word, parameter_word, AreParted, last_part, and_parts, IsPerhaps, left_out, given, IsFlag, absent, present, IsName, a_name, IsWhole, IsRange, bounds, IsPerhapsRange, IsTarget, a_place, some_joined, AreTargets, last_target, and_targets, IsAssignment, assigned, IsNetKind, no_kind, a_wire, a_variable, IsPort, a_port, IsSetting, set_to, IsParameter, a_parameter, IsWire, net, IsVariable, variable, IsEntry, empty_entry, an_entry, IsNamedEntry, under_name, AreConnections, named_entries, entries, IsInstance, an_instance}
 use Rattle.verilog_trees.specs.Syntax as tree
-use Rattle.verilog_trees.specs.Syntax.{Expression, Target, Targets, Range, Direction, NetKind, PortDeclaration, ParameterDeclaration, Connections}
-use Rattle.v_print.specs.Spelled.{bare, bare_parts, bare_selects}
-use Rattle.v_print.specs.Depth.{depth_of, depth_of_selects}
+use Rattle.verilog_trees.specs.Syntax.{Expression, Target, Targets, Range, Direction, NetKind, Connections}
+use Rattle.v_print.specs.Spelled.{bare, bare_selects}
 use Rattle.v_print.specs.Bodies.{bare_target, bare_targets, assignment_before, parts_before, name_before, flag_before, range_before, kind_before, port_before, setting_before, parameter_before, value_before, wire_before, variable_before, entry_before, named_before, connections_before, instance_before}
-use Rattle.v_print.specs.Printable.{IsPrintableName, IsPrintable, ArePrintableSelects, IsPrintableTarget, ArePrintableTargets, IsPrintableOptional, Each, EachOfSome, IsPrintableRange, IsPrintablePort, IsPrintableSetting, IsPrintableParameter, IsPrintableWire, IsPrintableVariable, ArePrintableConnections, IsPrintableInstance}
+use Rattle.v_print.specs.Printable.{IsPrintableName, IsPrintable, IsPrintableTarget, ArePrintableTargets, IsPrintableOptional, Each, EachOfSome, IsPrintableRange, IsPrintablePort, IsPrintableSetting, IsPrintableParameter, IsPrintableWire, IsPrintableVariable, ArePrintableConnections, IsPrintableInstance}
 use Rattle.v_print.proofs.Open.{IsShallow, shallow_by, other_stays, name_stays, bounds_stay, bare_fits, selects_fit}
 use Rattle.v_print_source.proofs.Within.{behind_stays, behind_opens, behind_closes, behind_bound, closed_nearest, whole}
 use Rattle.v_print_source.proofs.WithinExpressions.{within, selects_inside}

@@ -1,13 +1,13 @@
 -- What stands at the front of a text is a token as texts have them, or none.
-use Rattle.std.proofs.Common.{◌≡◌, ℕ, zero, suc, ◌+◌, Bool, true, false, List, [], ◌∷◌, length, take, drop, Option, Some, None, refl, sym, ap, ◌∙◌, subst, arith}
+use Rattle.std.proofs.Common.{◌≡◌, ℕ, zero, suc, ◌+◌, Bool, true, false, List, [], ◌∷◌, take, drop, Option, Some, None, refl, sym, ap, subst, arith}
 use Rattle.std.specs.Prelude.{cond, not, ◌&&◌, ◌||◌, ◌==◌, codes, option_map}
 use Rattle.std.specs.List.{list_all, list_any}
 use Rattle.std.proofs.lemmas.Bool.{and_parts, and_from}
 use Rattle.std.proofs.lemmas.Bool.Decides.{nat_tests}
 use Rattle.wb_values.specs.Value.{Name, same_name}
 use Rattle.wb_values.specs.Names.{is_letter, is_digit, begins_with}
-use Rattle.verilog_text.specs.Token.{Mark, left_parenthesis, slash, spelling_of, marks, word, system, decimal, based, mark}
-use Rattle.verilog_text.specs.Lexical.{Piece, nothing, token, excluded, misdirected, define, undefine, if_defined, else_if, otherwise, end_if, use_of, Front, is_word_byte, is_decimal_byte, run_length, is_blank_before, blank_length, further, if_closed, longest_of, mark_front, mark_at, is_excluded, word_piece, word_front, number_front, real_length, number_at, is_base, is_digit_of, runs_on, are_digits_of, if_digits, digits_length, base_length, behind_quote, based_of, based_at, system_piece, system_at, string_length, is_graphic, escaped_at, closing_length, line_length, slash_at, is_star_alone, bracket_at, passed_length, definition_length, name_behind, with_name, definition_of, definition_from, definition_at, conditional_directive_at, is_line_word, directive_from, directive_of, directive_at, conditional_behind, read_at, left_out_at}
+use Rattle.verilog_text.specs.Token.{Mark, marks, word, system}
+use Rattle.verilog_text.specs.Lexical.{Piece, nothing, token, excluded, misdirected, define, undefine, if_defined, else_if, use_of, Front, is_word_byte, is_decimal_byte, run_length, is_blank_before, blank_length, further, if_closed, longest_of, mark_front, mark_at, is_excluded, word_piece, word_front, number_front, real_length, number_at, is_base, is_digit_of, runs_on, are_digits_of, digits_length, base_length, behind_quote, based_of, based_at, system_piece, system_at, string_length, is_graphic, escaped_at, closing_length, line_length, slash_at, is_star_alone, bracket_at, passed_length, definition_length, name_behind, with_name, definition_of, definition_from, definition_at, conditional_directive_at, is_line_word, directive_from, directive_of, directive_at, conditional_behind, read_at, left_out_at}
 use Rattle.verilog_text.specs.Spelling.{is_silent}
 use Rattle.v_print.specs.Reads.{is_printed}
 use Rattle.v_print_source.proofs.Lexed.{is_digit_or_silent, is_sign, IsBased, IsQuoted, behind_sign, without_sign, IsLexed}

@@ -5,8 +5,8 @@ use Rattle.std.specs.List.{list_all}
 use Rattle.std.specs.Str.{is_utf8}
 use Rattle.std.proofs.lemmas.Bool.{true≢false, or_parts, or_cases, or_from, or_left, or_right, and_right, ltb-true, ltb-false, lt-ltb}
 use Rattle.verilog_text.specs.Token.{Token}
-use Rattle.verilog_text.specs.Lexical.{Piece, nothing, token, excluded, use_of, Front, read_at, left_out_at}
-use Rattle.verilog_text.specs.Text.{Refusal, not_text, bad_token, bad_directive, unsupported, too_deep, Part, piece, stray, nested_use, end_of_file, macro_after, leaves_out, open_after, front_after, Expansion, with_expansion, with_next, with_front, with_parts, with_macro_text, without_byte_order_mark, with_file, with_files, tokens_read, plus_length, bytes_used, most_tokens, most_used, passes_limit, is_zero, is_based, is_zero_last, is_bad_token, has_bad_token, has_bad_directive, has_excluded, is_too_deep, answer_of, tokens_in}
+use Rattle.verilog_text.specs.Lexical.{Piece, token, excluded, use_of, Front, read_at, left_out_at}
+use Rattle.verilog_text.specs.Text.{Refusal, not_text, bad_token, bad_directive, unsupported, too_deep, Part, piece, stray, macro_after, leaves_out, open_after, front_after, Expansion, with_expansion, with_next, with_front, with_parts, with_macro_text, without_byte_order_mark, with_file, with_files, tokens_read, plus_length, bytes_used, most_tokens, most_used, passes_limit, is_zero, is_based, is_zero_last, is_bad_token, has_bad_token, has_bad_directive, has_excluded, is_too_deep, answer_of, tokens_in}
 use Rattle.v_print.specs.Whole.{begins_based, has_zero_size}
 use Rattle.v_print_source.proofs.Lexed.{IsLexed, AreLexed}
 use Rattle.v_print_source.proofs.Pieces.{IsFine, IsFineFront, either_way, read_fine, left_out_fine}

@@ -1,5 +1,5 @@
 -- The printed tokens of targets and statements, over the lists of their parts.
-use Rattle.std.proofs.Common.{◌≡◌, ◌∙◌, refl, sym, ap, Bool, true, false, List, [], ◌∷◌, Option, Some, None, ℕ}
+use Rattle.std.proofs.Common.{◌≡◌, ◌∙◌, refl, ap, Bool, true, false, List, [], ◌∷◌, Option, Some, None, ℕ}
 use Rattle.std.specs.Prelude.{cond, not, codes}
 use Rattle.std.specs.declared.boxed.Box.{Box}
 use Rattle.std.specs.declared.vec.Vec.{Vec}
@@ -18,7 +18,7 @@ use Rattle.v_syntax.specs.declared.tree.CaseKind.{CaseKind}
 use Rattle.v_syntax.specs.declared.tree.Expression.{Expression}
 use Rattle.v_syntax.specs.Tree.{tree_of, target_of, targets_of, statement_of, arms_before, statements_of, items_of, arm_before, or_empty, name_of_option, case_kind_of}
 use Rattle.v_print.specs.Spelled.{bare}
-use Rattle.v_print.specs.Bodies.{bare_target, bare_targets, bare_statement, bare_statements, bare_items, block_name_before}
+use Rattle.v_print.specs.Bodies.{bare_target, bare_statement, bare_statements, bare_items, block_name_before}
 use Rattle.v_print_source.specs.Lists.{is_nil, target_list}
 use Rattle.v_print_source.specs.Shown.{else_if, arms_front, case_item_front, case_items_front, statements_front}
 use mathlib.Core.Former as Former

@@ -1,15 +1,14 @@
 -- The printed tokens of printable sources are such as are printed, and no size among them is 0.
-use Rattle.std.proofs.Common.{◌≡◌, Bool, true, false, List, [], ◌∷◌, Option, Some, None, refl}
+use Rattle.std.proofs.Common.{Bool, true, false, List, [], ◌∷◌, Option, Some, None, refl}
 use Rattle.std.specs.Prelude.{codes}
 use Rattle.wb_values.specs.Value.{Name}
 use Rattle.wb_values.specs.ReservedWords.{is_reserved}
-use Rattle.verilog_text.specs.Token.{Mark, left_parenthesis, right_parenthesis, left_bracket, right_bracket, left_brace, right_brace, comma, semicolon, colon, dot, hash, at, equals, star, less_equals, Token, word, mark}
+use Rattle.verilog_text.specs.Token.{Mark, left_parenthesis, right_parenthesis, left_bracket, right_bracket, left_brace, right_brace, semicolon, colon, dot, hash, at, equals, star, less_equals, Token, word, mark}
 use Rattle.verilog_text.specs.Grammar.{case_word, direction_word, parameter_word}
 use Rattle.verilog_trees.specs.Syntax as tree
 use Rattle.verilog_trees.specs.Syntax.{Expression, Target, Targets, no_targets, target, CaseKind, Statement, Statements, no_statements, statement, CaseItems, no_items, arm, default_arm, EdgeKind, Event, Events, any_change, on_events, Range, Direction, NetKind, PortDeclaration, ParameterDeclaration, Connections, by_name, by_order, Item, Ports, no_ports, listed, declared, Module, Source}
-use Rattle.v_print.specs.Reads.{is_printed, are_printed}
-use Rattle.v_print.specs.Whole.{begins_based}
-use Rattle.v_print.specs.Spelled.{parted, bare, bare_parts, bare_selects}
+use Rattle.v_print.specs.Reads.{is_printed}
+use Rattle.v_print.specs.Spelled.{bare, bare_selects}
 use Rattle.v_print.specs.Bodies.{bare_target, bare_targets, assignment_before, block_name_before, colon_if, bare_statement, bare_statements, bare_items, parts_before, row_before, name_before, flag_before, range_before, kind_before, port_before, setting_before, parameter_before, value_before, wire_before, variable_before, entry_before, named_before, connections_before, instance_before, overrides_before, event_before, or_if, events_before, control_before, continuous_before, item_before, header_before, ports_before, module_before, source_before}
 use Rattle.v_print.specs.Printable.{IsPrintableName, IsPrintable, IsPrintableTarget, ArePrintableTargets, IsPrintableOptional, IsPrintableBlockName, IsPrintableStatement, ArePrintableStatements, ArePrintableItems, Each, EachOfSome, IsPrintableRange, IsPrintablePort, IsPrintableSetting, IsPrintableParameter, IsPrintableWire, IsPrintableVariable, ArePrintableConnections, IsPrintableInstance, ArePrintableOverrides, IsPrintableEvent, ArePrintableEvents, IsPrintableAssignment, IsPrintableItem, IsPrintableHeader, ArePrintablePorts, IsPrintableModule, IsPrintableSource}
 use Rattle.v_print.proofs.Clean.{IsClean, IsEnd, clean_mark, clean_word, parted_clean, Cleans, bare_clean, parts_clean, selects_clean}

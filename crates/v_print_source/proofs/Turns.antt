@@ -2,7 +2,7 @@
 use Rattle.std.proofs.Common.{ℕ, ◌+◌, ◌<◌, Bool, true, List, ◌∷◌, length, get_or, refl}
 use Rattle.std.specs.Borrow.{Bor}
 use Rattle.std.proofs.lemmas.List.{get_or_default}
-use Rattle.verilog_text.specs.Token.{Token, word}
+use Rattle.verilog_text.specs.Token.{word}
 use Rattle.v_syntax.specs.declared.module.Event.{Event}
 use Rattle.v_print.specs.declared.writer.Writer.{Writer}
 use Rattle.v_print.specs.Spelled.{parted}

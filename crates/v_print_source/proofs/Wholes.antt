@@ -1,6 +1,6 @@
 -- What is written of each declaration, instance, item and module is what is printed of it.
 use Rattle.std.proofs.Common.{◌≡◌, ◌∙◌, refl, sym, ap, Bool, true, false, List, [], ◌∷◌, Option, Some, None, ℕ, map}
-use Rattle.std.specs.Prelude.{cond, codes}
+use Rattle.std.specs.Prelude.{codes}
 use Rattle.std.proofs.lemmas.Bool.{true≢false}
 use Rattle.std.specs.declared.boxed.Box.{Box}
 use Rattle.std.specs.declared.vec.Vec.{Vec}
@@ -39,7 +39,7 @@ use Rattle.v_syntax.specs.declared.module.Tree.{Tree}
 use Rattle.v_syntax.specs.Tree.{tree_of, target_of, statement_of}
 use Rattle.v_syntax.specs.Source.{edge_of, events_of, optional_range_of, optional_tree_of, boxed_tree_of, direction_of, kind_of, port_of, parameter_of, connections_of, item_of, ports_of, module_of, source_of}
 use Rattle.v_print.specs.Spelled.{printed}
-use Rattle.v_print.specs.Bodies.{parts_before, row_before, name_before, flag_before, kind_before, event_before, events_before, or_if, control_before}
+use Rattle.v_print.specs.Bodies.{parts_before, row_before, name_before, flag_before, kind_before, event_before, events_before, control_before}
 use Rattle.v_print_source.specs.Lists.{is_nil, net_word, name_of, setting_of, wire_of, variable_of, named_of, instance_of, event_of, continuous_of, are_left_out}
 use Rattle.v_print_source.specs.Shown.{printed_assignment, printed_statement, printed_range, printed_value, printed_setting, printed_wire, printed_variable, printed_port, printed_parameter, printed_entry, printed_named, printed_connections, printed_overrides, printed_instance, printed_continuous, printed_item, printed_header, printed_ports, printed_module, printed_modules}
 

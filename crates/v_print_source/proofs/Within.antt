@@ -1,17 +1,15 @@
 -- Printed expressions are no deeper than any tokens that spell them, and no more.
-use Rattle.std.proofs.Common.{◌≡◌, ℕ, suc, ◌+◌, ◌≤◌, max, Bool, true, false, List, [], ◌∷◌, length, Option, Some, None, refl, sym, ap, ◌∙◌, subst, arith}
-use Rattle.std.specs.Prelude.{cond, ◌||◌, ◌==◌, nat_lt, nat_le, codes}
+use Rattle.std.proofs.Common.{◌≡◌, ℕ, suc, ◌+◌, ◌≤◌, max, Bool, true, false, List, ◌∷◌, length, Option, Some, None, refl, sym, ap, ◌∙◌, subst, arith}
+use Rattle.std.specs.Prelude.{cond, nat_lt, nat_le}
 use Rattle.std.proofs.lemmas.Bool.{or_parts, ltb-true, ltb-false, leb-true, leb-false, lt-ltb, le-ltb}
-use Rattle.wb_values.specs.Value.{Name}
-use Rattle.wb_values.specs.ReservedWords.{is_reserved}
-use Rattle.verilog_text.specs.Token.{Mark, left_parenthesis, right_parenthesis, left_bracket, right_bracket, left_brace, right_brace, comma, colon, question, plus_colon, minus_colon, plus, minus, star, double_star, slash, percent, exclamation, tilde, ampersand, tilde_ampersand, bar, tilde_bar, caret, tilde_caret, caret_tilde, double_ampersand, double_bar, less, less_equals, greater, greater_equals, double_less, double_greater, triple_less, triple_greater, double_equals, exclamation_equals, triple_equals, exclamation_double_equals, Token, word, system, decimal, based, mark}
-use Rattle.verilog_text.specs.Text.{Opening, in_parentheses, in_brackets, in_braces, in_block, in_case, in_if, in_choice, Step, opens, closes, parts, stays, step_of_mark, step_of_word, step_of, open_behind, is_too_deep}
-use Rattle.verilog_text.specs.Spelling.{prefix_of, Operator, operator_of, behind_sign, based_number, IsNumber, plain, unsized, of_size, IsExpression, tighter, chosen, joined, prefixed, a_number, a_name, bracketed as in_brackets_spelled, concatenated, replicated, made_signed, made_unsigned, AreExpressions, last_one, and_more, IsSelect, by_index, by_part, by_part_up, by_part_down, AreSelects, no_select, one_select, two_selects}
+use Rattle.verilog_text.specs.Token.{Mark, right_parenthesis, colon, plus, minus, star, double_star, slash, percent, exclamation, tilde, ampersand, tilde_ampersand, bar, tilde_bar, caret, tilde_caret, caret_tilde, double_ampersand, double_bar, less, less_equals, greater, greater_equals, double_less, double_greater, triple_less, triple_greater, double_equals, exclamation_equals, triple_equals, exclamation_double_equals, Token, mark}
+use Rattle.verilog_text.specs.Text.{Opening, in_parentheses, in_brackets, in_braces, in_block, in_case, in_if, in_choice, Step, opens, closes, stays, step_of_mark, step_of, open_behind, is_too_deep}
+use Rattle.verilog_text.specs.Spelling.{prefix_of, Operator, operator_of}
 use Rattle.verilog_trees.specs.Syntax as tree
-use Rattle.verilog_trees.specs.Syntax.{Number, Expression, Expressions, Select, Selects}
-use Rattle.v_print.specs.Spelled.{is_plain, size_before, based_text, number_before, level_of, bracketed, joined_before, bare, bare_parts, bare_select, bare_selects}
-use Rattle.v_print.specs.Depth.{bracketed_depth, joined_depth, depth_of, depth_of_parts, depth_of_select, depth_of_selects}
-use Rattle.v_print.proofs.Open.{IsShallow, name_stays}
+use Rattle.verilog_trees.specs.Syntax.{Expression}
+use Rattle.v_print.specs.Spelled.{level_of, bracketed, joined_before, bare}
+use Rattle.v_print.specs.Depth.{bracketed_depth, joined_depth, depth_of}
+use Rattle.v_print.proofs.Open.{IsShallow}
 
 -- ---- a token less
 

@@ -1,17 +1,17 @@
 -- Printed expressions are no deeper than any tokens that spell them, and no more: form by form.
-use Rattle.std.proofs.Common.{◌≡◌, ℕ, suc, ◌+◌, ◌≤◌, max, Bool, true, false, List, [], ◌∷◌, length, Option, Some, None, refl, sym, ap, ◌∙◌, subst, arith}
-use Rattle.std.specs.Prelude.{cond, ◌||◌, ◌==◌, nat_lt, nat_le, codes}
+use Rattle.std.proofs.Common.{◌≡◌, ℕ, suc, ◌+◌, ◌≤◌, max, Bool, true, false, List, [], ◌∷◌, length, Some, None, refl, sym, subst, arith}
+use Rattle.std.specs.Prelude.{cond, ◌||◌, ◌==◌, nat_lt, codes}
 use Rattle.std.specs.Fmt.{decimal as numeral}
 use Rattle.std.proofs.lemmas.Bool.{true≢false}
-use Rattle.verilog_text.specs.Token.{Mark, left_parenthesis, right_parenthesis, left_bracket, right_bracket, left_brace, right_brace, comma, colon, question, plus_colon, minus_colon, Token, word, system, decimal, based, mark}
-use Rattle.verilog_text.specs.Text.{Opening, in_parentheses, in_brackets, in_braces, in_choice, Step, stays, step_of_mark}
-use Rattle.verilog_text.specs.Spelling.{prefix_of, Operator, operator_of, behind_sign as number_behind, plain_number, decimal_value, based_number, IsNumber, plain, unsized, of_size, IsExpression, tighter, chosen, joined, prefixed, a_number, a_name, bracketed as in_brackets_spelled, concatenated, replicated, made_signed, made_unsigned, AreExpressions, last_one, and_more, IsSelect, by_index, by_part, by_part_up, by_part_down, AreSelects, no_select, one_select, two_selects}
+use Rattle.verilog_text.specs.Token.{left_parenthesis, right_parenthesis, left_bracket, right_bracket, left_brace, right_brace, comma, colon, question, plus_colon, minus_colon, Token, word, system, decimal, based, mark}
+use Rattle.verilog_text.specs.Text.{Opening, in_parentheses, in_brackets, in_braces, in_choice}
+use Rattle.verilog_text.specs.Spelling.{behind_sign as number_behind, plain_number, decimal_value, based_number, IsNumber, plain, unsized, of_size, IsExpression, tighter, chosen, joined, prefixed, a_number, a_name, bracketed as in_brackets_spelled, concatenated, replicated, made_signed, made_unsigned, AreExpressions, last_one, and_more, IsSelect, by_index, by_part, by_part_up, by_part_down, AreSelects, no_select, one_select, two_selects}
 use Rattle.verilog_trees.specs.Syntax as tree
 use Rattle.verilog_trees.specs.Syntax.{Number, Expression, Expressions, Select, Selects}
-use Rattle.v_print.specs.Spelled.{is_plain, size_before, based_text, number_before, level_of, bracketed, bare, bare_parts, bare_select, bare_selects}
+use Rattle.v_print.specs.Spelled.{is_plain, based_text, number_before, level_of, bracketed, bare, bare_parts, bare_select, bare_selects}
 use Rattle.v_print.specs.Depth.{bracketed_depth, depth_of, depth_of_parts, depth_of_select, depth_of_selects}
 use Rattle.v_print.proofs.Open.{IsShallow, name_stays}
-use Rattle.v_print_source.proofs.Within.{behind_stays, behind_opens, behind_closes, behind_choice, behind_bound, Joins, AllJoin, all_join, Prefixes, AllPrefix, all_prefix, brackets, Within, Inside, level_falls, count_falls, bracketed_count, alone, at_own_level, whole, joined_within}
+use Rattle.v_print_source.proofs.Within.{behind_stays, behind_opens, behind_closes, behind_choice, behind_bound, AllJoin, all_join, AllPrefix, all_prefix, brackets, Within, Inside, level_falls, count_falls, bracketed_count, alone, at_own_level, whole, joined_within}
 
 -- ---- numbers
 

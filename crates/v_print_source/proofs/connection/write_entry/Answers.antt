@@ -1,4 +1,4 @@
-use Rattle.v_print.proofs.Written.{then, as_front, nothing_written}
+use Rattle.v_print.proofs.Written.{as_front, nothing_written}
 use Rattle.v_print_source.proofs.Wholes.{entry_arm, no_entry}
 use Rattle.v_print_source.proofs.connection.write_entry.Goals as goal
 

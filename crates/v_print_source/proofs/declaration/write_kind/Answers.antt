@@ -1,4 +1,4 @@
-use Rattle.v_print.proofs.Written.{then, as_front, nothing_written}
+use Rattle.v_print.proofs.Written.{as_front, nothing_written}
 use Rattle.v_print_source.proofs.Wholes.{kind_arm, no_kind_arm}
 use Rattle.v_print_source.proofs.declaration.write_kind.Goals as goal
 

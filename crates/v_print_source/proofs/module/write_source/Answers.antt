@@ -1,4 +1,4 @@
-use Rattle.v_print.proofs.Written.{then, as_front}
+use Rattle.v_print.proofs.Written.{as_front}
 use Rattle.v_print_source.proofs.Wholes.{source_whole}
 use Rattle.v_print_source.proofs.module.write_source.Goals as goal
 

@@ -1,4 +1,4 @@
-use Rattle.std.proofs.Common.{[], ap}
+use Rattle.std.proofs.Common.{ap}
 use Rattle.std.specs.String.{string_bytes}
 use Rattle.v_syntax.specs.Source.{source_of}
 use Rattle.v_print_source.proofs.Ended.{written_so}
