@@ -67,22 +67,22 @@ fn meant(letter: char) -> char {
 
 /// What a text reads as: its shape and what is printed of it, or why it does not read.
 #[derive(Drop)]
-struct Read {
+struct Found {
     shape: String,
     printed: String,
 }
 
 /// A refusal, as a shape that no source has.
-fn refused(alloc: Global, kind: &str) -> Result<Read, AllocError> {
+fn refused(alloc: Global, kind: &str) -> Result<Found, AllocError> {
     let mut shape = String::new(alloc);
     shape.push_str(kind)?;
-    Ok(Read {
+    Ok(Found {
         shape,
         printed: String::new(alloc),
     })
 }
 
-fn read(alloc: Global, text: &str) -> Result<Read, AllocError> {
+fn read(alloc: Global, text: &str) -> Result<Found, AllocError> {
     let mut bytes = Vec::new(alloc);
     bytes.extend_from_slice(text.as_bytes())?;
     let files = vec![in alloc; bytes]?;
@@ -92,7 +92,7 @@ fn read(alloc: Global, text: &str) -> Result<Read, AllocError> {
                 let mut shape = String::new(alloc);
                 outline::source(&tree, &mut shape)?;
                 let printed = print(alloc, &tree)?;
-                Ok(Read { shape, printed })
+                Ok(Found { shape, printed })
             }
             Err(ParseStop::Refused(_)) => refused(alloc, "no source"),
             Err(ParseStop::NoMemory) => refused(alloc, "no memory"),
