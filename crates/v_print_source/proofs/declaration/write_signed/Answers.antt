@@ -1,0 +1,12 @@
+use Rattle.std.proofs.Common.{sym, subst}
+use Rattle.std.specs.Prelude.{codes}
+use Rattle.v_print.specs.Bodies.{flag_before}
+use Rattle.v_print.specs.Writes.{Writes}
+use Rattle.v_print.proofs.Written.{nothing_written}
+use Rattle.v_print_source.proofs.declaration.write_signed.Goals as goal
+
+pub returns-then-not-wanted : goal.returns-then-not-wanted
+returns-then-not-wanted c = subst (λ b. Writes c.args.out.now c.args.out.now (λ r. flag_before (codes "signed") b r)) (sym c.if-not-wanted.true) (nothing_written c.args.out.now)
+
+pub returns : goal.returns
+returns c = subst (λ b. Writes c.args.out.now c.word.new.self (λ r. flag_before (codes "signed") b r)) (sym c.if-not-wanted.false) c.in_ok-word.ensures

@@ -1,0 +1,5 @@
+use Rattle.v_print.proofs.Written.{then}
+use Rattle.v_print_source.proofs.statement.write_head.Goals as goal
+
+pub returns : goal.returns
+returns c = then c.in_ok-word.ensures (then c.in_ok-blank.ensures.reads (then c.in_ok-mark.ensures (then c.in_ok-write.ensures c.in_ok-mark-2.ensures)))
