@@ -1,0 +1,7 @@
+mod Parts
+mod Judged
+mod Clocks
+mod Listed
+mod Joined
+mod Objects
+mod Empty

@@ -1,0 +1,110 @@
+-- The objects of a module's names, as the definitions have them.
+use Rattle.std.proofs.Common.{◌≡◌, ◌∙◌, refl, ap, sym, subst, ℕ, Bool, true, false, true≢false, cond, List, [], ◌∷◌, Option, Some, None, unwrap_or, option_map, option_and_then}
+use mathlib.Core.Path.{fun_ext}
+use Rattle.std.proofs.lemmas.Slice.Eq.{bytes_eq-Decides}
+use Rattle.wb_values.specs.Value.{Name, same_name, entry_of}
+use Rattle.verilog_trees.specs.Syntax.{Range, Module, Source}
+use Rattle.verilog_meaning.specs.Expression.{Object, Scope, undeclared, object_or_undeclared, scope_of}
+use Rattle.verilog_meaning.specs.Hierarchy.{Declaration, declarations, declaration_of, module_named, PathStep, Placed}
+use Rattle.verilog_meaning.specs.Settled.{Design}
+use Rattle.verilog_designs.specs.Known.{known_range, with_range, known_object, with_known_addresses, known_declaration, known_module_scope, known_at, known_scope}
+use Rattle.verilog_designs.specs.Accepted.{HasNoTop, Breaks, no_top}
+use Rattle.v_scopes.specs.Bounds.{bound_at, known_bounds, bounds}
+use Rattle.v_scopes.specs.Rows.{Row, row, rows, row_named, ranged, addresses_at, addressed, row_and_later, row_object, object_from, scope_by, objects_by}
+use Rattle.v_scopes.specs.Ports.{alone}
+use Rattle.v_scopes.specs.Refusals.{IsWhole, IsNamesRefusal}
+use Rattle.v_scopes.proofs.Parts.{some_is, none_some, top_alone, nothing_known_below}
+use Rattle.v_scopes.proofs.Joined.{named_so}
+
+-- ---- one declaration
+
+ranged_so : (s : Scope) (g : Bool) (r : Option Range) → ranged g (bounds s r) ≡ known_object s g r
+unfolding bound_at
+ranged_so s g None = refl
+ranged_so s g (Some r) = by_value (known_range s r)
+  where
+    by_value : (o : Option (ℕ × ℕ)) → ranged g (known_bounds o) ≡ option_map (with_range g) o
+    by_value None = refl
+    by_value (Some b) = refl
+
+with_so : (s : Scope) (a : Option Range) (g : Bool) (r : Option Range)
+    → option_map (addressed (addresses_at (bounds s a))) (known_object s g r) ≡ option_map (with_known_addresses s a) (known_object s g r)
+unfolding bound_at
+with_so s None g None = refl
+with_so s None g (Some r) = by_value (known_range s r)
+  where
+    by_value : (o : Option (ℕ × ℕ)) → option_map (addressed None) (option_map (with_range g) o) ≡ option_map (with_known_addresses s None) (option_map (with_range g) o)
+    by_value None = refl
+    by_value (Some b) = refl
+with_so s (Some a) g r = by_value (known_range s a)
+  where
+    by_value : (o : Option (ℕ × ℕ)) → option_map (addressed (addresses_at (known_bounds o))) (known_object s g r) ≡ option_map (addressed (Some (unwrap_or o (0, 0)))) (known_object s g r)
+    by_value None = refl
+    by_value (Some b) = refl
+
+object_so : (s : Scope) (d : Declaration) → row_object (row s d) ≡ known_declaration s d
+object_so s d =
+    ap (option_map (addressed (addresses_at (bounds s d.addresses)))) (ranged_so s d.signed d.range) ∙ with_so s d.addresses d.signed d.range
+
+-- ---- a name
+
+from_row : (s : Scope) (o : Option Declaration) → option_and_then row_object (option_map (row s) o) ≡ option_and_then (known_declaration s) o
+from_row s None = refl
+from_row s (Some d) = object_so s d
+
+pub scope_so : (m : Module) (rs : List Row) → rs ≡ rows (scope_of []) (declarations m) → scope_by rs ≡ known_module_scope m []
+scope_so m rs e =
+    fun_ext (λ n.
+    ap (λ xs. object_from (row_named xs n)) e
+    ∙ (ap object_from (sym (named_so (scope_of []) (declarations m) n))
+    ∙ ap object_or_undeclared (from_row (scope_of []) (declaration_of (declarations m) n))))
+
+-- ---- as a list of names and objects
+
+entry_cond : (b : Bool) (x : Object) (o : Option Object) → object_or_undeclared (cond b (Some x) o) ≡ cond b x (object_or_undeclared o)
+entry_cond true x o = refl
+entry_cond false x o = refl
+
+by_name : (s : Scope) (d : Row) (n : Name) (o : Object) (b : Bool) → same_name d.of_name n ≡ b → (b ≡ false → o ≡ s n) → cond b (s d.of_name) o ≡ s n
+by_name s d n o true e h = ap s ((bytes_eq-Decides d.of_name n).0 e)
+by_name s d n o false e h = h refl
+
+cond_none : {A : Type 0} (b : Bool) (x : A) (o : Option A) → b ≡ false → o ≡ None → cond b (Some x) o ≡ None
+cond_none true x o e h = absurd (true≢false e)
+cond_none false x o e h = h
+
+-- the list of the names' objects gives the scope, where that has no other name
+objects_at : (s : Scope) (ds : List Row) (n : Name) → (row_named ds n ≡ None → s n ≡ undeclared) → object_or_undeclared (entry_of (objects_by s ds) n) ≡ s n
+objects_at s [] n h = sym (h refl)
+objects_at s (d ∷ ds) n h =
+    entry_cond (same_name d.of_name n) (s d.of_name) (entry_of (objects_by s ds) n)
+    ∙ by_name s d n (object_or_undeclared (entry_of (objects_by s ds) n)) (same_name d.of_name n) refl
+    (λ e. objects_at s ds n (λ k. h (cond_none (same_name d.of_name n) (row_and_later d (row_named ds n)) (row_named ds n) e k)))
+
+pub objects_so : (ds : List Row) → scope_of (objects_by (scope_by ds) ds) ≡ scope_by ds
+objects_so ds = fun_ext (λ n. objects_at (scope_by ds) ds n (λ e. ap object_from e))
+
+-- ---- the design
+
+placed_alone : (d : Design) (m : Module) (s : Scope) → IsWhole d → module_named d.source d.top ≡ Some m → s ≡ known_module_scope m []
+    → (path : List PathStep) (p : Placed) → known_at d.source d.top path ≡ Some p → (path ≡ []) × (s ≡ known_scope p)
+placed_alone d m s w e h [] p is =
+    (refl, h ∙ ap known_scope (some_is (alone m) p (sym (top_alone d.source d.top m w e) ∙ is)))
+placed_alone d m s w e h (u ∷ path) p is = absurd (none_some p (sym (nothing_known_below d.source d.top w u path) ∙ is))
+
+by_top : (d : Design) (s : Scope) → IsWhole d → ¬ Breaks d no_top → (o : Option Module) → module_named d.source d.top ≡ o → Some s ≡ option_map (λ m. known_module_scope m []) o
+    → (path : List PathStep) (p : Placed) → known_at d.source d.top path ≡ Some p → (path ≡ []) × (s ≡ known_scope p)
+by_top d s w t None e h = absurd (none_some s (sym h))
+by_top d s w t (Some m) e h = placed_alone d m s w e (some_is s (known_module_scope m []) h)
+
+pub scoped : (d : Design) (s : Scope) → IsNamesRefusal d None → Some s ≡ option_map (λ m. known_module_scope m []) (module_named d.source d.top)
+    → (path : List PathStep) (p : Placed) → known_at d.source d.top path ≡ Some p → (path ≡ []) × (s ≡ known_scope p)
+scoped d s r h = by_top d s r.0 r.1 (module_named d.source d.top) refl h
+
+no_module : {A : Type 0} (d : Design) (f : Module → A) → ¬ Breaks d no_top → (o : Option Module) → module_named d.source d.top ≡ o → None ≡ option_map f o → ⊥
+no_module d f t None e h = t (HasNoTop.no_module e)
+no_module d f t (Some m) e h = none_some (f m) h
+
+-- a design whose names are in order has a top
+pub has_module : {A : Type 0} (d : Design) (f : Module → A) → IsNamesRefusal d None → None ≡ option_map f (module_named d.source d.top) → ⊥
+has_module d f r h = no_module d f r.1 (module_named d.source d.top) refl h
