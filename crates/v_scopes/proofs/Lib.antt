@@ -5,3 +5,4 @@ mod Listed
 mod Joined
 mod Objects
 mod Empty
+mod Chosen

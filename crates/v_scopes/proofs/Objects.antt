@@ -13,6 +13,8 @@ use Rattle.v_scopes.specs.Bounds.{bound_at, known_bounds, bounds}
 use Rattle.v_scopes.specs.Rows.{Row, row, rows, row_named, ranged, addresses_at, addressed, row_and_later, row_object, object_from, scope_by, objects_by}
 use Rattle.v_scopes.specs.Ports.{alone}
 use Rattle.v_scopes.specs.Refusals.{IsWhole, IsNamesRefusal}
+use Rattle.v_scopes.specs.declared.table.ModuleScope.{ModuleScope}
+use Rattle.v_scopes.specs.Scopes.{scope_in, with_top, IsScoping}
 use Rattle.v_scopes.proofs.Parts.{some_is, none_some, top_alone, nothing_known_below}
 use Rattle.v_scopes.proofs.Joined.{named_so}
 
@@ -108,3 +110,8 @@ no_module d f t (Some m) e h = none_some (f m) h
 -- a design whose names are in order has a top
 pub has_module : {A : Type 0} (d : Design) (f : Module → A) → IsNamesRefusal d None → None ≡ option_map f (module_named d.source d.top) → ⊥
 has_module d f r h = no_module d f r.1 (module_named d.source d.top) refl h
+
+pub is_scoping : (d : Design) → IsNamesRefusal d None → (o : Option ModuleScope) → option_map scope_in o ≡ option_map (λ m. known_module_scope m []) (module_named d.source d.top)
+    → IsScoping d (with_top o)
+is_scoping d r (Some s) h = (r, scoped d (scope_in s) r h)
+is_scoping d r None h = absurd (has_module d (λ m. known_module_scope m []) r h)

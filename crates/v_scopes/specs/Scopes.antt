@@ -9,6 +9,7 @@ use Rattle.v_scopes.specs.declared.table.ModuleScope.{ModuleScope}
 use Rattle.v_scopes.specs.declared.scopes_of.Scopes.{Scopes}
 use Rattle.v_scopes.specs.declared.scopes_of.ScopesStop.{ScopesStop}
 use Rattle.v_scopes.specs.declared.scopes_of.ScopesStop.TheVariants.{Refused, NoMemory}
+use Rattle.v_scopes.specs.declared.refusal.ScopesKind.TheVariants.{NoTop}
 use Rattle.v_scopes.specs.Rows.{Row, rows_of, row_named, scope_by}
 use Rattle.v_scopes.specs.Refusals.{IsNamesRefusal}
 
@@ -17,6 +18,11 @@ declared_in s n = row_named (rows_of s.declared.items) n
 
 abbrev pub scope_in : ModuleScope → Scope
 scope_in s = scope_by (rows_of s.declared.items)
+
+-- the scopes of a design whose names are in order
+abbrev pub with_top : Option ModuleScope → Result Scopes ScopesStop
+with_top (Some s) = Ok (record { top = s })
+with_top None = Err (Refused (record { kind = NoTop }))
 
 -- Each module that stands in the design is the top, and this is its scope.
 abbrev pub AreScopesOf : Design → Scopes → Type 0

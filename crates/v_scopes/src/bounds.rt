@@ -2,10 +2,10 @@
 ghost use Rattle.std.specs.Prelude.{◌≡◌};
 ghost use Rattle.verilog_designs.specs.Known.{as_bound, both_bounds};
 ghost use Rattle.v_syntax.specs.Tree.{tree_of};
-ghost use Rattle.v_syntax.specs.Source.{range_of, optional_range_of};
+ghost use Rattle.v_syntax.specs.Source.{optional_range_of};
 ghost use Rattle.v_value.specs.Scope.{scope_at};
 ghost use Rattle.v_size.specs.Rule.{number_at};
-ghost use Rattle.v_scopes.specs.Bounds.{bound_at, known_bounds, range_bounds, bounds, is_wide};
+ghost use Rattle.v_scopes.specs.Bounds.{bound_at, known_bounds, bounds, is_wide};
 
 use crate::constants::Constants;
 use v_size::constant_number;
@@ -57,22 +57,15 @@ fn between(left: Option<u32>, right: Option<u32>) -> Bounds
     }
 }
 
-/// The value of a range.
-fn range_value(constants: Constants<'_, '_>, range: &Range<'_>) -> Bounds
-    ensures { result ≡ range_bounds (scope_at constants.entry.scope.now) (range_of range.now) }
-{
-    between(
-        bound(constants, &range.left),
-        bound(constants, &range.right),
-    )
-}
-
 /// The value of a range, if one is declared.
 pub fn bounds_of(constants: Constants<'_, '_>, range: &Option<Box<Range<'_>>>) -> Bounds
     ensures { result ≡ bounds (scope_at constants.entry.scope.now) (optional_range_of range.now) }
 {
     match range {
-        Some(range) => range_value(constants, range),
+        Some(range) => between(
+            bound(constants, &range.left),
+            bound(constants, &range.right),
+        ),
         None => Bounds::Absent,
     }
 }

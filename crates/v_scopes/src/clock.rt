@@ -15,6 +15,20 @@ use crate::constants::{Constants, no_constants};
 use std::alloc::Global;
 use v_syntax::module::{Direction, Item, Module, PortDeclaration, Ports, Range, Variable, Wire};
 
+/// Whether both hold.
+fn both(x: bool, y: bool) -> bool
+    ensures { result ≡ (x && y) }
+{
+    x && y
+}
+
+/// Whether one of the two holds.
+pub(crate) fn either(x: bool, y: bool) -> bool
+    ensures { result ≡ (x || y) }
+{
+    x || y
+}
+
 /// Whether the name is one of these.
 fn is_named(names: &[&str], name: &str) -> bool
     ensures { result ≡ is_among (map (λ n. n.now) names.now) name.now }
@@ -77,16 +91,38 @@ fn has_wide_port(constants: Constants<'_, '_>, ports: &[PortDeclaration<'_>], na
     false
 }
 
+/// Whether one of the nets has the name, and a range of another number of bits than one.
+fn is_wide_wire(
+    constants: Constants<'_, '_>,
+    range: &Option<Box<Range<'_>>>,
+    wires: &[Wire<'_>],
+    name: &str,
+) -> bool
+    ensures { result ≡ (is_among (connected_names (map (λ w. (w.name.now, boxed_tree_of w.value)) wires.now)) name.now && is_wide (bounds (scope_at constants.entry.scope.now) (optional_range_of range.now))) }
+{
+    is_wire(wires, name) && is_wide_range(constants, range)
+}
+
+/// Whether one of the variables has the name, and a range of another number of bits than one.
+fn is_wide_variable(
+    constants: Constants<'_, '_>,
+    range: &Option<Box<Range<'_>>>,
+    variables: &[Variable<'_>],
+    name: &str,
+) -> bool
+    ensures { result ≡ (is_among (variable_names (map (λ v. (v.name.now, optional_range_of v.addresses)) variables.now)) name.now && is_wide (bounds (scope_at constants.entry.scope.now) (optional_range_of range.now))) }
+{
+    is_variable(variables, name) && is_wide_range(constants, range)
+}
+
 /// Whether the item declares the name with a range of another number of bits than one.
 fn is_wide_item(constants: Constants<'_, '_>, item: &Item<'_>, name: &str) -> bool
     ensures { result ≡ is_wide_item (scope_at constants.entry.scope.now) name.now (item_of item.now) }
 {
     match item {
         Item::Port(port) => is_wide_port(constants, port, name),
-        Item::Wires(_, range, wires) => is_wire(wires, name) && is_wide_range(constants, range),
-        Item::Variables(_, range, variables) => {
-            is_variable(variables, name) && is_wide_range(constants, range)
-        }
+        Item::Wires(_, range, wires) => is_wide_wire(constants, range, wires, name),
+        Item::Variables(_, range, variables) => is_wide_variable(constants, range, variables, name),
         Item::Parameter(_) => false,
         Item::Assign(_) => false,
         Item::Always(_, _) => false,
@@ -215,7 +251,10 @@ fn is_input(direction: Option<Direction>) -> bool
 fn is_input_port(within: &Module<'_>, name: &str) -> bool
     ensures { result ≡ is_input_port (module_of within.now) name.now }
 {
-    is_listed(&within.ports, name) && is_input(direction(within, name))
+    both(
+        is_listed(&within.ports, name),
+        is_input(direction(within, name)),
+    )
 }
 
 /// Whether the list of ports declares the name with a range of another number of bits than one.
@@ -242,7 +281,9 @@ pub(crate) fn lacks_clock(alloc: Global, within: &Module<'_>, clock: &str) -> bo
 {
     let scope = no_constants(alloc);
     let constants = Constants { scope: &scope };
-    !is_input_port(within, clock) || is_wide_name(constants, within, clock)
+    let input = is_input_port(within, clock);
+    let wide = is_wide_name(constants, within, clock);
+    either(!input, wide)
 }
 
 /// Whether the module, which has no parameters, has an input port of this name and of one bit. A range without a value says nothing.

@@ -31,16 +31,20 @@ fn kind_of_names(
 ) -> Result<Option<ScopesKind>, AllocError>
     ensures { IfOk result (λ k. k ≡ names_kind (source_of tree.now) clock.now (module_of within.now)) }
 {
-    if lacks_clock(alloc, within, clock) {
+    let lacking = lacks_clock(alloc, within, clock);
+    if lacking {
         return Ok(Some(ScopesKind::NoTop));
     }
-    if has_undeclared(alloc, tree, within)? {
+    let unknown = has_undeclared(alloc, tree, within)?;
+    if unknown {
         return Ok(Some(ScopesKind::Undeclared));
     }
-    if has_duplicate_module(alloc, tree)? {
+    let modules = has_duplicate_module(alloc, tree)?;
+    if modules {
         return Ok(Some(ScopesKind::DuplicateName));
     }
-    if has_duplicate(alloc, within)? {
+    let names = has_duplicate(alloc, within)?;
+    if names {
         return Ok(Some(ScopesKind::DuplicateName));
     }
     Ok(None)
@@ -74,7 +78,8 @@ pub fn names_refusal(
 ) -> Result<Option<ScopesKind>, AllocError>
     ensures { IfOk result (λ k. IsNamesRefusal (record { source = source_of tree.now; top = top.now; clock = clock.now }) k) }
 {
-    if has_parts(tree) {
+    let parts = has_parts(tree);
+    if parts {
         return Ok(Some(ScopesKind::NotYet));
     }
     let kind = kind_of_top(alloc, tree, top, clock)?;

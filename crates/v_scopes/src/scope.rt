@@ -1,5 +1,5 @@
 //! The scope of a module, made of its declarations, and what its names stand for.
-ghost use Rattle.std.specs.Prelude.{◌≡◌, ◌||◌, ℕ, List, [], option_map, cond, Some, IfOk, OnOk};
+ghost use Rattle.std.specs.Prelude.{◌≡◌, ℕ, List, [], option_map, cond, Some, IfOk, OnOk};
 ghost use Rattle.wb_values.specs.Value.{same_name};
 ghost use Rattle.verilog_meaning.specs.Expression.{undeclared, object_or_undeclared, scope_of};
 ghost use Rattle.verilog_meaning.specs.Hierarchy.{declarations};
@@ -12,6 +12,7 @@ ghost use Rattle.v_scopes.specs.Tables.{row_at};
 ghost use Rattle.v_scopes.specs.Scopes.{declared_in, scope_in};
 
 use crate::bounds::Bounds;
+use crate::clock::either;
 use crate::constants::{Constants, no_constants};
 use crate::row::{Declared, declared_rows};
 use crate::table::ModuleScope;
@@ -29,13 +30,6 @@ fn first_bounds(first: Bounds, later: Bounds) -> Bounds
         Bounds::Unknown => first,
         Bounds::Known(_, _) => first,
     }
-}
-
-/// Whether one of the two holds.
-fn either(x: bool, y: bool) -> bool
-    ensures { result ≡ (x || y) }
-{
-    x || y
 }
 
 /// What two declarations of one name say together.

@@ -3,7 +3,7 @@ ghost use Rattle.std.specs.Prelude.{◌≡◌, [], option_map, IfOk};
 ghost use Rattle.verilog_meaning.specs.Hierarchy.{module_named};
 ghost use Rattle.verilog_designs.specs.Known.{known_module_scope};
 ghost use Rattle.v_syntax.specs.Source.{source_of};
-ghost use Rattle.v_scopes.specs.Scopes.{scope_in, IsScoping};
+ghost use Rattle.v_scopes.specs.Scopes.{scope_in, with_top, IsScoping};
 
 use crate::refusal::{ScopesKind, names_refusal};
 use crate::scope::module_scope;
@@ -48,6 +48,19 @@ fn top_scope<'s>(
     }
 }
 
+/// The scopes of a design whose names are in order, where this is the scope of its top.
+fn with_top(scope: Option<ModuleScope<'_>>) -> Result<Scopes<'_>, ScopesStop>
+    ensures { result ≡ with_top scope.entry }
+{
+    match scope {
+        Some(top) => Ok(Scopes { top }),
+        // Such a design has a top.
+        None => Err(ScopesStop::Refused(ScopesRefusal {
+            kind: ScopesKind::NoTop,
+        })),
+    }
+}
+
 /// The scopes of a design, where none of its names is refused; else the first kind of refusal.
 pub fn scopes<'s>(
     alloc: Global,
@@ -62,11 +75,7 @@ pub fn scopes<'s>(
         Ok(Some(kind)) => Err(ScopesStop::Refused(ScopesRefusal { kind })),
         Ok(None) => match top_scope(alloc, tree, top) {
             Err(_) => Err(ScopesStop::NoMemory),
-            Ok(Some(top)) => Ok(Scopes { top }),
-            // A design whose names are in order has a top.
-            Ok(None) => Err(ScopesStop::Refused(ScopesRefusal {
-                kind: ScopesKind::NoTop,
-            })),
+            Ok(scope) => with_top(scope),
         },
     }
 }
