@@ -17,8 +17,8 @@ use Rattle.v_syntax.specs.declared.module.Direction.{Direction}
 use Rattle.v_syntax.specs.declared.module.NetKind.{NetKind}
 use Rattle.v_syntax.specs.declared.module.NetKind.TheVariants.{Wire, Reg}
 use Rattle.v_syntax.specs.Source.{direction_of, kind_of}
-use Rattle.v_scopes.specs.declared.bounds.Bounds.{Bounds}
-use Rattle.v_scopes.specs.declared.bounds.Bounds.TheVariants.{Absent, Unknown, Known}
+use Rattle.v_scopes.specs.declared.range.Bounds.{Bounds}
+use Rattle.v_scopes.specs.declared.range.Bounds.TheVariants.{Absent, Unknown, Known}
 use Rattle.v_scopes.specs.declared.row.Declared.{Declared}
 use Rattle.v_scopes.specs.Bounds.{bound_at, known_bounds, range_bounds, bounds, first_bounds}
 use Rattle.v_scopes.specs.Rows.{Row, row, rows, row_of, rows_of, both_rows, row_and_later, row_after, row_named, joined_rows}

@@ -9,7 +9,7 @@ use Rattle.v_syntax.specs.declared.module.PortDeclaration.{PortDeclaration as Co
 use Rattle.v_syntax.specs.declared.module.NetKind.TheVariants.{Wire as WireKind, Reg}
 use Rattle.v_syntax.specs.declared.module.Wire.{Wire}
 use Rattle.v_syntax.specs.Source.{boxed_tree_of, optional_range_of, direction_of, kind_of, port_of}
-use Rattle.v_scopes.specs.declared.bounds.Bounds.TheVariants.{Absent}
+use Rattle.v_scopes.specs.declared.range.Bounds.TheVariants.{Absent}
 use Rattle.v_scopes.specs.declared.row.Form.{Form}
 use Rattle.v_scopes.specs.Bounds.{bounds}
 use Rattle.v_scopes.specs.Rows.{Row, row, rows, formed, named, placed}

@@ -3,8 +3,8 @@ use Rattle.std.specs.Prelude.{ℕ, Bool, false, not, ◌==◌, Option, Some, Non
 use Rattle.verilog_trees.specs.Syntax.{Expression, Range}
 use Rattle.verilog_meaning.specs.Expression.{Scope}
 use Rattle.verilog_designs.specs.Known.{known_bound, both_bounds}
-use Rattle.v_scopes.specs.declared.bounds.Bounds.{Bounds}
-use Rattle.v_scopes.specs.declared.bounds.Bounds.TheVariants.{Absent, Unknown, Known}
+use Rattle.v_scopes.specs.declared.range.Bounds.{Bounds}
+use Rattle.v_scopes.specs.declared.range.Bounds.TheVariants.{Absent, Unknown, Known}
 
 -- the value of a bound, under a name that does not unfold by itself
 unfoldable pub bound_at : Scope → Expression → Option ℕ

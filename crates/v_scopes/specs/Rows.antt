@@ -7,8 +7,8 @@ use Rattle.verilog_meaning.specs.Expression.{Object, Scope, undeclared, object_o
 use Rattle.verilog_meaning.specs.Hierarchy.{Declaration}
 use Rattle.verilog_designs.specs.Known.{with_range}
 use Rattle.v_syntax.specs.Source.{direction_of, kind_of}
-use Rattle.v_scopes.specs.declared.bounds.Bounds.{Bounds}
-use Rattle.v_scopes.specs.declared.bounds.Bounds.TheVariants.{Absent, Unknown, Known}
+use Rattle.v_scopes.specs.declared.range.Bounds.{Bounds}
+use Rattle.v_scopes.specs.declared.range.Bounds.TheVariants.{Absent, Unknown, Known}
 use Rattle.v_scopes.specs.declared.row.Declared.{Declared}
 use Rattle.v_scopes.specs.declared.row.Form.{Form}
 use Rattle.v_scopes.specs.Bounds.{bounds, first_bounds}

@@ -10,8 +10,8 @@ ghost use Rattle.v_value.specs.Scope.{scope_at};
 ghost use Rattle.v_scopes.specs.Bounds.{bounds, is_wide};
 ghost use Rattle.v_scopes.specs.Ports.{is_port_of, is_listed, direction_among, port_direction, item_direction, direction_in, wide_port, is_wide_item, wide_item, alone, lacks_clock};
 
-use crate::bounds::{bounds_of, is_wide};
-use crate::constants::{Constants, no_constants};
+use crate::constant::{Constants, no_constants};
+use crate::range::{bounds_of, is_wide};
 use std::alloc::Global;
 use v_syntax::module::{Direction, Item, Module, PortDeclaration, Ports, Range, Variable, Wire};
 

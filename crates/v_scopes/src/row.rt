@@ -4,12 +4,12 @@ ghost use Rattle.verilog_trees.specs.Syntax as pure;
 ghost use Rattle.verilog_meaning.specs.Hierarchy.{declarations, item_declarations, port_declarations, each_port, header_ports};
 ghost use Rattle.v_syntax.specs.Source.{port_of, ports_of, optional_range_of, item_of, module_of};
 ghost use Rattle.v_value.specs.Scope.{scope_at};
-ghost use Rattle.v_scopes.specs.declared.bounds.Bounds.TheVariants.{Absent};
+ghost use Rattle.v_scopes.specs.declared.range.Bounds.TheVariants.{Absent};
 ghost use Rattle.v_scopes.specs.Bounds.{bounds};
 ghost use Rattle.v_scopes.specs.Rows.{rows, rows_of, formed, named, placed};
 
-use crate::bounds::{Bounds, bounds_of};
-use crate::constants::Constants;
+use crate::constant::Constants;
+use crate::range::{Bounds, bounds_of};
 use std::alloc::{AllocError, Global};
 use v_syntax::module::{
     Direction, Item, Module, NetKind, PortDeclaration, Ports, Range, Variable, Wire,

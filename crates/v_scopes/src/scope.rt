@@ -11,9 +11,9 @@ ghost use Rattle.v_scopes.specs.Rows.{rows, row_of, rows_of, both_rows, row_afte
 ghost use Rattle.v_scopes.specs.Tables.{row_at};
 ghost use Rattle.v_scopes.specs.Scopes.{declared_in, scope_in};
 
-use crate::bounds::Bounds;
 use crate::clock::either;
-use crate::constants::{Constants, no_constants};
+use crate::constant::{Constants, no_constants};
+use crate::range::Bounds;
 use crate::row::{Declared, declared_rows};
 use crate::table::ModuleScope;
 use std::alloc::{AllocError, Global};

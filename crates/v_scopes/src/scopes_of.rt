@@ -14,7 +14,7 @@ use v_syntax::module::Tree;
 
 /// The scopes of the modules that stand in a design: that of its top alone, as long as instances are not read.
 #[derive(Drop)]
-pub struct Scopes<'s> {
+pub struct DesignScopes<'s> {
     pub top: ModuleScope<'s>,
 }
 
@@ -49,11 +49,11 @@ fn top_scope<'s>(
 }
 
 /// The scopes of a design whose names are in order, where this is the scope of its top.
-fn with_top(scope: Option<ModuleScope<'_>>) -> Result<Scopes<'_>, ScopesStop>
+fn with_top(scope: Option<ModuleScope<'_>>) -> Result<DesignScopes<'_>, ScopesStop>
     ensures { result ≡ with_top scope.entry }
 {
     match scope {
-        Some(top) => Ok(Scopes { top }),
+        Some(top) => Ok(DesignScopes { top }),
         // Such a design has a top.
         None => Err(ScopesStop::Refused(ScopesRefusal {
             kind: ScopesKind::NoTop,
@@ -67,7 +67,7 @@ pub fn scopes<'s>(
     tree: &Tree<'s>,
     top: &str,
     clock: &str,
-) -> Result<Scopes<'s>, ScopesStop>
+) -> Result<DesignScopes<'s>, ScopesStop>
     ensures { IsScoping (record { source = source_of tree.now; top = top.now; clock = clock.now }) result }
 {
     match names_refusal(alloc, tree, top, clock) {

@@ -1,7 +1,7 @@
 use Rattle.std.proofs.Common.{ap, ◌∙◌}
 use Rattle.verilog_designs.specs.Known.{as_bound}
 use Rattle.v_scopes.specs.Bounds.{bound_at}
-use Rattle.v_scopes.proofs.bounds.bound.Goals as goal
+use Rattle.v_scopes.proofs.range.bound.Goals as goal
 
 pub returns : goal.returns
 unfolding bound_at

@@ -7,7 +7,7 @@ ghost use Rattle.v_value.specs.Scope.{scope_at};
 ghost use Rattle.v_size.specs.Rule.{number_at};
 ghost use Rattle.v_scopes.specs.Bounds.{bound_at, known_bounds, bounds, is_wide};
 
-use crate::constants::Constants;
+use crate::constant::Constants;
 use v_size::constant_number;
 use v_syntax::module::Range;
 use v_syntax::tree::Expression;
