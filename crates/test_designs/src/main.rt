@@ -96,8 +96,10 @@ fn add_object(alloc: Global, object: Object, text: &mut String) -> Result<(), Al
         text.push_str(range.as_str())?;
     }
     if let Some((first, last)) = object.addresses {
-        let addresses = format!(in alloc; "{{{}:{}}}", first, last)?;
+        let addresses = format!(in alloc; "{first}:{last}")?;
+        text.push_str("{")?;
         text.push_str(addresses.as_str())?;
+        text.push_str("}")?;
     }
     Ok(())
 }

@@ -121,7 +121,7 @@ one_more : (b : Bool) (o : Option Row) (x : Row) (p : Option Row)
 one_more true o x p = after_later o x p
 one_more false o x p = refl
 
-rows_drop : (ds : List Declared) (i : ℕ) (d : Declared) → i < length ds → rows_of (drop i ds) ≡ row_of (get_or ds i d) ∷ rows_of (drop (i + 1) ds)
+pub rows_drop : (ds : List Declared) (i : ℕ) (d : Declared) → i < length ds → rows_of (drop i ds) ≡ row_of (get_or ds i d) ∷ rows_of (drop (i + 1) ds)
 rows_drop ds i d h = rw (add-one, drop-cons ds i d h) refl
 
 -- a turn that puts a declaration into the table

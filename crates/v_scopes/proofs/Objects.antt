@@ -1,8 +1,8 @@
 -- The objects of a module's names, as the definitions have them.
-use Rattle.std.proofs.Common.{◌≡◌, ◌∙◌, refl, ap, sym, subst, ℕ, Bool, true, false, true≢false, cond, List, [], ◌∷◌, Option, Some, None, unwrap_or, option_map, option_and_then}
+use Rattle.std.proofs.Common.{◌≡◌, ◌∙◌, refl, ap, sym, subst, ℕ, Bool, true, false, true≢false, cond, List, [], ◌∷◌, ◌++◌, append_assoc, ◌+◌, ◌<◌, length, drop, get_or, Option, Some, None, unwrap_or, option_map, option_and_then}
 use mathlib.Core.Path.{fun_ext}
 use Rattle.std.proofs.lemmas.Slice.Eq.{bytes_eq-Decides}
-use Rattle.wb_values.specs.Value.{Name, same_name, entry_of}
+use Rattle.wb_values.specs.Value.{Name, same_name, Entries, entry_of}
 use Rattle.verilog_trees.specs.Syntax.{Range, Module, Source}
 use Rattle.verilog_meaning.specs.Expression.{Object, Scope, undeclared, object_or_undeclared, scope_of}
 use Rattle.verilog_meaning.specs.Hierarchy.{Declaration, declarations, declaration_of, module_named, PathStep, Placed}
@@ -10,13 +10,16 @@ use Rattle.verilog_meaning.specs.Settled.{Design}
 use Rattle.verilog_designs.specs.Known.{known_range, with_range, known_object, with_known_addresses, known_declaration, known_module_scope, known_at, known_scope}
 use Rattle.verilog_designs.specs.Accepted.{HasNoTop, Breaks, no_top}
 use Rattle.v_scopes.specs.Bounds.{bound_at, known_bounds, bounds}
-use Rattle.v_scopes.specs.Rows.{Row, row, rows, row_named, ranged, addresses_at, addressed, row_and_later, row_object, object_from, scope_by, objects_by}
+use Rattle.v_scopes.specs.Rows.{Row, row, rows, rows_of, row_named, ranged, addresses_at, addressed, row_and_later, row_object, object_from, scope_by, objects_by}
 use Rattle.v_scopes.specs.Ports.{alone}
 use Rattle.v_scopes.specs.Refusals.{IsWhole, IsNamesRefusal}
+use Rattle.v_value.specs.declared.scope.Declaration.{Declaration as CodeDeclaration}
+use Rattle.v_value.specs.Scope.{object_of, objects_of}
+use Rattle.v_scopes.specs.declared.row.Declared.{Declared}
 use Rattle.v_scopes.specs.declared.table.ModuleScope.{ModuleScope}
 use Rattle.v_scopes.specs.Scopes.{scope_in, with_top, IsScoping}
 use Rattle.v_scopes.proofs.Parts.{some_is, none_some, top_alone, nothing_known_below}
-use Rattle.v_scopes.proofs.Joined.{named_so}
+use Rattle.v_scopes.proofs.Joined.{named_so, rows_drop}
 
 -- ---- one declaration
 
@@ -85,6 +88,22 @@ objects_at s (d ∷ ds) n h =
 
 pub objects_so : (ds : List Row) → scope_of (objects_by (scope_by ds) ds) ≡ scope_by ds
 objects_so ds = fun_ext (λ n. objects_at (scope_by ds) ds n (λ e. ap object_from e))
+
+objects_append : (ds es : List CodeDeclaration) → objects_of (ds ++ es) ≡ objects_of ds ++ objects_of es
+objects_append [] es = refl
+objects_append (d ∷ ds) es = ap (λ xs. (d.name.now, object_of d.object) ∷ xs) (objects_append ds es)
+
+-- a turn that puts a name with its object behind others
+pub object_turn : (s : Scope) (ds : List Declared) (i : ℕ) (d : Declared) (now new : List CodeDeclaration) (x : CodeDeclaration) (whole : Entries Object) → i < length ds
+    → new ≡ now ++ x ∷ [] → x.name.now ≡ (get_or ds i d).name.now → object_of x.object ≡ s x.name.now
+    → objects_of now ++ objects_by s (rows_of (drop i ds)) ≡ whole → objects_of new ++ objects_by s (rows_of (drop (i + 1) ds)) ≡ whole
+object_turn s ds i d now new x whole h p n o e =
+    let rest : Entries Object = objects_by s (rows_of (drop (i + 1) ds)) in
+    ap (λ xs. objects_of xs ++ rest) p
+    ∙ (ap (λ xs. xs ++ rest) (objects_append now (x ∷ []))
+    ∙ (append_assoc (objects_of now) ((x.name.now, object_of x.object) ∷ []) rest
+    ∙ ((λ k. objects_of now ++ (n k, (o ∙ ap s n) k) ∷ rest)
+    ∙ (ap (λ rs. objects_of now ++ objects_by s rs) (sym (rows_drop ds i d h)) ∙ e))))
 
 -- ---- the design
 

@@ -1,5 +1,5 @@
 -- What a module declares, name by name, with the values of its ranges; and what all declarations of a name say together.
-use Rattle.std.specs.Prelude.{ℕ, Bool, true, cond, ◌||◌, List, [], ◌∷◌, Option, Some, None, option_map, option_and_then}
+use Rattle.std.specs.Prelude.{ℕ, Bool, true, cond, ◌||◌, List, [], ◌∷◌, map, Option, Some, None, option_map, option_and_then}
 use Rattle.wb_values.specs.Value.{Name, same_name, Entries}
 use Rattle.wb_values.specs.Choice.{first_of}
 use Rattle.verilog_trees.specs.Syntax as pure
@@ -43,8 +43,7 @@ row_of d =
     }
 
 abbrev pub rows_of : List Declared → List Row
-rows_of [] = []
-rows_of (d ∷ ds) = row_of d ∷ rows_of ds
+rows_of ds = map row_of ds
 
 -- names that are declared alike
 abbrev pub formed : Form → Bounds → Name → Row

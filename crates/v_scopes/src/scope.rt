@@ -18,7 +18,7 @@ use crate::row::{Declared, declared_rows};
 use crate::table::ModuleScope;
 use std::alloc::{AllocError, Global};
 use std::collections::BTreeMap;
-use v_syntax::module::{Direction, Module, NetKind};
+use v_syntax::module::Module;
 use v_value::scope::{Declaration, Object, Scope};
 
 /// The range that the first of two declarations gives, or else the second.

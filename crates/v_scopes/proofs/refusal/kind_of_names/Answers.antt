@@ -1,4 +1,4 @@
-use Rattle.std.proofs.Common.{◌∙◌, sym, Some, None}
+use Rattle.std.proofs.Common.{◌∙◌, sym, refl, Some, None}
 use Rattle.verilog_designs.specs.Names.{has_undeclared, has_duplicate, has_duplicate_module}
 use Rattle.v_syntax.specs.Source.{module_of, source_of}
 use Rattle.v_scopes.specs.declared.refusal.ScopesKind.TheVariants.{NoTop, Undeclared, DuplicateName}
@@ -35,8 +35,8 @@ returns-then-names c =
     (later_kind (has_duplicate_module source) (Some DuplicateName) _ _ (sym c.in_ok-modules.ensures ∙ c.if-modules.false)
     (first_kind (has_duplicate m) (Some DuplicateName) _ (sym c.in_ok-names.ensures ∙ c.if-names.true))))
 
-pub returns-else-names : goal.returns-else-names
-returns-else-names c =
+pub returns : goal.returns
+returns c =
     let m = module_of c.args.within.now in
     let source = source_of c.args.tree.now in
     later_kind (lacks_clock m c.args.clock.now) (Some NoTop) _ _ (sym c.lacks_clock-lacking.ensures ∙ c.if-lacking.false)

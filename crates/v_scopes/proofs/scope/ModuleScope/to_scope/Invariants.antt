@@ -2,7 +2,7 @@ use Rattle.std.proofs.Common.{◌≡◌, ◌++◌, drop}
 use Rattle.v_value.specs.Scope.{objects_of}
 use Rattle.v_scopes.specs.Rows.{rows_of, objects_by}
 use Rattle.v_scopes.specs.Scopes.{scope_in}
-use Rattle.v_scopes.proofs.scope.to_scope.Given as goal
+use Rattle.v_scopes.proofs.scope.ModuleScope.to_scope.Given as goal
 
 abbrev pub invariant-loop-declared : goal.invariant-loop-declared
 invariant-loop-declared l =
