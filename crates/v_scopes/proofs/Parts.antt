@@ -127,11 +127,8 @@ no_hierarchy d h (HasBadHierarchy.recursive r) =
     not_deep d.source d.top h r.steps r.outer.path r.inner r.some (subst (λ path. placed_at d.source d.top path ≡ Some r.inner) r.is_below r.are_placed.1)
 no_hierarchy d h (HasBadHierarchy.crowded [] are many) = absurd (omega (arith, many))
 no_hierarchy d h (HasBadHierarchy.crowded (path ∷ paths) are many) =
-    let placed = are.placed path (0, (zero_first paths, refl)) in
+    let placed = are.placed path (0, omega arith, refl) in
     not_placed d.source d.top h path placed.0 (subst (λ q. placed_at d.source d.top q ≡ Some placed.0) placed.2 placed.1) placed.3
-  where
-    zero_first : (paths : List (List PathStep)) → 0 < length (path ∷ paths)
-    zero_first paths = omega arith
 
 -- ---- only the top stands in the design
 

@@ -11,7 +11,7 @@ use Rattle.v_scopes.specs.declared.refusal.ScopesKind.{ScopesKind}
 use Rattle.v_scopes.specs.declared.refusal.ScopesKind.TheVariants.{NotYet, NoTop, Undeclared, DuplicateName}
 use Rattle.v_scopes.specs.Ports.{lacks_clock}
 
--- The source has a parameter or an instance, which is not read yet.
+-- The source has no parameter and no instance.
 abbrev pub IsWhole : Design → Type 0
 IsWhole d = has_parts d.source ≡ false
 

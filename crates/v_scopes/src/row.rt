@@ -169,8 +169,8 @@ fn add_header<'s>(
     match ports {
         Ports::NoPorts => Ok(()),
         Ports::Listed(_) => Ok(()),
-        Ports::Declared(list) => {
-            add_ports(constants, list, list)?;
+        Ports::Declared(declared) => {
+            add_ports(constants, declared, list)?;
             Ok(())
         }
     }
