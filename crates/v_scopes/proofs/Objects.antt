@@ -1,5 +1,5 @@
 -- The objects of a module's names, as the definitions have them.
-use Rattle.std.proofs.Common.{◌≡◌, ◌∙◌, refl, ap, sym, subst, ℕ, Bool, true, false, true≢false, cond, List, [], ◌∷◌, ◌++◌, append_assoc, ◌+◌, ◌<◌, length, drop, get_or, Option, Some, None, unwrap_or, option_map, option_and_then}
+use Rattle.std.proofs.Common.{◌≡◌, ◌∙◌, refl, ap, sym, subst, ℕ, Bool, true, false, true≢false, cond, List, [], ◌∷◌, ◌++◌, append_assoc, append-nil, ◌+◌, ◌<◌, length, drop, get_or, Option, Some, None, unwrap_or, option_map, option_and_then}
 use mathlib.Core.Path.{fun_ext}
 use Rattle.std.proofs.lemmas.Slice.Eq.{bytes_eq-Decides}
 use Rattle.wb_values.specs.Value.{Name, same_name, Entries, entry_of}
@@ -104,6 +104,12 @@ object_turn s ds i d now new x whole h p n o e =
     ∙ (append_assoc (objects_of now) ((x.name.now, object_of x.object) ∷ []) rest
     ∙ ((λ k. objects_of now ++ (n k, (o ∙ ap s n) k) ∷ rest)
     ∙ (ap (λ rs. objects_of now ++ objects_by s rs) (sym (rows_drop ds i d h)) ∙ e))))
+
+-- at the end no declaration is left
+pub scope_end : (s : ModuleScope) (now : List CodeDeclaration) (ds : List Declared) → ds ≡ []
+    → objects_of now ++ objects_by (scope_in s) (rows_of ds) ≡ objects_by (scope_in s) (rows_of s.declared.items) → scope_of (objects_of now) ≡ scope_in s
+scope_end s now ds h e =
+    ap scope_of (sym (append-nil (objects_of now)) ∙ (ap (λ xs. objects_of now ++ objects_by (scope_in s) (rows_of xs)) (sym h) ∙ e)) ∙ objects_so (rows_of s.declared.items)
 
 -- ---- the design
 
