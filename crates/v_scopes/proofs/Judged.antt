@@ -16,15 +16,15 @@ use Rattle.v_scopes.proofs.Parts.{or_left, or_right, some_is, none_some, top_alo
 
 -- ---- the order of the kinds
 
-is_no_top : Kind → Bool
+abbrev is_no_top : Kind → Bool
 is_no_top no_top = true
 is_no_top _ = false
 
-is_undeclared : Kind → Bool
+abbrev is_undeclared : Kind → Bool
 is_undeclared undeclared = true
 is_undeclared _ = false
 
-is_duplicate : Kind → Bool
+abbrev is_duplicate : Kind → Bool
 is_duplicate duplicate_name = true
 is_duplicate _ = false
 

@@ -1,6 +1,7 @@
 -- The objects of a module's names, as the definitions have them.
-use Rattle.std.proofs.Common.{◌≡◌, ◌∙◌, refl, ap, sym, subst, ℕ, Bool, true, false, true≢false, cond, List, [], ◌∷◌, ◌++◌, append_assoc, append-nil, ◌+◌, ◌<◌, length, drop, get_or, Option, Some, None, unwrap_or, option_map, option_and_then}
+use Rattle.std.proofs.Common.{◌≡◌, ◌∙◌, refl, ap, sym, subst, ℕ, ◌≤◌, Bool, true, false, true≢false, cond, List, [], ◌∷◌, ◌++◌, append_assoc, append-nil, ◌+◌, ◌<◌, length, drop, get_or, Option, Some, None, unwrap_or, option_map, option_and_then}
 use mathlib.Core.Path.{fun_ext}
+use Rattle.std.proofs.lemmas.List.{drop_all}
 use Rattle.std.proofs.lemmas.Slice.Eq.{bytes_eq-Decides}
 use Rattle.wb_values.specs.Value.{Name, same_name, Entries, entry_of}
 use Rattle.verilog_trees.specs.Syntax.{Range, Module, Source}
@@ -106,10 +107,14 @@ object_turn s ds i d now new x whole h p n o e =
     ∙ (ap (λ rs. objects_of now ++ objects_by s rs) (sym (rows_drop ds i d h)) ∙ e))))
 
 -- at the end no declaration is left
-pub scope_end : (s : ModuleScope) (now : List CodeDeclaration) (ds : List Declared) → ds ≡ []
-    → objects_of now ++ objects_by (scope_in s) (rows_of ds) ≡ objects_by (scope_in s) (rows_of s.declared.items) → scope_of (objects_of now) ≡ scope_in s
-scope_end s now ds h e =
-    ap scope_of (sym (append-nil (objects_of now)) ∙ (ap (λ xs. objects_of now ++ objects_by (scope_in s) (rows_of xs)) (sym h) ∙ e)) ∙ objects_so (rows_of s.declared.items)
+pub list_end : (s : Scope) (ds : List Declared) (i : ℕ) (now : List CodeDeclaration) (whole : Entries Object) → length ds ≤ i
+    → objects_of now ++ objects_by s (rows_of (drop i ds)) ≡ whole → objects_of now ≡ whole
+list_end s ds i now whole h e =
+    sym (append-nil (objects_of now)) ∙ (ap (λ xs. objects_of now ++ objects_by s (rows_of xs)) (sym (drop_all i ds h)) ∙ e)
+
+pub list_so : (s : ModuleScope) (ds : List Declared) (xs : List CodeDeclaration) → ds ≡ s.declared.items → objects_of xs ≡ objects_by (scope_in s) (rows_of ds)
+    → scope_of (objects_of xs) ≡ scope_in s
+list_so s ds xs h e = ap scope_of (e ∙ ap (λ ys. objects_by (scope_in s) (rows_of ys)) h) ∙ objects_so (rows_of s.declared.items)
 
 -- ---- the design
 

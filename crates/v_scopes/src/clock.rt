@@ -272,7 +272,10 @@ fn is_wide_header(constants: Constants<'_, '_>, ports: &Ports<'_>, name: &str) -
 fn is_wide_name(constants: Constants<'_, '_>, within: &Module<'_>, name: &str) -> bool
     ensures { result ≡ (wide_port (scope_at constants.entry.scope.now) name.now (header_ports (module_of within.now).ports) || wide_item (scope_at constants.entry.scope.now) name.now (module_of within.now).items) }
 {
-    is_wide_header(constants, &within.ports, name) || has_wide_item(constants, &within.items, name)
+    either(
+        is_wide_header(constants, &within.ports, name),
+        has_wide_item(constants, &within.items, name),
+    )
 }
 
 /// Whether the module lacks an input port of this name and of one bit.

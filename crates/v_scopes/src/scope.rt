@@ -5,9 +5,9 @@ ghost use Rattle.verilog_meaning.specs.Expression.{undeclared, object_or_undecla
 ghost use Rattle.verilog_meaning.specs.Hierarchy.{declarations};
 ghost use Rattle.verilog_designs.specs.Known.{known_module_scope};
 ghost use Rattle.v_syntax.specs.Source.{module_of};
-ghost use Rattle.v_value.specs.Scope.{object_of, scope_at};
+ghost use Rattle.v_value.specs.Scope.{object_of, objects_of, scope_at};
 ghost use Rattle.v_scopes.specs.Bounds.{first_bounds};
-ghost use Rattle.v_scopes.specs.Rows.{rows, row_of, rows_of, both_rows, row_after, row_named, addresses_at, row_object};
+ghost use Rattle.v_scopes.specs.Rows.{rows, row_of, rows_of, both_rows, row_after, row_named, addresses_at, row_object, objects_by};
 ghost use Rattle.v_scopes.specs.Tables.{row_at};
 ghost use Rattle.v_scopes.specs.Scopes.{declared_in, scope_in};
 
@@ -174,13 +174,25 @@ impl<'s> ModuleScope<'s> {
     pub fn to_scope(&self, alloc: Global) -> Result<Scope<'s>, AllocError>
         ensures { IfOk result (λ s. scope_at s ≡ scope_in self.now) }
     {
-        let mut scope = no_constants(alloc);
-        for declared in &self.declared {
-            scope.declarations.push(Declaration {
-                name: declared.name,
-                object: self.object(declared.name),
-            })?;
-        }
-        Ok(scope)
+        let list = list_of(alloc, self, &self.declared)?;
+        Ok(list)
     }
+}
+
+/// The names of declarations with their objects.
+fn list_of<'s>(
+    alloc: Global,
+    names: &ModuleScope<'s>,
+    declared: &[Declared<'s>],
+) -> Result<Scope<'s>, AllocError>
+    ensures { IfOk result (λ s. objects_of s.declarations.items ≡ objects_by (scope_in names.now) (rows_of declared.now)) }
+{
+    let mut scope = no_constants(alloc);
+    for each in declared {
+        scope.declarations.push(Declaration {
+            name: each.name,
+            object: names.object(each.name),
+        })?;
+    }
+    Ok(scope)
 }

@@ -1,3 +1,4 @@
+use Rattle.std.proofs.Common.{refl}
 use Rattle.v_scopes.proofs.Joined.{both_so}
 use Rattle.v_scopes.proofs.scope.both.Goals as goal
 
