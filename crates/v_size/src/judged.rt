@@ -463,7 +463,7 @@ fn by_itself(names: Names<'_, '_>, place: Place, expression: &Expression<'_>) ->
 
 /// A constant, in the context of its own width and sign.
 #[cycle(judged)]
-fn judged_constant(names: Names<'_, '_>, expression: &Expression<'_>) -> ConstantNumber
+pub(crate) fn judged_constant(names: Names<'_, '_>, expression: &Expression<'_>) -> ConstantNumber
     ensures broken { result.broken ≡ constant_broken_at (scope_at names.entry.scope.now) (tree_of expression.now) }
     ensures number { number_at result.number ≡ constant_number_at (scope_at names.entry.scope.now) (tree_of expression.now) }
 {

@@ -1,0 +1,8 @@
+mod Parts
+mod Judged
+mod Clocks
+mod Listed
+mod Joined
+mod Objects
+mod Empty
+mod Chosen

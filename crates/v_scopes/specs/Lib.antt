@@ -1,0 +1,6 @@
+pub mod Bounds
+pub mod Rows
+pub mod Ports
+pub mod Tables
+pub mod Refusals
+pub mod Scopes

@@ -1,0 +1,198 @@
+//! The scope of a module, made of its declarations, and what its names stand for.
+ghost use Rattle.std.specs.Prelude.{◌≡◌, ℕ, List, [], option_map, cond, Some, IfOk, OnOk};
+ghost use Rattle.wb_values.specs.Value.{same_name};
+ghost use Rattle.verilog_meaning.specs.Expression.{undeclared, object_or_undeclared, scope_of};
+ghost use Rattle.verilog_meaning.specs.Hierarchy.{declarations};
+ghost use Rattle.verilog_designs.specs.Known.{known_module_scope};
+ghost use Rattle.v_syntax.specs.Source.{module_of};
+ghost use Rattle.v_value.specs.Scope.{object_of, objects_of, scope_at};
+ghost use Rattle.v_scopes.specs.Bounds.{first_bounds};
+ghost use Rattle.v_scopes.specs.Rows.{rows, row_of, rows_of, both_rows, row_after, row_named, addresses_at, row_object, objects_by};
+ghost use Rattle.v_scopes.specs.Tables.{row_at};
+ghost use Rattle.v_scopes.specs.Scopes.{declared_in, scope_in};
+
+use crate::clock::either;
+use crate::constant::{Constants, no_constants};
+use crate::range::Bounds;
+use crate::row::{Declared, declared_rows};
+use crate::table::ModuleScope;
+use std::alloc::{AllocError, Global};
+use std::collections::BTreeMap;
+use v_syntax::module::Module;
+use v_value::scope::{Declaration, Object, Scope};
+
+/// The range that the first of two declarations gives, or else the second.
+fn first_bounds(first: Bounds, later: Bounds) -> Bounds
+    ensures { result ≡ first_bounds first later }
+{
+    match first {
+        Bounds::Absent => later,
+        Bounds::Unknown => first,
+        Bounds::Known(_, _) => first,
+    }
+}
+
+/// What two declarations of one name say together.
+fn both<'s>(first: Declared<'s>, later: Declared<'s>) -> Declared<'s>
+    ensures { row_of result ≡ both_rows (row_of first.entry) (row_of later.entry) }
+{
+    Declared {
+        name: first.name,
+        direction: first.direction.or(later.direction),
+        kind: first.kind.or(later.kind),
+        signed: either(first.signed, later.signed),
+        range: first_bounds(first.range, later.range),
+        addresses: first_bounds(first.addresses, later.addresses),
+    }
+}
+
+/// What is declared of a name with one more declaration.
+fn with_earlier<'s>(table: &BTreeMap<&'s str, Declared<'s>>, declared: Declared<'s>) -> Declared<'s>
+    ensures { row_of result ≡ row_after (row_at table.now declared.entry.name.now) (row_of declared.entry) }
+{
+    match table.get(declared.name) {
+        Some(first) => both(*first, declared),
+        None => declared,
+    }
+}
+
+/// Puts a declaration into the table.
+fn declare<'s>(
+    table: &mut BTreeMap<&'s str, Declared<'s>>,
+    declared: Declared<'s>,
+) -> Result<(), AllocError>
+    ensures { OnOk result ((q : List ℕ) → row_at table.new q
+        ≡ cond (same_name declared.entry.name.now q) (Some (row_after (row_at table.old q) (row_of declared.entry))) (row_at table.old q)) }
+{
+    let row = with_earlier(table, declared);
+    table.insert(declared.name, row)?;
+    Ok(())
+}
+
+/// The table of declarations by their names.
+fn table_of<'s>(
+    alloc: Global,
+    declared: &[Declared<'s>],
+) -> Result<BTreeMap<&'s str, Declared<'s>>, AllocError>
+    ensures { IfOk result (λ t. (q : List ℕ) → row_at t q ≡ row_named (rows_of declared.now) q) }
+{
+    let mut table = BTreeMap::new(alloc);
+    for each in declared {
+        declare(&mut table, *each)?;
+    }
+    Ok(table)
+}
+
+/// The scope of a module that has no parameters. A name whose range has no value is not declared in it.
+pub fn module_scope<'s>(alloc: Global, within: &Module<'s>) -> Result<ModuleScope<'s>, AllocError>
+    ensures declared { IfOk result (λ s. rows_of s.declared.items ≡ rows (scope_of []) (declarations (module_of within.now))) }
+    ensures scope { IfOk result (λ s. scope_in s ≡ known_module_scope (module_of within.now) []) }
+{
+    let scope = no_constants(alloc);
+    let declared = declared_rows(alloc, Constants { scope: &scope }, within)?;
+    let table = table_of(alloc, &declared)?;
+    Ok(ModuleScope { declared, table })
+}
+
+/// The addresses of a memory. Those without a value count as those of one word.
+fn addresses_of(addresses: Bounds) -> Option<(u32, u32)>
+    ensures { result ≡ addresses_at addresses }
+{
+    match addresses {
+        Bounds::Absent => None,
+        Bounds::Unknown => Some((0, 0)),
+        Bounds::Known(first, last) => Some((first, last)),
+    }
+}
+
+/// What a name stands for that is not declared.
+fn nothing() -> Object
+    ensures { object_of result ≡ undeclared }
+{
+    Object {
+        is_declared: false,
+        signed: false,
+        has_range: false,
+        left: 0,
+        right: 0,
+        addresses: None,
+        constant: None,
+    }
+}
+
+/// What a name stands for of which this is declared.
+fn object_from(declared: Declared<'_>) -> Object
+    ensures { object_of result ≡ object_or_undeclared (row_object (row_of declared.entry)) }
+{
+    let addresses = addresses_of(declared.addresses);
+    match declared.range {
+        Bounds::Absent => Object {
+            is_declared: true,
+            signed: declared.signed,
+            addresses,
+            ..nothing()
+        },
+        Bounds::Unknown => nothing(),
+        Bounds::Known(left, right) => Object {
+            is_declared: true,
+            signed: declared.signed,
+            has_range: true,
+            left,
+            right,
+            addresses,
+            constant: None,
+        },
+    }
+}
+
+impl<'s> ModuleScope<'s> {
+    /// The declarations of ports, nets and variables in the order of the text, those of the list of ports first.
+    pub fn declarations(&self) -> &[Declared<'s>]
+        ensures { result.now ≡ self.now.declared.items }
+    {
+        &self.declared
+    }
+
+    /// All that is declared of a name.
+    pub fn find(&self, name: &str) -> Option<Declared<'s>>
+        ensures { option_map row_of result ≡ declared_in self.now name.now }
+    {
+        self.table.get(name).copied()
+    }
+
+    /// What a name stands for.
+    pub fn object(&self, name: &str) -> Object
+        ensures { object_of result ≡ scope_in self.now name.now }
+    {
+        match self.find(name) {
+            Some(declared) => object_from(declared),
+            None => nothing(),
+        }
+    }
+
+    /// The scope as the programs for expressions and statements take it.
+    pub fn to_scope(&self, alloc: Global) -> Result<Scope<'s>, AllocError>
+        ensures { IfOk result (λ s. scope_at s ≡ scope_in self.now) }
+    {
+        let list = list_of(alloc, self, &self.declared)?;
+        Ok(list)
+    }
+}
+
+/// The names of declarations with their objects.
+fn list_of<'s>(
+    alloc: Global,
+    names: &ModuleScope<'s>,
+    declared: &[Declared<'s>],
+) -> Result<Scope<'s>, AllocError>
+    ensures { IfOk result (λ s. objects_of s.declarations.items ≡ objects_by (scope_in names.now) (rows_of declared.now)) }
+{
+    let mut scope = no_constants(alloc);
+    for each in declared {
+        scope.declarations.push(Declaration {
+            name: each.name,
+            object: names.object(each.name),
+        })?;
+    }
+    Ok(scope)
+}
