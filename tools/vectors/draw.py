@@ -18,7 +18,7 @@ def drawn_value(w):
 SCALARS = [[drawn_value(WIDTH[n[0]]) for n in NAMES] for _ in range(SETTINGS)]
 WORDS = [[[drawn_value(WIDTH[m[0]]) for _ in range(4)] for m in MEMORIES] for _ in range(SETTINGS)]
 
-class E:  # verilog text, postfix text, width, kind of node
+class E:  # verilog text, the same with operators after their operands, width, kind of node
     def __init__(s, v, p, w, kind, loose=False): s.v, s.p, s.w, s.kind, s.loose = v, p, w, kind, loose
 
 def name(signed=None):
@@ -196,7 +196,7 @@ def main(forms):
         if left[form] == 0 or (s, w, e.p) in seen: continue
         left[form] -= 1; seen.add((s, w, e.p)); kept.append((form, s, w, e, int(h, 16)))
     print("skipped for x or z:", skipped, "kept:", len(kept), "missing:", {k: v for k, v in left.items() if v}, file=sys.stderr)
-    for form, s, w, e, h in kept: print(form, "|", s, w, e.p, hex(h))
+    for form, s, w, e, h in kept: print(form, "|", s, w, e.v, hex(h))
 main(FORMS)
 R.seed(20261127)
 main(MORE)

@@ -13,7 +13,7 @@ use Rattle.std.proofs.lemmas.Slice.Eq.{bytes_eq-Decides}
 use Rattle.std.proofs.lemmas.Map.Text.{is_eq-slice_cmp, btree_map_updates_str}
 use Rattle.wb_values.specs.Value.{Name, same_name}
 use Rattle.wb_values.specs.Choice.{first_of}
-use Rattle.wb_first.specs.Accepted.{is_among, are_distinct, all_names}
+use Rattle.wb_first.specs.Accepted.{is_one_of, all_differ, all_names}
 use Rattle.first_accept.specs.Known.{texts}
 use Rattle.first_accept.specs.Tables.{under_name, has_name}
 
@@ -35,11 +35,11 @@ or_moved false h r = refl
 -- a turn that puts a name into the set
 pub set_turn : (names : List (Bor (List ℕ))) (i : ℕ) (d : Bor (List ℕ)) (s n : BTreeSet (Bor (List ℕ))) (t : Bool) (q : Name) → i < length names
     → sorted.Updates (λ x y. slice_cmp nat_cmp x.now y.now) s n (get_or names i d) true
-    → (has_name s q || is_among (texts (drop i names)) q) ≡ t → (has_name n q || is_among (texts (drop (i + 1) names)) q) ≡ t
+    → (has_name s q || is_one_of (texts (drop i names)) q) ≡ t → (has_name n q || is_one_of (texts (drop (i + 1) names)) q) ≡ t
 set_turn names i d s n t q h u e =
-    ap (λ b. b || is_among (texts (drop (i + 1) names)) q) (has_more s n (get_or names i d) true u q)
-    ∙ (or_moved (same_name (get_or names i d).now q) (has_name s q) (is_among (texts (drop (i + 1) names)) q)
-    ∙ (ap (λ ns. has_name s q || is_among ns q) (sym (texts_drop names i d h)) ∙ e))
+    ap (λ b. b || is_one_of (texts (drop (i + 1) names)) q) (has_more s n (get_or names i d) true u q)
+    ∙ (or_moved (same_name (get_or names i d).now q) (has_name s q) (is_one_of (texts (drop (i + 1) names)) q)
+    ∙ (ap (λ ns. has_name s q || is_one_of ns q) (sym (texts_drop names i d h)) ∙ e))
 
 -- ---- names that stand once
 
@@ -48,10 +48,10 @@ all_true p [] h = refl
 all_true p (n ∷ ns) h = rw (h n, all_true p ns h) refl
 
 pub distinct_start : (s : BTreeSet (Bor (List ℕ))) (ns : List Name) → s.keys ≡ []
-    → are_distinct ns ≡ (all_names (λ n. not (has_name s n)) ns && are_distinct ns)
+    → all_differ ns ≡ (all_names (λ n. not (has_name s n)) ns && all_differ ns)
 distinct_start s ns e =
     let none : (n : Name) → not (has_name s n) ≡ true = λ n. ap (λ ks. not (list_any (is_at (λ k. slice_cmp nat_cmp n k.now)) ks)) e in
-    ap (λ b. b && are_distinct ns) (sym (all_true (λ n. not (has_name s n)) ns none))
+    ap (λ b. b && all_differ ns) (sym (all_true (λ n. not (has_name s n)) ns none))
 
 same_both : (m n : Name) → same_name m n ≡ true → same_name n m ≡ true
 same_both m n h = subst (λ x. same_name x m ≡ true) ((bytes_eq-Decides m n).0 h) ((bytes_eq-Decides m m).1 refl)
@@ -71,12 +71,12 @@ fresh_one false true a r = refl
 fresh_one false false a r = refl
 
 fresh : (h g : Name → Bool) (k : Name) → ((q : Name) → g q ≡ cond (same_name k q) true (h q)) → (ns : List Name)
-    → all_names (λ n. not (g n)) ns ≡ (all_names (λ n. not (h n)) ns && not (is_among ns k))
+    → all_names (λ n. not (g n)) ns ≡ (all_names (λ n. not (h n)) ns && not (is_one_of ns k))
 fresh h g k e [] = refl
 fresh h g k e (n ∷ ns) =
     ap (λ b. not b && all_names (λ m. not (g m)) ns) (e n ∙ ap (λ b. cond b true (h n)) (turned k n))
     ∙ (ap (λ b. not (cond (same_name n k) true (h n)) && b) (fresh h g k e ns)
-    ∙ fresh_one (same_name n k) (h n) (all_names (λ m. not (h m)) ns) (is_among ns k))
+    ∙ fresh_one (same_name n k) (h n) (all_names (λ m. not (h m)) ns) (is_one_of ns k))
 
 joined : (a b c : Bool) → (a && (b && c)) ≡ ((a && b) && c)
 joined true b c = refl
@@ -85,16 +85,16 @@ joined false b c = refl
 -- a turn of a search for a name that stands twice
 pub distinct_turn : (names : List (Bor (List ℕ))) (i : ℕ) (d : Bor (List ℕ)) (s n : BTreeSet (Bor (List ℕ))) (t : Bool) → i < length names
     → sorted.Updates (λ x y. slice_cmp nat_cmp x.now y.now) s n (get_or names i d) true → has_name s (get_or names i d).now ≡ false
-    → t ≡ (all_names (λ m. not (has_name s m)) (texts (drop i names)) && are_distinct (texts (drop i names)))
-    → t ≡ (all_names (λ m. not (has_name n m)) (texts (drop (i + 1) names)) && are_distinct (texts (drop (i + 1) names)))
+    → t ≡ (all_names (λ m. not (has_name s m)) (texts (drop i names)) && all_differ (texts (drop i names)))
+    → t ≡ (all_names (λ m. not (has_name n m)) (texts (drop (i + 1) names)) && all_differ (texts (drop (i + 1) names)))
 distinct_turn names i d s n t h u new e =
     let rest : List Name = texts (drop (i + 1) names) in
     let k : Name = (get_or names i d).now in
     e
-    ∙ (ap (λ ns. all_names (λ m. not (has_name s m)) ns && are_distinct ns) (texts_drop names i d h)
-    ∙ (ap (λ b. not b && all_names (λ m. not (has_name s m)) rest && (not (is_among rest k) && are_distinct rest)) new
-    ∙ (joined (all_names (λ m. not (has_name s m)) rest) (not (is_among rest k)) (are_distinct rest)
-    ∙ ap (λ b. b && are_distinct rest) (sym (fresh (has_name s) (has_name n) k (has_more s n (get_or names i d) true u) rest)))))
+    ∙ (ap (λ ns. all_names (λ m. not (has_name s m)) ns && all_differ ns) (texts_drop names i d h)
+    ∙ (ap (λ b. not b && all_names (λ m. not (has_name s m)) rest && (not (is_one_of rest k) && all_differ rest)) new
+    ∙ (joined (all_names (λ m. not (has_name s m)) rest) (not (is_one_of rest k)) (all_differ rest)
+    ∙ ap (λ b. b && all_differ rest) (sym (fresh (has_name s) (has_name n) k (has_more s n (get_or names i d) true u) rest)))))
 
 -- ---- the first value under a name
 

@@ -3,7 +3,7 @@ use Rattle.std.specs.Prelude.{Bool, not, ◌&&◌, ◌==◌, Some}
 use Rattle.wb_values.specs.Value.{same_name, truth}
 use Rattle.model_meaning.specs.Model.{states_of, valid_of, instructions_in}
 use Rattle.wb_first.specs.Names.{First, is_input, bits_of_name, assigned, blocks_among}
-use Rattle.wb_first.specs.Accepted.{are_distinct, port_names, variable_names, ports_are_small, variables_are_small, variables_agree, all_names, is_narrow, declared_names, is_net, keys, terms_read, is_source, has_one_block, is_kept, is_map_expression, states_are_mapped, all_states_mapped, inputs_are_mapped, all_inputs_mapped, entries_are_accepted, entry_names, instruction_names, is_among, are_states, is_term_of, are_instructions}
+use Rattle.wb_first.specs.Accepted.{all_differ, port_names, reg_names, ports_are_small, variables_are_small, variables_agree, all_names, is_narrow, names_declared, is_net_output, keys, terms_read, is_source, has_one_block, is_kept, is_map_expression, states_are_mapped, all_states_mapped, inputs_are_mapped, all_inputs_mapped, entries_are_accepted, names_of_entries, names_of_instructions, is_one_of, are_states, is_term_of, are_instructions}
 
 -- the module's name and its clock
 unfoldable pub has_clock : First → Bool
@@ -11,7 +11,7 @@ has_clock f = same_name f.design.own_name f.map.top && is_input f.design f.map.c
 
 -- no name stands twice among the ports, nor among the variables
 unfoldable pub declares_once : First → Bool
-declares_once f = are_distinct (port_names f.design.ports) && are_distinct (variable_names f.design.parts)
+declares_once f = all_differ (port_names f.design.ports) && all_differ (reg_names f.design.parts)
 
 -- the ranges
 unfoldable pub has_ranges : First → Bool
@@ -20,14 +20,14 @@ has_ranges f = ports_are_small f.design.ports && variables_are_small f.design.pa
 -- the assignments
 unfoldable pub has_assignments : First → Bool
 has_assignments f =
-    all_names (is_net f) (keys (assigned f.design)) && are_distinct (keys (assigned f.design)) && terms_read (is_source f) (assigned f.design)
+    all_names (is_net_output f) (keys (assigned f.design)) && all_differ (keys (assigned f.design)) && terms_read (is_source f) (assigned f.design)
 
 -- the ports are driven
 unfoldable pub has_drivers : First → Bool
 has_drivers f = all_names (is_kept f.design) (port_names f.design.ports)
 
 unfoldable pub is_narrow_everywhere : First → Bool
-is_narrow_everywhere f = all_names (is_narrow f.design) (declared_names f.design)
+is_narrow_everywhere f = all_names (is_narrow f.design) (names_declared f.design)
 
 unfoldable pub has_block : First → Bool
 has_block f = has_one_block f (blocks_among f.design.parts)
@@ -50,9 +50,9 @@ maps_inputs f = inputs_are_mapped f f.map.inputs && all_inputs_mapped f.map.inpu
 unfoldable pub maps_instructions : First → Bool
 maps_instructions f =
     entries_are_accepted f f.map.instructions
-    && are_distinct (entry_names f.map.instructions)
-    && all_names (is_among (instruction_names (instructions_in f.model.top))) (entry_names f.map.instructions)
-    && all_names (is_among (entry_names f.map.instructions)) (instruction_names (instructions_in f.model.top))
+    && all_differ (names_of_entries f.map.instructions)
+    && all_names (is_one_of (names_of_instructions (instructions_in f.model.top))) (names_of_entries f.map.instructions)
+    && all_names (is_one_of (names_of_entries f.map.instructions)) (names_of_instructions (instructions_in f.model.top))
 
 -- the model's terms and initial values are of the sorts that their places want
 unfoldable pub model_group : First → Bool

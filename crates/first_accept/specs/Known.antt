@@ -6,7 +6,7 @@ use Rattle.model_meaning.specs.Model.{StateDeclaration, InputDeclaration}
 use Rattle.verilog_meaning.specs.Expression.{scope_of, object_width}
 use Rattle.wb_values.specs.Choice.{first_of}
 use Rattle.verilog_meaning.specs.Hierarchy.{bound_of, ranged_object}
-use Rattle.wb_first.specs.Accepted.{are_distinct, all_names, is_among}
+use Rattle.wb_first.specs.Accepted.{all_differ, all_names, is_one_of}
 use Rattle.first_text.specs.Tree.{Bounds, Port, Part, register, FirstModule, decimal_number, bounds_tree}
 
 -- names by the slices of the code that hold them
@@ -52,4 +52,4 @@ input_names (i ∷ is) = i.input_name ∷ input_names is
 
 -- the entries are distinct, and they are the names
 abbrev pub is_each_once : List Name → List Name → Bool
-is_each_once entries names = are_distinct entries && all_names (is_among names) entries && all_names (is_among entries) names
+is_each_once entries names = all_differ entries && all_names (is_one_of names) entries && all_names (is_one_of entries) names

@@ -2,7 +2,7 @@
 
 ghost use Rattle.std.specs.Prelude.{◌≡◌, map, option_map, not};
 ghost use Rattle.wb_first.specs.Names.{is_input};
-ghost use Rattle.wb_first.specs.Accepted.{all_names, primary_names, term_names, has_dot, is_map_expression, map_width, fits_sort, term_reads_no_input, is_input_free};
+ghost use Rattle.wb_first.specs.Accepted.{all_names, primary_names, term_names, has_dot, is_map_expression, map_width, fits_mapped_sort, term_reads_no_input, is_input_free};
 ghost use Rattle.first_text.specs.View.{primary_of, term_of};
 ghost use Rattle.first_json.specs.View.{expression_of};
 ghost use Rattle.first_json.specs.ModelView.{sort_view};
@@ -53,7 +53,7 @@ pub(crate) fn fits_sort<'a>(
     sort: Option<FirstSort>,
     expression: &'a FirstExpression,
 ) -> bool
-    ensures { result ≡ fits_sort (first_in case.now) (option_map sort_view sort) (expression_of expression.now) }
+    ensures { result ≡ fits_mapped_sort (first_in case.now) (option_map sort_view sort) (expression_of expression.now) }
 {
     match sort {
         Some(FirstSort::Truth) => map_width(case, expression) == 1,

@@ -4,7 +4,7 @@
 ghost use Rattle.std.specs.Prelude.{◌≡◌, option_map, None, Some, IfOk, IfSome, is_some};
 ghost use Rattle.wb_first.specs.Names.{blocks_among};
 ghost use Rattle.wb_first.specs.Accepted.{is_accepted};
-ghost use Rattle.wb_first.specs.View.{first_of};
+ghost use Rattle.wb_first.specs.View.{first_of_parts};
 ghost use Rattle.wb_first.specs.CaseView.{case_of};
 ghost use Rattle.first_text.specs.View.{first_module_of, action_of};
 ghost use Rattle.first_accept.specs.Known.{only_behind};
@@ -50,7 +50,7 @@ fn indexed<'a>(
     action: &'a Action,
 ) -> Result<Candidate<'a>, AllocError>
     requires { option_map (λ b. b.1) (only_behind None (blocks_among (first_module_of design.now).parts)) ≡ Some (action_of action.now) }
-    ensures { IfOk result (λ c. first_in c ≡ first_of model.now map.now design.now) }
+    ensures { IfOk result (λ c. first_in c ≡ first_of_parts model.now map.now design.now) }
 {
     let mut set_names = Vec::new(alloc);
     add_set_names(action, &mut set_names)?;
@@ -84,7 +84,7 @@ fn keeps_rules<'a>(
     action: &'a Action,
 ) -> Result<bool, AllocError>
     requires { only_behind None (blocks_among (first_module_of design.now).parts) ≡ Some (signal.now, action_of action.now) }
-    ensures { IfOk result (λ b. b ≡ is_accepted (first_of model.now map.now design.now)) }
+    ensures { IfOk result (λ b. b ≡ is_accepted (first_of_parts model.now map.now design.now)) }
 {
     let case = indexed(alloc, model, map, design, action)?;
     let keeps_module = is_accepted_module(alloc, &case, signal, action)?;
@@ -109,7 +109,7 @@ fn is_accepted<'a>(
     map: &'a FirstMap,
     design: &'a FirstModule,
 ) -> Result<bool, AllocError>
-    ensures { IfOk result (λ b. b ≡ is_accepted (first_of model.now map.now design.now)) }
+    ensures { IfOk result (λ b. b ≡ is_accepted (first_of_parts model.now map.now design.now)) }
 {
     match only_block(&design.parts) {
         Some((signal, action)) => keeps_rules(alloc, model, map, design, signal, action),
@@ -125,8 +125,8 @@ pub fn accept(
     map: FirstMap,
     design: FirstModule,
 ) -> Result<Option<FirstCase>, NoMemory>
-    ensures accepted { IfOk result (λ o. is_some o ≡ is_accepted (first_of model map design)) }
-    ensures same { IfOk result (λ o. IfSome o (λ c. case_of c ≡ first_of model map design)) }
+    ensures accepted { IfOk result (λ o. is_some o ≡ is_accepted (first_of_parts model map design)) }
+    ensures same { IfOk result (λ o. IfSome o (λ c. case_of c ≡ first_of_parts model map design)) }
 {
     if !is_accepted(alloc, &model, &map, &design)? {
         return Ok(None);

@@ -1,7 +1,7 @@
 //! The names of a model and of a map.
 
 ghost use Rattle.std.specs.Prelude.{◌≡◌, map, IfOk};
-ghost use Rattle.wb_first.specs.Accepted.{keys, entry_names, instruction_names};
+ghost use Rattle.wb_first.specs.Accepted.{keys, names_of_entries, names_of_instructions};
 ghost use Rattle.first_json.specs.View.{entry_of_mapped, instruction_map_of};
 ghost use Rattle.first_json.specs.ModelView.{state_view, input_view, instruction_view};
 ghost use Rattle.first_accept.specs.Known.{texts, state_names, input_names};
@@ -42,7 +42,7 @@ pub(crate) fn instruction_names<'a>(
     alloc: Global,
     instructions: &'a [FirstInstruction],
 ) -> Result<Vec<&'a [u8]>, AllocError>
-    ensures { IfOk result (λ v. texts v.items ≡ instruction_names (map instruction_view instructions.now)) }
+    ensures { IfOk result (λ v. texts v.items ≡ names_of_instructions (map instruction_view instructions.now)) }
 {
     let mut names = Vec::new(alloc);
     for instruction in instructions {
@@ -70,7 +70,7 @@ pub(crate) fn entry_names<'a>(
     alloc: Global,
     entries: &'a [MappedInstruction],
 ) -> Result<Vec<&'a [u8]>, AllocError>
-    ensures { IfOk result (λ v. texts v.items ≡ entry_names (map instruction_map_of entries.now)) }
+    ensures { IfOk result (λ v. texts v.items ≡ names_of_entries (map instruction_map_of entries.now)) }
 {
     let mut names = Vec::new(alloc);
     for entry in entries {

@@ -3,7 +3,7 @@
 ghost use Rattle.std.specs.Prelude.{◌≡◌, ◌&&◌, map, None, Some, IfOk};
 ghost use Rattle.wb_values.specs.Value.{same_name};
 ghost use Rattle.wb_first.specs.Names.{assigned_among, blocks_among, port_named};
-ghost use Rattle.wb_first.specs.Accepted.{is_narrow, is_net, is_target, is_read, is_kept, is_source, all_names, terms_read, has_small_bounds, ports_are_small, variables_are_small, same_bounds, port_agrees, variables_agree, declared_names, port_names, is_among, is_plain_name, has_plain_names};
+ghost use Rattle.wb_first.specs.Accepted.{is_narrow, is_net_output, is_target, is_read, is_kept, is_source, all_names, terms_read, has_small_bounds, ports_are_small, variables_are_small, same_bounds, port_agrees, variables_agree, names_declared, port_names, is_one_of, is_plain_name, has_plain_names};
 ghost use Rattle.first_text.specs.View.{port_of, part_of, bounds_of, action_of};
 ghost use Rattle.first_accept.specs.Known.{texts, only_behind};
 ghost use Rattle.first_accept.specs.Groups.{has_clock, declares_once, has_ranges, has_assignments, has_drivers, has_block, is_narrow_everywhere, module_groups};
@@ -95,7 +95,7 @@ fn all_narrow<'a>(case: &Candidate<'a>, names: &[&'a [u8]]) -> bool
 }
 
 fn all_nets<'a>(case: &Candidate<'a>, names: &[&'a [u8]]) -> bool
-    ensures { result ≡ all_names (is_net (first_in case.now)) (texts names.now) }
+    ensures { result ≡ all_names (is_net_output (first_in case.now)) (texts names.now) }
 {
     for name in names {
         if !is_net(case, *name) {
@@ -154,14 +154,14 @@ fn terms_read_sources<'a>(case: &Candidate<'a>, parts: &'a [Part]) -> bool
 /// Whether the name is that of a port.
 #[tactic(auto, using(crate::proofs::NameTests::is_among_ports))]
 fn is_port<'a>(case: &Candidate<'a>, name: &'a [u8]) -> bool
-    ensures { result ≡ is_among (port_names (first_in case.now).design.ports) name.now }
+    ensures { result ≡ is_one_of (port_names (first_in case.now).design.ports) name.now }
 {
     port_named(case, name).is_some()
 }
 
 /// Every declared name once.
 fn declared_names<'a>(alloc: Global, case: &Candidate<'a>) -> Result<Vec<&'a [u8]>, AllocError>
-    ensures { IfOk result (λ v. texts v.items ≡ declared_names (first_in case.now).design) }
+    ensures { IfOk result (λ v. texts v.items ≡ names_declared (first_in case.now).design) }
 {
     let mut names = port_names(alloc, &case.design.ports)?;
     for part in &case.design.parts {

@@ -3,7 +3,7 @@
 ghost use Rattle.std.specs.Prelude.{◌≡◌, ◌++◌, map, IfOk};
 ghost use Rattle.wb_values.specs.Value.{same_name};
 ghost use Rattle.wb_first.specs.Names.{assigned_among};
-ghost use Rattle.wb_first.specs.Accepted.{port_names, variable_names, keys};
+ghost use Rattle.wb_first.specs.Accepted.{port_names, reg_names, keys};
 ghost use Rattle.first_text.specs.View.{port_of, part_of};
 
 use first_text::{Part, Port};
@@ -32,7 +32,7 @@ pub(crate) fn variable_names<'a>(
     alloc: Global,
     parts: &'a [Part],
 ) -> Result<Vec<&'a [u8]>, AllocError>
-    ensures { IfOk result (λ v. map (λ x. x.now) v.items ≡ variable_names (map part_of parts.now)) }
+    ensures { IfOk result (λ v. map (λ x. x.now) v.items ≡ reg_names (map part_of parts.now)) }
 {
     let mut names = Vec::new(alloc);
     for part in parts {

@@ -1,7 +1,7 @@
 //! What the names of a module are to a candidate.
 
 ghost use Rattle.std.specs.Prelude.{◌≡◌};
-ghost use Rattle.wb_first.specs.Accepted.{is_narrow, is_driven, is_source, is_net, is_target, is_read, is_kept, all_names, primary_names, term_names, is_assigned};
+ghost use Rattle.wb_first.specs.Accepted.{is_narrow, is_driven, is_source, is_net_output, is_target, is_read, is_kept, all_names, primary_names, term_names, is_assigned};
 ghost use Rattle.first_text.specs.View.{primary_of, term_of};
 ghost use Rattle.first_accept.specs.View.{first_in};
 
@@ -32,7 +32,7 @@ fn is_source<'a>(case: &Candidate<'a>, name: &'a [u8]) -> bool
 
 /// Whether the name is an output that is no variable.
 pub(crate) fn is_net<'a>(case: &Candidate<'a>, name: &'a [u8]) -> bool
-    ensures { result ≡ is_net (first_in case.now) name.now }
+    ensures { result ≡ is_net_output (first_in case.now) name.now }
 {
     is_data(case, name) && is_output(case, name) && !is_variable(case, name)
 }

@@ -3,7 +3,7 @@
 ghost use Rattle.std.specs.Prelude.{◌≡◌, ℕ, List, IfOk, cond, Some, None};
 ghost use Rattle.wb_values.specs.Value.{same_name};
 ghost use Rattle.wb_values.specs.Choice.{first_of};
-ghost use Rattle.wb_first.specs.Accepted.{is_among, are_distinct, all_names};
+ghost use Rattle.wb_first.specs.Accepted.{is_one_of, all_differ, all_names};
 ghost use Rattle.first_accept.specs.Known.{texts};
 ghost use Rattle.first_accept.specs.Tables.{under_name, has_name};
 
@@ -15,7 +15,7 @@ pub(crate) fn set_of<'a>(
     alloc: Global,
     names: &[&'a [u8]],
 ) -> Result<BTreeSet<&'a [u8]>, AllocError>
-    ensures { IfOk result (λ s. (q : List ℕ) → has_name s q ≡ is_among (texts names.now) q) }
+    ensures { IfOk result (λ s. (q : List ℕ) → has_name s q ≡ is_one_of (texts names.now) q) }
 {
     let mut set = BTreeSet::new(alloc);
     for name in names {
@@ -26,7 +26,7 @@ pub(crate) fn set_of<'a>(
 
 /// Whether no name stands twice.
 pub(crate) fn are_distinct(alloc: Global, names: &[&[u8]]) -> Result<bool, AllocError>
-    ensures { IfOk result (λ b. b ≡ are_distinct (texts names.now)) }
+    ensures { IfOk result (λ b. b ≡ all_differ (texts names.now)) }
 {
     let mut seen = BTreeSet::new(alloc);
     for name in names {
@@ -43,7 +43,7 @@ pub(crate) fn are_among<'a>(
     names: &[&'a [u8]],
     others: &[&'a [u8]],
 ) -> Result<bool, AllocError>
-    ensures { IfOk result (λ b. b ≡ all_names (is_among (texts others.now)) (texts names.now)) }
+    ensures { IfOk result (λ b. b ≡ all_names (is_one_of (texts others.now)) (texts names.now)) }
 {
     let set = set_of(alloc, others)?;
     for name in names {

@@ -8,7 +8,7 @@ use Rattle.model_meaning.specs.Model.{Instruction, instruction_list}
 use Rattle.wb_terms.specs.Sort.{as_sort}
 use Rattle.wb_terms.specs.declared.sorts.Sort as code
 use Rattle.wb_terms.specs.declared.sorts.Sort.TheVariants.{Truth, Word, Memory}
-use Rattle.first_json.specs.ModelFile.{instructions_from}
+use Rattle.first_json.specs.ModelView.{instructions_from}
 use Rattle.first_json.specs.ModelView.{instruction_view}
 use Rattle.first_json.specs.declared.model.FirstInstruction.{FirstInstruction}
 use Rattle.wb_first.specs.Names.{First, is_register}

@@ -4,7 +4,7 @@ ghost use Rattle.std.specs.Prelude.{◌≡◌, ◌<◌, ℕ, length, map, vec_le
 ghost use Rattle.model_meaning.specs.Model.{instructions_in};
 ghost use Rattle.refinement.specs.Obligation.{obligations as all_obligations};
 ghost use Rattle.reports.specs.Report.{IsVerdict, AreVerdicts, AreCovers};
-ghost use Rattle.first_facts.specs.View.{obligation_of};
+ghost use Rattle.first_terms.specs.Claims.{obligation_of};
 ghost use Rattle.first_trace.specs.Traced.{names_of};
 ghost use Rattle.wb_first.specs.Names.{setting_of};
 ghost use Rattle.wb_first.specs.Claims.{IsObligation};
@@ -16,8 +16,7 @@ ghost use Rattle.first_check.specs.Found.{verdict_by, verdicts_by, cover_by, Are
 use crate::NoMemory;
 use crate::findings::{Finding, find};
 use crate::names::{BitName, bit_names};
-use first_facts::Obligation;
-use first_terms::{CaseTerms, case_terms};
+use first_terms::{CaseTerms, Obligation, case_terms};
 use first_trace::TraceNames;
 use first_trace::laws::traces_tell;
 use std::alloc::Global;

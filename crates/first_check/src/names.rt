@@ -3,7 +3,7 @@
 ghost use Rattle.std.specs.Prelude.{◌≡◌, ◌<◌, ℕ, List, [], length, slice_index_or, string_bytes, IfOk};
 ghost use Rattle.wb_values.specs.Value.{truth};
 ghost use Rattle.wb_first.specs.Names.{is_register};
-ghost use Rattle.wb_first.specs.Accepted.{is_among};
+ghost use Rattle.wb_first.specs.Accepted.{is_one_of};
 ghost use Rattle.wb_first.specs.CaseView.{case_of};
 ghost use Rattle.first_accept.specs.Known.{texts};
 ghost use Rattle.first_accept.specs.Tables.{has_name};
@@ -75,7 +75,7 @@ fn bit_name(
 
 /// The names as a set.
 fn set_of<'a>(alloc: Global, names: &[&'a [u8]]) -> Result<BTreeSet<&'a [u8]>, NoMemory>
-    ensures { IfOk result (λ s. (n : List ℕ) → has_name s n ≡ is_among (texts names.now) n) }
+    ensures { IfOk result (λ s. (n : List ℕ) → has_name s n ≡ is_one_of (texts names.now) n) }
 {
     let mut set = BTreeSet::new(alloc);
     for name in names {

@@ -1,7 +1,7 @@
 -- A list that is read item by item: what was read so far, and what the rest gives behind it.
 use Rattle.std.proofs.Common.{◌≡◌, List, [], ◌∷◌, ◌++◌, Option, Some, None, option_map, refl, sym, ap, ◌∙◌, append_assoc, map}
 use Rattle.std.proofs.lemmas.List.{append-nil, map-append}
-use Rattle.first_json.specs.Json.{with_first}
+use Rattle.model_files.specs.Shape.{with_first}
 
 abbrev pub onto : {A : Type 0} → List A → Option (List A) → Option (List A)
 onto xs r = option_map (λ ys. xs ++ ys) r

@@ -3,5 +3,4 @@ pub mod Json
 pub mod MapFile
 pub mod Reading
 pub mod View
-pub mod ModelFile
 pub mod ModelView

@@ -8,8 +8,9 @@ use Rattle.refinement.specs.Map.{Map, InstructionMap}
 use Rattle.serde_json.specs.Data.{Data, Members, no_members, member, Items}
 use Rattle.serde_json.specs.Find.{as_str, as_object, as_array}
 use Rattle.serde_json.specs.Events.{items_len}
-use Rattle.first_json.specs.Names.{is_identifier, is_decimal, decimal_value}
-use Rattle.first_json.specs.Json.{document, has_members, option_if, under, unsigned_in, with_first, list_in}
+use Rattle.first_json.specs.Names.{is_identifier, is_decimal, value_in_32_bits}
+use Rattle.model_files.specs.Shape.{document, unsigned_in, with_first, list_in}
+use Rattle.first_json.specs.Json.{has_members, option_if, under}
 
 -- a plain decimal is a signed number of 32 bits without size
 abbrev pub decimal : ℕ → Expression
@@ -18,22 +19,22 @@ decimal x = syntax.number (record { width = 32; sized = false; signed = true; va
 -- the text of an identifier or of a plain decimal, and nothing else
 abbrev pub expression_of_text : List ℕ → Option Expression
 expression_of_text text =
-    cond (is_identifier text) (Some (syntax.name text whole)) (cond (is_decimal text) (Some (decimal (decimal_value text))) None)
+    cond (is_identifier text) (Some (syntax.name text whole)) (cond (is_decimal text) (Some (decimal (value_in_32_bits text))) None)
 
 abbrev pub expression_in : Data → Option Expression
 expression_in d = option_and_then expression_of_text (as_str d)
 
-abbrev pub named : Name → Option Expression → Option (Name × Expression)
-named k (Some e) = Some (k, e)
-named k None = None
+abbrev pub mapped_entry : Name → Option Expression → Option (Name × Expression)
+mapped_entry k (Some e) = Some (k, e)
+mapped_entry k None = None
 
 -- each member of an object with its name, in their order
-abbrev pub entries_in : Members → Option (Entries Expression)
-entries_in no_members = Some []
-entries_in (member k d ms) = with_first (named k (expression_in d)) (entries_in ms)
+abbrev pub mapped_in : Members → Option (Entries Expression)
+mapped_in no_members = Some []
+mapped_in (member k d ms) = with_first (mapped_entry k (expression_in d)) (mapped_in ms)
 
 abbrev pub expressions_in : Data → Option (Entries Expression)
-expressions_in d = option_and_then entries_in (as_object d)
+expressions_in d = option_and_then mapped_in (as_object d)
 
 -- how the reset is applied: for one cycle, by a signal, at 0 or at 1
 pub record Reset : Type 0 where
@@ -49,15 +50,15 @@ reset_in d =
     option_if (has_members 3 d)
     (reset_from (under as_str (codes "signal") d) (under unsigned_in (codes "active") d) (under unsigned_in (codes "cycles") d))
 
-abbrev pub instruction_from : Option Name → Option Expression → Option ℕ → Option InstructionMap
-instruction_from (Some n) (Some e) (Some b) = some_if (b == 1) (record { called = n; commit = e; bound = 1 })
-instruction_from _ _ _ = None
+abbrev pub entry_from : Option Name → Option Expression → Option ℕ → Option InstructionMap
+entry_from (Some n) (Some e) (Some b) = some_if (b == 1) (record { called = n; commit = e; bound = 1 })
+entry_from _ _ _ = None
 
 -- an instruction's entry: its name, the condition of its commit, the bound 1
 abbrev pub instruction_map_in : Data → Option InstructionMap
 instruction_map_in d =
     option_if (has_members 3 d)
-    (instruction_from (under as_str (codes "name") d) (under expression_in (codes "commit") d) (under unsigned_in (codes "bound") d))
+    (entry_from (under as_str (codes "name") d) (under expression_in (codes "commit") d) (under unsigned_in (codes "bound") d))
 
 abbrev pub is_empty_list : Option Items → Bool
 is_empty_list (Some ds) = items_len ds == 0

@@ -1,13 +1,10 @@
 -- The pure model that the code's stands for.
-use Rattle.std.specs.Prelude.{List, map, Option, option_map, Vec}
-use Rattle.std.specs.Global.{Global}
+use Rattle.std.specs.Prelude.{List, [], ◌∷◌, map, option_map}
 use Rattle.std.specs.String.{string_bytes}
-use Rattle.wb_values.specs.Value.{Name, Sort, truth, word, Value, truth_value, number, Entries}
+use Rattle.wb_values.specs.Value.{Name, Sort, truth, word, Value, truth_value, number}
 use Rattle.model_meaning.specs.Term as terms
 use Rattle.model_meaning.specs.Term.{Term}
-use Rattle.model_meaning.specs.Model.{StateDeclaration, InputDeclaration, Model, machine, Instruction, instruction, no_child}
-use Rattle.first_json.specs.ModelFile.{declared_sort, instructions_from}
-use Rattle.first_json.specs.declared.declarations.Declarations.{Declarations}
+use Rattle.model_meaning.specs.Model.{StateDeclaration, InputDeclaration, Model, machine, Instruction, instruction, Instructions, no_instructions, and_then, no_child}
 use Rattle.first_json.specs.declared.model.FirstSort.{FirstSort}
 use Rattle.first_json.specs.declared.model.FirstSort.TheVariants as sorts
 use Rattle.first_json.specs.declared.model.FirstValue.{FirstValue}
@@ -43,33 +40,15 @@ term_view (And' _ x _ y) = terms.and (term_view x) (term_view y)
 term_view (Add' _ x _ y) = terms.add (term_view x) (term_view y)
 term_view (Eq' _ x _ y) = terms.eq (term_view x) (term_view y)
 
-abbrev pub operands_view : List (Option FirstTerm) → List (Option Term)
-operands_view ts = map (option_map term_view) ts
-
 abbrev pub update_view : FirstUpdate → Name × Term
 update_view u = (string_bytes u.state, term_view u.term)
 
 abbrev pub instruction_view : FirstInstruction → Instruction
 instruction_view i = instruction (string_bytes i.name) (term_view i.decode) (map update_view i.updates.items) no_child
 
-abbrev pub initial_view : Option FirstValue → Option Value
-initial_view i = option_map value_view i
-
-abbrev pub states_view : Vec FirstState Global → List StateDeclaration
-states_view v = map state_view v.items
-
-abbrev pub inputs_view : Vec FirstInput Global → List InputDeclaration
-inputs_view v = map input_view v.items
-
-abbrev pub updates_view : Vec FirstUpdate Global → Entries Term
-updates_view v = map update_view v.items
-
-abbrev pub instructions_view : Vec FirstInstruction Global → List Instruction
-instructions_view v = map instruction_view v.items
-
--- the sorts of the declared names
-abbrev pub scope_of : Declarations → Name → Option Sort
-scope_of d = declared_sort (states_view d.states) (inputs_view d.inputs)
+abbrev pub instructions_from : List Instruction → Instructions
+instructions_from [] = no_instructions
+instructions_from (i ∷ is) = and_then i (instructions_from is)
 
 -- the model that the code's record of its parts stands for
 abbrev pub first_model_of : FirstModel → Model

@@ -3,7 +3,8 @@
 ghost use Rattle.std.specs.Prelude.{◌≡◌, option_map, string_bytes};
 ghost use Rattle.serde_json.specs.Find.{as_str, as_array};
 ghost use Rattle.serde_json.specs.View.{view, items_view};
-ghost use Rattle.first_json.specs.Json.{document, has_items, has_members, under, unsigned_in};
+ghost use Rattle.model_files.specs.Shape.{document, unsigned_in};
+ghost use Rattle.first_json.specs.Json.{has_members, under};
 ghost use Rattle.first_json.specs.Reading.{IsReading};
 
 use crate::stop::Stop;
@@ -54,14 +55,4 @@ pub(crate) fn list_under<'v>(value: &'v Value, key: &str) -> Option<&'v Vec<Valu
 {
     let found = value.get(key)?;
     found.as_array()
-}
-
-/// Whether the value is a list of so many items.
-pub(crate) fn has_items(value: &Value, count: usize) -> bool
-    ensures { result ≡ has_items count (view value.now) }
-{
-    match value.as_array() {
-        Some(items) => items.len() == count,
-        None => false,
-    }
 }

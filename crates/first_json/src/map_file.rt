@@ -2,15 +2,16 @@
 
 ghost use Rattle.std.specs.Prelude.{◌≡◌, codes, IfOk, option_map};
 ghost use Rattle.serde_json.specs.View.{view, members_view, items_view};
-ghost use Rattle.first_json.specs.Json.{all_in, list_in, under};
-ghost use Rattle.first_json.specs.MapFile.{expression_of_text, expression_in, entries_in, expressions_in, reset_in, instruction_map_in, map_in, map_of_bytes, named, has_empty_list, has_first_shape, has_version_1};
+ghost use Rattle.model_files.specs.Shape.{all_in, list_in};
+ghost use Rattle.first_json.specs.Json.{under};
+ghost use Rattle.first_json.specs.MapFile.{expression_of_text, expression_in, mapped_in, expressions_in, reset_in, instruction_map_in, map_in, map_of_bytes, mapped_entry, has_empty_list, has_first_shape, has_version_1};
 ghost use Rattle.first_json.specs.Reading.{IsReading};
 ghost use Rattle.first_json.specs.View.{entry_of_mapped, expression_of, instruction_map_of, map_of, mapped_entries, mapped_instructions, reset_of};
 
 use crate::NoMemory;
 use crate::json::{document, has_members, list_under, number_under, text_under};
 use crate::map::{FirstExpression, FirstMap, Mapped, MappedInstruction};
-use crate::names::{decimal_value, is_decimal, is_identifier};
+use crate::names::{is_decimal, is_identifier, value_in_32_bits};
 use crate::stop::Stop;
 use serde_json::{Map, Value};
 use std::alloc::{AllocError, Global};
@@ -139,7 +140,7 @@ fn expression_of_text(alloc: Global, text: &str) -> Result<FirstExpression, Stop
         return Ok(FirstExpression::Identifier(String::from_str(alloc, text)?));
     }
     if is_decimal(text.as_bytes()) {
-        return Ok(FirstExpression::Decimal(decimal_value(text.as_bytes())));
+        return Ok(FirstExpression::Decimal(value_in_32_bits(text.as_bytes())));
     }
     Err(Stop::Refused)
 }
@@ -149,11 +150,11 @@ fn expressions_under(alloc: Global, value: &Value, key: &str) -> Result<Vec<Mapp
 {
     let found = value.get(key).ok_or(Stop::Refused)?;
     let members = found.as_object().ok_or(Stop::Refused)?;
-    entries_in(alloc, members)
+    mapped_in(alloc, members)
 }
 
-fn entries_in(alloc: Global, members: &Map<String, Value>) -> Result<Vec<Mapped>, Stop>
-    ensures { IsReading mapped_entries result (entries_in (members_view members.now.entries)) }
+fn mapped_in(alloc: Global, members: &Map<String, Value>) -> Result<Vec<Mapped>, Stop>
+    ensures { IsReading mapped_entries result (mapped_in (members_view members.now.entries)) }
 {
     let mut entries = Vec::new(alloc);
     for (name, found) in members.iter() {
@@ -164,7 +165,7 @@ fn entries_in(alloc: Global, members: &Map<String, Value>) -> Result<Vec<Mapped>
 }
 
 fn entry_in(alloc: Global, name: &str, value: &Value) -> Result<Mapped, Stop>
-    ensures { IsReading entry_of_mapped result (named name.now (expression_in (view value.now))) }
+    ensures { IsReading entry_of_mapped result (mapped_entry name.now (expression_in (view value.now))) }
 {
     let expression = expression_in(alloc, value)?;
     let name = String::from_str(alloc, name)?;
@@ -175,10 +176,10 @@ fn instructions_under(alloc: Global, value: &Value) -> Result<Vec<MappedInstruct
     ensures { IsReading mapped_instructions result (under (list_in instruction_map_in) (codes "instructions") (view value.now)) }
 {
     let items = list_under(value, "instructions").ok_or(Stop::Refused)?;
-    instructions_in(alloc, items)
+    read_instructions(alloc, items)
 }
 
-fn instructions_in(alloc: Global, items: &[Value]) -> Result<Vec<MappedInstruction>, Stop>
+fn read_instructions(alloc: Global, items: &[Value]) -> Result<Vec<MappedInstruction>, Stop>
     ensures { IsReading mapped_instructions result (all_in instruction_map_in (items_view items.now)) }
 {
     let mut instructions = Vec::new(alloc);

@@ -68,7 +68,7 @@ pub struct FirstInstruction {
     pub name: String,
     /// The condition under which it is taken.
     pub decode: FirstTerm,
-    /// By ascending names of states.
+    /// In the order in which the model declares the states.
     pub updates: Vec<FirstUpdate>,
 }
 

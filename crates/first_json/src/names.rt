@@ -2,7 +2,7 @@
 
 ghost use Rattle.std.specs.Prelude.{◌≡◌, ◌<◌, ◌^◌, ◌*◌, ◌%◌, ◌∷◌, [], IsTrue};
 ghost use Rattle.std.specs.List.{list_all};
-ghost use Rattle.first_json.specs.Names.{is_identifier_byte, is_decimal_byte, is_identifier, is_decimal, decimal_value, with_digits};
+ghost use Rattle.first_json.specs.Names.{is_identifier_byte, is_decimal_byte, is_identifier, is_decimal, value_in_32_bits, with_digits};
 ghost use Rattle.wb_values.specs.Names.{is_digit, begins_with};
 
 use wb_names::{begins_with_letter, is_digit, is_name_byte, is_reserved_word};
@@ -10,13 +10,13 @@ use wb_names::{begins_with_letter, is_digit, is_name_byte, is_reserved_word};
 fn is_identifier_byte(byte: u8) -> bool
     ensures { result ≡ is_identifier_byte byte }
 {
-    is_name_byte(byte) || byte == 36
+    is_name_byte(byte) || byte == b'$'
 }
 
 fn is_decimal_byte(byte: u8) -> bool
     ensures { result ≡ is_decimal_byte byte }
 {
-    is_digit(byte) || byte == 95
+    is_digit(byte) || byte == b'_'
 }
 
 fn begins_with_digit(text: &[u8]) -> bool
@@ -55,8 +55,8 @@ pub(crate) fn is_decimal(text: &[u8]) -> bool
 }
 
 /// The value of a text's digits in 32 bits: its digits are cut at the left.
-pub(crate) fn decimal_value(text: &[u8]) -> u32
-    ensures { result ≡ decimal_value text.now }
+pub(crate) fn value_in_32_bits(text: &[u8]) -> u32
+    ensures { result ≡ value_in_32_bits text.now }
 {
     let mut value = 0u32;
     for byte in text {
@@ -65,15 +65,15 @@ pub(crate) fn decimal_value(text: &[u8]) -> u32
     value
 }
 
-/// The value with a further byte of a plain decimal behind it, in 32 bits.
+/// The value with a further byte of a plain decimal after it, in 32 bits.
 fn with_digit(value: u32, byte: u8) -> u32
     ensures { result ≡ with_digits value (byte ∷ []) % 2 ^ 32 }
 {
-    if byte == 95 {
+    if byte == b'_' {
         value
     } else {
         value
             .wrapping_mul(10)
-            .wrapping_add(u32::from(byte.saturating_sub(48)))
+            .wrapping_add(u32::from(byte.saturating_sub(b'0')))
     }
 }

@@ -5,13 +5,13 @@ ghost use Rattle.first_json.specs.declared.stop.Stop.TheVariants.{Memory};
 
 use std::alloc::{AllocError, AllocFailed};
 
-/// Want of memory.
+/// Out of memory.
 pub type NoMemory = AllocError;
 
 /// Why a piece of a file is not read.
 #[derive(Clone, Copy, PartialEq, Eq, Debug)]
 pub(crate) enum Stop {
-    /// Memory is wanting.
+    /// Out of memory.
     Memory,
     /// The file is not in the profile.
     Refused,

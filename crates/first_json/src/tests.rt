@@ -1,6 +1,6 @@
-//! Maps and models that are in the first profile, and maps and models that are not.
+//! Maps that are in the first profile, and maps that are not.
 
-use crate::{FirstExpression, FirstSort, FirstTerm, FirstValue, read_map, read_model};
+use crate::{FirstExpression, read_map};
 use std::alloc::Global;
 use std::process::Abort;
 use std::test::Fail;
@@ -61,42 +61,6 @@ const ROWS: [(&str, &str, bool); 42] = [
     ("{\"name\":\"INC\",\"commit\":\"1\",\"bound\":1},", "", true),
     ("\"version\":1", "\"version\":3,\"version\":1", true),
     ("}]}", "}]} x", false),
-];
-
-/// The counter.
-const MODEL: &str =
-    "{\"name\":\"counter\",\"states\":[{\"name\":\"cnt\",\"sort\":8,\"init\":0}],\"inputs\":[{\"name\":\"op\",\"sort\":1}],\"valid\":true,\"instructions\":[{\"name\":\"INC\",\"decode\":[\"eq\",\"op\",[\"const\",1,1]],\"update\":{\"cnt\":[\"add\",\"cnt\",[\"const\",8,1]]}},{\"name\":\"CLR\",\"decode\":[\"eq\",\"op\",[\"const\",1,0]],\"update\":{\"cnt\":[\"const\",8,0]}}]}";
-
-/// Texts of the counter, what stands in their place, and whether the model is read then.
-const MODEL_ROWS: [(&str, &str, bool); 24] = [
-    ("\"init\":0", "\"init\":255", true),
-    ("\"init\":0", "\"init\":256", false),
-    ("\"init\":0", "\"init\":\"0xff\"", true),
-    ("\"init\":0", "\"init\":\"0xFF\"", false),
-    ("\"init\":0", "\"init\":true", false),
-    (",\"init\":0", "", true),
-    (",\"init\":0", ",\"start\":0", false),
-    ("\"sort\":8", "\"sort\":9", false),
-    ("\"sort\":1}", "\"sort\":0}", false),
-    ("\"sort\":1}", "\"sort\":\"bool\"}", false),
-    ("\"name\":\"op\"", "\"name\":\"cnt\"", false),
-    ("\"name\":\"CLR\"", "\"name\":\"INC\"", false),
-    ("\"name\":\"CLR\"", "\"name\":\"C-R\"", false),
-    ("\"valid\":true", "\"valid\":[\"not\",false]", true),
-    ("\"valid\":true", "\"valid\":\"op\"", false),
-    ("\"valid\":true", "\"valid\":1", false),
-    ("\"valid\":true,", "", false),
-    ("[\"add\",\"cnt\"", "[\"and\",\"cnt\"", true),
-    ("[\"add\",\"cnt\"", "[\"sub\",\"cnt\"", false),
-    ("[\"add\",\"cnt\"", "[\"eq\",\"cnt\"", false),
-    ("[\"add\",\"cnt\"", "[\"add\",\"op\"", false),
-    ("[\"add\",\"cnt\"", "[\"add\",\"cnu\"", false),
-    ("{\"cnt\":[\"const\",8,0]}", "{}", true),
-    (
-        "{\"cnt\":[\"const\",8,0]}",
-        "{\"op\":[\"const\",1,0]}",
-        false,
-    ),
 ];
 
 fn changed(alloc: Global, text: &str, old: &str, new: &str) -> Result<String, Fail> {
@@ -160,33 +124,5 @@ fn decimals_are_cut_to_32_bits(rt: HostRuntime) -> Result<(), Fail> {
 #[test]
 fn bytes_that_are_no_text(rt: HostRuntime) -> Result<(), Fail> {
     assert!(rt; read_map(rt.alloc(), b"\"\xff\"")?.is_none());
-    Ok(())
-}
-
-#[test]
-fn models(rt: HostRuntime) -> Result<(), Fail> {
-    for (old, new, is_read) in &MODEL_ROWS {
-        let text = changed(rt.alloc(), MODEL, *old, *new)?;
-        let model = read_model(rt.alloc(), text.as_bytes())?;
-        assert_eq!(rt; model.is_some(), *is_read);
-    }
-    Ok(())
-}
-
-#[test]
-fn counter_model(rt: HostRuntime) -> Result<(), Fail> {
-    let model = read_model(rt.alloc(), MODEL.as_bytes())?.ok_or("not read")?;
-    assert_eq!(rt; model.name.as_str(), "counter");
-    assert!(rt; matches!(model.valid, FirstTerm::Truth(true)));
-    let state = model.states.first().ok_or("no state")?;
-    assert_eq!(rt; state.name.as_str(), "cnt");
-    assert_eq!(rt; state.sort, FirstSort::Word(8));
-    assert_eq!(rt; state.initial, Some(FirstValue::Number(0)));
-    assert_eq!(rt; model.inputs.len(), 1);
-    let second = model.instructions.get(1).ok_or("one instruction")?;
-    assert_eq!(rt; second.name.as_str(), "CLR");
-    let update = second.updates.first().ok_or("no update")?;
-    assert_eq!(rt; update.state.as_str(), "cnt");
-    assert!(rt; matches!(update.term, FirstTerm::Const(8, 0)));
     Ok(())
 }

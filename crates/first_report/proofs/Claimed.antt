@@ -7,15 +7,15 @@ use mathlib.Core.Path.{ap₂}
 use Rattle.wb_values.specs.Value.{Name}
 use Rattle.model_meaning.specs.Model.{Instruction, instruction_name, instruction_list, StateDeclaration}
 use Rattle.refinement.specs.Obligation.{for_each, bound_obligation, commit_obligations, all_instruction_obligations, obligations, bound_named}
-use Rattle.first_json.specs.ModelFile.{instructions_from}
+use Rattle.first_json.specs.ModelView.{instructions_from}
 use Rattle.first_json.specs.ModelView.{state_view, instruction_view, first_model_of}
 use Rattle.first_json.specs.View.{map_of}
 use Rattle.first_json.specs.declared.model.FirstModel.{FirstModel}
 use Rattle.first_json.specs.declared.model.FirstInstruction.{FirstInstruction}
 use Rattle.first_json.specs.declared.map.FirstMap.{FirstMap}
 use Rattle.first_text.specs.declared.tree.FirstModule.{FirstModule}
-use Rattle.wb_first.specs.Accepted.{is_accepted, is_among, all_names, entry_names, instruction_names}
-use Rattle.wb_first.specs.View.{first_of}
+use Rattle.wb_first.specs.Accepted.{is_accepted, is_one_of, all_names, names_of_entries, names_of_instructions}
+use Rattle.wb_first.specs.View.{first_of_parts}
 use Rattle.wb_first.proofs.Alike.{and_left, and_right}
 use Rattle.wb_first.proofs.Rules.{Keeps, keeps}
 use Rattle.wb_first.proofs.Forms.{bound_one}
@@ -45,23 +45,23 @@ module _ (m : FirstModel) (p : FirstMap) where
       (append-nil (commit_obligations (first_model_of m) (map_of p) j n 0) ∙ ap (λ t. commit_lines j t ds) (commit_text n)))
 
   -- those of instructions that have an entry each
-  each : (d : FirstModule) → Keeps (first_of m p d) → (j : ℕ) (is : List FirstInstruction)
-      → all_names (is_among (entry_names (map_of p).instructions)) (instruction_names (map instruction_view is)) ≡ true
+  each : (d : FirstModule) → Keeps (first_of_parts m p d) → (j : ℕ) (is : List FirstInstruction)
+      → all_names (is_one_of (names_of_entries (map_of p).instructions)) (names_of_instructions (map instruction_view is)) ≡ true
       → all_instruction_obligations (first_model_of m) (map_of p) j (map instruction_view is) ≡ instructions_lines ds j (map instruction_view is)
   each d k j [] h = refl
   each d k j (i ∷ is) h =
       ap₂ (λ xs ys. xs ++ ys)
       (with_bound j (instruction_name (instruction_view i)) (bound_named (map_of p) (instruction_name (instruction_view i)))
-      (bound_one (first_of m p d) k (instruction_name (instruction_view i)) (and_left _ _ h)))
+      (bound_one (first_of_parts m p d) k (instruction_name (instruction_view i)) (and_left _ _ h)))
       (each d k (suc j) is (and_right _ _ h))
 
-  pub lines : (d : FirstModule) → is_accepted (first_of m p d) ≡ true
+  pub lines : (d : FirstModule) → is_accepted (first_of_parts m p d) ≡ true
       → obligations (first_model_of m) (map_of p)
       ≡ initial_lines ds ++ idle_lines ds ++ decode_line ∷ instructions_lines ds 0 (map instruction_view m.instructions.items)
   lines d accepted =
-      let k : Keeps (first_of m p d) = keeps (first_of m p d) accepted in
+      let k : Keeps (first_of_parts m p d) = keeps (first_of_parts m p d) accepted in
       let back = listed_back (map instruction_view m.instructions.items) in
       ap (λ is. initial_lines ds ++ idle_lines ds ++ decode_line ∷ all_instruction_obligations (first_model_of m) (map_of p) 0 is) back
       ∙ ap (λ os. initial_lines ds ++ idle_lines ds ++ decode_line ∷ os)
       (each d k 0 m.instructions.items
-      (subst (λ is. all_names (is_among (entry_names (map_of p).instructions)) (instruction_names is) ≡ true) back k.each_entry))
+      (subst (λ is. all_names (is_one_of (names_of_entries (map_of p).instructions)) (names_of_instructions is) ≡ true) back k.each_entry))

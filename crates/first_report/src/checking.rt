@@ -4,7 +4,7 @@ ghost use Rattle.std.specs.Prelude.{◌≡◌, ◌<◌, ◌++◌, length, map, v
 ghost use Rattle.reports.specs.Report.{IsReport};
 ghost use Rattle.refinement.specs.Soundness.{EveryRunRefines};
 ghost use Rattle.first_json.specs.ModelView.{instruction_view};
-ghost use Rattle.first_facts.specs.View.{obligation_of};
+ghost use Rattle.first_terms.specs.Claims.{obligation_of};
 ghost use Rattle.wb_first.specs.Names.{setting_of};
 ghost use Rattle.wb_first.specs.CaseView.{case_of};
 ghost use Rattle.first_report.specs.Lines.{verdict_lines_by, cover_lines_by};
@@ -16,7 +16,7 @@ use crate::listing::obligations;
 use crate::spending::{Spent, add_spent};
 use crate::totals::{Counts, Ending, append_total, count_all, ending_of};
 use first_check::{BitName, Finding, Found, NoMemory, decide};
-use first_facts::Obligation;
+use first_terms::Obligation;
 use first_trace::{TraceNames, trace_names};
 use std::alloc::Global;
 use wb_first::FirstCase;

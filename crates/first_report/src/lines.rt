@@ -3,15 +3,15 @@
 ghost use Rattle.std.specs.Prelude.{◌≡◌, ◌++◌, [], ◌∷◌, map, length, codes, vec_len, OnOk};
 ghost use Rattle.reports.specs.Report.{trace_text, unknown_text};
 ghost use Rattle.first_json.specs.ModelView.{instruction_view};
-ghost use Rattle.first_facts.specs.View.{obligation_of};
+ghost use Rattle.first_terms.specs.Claims.{obligation_of};
 ghost use Rattle.first_trace.specs.Traced.{trace_by};
 ghost use Rattle.first_check.specs.Found.{values_in};
 ghost use Rattle.first_report.specs.Lines.{verdict_line, verdict_lines_by, cover_line, cover_lines_by};
 
 use crate::values::values;
 use first_check::{BitName, Finding, NoMemory};
-use first_facts::Obligation;
 use first_json::FirstInstruction;
+use first_terms::Obligation;
 use first_trace::{TraceNames, append_trace};
 use itoa::Buffer;
 use std::alloc::Global;

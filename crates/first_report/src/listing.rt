@@ -3,13 +3,13 @@
 ghost use Rattle.std.specs.Prelude.{◌≡◌, ◌++◌, [], ◌∷◌, map, codes, IfOk, OnOk, string_bytes};
 ghost use Rattle.refinement.specs.Obligation.{obligations};
 ghost use Rattle.first_json.specs.ModelView.{state_view, instruction_view};
-ghost use Rattle.first_facts.specs.View.{fact_of, obligation_of};
+ghost use Rattle.first_terms.specs.Claims.{fact_of, obligation_of};
 ghost use Rattle.wb_first.specs.CaseView.{case_of};
 ghost use Rattle.first_report.specs.Listed.{initial_lines, idle_lines, decode_line, bound_line, commit_lines, instruction_lines, instructions_lines};
 
 use first_check::NoMemory;
-use first_facts::{Fact, Obligation};
 use first_json::{FirstInstruction, FirstState};
+use first_terms::{Fact, Obligation};
 use std::alloc::Global;
 use wb_first::FirstCase;
 

@@ -7,7 +7,10 @@ use crate::spending::add_spent;
 use crate::totals::{Ending, append_total, count_all, ending_of};
 use first_accept::accept;
 use first_check::{BitName, Finding, NoMemory};
-use first_json::{read_map, read_model};
+use first_json::{
+    FirstInput, FirstInstruction, FirstModel, FirstSort, FirstState, FirstTerm, FirstUpdate,
+    FirstValue, read_map,
+};
 use first_text::{Action, Bounds, Direction, FirstModule, Part, Port, Primary, Term};
 use first_trace::trace_names;
 use sat_base::Log;
@@ -111,9 +114,6 @@ fn spent_of_findings(rt: HostRuntime) -> Result<(), Fail> {
     Ok(())
 }
 
-const MODEL: &str =
-    "{\"name\":\"counter\",\"states\":[{\"name\":\"cnt\",\"sort\":8,\"init\":0}],\"inputs\":[{\"name\":\"op\",\"sort\":1}],\"valid\":true,\"instructions\":[{\"name\":\"INC\",\"decode\":[\"eq\",\"op\",[\"const\",1,1]],\"update\":{\"cnt\":[\"add\",\"cnt\",[\"const\",8,1]]}},{\"name\":\"CLR\",\"decode\":[\"eq\",\"op\",[\"const\",1,0]],\"update\":{\"cnt\":[\"const\",8,0]}}]}";
-
 const MAP: &str =
     "{\"version\":1,\"top\":\"counter\",\"clock\":\"clk\",\"reset\":{\"signal\":\"rst\",\"active\":1,\"cycles\":1},\"assume\":[],\"invariants\":[],\"start\":\"go\",\"states\":{\"cnt\":\"cnt\"},\"inputs\":{\"op\":\"op\"},\"instructions\":[{\"name\":\"INC\",\"commit\":\"1\",\"bound\":1},{\"name\":\"CLR\",\"commit\":\"1\",\"bound\":1}]}";
 
@@ -179,10 +179,61 @@ fn counter_module(alloc: Global) -> Result<FirstModule, NoMemory> {
     })
 }
 
+/// `cnt` or `op` of the model.
+fn model_name(alloc: Global, name: &str, width: u32) -> Result<Box<FirstTerm>, Fail> {
+    let name = String::from_str(alloc, name)?;
+    Ok(Box::new(alloc, FirstTerm::Name(name, FirstSort::Word(width)))?)
+}
+
+/// An instruction that is taken where `op` is a number, and that sets `cnt`.
+fn instruction(
+    alloc: Global,
+    name: &str,
+    number: u128,
+    term: FirstTerm,
+) -> Result<FirstInstruction, Fail> {
+    let operand = Box::new(alloc, FirstTerm::Const(1, number))?;
+    let mut updates = Vec::new(alloc);
+    updates.push(FirstUpdate {
+        state: String::from_str(alloc, "cnt")?,
+        term,
+    })?;
+    Ok(FirstInstruction {
+        name: String::from_str(alloc, name)?,
+        decode: FirstTerm::Eq(model_name(alloc, "op", 1)?, operand),
+        updates,
+    })
+}
+
+/// A counter of 8 bits: INC adds 1, CLR sets it to 0.
+fn counter_model(alloc: Global) -> Result<FirstModel, Fail> {
+    let one = Box::new(alloc, FirstTerm::Const(8, 1))?;
+    let sum = FirstTerm::Add(model_name(alloc, "cnt", 8)?, one);
+    let mut instructions = Vec::new(alloc);
+    instructions.push(instruction(alloc, "INC", 1, sum)?)?;
+    instructions.push(instruction(alloc, "CLR", 0, FirstTerm::Const(8, 0))?)?;
+    let mut states = Vec::new(alloc);
+    states.push(FirstState {
+        name: String::from_str(alloc, "cnt")?,
+        sort: FirstSort::Word(8),
+        initial: Some(FirstValue::Number(0)),
+    })?;
+    let mut inputs = Vec::new(alloc);
+    inputs.push(FirstInput {
+        name: String::from_str(alloc, "op")?,
+        sort: FirstSort::Word(1),
+    })?;
+    Ok(FirstModel {
+        name: String::from_str(alloc, "counter")?,
+        states,
+        inputs,
+        valid: FirstTerm::Truth(true),
+        instructions,
+    })
+}
+
 fn counter(alloc: Global) -> Result<FirstCase, Fail> {
-    let Some(model) = read_model(alloc, MODEL.as_bytes())? else {
-        return Err("no model".into());
-    };
+    let model = counter_model(alloc)?;
     let Some(map) = read_map(alloc, MAP.as_bytes())? else {
         return Err("no map".into());
     };

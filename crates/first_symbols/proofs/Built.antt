@@ -7,15 +7,15 @@ use Rattle.wb_terms.specs.Graph.{Graph}
 use Rattle.first_text.specs.Tree as trees
 use Rattle.first_text.specs.Tree.{Port, Part, register, assignment, clocked, Action}
 use Rattle.wb_first.specs.Names.{First, is_declared, is_input, is_register, is_variable_among, port_named, bits_of_name, assigned, blocks_among}
-use Rattle.wb_first.specs.Accepted.{is_accepted, is_source, is_read, is_among, all_names, port_names, variable_names, has_one_block, read_names}
+use Rattle.wb_first.specs.Accepted.{is_accepted, is_source, is_read, is_one_of, all_names, port_names, reg_names, has_one_block, read_names}
 use Rattle.wb_first.specs.Claims.{AreValues}
 use Rattle.wb_first.specs.Cycle.{held, assigned_number, next_registers}
 use Rattle.wb_first.specs.Decided.{first_of_values, no_inputs}
 use Rattle.wb_first.proofs.Alike.{and_left, and_right}
 use Rattle.wb_first.proofs.Rules.{keeps}
 use Rattle.wb_first.proofs.Targets.{register_source}
-use Rattle.first_cycle.specs.Updates.{block_updates}
-use Rattle.first_cycle.proofs.Registers.{edge_leaves}
+use Rattle.first_symbols.specs.Actions.{block_updates}
+use Rattle.first_symbols.proofs.Registers.{edge_leaves}
 use Rattle.first_store.specs.Meaning.{Grows, IsOfSort, MeansTruth}
 use Rattle.first_store.proofs.Growing.{Means-same}
 use Rattle.first_symbols.specs.Filling.{AreAllNames}
@@ -29,33 +29,33 @@ use Rattle.first_symbols.proofs.Held.{held_own, source_held}
 
 -- ---- all declared names are listed
 
-among_append : (ms ns : List Name) (n : Name) → is_among (ms ++ ns) n ≡ (is_among ms n || is_among ns n)
+among_append : (ms ns : List Name) (n : Name) → is_one_of (ms ++ ns) n ≡ (is_one_of ms n || is_one_of ns n)
 among_append [] ns n = refl
 among_append (m ∷ ms) ns n =
-    elim (same_name m n) as (λ b. (b || is_among (ms ++ ns) n) ≡ (b || is_among ms n || is_among ns n)) [
+    elim (same_name m n) as (λ b. (b || is_one_of (ms ++ ns) n) ≡ (b || is_one_of ms n || is_one_of ns n)) [
       | true ↦ refl
       | false ↦ among_append ms ns n
     ]
 
-port_listed : (ps : List Port) (n : Name) → is_some (port_named ps n) ≡ is_among (port_names ps) n
+port_listed : (ps : List Port) (n : Name) → is_some (port_named ps n) ≡ is_one_of (port_names ps) n
 port_listed [] n = refl
 port_listed (p ∷ ps) n =
-    elim (same_name p.own_name n) as (λ b. is_some (cond b (Some p) (port_named ps n)) ≡ (b || is_among (port_names ps) n)) [
+    elim (same_name p.own_name n) as (λ b. is_some (cond b (Some p) (port_named ps n)) ≡ (b || is_one_of (port_names ps) n)) [
       | true ↦ refl
       | false ↦ port_listed ps n
     ]
 
-variable_listed : (ps : List Part) (n : Name) → is_variable_among ps n ≡ is_among (variable_names ps) n
+variable_listed : (ps : List Part) (n : Name) → is_variable_among ps n ≡ is_one_of (reg_names ps) n
 variable_listed [] n = refl
 variable_listed (register b m ∷ ps) n = ap (λ t. same_name m n || t) (variable_listed ps n)
 variable_listed (assignment m e ∷ ps) n = variable_listed ps n
 variable_listed (clocked s a ∷ ps) n = variable_listed ps n
 
-pub all_listed : (f : First) (names : List Name) → names ≡ port_names f.design.ports ++ variable_names f.design.parts → AreAllNames f names
+pub all_listed : (f : First) (names : List Name) → names ≡ port_names f.design.ports ++ reg_names f.design.parts → AreAllNames f names
 all_listed f names e n d =
-    ap (λ ns. is_among ns n) e
-    ∙ (among_append (port_names f.design.ports) (variable_names f.design.parts) n
-    ∙ (ap (λ b. b || is_among (variable_names f.design.parts) n) (sym (port_listed f.design.ports n))
+    ap (λ ns. is_one_of ns n) e
+    ∙ (among_append (port_names f.design.ports) (reg_names f.design.parts) n
+    ∙ (ap (λ b. b || is_one_of (reg_names f.design.parts) n) (sym (port_listed f.design.ports n))
     ∙ (ap (λ b. is_some (port_named f.design.ports n) || b) (sym (variable_listed f.design.parts n)) ∙ d)))
 
 -- ---- what is held
@@ -67,11 +67,11 @@ holding_words f g ids s n id e =
     (bits_of_name f.design n, subst (λ i. IsOfSort g i (word (bits_of_name f.design n))) same r.2.means.of_sort)
 
 pub holding_stands : (f : First) (g : Graph) (ids : Name → Option ℕ) (names : List Name) → IsHolding f g ids → AreAllNames f names
-    → ((n : Name) → is_among names n ≡ true → is_some (ids n) ≡ true) → AreStanding f g ids (λ n x. as_number (held f x x n))
+    → ((n : Name) → is_one_of names n ≡ true → is_some (ids n) ≡ true) → AreStanding f g ids (λ n x. as_number (held f x x n))
 holding_stands f g ids names s all some n d = s.stands n (some n (all n d))
 
 pub holding_sources : (f : First) (g h : Graph) (ids : Name → Option ℕ) (names : List Name) → IsHolding f g ids → AreAllNames f names
-    → ((n : Name) → is_among names n ≡ true → is_some (ids n) ≡ true) → Grows g h → AreSources f h.names
+    → ((n : Name) → is_one_of names n ≡ true → is_some (ids n) ≡ true) → Grows g h → AreSources f h.names
 holding_sources f g h ids names s all some a n t =
     subst (λ (es : Entries Sort). Contains es (n, t) ↔ ((is_source f n ≡ true) × (t ≡ word (bits_of_name f.design n)))) (sym a.names) (
       (λ c. let r = s.sources n t c in (r.1, r.2)),

@@ -7,12 +7,12 @@ use Rattle.wb_values.specs.Value.{Name, same_name, as_number, Valuation, Entries
 use Rattle.wb_terms.specs.Graph.{Graph}
 use Rattle.first_text.specs.Tree as trees
 use Rattle.wb_first.specs.Names.{First, is_declared, bits_of_name, assigned}
-use Rattle.wb_first.specs.Accepted.{is_accepted, is_among, all_names, term_names, terms_read, is_source}
+use Rattle.wb_first.specs.Accepted.{is_accepted, is_one_of, all_names, term_names, terms_read, is_source}
 use Rattle.wb_first.specs.Cycle.{held, settled, assigned_number}
 use Rattle.wb_first.proofs.Alike.{and_left, and_right}
 use Rattle.wb_first.proofs.Edge.{same_name_true}
 use Rattle.wb_first.proofs.Rules.{keeps}
-use Rattle.first_cycle.specs.Terms.{assigned_at}
+use Rattle.first_symbols.specs.Terms.{assigned_at}
 use Rattle.first_store.specs.Meaning.{Grows, MeansNumber}
 use Rattle.first_symbols.specs.Filling.{texts, AreAllNames, IsNamed}
 use Rattle.first_symbols.specs.Standing.{StandsFor, AreStanding}
@@ -28,32 +28,32 @@ IsFilled f h now k n = (id : ℕ) × (now n ≡ Some id) × StandsFor f h id (bi
 
 -- what is still to come, or stands
 abbrev pub IsFilling : First → Graph → (Name → Option ℕ) → List Name → (Name → Valuation → ℕ) → Type 0
-IsFilling f h now rest k = (n : Name) → is_declared f.design n ≡ true → (is_among rest n ≡ true) ⊎ IsFilled f h now k n
+IsFilling f h now rest k = (n : Name) → is_declared f.design n ≡ true → (is_one_of rest n ≡ true) ⊎ IsFilled f h now k n
 
 pub fill_begins : (f : First) (h : Graph) (now : Name → Option ℕ) (names : List Name) (k : Name → Valuation → ℕ) → AreAllNames f names → IsFilling f h now names k
 fill_begins f h now names k all n d = inl (all n d)
 
 fill_other : {h j : Graph} (f : First) (old new : Name → Option ℕ) (m : Name) (rest : List Name) (k : Name → Valuation → ℕ) (n : Name) → Grows h j → new n ≡ old n
-    → same_name m n ≡ false → (is_among (m ∷ rest) n ≡ true) ⊎ IsFilled f h old k n → (is_among rest n ≡ true) ⊎ IsFilled f j new k n
-fill_other f old new m rest k n a same e (inl among) = inl (ap (λ b. b || is_among rest n) (sym e) ∙ among)
+    → same_name m n ≡ false → (is_one_of (m ∷ rest) n ≡ true) ⊎ IsFilled f h old k n → (is_one_of rest n ≡ true) ⊎ IsFilled f j new k n
+fill_other f old new m rest k n a same e (inl among) = inl (ap (λ b. b || is_one_of rest n) (sym e) ∙ among)
 fill_other f old new m rest k n a same e (inr there) = inr (there.0, same ∙ there.1, StandsFor-kept f there.0 (bits_of_name f.design n) (k n) a there.2)
 
 pub fill_goes_on : {h j : Graph} (f : First) (old new : Name → Option ℕ) (m : Name) (rest all : List Name) (k : Name → Valuation → ℕ) → all ≡ m ∷ rest
     → Grows h j → IsNamed f j m old new k → IsFilling f h old all k → IsFilling f j new rest k
 fill_goes_on {h} {j} f old new m rest all k cut a named s n d = by_name (same_name m n) refl where
-  by_name : (b : Bool) → same_name m n ≡ b → (is_among rest n ≡ true) ⊎ IsFilled f j new k n
+  by_name : (b : Bool) → same_name m n ≡ b → (is_one_of rest n ≡ true) ⊎ IsFilled f j new k n
   by_name true e =
       inr (subst (λ q. IsFilled f j new k q) (same_name_true m n e)
       (named.here (subst (λ q. is_declared f.design q ≡ true) (sym (same_name_true m n e)) d)))
   by_name false e =
-      fill_other f old new m rest k n a (named.others n e) e (subst (λ ns. (is_among ns n ≡ true) ⊎ IsFilled f h old k n) cut (s n d))
+      fill_other f old new m rest k n a (named.others n e) e (subst (λ ns. (is_one_of ns n ≡ true) ⊎ IsFilled f h old k n) cut (s n d))
 
-filled : (f : First) (h : Graph) (now : Name → Option ℕ) (k : Name → Valuation → ℕ) (n : Name) → (is_among [] n ≡ true) ⊎ IsFilled f h now k n → IsFilled f h now k n
+filled : (f : First) (h : Graph) (now : Name → Option ℕ) (k : Name → Valuation → ℕ) (n : Name) → (is_one_of [] n ≡ true) ⊎ IsFilled f h now k n → IsFilled f h now k n
 filled f h now k n (inl e) = absurd (let c : false ≡ true = e in cc)
 filled f h now k n (inr t) = t
 
 pub fill_ends : (f : First) (h : Graph) (now : Name → Option ℕ) (rest : List Name) (k : Name → Valuation → ℕ) → rest ≡ [] → IsFilling f h now rest k → AreStanding f h now k
-fill_ends f h now rest k e s n d = filled f h now k n (subst (λ ns. (is_among ns n ≡ true) ⊎ IsFilled f h now k n) e (s n d))
+fill_ends f h now rest k e s n d = filled f h now k n (subst (λ ns. (is_one_of ns n ≡ true) ⊎ IsFilled f h now k n) e (s n d))
 
 -- a turn of a loop over the names
 pub fill_turn : {h j : Graph} (f : First) (old new : Name → Option ℕ) (names : List (Bor (List ℕ))) (i : ℕ) (d : Bor (List ℕ)) (k : Name → Valuation → ℕ) → i < length names

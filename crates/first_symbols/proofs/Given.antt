@@ -10,8 +10,8 @@ use Rattle.first_text.specs.Tree.{Primary, Term, single, sum, equality}
 use Rattle.wb_first.specs.Names.{First, scope_of_first, bits_of_name, is_declared}
 use Rattle.wb_first.specs.Accepted.{all_names, primary_names, term_names}
 use Rattle.wb_first.proofs.Alike.{and_left, and_right}
-use Rattle.first_cycle.specs.Terms.{extended, operand_at, operand_width, summed, same_operands, IsSmallOperand, term_at, given, is_met, IsSmallTerm, assigned_at, is_true_at}
-use Rattle.first_cycle.proofs.Evaluated.{assigned_at_is, is_true_at_is}
+use Rattle.first_symbols.specs.Terms.{extended, operand_at, operand_width, summed, same_operands, IsSmallOperand, term_at, given, is_met, IsSmallTerm, assigned_at, is_true_at}
+use Rattle.first_symbols.proofs.Evaluated.{assigned_at_is, is_true_at_is}
 use Rattle.first_store.specs.Meaning.{Means, MeansNumber, MeansTruth}
 use Rattle.first_store.proofs.Growing.{Means-same}
 use Rattle.first_symbols.specs.declared.operands.Operand.{Operand}

@@ -15,7 +15,7 @@ use Rattle.wb_terms.specs.Graph.{Graph, tree, tree_at, trees_of}
 use Rattle.wb_terms.proofs.StoreLemmas.{length-trees_of}
 use Rattle.sat_gates.specs.Names.{is_blastable}
 use Rattle.wb_first.specs.Names.{First, is_declared, is_input, is_register, bits_of_name}
-use Rattle.wb_first.specs.Accepted.{is_accepted, is_source, is_data, is_among, all_names, is_plain_name, has_plain_names, declared_names}
+use Rattle.wb_first.specs.Accepted.{is_accepted, is_source, is_data, is_one_of, all_names, is_plain_name, has_plain_names, names_declared}
 use Rattle.wb_first.specs.Cycle.{held}
 use Rattle.wb_first.proofs.Alike.{and_left, and_right}
 use Rattle.wb_first.proofs.Edge.{same_name_true}
@@ -40,10 +40,10 @@ plain_ascii [] h i = let z : 0 < 128 = omega arith in none i z where
 plain_ascii (c ∷ cs) h zero = let t : nat_lt c 128 ≡ true = and_left (nat_lt c 128) (is_plain_name cs) h in grind (arith, nat_tests)
 plain_ascii (c ∷ cs) h (suc i) = plain_ascii cs (and_right (nat_lt c 128) (is_plain_name cs) h) i
 
-all_among : (p : Name → Bool) (ns : List Name) (n : Name) → all_names p ns ≡ true → is_among ns n ≡ true → p n ≡ true
+all_among : (p : Name → Bool) (ns : List Name) (n : Name) → all_names p ns ≡ true → is_one_of ns n ≡ true → p n ≡ true
 all_among p [] n h g = absurd (let e : false ≡ true = g in cc)
-all_among p (m ∷ ns) n h g = by_case (or_cases (same_name m n) (is_among ns n) g) (all_among p ns n (and_right (p m) (all_names p ns) h)) where
-  by_case : (same_name m n ≡ true) ⊎ (is_among ns n ≡ true) → (is_among ns n ≡ true → p n ≡ true) → p n ≡ true
+all_among p (m ∷ ns) n h g = by_case (or_cases (same_name m n) (is_one_of ns n) g) (all_among p ns n (and_right (p m) (all_names p ns) h)) where
+  by_case : (same_name m n ≡ true) ⊎ (is_one_of ns n ≡ true) → (is_one_of ns n ≡ true → p n ≡ true) → p n ≡ true
   by_case (inl e) r = subst (λ q. p q ≡ true) (same_name_true m n e) (and_left (p m) (all_names p ns) h)
   by_case (inr e) r = r e
 
@@ -51,7 +51,7 @@ pub plain_source : (f : First) → is_accepted f ≡ true → (n : Name) → is_
 plain_source f accepted n s =
     let plain : has_plain_names f ≡ true = and_right _ _ accepted in
     let declared : is_declared f.design n ≡ true = and_left _ _ (and_left _ _ s) in
-    all_among is_plain_name (declared_names f.design) n plain (declared_among f.design n declared)
+    all_among is_plain_name (names_declared f.design) n plain (declared_among f.design n declared)
 
 -- ---- what is held
 
@@ -249,14 +249,14 @@ not_declared f g ids n s e = by_entry (entry_of g.names n) refl where
 -- a turn of a loop over the names
 pub hold_turn : (old new : Name → Option ℕ) (names : List (Bor (List ℕ))) (i : ℕ) (d : Bor (List ℕ)) (n : Name) → i < length names
     → ((q : Name) → is_some (old q) ≡ true → is_some (new q) ≡ true) → is_some (new (get_or names i d).now) ≡ true
-    → (is_some (old n) ≡ true) ⊎ (is_among (texts (drop i names)) n ≡ true) → (is_some (new n) ≡ true) ⊎ (is_among (texts (drop (i + 1) names)) n ≡ true)
+    → (is_some (old n) ≡ true) ⊎ (is_one_of (texts (drop i names)) n ≡ true) → (is_some (new n) ≡ true) ⊎ (is_one_of (texts (drop (i + 1) names)) n ≡ true)
 hold_turn old new names i d n below kept here (inl t) = inl (kept n t)
 hold_turn old new names i d n below kept here (inr a) =
-    by_case (or_cases (same_name (get_or names i d).now n) (is_among (texts (drop (i + 1) names)) n)
-    (subst (λ ns. is_among ns n ≡ true) (texts_drop names i d below) a))
+    by_case (or_cases (same_name (get_or names i d).now n) (is_one_of (texts (drop (i + 1) names)) n)
+    (subst (λ ns. is_one_of ns n ≡ true) (texts_drop names i d below) a))
   where
-    by_case : (same_name (get_or names i d).now n ≡ true) ⊎ (is_among (texts (drop (i + 1) names)) n ≡ true)
-        → (is_some (new n) ≡ true) ⊎ (is_among (texts (drop (i + 1) names)) n ≡ true)
+    by_case : (same_name (get_or names i d).now n ≡ true) ⊎ (is_one_of (texts (drop (i + 1) names)) n ≡ true)
+        → (is_some (new n) ≡ true) ⊎ (is_one_of (texts (drop (i + 1) names)) n ≡ true)
     by_case (inl e) = inl (subst (λ q. is_some (new q) ≡ true) (same_name_true (get_or names i d).now n e) here)
     by_case (inr e) = inr e
 

@@ -1,3 +1,7 @@
+pub mod Evaluated
+pub mod Ranges
+pub mod Registers
+pub mod Actions
 pub mod Named
 pub mod Standing
 pub mod Read

@@ -10,8 +10,8 @@ use Rattle.wb_terms.specs.Graph.{Graph}
 use Rattle.first_text.specs.Tree.{Primary, identifier, decimal}
 use Rattle.wb_first.specs.Names.{First, scope_of_first}
 use Rattle.wb_first.specs.Claims.{AreValues}
-use Rattle.first_cycle.specs.Terms.{plain, operand_at}
-use Rattle.first_cycle.proofs.Evaluated.{cut_twice}
+use Rattle.first_symbols.specs.Terms.{plain, operand_at}
+use Rattle.first_symbols.proofs.Evaluated.{cut_twice}
 use Rattle.first_store.specs.Meaning.{Grows, MeansNumber, MeansTruth}
 use Rattle.first_store.proofs.Growing.{IsOfSort-kept, Means-same}
 use Rattle.first_symbols.specs.declared.operands.Operand.{Operand}

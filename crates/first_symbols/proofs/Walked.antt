@@ -8,8 +8,8 @@ use Rattle.first_text.specs.Tree.{Term}
 use Rattle.wb_first.specs.Names.{First, is_declared, bits_of_name}
 use Rattle.wb_first.specs.Accepted.{all_names, term_names, read_names}
 use Rattle.wb_first.proofs.Edge.{same_name_true}
-use Rattle.first_cycle.specs.Terms.{assigned_at, is_true_at}
-use Rattle.first_cycle.specs.Updates.{updated, updates_in, part_updates}
+use Rattle.first_symbols.specs.Terms.{assigned_at, is_true_at}
+use Rattle.first_symbols.specs.Actions.{updated, updates_in, part_updates}
 use Rattle.first_store.specs.Meaning.{Grows, IsOfSort, Means, MeansTruth}
 use Rattle.first_store.proofs.Growing.{Grows-refl, Grows-trans, Means-kept, Means-same}
 use Rattle.first_symbols.specs.Standing.{StandsFor, AreStanding, AreWords}

@@ -1,7 +1,10 @@
+pub mod Actions
 pub mod Filling
 pub mod Holding
 pub mod Reading
 pub mod Standing
 pub mod Symbols
 pub mod Table
+pub mod Terms
 pub mod Updates
+pub mod Widths

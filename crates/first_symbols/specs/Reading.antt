@@ -5,7 +5,7 @@ use Rattle.wb_values.specs.Number.{word_sext}
 use Rattle.wb_terms.specs.Graph.{Graph}
 use Rattle.first_text.specs.Tree.{Primary, identifier, decimal}
 use Rattle.wb_first.specs.Names.{First, scope_of_first, bits_of_name}
-use Rattle.first_cycle.specs.Terms.{plain, extended, operand_at, summed, same_operands}
+use Rattle.first_symbols.specs.Terms.{plain, extended, operand_at, summed, same_operands}
 use Rattle.first_store.specs.Meaning.{IsOfSort}
 use Rattle.first_symbols.specs.declared.operands.Operand.{Operand}
 use Rattle.first_symbols.specs.declared.operands.Operand.TheVariants.{Decimal, Word}

@@ -5,9 +5,9 @@ use Rattle.wb_terms.specs.Graph.{Graph}
 use Rattle.first_text.specs.Tree.{Term, Part, clocked}
 use Rattle.wb_first.specs.Names.{First, is_declared}
 use Rattle.wb_first.specs.Accepted.{all_names, term_names, read_names}
-use Rattle.first_cycle.specs.Terms.{is_true_at}
+use Rattle.first_symbols.specs.Terms.{is_true_at}
 use Rattle.wb_first.specs.Decided.{first_of_values}
-use Rattle.first_cycle.specs.Updates.{updated, block_updates}
+use Rattle.first_symbols.specs.Actions.{updated, block_updates}
 use Rattle.first_store.specs.Meaning.{MeansTruth}
 use Rattle.first_symbols.specs.Standing.{AreStanding}
 

@@ -5,7 +5,7 @@ ghost use Rattle.wb_values.specs.Value.{entry_of, same_name};
 ghost use Rattle.wb_values.specs.Choice.{first_of};
 ghost use Rattle.wb_first.specs.Names.{port_named, assigned_among, is_set_among, sets, one_sets};
 ghost use Rattle.first_text.specs.View.{port_of, part_of, term_of, bounds_of, action_of, actions_of};
-ghost use Rattle.first_cycle.specs.Widths.{port_bounds, part_bounds};
+ghost use Rattle.first_symbols.specs.Widths.{port_bounds, part_bounds};
 ghost use Rattle.first_symbols.specs.Table.{under_name, has_name};
 
 use crate::NoMemory;

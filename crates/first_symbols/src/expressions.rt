@@ -7,7 +7,7 @@ ghost use Rattle.first_text.specs.Tree.{equality};
 ghost use Rattle.first_text.specs.View.{primary_of, term_of};
 ghost use Rattle.wb_first.specs.Names.{First, scope_of_first, is_declared};
 ghost use Rattle.wb_first.specs.Accepted.{all_names, primary_names, term_names};
-ghost use Rattle.first_cycle.specs.Terms.{term_at, IsSmallTerm, assigned_at, is_true_at};
+ghost use Rattle.first_symbols.specs.Terms.{term_at, IsSmallTerm, assigned_at, is_true_at};
 ghost use Rattle.first_store.specs.Meaning.{Grows, IsOfSort, MeansNumber, MeansTruth};
 ghost use Rattle.first_symbols.specs.Reading.{same_at};
 ghost use Rattle.first_symbols.specs.Table.{ids_of};

@@ -6,7 +6,7 @@ ghost use Rattle.model_meaning.specs.Term.{name as leaf};
 ghost use Rattle.wb_terms.specs.Graph.{tree, trees_of, with_name};
 ghost use Rattle.first_text.specs.View.{port_of, part_of};
 ghost use Rattle.wb_first.specs.CaseView.{case_of};
-ghost use Rattle.wb_first.specs.Accepted.{is_among, is_plain_name, port_names, variable_names};
+ghost use Rattle.wb_first.specs.Accepted.{is_one_of, is_plain_name, port_names, reg_names};
 ghost use Rattle.first_symbols.specs.Filling.{texts};
 ghost use Rattle.first_symbols.specs.Holding.{IsWider, IsHolding, IsLeaf};
 ghost use Rattle.first_symbols.specs.Table.{ids_of};
@@ -30,7 +30,7 @@ fn add_port_names<'a>(ports: &'a [Port], names: &mut Vec<&'a [u8]>) -> Result<()
 }
 
 fn add_part_name<'a>(part: &'a Part, names: &mut Vec<&'a [u8]>) -> Result<(), NoMemory>
-    ensures { OnOk result (texts names.new.items ≡ texts names.old.items ++ variable_names (part_of part.now ∷ [])) }
+    ensures { OnOk result (texts names.new.items ≡ texts names.old.items ++ reg_names (part_of part.now ∷ [])) }
 {
     match part {
         Part::Register(_, name) => {
@@ -42,7 +42,7 @@ fn add_part_name<'a>(part: &'a Part, names: &mut Vec<&'a [u8]>) -> Result<(), No
 }
 
 fn add_part_names<'a>(parts: &'a [Part], names: &mut Vec<&'a [u8]>) -> Result<(), NoMemory>
-    ensures { OnOk result (texts names.new.items ≡ texts names.old.items ++ variable_names (map part_of parts.now)) }
+    ensures { OnOk result (texts names.new.items ≡ texts names.old.items ++ reg_names (map part_of parts.now)) }
 {
     for part in parts {
         add_part_name(part, names)?;
@@ -53,7 +53,7 @@ fn add_part_names<'a>(parts: &'a [Part], names: &mut Vec<&'a [u8]>) -> Result<()
 /// The declared names: those of the ports, and those that are declared `reg`. A name that is both stands twice.
 pub(crate) fn names<'a>(alloc: Global, case: &'a FirstCase) -> Result<Vec<&'a [u8]>, NoMemory>
     ensures { IfOk result (λ ns. texts ns.items
-        ≡ port_names (case_of case.now).design.ports ++ variable_names (case_of case.now).design.parts) }
+        ≡ port_names (case_of case.now).design.ports ++ reg_names (case_of case.now).design.parts) }
 {
     let mut names = Vec::new(alloc);
     add_port_names(&case.design.ports, &mut names)?;
@@ -154,7 +154,7 @@ pub(crate) fn hold<'a>(
 ) -> Result<Symbols<'a>, NoMemory>
     requires { terms.old.names ≡ [] }
     ensures holding { IfOk result (λ s. IsHolding (case_of known.now.case.now) terms.new (ids_of s)) }
-    ensures all { IfOk result (λ s. (n : Name) → is_among (texts names.now) n ≡ true → is_some (ids_of s n) ≡ true) }
+    ensures all { IfOk result (λ s. (n : Name) → is_one_of (texts names.now) n ≡ true → is_some (ids_of s n) ≡ true) }
 {
     let mut held = Symbols::new(alloc);
     for name in names {

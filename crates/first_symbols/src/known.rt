@@ -5,7 +5,7 @@ ghost use Rattle.wb_values.specs.Value.{entry_of, same_name};
 ghost use Rattle.wb_first.specs.CaseView.{case_of};
 ghost use Rattle.wb_first.specs.Names.{port_named, assigned, is_register, is_input, bits_of_name};
 ghost use Rattle.first_text.specs.View.{port_of, term_of, bounds_of};
-ghost use Rattle.first_cycle.specs.Widths.{name_bounds, bounds_width, AreSmallBounds};
+ghost use Rattle.first_symbols.specs.Widths.{name_bounds, bounds_width, AreSmallBounds};
 ghost use Rattle.first_symbols.specs.Table.{under_name, has_name};
 
 use crate::NoMemory;

@@ -7,7 +7,7 @@ ghost use Rattle.first_text.specs.Tree as trees;
 ghost use Rattle.first_text.specs.View.{primary_of};
 ghost use Rattle.wb_first.specs.Names.{First, scope_of_first, is_declared};
 ghost use Rattle.wb_first.specs.Accepted.{all_names, primary_names};
-ghost use Rattle.first_cycle.specs.Terms.{operand_at, summed, same_operands};
+ghost use Rattle.first_symbols.specs.Terms.{operand_at, summed, same_operands};
 ghost use Rattle.first_store.specs.Meaning.{Grows, IsOfSort, MeansNumber, MeansTruth};
 ghost use Rattle.first_symbols.specs.Reading.{IsOperand, IsRead, decimal_number, number_at, is_decimal, width_in, sum_at, same_at};
 ghost use Rattle.first_symbols.specs.Table.{ids_of};

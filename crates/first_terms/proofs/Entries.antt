@@ -10,7 +10,7 @@ use Rattle.model_meaning.specs.Model.{states_of}
 use Rattle.wb_terms.specs.Graph.{Graph}
 use Rattle.wb_terms.specs.declared.nodes.TermId.{TermId}
 use Rattle.wb_first.specs.Names.{First}
-use Rattle.wb_first.specs.Accepted.{fits_sort, state_sort, states_are_mapped, inputs_are_mapped}
+use Rattle.wb_first.specs.Accepted.{fits_mapped_sort, state_sort, states_are_mapped, inputs_are_mapped}
 use Rattle.wb_first.proofs.Alike.{and_left, and_right}
 use Rattle.wb_first.proofs.Edge.{same_name_true}
 use Rattle.first_store.specs.Meaning.{Grows, Means}
@@ -31,7 +31,7 @@ states_mapped f (x ∷ es) sorts e h =
     let rest = and_left _ _ h in
     let first = and_left _ _ rest in
     joined _ _
-    (joined _ _ (and_left _ _ first) (ap (λ o. fits_sort f o x.1) (e x.0) ∙ and_right _ _ first))
+    (joined _ _ (and_left _ _ first) (ap (λ o. fits_mapped_sort f o x.1) (e x.0) ∙ and_right _ _ first))
     (states_mapped f es sorts e (and_right _ _ h))
 
 pub inputs_mapped : (f : First) (es : Entries Expression) (sorts : Name → Option Sort) → ((q : Name) → sorts q ≡ sort_of_input f.model.inputs q)
@@ -40,10 +40,10 @@ inputs_mapped f [] sorts e h = refl
 inputs_mapped f (x ∷ es) sorts e h =
     let first = and_left _ _ h in
     joined _ _
-    (joined _ _ (and_left _ _ first) (ap (λ o. fits_sort f o x.1) (e x.0) ∙ and_right _ _ first))
+    (joined _ _ (and_left _ _ first) (ap (λ o. fits_mapped_sort f o x.1) (e x.0) ∙ and_right _ _ first))
     (inputs_mapped f es sorts e (and_right _ _ h))
 
-pub no_sort_fits : (f : First) (e : Expression) → fits_sort f None e ≡ true → ⊥
+pub no_sort_fits : (f : First) (e : Expression) → fits_mapped_sort f None e ≡ true → ⊥
 no_sort_fits f e h = let c : false ≡ true = h in cc
 
 -- What stands under a name while entries are left: nothing, and then all that counts is left; or the term of its first entry.
@@ -100,7 +100,7 @@ filled_end f g values sorts all t filled =
     by_none n none None is_o i = is_o
     by_none n none (Some id) is_o i = absurd (let c : Some i.0 ≡ None = sym i.1 ∙ none in cc)
 
-pub sort_there : (f : First) (o : Option Sort) (e : Expression) → fits_sort f o e ≡ true → (s : Sort) × (o ≡ Some s)
+pub sort_there : (f : First) (o : Option Sort) (e : Expression) → fits_mapped_sort f o e ≡ true → (s : Sort) × (o ≡ Some s)
 sort_there f None e h = absurd (no_sort_fits f e h)
 sort_there f (Some s) e h = (s, refl)
 

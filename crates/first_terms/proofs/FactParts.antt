@@ -9,7 +9,7 @@ use Rattle.refinement.specs.Map.{mapped_or_zero}
 use Rattle.refinement.specs.Obligation.{reset_active, reset_inactive, start, no_start, decoded, commit, no_commit, initial, same, one_decodes, result_of, never}
 use Rattle.wb_terms.specs.Graph.{Graph}
 use Rattle.wb_first.specs.Names.{First, setting_of}
-use Rattle.wb_first.specs.Accepted.{is_accepted, state_sort, are_updates, updates_of, is_term_of, is_initial_of, are_states, are_instructions}
+use Rattle.wb_first.specs.Accepted.{is_accepted, state_sort, are_updates, update_entries, is_term_of, is_initial_of, are_states, are_instructions}
 use Rattle.wb_first.specs.Decided.{same_value, decodes_option, commits_option, state_of, start_point, result_at, initial_met, first_of_values, second_of_values}
 use Rattle.wb_first.proofs.Alike.{and_left, and_right}
 use Rattle.first_store.specs.Meaning.{MeansTruth}
@@ -161,12 +161,12 @@ update_term f accepted us h n s is_s e is_e =
       sort = is_sort_of_true _ s (subst (λ o. Rattle.wb_first.specs.Accepted.is_sort_of (Rattle.model_meaning.specs.Term.sort_of e) o ≡ true) is_s (and_left _ _ both));
     }
 
-pub result_update : (f : First) (i : Instruction) (n : Name) (e : Term) → entry_of (updates_of i) n ≡ Some e → (x : Valuation)
+pub result_update : (f : First) (i : Instruction) (n : Name) (e : Term) → entry_of (update_entries i) n ≡ Some e → (x : Valuation)
     → term_at f e x ≡ result_of_at f (Some i) n x
 unfolding term_at result_of_at
 result_update f i n e is_e x = sym (ap (λ o. updated_value o (start_point f (first_of_values f x)) (start_point f (first_of_values f x) n)) is_e)
 
-pub result_own : (f : First) (i : Instruction) (n : Name) → entry_of (updates_of i) n ≡ None → (x : Valuation)
+pub result_own : (f : First) (i : Instruction) (n : Name) → entry_of (update_entries i) n ≡ None → (x : Valuation)
     → point_at f n x ≡ result_of_at f (Some i) n x
 unfolding point_at result_of_at
 result_own f i n is_e x = sym (ap (λ o. updated_value o (start_point f (first_of_values f x)) (start_point f (first_of_values f x) n)) is_e)

@@ -1,3 +1,4 @@
+pub mod Listed
 pub mod Moved
 pub mod SortKinds
 pub mod ModelTerms

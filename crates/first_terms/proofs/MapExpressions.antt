@@ -4,17 +4,28 @@ use Rattle.std.specs.Prelude.{◌==◌}
 use Rattle.std.proofs.lemmas.Bool.Decides.{nat_tests}
 use Rattle.wb_values.specs.Value.{Name, truth, word, number, as_number, Valuation}
 use Rattle.verilog_trees.specs.Syntax.{Expression, name, whole}
-use Rattle.verilog_meaning.specs.Expression.{is_nonzero}
+use Rattle.verilog_meaning.specs.Expression.{is_nonzero, self_value}
+use Rattle.refinement.specs.Map.{map_scope}
 use Rattle.wb_terms.specs.Graph.{Graph}
 use Rattle.first_json.specs.MapFile.{decimal}
-use Rattle.wb_first.specs.Names.{First, is_declared, bits_of_name}
-use Rattle.wb_first.specs.Accepted.{is_map_expression, map_width, fits_sort}
+use Rattle.wb_first.specs.Names.{First, setting_of, is_declared, bits_of_name}
+use Rattle.wb_first.specs.Accepted.{is_accepted, is_map_expression, map_width, fits_mapped_sort}
 use Rattle.wb_first.proofs.Alike.{and_left}
-use Rattle.first_cycle.proofs.Mapping.{name_alone, decimal_alone}
+use Rattle.wb_first.proofs.Rules.{keeps}
+use Rattle.wb_first.proofs.Sorts.{name_value}
+use Rattle.first_symbols.proofs.Evaluated.{decimal_own}
 use Rattle.first_store.specs.Meaning.{Means, MeansNumber, MeansTruth}
 use Rattle.first_store.proofs.Growing.{Means-same}
 use Rattle.first_terms.specs.Asked.{number_at, condition_at, mapped_at}
 use Rattle.first_terms.specs.Read.{IsReadable}
+
+-- the map's expressions by themselves: names without dots are the module's
+name_alone : (f : First) → is_accepted f ≡ true → (v : Valuation) (n : Name) (x : ℕ)
+    → is_map_expression f (name n whole) ≡ true → number x ≡ v n → x ≡ self_value (map_scope (setting_of f)) v (name n whole)
+name_alone f accepted v n x h is = ap as_number is ∙ sym (name_value f (keeps f accepted) v n h)
+
+decimal_alone : (f : First) (v : Valuation) (x : ℕ) → x ≡ self_value (map_scope (setting_of f)) v (decimal x)
+decimal_alone f v x = sym (decimal_own x)
 
 pub name_declared : (f : First) (n : Name) → is_map_expression f (name n whole) ≡ true → is_declared f.design n ≡ true
 name_declared f n h = and_left _ _ (and_left _ _ h)
@@ -46,7 +57,7 @@ pub mapped_truth : (f : First) (g : Graph) (values : Valuation → Valuation) (e
 unfolding mapped_at condition_at
 mapped_truth f g values e id m = m
 
-pub mapped_word : (f : First) (g : Graph) (values : Valuation → Valuation) (e : Expression) (id w : ℕ) → fits_sort f (Some (word w)) e ≡ true
+pub mapped_word : (f : First) (g : Graph) (values : Valuation → Valuation) (e : Expression) (id w : ℕ) → fits_mapped_sort f (Some (word w)) e ≡ true
     → MeansNumber f g id (map_width f e) (number_at f values e) → Means f g id (word w) (mapped_at f values (word w) e)
 unfolding mapped_at number_at
 mapped_word f g values e id w h m =

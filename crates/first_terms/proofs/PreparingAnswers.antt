@@ -17,7 +17,7 @@ use Rattle.wb_first.specs.Decided.{first_of_values, second_of_values, state_of, 
 use Rattle.wb_first.proofs.Alike.{and_left, and_right}
 use Rattle.wb_first.proofs.Facts.{input_declared}
 use Rattle.wb_first.proofs.Rules.{keeps}
-use Rattle.first_facts.specs.Commit.{commit_of}
+use Rattle.first_terms.specs.Commit.{commit_of}
 use Rattle.first_store.specs.Meaning.{Means, MeansNumber, MeansTruth}
 use Rattle.first_store.proofs.Growing.{Means-same}
 use Rattle.first_symbols.specs.Symbols.{AreSymbols}

@@ -6,7 +6,7 @@ use Rattle.model_meaning.specs.Model.{StateDeclaration, InputDeclaration, state_
 use Rattle.verilog_trees.specs.Syntax.{Expression}
 use Rattle.refinement.specs.Map.{mapped_value, mapped_or_zero, sort_of_state, sort_of_input}
 use Rattle.wb_first.specs.Names.{First, setting_of}
-use Rattle.wb_first.specs.Accepted.{is_accepted, fits_sort, state_sort, states_are_mapped, inputs_are_mapped, all_states_mapped, all_inputs_mapped, declared_sort, are_states, is_initial_of, is_accepted_module, is_accepted_map, is_accepted_model, has_plain_names}
+use Rattle.wb_first.specs.Accepted.{is_accepted, fits_mapped_sort, state_sort, states_are_mapped, inputs_are_mapped, all_states_mapped, all_inputs_mapped, declared_sort, are_states, is_initial_of, is_accepted_module, is_accepted_map, is_accepted_model, has_plain_names}
 use Rattle.wb_first.specs.Decided.{state_of, first_of_values}
 use Rattle.wb_first.proofs.Alike.{and_left, and_right}
 use Rattle.wb_first.proofs.Edge.{same_name_true}
@@ -14,12 +14,12 @@ use Rattle.wb_first.proofs.Rules.{keeps}
 use Rattle.first_terms.specs.Asked.{state_before, state_behind, input_at, point_at}
 use Rattle.first_terms.specs.Read.{IsOfKind, AreOfKind, is_bits}
 
-pub bits_fit : (f : First) (s : Sort) (e : Expression) → fits_sort f (Some s) e ≡ true → is_bits s ≡ true
+pub bits_fit : (f : First) (s : Sort) (e : Expression) → fits_mapped_sort f (Some s) e ≡ true → is_bits s ≡ true
 bits_fit f truth e h = refl
 bits_fit f (word w) e h = refl
 bits_fit f (memory a d) e h = absurd (let c : false ≡ true = h in cc)
 
-kind_fits : (f : First) (v : Valuation) (s : Sort) (e : Expression) → fits_sort f (Some s) e ≡ true → IsOfKind s (mapped_value (setting_of f) v s e)
+kind_fits : (f : First) (v : Valuation) (s : Sort) (e : Expression) → fits_mapped_sort f (Some s) e ≡ true → IsOfKind s (mapped_value (setting_of f) v s e)
 kind_fits f v truth e h = tt
 kind_fits f v (word w) e h = tt
 kind_fits f v (memory a d) e h = absurd (let c : false ≡ true = h in cc)
@@ -60,28 +60,28 @@ input_has es (i ∷ is) h n s is_s =
     ]) refl is_s
 
 state_fits : (f : First) (es : Entries Expression) → states_are_mapped f es ≡ true → (n : Name) (e : Expression) → entry_of es n ≡ Some e
-    → fits_sort f (state_sort (states_of f.model.top) n) e ≡ true
+    → fits_mapped_sort f (state_sort (states_of f.model.top) n) e ≡ true
 state_fits f [] h n e is_e = cc
 state_fits f (x ∷ es) h n e is_e =
     (elim (same_name x.0 n) as
-    (λ t. same_name x.0 n ≡ t → cond t (Some x.1) (entry_of es n) ≡ Some e → fits_sort f (state_sort (states_of f.model.top) n) e ≡ true) [
+    (λ t. same_name x.0 n ≡ t → cond t (Some x.1) (entry_of es n) ≡ Some e → fits_mapped_sort f (state_sort (states_of f.model.top) n) e ≡ true) [
       | true ↦ λ t some.
           let same : x.1 ≡ e = cc in
-          subst (λ m. fits_sort f (state_sort (states_of f.model.top) m) e ≡ true) (same_name_true x.0 n t)
-          (subst (λ g. fits_sort f (state_sort (states_of f.model.top) x.0) g ≡ true) same (and_right _ _ (and_left _ _ (and_left _ _ h))))
+          subst (λ m. fits_mapped_sort f (state_sort (states_of f.model.top) m) e ≡ true) (same_name_true x.0 n t)
+          (subst (λ g. fits_mapped_sort f (state_sort (states_of f.model.top) x.0) g ≡ true) same (and_right _ _ (and_left _ _ (and_left _ _ h))))
       | false ↦ λ t some. state_fits f es (and_right _ _ h) n e some
     ]) refl is_e
 
 input_fits : (f : First) (es : Entries Expression) → inputs_are_mapped f es ≡ true → (n : Name) (e : Expression) → entry_of es n ≡ Some e
-    → fits_sort f (sort_of_input f.model.inputs n) e ≡ true
+    → fits_mapped_sort f (sort_of_input f.model.inputs n) e ≡ true
 input_fits f [] h n e is_e = cc
 input_fits f (x ∷ es) h n e is_e =
     (elim (same_name x.0 n) as
-    (λ t. same_name x.0 n ≡ t → cond t (Some x.1) (entry_of es n) ≡ Some e → fits_sort f (sort_of_input f.model.inputs n) e ≡ true) [
+    (λ t. same_name x.0 n ≡ t → cond t (Some x.1) (entry_of es n) ≡ Some e → fits_mapped_sort f (sort_of_input f.model.inputs n) e ≡ true) [
       | true ↦ λ t some.
           let same : x.1 ≡ e = cc in
-          subst (λ m. fits_sort f (sort_of_input f.model.inputs m) e ≡ true) (same_name_true x.0 n t)
-          (subst (λ g. fits_sort f (sort_of_input f.model.inputs x.0) g ≡ true) same (and_right _ _ (and_left _ _ h)))
+          subst (λ m. fits_mapped_sort f (sort_of_input f.model.inputs m) e ≡ true) (same_name_true x.0 n t)
+          (subst (λ g. fits_mapped_sort f (sort_of_input f.model.inputs x.0) g ≡ true) same (and_right _ _ (and_left _ _ h)))
       | false ↦ λ t some. input_fits f es (and_right _ _ h) n e some
     ]) refl is_e
 
@@ -89,7 +89,7 @@ input_fits f (x ∷ es) h n e is_e =
 pub record IsGiven (f : First) (s : Sort) (es : Entries Expression) (n : Name) (value : Valuation → Value) : Type 0 where
   pub e : Expression
   pub entry : entry_of es n ≡ Some e
-  pub fits : fits_sort f (Some s) e ≡ true
+  pub fits : fits_mapped_sort f (Some s) e ≡ true
   pub same : (v : Valuation) → value v ≡ mapped_value (setting_of f) v s e
 
 pub state_given : (f : First) → is_accepted f ≡ true → (n : Name) (s : Sort) → state_sort (states_of f.model.top) n ≡ Some s
@@ -100,7 +100,7 @@ state_given f h n s is_s =
     record {
       e = found.0;
       entry = found.1;
-      fits = subst (λ o. fits_sort f o found.0 ≡ true) is_s (state_fits f f.map.states k.states n found.0 found.1);
+      fits = subst (λ o. fits_mapped_sort f o found.0 ≡ true) is_s (state_fits f f.map.states k.states n found.0 found.1);
       same = λ v.
           ap (λ o. mapped_or_zero (setting_of f) v o (entry_of f.map.states n)) (sym (sort_found (states_of f.model.top) n) ∙ is_s)
           ∙ ap (mapped_or_zero (setting_of f) v (Some s)) found.1;
@@ -114,7 +114,7 @@ input_given f h n s is_s =
     record {
       e = found.0;
       entry = found.1;
-      fits = subst (λ o. fits_sort f o found.0 ≡ true) is_s (input_fits f f.map.inputs k.inputs n found.0 found.1);
+      fits = subst (λ o. fits_mapped_sort f o found.0 ≡ true) is_s (input_fits f f.map.inputs k.inputs n found.0 found.1);
       same = λ v.
           ap (λ o. mapped_or_zero (setting_of f) v o (entry_of f.map.inputs n)) is_s
           ∙ ap (mapped_or_zero (setting_of f) v (Some s)) found.1;

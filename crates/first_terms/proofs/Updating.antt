@@ -6,7 +6,7 @@ use Rattle.model_meaning.specs.Term.{Term, sort_of}
 use Rattle.model_meaning.specs.Model.{Instruction, instructions_in, decode_of, states_of, valid_of}
 use Rattle.wb_terms.specs.Graph.{Graph}
 use Rattle.wb_first.specs.Names.{First}
-use Rattle.wb_first.specs.Accepted.{is_accepted, is_accepted_module, is_accepted_map, is_accepted_model, are_instructions, is_term_of, are_updates, updates_of, state_sort, has_plain_names}
+use Rattle.wb_first.specs.Accepted.{is_accepted, is_accepted_module, is_accepted_map, is_accepted_model, are_instructions, is_term_of, are_updates, update_entries, state_sort, has_plain_names}
 use Rattle.wb_first.proofs.Alike.{and_left, and_right}
 use Rattle.first_store.specs.Meaning.{Means}
 use Rattle.first_terms.specs.Asked.{result_of_at}
@@ -35,9 +35,9 @@ decode_at f h (x ∷ is) a zero i e = let here : x ≡ i = cc in subst (λ y. Is
 decode_at f h (x ∷ is) a (suc j) i e = decode_at f h is (and_right _ _ a) j i e
 
 updates_at : (f : First) (is : List Instruction) → are_instructions f is ≡ true → (j : ℕ) (i : Instruction) → slice_get is j ≡ Some i
-    → are_updates f (updates_of i) ≡ true
+    → are_updates f (update_entries i) ≡ true
 updates_at f [] a j i e = cc
-updates_at f (x ∷ is) a zero i e = let here : x ≡ i = cc in subst (λ y. are_updates f (updates_of y) ≡ true) here (and_right _ _ (and_left _ _ a))
+updates_at f (x ∷ is) a zero i e = let here : x ≡ i = cc in subst (λ y. are_updates f (update_entries y) ≡ true) here (and_right _ _ (and_left _ _ a))
 updates_at f (x ∷ is) a (suc j) i e = updates_at f is (and_right _ _ a) j i e
 
 pub instructions_kept : (f : First) → is_accepted f ≡ true → are_instructions f (instructions_in f.model.top) ≡ true
@@ -59,12 +59,12 @@ updating f g k j p n i s c at is sort =
 
 pub result_kind : (f : First) → is_accepted f ≡ true → (j : ℕ) (n : Name) (i : Instruction) (s : Sort) → slice_get (instructions_in f.model.top) j ≡ Some i
     → state_sort (states_of f.model.top) n ≡ Some s → AreOfKind f s (result_of_at f (Some i) n)
-result_kind f h j n i s is sort x fits = by_update (entry_of (updates_of i) n) refl
+result_kind f h j n i s is sort x fits = by_update (entry_of (update_entries i) n) refl
   where
-    by_update : (o : Option Term) → entry_of (updates_of i) n ≡ o → IsOfKind s (result_of_at f (Some i) n x)
+    by_update : (o : Option Term) → entry_of (update_entries i) n ≡ o → IsOfKind s (result_of_at f (Some i) n x)
     by_update (Some e) is_e =
         subst (IsOfKind s) (result_update f i n e is_e x)
-        (term_kind f s e (update_term f h (updates_of i) (updates_at f (instructions_in f.model.top) (instructions_kept f h) j i is) n s sort e is_e) x fits)
+        (term_kind f s e (update_term f h (update_entries i) (updates_at f (instructions_in f.model.top) (instructions_kept f h) j i is) n s sort e is_e) x fits)
     by_update None is_e = subst (IsOfKind s) (own_state f h n s sort x ∙ result_own f i n is_e x) (before_kind f h n s sort x fits)
 
 pub some_found : {A : Type 0} (o : Option A) → is_some o ≡ true → (y : A) × (Some y ≡ o)

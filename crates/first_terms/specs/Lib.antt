@@ -1,3 +1,5 @@
+pub mod Claims
+pub mod Commit
 pub mod Tables
 pub mod Asked
 pub mod Kept

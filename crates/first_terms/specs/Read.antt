@@ -9,7 +9,7 @@ use Rattle.verilog_trees.specs.Syntax.{Expression}
 use Rattle.refinement.specs.Obligation.{Fact, assumed, invariant, ends, result_of}
 use Rattle.wb_terms.specs.Graph.{Graph}
 use Rattle.wb_first.specs.Names.{First}
-use Rattle.wb_first.specs.Accepted.{is_accepted, is_map_expression, fits_sort, has_declared_names}
+use Rattle.wb_first.specs.Accepted.{is_accepted, is_map_expression, fits_mapped_sort, has_declared_names}
 use Rattle.wb_first.specs.Claims.{AreValues}
 use Rattle.wb_terms.specs.declared.nodes.TermId.{TermId}
 use Rattle.first_store.specs.Meaning.{Means}
@@ -26,7 +26,7 @@ pub record IsReadable (f : First) (g : Graph) (ids : Name → Option ℕ) (value
 -- each entry is an expression of the map, of the width of its name's sort
 abbrev pub are_mapped : First → (Name → Option Sort) → Entries Expression → Bool
 are_mapped f sorts [] = true
-are_mapped f sorts (e ∷ es) = is_map_expression f e.1 && fits_sort f (sorts e.0) e.1 && are_mapped f sorts es
+are_mapped f sorts (e ∷ es) = is_map_expression f e.1 && fits_mapped_sort f (sorts e.0) e.1 && are_mapped f sorts es
 
 -- entries of the map may be read
 pub record IsReading (f : First) (g : Graph) (ids : Name → Option ℕ) (values : Valuation → Valuation) (sorts : Name → Option Sort) (es : Entries Expression) : Type 0 where

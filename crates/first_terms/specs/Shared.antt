@@ -8,7 +8,7 @@ use Rattle.refinement.specs.Map.{sort_of_input}
 use Rattle.wb_terms.specs.declared.nodes.TermId.{TermId}
 use Rattle.first_json.specs.ModelView.{state_view, term_view}
 use Rattle.wb_first.specs.Names.{First, is_declared, bits_of_name}
-use Rattle.wb_first.specs.Accepted.{is_accepted, state_sort, are_updates, updates_of}
+use Rattle.wb_first.specs.Accepted.{is_accepted, state_sort, are_updates, update_entries}
 use Rattle.wb_first.specs.Decided.{first_of_values}
 use Rattle.wb_terms.specs.Graph.{Graph}
 use Rattle.first_store.specs.Meaning.{Means}
@@ -41,7 +41,7 @@ HasSymbols M f ids values =
 pub record IsPrepared (M : Saying) (f : First) (i : Instruction) (p : Prepared) : Type 0 where
   pub decode : M p.decode.0 truth (λ x. truth_value (held_at f (decode_of i) x))
   pub commit : M p.commit.0 truth (λ x. truth_value (committed_at f (Some i) x))
-  pub updates : (q : Name) → option_map (λ e. term_view e.now) (under_name p.updates q) ≡ entry_of (updates_of i) q
+  pub updates : (q : Name) → option_map (λ e. term_view e.now) (under_name p.updates q) ≡ entry_of (update_entries i) q
 
 abbrev pub ArePrepared : Saying → First → List Instruction → List Prepared → Type 0
 ArePrepared M f [] [] = ⊤
@@ -67,5 +67,5 @@ pub record IsUpdating (f : First) (g : Graph) (p : Point) (q : Prepared) (n : Na
   pub accepted : is_accepted f ≡ true
   pub point : HasPoint (Means f g) f p
   pub prepared : IsPrepared (Means f g) f i q
-  pub updates : are_updates f (updates_of i) ≡ true
+  pub updates : are_updates f (update_entries i) ≡ true
   pub sort : state_sort (states_of f.model.top) n ≡ Some s

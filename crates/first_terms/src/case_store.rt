@@ -2,7 +2,7 @@
 
 ghost use Rattle.std.specs.Prelude.{◌≡◌, ℕ, ◌<◌, length, not, IfOk};
 ghost use Rattle.model_meaning.specs.Model.{instructions_in};
-ghost use Rattle.first_facts.specs.View.{obligation_of};
+ghost use Rattle.first_terms.specs.Claims.{obligation_of};
 ghost use Rattle.wb_first.specs.CaseView.{case_of};
 ghost use Rattle.wb_first.specs.Claims.{IsObligation};
 ghost use Rattle.wb_first.specs.Decided.{is_broken_by, is_command_by};
@@ -10,10 +10,10 @@ ghost use Rattle.first_store.specs.Meaning.{MeansTruth};
 ghost use Rattle.first_terms.specs.Ready.{IsReady};
 
 use crate::NoMemory;
+use crate::claims::Obligation;
 use crate::obligations::{no_command, unbroken};
 use crate::preparing::shared_terms;
 use crate::shared::Shared;
-use first_facts::Obligation;
 use first_symbols::Symbols;
 use std::alloc::Global;
 use wb_first::FirstCase;

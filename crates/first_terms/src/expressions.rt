@@ -4,7 +4,7 @@ ghost use Rattle.std.specs.Prelude.{◌≡◌, ℕ, ◌≤◌, true, Some, IfOk}
 ghost use Rattle.wb_values.specs.Value.{word, Valuation};
 ghost use Rattle.wb_terms.specs.Graph.{Graph};
 ghost use Rattle.wb_first.specs.Names.{First, is_declared};
-ghost use Rattle.wb_first.specs.Accepted.{map_width, fits_sort};
+ghost use Rattle.wb_first.specs.Accepted.{map_width, fits_mapped_sort};
 ghost use Rattle.first_json.specs.ModelView.{sort_view};
 ghost use Rattle.first_json.specs.View.{expression_of};
 ghost use Rattle.first_store.specs.Meaning.{Grows, IsOfSort, Means, MeansTruth, MeansNumber};
@@ -77,7 +77,7 @@ pub(crate) fn mapped_value<'a>(
     ensures grows { Grows terms.old terms.new }
     ensures meaning { IfOk result (λ r. (f : First) (values : Valuation → Valuation)
         → IsReadable f terms.old (ids_of symbols.now) values (expression_of expression.now)
-        → fits_sort f (Some (sort_view sort)) (expression_of expression.now) ≡ true
+        → fits_mapped_sort f (Some (sort_view sort)) (expression_of expression.now) ≡ true
         → Means f terms.new r.0 (sort_view sort) (mapped_at f values (sort_view sort) (expression_of expression.now))) }
 {
     match sort {

@@ -2,6 +2,7 @@
 #![tactic(auto)]
 
 mod case_store;
+mod claims;
 mod decoding;
 mod expressions;
 mod facts;
@@ -13,4 +14,5 @@ mod shared;
 mod tables;
 
 pub use case_store::{CaseTerms, case_terms};
+pub use claims::{Fact, Obligation};
 pub use first_store::NoMemory;

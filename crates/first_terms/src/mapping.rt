@@ -3,7 +3,7 @@
 ghost use Rattle.std.specs.Prelude.{◌≡◌, true, Some, IfOk, map, option_map, string_bytes};
 ghost use Rattle.wb_values.specs.Value.{Sort, Valuation};
 ghost use Rattle.wb_first.specs.Names.{First};
-ghost use Rattle.wb_first.specs.Accepted.{fits_sort};
+ghost use Rattle.wb_first.specs.Accepted.{fits_mapped_sort};
 ghost use Rattle.first_json.specs.ModelView.{sort_view};
 ghost use Rattle.first_json.specs.View.{expression_of, entry_of_mapped};
 ghost use Rattle.first_store.specs.Meaning.{Grows, Means};
@@ -30,12 +30,12 @@ fn entry_term<'a>(
 ) -> Result<TermId, NoMemory>
     requires { (f : First) × (values : Valuation → Valuation)
         × IsReadable f terms.old (ids_of symbols.now) values (expression_of entry.now.expression)
-        × (fits_sort f (option_map sort_view (under_name sorts.now (string_bytes entry.now.name))) (expression_of entry.now.expression) ≡ true) }
+        × (fits_mapped_sort f (option_map sort_view (under_name sorts.now (string_bytes entry.now.name))) (expression_of entry.now.expression) ≡ true) }
     ensures grows { Grows terms.old terms.new }
     ensures meaning { IfOk result (λ r. (f : First) (values : Valuation → Valuation) (s : Sort)
         → IsReadable f terms.old (ids_of symbols.now) values (expression_of entry.now.expression)
         → option_map sort_view (under_name sorts.now (string_bytes entry.now.name)) ≡ Some s
-        → fits_sort f (Some s) (expression_of entry.now.expression) ≡ true
+        → fits_mapped_sort f (Some s) (expression_of entry.now.expression) ≡ true
         → Means f terms.new r.0 s (mapped_at f values s (expression_of entry.now.expression))) }
 {
     match sorts.get(entry.name.as_bytes()) {

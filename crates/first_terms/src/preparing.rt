@@ -16,7 +16,7 @@ ghost use Rattle.wb_first.specs.Accepted.{state_sort};
 ghost use Rattle.model_meaning.specs.Model.{states_of};
 ghost use Rattle.refinement.specs.Map.{instruction_map};
 ghost use Rattle.first_json.specs.View.{expression_of};
-ghost use Rattle.first_facts.specs.Commit.{commit_of};
+ghost use Rattle.first_terms.specs.Commit.{commit_of};
 ghost use Rattle.first_terms.specs.Tables.{under_name};
 
 use crate::NoMemory;

@@ -8,7 +8,7 @@ ghost use Rattle.wb_values.specs.Choice.{first_of};
 ghost use Rattle.wb_first.specs.Accepted.{state_sort};
 ghost use Rattle.first_json.specs.ModelView.{sort_view, state_view, input_view, term_view, update_view};
 ghost use Rattle.first_json.specs.View.{expression_of, instruction_map_of};
-ghost use Rattle.first_facts.specs.Commit.{commit_of};
+ghost use Rattle.first_terms.specs.Commit.{commit_of};
 ghost use Rattle.first_terms.specs.Tables.{under_name};
 
 use crate::NoMemory;

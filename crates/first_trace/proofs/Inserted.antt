@@ -7,7 +7,7 @@ use Rattle.reports.specs.Report.{is_before, is_in_order}
 use Rattle.verilog_trees.specs.Syntax.{input}
 use Rattle.first_text.specs.Tree.{Action, set, sequence, when, when_else, Actions, no_actions, action, Port, Part, register, assignment, clocked}
 use Rattle.wb_first.specs.Names.{port_named, has_direction, same_direction, sets, one_sets, is_set_among}
-use Rattle.wb_first.specs.Accepted.{is_among, are_distinct, port_names}
+use Rattle.wb_first.specs.Accepted.{is_one_of, all_differ, port_names}
 use Rattle.wb_first.proofs.Alike.{and_left, and_right}
 use Rattle.wb_first.proofs.Edge.{same_name_true}
 use Rattle.first_trace.specs.Traced.{with_name, with_set, with_all_set, with_parts, with_port, with_ports}
@@ -86,16 +86,16 @@ either true false r = refl
 either false true r = refl
 either false false r = refl
 
-pub name_among : (n k : Name) (ms : List Name) → is_among (with_name n ms) k ≡ (same_name n k || is_among ms k)
+pub name_among : (n k : Name) (ms : List Name) → is_one_of (with_name n ms) k ≡ (same_name n k || is_one_of ms k)
 name_among n k [] = refl
 name_among n k (m ∷ ms) = by_same (same_name m n) (is_before m n) refl (name_among n k ms)
   where
-    by_same : (s t : Bool) → same_name m n ≡ s → is_among (with_name n ms) k ≡ (same_name n k || is_among ms k)
-        → is_among (cond s (m ∷ ms) (cond t (m ∷ with_name n ms) (n ∷ m ∷ ms))) k ≡ (same_name n k || (same_name m k || is_among ms k))
+    by_same : (s t : Bool) → same_name m n ≡ s → is_one_of (with_name n ms) k ≡ (same_name n k || is_one_of ms k)
+        → is_one_of (cond s (m ∷ ms) (cond t (m ∷ with_name n ms) (n ∷ m ∷ ms))) k ≡ (same_name n k || (same_name m k || is_one_of ms k))
     by_same true t e later =
-        ap (λ q. same_name q k || is_among ms k) (same_name_true m n e)
-        ∙ (twice (same_name n k) (is_among ms k) ∙ ap (λ q. same_name n k || (same_name q k || is_among ms k)) (sym (same_name_true m n e)))
-    by_same false true e later = ap (λ r. same_name m k || r) later ∙ swapped (same_name m k) (same_name n k) (is_among ms k)
+        ap (λ q. same_name q k || is_one_of ms k) (same_name_true m n e)
+        ∙ (twice (same_name n k) (is_one_of ms k) ∙ ap (λ q. same_name n k || (same_name q k || is_one_of ms k)) (sym (same_name_true m n e)))
+    by_same false true e later = ap (λ r. same_name m k || r) later ∙ swapped (same_name m k) (same_name n k) (is_one_of ms k)
     by_same false false e later = refl
 
 -- ---- what the clocked blocks assign
@@ -112,18 +112,18 @@ mutual
   all_set_in_order (action a list) ms h = all_set_in_order list (with_set a ms) (set_in_order a ms h)
 
 mutual
-  set_among : (a : Action) (ms : List Name) (k : Name) → is_among (with_set a ms) k ≡ (sets a k || is_among ms k)
+  set_among : (a : Action) (ms : List Name) (k : Name) → is_one_of (with_set a ms) k ≡ (sets a k || is_one_of ms k)
   set_among (set n e) ms k = name_among n k ms
   set_among (sequence list) ms k = all_set_among list ms k
   set_among (when c a) ms k = set_among a ms k
   set_among (when_else c a b) ms k =
-      set_among b (with_set a ms) k ∙ (ap (λ r. sets b k || r) (set_among a ms k) ∙ either (sets a k) (sets b k) (is_among ms k))
+      set_among b (with_set a ms) k ∙ (ap (λ r. sets b k || r) (set_among a ms k) ∙ either (sets a k) (sets b k) (is_one_of ms k))
 
-  all_set_among : (list : Actions) (ms : List Name) (k : Name) → is_among (with_all_set list ms) k ≡ (one_sets list k || is_among ms k)
+  all_set_among : (list : Actions) (ms : List Name) (k : Name) → is_one_of (with_all_set list ms) k ≡ (one_sets list k || is_one_of ms k)
   all_set_among no_actions ms k = refl
   all_set_among (action a list) ms k =
       all_set_among list (with_set a ms) k
-      ∙ (ap (λ r. one_sets list k || r) (set_among a ms k) ∙ either (sets a k) (one_sets list k) (is_among ms k))
+      ∙ (ap (λ r. one_sets list k || r) (set_among a ms k) ∙ either (sets a k) (one_sets list k) (is_one_of ms k))
 
 pub parts_in_order : (ps : List Part) (ms : List Name) → is_in_order ms ≡ true → is_in_order (with_parts ps ms) ≡ true
 parts_in_order [] ms h = h
@@ -131,13 +131,13 @@ parts_in_order (register b n ∷ ps) ms h = parts_in_order ps ms h
 parts_in_order (assignment n e ∷ ps) ms h = parts_in_order ps ms h
 parts_in_order (clocked s a ∷ ps) ms h = parts_in_order ps (with_set a ms) (set_in_order a ms h)
 
-pub parts_among : (ps : List Part) (ms : List Name) (k : Name) → is_among (with_parts ps ms) k ≡ (is_set_among ps k || is_among ms k)
+pub parts_among : (ps : List Part) (ms : List Name) (k : Name) → is_one_of (with_parts ps ms) k ≡ (is_set_among ps k || is_one_of ms k)
 parts_among [] ms k = refl
 parts_among (register b n ∷ ps) ms k = parts_among ps ms k
 parts_among (assignment n e ∷ ps) ms k = parts_among ps ms k
 parts_among (clocked s a ∷ ps) ms k =
     parts_among ps (with_set a ms) k
-    ∙ (ap (λ r. is_set_among ps k || r) (set_among a ms k) ∙ either (sets a k) (is_set_among ps k) (is_among ms k))
+    ∙ (ap (λ r. is_set_among ps k || r) (set_among a ms k) ∙ either (sets a k) (is_set_among ps k) (is_one_of ms k))
 
 -- ---- the inputs but the clock
 
@@ -161,21 +161,21 @@ asked clock [] k = false
 asked clock (p ∷ ps) k = (is_asked clock p && same_name p.own_name k) || asked clock ps k
 
 port_among : (clock : Name) (p : Port) (ms : List Name) (k : Name)
-    → is_among (with_port clock p ms) k ≡ ((is_asked clock p && same_name p.own_name k) || is_among ms k)
+    → is_one_of (with_port clock p ms) k ≡ ((is_asked clock p && same_name p.own_name k) || is_one_of ms k)
 port_among clock p ms k =
-    elim (is_asked clock p) as (λ t. is_among (cond t (with_name p.own_name ms) ms) k ≡ ((t && same_name p.own_name k) || is_among ms k)) [
+    elim (is_asked clock p) as (λ t. is_one_of (cond t (with_name p.own_name ms) ms) k ≡ ((t && same_name p.own_name k) || is_one_of ms k)) [
       | true ↦ name_among p.own_name k ms
       | false ↦ refl
     ]
 
-ports_asked : (clock : Name) (ps : List Port) (ms : List Name) (k : Name) → is_among (with_ports clock ps ms) k ≡ (asked clock ps k || is_among ms k)
+ports_asked : (clock : Name) (ps : List Port) (ms : List Name) (k : Name) → is_one_of (with_ports clock ps ms) k ≡ (asked clock ps k || is_one_of ms k)
 ports_asked clock [] ms k = refl
 ports_asked clock (p ∷ ps) ms k =
     ports_asked clock ps (with_port clock p ms) k
     ∙ (ap (λ r. asked clock ps k || r) (port_among clock p ms k)
-    ∙ either (is_asked clock p && same_name p.own_name k) (asked clock ps k) (is_among ms k))
+    ∙ either (is_asked clock p && same_name p.own_name k) (asked clock ps k) (is_one_of ms k))
 
-none_asked : (clock : Name) (ps : List Port) (k : Name) → is_among (port_names ps) k ≡ false → asked clock ps k ≡ false
+none_asked : (clock : Name) (ps : List Port) (k : Name) → is_one_of (port_names ps) k ≡ false → asked clock ps k ≡ false
 none_asked clock [] k h = refl
 none_asked clock (p ∷ ps) k h =
     let here : same_name p.own_name k ≡ false = or_left _ _ h in
@@ -187,7 +187,7 @@ none_asked clock (p ∷ ps) k h =
     no false = refl
 
 -- with distinct names it is the first port of the name
-first_asked : (clock : Name) (ps : List Port) (k : Name) → are_distinct (port_names ps) ≡ true
+first_asked : (clock : Name) (ps : List Port) (k : Name) → all_differ (port_names ps) ≡ true
     → asked clock ps k ≡ (has_direction input (port_named ps k) && not (same_name k clock))
 first_asked clock [] k h = refl
 first_asked clock (p ∷ ps) k h = by_same (same_name p.own_name k) refl (first_asked clock ps k (and_right _ _ h))
@@ -212,7 +212,7 @@ first_asked clock (p ∷ ps) k h = by_same (same_name p.own_name k) refl (first_
     by_same true e later =
         let same : p.own_name ≡ k = same_name_true p.own_name k e in
         alone (same_direction p.direction input) (not (same_name p.own_name clock)) (asked clock ps k)
-        (none_asked clock ps k (subst (λ q. is_among (port_names ps) q ≡ false) same (not_true _ (and_left _ _ h))))
+        (none_asked clock ps k (subst (λ q. is_one_of (port_names ps) q ≡ false) same (not_true _ (and_left _ _ h))))
         ∙ ap (λ q. same_direction p.direction input && not (same_name q clock)) same
     by_same false e later = none (is_asked clock p) (asked clock ps k) ∙ later
 
@@ -220,9 +220,9 @@ or_false : (b : Bool) → (b || false) ≡ b
 or_false true = refl
 or_false false = refl
 
-pub inputs_among : (clock : Name) (ps : List Port) (k : Name) → are_distinct (port_names ps) ≡ true
-    → is_among (with_ports clock ps []) k ≡ (has_direction input (port_named ps k) && not (same_name k clock))
+pub inputs_among : (clock : Name) (ps : List Port) (k : Name) → all_differ (port_names ps) ≡ true
+    → is_one_of (with_ports clock ps []) k ≡ (has_direction input (port_named ps k) && not (same_name k clock))
 inputs_among clock ps k h = ports_asked clock ps [] k ∙ (or_false (asked clock ps k) ∙ first_asked clock ps k h)
 
-pub registers_among : (ps : List Part) (k : Name) → is_among (with_parts ps []) k ≡ is_set_among ps k
+pub registers_among : (ps : List Part) (k : Name) → is_one_of (with_parts ps []) k ≡ is_set_among ps k
 registers_among ps k = parts_among ps [] k ∙ or_false (is_set_among ps k)

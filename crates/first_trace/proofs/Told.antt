@@ -11,7 +11,7 @@ use Rattle.refinement.specs.Obligation.{obligations}
 use Rattle.reports.specs.Report.{is_in_order, IsRegister, IsInput, StandsFor, AreEntriesOf}
 use Rattle.first_text.specs.Tree.{Port, module_tree}
 use Rattle.wb_first.specs.Names.{First, setting_of, is_register, is_input, is_declared, is_variable, has_direction, port_named, scope_of_first}
-use Rattle.wb_first.specs.Accepted.{is_accepted, is_among, are_distinct, port_names, is_data, is_source}
+use Rattle.wb_first.specs.Accepted.{is_accepted, is_one_of, all_differ, port_names, is_data, is_source}
 use Rattle.wb_first.specs.Claims.{AreValues}
 use Rattle.wb_first.proofs.Alike.{and_left, and_right}
 use Rattle.wb_first.proofs.Rules.{Keeps, keeps}
@@ -29,10 +29,10 @@ names_at : (v : Valuation) (ns : List Name) → names_of (entries_at v ns) ≡ n
 names_at v [] = refl
 names_at v (n ∷ ns) = ap (λ ms. n ∷ ms) (names_at v ns)
 
-found_at : (v : Valuation) (ns : List Name) (n : Name) → is_some (entry_of (entries_at v ns) n) ≡ is_among ns n
+found_at : (v : Valuation) (ns : List Name) (n : Name) → is_some (entry_of (entries_at v ns) n) ≡ is_one_of ns n
 found_at v [] n = refl
 found_at v (m ∷ ns) n =
-    elim (same_name m n) as (λ t. is_some (cond t (Some (v m)) (entry_of (entries_at v ns) n)) ≡ (t || is_among ns n)) [
+    elim (same_name m n) as (λ t. is_some (cond t (Some (v m)) (entry_of (entries_at v ns) n)) ≡ (t || is_one_of ns n)) [
       | true ↦ refl
       | false ↦ found_at v ns n
     ]
@@ -105,19 +105,19 @@ module _ (f : First) (k : Keeps f) where
       by_same false e = refl
 
 are_entries : (s : Setting) (W : Name → Type 0) (ns : List Name) (v w : Valuation) → is_in_order ns ≡ true
-    → ((n : Name) → is_among ns n ≡ true → W n) → ((n : Name) → W n → is_among ns n ≡ true)
+    → ((n : Name) → is_one_of ns n ≡ true → W n) → ((n : Name) → W n → is_one_of ns n ≡ true)
     → ((n : Name) → W n → (x : ℕ) × (v n ≡ number x)) → ((n : Name) → W n → v n ≡ w n) → AreEntriesOf s W (entries_at v ns) w
 are_entries s W ns v w ordered is_wanted among numbers same = record {
   in_order = ap is_in_order (names_at v ns) ∙ ordered;
   wanted = λ n. (λ h. is_wanted n (sym (found_at v ns n) ∙ h), λ h. found_at v ns n ∙ among n h);
   values = λ n x e.
-      let there : is_among ns n ≡ true = sym (found_at v ns n) ∙ ap is_some e in
+      let there : is_one_of ns n ≡ true = sym (found_at v ns n) ∙ ap is_some e in
       let is_x : x ≡ v n = value_at v ns n x e in
       let one = numbers n (is_wanted n there) in
       stands (word_count (map_scope s n)) x (w n) (one.0, is_x ∙ one.1) (is_x ∙ same n (is_wanted n there));
 }
 
-distinct_ports : (f : First) → is_accepted f ≡ true → are_distinct (port_names f.design.ports) ≡ true
+distinct_ports : (f : First) → is_accepted f ≡ true → all_differ (port_names f.design.ports) ≡ true
 distinct_ports f h =
     let m = and_left _ _ (and_left _ _ (and_left _ _ h)) in
     let m14 = and_left _ _ m in

@@ -13,7 +13,7 @@ use Rattle.ila_model.specs.declared.parts.ChildId.{ChildId}
 use Rattle.ila_build.specs.Standing.{IsFresh, IsTable, IsKept, IsWider}
 use Rattle.ila_build.specs.Knowing.{are_right, defined_names}
 use Rattle.ila_build.specs.Declaring.{state_entry}
-use Rattle.ila_build.specs.Building.{IsMachineRight, IsInside, IsChildPut, definitions_in, instructions_in}
+use Rattle.ila_build.specs.Building.{IsMachineRight, IsInside, IsChildPut, definitions_in, own_instructions}
 use Rattle.ila_build.specs.Inside.{program_in}
 use Rattle.ila_build.specs.Refusing.{IsNoRefusal, IsBesides, IsMachineDue, IsChildDue, AreBelowDue, IsProgramDue, AreFitBelow, IsFitChild, entry_names, are_sorts, names_below, names_of_child}
 use Rattle.ila_build.proofs.Definitions.{knows_kept}
@@ -37,7 +37,7 @@ joined-append (x ∷ xs) ys = ap (λ ns. data_names x ++ ns) (joined-append xs y
 pub first_names : (i : WrittenInstruction) (is : WrittenInstructions) → names_below (and_then i is) ≡ names_of_child (program_in i) ++ names_below is
 first_names (instruction n d u p) is = joined-append (machines_of_child p) (machines_below is)
 
-pub program_names : (steps : ℕ) (m : WrittenMachine) → names_of_child (child steps m) ≡ data_names m ++ names_below (instructions_in m)
+pub program_names : (steps : ℕ) (m : WrittenMachine) → names_of_child (child steps m) ≡ data_names m ++ names_below (own_instructions m)
 program_names steps (machine ss ds f v is) = refl
 
 pub first_fit : (i : WrittenInstruction) (is : WrittenInstructions) → AreFitBelow (and_then i is) → IsFitChild (program_in i) × AreFitBelow is
@@ -90,7 +90,7 @@ own_child_lost g t steps (machine ss ds f v is) s n =
     }) n
 
 pub below_lost : (g h : Graph) (t r : BTreeMap (Bor (List ℕ)) TermId) (links : List (Option ChildId)) (steps : ℕ) (w : WrittenMachine) (c : Child) (s : PutStop)
-    → IsChildPut g t h r links w c → IsBesides t r (data_names w) → IsNoRefusal s (AreBelowDue h r (instructions_in w)) → IsNoRefusal s (IsProgramDue g t (child steps w))
+    → IsChildPut g t h r links w c → IsBesides t r (data_names w) → IsNoRefusal s (AreBelowDue h r (own_instructions w)) → IsNoRefusal s (IsProgramDue g t (child steps w))
 unfolding IsChildPut
 below_lost g h t r links steps (machine ss ds f v is) c s put besides n =
     unrefused_by _ (IsProgramDue g t (child steps (machine ss ds f v is))) s

@@ -20,7 +20,7 @@ use Rattle.ila_model.specs.Meaning.{machine_of, program_at, program_of}
 use Rattle.ila_build.specs.Standing.{IsWider, IsKept, IsTable}
 use Rattle.ila_build.specs.Knowing.{Knows, is_right, are_right}
 use Rattle.ila_build.specs.Updating.{entry_at, StandAt}
-use Rattle.ila_build.specs.Building.{instructions_in, names_in, AreOwnRight, IsMachineRight, IsMachine, IsInside, IsChildPut}
+use Rattle.ila_build.specs.Building.{own_instructions, names_in, AreOwnRight, IsMachineRight, IsMachine, IsInside, IsChildPut}
 use Rattle.ila_build.specs.Inside.{program_in, link_from, links_from, HasMore, StandsForChild, StandForChildren, IsProgramPut, AreChildrenPut}
 use Rattle.ila_build.proofs.Growing.{widen, wide_same}
 use Rattle.ila_build.proofs.Definitions.{first_right, knows_kept, kept_same, kept_onward}
@@ -82,7 +82,7 @@ pub machine_wider : (g h : Graph) (names : Entries Visible) (ss : List StateDecl
 machine_wider g h names ss links m v xs b a = record {
   within = omega (arith, a.within, b.longer);
   valid_tree = b.trees v.0 a.within ∙ a.valid_tree;
-  instructions = instructions_wider g h (names_in names m) ss links 0 (instructions_in m) xs b a.instructions;
+  instructions = instructions_wider g h (names_in names m) ss links 0 (own_instructions m) xs b a.instructions;
 }
 
 -- ---- lists of children
@@ -133,7 +133,7 @@ linked g h cs behind scope l k before (and_then (instruction n e u p) is) b d s 
 
 -- A child whose own terms were put, and behind it the children inside it.
 program_stands : (g h m : Graph) (t r u : BTreeMap (Bor (List ℕ)) TermId) (links : List (Option ChildId)) (cs mid ds : List Child) (w : WrittenMachine) (c : Child)
-    → IsChildPut g t h r links w c → mid ≡ cs ++ c ∷ [] → links ≡ links_from (suc (length cs)) (instructions_in w) → AreChildrenPut h r mid m u ds (instructions_in w)
+    → IsChildPut g t h r links w c → mid ≡ cs ++ c ∷ [] → links ≡ links_from (suc (length cs)) (own_instructions w) → AreChildrenPut h r mid m u ds (own_instructions w)
     → (scope : Scope) (ks : List ℕ) → Knows g t None scope.names → StandAt g 0 ks scope.states → are_right (terms_in scope w) ≡ true → StandsForChild m ds scope (Some (record { 0 = length cs })) (child c.steps w)
 unfolding IsChildPut
 program_stands g h m t r u links cs mid ds w c put em el inside scope ks k s right n behind zero b d = absurd (omega (arith, d))
@@ -156,8 +156,8 @@ program_stands g h m t r u links cs mid ds (machine ss es f v is) c put em el in
     ap (λ xs. program_at n program xs (length cs)) list ∙ (program_there n program cs c (inside.longer.more ++ behind) ∙ ap (pure.child c.steps) whole)
 
 pub program_put : (g h m : Graph) (t r u : BTreeMap (Bor (List ℕ)) TermId) (links : List (Option ChildId)) (cs mid ds : List Child) (w : WrittenMachine) (steps : ℕ) (c : Child)
-    → IsWider g h → IsKept t r → c.steps ≡ steps → IsChildPut g t h r links w c → mid ≡ cs ++ c ∷ [] → links ≡ links_from (suc (length cs)) (instructions_in w)
-    → AreChildrenPut h r mid m u ds (instructions_in w) → IsProgramPut g t cs m u ds (child steps w)
+    → IsWider g h → IsKept t r → c.steps ≡ steps → IsChildPut g t h r links w c → mid ≡ cs ++ c ∷ [] → links ≡ links_from (suc (length cs)) (own_instructions w)
+    → AreChildrenPut h r mid m u ds (own_instructions w) → IsProgramPut g t cs m u ds (child steps w)
 program_put g h m t r u links cs mid ds (machine ss es f v is) steps c wide keep es' put em el inside =
     let w = machine ss es f v is in
     let one : HasMore cs 1 mid = record { more = c ∷ []; list = em; count = omega (arith, ap length em, length-append cs (c ∷ [])) } in

@@ -19,7 +19,7 @@ use Rattle.ila_build.specs.Standing.{IsWider}
 use Rattle.ila_build.specs.Knowing.{Knows, are_right}
 use Rattle.ila_build.specs.Updating.{StandAt}
 use Rattle.ila_build.specs.Declaring.{state_entry}
-use Rattle.ila_build.specs.Building.{IsMachine, IsInside, IsChildPut, instructions_in}
+use Rattle.ila_build.specs.Building.{IsMachine, IsInside, IsChildPut, own_instructions}
 use Rattle.ila_build.specs.Inside.{links_from, program_in, IsProgramPut}
 use Rattle.ila_build.specs.Layout.{IsDeclaredAt, IsLaid, AreLaid, IsLaidOf, IsLaidChild, AreLaidIn, AreLaidPut, IsLaidPut}
 use Rattle.ila_build.proofs.Growing.{widen, wide_same}
@@ -44,7 +44,7 @@ laid_child_wider g h scope at k steps m c b l = record {
   declared = declared_wider g h c.first.0 (map state_entry (states_in m)) b l.declared;
   places = l.places;
   stand = stand_wider g h 0 l.places (scope.states ++ states_in m) b l.stand;
-  own = machine_wider g h (with_states scope.names (states_in m)) (scope.states ++ states_in m) (links_from (suc k) (instructions_in m)) m c.valid c.instructions.items b l.own;
+  own = machine_wider g h (with_states scope.names (states_in m)) (scope.states ++ states_in m) (links_from (suc k) (own_instructions m)) m c.valid c.instructions.items b l.own;
 }
 
 mutual
@@ -78,9 +78,9 @@ placed_append a b c (x ∷ xs) ys p q =
 -- ---- a child and those inside it
 
 pub program_laid : (g h m : Graph) (t r : BTreeMap (Bor (List ℕ)) TermId) (links : List (Option ChildId)) (cs mid ds : List Child) (at inner : Option ChildId) (w : WrittenMachine) (steps : ℕ) (c : Child)
-    → IsChildPut g t h r links w c → mid ≡ cs ++ c ∷ [] → links ≡ links_from (suc (length cs)) (instructions_in w) → inner ≡ Some (record { 0 = length cs })
+    → IsChildPut g t h r links w c → mid ≡ cs ++ c ∷ [] → links ≡ links_from (suc (length cs)) (own_instructions w) → inner ≡ Some (record { 0 = length cs })
     → c.around ≡ at → c.steps ≡ steps → c.first.0 ≡ length g.names → h.names ≡ g.names ++ map state_entry (states_in w) → map (option_map as_value) c.initial_values.items ≡ map (λ s. s.init) (states_in w)
-    → IsWider h m → AreLaidPut h r mid m ds inner (instructions_in w) → IsLaidPut g t cs m ds at (child steps w)
+    → IsWider h m → AreLaidPut h r mid m ds inner (own_instructions w) → IsLaidPut g t cs m ds at (child steps w)
 unfolding IsChildPut
 program_laid g h m t r links cs mid ds at inner (machine ss es f v is) steps c put em el ei around limit first names values wide inside =
     let w = machine ss es f v is in

@@ -21,7 +21,7 @@ use Rattle.ila_model.specs.declared.parts.Child.{Child}
 use Rattle.ila_build.specs.Standing.{IsIn, AreIn, IsGrown, IsKept, IsPut, IsWider, under_name}
 use Rattle.ila_build.specs.Knowing.{defined_names}
 use Rattle.ila_build.specs.Declaring.{state_entry}
-use Rattle.ila_build.specs.Building.{decode_in, update_in, definitions_in, fetch_in, valid_in, instructions_in}
+use Rattle.ila_build.specs.Building.{decode_in, update_in, definitions_in, fetch_in, valid_in, own_instructions}
 use Rattle.ila_build.specs.Inside.{program_in}
 use Rattle.ila_build.specs.Refusing.{IsBesides, entry_names, names_below, names_of_child}
 use Rattle.ila_build.specs.Leaving.{IsLeft, HasInFront}
@@ -199,11 +199,11 @@ updates_added a b c (instruction n e us p) at d vs q r h k = let s = sized a b a
 pub fetch_added : (a b : ℕ) (at : Name → Option TermId) (w : WrittenTerm) (f : Option WrittenTerm) → f ≡ Some w → b ≤ a + terms_for at w → b ≤ a + fetch_size f
 fetch_added a b at w f e h = let s = sized a b at w h in let z = ap fetch_size e in omega (arith, s, z)
 
-machine_parts : (w : WrittenMachine) → own_size w ≡ sizes_of (definitions_in w) + (fetch_size (fetch_in w) + (size_of (valid_in w) + instruction_sizes (instructions_in w)))
+machine_parts : (w : WrittenMachine) → own_size w ≡ sizes_of (definitions_in w) + (fetch_size (fetch_in w) + (size_of (valid_in w) + instruction_sizes (own_instructions w)))
 machine_parts (machine ss ds f v is) = refl
 
 pub machine_left : (g d h : Graph) (t u : BTreeMap (Bor (List ℕ)) TermId) (w : WrittenMachine) (ds : Entries WrittenTerm) (n : ℕ) → ds ≡ definitions_in w → IsLeft g t d u (defined_names ds) (sizes_of ds)
-    → IsGrown d h → length h.nodes ≤ length d.nodes + n → n ≤ fetch_size (fetch_in w) + (size_of (valid_in w) + instruction_sizes (instructions_in w)) → IsLeft g t h u (defined_names (definitions_in w)) (own_size w)
+    → IsGrown d h → length h.nodes ≤ length d.nodes + n → n ≤ fetch_size (fetch_in w) + (size_of (valid_in w) + instruction_sizes (own_instructions w)) → IsLeft g t h u (defined_names (definitions_in w)) (own_size w)
 machine_left g d h t u w ds n e a b l k =
     let p = machine_parts w in
     let z = ap sizes_of e in
@@ -240,7 +240,7 @@ sizes-append (x ∷ xs) ys = let e = sizes-append xs ys in omega (arith, e)
 first_size : (i : WrittenInstruction) (is : WrittenInstructions) → size_below (and_then i is) ≡ size_of_child (program_in i) + size_below is
 first_size (instruction n d u p) is = sizes-append (machines_of_child p) (machines_below is)
 
-program_size : (steps : ℕ) (m : WrittenMachine) → size_of_child (child steps m) ≡ machine_size m + size_below (instructions_in m)
+program_size : (steps : ℕ) (m : WrittenMachine) → size_of_child (child steps m) ≡ machine_size m + size_below (own_instructions m)
 program_size steps (machine ss ds f v is) = refl
 
 pub leave_below : (f g h : Graph) (t u v : BTreeMap (Bor (List ℕ)) TermId) (i : WrittenInstruction) (now rest all : WrittenInstructions) → now ≡ and_then i rest
@@ -262,13 +262,13 @@ leave_below_lost f g h t u v i now rest all cut a b =
 pub own_left : (g h : Graph) (t u : BTreeMap (Bor (List ℕ)) TermId) (steps : ℕ) (m : WrittenMachine) → IsLeft g t h u (data_names m) (machine_size m) → IsLeft g t h u (names_of_child (child steps m)) (size_of_child (child steps m))
 own_left g h t u steps m a =
     subst (λ ns. IsLeft g t h u ns (size_of_child (child steps m))) (sym (program_names steps m))
-    (subst (λ n. IsLeft g t h u (data_names m ++ names_below (instructions_in m)) n) (sym (program_size steps m)) (left_more g h t u (data_names m) (names_below (instructions_in m)) (machine_size m) (size_below (instructions_in m)) a))
+    (subst (λ n. IsLeft g t h u (data_names m ++ names_below (own_instructions m)) n) (sym (program_size steps m)) (left_more g h t u (data_names m) (names_below (own_instructions m)) (machine_size m) (size_below (own_instructions m)) a))
 
-pub program_left : (f g h : Graph) (t u v : BTreeMap (Bor (List ℕ)) TermId) (steps : ℕ) (m : WrittenMachine) → IsLeft f t g u (data_names m) (machine_size m) → IsLeft g u h v (names_below (instructions_in m)) (size_below (instructions_in m))
+pub program_left : (f g h : Graph) (t u v : BTreeMap (Bor (List ℕ)) TermId) (steps : ℕ) (m : WrittenMachine) → IsLeft f t g u (data_names m) (machine_size m) → IsLeft g u h v (names_below (own_instructions m)) (size_below (own_instructions m))
     → IsLeft f t h v (names_of_child (child steps m)) (size_of_child (child steps m))
 program_left f g h t u v steps m a b =
     subst (λ ns. IsLeft f t h v ns (size_of_child (child steps m))) (sym (program_names steps m))
-    (subst (λ n. IsLeft f t h v (data_names m ++ names_below (instructions_in m)) n) (sym (program_size steps m)) (left_onward f g h t u v (data_names m) (names_below (instructions_in m)) (machine_size m) (size_below (instructions_in m)) a b))
+    (subst (λ n. IsLeft f t h v (data_names m ++ names_below (own_instructions m)) n) (sym (program_size steps m)) (left_onward f g h t u v (data_names m) (names_below (own_instructions m)) (machine_size m) (size_below (own_instructions m)) a b))
 
 -- ---- the children
 

@@ -11,7 +11,7 @@ use Rattle.ila_model.specs.declared.parts.Instruction.{Instruction}
 use Rattle.ila_model.specs.declared.parts.ChildId.{ChildId}
 use Rattle.ila_build.specs.Standing.{under_name, IsIn, AreIn, StandsFor, seen_by, term_by, IsGrown, IsPut}
 use Rattle.ila_build.specs.Knowing.{Knows, are_right, AreDefined}
-use Rattle.ila_build.specs.Building.{AreOwnRight, AreInstructions, AreInstructionsPut, definitions_in, fetch_in, valid_in, instructions_in, names_in, IsFetched, IsMachinePut}
+use Rattle.ila_build.specs.Building.{AreOwnRight, AreInstructions, AreInstructionsPut, definitions_in, fetch_in, valid_in, own_instructions, names_in, IsFetched, IsMachinePut}
 use Rattle.ila_build.proofs.Growing.{onward, wider}
 use Rattle.ila_build.proofs.Definitions.{right_put, IsTermOf, stands_grown, knows_grown, more_names, is_in_more, first_right}
 use Rattle.ila_build.proofs.Chosen.{stand_moved}
@@ -35,7 +35,7 @@ fetch_in_store g h t id b w i n = is_in_more h (same_name (codes "fetch") n) (So
   kept_in (Some x) j = omega (arith, j, b.longer)
 
 pub machine_put : (g g1 g2 g3 h : Graph) (t u : BTreeMap (Bor (List ℕ)) TermId) (links : List (Option ChildId)) (m : WrittenMachine) (ds : Entries WrittenTerm) (fw : Option WrittenTerm) (v : WrittenTerm) (is : WrittenInstructions) (f : Option TermId) (valid : TermId) (xs : List Instruction)
-    → ds ≡ definitions_in m → fw ≡ fetch_in m → v ≡ valid_in m → is ≡ instructions_in m
+    → ds ≡ definitions_in m → fw ≡ fetch_in m → v ≡ valid_in m → is ≡ own_instructions m
     → IsGrown g g1 → AreDefined g t g1 u (Ok tt) ds → IsGrown g1 g2 → IsFetched g1 u g2 fw f
     → IsPut g2 g3 (Ok valid) (term_by (seen_by g2 u f) v) → IsGrown g3 h → AreInstructionsPut g3 u f h links is xs → IsMachinePut g t h u links m valid xs
 unfolding AreDefined IsFetched AreInstructionsPut IsMachinePut

@@ -15,7 +15,7 @@ use Rattle.ila_model.specs.declared.parts.ChildId.{ChildId}
 use Rattle.ila_model.specs.declared.parts.Child.{Child}
 use Rattle.ila_model.specs.Meaning.{update_of, instruction_of, instructions_of, machine_of, program_at, privates_of}
 use Rattle.ila_build.specs.Updating.{AreUpdates}
-use Rattle.ila_build.specs.Building.{pair_of, called_in, decode_in, update_in, definitions_in, instructions_in, link_at, IsInstruction, AreInstructions, IsMachine}
+use Rattle.ila_build.specs.Building.{pair_of, called_in, decode_in, update_in, definitions_in, own_instructions, link_at, IsInstruction, AreInstructions, IsMachine}
 
 pair_is : {A B : Type 0} {x y : A} {u w : B} → x ≡ y → u ≡ w → ◌≡◌ {A = A × B} (x, u) (y, w)
 pair_is {A} {B} {x} {y} {u} {w} p q = λ i. (p i, q i)
@@ -58,7 +58,7 @@ program_there g inner (b ∷ before) c behind = program_there g inner before c b
 -- A machine's private states, valid condition and instructions together.
 pub machine_read : (g : Graph) (inner : Option ChildId → pure.Child) (scope : Scope) (links : List (Option ChildId)) (m : WrittenMachine) (c : Child)
     → privates_of g c ≡ states_in m → IsMachine g (with_states scope.names (states_in m)) (scope.states ++ states_in m) links m c.valid c.instructions.items
-    → AreLinked inner (scope_within scope (states_in m) (definitions_in m)) links 0 (instructions_in m) → machine_of g inner c ≡ file.machine_of scope m
+    → AreLinked inner (scope_within scope (states_in m) (definitions_in m)) links 0 (own_instructions m) → machine_of g inner c ≡ file.machine_of scope m
 machine_read g inner scope links (machine ss ds f v is) c e a l =
     let inside = scope_within scope ss ds in
     let names = with_fetch inside.names f in

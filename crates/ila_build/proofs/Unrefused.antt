@@ -16,7 +16,7 @@ use Rattle.ila_model.specs.declared.parts.Instruction.{Instruction}
 use Rattle.ila_model.specs.declared.parts.ChildId.{ChildId}
 use Rattle.ila_build.specs.Standing.{IsFresh, IsTable, IsGrown, IsPut, StandsFor, under_name, seen, seen_by, term_by}
 use Rattle.ila_build.specs.Knowing.{Knows, is_right, are_right, AreDefined, defined_names}
-use Rattle.ila_build.specs.Building.{AreOwnRight, IsMachineRight, IsFetched, own_terms, definitions_in, fetch_in, valid_in, instructions_in, names_in}
+use Rattle.ila_build.specs.Building.{AreOwnRight, IsMachineRight, IsFetched, own_terms, definitions_in, fetch_in, valid_in, own_instructions, names_in}
 use Rattle.ila_build.specs.Refusing.{IsNoRefusal, IsDue, IsMachineDue, is_leaf}
 use Rattle.ila_build.proofs.Growing.{same, wider}
 use Rattle.ila_build.proofs.Sorting.{or_parts}
@@ -157,7 +157,7 @@ valid_lost g h k l t u ds w v f m s ed ew ev b a d e put =
     (λ names ss r. subst (λ ns. is_right (placed ns v of_condition) ≡ true) (sym r.1) (subst (λ x. is_right (placed (names_in r.0 m) x of_condition) ≡ true) (sym ev) r.2.valid)) put)
 
 pub own_lost : (g h k l : Graph) (t u : BTreeMap (Bor (List ℕ)) TermId) (ds : Entries WrittenTerm) (w : Option WrittenTerm) (is : WrittenInstructions) (f : Option TermId) (m : WrittenMachine) (s : PutStop)
-    → ds ≡ definitions_in m → w ≡ fetch_in m → is ≡ instructions_in m → IsGrown g h → AreDefined g t h u (Ok tt) ds → IsGrown h k → IsFetched h u k w f → IsGrown k l
+    → ds ≡ definitions_in m → w ≡ fetch_in m → is ≡ own_instructions m → IsGrown g h → AreDefined g t h u (Ok tt) ds → IsGrown h k → IsFetched h u k w f → IsGrown k l
     → IsNoRefusal s (IsDue l u f (λ names ss. AreOwnRight names ss is)) → IsNoRefusal s (IsMachineDue g t m)
 own_lost g h k l t u ds w is f m s ed ew ei b a d e c n =
     unrefused_by _ (IsMachineDue g t m) s

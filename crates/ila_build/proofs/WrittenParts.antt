@@ -6,11 +6,11 @@ use Rattle.ila_file.specs.declared.written.WrittenChild.{WrittenChild, out-Writt
 use Rattle.ila_file.specs.declared.written.WrittenChild.TheFolds.{fold_out-WrittenChild, fold_out-WrittenInstruction, fold_out-WrittenMachine}
 use Rattle.ila_file.specs.declared.written.WrittenInstruction.{WrittenInstruction, out-WrittenInstruction}
 use Rattle.ila_file.specs.declared.written.WrittenMachine.{WrittenMachine, out-WrittenMachine}
-use Rattle.ila_build.specs.Building.{instructions_in}
+use Rattle.ila_build.specs.Building.{own_instructions}
 use Rattle.ila_build.specs.Inside.{program_in}
 
-pub instructions_seen : (m : WrittenMachine) → instructions_view (out-WrittenMachine m).instructions.items ≡ instructions_in (machine_view m)
-instructions_seen m = sym (ap instructions_in (fold_out-WrittenMachine pure.WrittenChild pure.WrittenInstruction pure.WrittenMachine child_step instruction_step machine_step m))
+pub instructions_seen : (m : WrittenMachine) → instructions_view (out-WrittenMachine m).instructions.items ≡ own_instructions (machine_view m)
+instructions_seen m = sym (ap own_instructions (fold_out-WrittenMachine pure.WrittenChild pure.WrittenInstruction pure.WrittenMachine child_step instruction_step machine_step m))
 
 pub child_seen : (c : WrittenChild) → child_view c ≡ pure.child (out-WrittenChild c).steps (machine_view (out-WrittenChild c).machine)
 child_seen c = fold_out-WrittenChild pure.WrittenChild pure.WrittenInstruction pure.WrittenMachine child_step instruction_step machine_step c

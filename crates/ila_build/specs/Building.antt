@@ -77,8 +77,8 @@ fetch_in (machine ss ds f v is) = f
 abbrev pub valid_in : WrittenMachine → WrittenTerm
 valid_in (machine ss ds f v is) = v
 
-abbrev pub instructions_in : WrittenMachine → WrittenInstructions
-instructions_in (machine ss ds f v is) = is
+abbrev pub own_instructions : WrittenMachine → WrittenInstructions
+own_instructions (machine ss ds f v is) = is
 
 -- what the conditions and updates of a machine see, where these names are visible to its definitions
 abbrev pub names_in : Entries Visible → WrittenMachine → Entries Visible
@@ -89,7 +89,7 @@ pub record IsMachineRight (names : Entries Visible) (ss : List StateDeclaration)
   pub definitions : are_right (placed_definitions names (definitions_in m)) ≡ true
   pub fetch : are_right (placed_fetch (with_definitions names (definitions_in m)) (fetch_in m)) ≡ true
   pub valid : is_right (placed (names_in names m) (valid_in m) of_condition) ≡ true
-  pub instructions : AreOwnRight (names_in names m) ss (instructions_in m)
+  pub instructions : AreOwnRight (names_in names m) ss (own_instructions m)
 
 -- The machine's fetch was put: where no rule refuses it, it is known besides the other names.
 unfoldable pub IsFetched : Graph → BTreeMap (Bor (List ℕ)) TermId → Graph → Option WrittenTerm → Option TermId → Type 0
@@ -99,7 +99,7 @@ IsFetched g t h w f = (names : Entries Visible) → Knows g t None names → are
 pub record IsMachine (g : Graph) (names : Entries Visible) (ss : List StateDeclaration) (links : List (Option ChildId)) (m : WrittenMachine) (valid : TermId) (xs : List Instruction) : Type 0 where
   pub within : valid.0 < length g.nodes
   pub valid_tree : tree g valid.0 ≡ term_of (names_in names m) (valid_in m)
-  pub instructions : AreInstructions g (names_in names m) ss links 0 (instructions_in m) xs
+  pub instructions : AreInstructions g (names_in names m) ss links 0 (own_instructions m) xs
 
 -- A machine's own terms were put: where no rule refuses them, they are the machine's, and its definitions are known besides.
 unfoldable pub IsMachinePut : Graph → BTreeMap (Bor (List ℕ)) TermId → Graph → BTreeMap (Bor (List ℕ)) TermId → List (Option ChildId) → WrittenMachine → TermId → List Instruction → Type 0

@@ -14,7 +14,7 @@ use Rattle.ila_model.specs.Sorted.{are_placed}
 use Rattle.ila_build.specs.Knowing.{Knows, are_right}
 use Rattle.ila_build.specs.Updating.{StandAt}
 use Rattle.ila_build.specs.Declaring.{state_entry}
-use Rattle.ila_build.specs.Building.{IsMachine, instructions_in}
+use Rattle.ila_build.specs.Building.{IsMachine, own_instructions}
 use Rattle.ila_build.specs.Inside.{links_from}
 
 -- From a place on, the table has these declarations.
@@ -32,7 +32,7 @@ pub record IsLaid (g : Graph) (scope : Scope) (at : Option ChildId) (k : ℕ) (s
   pub declared : IsDeclaredAt g.names c.first.0 (map state_entry (states_in m))
   pub places : List ℕ
   pub stand : StandAt g 0 places (scope.states ++ states_in m)
-  pub own : IsMachine g (with_states scope.names (states_in m)) (scope.states ++ states_in m) (links_from (suc k) (instructions_in m)) m c.valid c.instructions.items
+  pub own : IsMachine g (with_states scope.names (states_in m)) (scope.states ++ states_in m) (links_from (suc k) (own_instructions m)) m c.valid c.instructions.items
 
 abbrev mutual
   -- The children are those of the instructions, from a place of the list on, each with those inside it behind it.

@@ -3,7 +3,7 @@
 ghost use Rattle.std.specs.Prelude.{◌≡◌, ◌+◌, length, IfOk};
 ghost use Rattle.model_files.specs.Written.{machines_below, machines_of_child, machines_of_instruction};
 ghost use Rattle.ila_file.specs.View.{child_view, instruction_view, machine_view};
-ghost use Rattle.ila_build.specs.Building.{instructions_in};
+ghost use Rattle.ila_build.specs.Building.{own_instructions};
 ghost use Rattle.ila_build.specs.Inside.{link_from, links_from, program_in};
 
 use ila_file::{WrittenChild, WrittenInstruction, WrittenMachine};
@@ -24,7 +24,7 @@ fn sum(a: usize, b: usize) -> Result<usize, NoMemory>
 /// How many child programs a machine has, with those inside them.
 #[cycle(count)]
 fn count_below(machine: &WrittenMachine) -> Result<usize, NoMemory>
-    ensures { IfOk result (λ n. n ≡ length (machines_below (instructions_in (machine_view machine.now)))) }
+    ensures { IfOk result (λ n. n ≡ length (machines_below (own_instructions (machine_view machine.now)))) }
 {
     let mut count: usize = 0;
     for instruction in machine.instructions.iter() {
@@ -74,7 +74,7 @@ pub fn links_of(
     machine: &WrittenMachine,
     first: usize,
 ) -> Result<Vec<Option<ChildId>>, NoMemory>
-    ensures { IfOk result (λ ls. ls.items ≡ links_from first (instructions_in (machine_view machine.now))) }
+    ensures { IfOk result (λ ls. ls.items ≡ links_from first (own_instructions (machine_view machine.now))) }
 {
     let mut links = Vec::new(alloc);
     let mut next = first;

@@ -3,7 +3,7 @@
 ghost use Rattle.std.specs.Prelude.{◌≡◌, OnOk};
 ghost use Rattle.ila_file.specs.View.{child_view, instruction_view, machine_view};
 ghost use Rattle.ila_build.specs.Standing.{IsTable};
-ghost use Rattle.ila_build.specs.Building.{instructions_in};
+ghost use Rattle.ila_build.specs.Building.{own_instructions};
 ghost use Rattle.ila_build.specs.Inside.{AreChildrenPut, IsProgramPut, program_in};
 ghost use Rattle.ila_build.specs.Layout.{AreLaidPut, IsLaidPut};
 ghost use Rattle.ila_build.specs.Leaving.{HasInFront, IsLeft};
@@ -30,11 +30,11 @@ pub fn put_children<'v>(
     around: Option<ChildId>,
 ) -> Result<(), PutStop>
     requires { IsTable terms.old known.old }
-    ensures put { OnOk result (AreChildrenPut terms.old known.old children.old.items terms.new known.new children.new.items (instructions_in (machine_view machine.now))) }
-    ensures laid { OnOk result (AreLaidPut terms.old known.old children.old.items terms.new children.new.items around (instructions_in (machine_view machine.now))) }
-    ensures left { IsLeft terms.old known.old terms.new known.new (names_below (instructions_in (machine_view machine.now))) (size_below (instructions_in (machine_view machine.now))) }
+    ensures put { OnOk result (AreChildrenPut terms.old known.old children.old.items terms.new known.new children.new.items (own_instructions (machine_view machine.now))) }
+    ensures laid { OnOk result (AreLaidPut terms.old known.old children.old.items terms.new children.new.items around (own_instructions (machine_view machine.now))) }
+    ensures left { IsLeft terms.old known.old terms.new known.new (names_below (own_instructions (machine_view machine.now))) (size_below (own_instructions (machine_view machine.now))) }
     ensures in_front { HasInFront children.old.items children.new.items }
-    ensures unrefused { IsUnrefused result (AreBelowDue terms.old known.old (instructions_in (machine_view machine.now))) }
+    ensures unrefused { IsUnrefused result (AreBelowDue terms.old known.old (own_instructions (machine_view machine.now))) }
 {
     for instruction in machine.instructions.iter() {
         put_child_of(alloc, terms, known, children, instruction, around)?;

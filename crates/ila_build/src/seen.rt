@@ -3,7 +3,7 @@
 ghost use Rattle.std.specs.Prelude.{◌≡◌, map};
 ghost use Rattle.model_files.specs.Written.{states_in};
 ghost use Rattle.ila_file.specs.View.{definition_view, fetch_view, instruction_view, instructions_view, machine_view, state_view, term_view, update_view};
-ghost use Rattle.ila_build.specs.Building.{called_in, decode_in, definitions_in, fetch_in, instructions_in, update_in, valid_in};
+ghost use Rattle.ila_build.specs.Building.{called_in, decode_in, definitions_in, fetch_in, own_instructions, update_in, valid_in};
 
 use ila_file::{
     Definition, WrittenInstruction, WrittenMachine, WrittenState, WrittenTerm, WrittenUpdate,
@@ -55,7 +55,7 @@ pub(crate) fn valid_of<'w, 'v>(written: &'w WrittenMachine<'v>) -> &'w WrittenTe
 pub(crate) fn instructions_of<'w, 'v>(
     written: &'w WrittenMachine<'v>,
 ) -> &'w [WrittenInstruction<'v>]
-    ensures { instructions_view result.now ≡ instructions_in (machine_view written.now) }
+    ensures { instructions_view result.now ≡ own_instructions (machine_view written.now) }
 {
     &written.instructions
 }

@@ -2,7 +2,7 @@
 use Rattle.std.proofs.Common.{◌≡◌, ℕ, suc, ◌<◌, ◌≤◌, Bool, true, false, cond, List, [], ◌∷◌, map, take, length, refl, arith}
 use Rattle.std.proofs.lemmas.List.{length-map, length-take}
 use Rattle.std.specs.List.{list_all}
-use Rattle.ila_file.specs.Notes.{shown, is_printable, note_of}
+use Rattle.model_places.specs.Notes.{shown, is_printable, note_of}
 
 printable_if : (b : ℕ) (t : Bool) → is_printable b ≡ t → is_printable (cond t b 63) ≡ true
 printable_if b true e = e

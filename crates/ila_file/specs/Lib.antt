@@ -1,5 +1,4 @@
 pub mod View
-pub mod Notes
 pub mod Places
 pub mod Reading
 pub mod Parts

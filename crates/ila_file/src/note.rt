@@ -2,7 +2,7 @@
 
 ghost use Rattle.std.specs.Prelude.{◌≡◌, ◌<◌, ◌≤◌, length, map, take, IfOk, IsTrue};
 ghost use Rattle.std.specs.List.{list_all};
-ghost use Rattle.ila_file.specs.Notes.{shown, is_printable, or_quotes, note_of};
+ghost use Rattle.model_places.specs.Notes.{shown, is_printable, or_quotes, note_of};
 
 use crate::NoMemory;
 use std::alloc::Global;

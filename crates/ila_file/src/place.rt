@@ -1,8 +1,9 @@
 //! Where in a model file a walk is, and the notes that lead there.
 
 ghost use Rattle.std.specs.Prelude.{◌≡◌, IfOk, OnOk, ◌-◌, ◌++◌, ◌∷◌, [], None, Some, codes, length, take, option_map};
-ghost use Rattle.ila_file.specs.Notes.{note_of};
-ghost use Rattle.ila_file.specs.Places.{item_text, head_text, after_mark, way_text, spot_text};
+ghost use Rattle.model_places.specs.Sites.{into, key_spot, item_spot, part_spot, member_spot, item_text, head_text, after_mark, way_text, spot_text};
+ghost use Rattle.model_places.specs.Notes.{note_at};
+ghost use Rattle.ila_file.specs.Places.{spot_view, way_of, note_text};
 
 use crate::{NoMemory, Note};
 use itoa::Buffer;
@@ -33,7 +34,7 @@ pub struct Spot<'e> {
 impl<'e> Spot<'e> {
     /// What stands under a key of the machine's object, as `valid`.
     pub fn key(key: &'e str) -> Spot<'e>
-        ensures { result ≡ record { key = key.entry; index = None; name = None; part = None; member = None } }
+        ensures { spot_view result ≡ key_spot key.now }
     {
         Spot {
             key,
@@ -46,7 +47,7 @@ impl<'e> Spot<'e> {
 
     /// An item of the list under a key, as `states[0] i`.
     pub fn item(key: &'e str, index: usize, name: Option<&'e str>) -> Spot<'e>
-        ensures { result ≡ record { key = key.entry; index = Some index; name = name.entry; part = None; member = None } }
+        ensures { spot_view result ≡ item_spot key.now index (option_map (λ n. n.now) name.entry) }
     {
         Spot {
             key,
@@ -59,7 +60,7 @@ impl<'e> Spot<'e> {
 
     /// What stands under a key of the item's object, as `states[0] i: init`.
     pub fn part(self, part: &'e str) -> Spot<'e>
-        ensures { result ≡ record { key = self.entry.key; index = self.entry.index; name = self.entry.name; part = Some part.entry; member = self.entry.member } }
+        ensures { spot_view result ≡ part_spot (spot_view self.entry) part.now }
     {
         Spot {
             part: Some(part),
@@ -69,7 +70,7 @@ impl<'e> Spot<'e> {
 
     /// What stands under a key of the object under that, as `instructions[1] ADD: update q`.
     pub fn member(self, member: &'e str) -> Spot<'e>
-        ensures { result ≡ record { key = self.entry.key; index = self.entry.index; name = self.entry.name; part = self.entry.part; member = Some member.entry } }
+        ensures { spot_view result ≡ member_spot (spot_view self.entry) member.now }
     {
         Spot {
             member: Some(member),
@@ -81,7 +82,7 @@ impl<'e> Spot<'e> {
 impl Place {
     /// The machine of the model itself.
     pub fn top(alloc: Global) -> Place
-        ensures { result.instructions.items ≡ [] }
+        ensures { way_of result ≡ [] }
     {
         Place {
             alloc,
@@ -91,7 +92,7 @@ impl Place {
 
     /// Goes to the machine of the child of an instruction, by its place in the list, from 0.
     pub fn enter(&mut self, instruction: usize) -> Result<(), NoMemory>
-        ensures { OnOk result (self.new.instructions.items ≡ self.old.instructions.items ++ instruction ∷ []) }
+        ensures { OnOk result (way_of self.new ≡ into (way_of self.old) instruction) }
     {
         self.instructions.push(instruction)?;
         Ok(())
@@ -99,14 +100,14 @@ impl Place {
 
     /// Goes back to the machine around it.
     pub fn leave(&mut self)
-        ensures { self.new.instructions.items ≡ take (length self.old.instructions.items - 1) self.old.instructions.items }
+        ensures { way_of self.new ≡ take (length (way_of self.old) - 1) (way_of self.old) }
     {
         self.instructions.pop();
     }
 
     /// The note of a spot of the machine, as `instructions[1].child.states[0] i: init`.
     pub fn note(&self, spot: Spot<'_>) -> Result<Note, NoMemory>
-        ensures { IfOk result (λ n. n.text.items ≡ note_of (way_text self.now.instructions.items ++ spot_text spot.entry)) }
+        ensures { IfOk result (λ n. note_text n ≡ note_at (way_of self.now) (spot_view spot.entry)) }
     {
         let mut text = Vec::new(self.alloc);
         append_way(&mut text, &self.instructions)?;
@@ -127,7 +128,7 @@ fn append_way(text: &mut Vec<u8>, instructions: &[usize]) -> Result<(), NoMemory
 }
 
 fn append_spot(text: &mut Vec<u8>, spot: Spot<'_>) -> Result<(), NoMemory>
-    ensures { OnOk result (text.new.items ≡ text.old.items ++ spot_text spot.entry) }
+    ensures { OnOk result (text.new.items ≡ text.old.items ++ spot_text (spot_view spot.entry)) }
 {
     append_head(text, spot.key, spot.index)?;
     append_after(text, " ", spot.name)?;

@@ -201,12 +201,12 @@ fn instructions_under<'v>(
     ensures { IsReading instruction_list_view result (under instruction_list (codes "instructions") (view value.now)) }
 {
     let items = list_under(value, "instructions").ok_or(Stop::Refused)?;
-    let instructions = instructions_in(alloc, items)?;
+    let instructions = written_instructions(alloc, items)?;
     Ok(instructions)
 }
 
 #[cycle(instruction)]
-fn instructions_in<'v>(
+fn written_instructions<'v>(
     alloc: Global,
     items: &'v Vec<Value>,
 ) -> Result<Vec<WrittenInstruction<'v>>, Stop>

@@ -37,11 +37,6 @@ abbrev pub IsWritten : Result WrittenModel ModelStop → ModelReading → Type 0
 IsWritten (Ok w) reading = (reading ≡ stands_for (meaning.model_of (model_view w))) × (broken_rule (model_view w) ≡ None) × (is_shaped (model_view w) ≡ true)
 IsWritten (Err s) reading = IsStoppedBy s reading
 
--- no rule refuses, or the refusal
-abbrev pub IsJudged : Result ⊤ ModelStop → ModelReading → Type 0
-IsJudged (Ok u) reading = refusal_in reading ≡ None
-IsJudged (Err s) reading = IsStoppedBy s reading
-
 -- the model that the bytes stand for, or the refusal
 abbrev pub IsModelRead : Result IlaModel ModelStop → ModelReading → Type 0
 IsModelRead (Ok m) reading = reading ≡ stands_for (model_of m)

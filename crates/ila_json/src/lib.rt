@@ -4,5 +4,5 @@
 mod reading;
 mod stop;
 
-pub use reading::{model_refusal, read_model};
+pub use reading::{read_document, read_model, read_written};
 pub use stop::ModelStop;

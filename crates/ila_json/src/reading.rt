@@ -1,13 +1,13 @@
 //! The rules in their order: JSON, shape, keys, and then those on names, sorts, numbers and children.
 
-ghost use Rattle.std.specs.Prelude.{◌≡◌, IfOk};
+ghost use Rattle.std.specs.Prelude.{◌≡◌, Some, IfOk};
 ghost use Rattle.serde_json.specs.View.{view};
 ghost use Rattle.model_files.specs.Shape.{document, model_in};
 ghost use Rattle.model_files.specs.Meaning as meaning;
 ghost use Rattle.model_files.specs.Meaning.{model_reading, of_shape, with_known_keys, judged_by, broken_rule, refused_by};
 ghost use Rattle.ila_file.specs.View.{model_view};
 ghost use Rattle.ila_rules.specs.Rule.{rule_view};
-ghost use Rattle.ila_json.specs.Reading.{IsDocument, IsJudged, IsModelRead, IsRefusalIn, IsStoppedBy, IsWritten};
+ghost use Rattle.ila_json.specs.Reading.{IsDocument, IsModelRead, IsRefusalIn, IsStoppedBy, IsWritten};
 
 use crate::ModelStop;
 use ila_file::{NoMemory, Note, ShapeStop, WrittenModel, read_shape, unknown_key};
@@ -15,7 +15,7 @@ use ila_model::IlaModel;
 use ila_rules::{ModelRefusal, ModelRule, broken_rule};
 use ila_whole::whole_model;
 use serde_json::{Error, Value};
-use std::alloc::{AllocError, Global};
+use std::alloc::Global;
 
 /// The model that the bytes of a model file stand for, or the first rule, in the order in which they are judged, that refuses
 /// them, with its place.
@@ -28,29 +28,8 @@ pub fn read_model(alloc: Global, bytes: &[u8]) -> Result<IlaModel, ModelStop>
     Ok(model)
 }
 
-/// The first rule, in the order in which they are judged, that refuses the bytes of a model file, with its place; none exactly
-/// where the bytes stand for a model.
-pub fn model_refusal(alloc: Global, bytes: &[u8]) -> Result<Option<ModelRefusal>, NoMemory>
-    ensures { IfOk result (λ found. IsRefusalIn found (model_reading bytes.now)) }
-{
-    match judge_bytes(alloc, bytes) {
-        Ok(()) => Ok(None),
-        Err(ModelStop::Refused(refusal)) => Ok(Some(refusal)),
-        Err(ModelStop::NoMemory) => Err(AllocError),
-    }
-}
-
-/// Judges the bytes of a model file.
-fn judge_bytes(alloc: Global, bytes: &[u8]) -> Result<(), ModelStop>
-    ensures { IsJudged result (model_reading bytes.now) }
-{
-    let value = read_document(alloc, bytes)?;
-    read_written(alloc, &value)?;
-    Ok(())
-}
-
-/// The data of a file's bytes.
-fn read_document(alloc: Global, bytes: &[u8]) -> Result<Value, ModelStop>
+/// The data of a model file's bytes.
+pub fn read_document(alloc: Global, bytes: &[u8]) -> Result<Value, ModelStop>
     ensures { IsDocument view result (document bytes.now) }
 {
     match Value::from_slice(alloc, bytes) {
@@ -61,8 +40,9 @@ fn read_document(alloc: Global, bytes: &[u8]) -> Result<Value, ModelStop>
 }
 
 /// The written model of a file's data, where no rule refuses it.
-fn read_written<'v>(alloc: Global, value: &'v Value) -> Result<WrittenModel<'v>, ModelStop>
-    ensures { IsWritten result (of_shape (view value.now) (model_in (view value.now))) }
+pub fn read_written<'v>(alloc: Global, value: &'v Value) -> Result<WrittenModel<'v>, ModelStop>
+    ensures model { IfOk result (λ w. model_in (view value.now) ≡ Some (model_view w)) }
+    ensures reading { IsWritten result (of_shape (view value.now) (model_in (view value.now))) }
 {
     match read_shape(alloc, value) {
         Ok(written) => {

@@ -3,7 +3,13 @@ pub mod Bits
 pub mod Frames
 pub mod Parts
 pub mod Walks
+pub mod Flags
 pub mod Judged
+pub mod NameWalks
+pub mod NameFlags
 pub mod Named
-pub mod Depth
+pub mod Erased
+pub mod Gathered
+pub mod NamesGathered
+pub mod Limited
 pub mod Ordered

@@ -12,7 +12,8 @@ use Rattle.model_meaning.specs.Among.{is_among, has_twice}
 use Rattle.wb_values.specs.Names.{is_model_name}
 use Rattle.model_files.specs.Names.{data_names, instruction_names, instruction_names_in, joined, all_data_names, all_instruction_names}
 use Rattle.model_files.specs.Rules.{has_bad_name, has_duplicate_name}
-use Rattle.ila_rules.specs.NameFlaws.{NameSet, no_members, with_member, NameFlaws, with_data, with_instruction, with_all_data, names_in, names_below, names_of_instruction, names_of_child, with_model_name, names_in_model}
+use Rattle.ila_rules.specs.NameFlaws.{NameSet, no_members, with_member}
+use Rattle.ila_rules.proofs.NameFlags.{NameFlags, data_flags, instruction_flags, all_data_flags, flags_in, flags_below, flags_of_instruction, flags_of_child, named_flags, model_name_flags}
 
 -- ---- names against a set of earlier ones
 
@@ -63,7 +64,7 @@ all_append set (x ∷ xs) ys = all_append (with_member x set) xs ys
 
 -- ---- what was found, and more names
 
-abbrev names_after : (ds is : List Name) → NameFlaws → NameFlaws
+abbrev names_after : (ds is : List Name) → NameFlags → NameFlags
 names_after ds is s = record {
   bad = s.bad || not (list_all is_model_name ds && list_all is_model_name is);
   twice = s.twice || (clash s.data_set ds || clash s.instruction_set is);
@@ -85,7 +86,7 @@ five false false true true d = refl
 five false false true false d = refl
 five false false false c d = refl
 
-after_after : (ds es is js : List Name) (s : NameFlaws) → names_after es js (names_after ds is s) ≡ names_after (ds ++ es) (is ++ js) s
+after_after : (ds es is js : List Name) (s : NameFlags) → names_after es js (names_after ds is s) ≡ names_after (ds ++ es) (is ++ js) s
 after_after ds es is js s = λ i. record {
   bad = (four s.bad (list_all is_model_name ds) (list_all is_model_name is) (list_all is_model_name es) (list_all is_model_name js)
       ∙ (ap (λ b. s.bad || not (b && (list_all is_model_name is && list_all is_model_name js))) (sym (list_all-append is_model_name ds es))
@@ -105,7 +106,7 @@ and_true : (b : Bool) → b ≡ (b && true)
 and_true true = refl
 and_true false = refl
 
-nothing_after : (s : NameFlaws) → s ≡ names_after [] [] s
+nothing_after : (s : NameFlags) → s ≡ names_after [] [] s
 nothing_after s = λ i. record { bad = or_false s.bad i; twice = or_false s.twice i; data_set = s.data_set; instruction_set = s.instruction_set }
 
 only : (d : Bool) → d ≡ (((d || false) || false) || false)
@@ -116,8 +117,8 @@ only_second : (d : Bool) → d ≡ ((d || false) || false)
 only_second true = refl
 only_second false = refl
 
-data_after : (n : Name) (s : NameFlaws) → with_data n s ≡ names_after (n ∷ []) [] s
-unfolding with_data
+data_after : (n : Name) (s : NameFlags) → data_flags n s ≡ names_after (n ∷ []) [] s
+unfolding data_flags
 data_after n s = λ i. record {
   bad = ap (λ b. s.bad || not b) (and_true (is_model_name n) ∙ and_true (is_model_name n && true)) i;
   twice = ap (λ b. s.twice || b) (only (s.data_set n)) i;
@@ -125,8 +126,8 @@ data_after n s = λ i. record {
   instruction_set = s.instruction_set;
 }
 
-instruction_after : (n : Name) (s : NameFlaws) → with_instruction n s ≡ names_after [] (n ∷ []) s
-unfolding with_instruction
+instruction_after : (n : Name) (s : NameFlags) → instruction_flags n s ≡ names_after [] (n ∷ []) s
+unfolding instruction_flags
 instruction_after n s = λ i. record {
   bad = ap (λ b. s.bad || not b) (and_true (is_model_name n)) i;
   twice = ap (λ b. s.twice || b) (only_second (s.instruction_set n)) i;
@@ -134,9 +135,9 @@ instruction_after n s = λ i. record {
   instruction_set = with_member n s.instruction_set;
 }
 
-all_data_after : (ns : List Name) (s : NameFlaws) → with_all_data ns s ≡ names_after ns [] s
+all_data_after : (ns : List Name) (s : NameFlags) → all_data_flags ns s ≡ names_after ns [] s
 all_data_after [] s = nothing_after s
-all_data_after (n ∷ ns) s = all_data_after ns (with_data n s) ∙ (ap (names_after ns []) (data_after n s) ∙ after_after (n ∷ []) ns [] [] s)
+all_data_after (n ∷ ns) s = all_data_after ns (data_flags n s) ∙ (ap (names_after ns []) (data_after n s) ∙ after_after (n ∷ []) ns [] [] s)
 
 -- ---- the names of machines, instructions in the order of the file
 
@@ -170,32 +171,32 @@ abbrev mutual
   file_child (child steps program) = file_in program
 
 mutual
-  machine_named : (m : WrittenMachine) (s : NameFlaws) → names_in m s ≡ names_after (data_of (machines_in m)) (file_in m) s
+  machine_named : (m : WrittenMachine) (s : NameFlags) → flags_in m s ≡ names_after (data_of (machines_in m)) (file_in m) s
   machine_named (machine ss ds f v is) s =
       let names = map (λ d. d.state_name) ss in
       let defs = map (λ d. d.0) ds in
-      below_named is (with_all_data defs (with_all_data names s))
+      below_named is (all_data_flags defs (all_data_flags names s))
       ∙ (ap (names_after (data_of (machines_below is)) (file_below is))
-      (all_data_after defs (with_all_data names s) ∙ ap (names_after defs []) (all_data_after names s))
+      (all_data_after defs (all_data_flags names s) ∙ ap (names_after defs []) (all_data_after names s))
       ∙ (after_after defs (data_of (machines_below is)) [] (file_below is) (names_after names [] s)
       ∙ (after_after names (defs ++ data_of (machines_below is)) [] (file_below is) s
       ∙ ap (λ ns. names_after ns (file_below is) s) (append_assoc names defs (data_of (machines_below is))))))
 
-  below_named : (is : WrittenInstructions) (s : NameFlaws) → names_below is s ≡ names_after (data_of (machines_below is)) (file_below is) s
+  below_named : (is : WrittenInstructions) (s : NameFlags) → flags_below is s ≡ names_after (data_of (machines_below is)) (file_below is) s
   below_named no_instructions s = nothing_after s
   below_named (and_then i is) s =
-      below_named is (names_of_instruction i s)
+      below_named is (flags_of_instruction i s)
       ∙ (ap (names_after (data_of (machines_below is)) (file_below is)) (instruction_named i s)
       ∙ (after_after (data_of (machines_of_instruction i)) (data_of (machines_below is)) (file_of i) (file_below is) s
       ∙ ap (λ ns. names_after ns (file_of i ++ file_below is) s) (joined_append data_names (machines_of_instruction i) (machines_below is))))
 
-  instruction_named : (i : WrittenInstruction) (s : NameFlaws) → names_of_instruction i s ≡ names_after (data_of (machines_of_instruction i)) (file_of i) s
+  instruction_named : (i : WrittenInstruction) (s : NameFlags) → flags_of_instruction i s ≡ names_after (data_of (machines_of_instruction i)) (file_of i) s
   instruction_named (instruction called d u program) s =
-      child_named program (with_instruction called s)
+      child_named program (instruction_flags called s)
       ∙ (ap (names_after (data_of (machines_of_child program)) (file_child program)) (instruction_after called s)
       ∙ after_after [] (data_of (machines_of_child program)) (called ∷ []) (file_child program) s)
 
-  child_named : (c : WrittenChild) (s : NameFlaws) → names_of_child c s ≡ names_after (data_of (machines_of_child c)) (file_child c) s
+  child_named : (c : WrittenChild) (s : NameFlags) → flags_of_child c s ≡ names_after (data_of (machines_of_child c)) (file_child c) s
   child_named no_child s = nothing_after s
   child_named (child steps program) s = machine_named program s
 
@@ -328,22 +329,22 @@ not_and : (a b : Bool) → (not a || not b) ≡ not (a && b)
 not_and true b = refl
 not_and false b = refl
 
-model_named : (m : WrittenModel) → names_in_model m ≡ names_after (all_data_names m) (file_in m.top) (with_model_name m.model_name)
+model_named : (m : WrittenModel) → model_name_flags m ≡ names_after (all_data_names m) (file_in m.top) (named_flags m.model_name)
 model_named m =
     let inputs = map (λ i. i.input_name) m.inputs in
-    machine_named m.top (with_all_data inputs (with_model_name m.model_name))
-    ∙ (ap (names_after (data_of (machines_in m.top)) (file_in m.top)) (all_data_after inputs (with_model_name m.model_name))
-    ∙ after_after inputs (data_of (machines_in m.top)) [] (file_in m.top) (with_model_name m.model_name))
+    machine_named m.top (all_data_flags inputs (named_flags m.model_name))
+    ∙ (ap (names_after (data_of (machines_in m.top)) (file_in m.top)) (all_data_after inputs (named_flags m.model_name))
+    ∙ after_after inputs (data_of (machines_in m.top)) [] (file_in m.top) (named_flags m.model_name))
 
-pub bad_named : (m : WrittenModel) → (names_in_model m).bad ≡ has_bad_name m
+pub bad_named : (m : WrittenModel) → (model_name_flags m).bad ≡ has_bad_name m
 bad_named m =
-    ap (λ (s : NameFlaws). s.bad) (model_named m)
+    ap (λ (s : NameFlags). s.bad) (model_named m)
     ∙ (not_and (is_model_name m.model_name) (list_all is_model_name (all_data_names m) && list_all is_model_name (file_in m.top))
     ∙ ap (λ b. not (is_model_name m.model_name && (list_all is_model_name (all_data_names m) && b))) (all_moved is_model_name (file_in m.top) (all_instruction_names m) (machine_moved m.top)))
 
-pub twice_named : (m : WrittenModel) → (names_in_model m).twice ≡ has_duplicate_name m
+pub twice_named : (m : WrittenModel) → (model_name_flags m).twice ≡ has_duplicate_name m
 twice_named m =
-    ap (λ (s : NameFlaws). s.twice) (model_named m)
+    ap (λ (s : NameFlags). s.twice) (model_named m)
     ∙ (ap (λ b. (b || has_twice (all_data_names m)) || clash no_members (file_in m.top)) (none_known (all_data_names m))
     ∙ (ap (λ b. has_twice (all_data_names m) || (b || has_twice (file_in m.top))) (none_known (file_in m.top))
     ∙ ap (λ b. has_twice (all_data_names m) || b) (twice_moved (file_in m.top) (all_instruction_names m) (machine_moved m.top))))

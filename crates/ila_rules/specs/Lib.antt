@@ -1,6 +1,7 @@
 pub mod Seen
 pub mod Flaws
 pub mod View
-pub mod Depths
+pub mod Limits
 pub mod NameFlaws
 pub mod Rule
+pub mod Refusals

@@ -1,5 +1,5 @@
 -- What the code's frames of names are seen as.
-use Rattle.std.specs.Prelude.{ℕ, List, [], ◌∷◌, Option, None, option_map, is_some}
+use Rattle.std.specs.Prelude.{ℕ, List, [], ◌∷◌, Option, None, option_map}
 use Rattle.std.specs.Borrow.{Bor}
 use Rattle.std.specs.Ordering.{nat_cmp}
 use Rattle.std.specs.Cmp.Lexicographic.{slice_cmp}
@@ -7,6 +7,7 @@ use Rattle.std.specs.BTreeMap.{BTreeMap, get_by}
 use Rattle.wb_values.specs.Value.{Name}
 use Rattle.wb_values.specs.Choice.{first_of}
 use Rattle.ila_file.specs.View.{sort_view}
+use Rattle.ila_file.specs.Places.{way_of, found_text}
 use Rattle.ila_rules.specs.Seen.{Brief, LookUp, States, Role}
 use Rattle.ila_rules.specs.Seen as roles
 use Rattle.ila_rules.specs.Flaws.{Flaws}
@@ -70,11 +71,12 @@ role_view (Update n s) = roles.update n.now (option_map sort_view s)
 
 abbrev pub flaws_view : Findings → Flaws
 flaws_view f = record {
-  unknown_name = is_some f.unknown_name;
-  bad_width = is_some f.bad_width;
-  bad_sort = is_some f.bad_sort;
-  bad_number = is_some f.bad_number;
-  memory_copy = is_some f.memory_copy;
+  way = way_of f.place;
+  unknown_name = found_text f.unknown_name;
+  bad_width = found_text f.bad_width;
+  bad_sort = found_text f.bad_sort;
+  bad_number = found_text f.bad_number;
+  memory_copy = found_text f.memory_copy;
 }
 
 -- ---- names
@@ -83,4 +85,10 @@ abbrev pub known : BTreeSet (Bor (List ℕ)) → NameSet
 known s n = contains_by (λ k. slice_cmp nat_cmp n k.now) s
 
 abbrev pub names_view : Names → NameFlaws
-names_view s = record { bad = is_some s.bad; twice = is_some s.twice; data_set = known s.data_set; instruction_set = known s.instruction_set }
+names_view s = record {
+  way = way_of s.place;
+  bad = found_text s.bad;
+  twice = found_text s.twice;
+  data_set = known s.data_set;
+  instruction_set = known s.instruction_set;
+}

@@ -1,9 +1,10 @@
 //! The names that a model file declares: whether each is legal, and none stands twice.
 
-ghost use Rattle.std.specs.Prelude.{◌≡◌, IfOk, map, is_some};
+ghost use Rattle.std.specs.Prelude.{◌≡◌, IfOk, map, codes};
 ghost use Rattle.ila_file.specs.View.{machine_view, instruction_view, child_view, state_view, definition_view, input_view, model_view};
+ghost use Rattle.ila_file.specs.Places.{spot_view};
 ghost use Rattle.wb_values.specs.Names.{is_model_name};
-ghost use Rattle.ila_rules.specs.NameFlaws.{with_member, with_data, with_instruction, with_all_data, with_model_name, names_in, names_of_instruction, names_of_child, names_in_model};
+ghost use Rattle.ila_rules.specs.NameFlaws.{names_entered, names_left, with_member, with_data, with_instruction, with_all_data, with_model_name, names_in, names_of_instruction, names_of_child, names_in_model};
 ghost use Rattle.ila_rules.specs.View.{known, names_view};
 
 use crate::findings::keep_first;
@@ -57,10 +58,25 @@ impl<'v> Names<'v> {
         })
     }
 
+    /// Goes on with the machine of the child of an instruction.
+    fn enter(&mut self, instruction: usize) -> Result<(), NoMemory>
+        ensures { IfOk result (λ _. names_view self.new ≡ names_entered instruction (names_view self.old)) }
+    {
+        self.place.enter(instruction)?;
+        Ok(())
+    }
+
+    /// Goes back to the machine around it.
+    fn leave(&mut self)
+        ensures { names_view self.new ≡ names_left (names_view self.old) }
+    {
+        self.place.leave();
+    }
+
     /// Adds the name of a state, an input or a definition.
     #[tactic(auto, unfolding(crate::specs::NameFlaws::with_data))]
     fn add_data(&mut self, name: &'v str, spot: Spot<'_>) -> Result<(), NoMemory>
-        ensures { IfOk result (λ _. names_view self.new ≡ with_data name.now (names_view self.old)) }
+        ensures { IfOk result (λ _. names_view self.new ≡ with_data (spot_view spot.entry) name.now (names_view self.old)) }
     {
         keep_first(&mut self.bad, !is_legal(name), &self.place, spot)?;
         let was = add_member(&mut self.data_set, name)?;
@@ -71,7 +87,7 @@ impl<'v> Names<'v> {
     /// Adds the name of an instruction.
     #[tactic(auto, unfolding(crate::specs::NameFlaws::with_instruction))]
     fn add_instruction(&mut self, name: &'v str, spot: Spot<'_>) -> Result<(), NoMemory>
-        ensures { IfOk result (λ _. names_view self.new ≡ with_instruction name.now (names_view self.old)) }
+        ensures { IfOk result (λ _. names_view self.new ≡ with_instruction (spot_view spot.entry) name.now (names_view self.old)) }
     {
         keep_first(&mut self.bad, !is_legal(name), &self.place, spot)?;
         let was = add_member(&mut self.instruction_set, name)?;
@@ -80,7 +96,7 @@ impl<'v> Names<'v> {
     }
 
     fn add_states(&mut self, states: &[WrittenState<'v>]) -> Result<(), NoMemory>
-        ensures { IfOk result (λ _. names_view self.new ≡ with_all_data (map (λ d. d.state_name) (map state_view states.now)) (names_view self.old)) }
+        ensures { IfOk result (λ _. names_view self.new ≡ with_all_data (codes "states") 0 (map (λ d. d.state_name) (map state_view states.now)) (names_view self.old)) }
     {
         for (index, state) in states.iter().enumerate() {
             self.add_data(state.name, Spot::item("states", index, Some(state.name)))?;
@@ -89,7 +105,7 @@ impl<'v> Names<'v> {
     }
 
     fn add_inputs(&mut self, inputs: &[WrittenInput<'v>]) -> Result<(), NoMemory>
-        ensures { IfOk result (λ _. names_view self.new ≡ with_all_data (map (λ i. i.input_name) (map input_view inputs.now)) (names_view self.old)) }
+        ensures { IfOk result (λ _. names_view self.new ≡ with_all_data (codes "inputs") 0 (map (λ i. i.input_name) (map input_view inputs.now)) (names_view self.old)) }
     {
         for (index, input) in inputs.iter().enumerate() {
             self.add_data(input.name, Spot::item("inputs", index, Some(input.name)))?;
@@ -98,7 +114,7 @@ impl<'v> Names<'v> {
     }
 
     fn add_definitions(&mut self, definitions: &[Definition<'v>]) -> Result<(), NoMemory>
-        ensures { IfOk result (λ _. names_view self.new ≡ with_all_data (map (λ d. d.0) (map definition_view definitions.now)) (names_view self.old)) }
+        ensures { IfOk result (λ _. names_view self.new ≡ with_all_data (codes "define") 0 (map (λ d. d.0) (map definition_view definitions.now)) (names_view self.old)) }
     {
         for (index, definition) in definitions.iter().enumerate() {
             self.add_data(
@@ -128,7 +144,7 @@ fn add_instruction<'v>(
     index: usize,
     names: &mut Names<'v>,
 ) -> Result<(), NoMemory>
-    ensures { IfOk result (λ _. names_view names.new ≡ names_of_instruction (instruction_view instruction.now) (names_view names.old)) }
+    ensures { IfOk result (λ _. names_view names.new ≡ names_of_instruction index (instruction_view instruction.now) (names_view names.old)) }
 {
     let name = instruction.name;
     names.add_instruction(name, Spot::item("instructions", index, Some(name)))?;
@@ -147,11 +163,11 @@ fn add_child<'v>(
     index: usize,
     names: &mut Names<'v>,
 ) -> Result<(), NoMemory>
-    ensures { IfOk result (λ _. names_view names.new ≡ names_of_child (child_view child.now) (names_view names.old)) }
+    ensures { IfOk result (λ _. names_view names.new ≡ names_of_child index (child_view child.now) (names_view names.old)) }
 {
-    names.place.enter(index)?;
+    names.enter(index)?;
     add_machine(&child.machine, names)?;
-    names.place.leave();
+    names.leave();
     Ok(())
 }
 

@@ -1,11 +1,13 @@
 //! What was found broken on the way through a model file, with the first place of each rule.
 
-ghost use Rattle.std.specs.Prelude.{◌≡◌, ◌||◌, IfOk, is_some, option_map};
+ghost use Rattle.std.specs.Prelude.{◌≡◌, ◌||◌, IfOk, option_map};
 ghost use Rattle.model_meaning.specs.Term.{is_memory_sort};
 ghost use Rattle.model_files.specs.Rules.{fits_sort};
 ghost use Rattle.ila_file.specs.View.{sort_view, term_view, initial_view};
+ghost use Rattle.ila_file.specs.Places.{spot_view, way_of, found_text};
+ghost use Rattle.model_places.specs.Notes.{note_at};
 ghost use Rattle.ila_rules.specs.Seen.{uses_unknown, updates_none, has_role_sort, copies_at, is_memory_called, brief_at, fits_role};
-ghost use Rattle.ila_rules.specs.Flaws.{with_term, with_declared, no_flaws};
+ghost use Rattle.ila_rules.specs.Flaws.{with_term, with_declared, no_flaws, kept_first, entered, left};
 ghost use Rattle.ila_rules.specs.declared.findings.Role.TheVariants.{Fetch};
 ghost use Rattle.ila_rules.specs.View.{look_of, name_view, brief_view, role_view, flaws_view};
 
@@ -134,7 +136,7 @@ pub(crate) fn keep_first(
     place: &Place,
     spot: Spot<'_>,
 ) -> Result<(), NoMemory>
-    ensures { IfOk result (λ _. is_some kept.new ≡ (is_some kept.old || broken)) }
+    ensures { IfOk result (λ _. found_text kept.new ≡ kept_first (found_text kept.old) broken (note_at (way_of place.now) (spot_view spot.entry))) }
 {
     if broken && kept.is_none() {
         *kept = Some(place.note(spot)?);
@@ -157,6 +159,21 @@ impl Findings {
         }
     }
 
+    /// Goes on with the machine of the child of an instruction.
+    pub(crate) fn enter(&mut self, instruction: usize) -> Result<(), NoMemory>
+        ensures { IfOk result (λ _. flaws_view self.new ≡ entered instruction (flaws_view self.old)) }
+    {
+        self.place.enter(instruction)?;
+        Ok(())
+    }
+
+    /// Goes back to the machine around it.
+    pub(crate) fn leave(&mut self)
+        ensures { flaws_view self.new ≡ left (flaws_view self.old) }
+    {
+        self.place.leave();
+    }
+
     /// Judges a term, and gives what is known of it.
     #[tactic(auto, unfolding(crate::specs::Flaws::with_term))]
     pub(crate) fn judge_term<'v>(
@@ -167,7 +184,7 @@ impl Findings {
         last: &Frame<'v>,
         spot: Spot<'_>,
     ) -> Result<Seen<'v>, NoMemory>
-        ensures flaws { IfOk result (λ _. flaws_view self.new ≡ with_term (look_of frames.now last.now) (role_view role.entry) (term_view term.now) (flaws_view self.old)) }
+        ensures flaws { IfOk result (λ _. flaws_view self.new ≡ with_term (look_of frames.now last.now) (role_view role.entry) (spot_view spot.entry) (term_view term.now) (flaws_view self.old)) }
         ensures brief { IfOk result (λ s. brief_view s ≡ brief_at (look_of frames.now last.now) (term_view term.now)) }
     {
         let sort = sort_of(term, frames, last);
@@ -204,7 +221,7 @@ impl Findings {
         initial: Option<WrittenValue>,
         spot: Spot<'_>,
     ) -> Result<(), NoMemory>
-        ensures { IfOk result (λ _. flaws_view self.new ≡ with_declared (sort_view sort) (initial_view initial) (flaws_view self.old)) }
+        ensures { IfOk result (λ _. flaws_view self.new ≡ with_declared (spot_view spot.entry) (sort_view sort) (initial_view initial) (flaws_view self.old)) }
     {
         keep_first(&mut self.bad_width, !is_sort(sort), &self.place, spot)?;
         keep_first(

@@ -1,10 +1,13 @@
 //! The first rule that a written model breaks.
 
-ghost use Rattle.std.specs.Prelude.{◌≡◌, IfOk, Some, None, option_map, cond, is_some};
+ghost use Rattle.std.specs.Prelude.{◌≡◌, IfOk, None, option_map};
 ghost use Rattle.model_files.specs.Meaning as meaning;
 ghost use Rattle.model_files.specs.Meaning.{broken_rule};
 ghost use Rattle.ila_file.specs.View.{model_view};
+ghost use Rattle.ila_file.specs.Places.{found_text};
 ghost use Rattle.ila_rules.specs.Flaws.{model_flaws};
+ghost use Rattle.wb_values.specs.Choice.{first_of};
+ghost use Rattle.ila_rules.specs.Refusals.{refusal_view, noted, IsNotedIn};
 ghost use Rattle.ila_rules.specs.Rule.{rule_view};
 ghost use Rattle.ila_rules.specs.View.{flaws_view};
 
@@ -33,7 +36,7 @@ fn judge_parts(alloc: Global, model: &WrittenModel<'_>) -> Result<Findings, NoMe
 
 /// The refusal by a rule, where it is broken, and else what the rules after it say.
 fn first(rule: ModelRule, note: Option<Note>, rest: Option<ModelRefusal>) -> Option<ModelRefusal>
-    ensures { option_map (λ r. rule_view r.rule) result ≡ cond (is_some note) (Some (rule_view rule)) (option_map (λ r. rule_view r.rule) rest) }
+    ensures { option_map refusal_view result ≡ first_of (noted (rule_view rule) (found_text note)) (option_map refusal_view rest) }
 {
     match note {
         Some(note) => Some(ModelRefusal { rule, note }),
@@ -48,16 +51,16 @@ fn in_order(
     deep: Option<Note>,
     steps: Option<Note>,
 ) -> Option<ModelRefusal>
-    ensures { option_map (λ r. rule_view r.rule) result ≡
-        cond (is_some names.entry.bad) (Some meaning.BadName)
-        (cond (is_some names.entry.twice) (Some meaning.DuplicateName)
-        (cond (is_some findings.unknown_name) (Some meaning.UnknownName)
-        (cond (is_some findings.bad_width) (Some meaning.BadWidth)
-        (cond (is_some findings.bad_sort) (Some meaning.BadSort)
-        (cond (is_some findings.bad_number) (Some meaning.BadNumber)
-        (cond (is_some findings.memory_copy) (Some meaning.MemoryCopy)
-        (cond (is_some deep) (Some meaning.TooDeepChild)
-        (cond (is_some steps) (Some meaning.BadSteps) None)))))))) }
+    ensures { option_map refusal_view result ≡
+        first_of (noted meaning.BadName (found_text names.entry.bad))
+        (first_of (noted meaning.DuplicateName (found_text names.entry.twice))
+        (first_of (noted meaning.UnknownName (found_text findings.unknown_name))
+        (first_of (noted meaning.BadWidth (found_text findings.bad_width))
+        (first_of (noted meaning.BadSort (found_text findings.bad_sort))
+        (first_of (noted meaning.BadNumber (found_text findings.bad_number))
+        (first_of (noted meaning.MemoryCopy (found_text findings.memory_copy))
+        (first_of (noted meaning.TooDeepChild (found_text deep))
+        (first_of (noted meaning.BadSteps (found_text steps)) None)))))))) }
 {
     let found = first(ModelRule::BadSteps, steps, None);
     let found = first(ModelRule::TooDeepChild, deep, found);
@@ -75,7 +78,8 @@ pub fn broken_rule(
     alloc: Global,
     model: &WrittenModel<'_>,
 ) -> Result<Option<ModelRefusal>, NoMemory>
-    ensures { IfOk result (λ o. option_map (λ r. rule_view r.rule) o ≡ broken_rule (model_view model.now)) }
+    ensures rule { IfOk result (λ o. option_map (λ r. rule_view r.rule) o ≡ broken_rule (model_view model.now)) }
+    ensures note { IfOk result (λ o. IsNotedIn (model_view model.now) (option_map refusal_view o)) }
 {
     let names = judge_names(alloc, model)?;
     let findings = judge_parts(alloc, model)?;

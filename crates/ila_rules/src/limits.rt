@@ -1,9 +1,9 @@
 //! How deep children nest, and how many steps they may take.
 
-ghost use Rattle.std.specs.Prelude.{◌≡◌, IfOk, is_some, not};
-ghost use Rattle.model_files.specs.Rules.{has_step_limits, instruction_has_step_limits, child_has_step_limits};
+ghost use Rattle.std.specs.Prelude.{◌≡◌, IfOk};
+ghost use Rattle.ila_file.specs.Places.{way_of, found_text};
 ghost use Rattle.ila_file.specs.View.{machine_view, instruction_view, child_view};
-ghost use Rattle.ila_rules.specs.Depths.{nests_deeper, instruction_nests_deeper, child_nests_deeper};
+ghost use Rattle.ila_rules.specs.Limits.{deeper_note, instruction_deeper, child_deeper, limit_note, instruction_limit, child_limit, limit_here};
 
 use ila_file::{NoMemory, Note, Place, Spot, WrittenChild, WrittenInstruction, WrittenMachine};
 
@@ -14,7 +14,8 @@ pub(crate) fn deeper_child(
     left: usize,
     place: &mut Place,
 ) -> Result<Option<Note>, NoMemory>
-    ensures { IfOk result (λ o. is_some o ≡ nests_deeper left (machine_view machine.now)) }
+    ensures note { IfOk result (λ o. found_text o ≡ deeper_note (way_of place.old) left (machine_view machine.now)) }
+    ensures way { IfOk result (λ _. way_of place.new ≡ way_of place.old) }
 {
     for (index, instruction) in machine.instructions.iter().enumerate() {
         if let Some(note) = deeper_in(instruction, index, left, place)? {
@@ -31,12 +32,13 @@ fn deeper_in(
     left: usize,
     place: &mut Place,
 ) -> Result<Option<Note>, NoMemory>
-    ensures { IfOk result (λ o. is_some o ≡ instruction_nests_deeper left (instruction_view instruction.now)) }
+    ensures note { IfOk result (λ o. found_text o ≡ instruction_deeper (way_of place.old) left index (instruction_view instruction.now)) }
+    ensures way { IfOk result (λ _. way_of place.new ≡ way_of place.old) }
 {
     let name = instruction.name;
     match &instruction.child {
         Some(child) => {
-            let found = deeper_than(child, (index, name), left, place)?;
+            let found = deeper_than(child, index, name, left, place)?;
             Ok(found)
         }
         None => Ok(None),
@@ -46,13 +48,14 @@ fn deeper_in(
 #[cycle(depth)]
 fn deeper_than<'v>(
     child: &WrittenChild<'v>,
-    instruction: (usize, &'v str),
+    index: usize,
+    name: &'v str,
     left: usize,
     place: &mut Place,
 ) -> Result<Option<Note>, NoMemory>
-    ensures { IfOk result (λ o. is_some o ≡ child_nests_deeper left (child_view child.now)) }
+    ensures note { IfOk result (λ o. found_text o ≡ child_deeper (way_of place.old) left index name.now (child_view child.now)) }
+    ensures way { IfOk result (λ _. way_of place.new ≡ way_of place.old) }
 {
-    let (index, name) = instruction;
     if left == 0 {
         let note = place.note(Spot::item("instructions", index, Some(name)).part("child"))?;
         return Ok(Some(note));
@@ -69,7 +72,8 @@ pub(crate) fn unlimited_child(
     machine: &WrittenMachine<'_>,
     place: &mut Place,
 ) -> Result<Option<Note>, NoMemory>
-    ensures { IfOk result (λ o. is_some o ≡ not (has_step_limits (machine_view machine.now))) }
+    ensures note { IfOk result (λ o. found_text o ≡ limit_note (way_of place.old) (machine_view machine.now)) }
+    ensures way { IfOk result (λ _. way_of place.new ≡ way_of place.old) }
 {
     for (index, instruction) in machine.instructions.iter().enumerate() {
         if let Some(note) = unlimited_in(instruction, index, place)? {
@@ -85,7 +89,8 @@ fn unlimited_in(
     index: usize,
     place: &mut Place,
 ) -> Result<Option<Note>, NoMemory>
-    ensures { IfOk result (λ o. is_some o ≡ not (instruction_has_step_limits (instruction_view instruction.now))) }
+    ensures note { IfOk result (λ o. found_text o ≡ instruction_limit (way_of place.old) index (instruction_view instruction.now)) }
+    ensures way { IfOk result (λ _. way_of place.new ≡ way_of place.old) }
 {
     match &instruction.child {
         Some(child) => {
@@ -102,14 +107,25 @@ fn unlimited(
     index: usize,
     place: &mut Place,
 ) -> Result<Option<Note>, NoMemory>
-    ensures { IfOk result (λ o. is_some o ≡ not (child_has_step_limits (child_view child.now))) }
+    ensures note { IfOk result (λ o. found_text o ≡ child_limit (way_of place.old) index (child_view child.now)) }
+    ensures way { IfOk result (λ _. way_of place.new ≡ way_of place.old) }
 {
     place.enter(index)?;
+    let found = unlimited_here(child, place)?;
+    place.leave();
+    Ok(found)
+}
+
+/// The child itself, or the first within it, at the place of its machine.
+#[cycle(steps)]
+fn unlimited_here(child: &WrittenChild<'_>, place: &mut Place) -> Result<Option<Note>, NoMemory>
+    ensures note { IfOk result (λ o. found_text o ≡ limit_here (way_of place.old) (child_view child.now)) }
+    ensures way { IfOk result (λ _. way_of place.new ≡ way_of place.old) }
+{
     if child.steps < 1 || child.steps > 4096 {
         let note = place.note(Spot::key("steps"))?;
         return Ok(Some(note));
     }
     let found = unlimited_child(&child.machine, place)?;
-    place.leave();
     Ok(found)
 }

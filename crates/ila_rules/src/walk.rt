@@ -21,7 +21,7 @@ fn add_state<'v>(
     frame: &mut Frame<'v>,
     findings: &mut Findings,
 ) -> Result<(), NoMemory>
-    ensures flaws { IfOk result (λ _. flaws_view findings.new ≡ state_flaws (state_view state.now ∷ []) (flaws_view findings.old)) }
+    ensures flaws { IfOk result (λ _. flaws_view findings.new ≡ state_flaws index (state_view state.now ∷ []) (flaws_view findings.old)) }
     ensures look { IfOk result (λ _. look_frame frame.new ≡ look_states (look_frame frame.old) (state_view state.now ∷ [])) }
     ensures states { IfOk result (λ _. states_frame frame.new ≡ states_within (states_frame frame.old) (state_view state.now ∷ [])) }
 {
@@ -37,7 +37,7 @@ fn add_states<'v>(
     frame: &mut Frame<'v>,
     findings: &mut Findings,
 ) -> Result<(), NoMemory>
-    ensures flaws { IfOk result (λ _. flaws_view findings.new ≡ state_flaws (map state_view states.now) (flaws_view findings.old)) }
+    ensures flaws { IfOk result (λ _. flaws_view findings.new ≡ state_flaws 0 (map state_view states.now) (flaws_view findings.old)) }
     ensures look { IfOk result (λ _. look_frame frame.new ≡ look_states (look_frame frame.old) (map state_view states.now)) }
     ensures states { IfOk result (λ _. states_frame frame.new ≡ states_within (states_frame frame.old) (map state_view states.now)) }
 {
@@ -54,7 +54,7 @@ fn add_definition<'v>(
     frame: &mut Frame<'v>,
     findings: &mut Findings,
 ) -> Result<(), NoMemory>
-    ensures flaws { IfOk result (λ _. flaws_view findings.new ≡ definition_flaws (look_of frames.now frame.old) (definition_view definition.now ∷ []) (flaws_view findings.old)) }
+    ensures flaws { IfOk result (λ _. flaws_view findings.new ≡ definition_flaws (look_of frames.now frame.old) index (definition_view definition.now ∷ []) (flaws_view findings.old)) }
     ensures look { IfOk result (λ _. look_of frames.now frame.new ≡ look_definitions (look_of frames.now frame.old) (definition_view definition.now ∷ [])) }
     ensures states { IfOk result (λ _. states_frame frame.new ≡ states_frame frame.old) }
 {
@@ -71,7 +71,7 @@ fn add_definitions<'v>(
     frame: &mut Frame<'v>,
     findings: &mut Findings,
 ) -> Result<(), NoMemory>
-    ensures flaws { IfOk result (λ _. flaws_view findings.new ≡ definition_flaws (look_of frames.now frame.old) (map definition_view definitions.now) (flaws_view findings.old)) }
+    ensures flaws { IfOk result (λ _. flaws_view findings.new ≡ definition_flaws (look_of frames.now frame.old) 0 (map definition_view definitions.now) (flaws_view findings.old)) }
     ensures look { IfOk result (λ _. look_of frames.now frame.new ≡ look_definitions (look_of frames.now frame.old) (map definition_view definitions.now)) }
     ensures states { IfOk result (λ _. states_frame frame.new ≡ states_frame frame.old) }
 {
@@ -89,7 +89,7 @@ fn own_frame<'v>(
     frames: &[Frame<'v>],
     findings: &mut Findings,
 ) -> Result<Frame<'v>, NoMemory>
-    ensures flaws { IfOk result (λ _. flaws_view findings.new ≡ definition_flaws (look_states (look_frames frames.now) (map state_view states.now)) (map definition_view definitions.now) (state_flaws (map state_view states.now) (flaws_view findings.old))) }
+    ensures flaws { IfOk result (λ _. flaws_view findings.new ≡ definition_flaws (look_states (look_frames frames.now) (map state_view states.now)) 0 (map definition_view definitions.now) (state_flaws 0 (map state_view states.now) (flaws_view findings.old))) }
     ensures look { IfOk result (λ f. look_of frames.now f ≡ look_within (look_frames frames.now) (map state_view states.now) (map definition_view definitions.now)) }
     ensures states { IfOk result (λ f. states_of frames.now f ≡ states_within (states_frames frames.now) (map state_view states.now)) }
 {
@@ -156,15 +156,15 @@ fn enter<'v>(
 }
 
 fn judge_update<'v>(
-    instruction: (usize, &'v str),
+    index: usize,
+    name: &'v str,
     update: &WrittenUpdate<'v>,
     frames: &[Frame<'v>],
     last: &Frame<'v>,
     findings: &mut Findings,
 ) -> Result<(), NoMemory>
-    ensures { IfOk result (λ _. flaws_view findings.new ≡ update_flaws (look_of frames.now last.now) (states_frames frames.now) (update_view update.now ∷ []) (flaws_view findings.old)) }
+    ensures { IfOk result (λ _. flaws_view findings.new ≡ update_flaws (look_of frames.now last.now) (states_frames frames.now) index name.now (update_view update.now ∷ []) (flaws_view findings.old)) }
 {
-    let (index, name) = instruction;
     let spot = Spot::item("instructions", index, Some(name)).part("update");
     let role = Role::Update(update.state, state_in(frames, update.state));
     findings.judge_term(&update.term, role, frames, last, spot.member(update.state))?;
@@ -172,35 +172,36 @@ fn judge_update<'v>(
 }
 
 fn judge_updates<'v>(
-    instruction: (usize, &'v str),
+    index: usize,
+    name: &'v str,
     updates: &[WrittenUpdate<'v>],
     frames: &[Frame<'v>],
     last: &Frame<'v>,
     findings: &mut Findings,
 ) -> Result<(), NoMemory>
-    ensures { IfOk result (λ _. flaws_view findings.new ≡ update_flaws (look_of frames.now last.now) (states_frames frames.now) (map update_view updates.now) (flaws_view findings.old)) }
+    ensures { IfOk result (λ _. flaws_view findings.new ≡ update_flaws (look_of frames.now last.now) (states_frames frames.now) index name.now (map update_view updates.now) (flaws_view findings.old)) }
 {
     for update in updates {
-        judge_update(instruction, update, frames, last, findings)?;
+        judge_update(index, name, update, frames, last, findings)?;
     }
     Ok(())
 }
 
 /// Judges the decode condition and the updates of an instruction.
 fn judge_own<'v>(
-    instruction: (usize, &'v str),
+    index: usize,
+    name: &'v str,
     decode: &WrittenTerm<'v>,
     updates: &[WrittenUpdate<'v>],
     frames: &[Frame<'v>],
     last: &Frame<'v>,
     findings: &mut Findings,
 ) -> Result<(), NoMemory>
-    ensures { IfOk result (λ _. flaws_view findings.new ≡ own_flaws (look_of frames.now last.now) (states_frames frames.now) (term_view decode.now) (map update_view updates.now) (flaws_view findings.old)) }
+    ensures { IfOk result (λ _. flaws_view findings.new ≡ own_flaws (look_of frames.now last.now) (states_frames frames.now) index name.now (term_view decode.now) (map update_view updates.now) (flaws_view findings.old)) }
 {
-    let (index, name) = instruction;
     let spot = Spot::item("instructions", index, Some(name)).part("decode");
     findings.judge_term(decode, Role::Condition, frames, last, spot)?;
-    judge_updates(instruction, updates, frames, last, findings)
+    judge_updates(index, name, updates, frames, last, findings)
 }
 
 #[cycle(walk)]
@@ -211,12 +212,12 @@ fn judge_instruction<'v>(
     last: &Frame<'v>,
     findings: &mut Findings,
 ) -> Result<(), NoMemory>
-    ensures flaws { IfOk result (λ _. flaws_view findings.new ≡ instruction_flaws (look_frames frames.old.items) (look_of frames.old.items last.now) (states_frames frames.old.items) (instruction_view instruction.now) (flaws_view findings.old)) }
+    ensures flaws { IfOk result (λ _. flaws_view findings.new ≡ instruction_flaws (look_frames frames.old.items) (look_of frames.old.items last.now) (states_frames frames.old.items) index (instruction_view instruction.now) (flaws_view findings.old)) }
     ensures frames { IfOk result (λ _. frames.new.items ≡ frames.old.items) }
 {
-    let name = (index, instruction.name);
     judge_own(
-        name,
+        index,
+        instruction.name,
         &instruction.decode,
         &instruction.updates,
         frames,
@@ -239,12 +240,12 @@ fn judge_child<'v>(
     frames: &mut Vec<Frame<'v>>,
     findings: &mut Findings,
 ) -> Result<(), NoMemory>
-    ensures flaws { IfOk result (λ _. flaws_view findings.new ≡ child_flaws (look_frames frames.old.items) (states_frames frames.old.items) (child_view child.now) (flaws_view findings.old)) }
+    ensures flaws { IfOk result (λ _. flaws_view findings.new ≡ child_flaws (look_frames frames.old.items) (states_frames frames.old.items) index (child_view child.now) (flaws_view findings.old)) }
     ensures frames { IfOk result (λ _. frames.new.items ≡ frames.old.items) }
 {
-    findings.place.enter(index)?;
+    findings.enter(index)?;
     judge_machine(&child.machine, frames, findings)?;
-    findings.place.leave();
+    findings.leave();
     Ok(())
 }
 
@@ -279,7 +280,7 @@ fn add_input<'v>(
     frame: &mut Frame<'v>,
     findings: &mut Findings,
 ) -> Result<(), NoMemory>
-    ensures flaws { IfOk result (λ _. flaws_view findings.new ≡ input_flaws (input_view input.now ∷ []) (flaws_view findings.old)) }
+    ensures flaws { IfOk result (λ _. flaws_view findings.new ≡ input_flaws index (input_view input.now ∷ []) (flaws_view findings.old)) }
     ensures look { IfOk result (λ _. look_frame frame.new ≡ look_inputs (look_frame frame.old) (input_view input.now ∷ [])) }
     ensures states { IfOk result (λ _. states_frame frame.new ≡ states_frame frame.old) }
 {
@@ -294,7 +295,7 @@ pub(crate) fn input_frame<'v>(
     inputs: &[WrittenInput<'v>],
     findings: &mut Findings,
 ) -> Result<Frame<'v>, NoMemory>
-    ensures flaws { IfOk result (λ _. flaws_view findings.new ≡ input_flaws (map input_view inputs.now) (flaws_view findings.old)) }
+    ensures flaws { IfOk result (λ _. flaws_view findings.new ≡ input_flaws 0 (map input_view inputs.now) (flaws_view findings.old)) }
     ensures look { IfOk result (λ f. look_frame f ≡ look_inputs no_names (map input_view inputs.now)) }
     ensures states { IfOk result (λ f. states_frame f ≡ (λ n. None)) }
 {

@@ -10,7 +10,7 @@ use Rattle.wb_terms.specs.declared.nodes.TermId.{TermId}
 use Rattle.ila_build.specs.Standing.{IsFresh, under_name}
 use Rattle.ila_build.specs.Knowing.{defined_names}
 use Rattle.ila_build.specs.Declaring.{state_entry, input_entry}
-use Rattle.ila_build.specs.Building.{definitions_in, instructions_in}
+use Rattle.ila_build.specs.Building.{definitions_in, own_instructions}
 use Rattle.ila_build.specs.Refusing.{IsBesides, entry_names, names_below}
 use Rattle.ila_build.proofs.Sorting.{or_parts}
 use Rattle.ila_build.proofs.Fresh.{among-append, fresh_front, fresh_rest, fresh_moved, fresh_behind, apart}
@@ -38,10 +38,10 @@ apart_front t is ss rest q f h = by_test (is_among q ss) refl where
   by_test true e = absurd (false≢true (sym (apart t is (ss ++ rest) q f (among-append q ss rest ∙ or_true (is_among q ss) (is_among q rest) e)) ∙ h))
 
 pub file_fresh : (t : BTreeMap (Bor (List ℕ)) TermId) (m : WrittenModel) → ((q : Name) → under_name t q ≡ None) → has_twice (all_data_names m) ≡ false
-    → IsFresh t (entry_names (map input_entry m.inputs) ++ (entry_names (map state_entry (states_in m.top)) ++ (defined_names (definitions_in m.top) ++ names_below (instructions_in m.top))))
+    → IsFresh t (entry_names (map input_entry m.inputs) ++ (entry_names (map state_entry (states_in m.top)) ++ (defined_names (definitions_in m.top) ++ names_below (own_instructions m.top))))
 file_fresh t m e h =
     let ss = entry_names (map state_entry (states_in m.top)) in
-    subst (IsFresh t) (file_names m ∙ ap (λ ns. entry_names (map input_entry m.inputs) ++ ns) (append_assoc ss (defined_names (definitions_in m.top)) (names_below (instructions_in m.top)))) (fresh_of t (all_data_names m) e h)
+    subst (IsFresh t) (file_names m ∙ ap (λ ns. entry_names (map input_entry m.inputs) ++ ns) (append_assoc ss (defined_names (definitions_in m.top)) (names_below (own_instructions m.top)))) (fresh_of t (all_data_names m) e h)
 
 pub states_fresh : (t : BTreeMap (Bor (List ℕ)) TermId) (is ss rest : List Name) → IsFresh t (is ++ (ss ++ rest)) → IsFresh t ss
 states_fresh t is ss rest f = fresh_front t ss rest (fresh_rest t is (ss ++ rest) f)

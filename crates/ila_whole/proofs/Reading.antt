@@ -24,7 +24,7 @@ use Rattle.ila_build.specs.Standing.{IsGrown, IsWider, IsTable, StandAll}
 use Rattle.ila_build.specs.Knowing.{Knows, are_right}
 use Rattle.ila_build.specs.Updating.{StandAt}
 use Rattle.ila_build.specs.Declaring.{state_entry, input_entry}
-use Rattle.ila_build.specs.Building.{instructions_in, IsMachine, IsMachinePut}
+use Rattle.ila_build.specs.Building.{own_instructions, IsMachine, IsMachinePut}
 use Rattle.ila_build.specs.Inside.{links_from, StandForChildren, AreChildrenPut}
 use Rattle.ila_build.proofs.Growing.{wide_same}
 use Rattle.ila_build.proofs.Chosen.{stand_moved}
@@ -86,7 +86,7 @@ inputs_read (i ∷ is) more = ap (λ r. i ∷ r) (inputs_read is more)
 top_read : (g h k : Graph) (t u v : BTreeMap (Bor (List ℕ)) TermId) (links : List (Option ChildId)) (cs : List Child) (ins : List InputDeclaration) (w : WrittenMachine) (valid : TermId) (xs : List Instruction) (values : List (Option Value)) (more : Entries Sort)
     → are_right (terms_in (record { names = with_inputs [] ins; states = [] }) w) ≡ true → depth_of w ≤ 3
     → IsTable g t → g.names ≡ map state_entry (states_in w) ++ map input_entry ins
-    → IsGrown g h → IsMachinePut g t h u links w valid xs → links ≡ links_from 0 (instructions_in w) → AreChildrenPut h u [] k v cs (instructions_in w)
+    → IsGrown g h → IsMachinePut g t h u links w valid xs → links ≡ links_from 0 (own_instructions w) → AreChildrenPut h u [] k v cs (own_instructions w)
     → map (option_map as_value) values ≡ map (λ s. s.init) (states_in w) → k.names ≡ map state_entry (states_in w) ++ more
     → pure.machine (declared_states k.names values) (tree k valid.0) (instructions_of k (program_of k cs nesting) xs) ≡ file.machine_of (record { names = with_inputs [] ins; states = [] }) w
 unfolding IsMachinePut nesting
@@ -114,7 +114,7 @@ model_is {n} {m} {is} {js} {t} {u} p q r = λ i. record { model_name = p i; inpu
 
 pub parts_read : (g h : Graph) (t u v : BTreeMap (Bor (List ℕ)) TermId) (links : List (Option ChildId)) (m : WrittenModel) (p : Parts)
     → IsTable g t → g.names ≡ map state_entry (states_in m.top) ++ map input_entry m.inputs
-    → IsGrown g h → IsMachinePut g t h u links m.top p.valid p.instructions.items → links ≡ links_from 0 (instructions_in m.top) → AreChildrenPut h u [] p.terms v p.children.items (instructions_in m.top)
+    → IsGrown g h → IsMachinePut g t h u links m.top p.valid p.instructions.items → links ≡ links_from 0 (own_instructions m.top) → AreChildrenPut h u [] p.terms v p.children.items (own_instructions m.top)
     → p.inputs ≡ length m.inputs → map (option_map as_value) p.initial_values.items ≡ map (λ s. s.init) (states_in m.top) → ArePartsOf m p
 unfolding ArePartsOf
 parts_read g h t u v links m p table names grown put el inside count inits unbroken =

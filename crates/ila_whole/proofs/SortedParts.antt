@@ -15,7 +15,7 @@ use Rattle.ila_model.specs.declared.sorting.SortedParts.{SortedParts}
 use Rattle.ila_model.specs.Sorted.{are_placed, is_well_sorted}
 use Rattle.ila_build.specs.Standing.{IsTable, IsGrown}
 use Rattle.ila_build.specs.Declaring.{state_entry, input_entry}
-use Rattle.ila_build.specs.Building.{IsMachinePut, IsMachine, instructions_in}
+use Rattle.ila_build.specs.Building.{IsMachinePut, IsMachine, own_instructions}
 use Rattle.ila_build.specs.Inside.{links_from, AreChildrenPut}
 use Rattle.ila_build.specs.Layout.{AreLaidPut, AreLaid}
 use Rattle.ila_build.proofs.Chosen.{stand_moved}
@@ -28,8 +28,8 @@ use Rattle.ila_whole.proofs.Sound.{sound}
 
 sorted_from : (g h : Graph) (t u v : BTreeMap (Bor (List ℕ)) TermId) (links : List (Option ChildId)) (ins : List InputDeclaration) (w : WrittenMachine) (p : Parts)
     → IsSound ins w → IsTable g t → g.names ≡ map state_entry (states_in w) ++ map input_entry ins
-    → IsGrown g h → IsMachinePut g t h u links w p.valid p.instructions.items → links ≡ links_from 0 (instructions_in w)
-    → AreChildrenPut h u [] p.terms v p.children.items (instructions_in w) → AreLaidPut h u [] p.terms p.children.items None (instructions_in w)
+    → IsGrown g h → IsMachinePut g t h u links w p.valid p.instructions.items → links ≡ links_from 0 (own_instructions w)
+    → AreChildrenPut h u [] p.terms v p.children.items (own_instructions w) → AreLaidPut h u [] p.terms p.children.items None (own_instructions w)
     → p.inputs ≡ length ins → map (option_map as_value) p.initial_values.items ≡ map (λ s. s.init) (states_in w) → HasDistinctNames p.terms.names → is_well_sorted p ≡ true
 unfolding IsMachinePut
 sorted_from g h t u v links ins (machine ss ds f e is) p sound table names grown put el inside laid count inits distinct =
@@ -60,8 +60,8 @@ sorted_from g h t u v links ins (machine ss ds f e is) p sound table names grown
 
 pub parts_sorted : (g h : Graph) (t u v : BTreeMap (Bor (List ℕ)) TermId) (links : List (Option ChildId)) (m : WrittenModel) (p : Parts)
     → IsTable g t → g.names ≡ map state_entry (states_in m.top) ++ map input_entry m.inputs
-    → IsGrown g h → IsMachinePut g t h u links m.top p.valid p.instructions.items → links ≡ links_from 0 (instructions_in m.top)
-    → AreChildrenPut h u [] p.terms v p.children.items (instructions_in m.top) → AreLaidPut h u [] p.terms p.children.items None (instructions_in m.top)
+    → IsGrown g h → IsMachinePut g t h u links m.top p.valid p.instructions.items → links ≡ links_from 0 (own_instructions m.top)
+    → AreChildrenPut h u [] p.terms v p.children.items (own_instructions m.top) → AreLaidPut h u [] p.terms p.children.items None (own_instructions m.top)
     → p.inputs ≡ length m.inputs → map (option_map as_value) p.initial_values.items ≡ map (λ s. s.init) (states_in m.top) → HasDistinctNames p.terms.names → AreSortedParts m p
 unfolding AreSortedParts
 parts_sorted g h t u v links m p table names grown put el inside laid count inits distinct fit =

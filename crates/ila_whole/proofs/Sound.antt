@@ -14,7 +14,7 @@ use Rattle.model_files.specs.Rules.{has_state_widths, has_fitting_initial_values
 use Rattle.model_files.specs.Meaning.{broken_rule}
 use Rattle.ila_build.specs.Knowing.{defined_names}
 use Rattle.ila_build.specs.Declaring.{state_entry, input_entry}
-use Rattle.ila_build.specs.Building.{definitions_in, instructions_in}
+use Rattle.ila_build.specs.Building.{definitions_in, own_instructions}
 use Rattle.ila_build.specs.Refusing.{AreFitBelow, IsFitChild, are_sorts, entry_names, names_below}
 use Rattle.ila_build.proofs.Sorting.{or_parts}
 use Rattle.ila_build.proofs.ChildDue.{data_names_are}
@@ -86,7 +86,7 @@ mutual
   fit_child (child steps (machine ss ds f v is)) g =
       (record { sorts = state_sorts ss g.0.widths; values = private_values ss g.0.plain; limit = leb-true steps 4096 g.0.limit }, fit_below is g.1)
 
-pub top_fit : (ins : List InputDeclaration) (m : WrittenMachine) → IsSound ins m → AreFitBelow (instructions_in m)
+pub top_fit : (ins : List InputDeclaration) (m : WrittenMachine) → IsSound ins m → AreFitBelow (own_instructions m)
 top_fit ins (machine ss ds f v is) s =
     let m = machine ss ds f v is in
     let widths = and_parts (has_state_widths m) _ s.widths in
@@ -99,11 +99,11 @@ input_names : (is : List InputDeclaration) → map (λ i. i.input_name) is ≡ e
 input_names [] = refl
 input_names (i ∷ is) = ap (λ ns. i.input_name ∷ ns) (input_names is)
 
-machine_names : (m : WrittenMachine) → joined (map data_names (machines_in m)) ≡ (entry_names (map state_entry (states_in m)) ++ defined_names (definitions_in m)) ++ names_below (instructions_in m)
+machine_names : (m : WrittenMachine) → joined (map data_names (machines_in m)) ≡ (entry_names (map state_entry (states_in m)) ++ defined_names (definitions_in m)) ++ names_below (own_instructions m)
 machine_names (machine ss ds f v is) = ap (λ ns. ns ++ names_below is) (data_names_are (machine ss ds f v is))
 
 -- the names of a file, by where they are declared
-pub file_names : (m : WrittenModel) → all_data_names m ≡ entry_names (map input_entry m.inputs) ++ ((entry_names (map state_entry (states_in m.top)) ++ defined_names (definitions_in m.top)) ++ names_below (instructions_in m.top))
+pub file_names : (m : WrittenModel) → all_data_names m ≡ entry_names (map input_entry m.inputs) ++ ((entry_names (map state_entry (states_in m.top)) ++ defined_names (definitions_in m.top)) ++ names_below (own_instructions m.top))
 file_names m = ap (λ ns. ns ++ joined (map data_names (machines_in m.top))) (input_names m.inputs) ∙ ap (λ ns. entry_names (map input_entry m.inputs) ++ ns) (machine_names m.top)
 
 pub names_apart : (m : WrittenModel) → broken_rule m ≡ None → has_twice (all_data_names m) ≡ false

@@ -23,7 +23,7 @@ use Rattle.ila_model.proofs.Declarations.{are_distinct-from}
 use Rattle.ila_build.specs.Knowing.{are_right}
 use Rattle.ila_build.specs.Declaring.{state_entry, input_entry}
 use Rattle.ila_build.specs.Updating.{StandAt}
-use Rattle.ila_build.specs.Building.{IsMachine, instructions_in}
+use Rattle.ila_build.specs.Building.{IsMachine, own_instructions}
 use Rattle.ila_build.specs.Inside.{links_from}
 use Rattle.ila_build.specs.Layout.{AreLaid}
 use Rattle.ila_build.proofs.ChildLemmas.{drop_front}
@@ -102,7 +102,7 @@ pub record IsWhole (p : Parts) (ins : List InputDeclaration) (m : WrittenMachine
   pub values : map (option_map as_value) p.initial_values.items ≡ map (λ s. s.init) (states_in m)
   pub places : List ℕ
   pub stand : StandAt p.terms 0 places (states_in m)
-  pub own : IsMachine p.terms (with_states (with_inputs [] ins) (states_in m)) (states_in m) (links_from 0 (instructions_in m)) m p.valid p.instructions.items
+  pub own : IsMachine p.terms (with_states (with_inputs [] ins) (states_in m)) (states_in m) (links_from 0 (own_instructions m)) m p.valid p.instructions.items
   pub distinct : HasDistinctNames p.terms.names
   pub placed : are_placed (length (map state_entry (states_in m) ++ map input_entry ins)) (length p.terms.names) p.children.items ≡ true
 
@@ -124,7 +124,7 @@ map_length : {A B : Type 0} (f : A → B) (xs : List A) → length (map f xs) �
 map_length f [] = refl
 map_length f (x ∷ xs) = omega (arith, map_length f xs)
 
-pub well_sorted : (p : Parts) (ins : List InputDeclaration) (m : WrittenMachine) → IsWhole p ins m → IsSound ins m → AreLaid p.terms (inner_of ins m) None 0 (instructions_in m) p.children.items → is_well_sorted p ≡ true
+pub well_sorted : (p : Parts) (ins : List InputDeclaration) (m : WrittenMachine) → IsWhole p ins m → IsSound ins m → AreLaid p.terms (inner_of ins m) None 0 (own_instructions m) p.children.items → is_well_sorted p ≡ true
 well_sorted p ins (machine ss ds f v is) w s laid =
     let m = machine ss ds f v is in
     let ns = p.terms.names in

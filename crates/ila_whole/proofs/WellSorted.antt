@@ -25,7 +25,7 @@ use Rattle.ila_model.specs.Sorted.{has_sort, is_term_of, is_read_at, is_conditio
 use Rattle.ila_build.specs.Knowing.{is_right, are_right}
 use Rattle.ila_build.specs.Declaring.{state_entry, input_entry}
 use Rattle.ila_build.specs.Updating.{entry_at, StandAt, AreUpdates}
-use Rattle.ila_build.specs.Building.{pair_of, link_at, decode_in, update_in, own_terms, AreOwnRight, IsInstruction, AreInstructions, IsMachine, IsMachineRight, names_in, definitions_in, fetch_in, valid_in, instructions_in}
+use Rattle.ila_build.specs.Building.{pair_of, link_at, decode_in, update_in, own_terms, AreOwnRight, IsInstruction, AreInstructions, IsMachine, IsMachineRight, names_in, definitions_in, fetch_in, valid_in, own_instructions}
 use Rattle.ila_build.specs.Inside.{program_in, link_from, links_from}
 use Rattle.ila_build.proofs.Sorting.{AreSorted, sort_is, or_parts}
 use Rattle.ila_build.proofs.Definitions.{first_right, not_true}
@@ -242,9 +242,9 @@ instructions_at p at names states places before low pos (and_then i is) (x ∷ x
 
 -- a machine: its names are known to its definitions
 pub machine_at : (p : Parts) (at : Option ℕ) (names : Entries Visible) (states : List StateDeclaration) (places : List ℕ) (pos : ℕ) (m : WrittenMachine) (valid : TermId) (xs : List Instruction)
-    → HasDistinctNames p.terms.names → AreKnownAt p at names → StandAt p.terms 0 places states → AreStatesAt p at states → IsMachineRight names states m → AreLinkedAt p.children.items at pos (instructions_in m)
-    → IsMachine p.terms names states (links_from pos (instructions_in m)) m valid xs → is_machine p at valid.0 xs ≡ true
+    → HasDistinctNames p.terms.names → AreKnownAt p at names → StandAt p.terms 0 places states → AreStatesAt p at states → IsMachineRight names states m → AreLinkedAt p.children.items at pos (own_instructions m)
+    → IsMachine p.terms names states (links_from pos (own_instructions m)) m valid xs → is_machine p at valid.0 xs ≡ true
 machine_at p at names states places pos m valid xs z k all a right l it =
     let inside : AreKnownAt p at (names_in names m) = known_fetch p at (with_definitions names (definitions_in m)) (fetch_in m) (known_definitions p at names (definitions_in m) k right.definitions) right.fetch in
     and_from (is_condition p at valid.0) (are_instructions p at 0 xs) (condition_at p at (names_in names m) (valid_in m) valid.0 inside it.within it.valid_tree right.valid)
-    (instructions_at p at (names_in names m) states places [] 0 pos (instructions_in m) xs z inside all a (omega arith) right.instructions l it.instructions)
+    (instructions_at p at (names_in names m) states places [] 0 pos (own_instructions m) xs z inside all a (omega arith) right.instructions l it.instructions)

@@ -6,7 +6,7 @@ ghost use Rattle.ila_file.specs.View.{inputs_view, machine_view, model_view};
 ghost use Rattle.ila_build.specs.Declaring.{input_entry, state_entry};
 ghost use Rattle.ila_build.specs.Standing.{IsFresh, IsTable};
 ghost use Rattle.ila_build.specs.Knowing.{defined_names};
-ghost use Rattle.ila_build.specs.Building.{definitions_in, instructions_in};
+ghost use Rattle.ila_build.specs.Building.{definitions_in, own_instructions};
 ghost use Rattle.ila_build.specs.Sizes.{file_size};
 ghost use Rattle.ila_build.specs.Refusing.{IsUnrefused, names_below};
 ghost use Rattle.model_meaning.specs.Among.{has_twice};
@@ -31,7 +31,7 @@ fn declare_top<'v>(
     ensures names { IfOk result (λ p. p.0.names ≡ map state_entry (states_in (machine_view written.now.machine)) ++ map input_entry (inputs_view written.now.inputs)) }
     ensures table { IfOk result (λ p. IsTable p.0 p.1) }
     ensures small { IfOk result (λ p. length p.0.nodes ≤ length (states_in (machine_view written.now.machine)) + length (inputs_view written.now.inputs)) }
-    ensures fresh { IfOk result (λ p. has_twice (all_data_names (model_view written.now)) ≡ false → IsFresh p.1 (defined_names (definitions_in (machine_view written.now.machine)) ++ names_below (instructions_in (machine_view written.now.machine)))) }
+    ensures fresh { IfOk result (λ p. has_twice (all_data_names (model_view written.now)) ≡ false → IsFresh p.1 (defined_names (definitions_in (machine_view written.now.machine)) ++ names_below (own_instructions (machine_view written.now.machine)))) }
     ensures unrefused { IsUnrefused result (IsFit (model_view written.now)) }
 {
     let Ok(table) = empty_table(alloc) else {

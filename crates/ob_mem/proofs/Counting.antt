@@ -1,7 +1,8 @@
 -- How many terms are put.
-use Rattle.std.proofs.Common.{◌≡◌, ℕ, zero, suc, ◌+◌, ◌*◌, ◌<◌, ◌≤◌, ◌^◌, Bool, true, false, cond, List, [], ◌∷◌, ◌++◌, length, get_or, Option, Some, None, refl, sym, ap, ◌∙◌, subst, arith, length-append}
+use Rattle.std.proofs.Common.{◌≡◌, ℕ, zero, suc, ◌+◌, ◌*◌, ◌<◌, ◌≤◌, ◌^◌, Bool, true, false, cond, List, [], ◌∷◌, ◌++◌, length, get_or, take, Option, Some, None, refl, sym, ap, ◌∙◌, subst, arith, length-append}
 use Rattle.std.specs.Prelude.{IsSome, slice_get}
 use Rattle.std.proofs.lemmas.Option.{get_or_from_slice_get}
+use Rattle.std.proofs.lemmas.List.Sums.{sum_by_more, sum_by-take-le}
 use Rattle.std.proofs.lemmas.Bool.{false≢true}
 use Rattle.wb_values.specs.Value.{Sort, truth, word, memory}
 use Rattle.model_meaning.specs.Term.{Term, sort_of}
@@ -10,15 +11,16 @@ use Rattle.wb_terms.specs.declared.nodes.Node.{Node}
 use Rattle.wb_terms.specs.declared.nodes.Node.TheVariants.{Name as NameNode, Truth, Const, Not, And, Or, Xor, Neg, Add, Sub, Mul, Shl, Lshr, Ashr, Eq, Ult, Ule, Slt, Sle, Concat, Extract, Zext, Sext, Ite, Load, Store}
 use Rattle.wb_terms.specs.Graph.{Graph, tree, trees_of, tree_of_node, operands_of, AllBelow}
 use Rattle.wb_terms.proofs.StoreLemmas.{length-trees_of}
-use Rattle.sat_gates.specs.Marks.{IsMarked, AreMarks}
+use Rattle.sat_gates.specs.Cone.{IsCone}
+use Rattle.sat_gates.proofs.Reached.{AreDone, AreAll, operands_done}
 use Rattle.ob_mem.specs.declared.words.MemoryWord.{MemoryWord}
 use Rattle.ob_mem.specs.Words.{listed}
 use Rattle.ob_mem.specs.Rows.{IsRow}
-use Rattle.ob_mem.specs.Images.{IsNoMemory, load_parts, const_part, AreImages, HaveImages, Operands}
+use Rattle.ob_mem.specs.Images.{IsNoMemory, load_parts, const_part, HasImage, HaveImages, Operands}
 use Rattle.ob_mem.specs.Size.{node_at, term_count, load_count, node_count, total_count, IsSmall}
 use Rattle.ob_mem.proofs.Listing.{length-listed}
 use Rattle.ob_mem.proofs.Choosing.{half_twice}
-use Rattle.ob_mem.proofs.Renaming.{no_store, operands_below}
+use Rattle.ob_mem.proofs.Renaming.{no_store}
 
 pub one_counted : (g h : Graph) (t : Term) → trees_of h ≡ trees_of g ++ t ∷ [] → length h.nodes ≡ length g.nodes + 1
 one_counted g h t e = omega (arith, length-trees_of g, length-trees_of h, ap length e, length-append (trees_of g) (t ∷ []))
@@ -109,26 +111,27 @@ store_count g id n m i x a d old new found e s h =
     subst (λ (y : Node). new ≤ old + node_count g y) (sym (found_at g id n found ∙ e)) (omega (arith, c, h))
 
 -- one term more
-pub next_count : (g : Graph) (marks : List Bool) (k old mid new : ℕ) → mid ≤ old + total_count g marks k → new ≤ mid + cond (get_or marks k false) (node_count g (node_at g k)) 0
-    → new ≤ old + total_count g marks (k + 1)
-next_count g marks k old mid new i h =
-    let e : suc k ≡ k + 1 = omega arith in
-    subst (λ j. new ≤ old + total_count g marks j) e (omega (arith, i, h))
+pub next_count : (g : Graph) (ids : List ℕ) (place k old mid new : ℕ) → place < length ids → k ≡ get_or ids place 0 → mid ≤ old + total_count g (take place ids)
+    → new ≤ mid + node_count g (node_at g k) → new ≤ old + total_count g (take (place + 1) ids)
+next_count g ids place k old mid new l e i h =
+    let f = λ (x : ℕ). node_count g (node_at g x) in
+    let more : total_count g (take (place + 1) ids) ≡ total_count g (take place ids) + node_count g (node_at g k) = sum_by_more f ids place 0 l ∙ ap (λ x. total_count g (take place ids) + f x) (sym e) in
+    omega (arith, i, h, more)
 
-pub skipped : (b : Bool) (n old new : ℕ) → b ≡ false → new ≡ old → new ≤ old + cond b n 0
-skipped b n old new e h = rw e (omega (arith, h))
+pub all_count : (g : Graph) (ids : List ℕ) (place old new : ℕ) → length ids ≤ place → new ≤ old + total_count g (take place ids) → new ≤ old + total_count g ids
+all_count g ids place old new l i = omega (arith, i, sum_by-take-le (λ (x : ℕ). node_count g (node_at g x)) ids place)
 
-pub taken : (b : Bool) (n old new : ℕ) → b ≡ true → new ≤ old + n → new ≤ old + cond b n 0
-taken b n old new e h = rw e h
+pub is_small : (g : Graph) (id : ℕ) (ids : List ℕ) (h : Graph) (start : ℕ) → IsCone g id ids → start ≡ 0 → length h.nodes ≤ start + total_count g ids → IsSmall g id h
+is_small g id ids h start c z l = record { counted = ids; cone = c; count = omega (arith, z, l) }
 
-pub is_small : (g : Graph) (id : ℕ) (marks : List Bool) (h : Graph) (start : ℕ) → AreMarks g id 0 marks → start ≡ 0 → length h.nodes ≤ start + total_count g marks (id + 1) → IsSmall g id h
-is_small g id marks h start m z l = record { counted = marks; reached = m.reached; count = omega (arith, z, l) }
+-- the operands of a term have their images
+some_operands : (g h : Graph) (rs : List MemoryWord) (is : ℕ → Option TermId) (ks : List ℕ) → AreAll (HasImage g.names rs g h is) ks → Operands g.names rs g h is ks
+some_operands g h rs is [] a = tt
+some_operands g h rs is (k ∷ ks) a = (a.0, some_operands g h rs is ks a.1)
 
--- the operands of a marked term have their images
-pub have_images : (g h : Graph) (rs : List MemoryWord) (is : List TermId) (marks : List Bool) (root id : ℕ) (n : Node) → AreMarks g root 0 marks → IsMarked marks id → AreImages g rs h marks is id
-    → slice_get g.nodes id ≡ Some n → AllBelow id (operands_of n) → HaveImages g rs h is id
-have_images g h rs is marks root id n a m i found below k e =
+pub have_images : (g h : Graph) (rs : List MemoryWord) (is : ℕ → Option TermId) (root : ℕ) (ids : List ℕ) (place id : ℕ) (n : Node) → IsCone g root ids → place < length ids → id ≡ get_or ids place 0
+    → slice_get g.nodes id ≡ Some n → AllBelow id (operands_of n) → AreDone (HasImage g.names rs g h is) ids place → HaveImages g rs h is id
+have_images g h rs is root ids place id n cone l at found below done k e =
     let same : n ≡ k = sym (get_or_from_slice_get g.nodes id n k found) ∙ get_or_from_slice_get g.nodes id k k e in
-    let zero_first : 0 ≤ id = omega arith in
-    let on = a.closed id n zero_first m (get_or_from_slice_get g.nodes id n n found) in
-    subst (λ (x : Node). Operands g.names rs g h is (operands_of x)) same (operands_below g h rs is marks id (operands_of n) i on below)
+    subst (λ (x : Node). Operands g.names rs g h is (operands_of x)) same
+    (some_operands g h rs is (operands_of n) (operands_done (HasImage g.names rs g h is) g root ids place id n cone l at found below done))

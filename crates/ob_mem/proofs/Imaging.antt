@@ -1,9 +1,10 @@
 -- The images of memories and loads.
 use Rattle.std.proofs.Common.{◌≡◌, ℕ, zero, suc, ◌+◌, ◌<◌, ◌≤◌, ◌^◌, Bool, true, false, cond, ◌&&◌, List, [], ◌∷◌, ◌++◌, length, get_or, set, nat_le, nat_lt, Option, Some, None, IsTrue, refl, sym, ap, ◌∙◌, subst, arith}
 use Rattle.std.proofs.Common.{inl, inr, ◌⊎◌}
-use Rattle.std.specs.Prelude.{◌==◌, slice_index, slice_set, IsSome, is_some}
+use Rattle.std.specs.Prelude.{◌==◌, slice_index, slice_set, nat_eq, IsSome, is_some}
+use Rattle.std.proofs.lemmas.Map.Views.{exact_unsigned_eq}
 use Rattle.std.proofs.lemmas.List.{get_or_default, get_or_push, get_or_append_left}
-use Rattle.std.proofs.lemmas.Bool.{false≢true, cases_lt}
+use Rattle.std.proofs.lemmas.Bool.{false≢true, cases_lt, eq-eqb}
 use Rattle.std.proofs.lemmas.Bool.Decides.{nat_tests}
 use Rattle.wb_values.specs.Value.{Name, Sort, truth, word, memory, Value, truth_value, number, words, as_truth, as_number, as_words, Valuation, HasSort, Entries}
 use Rattle.std.proofs.Math.Pow.{pow_mono}
@@ -18,13 +19,13 @@ use Rattle.wb_terms.proofs.InRange.{is_sort-sort_of}
 use Rattle.wb_terms.proofs.EnvironmentLemmas.{length-memory}
 use Rattle.wb_terms.proofs.HeldLemmas.{both, below, same_number, load_sorts, store_sorts}
 use Rattle.sat_gates.specs.Names.{is_blastable}
-use Rattle.sat_gates.specs.Marks.{IsMarked}
+use Rattle.sat_gates.proofs.Reached.{AreDone, done_more}
 use Rattle.ob_mem.specs.declared.words.MemoryWord.{MemoryWord}
 use Rattle.ob_mem.specs.declared.rows.Row.TheVariants.{Names, Choices, Matches, Constants, Updates}
 use Rattle.ob_mem.specs.Words.{entry_at, word_count, word_width}
 use Rattle.ob_mem.specs.Spread.{IsSpread}
 use Rattle.ob_mem.specs.Rows.{Grows, IsRow, node_in, tree_in, AreOver, IsPlain, AreWords, HoldWords}
-use Rattle.ob_mem.specs.Images.{Means, IsImageOf, IsImage, AreImages, HasFirsts, HasWord, IsNoMemory, image_of, const_part}
+use Rattle.ob_mem.specs.Images.{Means, IsImageOf, IsImage, HasImage, HasFirsts, HasWord, IsNoMemory, id_or, image_of, const_part}
 use Rattle.ob_mem.proofs.Growing.{Grows-trans, IsPlain-kept, val_kept, row_grows, row_plain, row_val}
 use Rattle.ob_mem.proofs.Choosing.{choices_words, choices_value}
 
@@ -99,19 +100,25 @@ IsImage-kept {h} {k} es rs id t a i =
     }
 
 -- one image more
-pub images_more : (g h k : Graph) (rs : List MemoryWord) (marks : List Bool) (is js : List TermId) (n : ℕ) (x : TermId) → Grows h k → length is ≡ n → js ≡ is ++ x ∷ [] → AreImages g rs h marks is n
-    → (IsMarked marks n → IsImage g.names rs k x.0 (tree g n)) → AreImages g rs k marks js (n + 1)
-images_more g h k rs marks is js n x a l e i o j d b m =
-    subst (λ ys. IsImage g.names rs k (get_or ys j d).0 (tree g j)) (sym e) (by_place (cases_lt j n))
+images_kept : (g h k : Graph) (rs : List MemoryWord) (n : ℕ) (is js : ℕ → Option TermId) (x : TermId) → Grows h k → ((q : ℕ) → js q ≡ cond (nat_eq n q) (Some x) (is q))
+    → IsImage g.names rs k x.0 (tree g n) → (q : ℕ) (b : Bool) → nat_eq n q ≡ b → HasImage g.names rs g h is q → HasImage g.names rs g k js q
+images_kept g h k rs n is js x a put new q true e i =
+    let at : js q ≡ Some x = put q ∙ ap (λ t. cond t (Some x) (is q)) e in
+    (rw at refl, λ d. subst (λ o. IsImage g.names rs k (id_or o d).0 (tree g q)) (sym at) (subst (λ j. IsImage g.names rs k x.0 (tree g j)) (exact_unsigned_eq n q e) new))
+images_kept g h k rs n is js x a put new q false e i =
+    let at : js q ≡ is q = put q ∙ ap (λ t. cond t (Some x) (is q)) e in
+    (subst (λ o. IsSome o) (sym at) i.0, λ d. subst (λ o. IsImage g.names rs k (id_or o d).0 (tree g q)) (sym at) (IsImage-kept g.names rs (id_or (is q) d).0 (tree g q) a (i.1 d)))
+
+pub images_more : (g h k : Graph) (rs : List MemoryWord) (ids : List ℕ) (place n : ℕ) (is js : ℕ → Option TermId) (x : TermId) → Grows h k → n ≡ get_or ids place 0
+    → ((q : ℕ) → js q ≡ cond (nat_eq n q) (Some x) (is q)) → IsImage g.names rs k x.0 (tree g n)
+    → AreDone (HasImage g.names rs g h is) ids place → AreDone (HasImage g.names rs g k js) ids (place + 1)
+images_more g h k rs ids place n is js x a e put new i =
+    done_more (HasImage g.names rs g k js) ids place n e here (λ p b. images_kept g h k rs n is js x a put new (get_or ids p 0) (nat_eq n (get_or ids p 0)) refl (i p b))
   where
-    by_place : (j < n) ⊎ (n ≤ j) → IsImage g.names rs k (get_or (is ++ x ∷ []) j d).0 (tree g j)
-    by_place (inl c) =
-        let f : get_or (is ++ x ∷ []) j d ≡ get_or is j d = get_or_append_left is (x ∷ []) d j (omega (arith, l, c)) in
-        subst (λ (y : TermId). IsImage g.names rs k y.0 (tree g j)) (sym f) (IsImage-kept g.names rs (get_or is j d).0 (tree g j) a (i j d c m))
-    by_place (inr c) =
-        let s : n ≡ j = omega (arith, b, c) in
-        let f : get_or (is ++ x ∷ []) j d ≡ x = get_or_push is x d j (l ∙ s) in
-        subst (λ (y : TermId). IsImage g.names rs k y.0 (tree g j)) (sym f) (subst (λ p. IsImage g.names rs k x.0 (tree g p)) s (o (subst (IsMarked marks) (sym s) m)))
+    here : HasImage g.names rs g k js n
+    here =
+        let at : js n ≡ Some x = put n ∙ ap (λ t. cond t (Some x) (is n)) (eq-eqb n n refl) in
+        (rw at refl, λ d. subst (λ o. IsImage g.names rs k (id_or o d).0 (tree g n)) (sym at) new)
 
 -- sorts of the operands of a choice of memories
 same_memory : (s : Sort) (a d : ℕ) (t : Sort) → some_if (same_sort s t) s ≡ Some (memory a d) → (s ≡ memory a d) × (t ≡ memory a d)
@@ -269,10 +276,6 @@ picked_image g h rs m i im w x a d c sm si p =
       value = λ v u o. word'.value v u o ∙ ap (λ n. number (slice_index (as_words (val m v)) (as_number n))) (sym (ap (λ (t : Term). val t v) c));
     })
 
--- the image of an operand that is read from the list
-pub image_at : (es : Entries Sort) (rs : List MemoryWord) (h : Graph) (is : List TermId) (k : ℕ) (x : TermId) (t : Term) → x ≡ get_or is k x → ((d : TermId) → IsImage es rs h (get_or is k d).0 t) → IsImage es rs h x.0 t
-image_at es rs h is k x t e f = subst (λ (y : TermId). IsImage es rs h y.0 t) (sym e) (f x)
-
 same_memories : (m : Option Sort) (a b c d : ℕ) → m ≡ Some (memory a b) → m ≡ Some (memory c d) → (a ≡ c) × (b ≡ d)
 same_memories m a b c d e f = let g : Some (memory a b) ≡ Some (memory c d) = sym e ∙ f in (cc, cc)
 
@@ -302,11 +305,10 @@ load_parts_sorts m i a s e =
     same_words s a b e f = let g : Some (word a) ≡ Some (word b) = sym e ∙ f in cc
 
 -- what the goal means
-pub goal_means : (g h : Graph) (rs qs : List MemoryWord) (marks : List Bool) (is : List TermId) (id : ℕ) (x : TermId) → qs ≡ rs → sort_of (tree g id) ≡ Some truth → IsMarked marks id → AreImages g qs h marks is (id + 1) → x ≡ get_or is id x
-    → Means g.names rs h x.0 truth (val (tree g id))
-goal_means g h rs qs marks is id x e s m i at =
-    let b : id < id + 1 = omega arith in
-    subst (λ ps. Means g.names ps h x.0 truth (val (tree g id))) e (truth_image g.names qs h x.0 (tree g id) s (image_at g.names qs h is id x (tree g id) at (λ d. i id d b m)))
+pub goal_means : (g h : Graph) (rs qs : List MemoryWord) (is : ℕ → Option TermId) (id x : TermId) → qs ≡ rs → sort_of (tree g id.0) ≡ Some truth → HasImage g.names qs g h is id.0 → x ≡ image_of is id
+    → Means g.names rs h x.0 truth (val (tree g id.0))
+goal_means g h rs qs is id x e s i at =
+    subst (λ ps. Means g.names ps h x.0 truth (val (tree g id.0))) e (truth_image g.names qs h x.0 (tree g id.0) s (subst (λ (y : TermId). IsImage g.names qs h y.0 (tree g id.0)) (sym at) (i.1 id)))
 
 -- the constant of a node
 pub const_from_part : (g : Graph) (n : Node) (x : ℕ) (t : Term) → t ≡ tree_of_node g n → Some x ≡ const_part n → (w : ℕ) × (t ≡ const w x)
@@ -329,8 +331,8 @@ memory_bounds a d h = let b = both (nat_le 1 a) (nat_le a 16) (both (nat_le 1 a 
     bounds a g h = (grind (arith, nat_tests), grind (arith, nat_tests))
 
 -- the same read with another default
-pub image_by : (es : Entries Sort) (rs : List MemoryWord) (h : Graph) (is : List TermId) (k : ℕ) (x d : TermId) (t : Term) → x ≡ get_or is k d → ((d : TermId) → IsImage es rs h (get_or is k d).0 t) → IsImage es rs h x.0 t
-image_by es rs h is k x d t e f = subst (λ (y : TermId). IsImage es rs h y.0 t) (sym e) (f d)
+pub image_by : (es : Entries Sort) (rs : List MemoryWord) (h : Graph) (is : ℕ → Option TermId) (x d : TermId) (t : Term) → x ≡ image_of is d → ((e' : TermId) → IsImage es rs h (id_or (is d.0) e').0 t) → IsImage es rs h x.0 t
+image_by es rs h is x d t e f = subst (λ (y : TermId). IsImage es rs h y.0 t) (sym e) (f d)
 
 -- a constant address is small
 pub const_small : (m i : Term) (w x a d : ℕ) → i ≡ const w x → sort_of m ≡ Some (memory a d) → sort_of i ≡ Some (word a) → x < 65536

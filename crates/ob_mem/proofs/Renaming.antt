@@ -12,13 +12,12 @@ use Rattle.wb_terms.specs.Graph.{Graph, IsOver, tree, tree_at, trees_of, tree_of
 use Rattle.wb_terms.proofs.StoreLemmas.{AllBelow-le}
 use Rattle.wb_terms.proofs.ValueSorts.{NamesFit}
 use Rattle.sat_gates.specs.Names.{is_blastable}
-use Rattle.sat_gates.specs.Marks.{AreMarked}
 use Rattle.ob_mem.specs.declared.words.MemoryWord.{MemoryWord}
 use Rattle.ob_mem.specs.Words.{entry_at}
 use Rattle.ob_mem.specs.Spread.{KeepsValue, IsSpread}
 use Rattle.ob_mem.specs.Rows.{IsPlain}
 use Rattle.ob_mem.proofs.Growing.{last_tree, last_below}
-use Rattle.ob_mem.specs.Images.{Means, IsImageOf, IsImage, AreImages, Operands, IsNoMemory, image_of, renamed, load_parts}
+use Rattle.ob_mem.specs.Images.{Means, IsImageOf, IsImage, Operands, AreThere, IsNoMemory, image_of, renamed, load_parts}
 
 -- the first term has the sort and the value of the second one, and no memory stands in it
 pub record IsSame (A : Valuation → Valuation → Type 0) (x y : Term) : Type 0 where
@@ -140,9 +139,9 @@ choice A c d x y p q k i j =
       value = λ v w a. ap (λ n. cond (as_truth n) (val x w) (val p w)) (k.value v w a) ∙ (ap (λ n. cond (as_truth (val d v)) n (val p w)) (i.value v w a) ∙ ap (cond (as_truth (val d v)) (val y v)) (j.value v w a));
     }
 
-pub operands_below : (g h : Graph) (rs : List MemoryWord) (is : List TermId) (marks : List Bool) (n : ℕ) (ks : List ℕ) → AreImages g rs h marks is n → AreMarked marks ks → AllBelow n ks → Operands g.names rs g h is ks
-operands_below g h rs is marks n [] i m b = tt
-operands_below g h rs is marks n (k ∷ ks) i m b = ((λ d. i k d b.0 m.0), operands_below g h rs is marks n ks i m.1 b.1)
+pub all_there : (es : Entries Sort) (rs : List MemoryWord) (g h : Graph) (is : ℕ → Option TermId) (ks : List ℕ) → Operands es rs g h is ks → AreThere is ks
+all_there es rs g h is [] o = tt
+all_there es rs g h is (k ∷ ks) o = (o.0.0, all_there es rs g h is ks o.1)
 
 same_name_at : (g h : Graph) (k : ℕ) → entry_at h.names k ≡ entry_at g.names k → leaf_at h.names k ≡ leaf_at g.names k
 same_name_at g h k e = ap (λ (x : Name × Sort). name x.0 x.1) e
@@ -158,7 +157,7 @@ leaf_same A (n, truth) o m f k = record { sort = refl; blastable = refl; fits = 
 leaf_same A (n, word d) o m f k = record { sort = refl; blastable = refl; fits = f; value = k }
 leaf_same A (n, memory a d) o m f k = absurd (some_of_if (is_sort (memory a d)) (memory a d) m o)
 
-pub renamed_same : (g h : Graph) (rs : List MemoryWord) (is : List TermId) (n : Node) → ((k : ℕ) → k < length g.names → entry_at h.names k ≡ entry_at g.names k) → AllBelow (length g.names) (names_of n)
+pub renamed_same : (g h : Graph) (rs : List MemoryWord) (is : ℕ → Option TermId) (n : Node) → ((k : ℕ) → k < length g.names → entry_at h.names k ≡ entry_at g.names k) → AllBelow (length g.names) (names_of n)
     → Operands g.names rs g h is (operands_of n) → IsSome (sort_of (tree_of_node g n)) → IsNoMemory (sort_of (tree_of_node g n)) → load_parts n ≡ None
     → IsSame (IsSpread g.names h.names rs) (tree_of_node h (renamed is n)) (tree_of_node g n)
 renamed_same g h rs is (NameNode n) e b o s m l =
@@ -169,99 +168,99 @@ renamed_same g h rs is (Truth t) e b o s m l = record { sort = refl; blastable =
 renamed_same g h rs is (Const w x) e b o s m l = record { sort = refl; blastable = refl; fits = λ v w a. tt; value = λ v w a. refl }
 renamed_same g h rs is (Not x) e b o s m l =
     unary (IsSpread g.names h.names rs) not bits_sort (λ a n. complement (width_of_sort a) n) (λ _. refl) (λ _ _. refl) (λ _. refl) (λ _ _ f. f) (tree h (image_of is x).0) (tree g x.0)
-    (same_from_image g.names rs h (image_of is x).0 (tree g x.0) (o.0 x) (good_bits (sort_of (tree g x.0)) s))
+    (same_from_image g.names rs h (image_of is x).0 (tree g x.0) (o.0.1 x) (good_bits (sort_of (tree g x.0)) s))
 renamed_same g h rs is (Neg x) e b o s m l =
     unary (IsSpread g.names h.names rs) neg word_sort (λ a n. number (word_neg (width_of_sort a) (as_number n))) (λ _. refl) (λ _ _. refl) (λ _. refl) (λ _ _ f. f) (tree h (image_of is x).0) (tree g x.0)
-    (same_from_image g.names rs h (image_of is x).0 (tree g x.0) (o.0 x) (good_word (sort_of (tree g x.0)) s))
+    (same_from_image g.names rs h (image_of is x).0 (tree g x.0) (o.0.1 x) (good_word (sort_of (tree g x.0)) s))
 renamed_same g h rs is (Extract i j x) e b o s m l =
     unary (IsSpread g.names h.names rs) (extract i j) (extract_sort i j) (λ a n. number (word_extract i j (as_number n))) (λ _. refl) (λ _ _. refl) (λ _. refl) (λ _ _ f. f) (tree h (image_of is x).0) (tree g x.0)
-    (same_from_image g.names rs h (image_of is x).0 (tree g x.0) (o.0 x) (good_extract i j (sort_of (tree g x.0)) s))
+    (same_from_image g.names rs h (image_of is x).0 (tree g x.0) (o.0.1 x) (good_extract i j (sort_of (tree g x.0)) s))
 renamed_same g h rs is (Zext k x) e b o s m l =
     unary (IsSpread g.names h.names rs) (zext k) (extended_sort k) (λ a n. number (word_zext (as_number n))) (λ _. refl) (λ _ _. refl) (λ _. refl) (λ _ _ f. f) (tree h (image_of is x).0) (tree g x.0)
-    (same_from_image g.names rs h (image_of is x).0 (tree g x.0) (o.0 x) (good_extended k (sort_of (tree g x.0)) s))
+    (same_from_image g.names rs h (image_of is x).0 (tree g x.0) (o.0.1 x) (good_extended k (sort_of (tree g x.0)) s))
 renamed_same g h rs is (Sext k x) e b o s m l =
     unary (IsSpread g.names h.names rs) (sext k) (extended_sort k) (λ a n. number (word_sext k (width_of_sort a) (as_number n))) (λ _. refl) (λ _ _. refl) (λ _. refl) (λ _ _ f. f) (tree h (image_of is x).0) (tree g x.0)
-    (same_from_image g.names rs h (image_of is x).0 (tree g x.0) (o.0 x) (good_extended k (sort_of (tree g x.0)) s))
+    (same_from_image g.names rs h (image_of is x).0 (tree g x.0) (o.0.1 x) (good_extended k (sort_of (tree g x.0)) s))
 renamed_same g h rs is (And x y) e b o s m l =
     let k = good_same_bits (sort_of (tree g x.0)) (sort_of (tree g y.0)) s in
     binary (IsSpread g.names h.names rs) and same_bits_sort (λ a b m n. conjunction m n) (λ _ _. refl) (λ _ _ _. refl) (λ _ _. refl) (λ _ _ _ f i. (f, i))
     (tree h (image_of is x).0) (tree g x.0) (tree h (image_of is y).0) (tree g y.0)
-    (same_from_image g.names rs h (image_of is x).0 (tree g x.0) (o.0 x) k.0) (same_from_image g.names rs h (image_of is y).0 (tree g y.0) (o.1.0 y) k.1)
+    (same_from_image g.names rs h (image_of is x).0 (tree g x.0) (o.0.1 x) k.0) (same_from_image g.names rs h (image_of is y).0 (tree g y.0) (o.1.0.1 y) k.1)
 renamed_same g h rs is (Or x y) e b o s m l =
     let k = good_same_bits (sort_of (tree g x.0)) (sort_of (tree g y.0)) s in
     binary (IsSpread g.names h.names rs) or same_bits_sort (λ a b m n. disjunction m n) (λ _ _. refl) (λ _ _ _. refl) (λ _ _. refl) (λ _ _ _ f i. (f, i))
     (tree h (image_of is x).0) (tree g x.0) (tree h (image_of is y).0) (tree g y.0)
-    (same_from_image g.names rs h (image_of is x).0 (tree g x.0) (o.0 x) k.0) (same_from_image g.names rs h (image_of is y).0 (tree g y.0) (o.1.0 y) k.1)
+    (same_from_image g.names rs h (image_of is x).0 (tree g x.0) (o.0.1 x) k.0) (same_from_image g.names rs h (image_of is y).0 (tree g y.0) (o.1.0.1 y) k.1)
 renamed_same g h rs is (Xor x y) e b o s m l =
     let k = good_same_bits (sort_of (tree g x.0)) (sort_of (tree g y.0)) s in
     binary (IsSpread g.names h.names rs) xor same_bits_sort (λ a b m n. exclusive_or m n) (λ _ _. refl) (λ _ _ _. refl) (λ _ _. refl) (λ _ _ _ f i. (f, i))
     (tree h (image_of is x).0) (tree g x.0) (tree h (image_of is y).0) (tree g y.0)
-    (same_from_image g.names rs h (image_of is x).0 (tree g x.0) (o.0 x) k.0) (same_from_image g.names rs h (image_of is y).0 (tree g y.0) (o.1.0 y) k.1)
+    (same_from_image g.names rs h (image_of is x).0 (tree g x.0) (o.0.1 x) k.0) (same_from_image g.names rs h (image_of is y).0 (tree g y.0) (o.1.0.1 y) k.1)
 renamed_same g h rs is (Add x y) e b o s m l =
     let k = good_same_word (sort_of (tree g x.0)) (sort_of (tree g y.0)) s in
     binary (IsSpread g.names h.names rs) add same_word_sort (λ a b m n. number (word_add (width_of_sort a) (as_number m) (as_number n))) (λ _ _. refl) (λ _ _ _. refl) (λ _ _. refl) (λ _ _ _ f i. (f, i))
     (tree h (image_of is x).0) (tree g x.0) (tree h (image_of is y).0) (tree g y.0)
-    (same_from_image g.names rs h (image_of is x).0 (tree g x.0) (o.0 x) k.0) (same_from_image g.names rs h (image_of is y).0 (tree g y.0) (o.1.0 y) k.1)
+    (same_from_image g.names rs h (image_of is x).0 (tree g x.0) (o.0.1 x) k.0) (same_from_image g.names rs h (image_of is y).0 (tree g y.0) (o.1.0.1 y) k.1)
 renamed_same g h rs is (Sub x y) e b o s m l =
     let k = good_same_word (sort_of (tree g x.0)) (sort_of (tree g y.0)) s in
     binary (IsSpread g.names h.names rs) sub same_word_sort (λ a b m n. number (word_sub (width_of_sort a) (as_number m) (as_number n))) (λ _ _. refl) (λ _ _ _. refl) (λ _ _. refl) (λ _ _ _ f i. (f, i))
     (tree h (image_of is x).0) (tree g x.0) (tree h (image_of is y).0) (tree g y.0)
-    (same_from_image g.names rs h (image_of is x).0 (tree g x.0) (o.0 x) k.0) (same_from_image g.names rs h (image_of is y).0 (tree g y.0) (o.1.0 y) k.1)
+    (same_from_image g.names rs h (image_of is x).0 (tree g x.0) (o.0.1 x) k.0) (same_from_image g.names rs h (image_of is y).0 (tree g y.0) (o.1.0.1 y) k.1)
 renamed_same g h rs is (Mul x y) e b o s m l =
     let k = good_same_word (sort_of (tree g x.0)) (sort_of (tree g y.0)) s in
     binary (IsSpread g.names h.names rs) mul same_word_sort (λ a b m n. number (word_mul (width_of_sort a) (as_number m) (as_number n))) (λ _ _. refl) (λ _ _ _. refl) (λ _ _. refl) (λ _ _ _ f i. (f, i))
     (tree h (image_of is x).0) (tree g x.0) (tree h (image_of is y).0) (tree g y.0)
-    (same_from_image g.names rs h (image_of is x).0 (tree g x.0) (o.0 x) k.0) (same_from_image g.names rs h (image_of is y).0 (tree g y.0) (o.1.0 y) k.1)
+    (same_from_image g.names rs h (image_of is x).0 (tree g x.0) (o.0.1 x) k.0) (same_from_image g.names rs h (image_of is y).0 (tree g y.0) (o.1.0.1 y) k.1)
 renamed_same g h rs is (Shl x y) e b o s m l =
     let k = good_same_word (sort_of (tree g x.0)) (sort_of (tree g y.0)) s in
     binary (IsSpread g.names h.names rs) shl same_word_sort (λ a b m n. number (word_shl (width_of_sort a) (as_number m) (as_number n))) (λ _ _. refl) (λ _ _ _. refl) (λ _ _. refl) (λ _ _ _ f i. (f, i))
     (tree h (image_of is x).0) (tree g x.0) (tree h (image_of is y).0) (tree g y.0)
-    (same_from_image g.names rs h (image_of is x).0 (tree g x.0) (o.0 x) k.0) (same_from_image g.names rs h (image_of is y).0 (tree g y.0) (o.1.0 y) k.1)
+    (same_from_image g.names rs h (image_of is x).0 (tree g x.0) (o.0.1 x) k.0) (same_from_image g.names rs h (image_of is y).0 (tree g y.0) (o.1.0.1 y) k.1)
 renamed_same g h rs is (Lshr x y) e b o s m l =
     let k = good_same_word (sort_of (tree g x.0)) (sort_of (tree g y.0)) s in
     binary (IsSpread g.names h.names rs) lshr same_word_sort (λ a b m n. number (word_lshr (width_of_sort a) (as_number m) (as_number n))) (λ _ _. refl) (λ _ _ _. refl) (λ _ _. refl) (λ _ _ _ f i. (f, i))
     (tree h (image_of is x).0) (tree g x.0) (tree h (image_of is y).0) (tree g y.0)
-    (same_from_image g.names rs h (image_of is x).0 (tree g x.0) (o.0 x) k.0) (same_from_image g.names rs h (image_of is y).0 (tree g y.0) (o.1.0 y) k.1)
+    (same_from_image g.names rs h (image_of is x).0 (tree g x.0) (o.0.1 x) k.0) (same_from_image g.names rs h (image_of is y).0 (tree g y.0) (o.1.0.1 y) k.1)
 renamed_same g h rs is (Ashr x y) e b o s m l =
     let k = good_same_word (sort_of (tree g x.0)) (sort_of (tree g y.0)) s in
     binary (IsSpread g.names h.names rs) ashr same_word_sort (λ a b m n. number (word_ashr (width_of_sort a) (as_number m) (as_number n))) (λ _ _. refl) (λ _ _ _. refl) (λ _ _. refl) (λ _ _ _ f i. (f, i))
     (tree h (image_of is x).0) (tree g x.0) (tree h (image_of is y).0) (tree g y.0)
-    (same_from_image g.names rs h (image_of is x).0 (tree g x.0) (o.0 x) k.0) (same_from_image g.names rs h (image_of is y).0 (tree g y.0) (o.1.0 y) k.1)
+    (same_from_image g.names rs h (image_of is x).0 (tree g x.0) (o.0.1 x) k.0) (same_from_image g.names rs h (image_of is y).0 (tree g y.0) (o.1.0.1 y) k.1)
 renamed_same g h rs is (Eq x y) e b o s m l =
     let k = good_compared_bits (sort_of (tree g x.0)) (sort_of (tree g y.0)) s in
     binary (IsSpread g.names h.names rs) eq (λ a b. compared (same_bits_sort a b)) (λ a b m n. truth_value (is_equal m n)) (λ _ _. refl) (λ _ _ _. refl) (λ _ _. refl) (λ _ _ _ f i. (f, i))
     (tree h (image_of is x).0) (tree g x.0) (tree h (image_of is y).0) (tree g y.0)
-    (same_from_image g.names rs h (image_of is x).0 (tree g x.0) (o.0 x) k.0) (same_from_image g.names rs h (image_of is y).0 (tree g y.0) (o.1.0 y) k.1)
+    (same_from_image g.names rs h (image_of is x).0 (tree g x.0) (o.0.1 x) k.0) (same_from_image g.names rs h (image_of is y).0 (tree g y.0) (o.1.0.1 y) k.1)
 renamed_same g h rs is (Ult x y) e b o s m l =
     let k = good_compared_word (sort_of (tree g x.0)) (sort_of (tree g y.0)) s in
     binary (IsSpread g.names h.names rs) ult (λ a b. compared (same_word_sort a b)) (λ a b m n. truth_value (word_ult (as_number m) (as_number n))) (λ _ _. refl) (λ _ _ _. refl) (λ _ _. refl) (λ _ _ _ f i. (f, i))
     (tree h (image_of is x).0) (tree g x.0) (tree h (image_of is y).0) (tree g y.0)
-    (same_from_image g.names rs h (image_of is x).0 (tree g x.0) (o.0 x) k.0) (same_from_image g.names rs h (image_of is y).0 (tree g y.0) (o.1.0 y) k.1)
+    (same_from_image g.names rs h (image_of is x).0 (tree g x.0) (o.0.1 x) k.0) (same_from_image g.names rs h (image_of is y).0 (tree g y.0) (o.1.0.1 y) k.1)
 renamed_same g h rs is (Ule x y) e b o s m l =
     let k = good_compared_word (sort_of (tree g x.0)) (sort_of (tree g y.0)) s in
     binary (IsSpread g.names h.names rs) ule (λ a b. compared (same_word_sort a b)) (λ a b m n. truth_value (word_ule (as_number m) (as_number n))) (λ _ _. refl) (λ _ _ _. refl) (λ _ _. refl) (λ _ _ _ f i. (f, i))
     (tree h (image_of is x).0) (tree g x.0) (tree h (image_of is y).0) (tree g y.0)
-    (same_from_image g.names rs h (image_of is x).0 (tree g x.0) (o.0 x) k.0) (same_from_image g.names rs h (image_of is y).0 (tree g y.0) (o.1.0 y) k.1)
+    (same_from_image g.names rs h (image_of is x).0 (tree g x.0) (o.0.1 x) k.0) (same_from_image g.names rs h (image_of is y).0 (tree g y.0) (o.1.0.1 y) k.1)
 renamed_same g h rs is (Slt x y) e b o s m l =
     let k = good_compared_word (sort_of (tree g x.0)) (sort_of (tree g y.0)) s in
     binary (IsSpread g.names h.names rs) slt (λ a b. compared (same_word_sort a b)) (λ a b m n. truth_value (word_slt (width_of_sort a) (as_number m) (as_number n))) (λ _ _. refl) (λ _ _ _. refl) (λ _ _. refl) (λ _ _ _ f i. (f, i))
     (tree h (image_of is x).0) (tree g x.0) (tree h (image_of is y).0) (tree g y.0)
-    (same_from_image g.names rs h (image_of is x).0 (tree g x.0) (o.0 x) k.0) (same_from_image g.names rs h (image_of is y).0 (tree g y.0) (o.1.0 y) k.1)
+    (same_from_image g.names rs h (image_of is x).0 (tree g x.0) (o.0.1 x) k.0) (same_from_image g.names rs h (image_of is y).0 (tree g y.0) (o.1.0.1 y) k.1)
 renamed_same g h rs is (Sle x y) e b o s m l =
     let k = good_compared_word (sort_of (tree g x.0)) (sort_of (tree g y.0)) s in
     binary (IsSpread g.names h.names rs) sle (λ a b. compared (same_word_sort a b)) (λ a b m n. truth_value (word_sle (width_of_sort a) (as_number m) (as_number n))) (λ _ _. refl) (λ _ _ _. refl) (λ _ _. refl) (λ _ _ _ f i. (f, i))
     (tree h (image_of is x).0) (tree g x.0) (tree h (image_of is y).0) (tree g y.0)
-    (same_from_image g.names rs h (image_of is x).0 (tree g x.0) (o.0 x) k.0) (same_from_image g.names rs h (image_of is y).0 (tree g y.0) (o.1.0 y) k.1)
+    (same_from_image g.names rs h (image_of is x).0 (tree g x.0) (o.0.1 x) k.0) (same_from_image g.names rs h (image_of is y).0 (tree g y.0) (o.1.0.1 y) k.1)
 renamed_same g h rs is (Concat x y) e b o s m l =
     let k = good_concat (sort_of (tree g x.0)) (sort_of (tree g y.0)) s in
     binary (IsSpread g.names h.names rs) concat concat_sort (λ a b m n. number (word_concat (width_of_sort b) (as_number m) (as_number n))) (λ _ _. refl) (λ _ _ _. refl) (λ _ _. refl) (λ _ _ _ f i. (f, i))
     (tree h (image_of is x).0) (tree g x.0) (tree h (image_of is y).0) (tree g y.0)
-    (same_from_image g.names rs h (image_of is x).0 (tree g x.0) (o.0 x) k.0) (same_from_image g.names rs h (image_of is y).0 (tree g y.0) (o.1.0 y) k.1)
+    (same_from_image g.names rs h (image_of is x).0 (tree g x.0) (o.0.1 x) k.0) (same_from_image g.names rs h (image_of is y).0 (tree g y.0) (o.1.0.1 y) k.1)
 renamed_same g h rs is (Ite c x y) e b o s m l =
     let k = good_ite (sort_of (tree g c.0)) (sort_of (tree g x.0)) (sort_of (tree g y.0)) s m in
     choice (IsSpread g.names h.names rs) (tree h (image_of is c).0) (tree g c.0) (tree h (image_of is x).0) (tree g x.0) (tree h (image_of is y).0) (tree g y.0)
-    (same_from_image g.names rs h (image_of is c).0 (tree g c.0) (o.0 c) k.0) (same_from_image g.names rs h (image_of is x).0 (tree g x.0) (o.1.0 x) k.1)
-    (same_from_image g.names rs h (image_of is y).0 (tree g y.0) (o.1.1.0 y) k.2)
+    (same_from_image g.names rs h (image_of is c).0 (tree g c.0) (o.0.1 c) k.0) (same_from_image g.names rs h (image_of is x).0 (tree g x.0) (o.1.0.1 x) k.1)
+    (same_from_image g.names rs h (image_of is y).0 (tree g y.0) (o.1.1.0.1 y) k.2)
 renamed_same g h rs is (Load i j) e b o s m l = cc
 renamed_same g h rs is (Store i j x) e b o s m l = absurd (no_store (sort_of (tree g i.0)) (sort_of (tree g j.0)) (sort_of (tree g x.0)) s m)
 
@@ -275,68 +274,68 @@ below_of_image es rs h id (Some (memory a d)) m n i = absurd n
 pub image_below : (es : Entries Sort) (rs : List MemoryWord) (h : Graph) (id : ℕ) (t : Term) → IsImage es rs h id t → IsNoMemory (sort_of t) → id < length h.nodes
 image_below es rs h id t i n = below_of_image es rs h id (sort_of t) (val t) n i.image
 
-pub renamed_below : (g h : Graph) (rs : List MemoryWord) (is : List TermId) (n : Node) → Operands g.names rs g h is (operands_of n) → IsSome (sort_of (tree_of_node g n)) → IsNoMemory (sort_of (tree_of_node g n))
+pub renamed_below : (g h : Graph) (rs : List MemoryWord) (is : ℕ → Option TermId) (n : Node) → Operands g.names rs g h is (operands_of n) → IsSome (sort_of (tree_of_node g n)) → IsNoMemory (sort_of (tree_of_node g n))
     → load_parts n ≡ None → AllBelow (length h.nodes) (operands_of (renamed is n))
 renamed_below g h rs is (NameNode n) o s m l = tt
 renamed_below g h rs is (Truth t) o s m l = tt
 renamed_below g h rs is (Const w x) o s m l = tt
-renamed_below g h rs is (Not x) o s m l = (image_below g.names rs h (image_of is x).0 (tree g x.0) (o.0 x) (good_bits (sort_of (tree g x.0)) s), tt)
-renamed_below g h rs is (Neg x) o s m l = (image_below g.names rs h (image_of is x).0 (tree g x.0) (o.0 x) (good_word (sort_of (tree g x.0)) s), tt)
-renamed_below g h rs is (Extract i j x) o s m l = (image_below g.names rs h (image_of is x).0 (tree g x.0) (o.0 x) (good_extract i j (sort_of (tree g x.0)) s), tt)
-renamed_below g h rs is (Zext k x) o s m l = (image_below g.names rs h (image_of is x).0 (tree g x.0) (o.0 x) (good_extended k (sort_of (tree g x.0)) s), tt)
-renamed_below g h rs is (Sext k x) o s m l = (image_below g.names rs h (image_of is x).0 (tree g x.0) (o.0 x) (good_extended k (sort_of (tree g x.0)) s), tt)
+renamed_below g h rs is (Not x) o s m l = (image_below g.names rs h (image_of is x).0 (tree g x.0) (o.0.1 x) (good_bits (sort_of (tree g x.0)) s), tt)
+renamed_below g h rs is (Neg x) o s m l = (image_below g.names rs h (image_of is x).0 (tree g x.0) (o.0.1 x) (good_word (sort_of (tree g x.0)) s), tt)
+renamed_below g h rs is (Extract i j x) o s m l = (image_below g.names rs h (image_of is x).0 (tree g x.0) (o.0.1 x) (good_extract i j (sort_of (tree g x.0)) s), tt)
+renamed_below g h rs is (Zext k x) o s m l = (image_below g.names rs h (image_of is x).0 (tree g x.0) (o.0.1 x) (good_extended k (sort_of (tree g x.0)) s), tt)
+renamed_below g h rs is (Sext k x) o s m l = (image_below g.names rs h (image_of is x).0 (tree g x.0) (o.0.1 x) (good_extended k (sort_of (tree g x.0)) s), tt)
 renamed_below g h rs is (And x y) o s m l =
     let k = good_same_bits (sort_of (tree g x.0)) (sort_of (tree g y.0)) s in
-    (image_below g.names rs h (image_of is x).0 (tree g x.0) (o.0 x) k.0, (image_below g.names rs h (image_of is y).0 (tree g y.0) (o.1.0 y) k.1, tt))
+    (image_below g.names rs h (image_of is x).0 (tree g x.0) (o.0.1 x) k.0, (image_below g.names rs h (image_of is y).0 (tree g y.0) (o.1.0.1 y) k.1, tt))
 renamed_below g h rs is (Or x y) o s m l =
     let k = good_same_bits (sort_of (tree g x.0)) (sort_of (tree g y.0)) s in
-    (image_below g.names rs h (image_of is x).0 (tree g x.0) (o.0 x) k.0, (image_below g.names rs h (image_of is y).0 (tree g y.0) (o.1.0 y) k.1, tt))
+    (image_below g.names rs h (image_of is x).0 (tree g x.0) (o.0.1 x) k.0, (image_below g.names rs h (image_of is y).0 (tree g y.0) (o.1.0.1 y) k.1, tt))
 renamed_below g h rs is (Xor x y) o s m l =
     let k = good_same_bits (sort_of (tree g x.0)) (sort_of (tree g y.0)) s in
-    (image_below g.names rs h (image_of is x).0 (tree g x.0) (o.0 x) k.0, (image_below g.names rs h (image_of is y).0 (tree g y.0) (o.1.0 y) k.1, tt))
+    (image_below g.names rs h (image_of is x).0 (tree g x.0) (o.0.1 x) k.0, (image_below g.names rs h (image_of is y).0 (tree g y.0) (o.1.0.1 y) k.1, tt))
 renamed_below g h rs is (Add x y) o s m l =
     let k = good_same_word (sort_of (tree g x.0)) (sort_of (tree g y.0)) s in
-    (image_below g.names rs h (image_of is x).0 (tree g x.0) (o.0 x) k.0, (image_below g.names rs h (image_of is y).0 (tree g y.0) (o.1.0 y) k.1, tt))
+    (image_below g.names rs h (image_of is x).0 (tree g x.0) (o.0.1 x) k.0, (image_below g.names rs h (image_of is y).0 (tree g y.0) (o.1.0.1 y) k.1, tt))
 renamed_below g h rs is (Sub x y) o s m l =
     let k = good_same_word (sort_of (tree g x.0)) (sort_of (tree g y.0)) s in
-    (image_below g.names rs h (image_of is x).0 (tree g x.0) (o.0 x) k.0, (image_below g.names rs h (image_of is y).0 (tree g y.0) (o.1.0 y) k.1, tt))
+    (image_below g.names rs h (image_of is x).0 (tree g x.0) (o.0.1 x) k.0, (image_below g.names rs h (image_of is y).0 (tree g y.0) (o.1.0.1 y) k.1, tt))
 renamed_below g h rs is (Mul x y) o s m l =
     let k = good_same_word (sort_of (tree g x.0)) (sort_of (tree g y.0)) s in
-    (image_below g.names rs h (image_of is x).0 (tree g x.0) (o.0 x) k.0, (image_below g.names rs h (image_of is y).0 (tree g y.0) (o.1.0 y) k.1, tt))
+    (image_below g.names rs h (image_of is x).0 (tree g x.0) (o.0.1 x) k.0, (image_below g.names rs h (image_of is y).0 (tree g y.0) (o.1.0.1 y) k.1, tt))
 renamed_below g h rs is (Shl x y) o s m l =
     let k = good_same_word (sort_of (tree g x.0)) (sort_of (tree g y.0)) s in
-    (image_below g.names rs h (image_of is x).0 (tree g x.0) (o.0 x) k.0, (image_below g.names rs h (image_of is y).0 (tree g y.0) (o.1.0 y) k.1, tt))
+    (image_below g.names rs h (image_of is x).0 (tree g x.0) (o.0.1 x) k.0, (image_below g.names rs h (image_of is y).0 (tree g y.0) (o.1.0.1 y) k.1, tt))
 renamed_below g h rs is (Lshr x y) o s m l =
     let k = good_same_word (sort_of (tree g x.0)) (sort_of (tree g y.0)) s in
-    (image_below g.names rs h (image_of is x).0 (tree g x.0) (o.0 x) k.0, (image_below g.names rs h (image_of is y).0 (tree g y.0) (o.1.0 y) k.1, tt))
+    (image_below g.names rs h (image_of is x).0 (tree g x.0) (o.0.1 x) k.0, (image_below g.names rs h (image_of is y).0 (tree g y.0) (o.1.0.1 y) k.1, tt))
 renamed_below g h rs is (Ashr x y) o s m l =
     let k = good_same_word (sort_of (tree g x.0)) (sort_of (tree g y.0)) s in
-    (image_below g.names rs h (image_of is x).0 (tree g x.0) (o.0 x) k.0, (image_below g.names rs h (image_of is y).0 (tree g y.0) (o.1.0 y) k.1, tt))
+    (image_below g.names rs h (image_of is x).0 (tree g x.0) (o.0.1 x) k.0, (image_below g.names rs h (image_of is y).0 (tree g y.0) (o.1.0.1 y) k.1, tt))
 renamed_below g h rs is (Eq x y) o s m l =
     let k = good_compared_bits (sort_of (tree g x.0)) (sort_of (tree g y.0)) s in
-    (image_below g.names rs h (image_of is x).0 (tree g x.0) (o.0 x) k.0, (image_below g.names rs h (image_of is y).0 (tree g y.0) (o.1.0 y) k.1, tt))
+    (image_below g.names rs h (image_of is x).0 (tree g x.0) (o.0.1 x) k.0, (image_below g.names rs h (image_of is y).0 (tree g y.0) (o.1.0.1 y) k.1, tt))
 renamed_below g h rs is (Ult x y) o s m l =
     let k = good_compared_word (sort_of (tree g x.0)) (sort_of (tree g y.0)) s in
-    (image_below g.names rs h (image_of is x).0 (tree g x.0) (o.0 x) k.0, (image_below g.names rs h (image_of is y).0 (tree g y.0) (o.1.0 y) k.1, tt))
+    (image_below g.names rs h (image_of is x).0 (tree g x.0) (o.0.1 x) k.0, (image_below g.names rs h (image_of is y).0 (tree g y.0) (o.1.0.1 y) k.1, tt))
 renamed_below g h rs is (Ule x y) o s m l =
     let k = good_compared_word (sort_of (tree g x.0)) (sort_of (tree g y.0)) s in
-    (image_below g.names rs h (image_of is x).0 (tree g x.0) (o.0 x) k.0, (image_below g.names rs h (image_of is y).0 (tree g y.0) (o.1.0 y) k.1, tt))
+    (image_below g.names rs h (image_of is x).0 (tree g x.0) (o.0.1 x) k.0, (image_below g.names rs h (image_of is y).0 (tree g y.0) (o.1.0.1 y) k.1, tt))
 renamed_below g h rs is (Slt x y) o s m l =
     let k = good_compared_word (sort_of (tree g x.0)) (sort_of (tree g y.0)) s in
-    (image_below g.names rs h (image_of is x).0 (tree g x.0) (o.0 x) k.0, (image_below g.names rs h (image_of is y).0 (tree g y.0) (o.1.0 y) k.1, tt))
+    (image_below g.names rs h (image_of is x).0 (tree g x.0) (o.0.1 x) k.0, (image_below g.names rs h (image_of is y).0 (tree g y.0) (o.1.0.1 y) k.1, tt))
 renamed_below g h rs is (Sle x y) o s m l =
     let k = good_compared_word (sort_of (tree g x.0)) (sort_of (tree g y.0)) s in
-    (image_below g.names rs h (image_of is x).0 (tree g x.0) (o.0 x) k.0, (image_below g.names rs h (image_of is y).0 (tree g y.0) (o.1.0 y) k.1, tt))
+    (image_below g.names rs h (image_of is x).0 (tree g x.0) (o.0.1 x) k.0, (image_below g.names rs h (image_of is y).0 (tree g y.0) (o.1.0.1 y) k.1, tt))
 renamed_below g h rs is (Concat x y) o s m l =
     let k = good_concat (sort_of (tree g x.0)) (sort_of (tree g y.0)) s in
-    (image_below g.names rs h (image_of is x).0 (tree g x.0) (o.0 x) k.0, (image_below g.names rs h (image_of is y).0 (tree g y.0) (o.1.0 y) k.1, tt))
+    (image_below g.names rs h (image_of is x).0 (tree g x.0) (o.0.1 x) k.0, (image_below g.names rs h (image_of is y).0 (tree g y.0) (o.1.0.1 y) k.1, tt))
 renamed_below g h rs is (Ite c x y) o s m l =
     let k = good_ite (sort_of (tree g c.0)) (sort_of (tree g x.0)) (sort_of (tree g y.0)) s m in
-    (image_below g.names rs h (image_of is c).0 (tree g c.0) (o.0 c) k.0, (image_below g.names rs h (image_of is x).0 (tree g x.0) (o.1.0 x) k.1, (image_below g.names rs h (image_of is y).0 (tree g y.0) (o.1.1.0 y) k.2, tt)))
+    (image_below g.names rs h (image_of is c).0 (tree g c.0) (o.0.1 c) k.0, (image_below g.names rs h (image_of is x).0 (tree g x.0) (o.1.0.1 x) k.1, (image_below g.names rs h (image_of is y).0 (tree g y.0) (o.1.1.0.1 y) k.2, tt)))
 renamed_below g h rs is (Load i j) o s m l = cc
 renamed_below g h rs is (Store i j x) o s m l = absurd (no_store (sort_of (tree g i.0)) (sort_of (tree g j.0)) (sort_of (tree g x.0)) s m)
 
-pub renamed_names : (is : List TermId) (n : Node) (count : ℕ) → AllBelow count (names_of n) → AllBelow count (names_of (renamed is n))
+pub renamed_names : (is : ℕ → Option TermId) (n : Node) (count : ℕ) → AllBelow count (names_of n) → AllBelow count (names_of (renamed is n))
 renamed_names is (NameNode n) count b = b
 renamed_names is (Truth t) count b = tt
 renamed_names is (Const w x) count b = tt
@@ -365,7 +364,7 @@ renamed_names is (Load i j) count b = tt
 renamed_names is (Store i j x) count b = tt
 
 -- the image of a truth value or a word, put over the images of its operands
-pub value_image : (g h k : Graph) (rs : List MemoryWord) (is : List TermId) (n : Node) (id r : ℕ) → ((j : ℕ) → j < length g.names → entry_at h.names j ≡ entry_at g.names j) → tree g id ≡ tree_of_node g n
+pub value_image : (g h k : Graph) (rs : List MemoryWord) (is : ℕ → Option TermId) (n : Node) (id r : ℕ) → ((j : ℕ) → j < length g.names → entry_at h.names j ≡ entry_at g.names j) → tree g id ≡ tree_of_node g n
     → AllBelow (length g.names) (names_of n) → Operands g.names rs g h is (operands_of n) → IsSome (sort_of (tree g id)) → IsNoMemory (sort_of (tree g id)) → load_parts n ≡ None
     → k.names ≡ h.names → r ≡ length h.nodes → trees_of k ≡ trees_of h ++ tree_of_node h (renamed is n) ∷ [] → IsImage g.names rs k r (tree g id)
 value_image g h k rs is n id r same t names o s m l ns i ts =
@@ -377,7 +376,7 @@ value_image g h k rs is n id r same t names o s m l ns i ts =
     let d : IsSame (IsSpread g.names k.names rs) (tree k r) (tree g id) = subst (λ (es : Entries Sort). IsSame (IsSpread g.names es rs) (tree k r) (tree g id)) (sym ns) c in
     record { fits = d.fits; image = image_from_same g.names rs k r (tree g id) (sort_of (tree g id)) refl s m (last_below h k (tree_of_node h (renamed is n)) r i ts) d }
 
-pub renamed_sorted : (g h : Graph) (rs : List MemoryWord) (is : List TermId) (n : Node) (id : ℕ) → ((j : ℕ) → j < length g.names → entry_at h.names j ≡ entry_at g.names j) → tree g id ≡ tree_of_node g n
+pub renamed_sorted : (g h : Graph) (rs : List MemoryWord) (is : ℕ → Option TermId) (n : Node) (id : ℕ) → ((j : ℕ) → j < length g.names → entry_at h.names j ≡ entry_at g.names j) → tree g id ≡ tree_of_node g n
     → AllBelow (length g.names) (names_of n) → Operands g.names rs g h is (operands_of n) → IsSome (sort_of (tree g id)) → IsNoMemory (sort_of (tree g id)) → load_parts n ≡ None
     → IsSome (sort_of (tree_of_node h (renamed is n)))
 renamed_sorted g h rs is n id same t names o s m l =
@@ -385,7 +384,7 @@ renamed_sorted g h rs is n id same t names o s m l =
     let plain : IsNoMemory (sort_of (tree_of_node g n)) = subst (λ (x : Term). IsNoMemory (sort_of x)) t m in
     ap is_some (renamed_same g h rs is n same names o sorted plain l).sort ∙ sorted
 
-pub renamed_over : (g h : Graph) (rs : List MemoryWord) (is : List TermId) (n : Node) (id : ℕ) → length g.names ≤ length h.names → tree g id ≡ tree_of_node g n → AllBelow (length g.names) (names_of n)
+pub renamed_over : (g h : Graph) (rs : List MemoryWord) (is : ℕ → Option TermId) (n : Node) (id : ℕ) → length g.names ≤ length h.names → tree g id ≡ tree_of_node g n → AllBelow (length g.names) (names_of n)
     → Operands g.names rs g h is (operands_of n) → IsSome (sort_of (tree g id)) → IsNoMemory (sort_of (tree g id)) → load_parts n ≡ None → IsOver h (length h.nodes) (renamed is n)
 renamed_over g h rs is n id more t names o s m l =
     let sorted : IsSome (sort_of (tree_of_node g n)) = subst (λ (x : Term). IsSome (sort_of x)) t s in

@@ -1,5 +1,5 @@
 -- What stands in the new store for a term of the old one.
-use Rattle.std.specs.Prelude.{◌≡◌, ℕ, ◌+◌, ◌<◌, ◌≤◌, ◌^◌, ⊤, List, [], ◌∷◌, length, Option, Some, None, slice_get, slice_index, slice_index_or, Bool}
+use Rattle.std.specs.Prelude.{◌≡◌, ℕ, ◌+◌, ◌<◌, ◌≤◌, ◌^◌, ⊤, List, [], ◌∷◌, length, Option, Some, None, slice_get, slice_index, slice_index_or, IsSome}
 use Rattle.wb_values.specs.Value.{Sort, truth, word, memory, Entries, Value, number, as_words, Valuation}
 use Rattle.model_meaning.specs.Term.{Term, sort_of, val}
 use Rattle.wb_terms.specs.declared.nodes.TermId.{TermId}
@@ -7,7 +7,6 @@ use Rattle.wb_terms.specs.declared.nodes.Node.{Node}
 use Rattle.wb_terms.specs.declared.nodes.Node.TheVariants.{Name, Truth, Const, Not, And, Or, Xor, Neg, Add, Sub, Mul, Shl, Lshr, Ashr, Eq, Ult, Ule, Slt, Sle, Concat, Extract, Zext, Sext, Ite, Load, Store}
 use Rattle.wb_terms.specs.Graph.{Graph, tree, operands_of}
 use Rattle.wb_terms.proofs.ValueSorts.{NamesFit}
-use Rattle.sat_gates.specs.Marks.{IsMarked}
 use Rattle.ob_mem.specs.declared.words.MemoryWord.{MemoryWord}
 use Rattle.ob_mem.specs.Words.{entry_at, word_count, word_width}
 use Rattle.ob_mem.specs.Spread.{IsSpread}
@@ -28,17 +27,27 @@ pub record IsImage (es : Entries Sort) (rs : List MemoryWord) (h : Graph) (id : 
   pub fits : (v w : Valuation) → IsSpread es h.names rs v w → NamesFit v t
   pub image : IsImageOf es rs h id (sort_of t) (val t)
 
--- each marked one of the first terms of the old store has its image
-abbrev pub AreImages : Graph → List MemoryWord → Graph → List Bool → List TermId → ℕ → Type 0
-AreImages g rs h marks images n = (k : ℕ) (d : TermId) → k < n → IsMarked marks k → IsImage g.names rs h (slice_index_or images k d).0 (tree g k)
+-- the id that is there, or another one
+abbrev pub id_or : Option TermId → TermId → TermId
+id_or (Some id) d = id
+id_or None d = d
+
+-- A term of the old store has its image.
+abbrev pub HasImage : Entries Sort → List MemoryWord → Graph → Graph → (ℕ → Option TermId) → ℕ → Type 0
+HasImage es rs g h images k = IsSome (images k) × ((d : TermId) → IsImage es rs h (id_or (images k) d).0 (tree g k))
 
 -- each of the operands has its image
-abbrev pub Operands : Entries Sort → List MemoryWord → Graph → Graph → List TermId → List ℕ → Type 0
+abbrev pub Operands : Entries Sort → List MemoryWord → Graph → Graph → (ℕ → Option TermId) → List ℕ → Type 0
 Operands es rs g h is [] = ⊤
-Operands es rs g h is (k ∷ ks) = ((d : TermId) → IsImage es rs h (slice_index_or is k d).0 (tree g k)) × Operands es rs g h is ks
+Operands es rs g h is (k ∷ ks) = HasImage es rs g h is k × Operands es rs g h is ks
+
+-- there is an image for each of the terms
+abbrev pub AreThere : (ℕ → Option TermId) → List ℕ → Type 0
+AreThere is [] = ⊤
+AreThere is (k ∷ ks) = IsSome (is k) × AreThere is ks
 
 -- each operand of a term of the old store has its image
-abbrev pub HaveImages : Graph → List MemoryWord → Graph → List TermId → ℕ → Type 0
+abbrev pub HaveImages : Graph → List MemoryWord → Graph → (ℕ → Option TermId) → ℕ → Type 0
 HaveImages g rs h is id = (n : Node) → slice_get g.nodes id ≡ Some n → Operands g.names rs g h is (operands_of n)
 
 -- The name at a place of the new table is that of the word at an address of a memory.
@@ -59,11 +68,11 @@ IsNoMemory (Some (memory a d)) = ⊥
 IsNoMemory _ = ⊤
 
 -- the id in the new store of an operand
-abbrev pub image_of : List TermId → TermId → TermId
-image_of images x = slice_index_or images x.0 x
+abbrev pub image_of : (ℕ → Option TermId) → TermId → TermId
+image_of images x = id_or (images x.0) x
 
 -- the node over the images of its operands
-abbrev pub renamed : List TermId → Node → Node
+abbrev pub renamed : (ℕ → Option TermId) → Node → Node
 renamed is (Name n) = Name n
 renamed is (Truth b) = Truth b
 renamed is (Const w x) = Const w x

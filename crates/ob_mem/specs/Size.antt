@@ -1,11 +1,12 @@
 -- How many terms the new store has.
-use Rattle.std.specs.Prelude.{ℕ, zero, suc, ◌+◌, ◌*◌, ◌^◌, ◌≤◌, Bool, false, cond, List, length, Option, Some, None, slice_index_or}
+use Rattle.std.specs.Prelude.{ℕ, ◌+◌, ◌*◌, ◌^◌, ◌≤◌, false, List, length, Option, Some, None, slice_index_or}
+use Rattle.std.specs.List.{sum_by}
 use Rattle.wb_values.specs.Value.{Sort, truth, word, memory}
 use Rattle.model_meaning.specs.Term.{sort_of}
 use Rattle.wb_terms.specs.declared.nodes.Node.{Node}
 use Rattle.wb_terms.specs.declared.nodes.Node.TheVariants.{Truth, Load, Store}
 use Rattle.wb_terms.specs.Graph.{Graph, tree, tree_of_node}
-use Rattle.sat_gates.specs.Marks.{IsMarked, StandsOn}
+use Rattle.sat_gates.specs.Cone.{IsCone}
 use Rattle.ob_mem.specs.Images.{const_part}
 
 -- the node at a place of a store
@@ -29,13 +30,12 @@ node_count g (Load m i) = load_count (const_part (node_at g i.0)) (sort_of (tree
 node_count g (Store m i x) = 3 * term_count (sort_of (tree g m.0))
 node_count g n = term_count (sort_of (tree_of_node g n))
 
--- the same for the marked ones of the first terms, each counted once
-abbrev pub total_count : Graph → List Bool → ℕ → ℕ
-total_count g marks zero = 0
-total_count g marks (suc k) = total_count g marks k + cond (slice_index_or marks k false) (node_count g (node_at g k)) 0
+-- the same for several terms
+abbrev pub total_count : Graph → List ℕ → ℕ
+total_count g ids = sum_by (λ k. node_count g (node_at g k)) ids
 
 -- The second store has at most as many terms as are put for those on which a term of the first one stands, each counted once.
 pub record IsSmall (g : Graph) (id : ℕ) (h : Graph) : Type 0 where
-  pub counted : List Bool
-  pub reached : (k : ℕ) → IsMarked counted k → StandsOn g id k
-  pub count : length h.nodes ≤ total_count g counted (id + 1)
+  pub counted : List ℕ
+  pub cone : IsCone g id counted
+  pub count : length h.nodes ≤ total_count g counted

@@ -1,20 +1,20 @@
 //! A term of truth sort without memories, with the same value.
 
-ghost use Rattle.std.specs.Prelude.{◌≡◌, ◌<◌, length, IfOk, Some, true};
+ghost use Rattle.std.specs.Prelude.{◌≡◌, ◌<◌, length, IfOk, OnOk, Some, true};
 ghost use Rattle.wb_values.specs.Value.{truth, Valuation};
 ghost use Rattle.model_meaning.specs.Term.{sort_of, val};
 ghost use Rattle.wb_terms.specs.Graph.{tree};
 ghost use Rattle.sat_gates.specs.Names.{is_blastable};
-ghost use Rattle.sat_gates.specs.Marks.{AreMarks};
+ghost use Rattle.sat_gates.specs.Cone.{IsCone, AreParts, places};
 ghost use Rattle.ob_mem.specs.Words.{words_of, HasWords};
 ghost use Rattle.ob_mem.specs.Spread.{GivesSorts, IsSpread};
 ghost use Rattle.ob_mem.specs.Size.{IsSmall};
 
 use crate::NoMemory;
-use crate::images::put_images;
+use crate::images::{image, put_images};
 use crate::names::{Named, with_words};
 use crate::words::MemoryWord;
-use sat_gates::mark;
+use sat_gates::cone;
 use std::alloc::{AllocError, Global};
 use wb_terms::{TermId, Terms};
 
@@ -55,9 +55,9 @@ pub fn expand(alloc: Global, terms: &Terms, id: TermId) -> Result<Expanded, NoMe
     } = named;
     let words = list.as_slice();
     let places = firsts.as_slice();
-    let reached = terms_under(alloc, terms, id)?;
-    let images = put_images(alloc, &mut new, terms, words, places, &reached, id)?;
-    let goal = images[id.0];
+    let ids = terms_under(alloc, terms, id)?;
+    let images = put_images(alloc, &mut new, terms, words, places, &ids, id)?;
+    let goal = image(&images, id);
     Ok(Expanded {
         terms: new,
         goal,
@@ -65,13 +65,14 @@ pub fn expand(alloc: Global, terms: &Terms, id: TermId) -> Result<Expanded, NoMe
     })
 }
 
-/// For each term up to one whether that one stands on it.
-fn terms_under(alloc: Global, terms: &Terms, id: TermId) -> Result<Vec<bool>, NoMemory>
+/// The terms that a term stands on, by ascending id.
+fn terms_under(alloc: Global, terms: &Terms, id: TermId) -> Result<Vec<TermId>, NoMemory>
     requires { id.0 < length terms.now.nodes }
-    ensures { IfOk result (λ reached. AreMarks terms.now id.0 0 reached.items) }
+    ensures exact { IfOk result (λ ids. IsCone terms.now id.0 (places ids.items)) }
+    ensures parts { OnOk result (AreParts terms.now id.0) }
 {
-    match mark(alloc, terms, id) {
-        Ok(reached) => Ok(reached),
+    match cone(alloc, terms, id) {
+        Ok(ids) => Ok(ids),
         Err(_) => Err(AllocError),
     }
 }

@@ -1,14 +1,15 @@
 //! What stands in the new store for the terms of the old one, term by term in ascending order.
 
-ghost use Rattle.std.specs.Prelude.{◌≡◌, ℕ, ◌<◌, ◌≤◌, ◌^◌, ◌+◌, ◌*◌, List, length, cond, false, Some, IfOk, OnOk, IsSome, IsTrue, slice_get, slice_set, slice_index_or, [], ◌∷◌};
+ghost use Rattle.std.specs.Prelude.{◌≡◌, ℕ, ◌<◌, ◌≤◌, ◌^◌, ◌+◌, ◌*◌, List, length, nat_eq, Some, IfOk, OnOk, IsSome, IsTrue, slice_get, slice_set, slice_index_or, [], ◌∷◌};
+ghost use Rattle.std.specs.HashMap.{get};
 ghost use Rattle.wb_values.specs.Value.{word, memory, number, Valuation};
 ghost use Rattle.model_meaning.specs.Term.{ite, load, store, is_sort, sort_of, load_sort, val};
-ghost use Rattle.wb_terms.specs.Graph.{AllBelow, IsOver, operands_of, leaf_at, tree, tree_of_node};
-ghost use Rattle.sat_gates.specs.Marks.{IsMarked, AreMarks};
+ghost use Rattle.wb_terms.specs.Graph.{IsOver, operands_of, leaf_at, tree, tree_of_node};
+ghost use Rattle.sat_gates.specs.Cone.{IsCone, AreParts, places};
 ghost use Rattle.ob_mem.specs.Words.{entry_at};
 ghost use Rattle.ob_mem.specs.declared.rows.Row.TheVariants.{Constants, Matches};
 ghost use Rattle.ob_mem.specs.Rows.{Grows, IsRow, tree_in, IsPlain, AreWords, HoldWords};
-ghost use Rattle.ob_mem.specs.Images.{Operands, HaveImages, load_parts, const_part, renamed, image_of, IsImage, AreImages, HasFirsts, IsNoMemory};
+ghost use Rattle.ob_mem.specs.Images.{Operands, HaveImages, load_parts, const_part, renamed, image_of, AreThere, IsImage, HasImage, HasFirsts, IsNoMemory};
 ghost use Rattle.ob_mem.specs.Size.{node_at, load_count, node_count, total_count};
 
 use crate::NoMemory;
@@ -16,40 +17,41 @@ use crate::loads::put_load;
 use crate::rows::{Row, later, power, put, put_row};
 use crate::words::MemoryWord;
 use std::alloc::Global;
+use std::collections::HashMap;
 use wb_terms::{NameId, Node, Sort, TermId, Terms};
 
 /// The node over the images of its operands.
-fn renamed(node: Node, images: &[TermId]) -> Node
-    requires { AllBelow (length images.now) (operands_of node) }
-    ensures { result ≡ renamed images.now node }
+fn renamed(node: Node, images: &HashMap<usize, TermId>) -> Node
+    requires { AreThere (get nat_eq images.now) (operands_of node) }
+    ensures { result ≡ renamed (get nat_eq images.now) node }
 {
     match node {
         Node::Name(name) => Node::Name(name),
         Node::Truth(truth) => Node::Truth(truth),
         Node::Const(width, number) => Node::Const(width, number),
-        Node::Not(x) => Node::Not(images[x.0]),
-        Node::And(x, y) => Node::And(images[x.0], images[y.0]),
-        Node::Or(x, y) => Node::Or(images[x.0], images[y.0]),
-        Node::Xor(x, y) => Node::Xor(images[x.0], images[y.0]),
-        Node::Neg(x) => Node::Neg(images[x.0]),
-        Node::Add(x, y) => Node::Add(images[x.0], images[y.0]),
-        Node::Sub(x, y) => Node::Sub(images[x.0], images[y.0]),
-        Node::Mul(x, y) => Node::Mul(images[x.0], images[y.0]),
-        Node::Shl(x, y) => Node::Shl(images[x.0], images[y.0]),
-        Node::Lshr(x, y) => Node::Lshr(images[x.0], images[y.0]),
-        Node::Ashr(x, y) => Node::Ashr(images[x.0], images[y.0]),
-        Node::Eq(x, y) => Node::Eq(images[x.0], images[y.0]),
-        Node::Ult(x, y) => Node::Ult(images[x.0], images[y.0]),
-        Node::Ule(x, y) => Node::Ule(images[x.0], images[y.0]),
-        Node::Slt(x, y) => Node::Slt(images[x.0], images[y.0]),
-        Node::Sle(x, y) => Node::Sle(images[x.0], images[y.0]),
-        Node::Concat(x, y) => Node::Concat(images[x.0], images[y.0]),
-        Node::Extract(high, low, x) => Node::Extract(high, low, images[x.0]),
-        Node::Zext(width, x) => Node::Zext(width, images[x.0]),
-        Node::Sext(width, x) => Node::Sext(width, images[x.0]),
-        Node::Ite(c, x, y) => Node::Ite(images[c.0], images[x.0], images[y.0]),
-        Node::Load(m, i) => Node::Load(images[m.0], images[i.0]),
-        Node::Store(m, i, x) => Node::Store(images[m.0], images[i.0], images[x.0]),
+        Node::Not(x) => Node::Not(image(images, x)),
+        Node::And(x, y) => Node::And(image(images, x), image(images, y)),
+        Node::Or(x, y) => Node::Or(image(images, x), image(images, y)),
+        Node::Xor(x, y) => Node::Xor(image(images, x), image(images, y)),
+        Node::Neg(x) => Node::Neg(image(images, x)),
+        Node::Add(x, y) => Node::Add(image(images, x), image(images, y)),
+        Node::Sub(x, y) => Node::Sub(image(images, x), image(images, y)),
+        Node::Mul(x, y) => Node::Mul(image(images, x), image(images, y)),
+        Node::Shl(x, y) => Node::Shl(image(images, x), image(images, y)),
+        Node::Lshr(x, y) => Node::Lshr(image(images, x), image(images, y)),
+        Node::Ashr(x, y) => Node::Ashr(image(images, x), image(images, y)),
+        Node::Eq(x, y) => Node::Eq(image(images, x), image(images, y)),
+        Node::Ult(x, y) => Node::Ult(image(images, x), image(images, y)),
+        Node::Ule(x, y) => Node::Ule(image(images, x), image(images, y)),
+        Node::Slt(x, y) => Node::Slt(image(images, x), image(images, y)),
+        Node::Sle(x, y) => Node::Sle(image(images, x), image(images, y)),
+        Node::Concat(x, y) => Node::Concat(image(images, x), image(images, y)),
+        Node::Extract(high, low, x) => Node::Extract(high, low, image(images, x)),
+        Node::Zext(width, x) => Node::Zext(width, image(images, x)),
+        Node::Sext(width, x) => Node::Sext(width, image(images, x)),
+        Node::Ite(c, x, y) => Node::Ite(image(images, c), image(images, x), image(images, y)),
+        Node::Load(m, i) => Node::Load(image(images, m), image(images, i)),
+        Node::Store(m, i, x) => Node::Store(image(images, m), image(images, i), image(images, x)),
     }
 }
 
@@ -103,11 +105,11 @@ fn put_store(
 }
 
 /// The image of an operand.
-fn image(images: &[TermId], id: TermId) -> TermId
-    requires { id.0 < length images.now }
-    ensures { result ≡ image_of images.now id }
+pub(crate) fn image(images: &HashMap<usize, TermId>, id: TermId) -> TermId
+    requires { IsSome (get nat_eq images.now id.0) }
+    ensures { result ≡ image_of (get nat_eq images.now) id }
 {
-    images[id.0]
+    images[&id.0]
 }
 
 /// The place of the first word's name of a memory.
@@ -147,14 +149,13 @@ fn put_choice(
     terms: &mut Terms,
     old: &Terms,
     list: &[MemoryWord],
-    images: &[TermId],
+    images: &HashMap<usize, TermId>,
     parts: (TermId, TermId, TermId),
     address_width: u32,
 ) -> Result<TermId, NoMemory>
     requires sort { (d : ℕ) × (sort_of (ite (tree old.now parts.0.0) (tree old.now parts.1.0) (tree old.now parts.2.0)) ≡ Some (memory address_width d)) }
     requires narrow { address_width ≤ 16 }
-    requires room { AllBelow (length images.now) (parts.0.0 ∷ parts.1.0 ∷ parts.2.0 ∷ []) }
-    requires images { Operands old.now.names list.now old.now terms.old images.now (parts.0.0 ∷ parts.1.0 ∷ parts.2.0 ∷ []) }
+    requires images { Operands old.now.names list.now old.now terms.old (get nat_eq images.now) (parts.0.0 ∷ parts.1.0 ∷ parts.2.0 ∷ []) }
     ensures grows { OnOk result (Grows terms.old terms.new) }
     ensures image { IfOk result (λ r. IsImage old.now.names list.now terms.new r.0 (ite (tree old.now parts.0.0) (tree old.now parts.1.0) (tree old.now parts.2.0))) }
     ensures count { OnOk result (length terms.new.nodes ≡ length terms.old.nodes + 2 ^ address_width) }
@@ -173,15 +174,14 @@ fn put_update(
     terms: &mut Terms,
     old: &Terms,
     list: &[MemoryWord],
-    images: &[TermId],
+    images: &HashMap<usize, TermId>,
     parts: (TermId, TermId, TermId),
     address_width: u32,
 ) -> Result<TermId, NoMemory>
     requires sort { (d : ℕ) × (sort_of (store (tree old.now parts.0.0) (tree old.now parts.1.0) (tree old.now parts.2.0)) ≡ Some (memory address_width d)) }
     requires some { 1 ≤ address_width }
     requires narrow { address_width ≤ 16 }
-    requires room { AllBelow (length images.now) (parts.0.0 ∷ parts.1.0 ∷ parts.2.0 ∷ []) }
-    requires images { Operands old.now.names list.now old.now terms.old images.now (parts.0.0 ∷ parts.1.0 ∷ parts.2.0 ∷ []) }
+    requires images { Operands old.now.names list.now old.now terms.old (get nat_eq images.now) (parts.0.0 ∷ parts.1.0 ∷ parts.2.0 ∷ []) }
     ensures grows { OnOk result (Grows terms.old terms.new) }
     ensures image { IfOk result (λ r. IsImage old.now.names list.now terms.new r.0 (store (tree old.now parts.0.0) (tree old.now parts.1.0) (tree old.now parts.2.0))) }
     ensures count { OnOk result (length terms.new.nodes ≡ length terms.old.nodes + 3 * 2 ^ address_width) }
@@ -201,7 +201,7 @@ fn put_memory(
     old: &Terms,
     list: &[MemoryWord],
     firsts: &[usize],
-    images: &[TermId],
+    images: &HashMap<usize, TermId>,
     id: TermId,
     address_width: u32,
 ) -> Result<TermId, NoMemory>
@@ -210,8 +210,7 @@ fn put_memory(
     requires some { 1 ≤ address_width }
     requires narrow { address_width ≤ 16 }
     requires firsts { HasFirsts old.now.names terms.old.names list.now firsts.now }
-    requires room { id.0 ≤ length images.now }
-    requires images { HaveImages old.now list.now terms.old images.now id.0 }
+    requires images { HaveImages old.now list.now terms.old (get nat_eq images.now) id.0 }
     ensures grows { OnOk result (Grows terms.old terms.new) }
     ensures image { IfOk result (λ r. IsImage old.now.names list.now terms.new r.0 (tree old.now id.0)) }
     ensures count { OnOk result (length terms.new.nodes ≤ length terms.old.nodes + node_count old.now (node_at old.now id.0)) }
@@ -258,17 +257,17 @@ fn put_word(
     terms: &mut Terms,
     old: &Terms,
     list: &[MemoryWord],
-    images: &[TermId],
+    images: &HashMap<usize, TermId>,
     memory: TermId,
     address: TermId,
 ) -> Result<TermId, NoMemory>
     requires memory { memory.0 < length old.now.nodes }
     requires address { address.0 < length old.now.nodes }
     requires sorted { IsSome (load_sort (sort_of (tree old.now memory.0)) (sort_of (tree old.now address.0))) }
-    requires room { memory.0 < length images.now }
-    requires room_for_address { address.0 < length images.now }
-    requires image { IsImage old.now.names list.now terms.old (image_of images.now memory).0 (tree old.now memory.0) }
-    requires image_of_address { IsImage old.now.names list.now terms.old (image_of images.now address).0 (tree old.now address.0) }
+    requires there { IsSome (get nat_eq images.now memory.0) }
+    requires address_there { IsSome (get nat_eq images.now address.0) }
+    requires image { IsImage old.now.names list.now terms.old (image_of (get nat_eq images.now) memory).0 (tree old.now memory.0) }
+    requires image_of_address { IsImage old.now.names list.now terms.old (image_of (get nat_eq images.now) address).0 (tree old.now address.0) }
     ensures grows { OnOk result (Grows terms.old terms.new) }
     ensures image { IfOk result (λ r. IsImage old.now.names list.now terms.new r.0 (load (tree old.now memory.0) (tree old.now address.0))) }
     ensures count { OnOk result (length terms.new.nodes ≤ length terms.old.nodes + load_count (const_part (node_at old.now address.0)) (sort_of (tree old.now address.0))) }
@@ -315,14 +314,13 @@ fn put_value(
     old: &Terms,
     list: &[MemoryWord],
     firsts: &[usize],
-    images: &[TermId],
+    images: &HashMap<usize, TermId>,
     id: TermId,
 ) -> Result<TermId, NoMemory>
     requires id { id.0 < length old.now.nodes }
     requires sort { IsNoMemory (sort_of (tree old.now id.0)) }
     requires firsts { HasFirsts old.now.names terms.old.names list.now firsts.now }
-    requires room { id.0 ≤ length images.now }
-    requires images { HaveImages old.now list.now terms.old images.now id.0 }
+    requires images { HaveImages old.now list.now terms.old (get nat_eq images.now) id.0 }
     ensures grows { OnOk result (Grows terms.old terms.new) }
     ensures image { IfOk result (λ r. IsImage old.now.names list.now terms.new r.0 (tree old.now id.0)) }
     ensures count { OnOk result (length terms.new.nodes ≤ length terms.old.nodes + node_count old.now (node_at old.now id.0)) }
@@ -347,13 +345,12 @@ fn put_image(
     old: &Terms,
     list: &[MemoryWord],
     firsts: &[usize],
-    images: &[TermId],
+    images: &HashMap<usize, TermId>,
     id: TermId,
 ) -> Result<TermId, NoMemory>
     requires id { id.0 < length old.now.nodes }
     requires firsts { HasFirsts old.now.names terms.old.names list.now firsts.now }
-    requires room { id.0 ≤ length images.now }
-    requires images { HaveImages old.now list.now terms.old images.now id.0 }
+    requires images { HaveImages old.now list.now terms.old (get nat_eq images.now) id.0 }
     ensures grows { OnOk result (Grows terms.old terms.new) }
     ensures image { IfOk result (λ r. IsImage old.now.names list.now terms.new r.0 (tree old.now id.0)) }
     ensures count { OnOk result (length terms.new.nodes ≤ length terms.old.nodes + node_count old.now (node_at old.now id.0)) }
@@ -374,68 +371,38 @@ fn put_image(
     }
 }
 
-/// The image of a marked term, by those of its operands; for another some id.
-fn put_next(
-    terms: &mut Terms,
-    old: &Terms,
-    list: &[MemoryWord],
-    firsts: &[usize],
-    images: &[TermId],
-    reached: &[bool],
-    root: TermId,
-    id: TermId,
-) -> Result<TermId, NoMemory>
-    requires root { root.0 < length old.now.nodes }
-    requires id { id.0 ≤ root.0 }
-    requires firsts { HasFirsts old.now.names terms.old.names list.now firsts.now }
-    requires reached { AreMarks old.now root.0 0 reached.now }
-    requires room { length images.now ≡ id.0 }
-    requires images { AreImages old.now list.now terms.old reached.now images.now id.0 }
-    ensures grows { OnOk result (Grows terms.old terms.new) }
-    ensures image { IfOk result (λ r. IsMarked reached.now id.0 → IsImage old.now.names list.now terms.new r.0 (tree old.now id.0)) }
-    ensures count { OnOk result (length terms.new.nodes ≤ length terms.old.nodes + cond (slice_index_or reached.now id.0 false) (node_count old.now (node_at old.now id.0)) 0) }
+/// The term at a place of a list.
+fn term_in(ids: &[TermId], place: usize) -> TermId
+    requires { place < length ids.now }
+    ensures { result ≡ slice_index_or ids.now place result }
 {
-    let _root = root;
-    if !reached[id.0] {
-        return Ok(TermId(0));
-    }
-    let _node = node_of(old, id);
-    let image = put_image(terms, old, list, firsts, images, id)?;
-    Ok(image)
+    ids[place]
 }
 
-/// The images of the terms on which a term stands, by ascending id; the others are not visited but for their reached.
+/// The image of a term, by those of the terms on which it stands, by ascending id. No other term is looked at.
 pub(crate) fn put_images(
     alloc: Global,
     terms: &mut Terms,
     old: &Terms,
     list: &[MemoryWord],
     firsts: &[usize],
-    reached: &[bool],
+    ids: &[TermId],
     root: TermId,
-) -> Result<Vec<TermId>, NoMemory>
-    requires root { root.0 < length old.now.nodes }
+) -> Result<HashMap<usize, TermId>, NoMemory>
     requires firsts { HasFirsts old.now.names terms.old.names list.now firsts.now }
-    requires reached { AreMarks old.now root.0 0 reached.now }
+    requires cone { IsCone old.now root.0 (places ids.now) }
+    requires parts { AreParts old.now root.0 }
     ensures names { OnOk result (terms.new.names ≡ terms.old.names) }
-    ensures room { IfOk result (λ images. length images.items ≡ root.0 + 1) }
-    ensures images { IfOk result (λ images. AreImages old.now list.now terms.new reached.now images.items (root.0 + 1)) }
-    ensures count { OnOk result (length terms.new.nodes ≤ length terms.old.nodes + total_count old.now reached.now (root.0 + 1)) }
+    ensures image { IfOk result (λ images. HasImage old.now.names list.now old.now terms.new (get nat_eq images) root.0) }
+    ensures count { OnOk result (length terms.new.nodes ≤ length terms.old.nodes + total_count old.now (places ids.now)) }
 {
-    let _end = old.len();
-    let mut images = Vec::new(alloc);
-    for place in 0..root.0 + 1 {
-        let image = put_next(
-            terms,
-            old,
-            list,
-            firsts,
-            &images,
-            reached,
-            root,
-            TermId(place),
-        )?;
-        images.push(image)?;
+    let _root = root;
+    let mut images = HashMap::new(alloc);
+    for place in 0..ids.len() {
+        let id = term_in(ids, place);
+        let _node = node_of(old, id);
+        let image = put_image(terms, old, list, firsts, &images, id)?;
+        images.insert(id.0, image)?;
     }
     Ok(images)
 }

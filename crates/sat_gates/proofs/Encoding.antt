@@ -13,8 +13,7 @@ use Rattle.gate_base.specs.Circuit.{Circuit, size, bit_value, Follows, IsDetermi
 use Rattle.sat_gates.specs.Names.{names_in, is_blastable}
 use Rattle.sat_gates.specs.Encodes.{Writes, GivesSorts, RestrictsTo, Encodes}
 use Rattle.sat_gates.specs.Layout.{bit_count, variables_from, variables_of, firsts_of, end_of, IsLaidOut, IsNumbered}
-use Rattle.sat_gates.specs.Marks.{IsMarked}
-use Rattle.sat_gates.specs.Used.{entry_at, AreUsed}
+use Rattle.sat_gates.specs.Used.{entry_at, IsMarked, AreUsed}
 use Rattle.sat_gates.specs.Blasting.{WritesOf, AreBitsOf, AllHaveVariables}
 use Rattle.sat_gates.proofs.Nodes.{truth_written}
 use Rattle.sat_gates.proofs.Layouts.{IsBitSort, WriteAll, HasFrom, bits_of, inputs_for, first_at, lookup, first_is, firsts_count, first_fits, laid_out, used_some, same_place, bits_write, inputs_count, has_from, inputs_read, same_inputs}

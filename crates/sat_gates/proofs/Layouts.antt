@@ -12,8 +12,7 @@ use Rattle.gate_words.specs.Binary.{digit, number_of}
 use Rattle.sat_gates.specs.Encodes.{Writes}
 use Rattle.sat_gates.specs.Layout.{bit_count, variables_from, variables_of_sort, variables_of, firsts_of, end_of, next_after, IsLaidOut}
 use Rattle.std.specs.Prelude.{is_some}
-use Rattle.sat_gates.specs.Marks.{IsMarked}
-use Rattle.sat_gates.specs.Used.{entry_at}
+use Rattle.sat_gates.specs.Used.{entry_at, IsMarked}
 use Rattle.sat_gates.specs.Reading.{FitsBelow}
 
 -- a name is found at its place

@@ -1,4 +1,8 @@
-pub mod Marking
+pub mod Members
+pub mod Parts
+pub mod Reached
+pub mod Plain
+pub mod Laying
 pub mod Nodes
 pub mod Using
 pub mod NodeBits

@@ -1,5 +1,5 @@
 -- The bits of nodes that are chains.
-use Rattle.std.proofs.Common.{◌≡◌, ◌∙◌, ℕ, ◌<◌, Bool, false, not, List, [], ◌∷◌, length, get_or, Option, arith, refl, sym, ap, subst, inl, inr}
+use Rattle.std.proofs.Common.{◌≡◌, ◌∙◌, ℕ, ◌<◌, Bool, false, not, List, [], ◌∷◌, length, Option, arith, refl, sym, ap, subst, inl, inr}
 use Rattle.std.specs.Prelude.{IsSome, ⊤, Vec}
 use Rattle.std.specs.Global.{Global}
 use Rattle.std.proofs.lemmas.List.{length-map}
@@ -23,7 +23,7 @@ use Rattle.sat_gates.specs.declared.forms.Form.TheVariants.{Chain, Last, Word, S
 use Rattle.sat_gates.specs.Forms.{form_of}
 use Rattle.sat_gates.specs.Encodes.{Variables}
 use Rattle.sat_gates.specs.Layout.{bit_count_of}
-use Rattle.sat_gates.specs.Blasting.{WritesOf, AreBitsOf, HaveBits}
+use Rattle.sat_gates.specs.Blasting.{WritesOf, AreBitsOf, HasBits, HaveBits}
 use Rattle.sat_gates.proofs.Nodes.{AreWords, are_words, are_bits, not_bits, compared_truth, compared_some, writes_add, writes_sub, writes_and, writes_or, writes_xor, writes_not, writes_eq, writes_ult, writes_ule, writes_word, writes_signed}
 
 pub grown : {c d : Circuit} (t : Term) (m : Variables) (u : Term) (bits : List Bit) → Grows c d → AreBitsOf t m c u bits → AreBitsOf t m d u bits
@@ -194,10 +194,7 @@ FormHas P (SignedBelow x y) = P x.0 × P y.0
 FormHas P (SignedAtMost x y) = P x.0 × P y.0
 FormHas P Other = ⊤
 
-abbrev pub HasBits : Graph → ℕ → Variables → Circuit → List (Vec Bit Global) → ℕ → Type 0
-HasBits g root m c bits k = (k < length bits) × ((d : Vec Bit Global) → AreBitsOf (tree g root) m c (tree g k) (get_or bits k d).items)
-
-pub form_has : (g : Graph) (root : ℕ) (m : Variables) (c : Circuit) (bits : List (Vec Bit Global)) (n : Node) → HaveBits g root m c bits (operands_of n) → FormHas (HasBits g root m c bits) (form_of n)
+pub form_has : (g : Graph) (root : ℕ) (m : Variables) (c : Circuit) (bits : ℕ → Option (Vec Bit Global)) (n : Node) → HaveBits g root m c bits (operands_of n) → FormHas (HasBits g root m c bits) (form_of n)
 form_has g root m c bits (Not x) h = (h.0, h.0)
 form_has g root m c bits (And x y) h = (h.0, h.1.0)
 form_has g root m c bits (Or x y) h = (h.0, h.1.0)
@@ -216,6 +213,5 @@ form_has g root m c bits (Sle x y) h = (h.0, h.1.0)
 form_has g root m c bits _ h = tt
 
 -- the bits of an operand as a call reads them
-pub operand_bits : (t : Term) (m : Variables) (c : Circuit) (u : Term) (bits : List (Vec Bit Global)) (k : ℕ) (v : Vec Bit Global) (xs : List Bit)
-    → v ≡ get_or bits k v → xs ≡ v.items → AreBitsOf t m c u (get_or bits k v).items → AreBitsOf t m c u xs
-operand_bits t m c u bits k v xs e f h = subst (AreBitsOf t m c u) (sym (f ∙ ap (λ (b : Vec Bit Global). b.items) e)) h
+pub operand_bits : (t : Term) (m : Variables) (c : Circuit) (u : Term) (xs ys : List Bit) → xs ≡ ys → AreBitsOf t m c u ys → AreBitsOf t m c u xs
+operand_bits t m c u xs ys e h = subst (AreBitsOf t m c u) (sym e) h

@@ -3,7 +3,7 @@ pub mod Encodes
 pub mod Layout
 pub mod Blasting
 pub mod Condition
+pub mod Cone
 pub mod Reading
 pub mod Forms
-pub mod Marks
 pub mod Used

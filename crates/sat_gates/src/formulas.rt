@@ -9,39 +9,12 @@ ghost use Rattle.sat_gates.specs.Encodes.{Encodes};
 ghost use Rattle.sat_gates.specs.Layout.{variables_of, IsNumbered};
 
 use crate::blasting::put_term;
-use crate::layout::{lay_out, used_names};
-use crate::marks::mark;
+use crate::layout::{BitMap, lay_out, used_names};
+use crate::reach::cone;
 use gate_base::Builder;
 use sat_base::{Cnf, NoMemory};
 use std::alloc::Global;
-use std::marker::Model;
-use wb_terms::{NameId, TermId, Terms};
-
-/// The first variables of the bits of declared names, in the order of declaration. A name that does not stand in the term has none.
-#[derive(Drop)]
-pub struct BitMap {
-    firsts: Vec<Option<u64>>,
-}
-
-impl Model for BitMap {
-    ghost use Rattle.std.specs.Prelude.{List, Option, ℕ};
-
-    ghost Value = { List (Option ℕ) };
-
-    ghost view = { λ m. m.firsts.items };
-}
-
-impl BitMap {
-    /// The variable of a name's bit 0, where the name is declared and stands in the term. Bit k has the variable k further.
-    pub fn first(&self, name: NameId) -> Option<u64>
-        ensures { result ≡ slice_index_or self.now name.0 None }
-    {
-        match self.firsts.get(name.0) {
-            Some(first) => *first,
-            None => None,
-        }
-    }
-}
+use wb_terms::{TermId, Terms};
 
 /// A formula, and the variables of the names' bits in it.
 #[derive(Drop)]
@@ -54,6 +27,7 @@ pub struct Blasted {
 
 /// The formula in conjunctive normal form that is satisfied where a term is false.
 /// The bits of the names of the term have the first variables, in the order of declaration; then there is one variable for each gate.
+/// Only the terms on which it stands are looked at, each once.
 pub fn blast(alloc: Global, terms: &Terms, id: TermId) -> Result<Blasted, NoMemory>
     requires id { id.0 < length terms.now.nodes }
     requires sort { sort_of (tree terms.now id.0) ≡ Some truth }
@@ -61,15 +35,15 @@ pub fn blast(alloc: Global, terms: &Terms, id: TermId) -> Result<Blasted, NoMemo
     ensures encodes { IfOk result (λ b. Encodes b.cnf (variables_of terms.now.names b.map) (tree terms.now id.0)) }
     ensures numbered { IfOk result (λ b. IsNumbered terms.now.names (names_in (tree terms.now id.0)) b.map b.cnf.vars) }
 {
-    let marks = mark(alloc, terms, id)?;
-    let used = used_names(alloc, terms, id, &marks)?;
-    let layout = lay_out(alloc, terms, &used)?;
+    let ids = cone(alloc, terms, id)?;
+    let used = used_names(alloc, terms, id, &ids)?;
+    let layout = lay_out(alloc, terms, used)?;
     let mut circuit = Builder::new(alloc, layout.inputs);
-    let bit = put_term(alloc, &mut circuit, terms, id, &marks, &layout.firsts)?;
+    let bit = put_term(alloc, &mut circuit, terms, id, &ids, &layout.map)?;
     let wanted = bit.negated();
     let cnf = circuit.into_cnf(alloc, wanted)?;
-    let map = BitMap {
-        firsts: layout.firsts,
-    };
-    Ok(Blasted { cnf, map })
+    Ok(Blasted {
+        cnf,
+        map: layout.map,
+    })
 }

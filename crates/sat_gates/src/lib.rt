@@ -6,11 +6,12 @@ mod condition;
 mod forms;
 mod formulas;
 mod layout;
-mod marks;
+mod reach;
 mod reading;
 
 pub use condition::can_blast;
-pub use formulas::{BitMap, Blasted, blast};
-pub use marks::mark;
+pub use formulas::{Blasted, blast};
+pub use layout::BitMap;
+pub use reach::cone;
 pub use reading::read_back;
 pub use sat_base::{Assignment, Cnf, NoMemory};

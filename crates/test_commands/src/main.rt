@@ -2,7 +2,11 @@
 //! standard input; what differs is printed, and how many there were.
 #![tactic(auto)]
 
+mod profile;
+mod requests;
+mod spent;
 mod table;
+mod texts;
 
 use std::io;
 use table::Table;

@@ -6,16 +6,28 @@
 //! | `\|TEXT` | one more line of that file |
 //! | `!TEXT` | more text of that file, without a line feed |
 //! | `repeat COUNT TEXT` | as much text, COUNT times, with its number from 0 on in place of each `#` |
-//! | `words WORD..` | the words of the command, after the program's name |
+//! | `words WORD..` | the words of the command, after the program's name; `wordless` is a command without that either |
 //! | `in NAME`, then `-OLD`, `+NEW` once or more | in this file the first OLD is changed into NEW, for the next row alone |
-//! | `>TEXT` | one more line of what the next row writes, whole |
-//! | `=STATUS TEXT` | a row: the call ends with this status, and its text begins or ends with TEXT, or is what `>` lines say |
+//! | `>TEXT` | one more line of what the next row writes, whole; `<TEXT` is text of it without a line feed |
+//! | `fails NUMBER` | the next row's read with this number, from 1, fails |
+//! | `keeps COUNT` | the next row's write fails, and keeps so many bytes |
+//! | `asked COUNT` | the next row asks for so many files |
+//! | `spent COUNT BUDGET` | the next row shows of so many formulas that so many lemmas were spent on each |
+//! | `=STATUS TEXT` | a row: the call ends with this status, and its text begins or ends with TEXT, or is what `>` and `<` lines say |
+//! | `ask LINE => ANSWER` | a row: what the words of this line, apart by one blank, ask for; `ask => ANSWER` is of no words at all |
+//! | `reads map => ANSWER`, `reads model => ANSWER` | a row: whether the first profile reads the file `p` as a map, `m` as a model |
+//! | `shown map => TEXT`, `shown model => TEXT` | a row: the parts of that map or model |
 //!
-//! Empty lines and those that begin with `#` are skipped. In OLD, NEW and TEXT `¶` stands for a line feed and `␍` for a carriage return.
+//! Empty lines and those that begin with `#` are skipped. In OLD, NEW and TEXT `¶` stands for a line feed, `␍` for a carriage return, `␠` for
+//! a blank, and in a file `⊘` for a byte that is in no text.
 
+use crate::profile::{is_map, is_model, map_shown, model_shown};
+use crate::requests::answer;
+use crate::spent::is_spent;
+use crate::texts::{bytes_of, number, numbered, unmarked, with_change};
 use std::alloc::{AllocError, Global};
 use wb_outside::{MemShelf, MemSink};
-use wb_top::workbench;
+use wb_top::{Ended, workbench};
 
 /// Room for the longest text that a row writes.
 const ROOM: u64 = 65_536;
@@ -34,60 +46,43 @@ struct Change {
     new: String,
 }
 
+/// What one row alone changes and wants.
+#[derive(Drop)]
+struct Demands {
+    changed: String,
+    changes: Vec<Change>,
+    expected: String,
+    is_whole: bool,
+    failing: Vec<u64>,
+    kept: Option<u64>,
+    asked: Option<usize>,
+    spent: Option<(usize, usize)>,
+}
+
+fn no_demands(alloc: Global) -> Demands {
+    Demands {
+        changed: String::new(alloc),
+        changes: Vec::new(alloc),
+        expected: String::new(alloc),
+        is_whole: false,
+        failing: Vec::new(alloc),
+        kept: None,
+        asked: None,
+        spent: None,
+    }
+}
+
 /// What was read so far.
 #[derive(Drop)]
 pub struct Table {
     files: Vec<File>,
     words: Vec<String>,
-    changed: String,
-    changes: Vec<Change>,
-    expected: String,
+    demands: Demands,
     line: u64,
     /// How many rows there were.
     pub rows: u64,
     /// How many of them came out otherwise.
     pub differ: u64,
-}
-
-/// The text with its marks for line feeds and carriage returns put in.
-fn unmarked(alloc: Global, text: &str) -> Result<String, AllocError> {
-    let mut whole = String::new(alloc);
-    for character in text.chars() {
-        whole.push(match character {
-            '¶' => '\n',
-            '␍' => '\r',
-            other => other,
-        })?;
-    }
-    Ok(whole)
-}
-
-/// The text with a number in place of each `#`.
-fn numbered(alloc: Global, text: &str, number: u32) -> Result<String, AllocError> {
-    let mut whole = String::new(alloc);
-    for character in text.chars() {
-        if character == '#' {
-            let digits = format!(in alloc; "{number}")?;
-            whole.push_str(&digits)?;
-        } else {
-            whole.push(character)?;
-        }
-    }
-    Ok(whole)
-}
-
-/// The text with its first `old` changed into `new`.
-fn with_change(alloc: Global, text: &str, old: &str, new: &str) -> Result<String, AllocError> {
-    let mut whole = String::new(alloc);
-    match text.split_once(old) {
-        Some((before, after)) => {
-            whole.push_str(before)?;
-            whole.push_str(new)?;
-            whole.push_str(after)?;
-        }
-        None => whole.push_str("this row changes nothing")?,
-    }
-    Ok(whole)
 }
 
 impl Table {
@@ -96,9 +91,7 @@ impl Table {
         Table {
             files: Vec::new(alloc),
             words: Vec::new(alloc),
-            changed: String::new(alloc),
-            changes: Vec::new(alloc),
-            expected: String::new(alloc),
+            demands: no_demands(alloc),
             line: 0,
             rows: 0,
             differ: 0,
@@ -108,6 +101,25 @@ impl Table {
     /// Takes a line of the table. Gives what is to be told of it, where it is a row that came out otherwise.
     pub fn take(&mut self, alloc: Global, line: &str) -> Result<Option<String>, AllocError> {
         self.line = self.line.saturating_add(1);
+        if line.is_empty() || line.starts_with("#") {
+            return Ok(None);
+        }
+        if let Some(row) = line.strip_prefix("=") {
+            return self.row(alloc, row);
+        }
+        if let Some((row, wanted)) = line.split_once(" => ") {
+            if let Some(found) = self.found_alone(alloc, row)? {
+                return self.compared(alloc, &found, wanted);
+            }
+        }
+        if self.is_of_files(alloc, line)? || self.is_change(alloc, line)? || self.is_demand(line)? {
+            return Ok(None);
+        }
+        self.told(alloc, "is no line of a table")
+    }
+
+    /// Takes a line of files or of the command's words, if it is one.
+    fn is_of_files(&mut self, alloc: Global, line: &str) -> Result<bool, AllocError> {
         if let Some(name) = line.strip_prefix("file ") {
             self.begin_file(alloc, name)?;
         } else if let Some(text) = line.strip_prefix("|") {
@@ -117,24 +129,55 @@ impl Table {
             self.add_text(text)?;
         } else if let Some(copies) = line.strip_prefix("repeat ") {
             self.add_copies(alloc, copies)?;
-        } else if let Some(words) = line.strip_prefix("words ") {
+        } else if let Some(words) = line.strip_prefix("words") {
             self.words = words_of(alloc, words)?;
-        } else if let Some(name) = line.strip_prefix("in ") {
-            self.changed = String::from_str(alloc, name)?;
+        } else if line == "wordless" {
+            self.words = Vec::new(alloc);
+        } else {
+            return Ok(false);
+        }
+        Ok(true)
+    }
+
+    /// Takes a line of a change for the next row, if it is one.
+    fn is_change(&mut self, alloc: Global, line: &str) -> Result<bool, AllocError> {
+        if let Some(name) = line.strip_prefix("in ") {
+            self.demands.changed = String::from_str(alloc, name)?;
         } else if let Some(text) = line.strip_prefix("-") {
-            self.changes.push(Change {
+            self.demands.changes.push(Change {
                 old: unmarked(alloc, text)?,
                 new: String::new(alloc),
             })?;
         } else if let Some(text) = line.strip_prefix("+") {
             self.put_in(unmarked(alloc, text)?);
-        } else if let Some(text) = line.strip_prefix(">") {
-            self.expected.push_str(text)?;
-            self.expected.push_str("\n")?;
-        } else if let Some(row) = line.strip_prefix("=") {
-            return self.row(alloc, row);
+        } else {
+            return Ok(false);
         }
-        Ok(None)
+        Ok(true)
+    }
+
+    /// Takes a line of what the next row wants, if it is one.
+    fn is_demand(&mut self, line: &str) -> Result<bool, AllocError> {
+        if let Some(text) = line.strip_prefix(">") {
+            self.demands.expected.push_str(text)?;
+            self.demands.expected.push_str("\n")?;
+            self.demands.is_whole = true;
+        } else if let Some(text) = line.strip_prefix("<") {
+            self.demands.expected.push_str(text)?;
+            self.demands.is_whole = true;
+        } else if let Some(text) = line.strip_prefix("fails ") {
+            self.demands.failing.push(text.parse::<u64>().unwrap_or(0))?;
+        } else if let Some(text) = line.strip_prefix("keeps ") {
+            self.demands.kept = text.parse::<u64>().ok();
+        } else if let Some(text) = line.strip_prefix("asked ") {
+            self.demands.asked = Some(number(text));
+        } else if let Some(text) = line.strip_prefix("spent ") {
+            let (count, budget) = text.split_once(" ").unwrap_or((text, ""));
+            self.demands.spent = Some((number(count), number(budget)));
+        } else {
+            return Ok(false);
+        }
+        Ok(true)
     }
 
     fn begin_file(&mut self, alloc: Global, name: &str) -> Result<(), AllocError> {
@@ -174,7 +217,7 @@ impl Table {
 
     /// Says what stands in place of the last text that is changed.
     fn put_in(&mut self, new: String) {
-        if let Some(change) = self.changes.last_mut() {
+        if let Some(change) = self.demands.changes.last_mut() {
             change.new = new;
         }
     }
@@ -182,7 +225,7 @@ impl Table {
     /// The text of a file with all changes made, one after the other.
     fn changed_text(&self, alloc: Global, text: &str) -> Result<String, AllocError> {
         let mut whole = String::from_str(alloc, text)?;
-        for change in &self.changes {
+        for change in &self.demands.changes {
             whole = with_change(alloc, &whole, &change.old, &change.new)?;
         }
         Ok(whole)
@@ -193,14 +236,21 @@ impl Table {
         let mut all = Vec::new(alloc);
         for file in &self.files {
             let name = String::from_str(alloc, &file.name)?;
-            if file.name == self.changed {
+            if file.name == self.demands.changed {
                 let text = self.changed_text(alloc, &file.text)?;
-                all.push((name, Vec::from_slice(alloc, text.as_bytes())?))?;
+                all.push((name, bytes_of(alloc, &text)?))?;
             } else {
-                all.push((name, Vec::from_slice(alloc, file.text.as_bytes())?))?;
+                all.push((name, bytes_of(alloc, &file.text)?))?;
             }
         }
         Ok(all)
+    }
+
+    /// What is told of a row that came out otherwise.
+    fn told(&mut self, alloc: Global, text: &str) -> Result<Option<String>, AllocError> {
+        self.differ = self.differ.saturating_add(1);
+        let line = self.line;
+        Ok(Some(format!(in alloc; "line {line}: {text}")?))
     }
 
     /// Runs a row: `STATUS TEXT`.
@@ -211,47 +261,113 @@ impl Table {
             None => (row, ""),
         };
         let wanted = unmarked(alloc, text)?;
-        let mut shelf = shelf_of(alloc, self.contents(alloc)?)?;
-        let mut sink = sink_of(alloc)?;
+        let mut shelf = shelf_of(alloc, self.contents(alloc)?, &self.demands.failing)?;
+        let mut sink = sink_of(alloc, self.demands.kept)?;
         let ended = workbench(alloc, &self.words, &mut shelf, &mut sink);
         let number = format!(in alloc; "{}", ended.status.number())?;
-        let is_right = number.as_str() == status && self.is_wanted(sink.bytes(), wanted.as_bytes());
-        self.forget(alloc);
+        let is_right = number.as_str() == status
+            && self.is_wanted(sink.bytes(), wanted.as_bytes())
+            && self.is_asked(shelf.names().len())
+            && self.are_spent(alloc, &ended)?;
+        self.demands = no_demands(alloc);
         if is_right {
             return Ok(None);
         }
-        self.differ = self.differ.saturating_add(1);
-        let line = self.line;
         let found = String::from_utf8_lossy(alloc, sink.bytes())?;
-        Ok(Some(format!(in alloc; "line {line}: status {number}: {found}")?))
+        let text = format!(in alloc; "status {number}: {found}")?;
+        self.told(alloc, &text)
+    }
+
+    /// What is found for a row that needs no command: the words of a line, or a map or a model by itself.
+    fn found_alone(&self, alloc: Global, row: &str) -> Result<Option<String>, AllocError> {
+        if let Some(line) = row.strip_prefix("ask ") {
+            return Ok(Some(answer(alloc, line, false)?));
+        }
+        let found = match row {
+            "ask" => answer(alloc, "", true)?,
+            "reads map" => String::from_str(alloc, is_map(alloc, &self.content(alloc, "p")?)?)?,
+            "reads model" => String::from_str(alloc, is_model(alloc, &self.content(alloc, "m")?)?)?,
+            "shown map" => map_shown(alloc, &self.content(alloc, "p")?)?,
+            "shown model" => model_shown(alloc, &self.content(alloc, "m")?)?,
+            _ => return Ok(None),
+        };
+        Ok(Some(found))
+    }
+
+    /// Compares what was found for such a row with what it wants.
+    fn compared(
+        &mut self,
+        alloc: Global,
+        found: &str,
+        wanted: &str,
+    ) -> Result<Option<String>, AllocError> {
+        self.rows = self.rows.saturating_add(1);
+        self.demands = no_demands(alloc);
+        if found == unmarked(alloc, wanted)?.as_str() {
+            return Ok(None);
+        }
+        self.told(alloc, found)
+    }
+
+    /// The bytes of a file of this name, with the changes of the row; no bytes where there is none.
+    fn content(&self, alloc: Global, name: &str) -> Result<Vec<u8>, AllocError> {
+        for (found, bytes) in self.contents(alloc)? {
+            if found.as_str() == name {
+                return Ok(bytes);
+            }
+        }
+        Ok(Vec::new(alloc))
     }
 
     /// Whether a text is what a row wants.
     fn is_wanted(&self, text: &[u8], wanted: &[u8]) -> bool {
-        if self.expected.is_empty() {
-            text.starts_with(wanted) || text.ends_with(wanted)
+        if self.demands.is_whole {
+            text == self.demands.expected.as_bytes()
         } else {
-            text == self.expected.as_bytes()
+            text.starts_with(wanted) || text.ends_with(wanted)
         }
     }
 
-    /// Forgets the changes and the lines of one row.
-    fn forget(&mut self, alloc: Global) {
-        self.changed = String::new(alloc);
-        self.changes = Vec::new(alloc);
-        self.expected = String::new(alloc);
+    /// Whether a row wants that so many files are asked for.
+    fn is_asked(&self, count: usize) -> bool {
+        match self.demands.asked {
+            Some(wanted) => count == wanted,
+            None => true,
+        }
+    }
+
+    /// Whether a row wants that these lemmas are spent.
+    fn are_spent(&self, alloc: Global, ended: &Ended) -> Result<bool, AllocError> {
+        let Some((count, budget)) = self.demands.spent else {
+            return Ok(true);
+        };
+        for entry in &ended.spent {
+            if !is_spent(alloc, &entry.formula.cnf, &entry.log, budget)? {
+                return Ok(false);
+            }
+        }
+        Ok(ended.spent.len() == count)
     }
 }
 
-fn shelf_of(alloc: Global, files: Vec<(String, Vec<u8>)>) -> Result<MemShelf, AllocError> {
-    match MemShelf::new(alloc, files, Vec::new(alloc)) {
+fn shelf_of(
+    alloc: Global,
+    files: Vec<(String, Vec<u8>)>,
+    failing: &[u64],
+) -> Result<MemShelf, AllocError> {
+    match MemShelf::new(alloc, files, Vec::from_slice(alloc, failing)?) {
         Ok(shelf) => Ok(shelf),
         Err(_) => Err(AllocError),
     }
 }
 
-fn sink_of(alloc: Global) -> Result<MemSink, AllocError> {
-    match MemSink::new(alloc, ROOM, Vec::new(alloc)) {
+/// A sink whose first write fails, where so many bytes are kept of it.
+fn sink_of(alloc: Global, kept: Option<u64>) -> Result<MemSink, AllocError> {
+    let mut failing = Vec::new(alloc);
+    if let Some(kept) = kept {
+        failing.push((1, kept))?;
+    }
+    match MemSink::new(alloc, ROOM, failing) {
         Ok(sink) => Ok(sink),
         Err(_) => Err(AllocError),
     }

@@ -1,58 +1,101 @@
-//! Models for tests, read from their files: a counter, a multiplier by steps of a child, a child within a child, and a memory.
+//! Models that are read from their files, by what they declare.
 
 use ila_json::read_model;
-use ila_model::IlaModel;
-use std::alloc::Global;
-use std::test::Fail;
+use ila_model::{IlaModel, Instruction};
+use std::alloc::{AllocError, Global};
+use wb_terms::{Sort, Value};
 
-pub(crate) const OP_IS_ONE: &str = r#"["eq","op",["const",1,1]]"#;
+/// What is told of a file that gives no model.
+pub const NO_MODEL: &str = "no model";
 
-pub(crate) const OP_IS_ZERO: &str = r#"["eq","op",["const",1,0]]"#;
+fn add_name(text: &mut String, name: &str) -> Result<(), AllocError> {
+    text.push_str(" ")?;
+    text.push_str(name)
+}
 
-pub(crate) const YES: &str = "true";
+fn add_instructions(text: &mut String, instructions: &[Instruction]) -> Result<(), AllocError> {
+    for instruction in instructions {
+        add_name(text, instruction.name.as_str())?;
+    }
+    Ok(())
+}
 
-pub(crate) const NO: &str = "false";
+/// The names of a model: its own, those of its states, its inputs and its instructions, and those of each child's instructions.
+pub fn names(alloc: Global, file: &str) -> Result<String, AllocError> {
+    let Ok(model) = read_model(alloc, file.as_bytes()) else {
+        return String::from_str(alloc, NO_MODEL);
+    };
+    let mut text = String::from_str(alloc, model.name.as_str())?;
+    text.push_str(":")?;
+    for place in 0..model.state_count() {
+        add_name(&mut text, model.state_name(place))?;
+    }
+    add_name(&mut text, "|")?;
+    for place in 0..model.input_count() {
+        add_name(&mut text, model.input_name(place))?;
+    }
+    add_name(&mut text, "|")?;
+    add_instructions(&mut text, &model.parts.instructions)?;
+    for child in model.parts.children.iter() {
+        add_name(&mut text, "+")?;
+        add_instructions(&mut text, &child.instructions)?;
+    }
+    Ok(text)
+}
 
-/// The model of a file.
-pub(crate) fn model(alloc: Global, text: &str) -> Result<IlaModel, Fail> {
-    match read_model(alloc, text.as_bytes()) {
-        Ok(model) => Ok(model),
-        Err(_) => Err("no model".into()),
+fn add_sort(alloc: Global, text: &mut String, sort: Sort) -> Result<(), AllocError> {
+    let shown = match sort {
+        Sort::Truth => String::from_str(alloc, ":bool")?,
+        Sort::Word(width) => format!(in alloc; ":{width}")?,
+        Sort::Memory(address, width) => format!(in alloc; ":[{address},{width}]")?,
+    };
+    text.push_str(&shown)
+}
+
+/// Adds a value: a truth value, a number, or the words of a memory.
+pub fn add_value(alloc: Global, text: &mut String, value: &Value) -> Result<(), AllocError> {
+    match value {
+        Value::Truth(true) => text.push_str("true"),
+        Value::Truth(false) => text.push_str("false"),
+        Value::Number(number) => {
+            let shown = format!(in alloc; "{number}")?;
+            text.push_str(&shown)
+        }
+        Value::Words(words) => {
+            text.push_str("[")?;
+            for word in words {
+                let shown = format!(in alloc; " {word}")?;
+                text.push_str(&shown)?;
+            }
+            text.push_str(" ]")
+        }
     }
 }
 
-/// The counter: INC adds 1 where op is 1, CLR sets 0 where its decode condition holds. It begins at 7.
-pub(crate) fn counter(alloc: Global, valid: &str, clear: &str) -> Result<IlaModel, Fail> {
-    let text = format!(in alloc;
-        r#"{{"name":"counter","states":[{{"name":"cnt","sort":8,"init":7}}],"inputs":[{{"name":"op","sort":1}}],"valid":{valid},"instructions":[{{"name":"INC","decode":{OP_IS_ONE},"update":{{"cnt":["add","cnt",["const",8,1]]}}}},{{"name":"CLR","decode":{clear},"update":{{"cnt":["const",8,0]}}}}]}}"#
-    )?;
-    model(alloc, text.as_str())
+/// The states with their sorts and initial values, and the inputs with their sorts.
+pub fn declared(alloc: Global, file: &str) -> Result<String, AllocError> {
+    let Ok(model) = read_model(alloc, file.as_bytes()) else {
+        return String::from_str(alloc, NO_MODEL);
+    };
+    let mut text = String::new(alloc);
+    add_states(alloc, &mut text, &model)?;
+    text.push_str("|")?;
+    for place in 0..model.input_count() {
+        add_name(&mut text, model.input_name(place))?;
+        add_sort(alloc, &mut text, model.input_sort(place))?;
+    }
+    Ok(text)
 }
 
-/// A model with a memory m of 4 words of 4 bits and an input a of 2 bits: W stores 1 and then 2 at a.
-pub(crate) fn stores(alloc: Global) -> Result<IlaModel, Fail> {
-    model(
-        alloc,
-        r#"{"name":"stores","states":[{"name":"m","sort":[2,4]}],"inputs":[{"name":"a","sort":2}],"valid":true,"instructions":[{"name":"W","decode":true,"update":{"m":["store",["store","m","a",["const",4,1]],"a",["const",4,2]]}}]}"#,
-    )
-}
-
-pub(crate) const BELOW_4: &str = r#"["ult","i",["const",3,4]]"#;
-
-pub(crate) const BELOW_2: &str = r#"["ult","i",["const",3,2]]"#;
-
-/// A multiplier by shifts and additions, with so many steps, whose STEP has this decode condition.
-pub(crate) fn multiplier(alloc: Global, steps: u32, decode: &str) -> Result<IlaModel, Fail> {
-    let text = format!(in alloc;
-        r#"{{"name":"multiplier","states":[{{"name":"p","sort":8}}],"inputs":[{{"name":"x","sort":4}},{{"name":"y","sort":4}}],"valid":true,"instructions":[{{"name":"MUL","decode":true,"update":{{"p":["const",8,0]}},"child":{{"states":[{{"name":"i","sort":3,"init":0}}],"define":[["bit",["extract",0,0,["lshr","y",["zext",4,"i"]]]],["part",["shl",["zext",8,"x"],["zext",8,"i"]]]],"valid":{BELOW_4},"steps":{steps},"instructions":[{{"name":"STEP","decode":{decode},"update":{{"p":["ite",["eq","bit",["const",1,1]],["add","p","part"],"p"],"i":["add","i",["const",3,1]]}}}}]}}}}]}}"#
-    )?;
-    model(alloc, text.as_str())
-}
-
-/// GO adds 1 to r; its child adds 2 once, and has a child of its own without instructions, which is valid so.
-pub(crate) fn nested(alloc: Global, inner_valid: &str) -> Result<IlaModel, Fail> {
-    let text = format!(in alloc;
-        r#"{{"name":"nested","states":[{{"name":"r","sort":4}}],"inputs":[],"valid":true,"instructions":[{{"name":"GO","decode":true,"update":{{"r":["add","r",["const",4,1]]}},"child":{{"states":[{{"name":"f","sort":1,"init":0}}],"valid":["eq","f",["const",1,0]],"steps":1,"instructions":[{{"name":"A","decode":true,"update":{{"r":["add","r",["const",4,2]],"f":["const",1,1]}},"child":{{"states":[],"valid":{inner_valid},"steps":1,"instructions":[]}}}}]}}}}]}}"#
-    )?;
-    model(alloc, text.as_str())
+fn add_states(alloc: Global, text: &mut String, model: &IlaModel) -> Result<(), AllocError> {
+    for place in 0..model.state_count() {
+        text.push_str(model.state_name(place))?;
+        add_sort(alloc, text, model.state_sort(place))?;
+        if let Some(value) = model.initial_value(place) {
+            text.push_str("=")?;
+            add_value(alloc, text, value)?;
+        }
+        text.push_str(" ")?;
+    }
+    Ok(())
 }

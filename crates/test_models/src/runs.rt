@@ -1,151 +1,142 @@
-//! Tests: scripts run on small models, what is printed, and notes of scripts that are refused.
+//! Scripts that are run on models, and single steps.
 
-use crate::models::{
-    BELOW_2, BELOW_4, NO, OP_IS_ONE, OP_IS_ZERO, YES, counter, multiplier, nested, stores,
-};
+ghost use Rattle.ila_model.specs.Model.{model_of};
+ghost use Rattle.ila_child.specs.State.{IsStateOf};
+
+use crate::models::{NO_MODEL, add_value};
+use crate::texts::bytes_of;
+use ila_child::{Inputs, State, Stepped, initial_state, step};
+use ila_json::read_model;
 use ila_model::IlaModel;
-use ila_sim::{Simulation, names_of, read_script, simulate, simulated, simulation_text};
-use std::alloc::Global;
-use std::test::Fail;
+use ila_sim::{
+    ScriptRefusal, ScriptStop, Simulation, names_of, read_script, simulate, simulated,
+    simulation_text,
+};
+use std::alloc::{AllocError, Global};
+use wb_terms::Value;
 
-/// A script, and what it prints.
-type Row = (&'static [u8], &'static [u8]);
+/// What is told of texts that are no script, no state or no inputs.
+const OTHER: &str = "is no script, no state or no inputs";
 
 /// What a simulation says: its text, or the refusal and its note.
-fn said(alloc: Global, model: &IlaModel, script: &[u8]) -> Result<Vec<u8>, Fail> {
-    match simulated(alloc, model, script)? {
-        Simulation::Text(text) => Ok(text),
-        Simulation::Refused(refusal) => {
-            let mut text = Vec::from_slice(alloc, refusal.kind.name().as_bytes())?;
-            text.extend_from_slice(b", ")?;
-            text.extend_from_slice(refusal.note.as_bytes())?;
-            Ok(text)
-        }
-    }
-}
-
-fn are_said(alloc: Global, model: &IlaModel, rows: &[Row]) -> Result<(), Fail> {
-    for (script, expected) in rows.iter().copied() {
-        let text = said(alloc, model, script)?;
-        if text.as_slice() != expected {
-            return Err("another text".into());
-        }
-    }
-    Ok(())
-}
-
-const COUNTS: [Row; 5] = [
-    (
-        b"state cnt=254\nin op=1\nin op=1\nin op=0\n",
-        b"1 INC cnt=255\n2 INC cnt=0\n3 CLR cnt=0\n",
-    ),
-    (b"in op=1\n", b"1 INC cnt=8\n"),
-    (b"", b""),
-    (b"# nothing\n\nstate\n", b""),
-    (b"in op=0x1", b"1 INC cnt=8\n"),
-];
-
-const SEVERAL: [Row; 1] = [(
-    b"state cnt=254\nin op=1\nin op=1\nin op=0\n",
-    b"1 several INC CLR\n2 several INC CLR\n3 CLR cnt=0\n",
-)];
-
-const NONE_DECODES: [Row; 1] = [(
-    b"in op=1\nin op=0\nin op=1\n",
-    b"1 INC cnt=8\n2 no-instruction\n3 INC cnt=9\n",
-)];
-
-const NOT_VALID: [Row; 1] = [(b"in op=0\nin op=1\n", b"1 none\n2 INC cnt=8\n")];
-
-#[test]
-fn counters(rt: HostRuntime) -> Result<(), Fail> {
-    let alloc = rt.alloc();
-    are_said(alloc, &counter(alloc, YES, OP_IS_ZERO)?, &COUNTS)?;
-    are_said(alloc, &counter(alloc, YES, YES)?, &SEVERAL)?;
-    are_said(alloc, &counter(alloc, YES, NO)?, &NONE_DECODES)?;
-    are_said(alloc, &counter(alloc, OP_IS_ONE, OP_IS_ZERO)?, &NOT_VALID)?;
-    Ok(())
-}
-
-const PRODUCT: [Row; 1] = [(b"in x=3 y=5\n", b"1 MUL p=15\n")];
-
-const TOO_LONG: [Row; 1] = [(b"in x=3 y=5\n", b"1 child-too-long 1\n")];
-
-const STUCK: [Row; 1] = [(b"in x=3 y=5\n", b"1 child-stuck 1 2\n")];
-
-const NESTED: [Row; 1] = [(b"in\nin\n", b"1 GO r=3\n2 GO r=6\n")];
-
-const STORED: [Row; 3] = [
-    (b"in a=3\n", b"1 W m[3]=2\n"),
-    (
-        b"state m[0]=7 m[3]=0xF\nin a=3\nin a=1",
-        b"1 W m[0]=7 m[3]=2\n2 W m[0]=7 m[1]=2 m[3]=2\n",
-    ),
-    (b"state m[4]=1\n", b"S1 BadLine, line 1: m[4]=1"),
-];
-
-#[test]
-fn children_and_memories(rt: HostRuntime) -> Result<(), Fail> {
-    let alloc = rt.alloc();
-    are_said(alloc, &multiplier(alloc, 4, BELOW_4)?, &PRODUCT)?;
-    are_said(alloc, &multiplier(alloc, 3, BELOW_4)?, &TOO_LONG)?;
-    are_said(alloc, &multiplier(alloc, 4, BELOW_2)?, &STUCK)?;
-    are_said(alloc, &nested(alloc, NO)?, &NESTED)?;
-    are_said(alloc, &stores(alloc)?, &STORED)?;
-    Ok(())
-}
-
-const REFUSED: [Row; 12] = [
-    (b"in\n", b"S2 MissingInput, line 1: op is missing"),
-    (
-        b"# a\r\n\nin op=1\nin\n",
-        b"S2 MissingInput, line 4: op is missing",
-    ),
-    (b"in\nin op=2\n", b"S1 BadLine, line 2: op=2"),
-    (b"\nstate cnt=256\n", b"S1 BadLine, line 2: cnt=256"),
-    (b"in op=1 op=0\n", b"S1 BadLine, line 1: op=0 again"),
-    (
-        b"in op=1\nstate\n",
-        b"S1 BadLine, line 2: state is not first",
-    ),
-    (b"in op=1\ngo op=1\n", b"S1 BadLine, line 2: go"),
-    (b" \t\n", b"S1 BadLine, line 1: blanks alone"),
-    (
-        b"in op=1\r \n",
-        b"S1 BadLine, line 1: a carriage return within the line",
-    ),
-    (b"in op=1\n# \xff\n", b"S1 BadLine, line 2: not UTF-8"),
-    (b"in op=\xc3\xa9\n", b"S1 BadLine, line 1: op=??"),
-    (
-        b"in ooooooooooooooooooooooooooooooooooooooooooooooooooooooooooooooooooooooooooooooo=1\n",
-        b"S1 BadLine, line 1: oooooooooooooooooooooooooooooooooooooooooooooooooooooooooooooooooooooooo",
-    ),
-];
-
-#[test]
-fn refusals(rt: HostRuntime) -> Result<(), Fail> {
-    let alloc = rt.alloc();
-    are_said(alloc, &counter(alloc, YES, OP_IS_ZERO)?, &REFUSED)
-}
-
-/// The text of the steps that are kept.
-fn kept(alloc: Global, model: &IlaModel, script: &[u8]) -> Result<Vec<u8>, Fail> {
-    let names = names_of(alloc, model)?;
-    let Ok(script) = read_script(alloc, script, &names) else {
-        return Err("no script".into());
+pub fn said(alloc: Global, file: &str, script: &[u8]) -> Result<Vec<u8>, AllocError> {
+    let Ok(model) = read_model(alloc, file.as_bytes()) else {
+        return bytes_of(alloc, NO_MODEL);
     };
-    let steps = simulate(alloc, model, &script)?;
-    Ok(simulation_text(alloc, model, &steps)?)
+    match simulated(alloc, &model, script)? {
+        Simulation::Text(text) => Ok(text),
+        Simulation::Refused(refusal) => refusal_text(alloc, &refusal),
+    }
 }
 
-#[test]
-fn kept_steps(rt: HostRuntime) -> Result<(), Fail> {
-    let alloc = rt.alloc();
-    let model = counter(alloc, YES, YES)?;
-    let text = kept(alloc, &model, b"state cnt=255\nin op=0\nin op=1\n")?;
-    assert_eq!(rt;
-        text.as_slice(),
-        b"1 CLR cnt=0\n2 several INC CLR\n".as_slice()
-    );
+fn refusal_text(alloc: Global, refusal: &ScriptRefusal) -> Result<Vec<u8>, AllocError> {
+    let mut text = bytes_of(alloc, refusal.kind.name())?;
+    text.extend_from_slice(b", ".as_slice())?;
+    text.extend_from_slice(refusal.note.as_bytes())?;
+    Ok(text)
+}
+
+/// The text of the steps that are kept of a script.
+pub fn kept(alloc: Global, file: &str, script: &[u8]) -> Result<Vec<u8>, AllocError> {
+    let Ok(model) = read_model(alloc, file.as_bytes()) else {
+        return bytes_of(alloc, NO_MODEL);
+    };
+    let names = names_of(alloc, &model)?;
+    let Ok(script) = read_script(alloc, script, &names) else {
+        return bytes_of(alloc, OTHER);
+    };
+    let steps = simulate(alloc, &model, &script)?;
+    simulation_text(alloc, &model, &steps)
+}
+
+/// What a text is, over the names of a model.
+pub fn answer_of_script(
+    alloc: Global,
+    file: &str,
+    script: &[u8],
+) -> Result<&'static str, AllocError> {
+    let Ok(model) = read_model(alloc, file.as_bytes()) else {
+        return Ok(NO_MODEL);
+    };
+    let names = names_of(alloc, &model)?;
+    match read_script(alloc, script, &names) {
+        Ok(_) => Ok("a script"),
+        Err(ScriptStop::Refused(refusal)) => Ok(refusal.kind.name()),
+        Err(ScriptStop::NoMemory) => Err(AllocError),
+    }
+}
+
+/// Numbers with blanks between them, as values.
+fn values(alloc: Global, text: &str) -> Result<Vec<Value>, AllocError> {
+    let mut values = Vec::new(alloc);
+    for word in text.split_whitespace() {
+        values.push(Value::Number(word.parse::<u128>().unwrap_or(0)))?;
+    }
+    Ok(values)
+}
+
+/// What a model with one state does in it under inputs: `STATE INPUT..`.
+pub fn stepped(alloc: Global, file: &str, text: &str) -> Result<String, AllocError> {
+    let (state, inputs) = text.split_once(" ").unwrap_or((text, ""));
+    let Ok(model) = read_model(alloc, file.as_bytes()) else {
+        return String::from_str(alloc, NO_MODEL);
+    };
+    let Some(state) = State::checked(&model, values(alloc, state)?) else {
+        return String::from_str(alloc, OTHER);
+    };
+    let mut found = String::new(alloc);
+    add_step(alloc, &mut found, &model, &state, inputs)?;
+    Ok(found)
+}
+
+/// The values of a model's initial state, and what it does there under inputs.
+pub fn first_step(alloc: Global, file: &str, inputs: &str) -> Result<String, AllocError> {
+    let Ok(model) = read_model(alloc, file.as_bytes()) else {
+        return String::from_str(alloc, NO_MODEL);
+    };
+    let state = initial_state(alloc, &model)?;
+    let mut found = String::new(alloc);
+    for value in state.values() {
+        add_value(alloc, &mut found, value)?;
+        found.push_str(" ")?;
+    }
+    add_step(alloc, &mut found, &model, &state, inputs)?;
+    Ok(found)
+}
+
+/// Adds what a model does in a state under inputs.
+fn add_step(
+    alloc: Global,
+    text: &mut String,
+    model: &IlaModel,
+    state: &State,
+    inputs: &str,
+) -> Result<(), AllocError>
+    requires { IsStateOf (model_of model.now) state.now }
+{
+    let Some(inputs) = Inputs::checked(model, values(alloc, inputs)?) else {
+        return text.push_str(OTHER);
+    };
+    let stepped = step(alloc, model, state, &inputs)?;
+    let shown = match &stepped {
+        Stepped::Next(place, next) => {
+            let shown = format!(in alloc; "next {place}")?;
+            text.push_str(&shown)?;
+            return add_values(alloc, text, next.values());
+        }
+        Stepped::NotValid => String::from_str(alloc, "not valid")?,
+        Stepped::NoInstruction => String::from_str(alloc, "no instruction")?,
+        Stepped::Several(first, second) => format!(in alloc; "several {first} {second}")?,
+        Stepped::ChildStuck(depth, place) => format!(in alloc; "child stuck {depth} {place}")?,
+        Stepped::ChildTooLong(depth) => format!(in alloc; "child too long {depth}")?,
+    };
+    text.push_str(&shown)
+}
+
+fn add_values(alloc: Global, text: &mut String, values: &[Value]) -> Result<(), AllocError> {
+    for value in values {
+        text.push_str(" ")?;
+        add_value(alloc, text, value)?;
+    }
     Ok(())
 }

@@ -1,10 +1,13 @@
-//! Rows of operators on two words: what the evaluator gives, and what the formula of a claim on it allows; and rows of products of
-//! sums. The rows are read from standard input; what differs is printed, and how many there were.
+//! Rows of operators on two words: what the evaluator gives, and what the formula of a claim on it allows; rows of products of sums, of
+//! operators on words by themselves, and of some claims and terms. The rows are read from standard input; what differs is printed, and how many there were.
 #![tactic(auto)]
 
 mod claims;
+mod expansions;
 mod products;
 mod rows;
+mod samples;
+mod words;
 
 use rows::Table;
 use std::io;

@@ -1,9 +1,21 @@
 //! A table of rows, line by line: `WIDTH OPERATOR X Y VALUE`, where X and Y are words of the width and VALUE is what the operator gives,
-//! a truth value as 0 or 1; and `WIDTH product BUDGET ANSWER`, where ANSWER is what is known of x * (y + z) = x * y + x * z. Empty lines
-//! and those that begin with `#` are skipped.
+//! a truth value as 0 or 1; and `WIDTH product BUDGET ANSWER`, where ANSWER is what is known of x * (y + z) = x * y + x * z. Besides:
+//!
+//! | row | meaning |
+//! |---|---|
+//! | `word OPERATOR WIDTH X VALUE`, `word OPERATOR WIDTH X Y VALUE` | an operator on words by itself |
+//! | `word extract WIDTH X HIGH LOW VALUE`, `word concat WIDTH X WIDTH Y VALUE` | a cut, a join |
+//! | `claim NAME => ANSWER` | what is known of a claim: `holds`, `breaks` with the number of x, or `spent` |
+//! | `gates => ANSWER` | gates that are built twice |
+//! | `expansion NAME => ANSWER` | a term with memories, whose words become names |
+//!
+//! Empty lines and those that begin with `#` are skipped.
 
 use crate::claims::{Found, Row, tried};
+use crate::expansions::expansion_shown;
 use crate::products::answer;
+use crate::samples::{claim_shown, gates_shown};
+use crate::words::told_of_word;
 use std::alloc::{AllocError, Global};
 
 /// How many rows there were, and how many of them came out otherwise.
@@ -31,18 +43,46 @@ impl Table {
             return Ok(None);
         }
         self.rows = self.rows.saturating_add(1);
-        let told = match (row_of(line), product_of(line)) {
-            (Some(row), _) => told_of(tried(alloc, row)),
-            (None, Some(row)) if answer(alloc, row.width, row.budget) == row.answer => "",
-            (None, Some(_)) => "is answered otherwise",
-            (None, None) => "is no row",
-        };
+        let told = told_of_line(alloc, line)?;
         if told.is_empty() {
             return Ok(None);
         }
         self.differ = self.differ.saturating_add(1);
         let place = self.line;
         Ok(Some(format!(in alloc; "line {place} {told}: {line}")?))
+    }
+}
+
+/// What is told of a line that is a row. Nothing where all is as it says.
+fn told_of_line(alloc: Global, line: &str) -> Result<&'static str, AllocError> {
+    if let Some(text) = line.strip_prefix("word ") {
+        return told_of_word(alloc, text);
+    }
+    if let Some((row, wanted)) = line.split_once(" => ") {
+        return told_of_sample(alloc, row, wanted);
+    }
+    let told = match (row_of(line), product_of(line)) {
+        (Some(row), _) => told_of(tried(alloc, row)),
+        (None, Some(row)) if answer(alloc, row.width, row.budget) == row.answer => "",
+        (None, Some(_)) => "is answered otherwise",
+        (None, None) => "is no row",
+    };
+    Ok(told)
+}
+
+/// What is told of a row of a sample.
+fn told_of_sample(alloc: Global, row: &str, wanted: &str) -> Result<&'static str, AllocError> {
+    let (kind, name) = row.split_once(" ").unwrap_or((row, ""));
+    let found = match kind {
+        "claim" => claim_shown(alloc, name)?,
+        "gates" => gates_shown(alloc)?,
+        "expansion" => expansion_shown(alloc, name)?,
+        _ => return Ok("is no row"),
+    };
+    if found.as_str() == wanted {
+        Ok("")
+    } else {
+        Ok("is answered otherwise")
     }
 }
 

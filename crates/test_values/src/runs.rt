@@ -1,4 +1,5 @@
-//! Runs of statements whose targets are part selects. The expected numbers are those of Icarus Verilog.
+//! Runs of statements whose targets are part selects.
+
 ghost use Rattle.std.specs.Prelude.{◌≡◌, true, false, ◌<◌, ◌≤◌, IfOk};
 ghost use Rattle.verilog_trees.specs.Syntax.{number};
 ghost use Rattle.verilog_meaning.specs.Expression.{Scope as PureScope, Object as PureObject, no_values, select_bits};
@@ -7,8 +8,8 @@ ghost use Rattle.v_syntax.specs.Tree.{tree_of, select_of, statement_of};
 ghost use Rattle.v_value.specs.Narrow.{HasNarrowObjects};
 ghost use Rattle.v_statement.specs.Statements.{IsNarrowSelect, IsNarrowStatement};
 
+use crate::value::Stop;
 use std::alloc::{AllocError, Global};
-use std::test::Fail;
 use v_statement::place::{Bits, Cell, Place};
 use v_statement::register::after_edge;
 use v_statement::statement::run;
@@ -110,7 +111,7 @@ fn last_number(values: &Values<'_>) -> Option<u128> {
     }
 }
 
-/// What a `q` with these bounds is after the assignment.
+/// The values after the assignment to a `q` with these bounds.
 fn assigned(
     alloc: Global,
     bounds: (u32, u32),
@@ -118,7 +119,7 @@ fn assigned(
     first: u8,
     second: u8,
     number: u8,
-) -> Result<Option<u128>, AllocError>
+) -> Result<Values<'static>, AllocError>
     requires left_small { bounds.0 < 128 }
     requires right_small { bounds.1 < 128 }
     requires first_small { first < 128 }
@@ -131,26 +132,78 @@ fn assigned(
     };
     let mut updates = Vec::new(alloc);
     run(alloc, &scope, &statement, &mut values, &mut updates)?;
-    Ok(last_number(&values))
+    Ok(values)
 }
 
-#[test]
-fn parts(rt: HostRuntime) -> Result<(), Fail> {
-    let alloc = rt.alloc();
-    let down = (7, 0);
-    let up = (0, 7);
-    assert_eq!(rt; assigned(alloc, down, Form::Between, 3, 0, 10)?, Some(90));
-    assert_eq!(rt; assigned(alloc, down, Form::Upward, 6, 4, 11)?, Some(213));
-    assert_eq!(rt; assigned(alloc, down, Form::Downward, 1, 4, 11)?, Some(86));
-    assert_eq!(rt; assigned(alloc, up, Form::Between, 0, 3, 10)?, Some(165));
-    assert_eq!(rt; assigned(alloc, up, Form::Upward, 6, 4, 11)?, Some(86));
-    assert_eq!(rt; assigned(alloc, up, Form::Downward, 6, 4, 11)?, Some(87));
-    Ok(())
+/// The form that stands between the bounds or the base and the width.
+fn form_of(word: &str) -> Option<Form> {
+    match word {
+        ":" => Some(Form::Between),
+        "+:" => Some(Form::Upward),
+        "-:" => Some(Form::Downward),
+        _ => None,
+    }
 }
 
-#[test]
-fn writes(rt: HostRuntime) -> Result<(), Fail> {
-    let alloc = rt.alloc();
+/// The left and the right bound of the register, the select, and the number that is assigned.
+#[derive(Clone, Copy)]
+struct Row {
+    left: u32,
+    right: u32,
+    first: u8,
+    form: Form,
+    second: u8,
+    number: u8,
+}
+
+/// `LEFT RIGHT FIRST FORM SECOND NUMBER`.
+fn row_of(text: &str) -> Option<Row> {
+    let mut words = text.split_whitespace();
+    let left = words.next()?.parse::<u32>().ok()?;
+    let right = words.next()?.parse::<u32>().ok()?;
+    let first = words.next()?.parse::<u8>().ok()?;
+    let form = form_of(words.next()?)?;
+    let second = words.next()?.parse::<u8>().ok()?;
+    let number = words.next()?.parse::<u8>().ok()?;
+    Some(Row {
+        left,
+        right,
+        first,
+        form,
+        second,
+        number,
+    })
+}
+
+fn number_shown(alloc: Global, values: &Values<'_>) -> Result<String, Stop> {
+    let Some(number) = last_number(values) else {
+        return Err(Stop::Other("no number was assigned"));
+    };
+    let found = format!(in alloc; "{number}")?;
+    Ok(found)
+}
+
+/// What a register is after `begin q = 8'h55; q[..] = NUMBER; end`.
+pub fn part_assigned(alloc: Global, text: &str) -> Result<String, Stop> {
+    let Some(row) = row_of(text) else {
+        return Err(Stop::Other("is no row"));
+    };
+    if row.left >= 128 || row.right >= 128 || row.first >= 128 || row.second >= 128 {
+        return Err(Stop::Other("is no row"));
+    }
+    let values = assigned(
+        alloc,
+        (row.left, row.right),
+        row.form,
+        row.first,
+        row.second,
+        row.number,
+    )?;
+    number_shown(alloc, &values)
+}
+
+/// What a register `[7:0]` is after 11 was written to four bits from bit 9 downward.
+pub fn written(alloc: Global) -> Result<String, Stop> {
     let scope = declared(alloc, 7, 0)?;
     let mut values = Values {
         entries: Vec::new(alloc),
@@ -168,18 +221,16 @@ fn writes(rt: HostRuntime) -> Result<(), Fail> {
         },
     };
     write(alloc, &scope, &mut values, &[place], 11)?;
-    assert_eq!(rt; last_number(&values), Some(192));
-    Ok(())
+    number_shown(alloc, &values)
 }
 
-#[test]
-fn edges(rt: HostRuntime) -> Result<(), Fail> {
-    let alloc = rt.alloc();
+/// How many values there are after an edge of a module without items.
+pub fn edge(alloc: Global) -> Result<String, Stop> {
     let scope = declared(alloc, 7, 0)?;
     let mut values = Values {
         entries: Vec::new(alloc),
     };
     after_edge(alloc, &scope, &[], &mut values)?;
-    assert!(rt; values.entries.is_empty());
-    Ok(())
+    let found = format!(in alloc; "{} values", values.entries.len())?;
+    Ok(found)
 }

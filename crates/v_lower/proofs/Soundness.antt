@@ -10,7 +10,7 @@ use Rattle.wb_values.specs.Choice.{some_if}
 use Rattle.verilog_trees.specs.Syntax as pure
 use Rattle.verilog_trees.specs.Syntax.{number, name, concatenation, replication, as_signed, as_unsigned, unary, reduction, binary, shift, power, comparison, logical, conditional, no_expressions, expression, index, part, part_up, part_down, whole, one, two}
 use Rattle.verilog_meaning.specs.Expression.{Object, Scope, object_width, is_memory, no_values, integer_of, width_of, widths_of, sign_of, selects_width}
-use Rattle.verilog_rules.specs.Expression.{Broken, Place, anywhere, nothing, also, is_unbroken, constant_if, by_number, by_name, by_total, copies, is_below, divides, is_bad_divisor, is_bad_exponent, is_unsized, number_if, as_constant, wider, is_index, lacks_index, has_bad_select, has_many_words, broken, broken_parts, broken_selects, broken_select, broken_bits, has_width, have_widths}
+use Rattle.verilog_rules.specs.Expression.{Broken, Position, anywhere, nothing, also, is_unbroken, constant_if, by_number, by_name, by_total, copies, is_below, divides, is_bad_divisor, is_bad_exponent, is_unsized, number_if, as_constant, wider, is_index, lacks_index, has_bad_select, has_many_words, broken, broken_parts, broken_selects, broken_select, broken_bits, has_width, have_widths}
 use Rattle.v_syntax.specs.declared.tree.PrefixOperator.{PrefixOperator}
 use Rattle.v_syntax.specs.declared.tree.PrefixOperator.TheVariants.{Plus}
 use Rattle.v_syntax.specs.declared.tree.BinaryOperator.{BinaryOperator}

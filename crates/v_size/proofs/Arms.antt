@@ -20,36 +20,36 @@ use Rattle.v_syntax.proofs.Trees.{tree_of-Concatenation, tree_of-Replication, tr
 use Rattle.v_value.specs.Evaluation.{sign_at}
 use Rattle.v_size.specs.declared.rule.Broken.{Broken}
 use Rattle.v_size.specs.declared.rule.Judged.{Judged}
-use Rattle.v_size.specs.declared.rule.Place.{Place}
-use Rattle.v_size.specs.declared.rule.Place.TheVariants.{Anywhere, Constant}
+use Rattle.v_size.specs.declared.rule.Position.{Position}
+use Rattle.v_size.specs.declared.rule.Position.TheVariants.{Anywhere, Constant}
 use Rattle.v_size.specs.declared.judged.Left.{Left}
-use Rattle.v_size.specs.Rule.{coded, both, place_of}
+use Rattle.v_size.specs.Rule.{coded, both, position_of}
 use Rattle.v_size.specs.Judged.{number_judged, own_place, sized_at, judged_at, itself_at, constant_broken_at, constant_number_at, regarded, prefixed_at, links_judged, first_place, tests_judged, choices_judged, no_parts, parts_judged, joined, repeated, counted, Taken, single, bounded, many, taken_at, select_broken_at, name_at}
 use Rattle.v_size.proofs.Chains.{linked-judged, first_left, test_linked-judged, chosen-judged, joined-judged, repeated-judged, all_prefixed-judged, judged-width, judged-unsized}
 
 left_at : Broken → Option ℕ → Bool → Bool → Left
 left_at b w t u = record { broken = b; width = w; signed = t; unsized_number = u }
 
-number-judged : (s : Scope) (p : Place) (k : CodeNumber) → number_judged (number_of k) ≡ judged_at s p (pure.number (number_of k))
+number-judged : (s : Scope) (p : Position) (k : CodeNumber) → number_judged (number_of k) ≡ judged_at s p (pure.number (number_of k))
 unfolding judged_at sized_at
 number-judged s p k = refl
 
-name-judged : (s : Scope) (p : Place) (m : List ℕ) (x : pure.Selects) → name_at s p (s m) x ≡ judged_at s p (pure.name m x)
+name-judged : (s : Scope) (p : Position) (m : List ℕ) (x : pure.Selects) → name_at s p (s m) x ≡ judged_at s p (pure.name m x)
 unfolding judged_at sized_at name_at
 name-judged s p m x = refl
 
-signed-judged : (s : Scope) (p : Place) (x : pure.Expression) → regarded (itself_at s p x) ≡ judged_at s p (pure.as_signed x)
+signed-judged : (s : Scope) (p : Position) (x : pure.Expression) → regarded (itself_at s p x) ≡ judged_at s p (pure.as_signed x)
 unfolding judged_at sized_at sign_at
 signed-judged s Anywhere x = refl
 signed-judged s (Constant w t) x = refl
 
-unsigned-judged : (s : Scope) (p : Place) (x : pure.Expression) → regarded (itself_at s p x) ≡ judged_at s p (pure.as_unsigned x)
+unsigned-judged : (s : Scope) (p : Position) (x : pure.Expression) → regarded (itself_at s p x) ≡ judged_at s p (pure.as_unsigned x)
 unfolding judged_at sized_at sign_at
 unsigned-judged s Anywhere x = refl
 unsigned-judged s (Constant w t) x = refl
 
 -- e is the expression, and r the result
-module _ (s : Scope) (p : Place) (e : Expression) (r : Judged) where
+module _ (s : Scope) (p : Position) (e : Expression) (r : Judged) where
   at : (u : pure.Expression) → tree_of e ≡ u → r ≡ judged_at s p u → r ≡ judged_at s p (tree_of e)
   at u i j = j ∙ sym (ap (judged_at s p) i)
 
@@ -102,7 +102,7 @@ module _ (s : Scope) (p : Place) (e : Expression) (r : Judged) where
 
   -- tests: own is what was found of the first operand anywhere, t its sign, q its place, and a what was found of it there
   pub at-Test : (b : Box Expression Global) (v : Vec TestLink Global) → e ≡ Test b v → (x : Expression) → x ≡ b.value → (own : Judged) → own ≡ judged_at s Anywhere (tree_of x)
-      → (y : Expression) → y ≡ b.value → (t : Bool) → t ≡ sign_at s (tree_of y) → (ls : List TestLink) → ls ≡ v.items → (q : Place) → q ≡ first_place s p own.width t ls
+      → (y : Expression) → y ≡ b.value → (t : Bool) → t ≡ sign_at s (tree_of y) → (ls : List TestLink) → ls ≡ v.items → (q : Position) → q ≡ first_place s p own.width t ls
       → (z : Expression) → z ≡ b.value → (a : Judged) → a ≡ judged_at s q (tree_of z) → (ks : List TestLink) → ks ≡ v.items
       → r ≡ tests_judged s p (record { broken = a.broken; width = own.width; signed = t; unsized_number = own.unsized_number }) ks → r ≡ judged_at s p (tree_of e)
   unfolding left_at judged_at
@@ -119,7 +119,7 @@ module _ (s : Scope) (p : Place) (e : Expression) (r : Judged) where
       ∙ ap (λ k. tests_judged s p k v.items) (λ k. left_at (f k) (w k) (g k) (d k))
       ∙ sym (test_linked-judged s p v.items u))
 
-index-broken : (s : Scope) (p : Place) (i : pure.Expression) → (itself_at s p i).broken ≡ select_broken_at s p (pure.index i)
+index-broken : (s : Scope) (p : Position) (i : pure.Expression) → (itself_at s p i).broken ≡ select_broken_at s p (pure.index i)
 unfolding judged_at sized_at sign_at select_broken_at
 index-broken s Anywhere i = refl
 index-broken s (Constant w t) i = refl
@@ -128,7 +128,7 @@ index-taken : (s : Scope) (i : pure.Expression) → single ≡ taken_at s (pure.
 unfolding taken_at
 index-taken s i = refl
 
-part-broken : (s : Scope) (p : Place) (h l : pure.Expression) → both (constant_broken_at s h) (constant_broken_at s l) ≡ select_broken_at s p (pure.part h l)
+part-broken : (s : Scope) (p : Position) (h l : pure.Expression) → both (constant_broken_at s h) (constant_broken_at s l) ≡ select_broken_at s p (pure.part h l)
 unfolding constant_broken_at select_broken_at
 part-broken s p h l = refl
 
@@ -136,12 +136,12 @@ part-taken : (s : Scope) (h l : pure.Expression) → bounded (constant_number_at
 unfolding taken_at
 part-taken s h l = refl
 
-up-broken : (s : Scope) (p : Place) (b n : pure.Expression) → both (itself_at s p b).broken (counted (constant_broken_at s n) (constant_number_at s n)) ≡ select_broken_at s p (pure.part_up b n)
+up-broken : (s : Scope) (p : Position) (b n : pure.Expression) → both (itself_at s p b).broken (counted (constant_broken_at s n) (constant_number_at s n)) ≡ select_broken_at s p (pure.part_up b n)
 unfolding judged_at sized_at sign_at constant_broken_at constant_number_at select_broken_at
 up-broken s Anywhere b n = refl
 up-broken s (Constant w t) b n = refl
 
-down-broken : (s : Scope) (p : Place) (b n : pure.Expression) → both (itself_at s p b).broken (counted (constant_broken_at s n) (constant_number_at s n)) ≡ select_broken_at s p (pure.part_down b n)
+down-broken : (s : Scope) (p : Position) (b n : pure.Expression) → both (itself_at s p b).broken (counted (constant_broken_at s n) (constant_number_at s n)) ≡ select_broken_at s p (pure.part_down b n)
 unfolding judged_at sized_at sign_at constant_broken_at constant_number_at select_broken_at
 down-broken s Anywhere b n = refl
 down-broken s (Constant w t) b n = refl
@@ -155,7 +155,7 @@ unfolding taken_at
 many-down s b n = refl
 
 -- x is the select, r and k what its rules and its bits were found to be
-module _ (s : Scope) (p : Place) (x : Select) (r : Broken) (k : Taken) where
+module _ (s : Scope) (p : Position) (x : Select) (r : Broken) (k : Taken) where
   module _ (b : Box Expression Global) (i : x ≡ Index b) where
     pub at-Index-broken : (e : Expression) → e ≡ b.value → (a : Judged) → a ≡ itself_at s p (tree_of e) → r ≡ a.broken → r ≡ select_broken_at s p (select_of x)
     at-Index-broken e j a is_a h =

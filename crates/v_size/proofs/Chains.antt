@@ -24,10 +24,10 @@ use Rattle.v_value.specs.Evaluation.{is_logical, sign_at, count_at}
 use Rattle.v_value.proofs.Signs.{sign-all_prefixed}
 use Rattle.v_size.specs.declared.rule.Broken.{Broken}
 use Rattle.v_size.specs.declared.rule.Judged.{Judged}
-use Rattle.v_size.specs.declared.rule.Place.{Place}
-use Rattle.v_size.specs.declared.rule.Place.TheVariants.{Anywhere, Constant}
+use Rattle.v_size.specs.declared.rule.Position.{Position}
+use Rattle.v_size.specs.declared.rule.Position.TheVariants.{Anywhere, Constant}
 use Rattle.v_size.specs.declared.judged.Left.{Left}
-use Rattle.v_size.specs.Rule.{coded, both, unbroken, place_of}
+use Rattle.v_size.specs.Rule.{coded, both, unbroken, position_of}
 use Rattle.v_size.specs.Judged.{capped, added, fitting, own_place, sized_at, judged_at, itself_at, constant_broken_at, constant_number_at, regarded, one_bit, is_none_before, kept, prefixed_at, divisor_test, exponent_test, constant_rule, right_at, applied, links_judged, left_place, first_place, test_place, tested_at, tests_judged, with_choice, choices_judged, with_part, no_parts, parts_judged, joined, repeated}
 
 -- two widths together, where both have values
@@ -42,7 +42,7 @@ made b u w = record { broken = b; width = w; unsized_number = u }
 with_width : (b : Broken) (u : Bool) {v w : Option ℕ} → v ≡ w → made b u v ≡ made b u w
 with_width b u e = ap (made b u) e
 
-combined-judged : (s : Scope) (p : Place) (o : BinaryOperator) (x y : pure.Expression) → judged_at s p (combined o x y) ≡ applied o (judged_at s p x) (right_at s p o y)
+combined-judged : (s : Scope) (p : Position) (o : BinaryOperator) (x y : pure.Expression) → judged_at s p (combined o x y) ≡ applied o (judged_at s p x) (right_at s p o y)
 unfolding judged_at sized_at sign_at divisor_test exponent_test
 combined-judged s Anywhere Power x y = refl
 combined-judged s (Constant w t) Power x y = refl
@@ -54,13 +54,13 @@ combined-judged s Anywhere ArithmeticShiftRight x y = refl
 combined-judged s (Constant w t) ArithmeticShiftRight x y = refl
 combined-judged s p o x y = with_width (judged_at s p (combined o x y)).broken false (wider-some (rules.has_width s x) (rules.has_width s y) (width_of s x) (width_of s y))
 
-pub linked-judged : (s : Scope) (p : Place) (ls : List BinaryLink) (x : pure.Expression) → judged_at s p (linked ls x) ≡ links_judged s p (judged_at s p x) ls
+pub linked-judged : (s : Scope) (p : Position) (ls : List BinaryLink) (x : pure.Expression) → judged_at s p (linked ls x) ≡ links_judged s p (judged_at s p x) ls
 linked-judged s p [] x = refl
 linked-judged s p (l ∷ ls) x =
     linked-judged s p ls (combined l.operator x (tree_of l.operand)) ∙ ap (λ j. links_judged s p j ls) (combined-judged s p l.operator x (tree_of l.operand))
 
 -- tests
-tested-judged : (s : Scope) (p : Place) (o : TestOperator) (x y : pure.Expression) → judged_at s p (tested o x y)
+tested-judged : (s : Scope) (p : Position) (o : TestOperator) (x y : pure.Expression) → judged_at s p (tested o x y)
     ≡ record { broken = both (judged_at s (left_place p o (sized_at s x) (sign_at s x) (sized_at s y) (sign_at s y)) x).broken (tested_at s p (sized_at s x) (sign_at s x) o y); width = Some 1; unsized_number = false }
 unfolding judged_at sized_at sign_at tested_at
 tested-judged s Anywhere Both x y = refl
@@ -83,32 +83,32 @@ tested-unsized Both x y = refl
 tested-unsized _ x y = refl
 
 -- a test breaks the same in each context
-context-same : (s : Scope) (p : Place) (w : Option ℕ) (t : Bool) (o : TestOperator) (x y : pure.Expression) → judged_at s (own_place p w t) (tested o x y) ≡ judged_at s p (tested o x y)
+context-same : (s : Scope) (p : Position) (w : Option ℕ) (t : Bool) (o : TestOperator) (x y : pure.Expression) → judged_at s (own_place p w t) (tested o x y) ≡ judged_at s p (tested o x y)
 unfolding judged_at
 context-same s Anywhere w t o x y = refl
 context-same s (Constant v u) w t Both x y = refl
 context-same s (Constant v u) w t _ x y = refl
 
-either-place : (s : Scope) (b : Bool) (p q : Place) (x : pure.Expression) (j : Judged) → judged_at s p x ≡ j → judged_at s q x ≡ j → judged_at s (cond b p q) x ≡ j
+either-place : (s : Scope) (b : Bool) (p q : Position) (x : pure.Expression) (j : Judged) → judged_at s p x ≡ j → judged_at s q x ≡ j → judged_at s (cond b p q) x ≡ j
 either-place s true p q x j h k = h
 either-place s false p q x j h k = k
 
-first-same : (s : Scope) (p : Place) (w : Option ℕ) (t : Bool) (ls : List TestLink) (o : TestOperator) (x y : pure.Expression) → judged_at s (first_place s p w t ls) (tested o x y) ≡ judged_at s p (tested o x y)
+first-same : (s : Scope) (p : Position) (w : Option ℕ) (t : Bool) (ls : List TestLink) (o : TestOperator) (x y : pure.Expression) → judged_at s (first_place s p w t ls) (tested o x y) ≡ judged_at s p (tested o x y)
 first-same s p w t [] o x y = refl
 first-same s p w t (l ∷ ls) o x y = either-place s (is_logical l.operator) _ _ (tested o x y) _ (context-same s p _ _ o x y) (context-same s p _ _ o x y)
 
 left_of : Broken → Option ℕ → Bool → Bool → Left
 left_of b w t u = record { broken = b; width = w; signed = t; unsized_number = u }
 
-abbrev pub first_left : Scope → Place → List TestLink → pure.Expression → Left
+abbrev pub first_left : Scope → Position → List TestLink → pure.Expression → Left
 first_left s p ls x =
     record { broken = (judged_at s (first_place s p (sized_at s x) (sign_at s x) ls) x).broken; width = sized_at s x; signed = sign_at s x; unsized_number = rules.is_unsized x }
 
-no_link-judged : (s : Scope) (p : Place) (x : pure.Expression) → judged_at s p x ≡ tests_judged s p (first_left s p [] x) []
+no_link-judged : (s : Scope) (p : Position) (x : pure.Expression) → judged_at s p x ≡ tests_judged s p (first_left s p [] x) []
 unfolding judged_at
 no_link-judged s p x = refl
 
-first-left : (s : Scope) (p : Place) (ls : List TestLink) (o : TestOperator) (x y : pure.Expression) → first_left s p ls (tested o x y)
+first-left : (s : Scope) (p : Position) (ls : List TestLink) (o : TestOperator) (x y : pure.Expression) → first_left s p ls (tested o x y)
     ≡ record { broken = both (judged_at s (left_place p o (sized_at s x) (sign_at s x) (sized_at s y) (sign_at s y)) x).broken (tested_at s p (sized_at s x) (sign_at s x) o y); width = Some 1; signed = false; unsized_number = false }
 first-left s p ls o x y =
     let b : (judged_at s (first_place s p (sized_at s (tested o x y)) (sign_at s (tested o x y)) ls) (tested o x y)).broken
@@ -116,13 +116,13 @@ first-left s p ls o x y =
     = ap (λ (j : Judged). j.broken) (first-same s p _ _ ls o x y ∙ tested-judged s p o x y) in
     λ i. record { broken = b i; width = tested-sized s o x y i; signed = tested-sign s o x y i; unsized_number = tested-unsized o x y i }
 
-pub test_linked-judged : (s : Scope) (p : Place) (ls : List TestLink) (x : pure.Expression) → judged_at s p (test_linked ls x) ≡ tests_judged s p (first_left s p ls x) ls
+pub test_linked-judged : (s : Scope) (p : Position) (ls : List TestLink) (x : pure.Expression) → judged_at s p (test_linked ls x) ≡ tests_judged s p (first_left s p ls x) ls
 test_linked-judged s p [] x = no_link-judged s p x
 test_linked-judged s p (l ∷ ls) x =
     test_linked-judged s p ls (tested l.operator x (tree_of l.operand)) ∙ ap (λ a. tests_judged s p a ls) (first-left s p ls l.operator x (tree_of l.operand))
 
 -- conditionals
-conditional-judged : (s : Scope) (p : Place) (c x y : pure.Expression) → judged_at s p (pure.conditional c x y) ≡ with_choice (judged_at s p y) (itself_at s p c) (judged_at s p x)
+conditional-judged : (s : Scope) (p : Position) (c x y : pure.Expression) → judged_at s p (pure.conditional c x y) ≡ with_choice (judged_at s p y) (itself_at s p c) (judged_at s p x)
 unfolding judged_at sized_at sign_at
 conditional-judged s Anywhere c x y = with_width (judged_at s Anywhere (pure.conditional c x y)).broken false (wider-some (rules.has_width s x) (rules.has_width s y) (width_of s x) (width_of s y))
 conditional-judged s (Constant w t) c x y = with_width (judged_at s (Constant w t) (pure.conditional c x y)).broken false (wider-some (rules.has_width s x) (rules.has_width s y) (width_of s x) (width_of s y))
@@ -155,13 +155,13 @@ wider-swap None None w = refl
 choice-swap : (a c v d w : Judged) → with_choice (with_choice a c v) d w ≡ with_choice (with_choice a d w) c v
 choice-swap a c v d w = λ i. record { broken = both-swap (both d.broken w.broken) (both c.broken v.broken) a.broken i; width = wider-swap w.width v.width a.width i; unsized_number = false }
 
-choices-swap : (s : Scope) (p : Place) (cs : List Choice) (a c v : Judged) → choices_judged s p (with_choice a c v) cs ≡ with_choice (choices_judged s p a cs) c v
+choices-swap : (s : Scope) (p : Position) (cs : List Choice) (a c v : Judged) → choices_judged s p (with_choice a c v) cs ≡ with_choice (choices_judged s p a cs) c v
 choices-swap s p [] a c v = refl
 choices-swap s p (d ∷ cs) a c v =
     ap (λ j. choices_judged s p j cs) (choice-swap a c v (itself_at s p (tree_of d.condition)) (judged_at s p (tree_of d.value)))
     ∙ choices-swap s p cs (with_choice a (itself_at s p (tree_of d.condition)) (judged_at s p (tree_of d.value))) c v
 
-pub chosen-judged : (s : Scope) (p : Place) (cs : List Choice) (y : pure.Expression) → judged_at s p (chosen cs y) ≡ choices_judged s p (judged_at s p y) cs
+pub chosen-judged : (s : Scope) (p : Position) (cs : List Choice) (y : pure.Expression) → judged_at s p (chosen cs y) ≡ choices_judged s p (judged_at s p y) cs
 chosen-judged s p [] y = refl
 chosen-judged s p (c ∷ cs) y =
     conditional-judged s p (tree_of c.condition) (tree_of c.value) (chosen cs y)
@@ -199,20 +199,20 @@ both-none a = λ i. record {
   misshapen = or-none a.misshapen i;
 }
 
-part-broken : (s : Scope) (p : Place) (e : pure.Expression) (es : pure.Expressions)
-    → coded (rules.broken_parts s (place_of p) (pure.expression e es)) ≡ both (both (coded (rules.constant_if (itself_at s p e).unsized_number)) (itself_at s p e).broken) (coded (rules.broken_parts s (place_of p) es))
+part-broken : (s : Scope) (p : Position) (e : pure.Expression) (es : pure.Expressions)
+    → coded (rules.broken_parts s (position_of p) (pure.expression e es)) ≡ both (both (coded (rules.constant_if (itself_at s p e).unsized_number)) (itself_at s p e).broken) (coded (rules.broken_parts s (position_of p) es))
 unfolding judged_at sized_at sign_at
 part-broken s Anywhere e es = refl
 part-broken s (Constant w t) e es = refl
 
-pub parts-broken : (s : Scope) (p : Place) (es : List Expression) (a : Judged) → (parts_judged s p a es).broken ≡ both a.broken (coded (rules.broken_parts s (place_of p) (expressions_of es)))
+pub parts-broken : (s : Scope) (p : Position) (es : List Expression) (a : Judged) → (parts_judged s p a es).broken ≡ both a.broken (coded (rules.broken_parts s (position_of p) (expressions_of es)))
 parts-broken s p [] a = both-none a.broken
 parts-broken s p (e ∷ es) a =
     parts-broken s p es (with_part a (itself_at s p (tree_of e)))
-    ∙ sym (both-assoc a.broken (both (coded (rules.constant_if (itself_at s p (tree_of e)).unsized_number)) (itself_at s p (tree_of e)).broken) (coded (rules.broken_parts s (place_of p) (expressions_of es))))
+    ∙ sym (both-assoc a.broken (both (coded (rules.constant_if (itself_at s p (tree_of e)).unsized_number)) (itself_at s p (tree_of e)).broken) (coded (rules.broken_parts s (position_of p) (expressions_of es))))
     ∙ ap (both a.broken) (sym (part-broken s p (tree_of e) (expressions_of es)))
 
-itself-width : (s : Scope) (p : Place) (e : pure.Expression) → (itself_at s p e).width ≡ some_if (rules.has_width s e) (width_of s e)
+itself-width : (s : Scope) (p : Position) (e : pure.Expression) → (itself_at s p e).width ≡ some_if (rules.has_width s e) (width_of s e)
 unfolding judged_at sized_at
 itself-width s p e = refl
 
@@ -231,7 +231,7 @@ added-capped (Some u) (Some v) = let e : min (u + v) 129 ≡ min (min (u + v) 12
 added-capped (Some u) None = refl
 added-capped None b = refl
 
-pub parts-width : (s : Scope) (p : Place) (es : List Expression) (a : Judged) → a.width ≡ capped a.width
+pub parts-width : (s : Scope) (p : Position) (es : List Expression) (a : Judged) → a.width ≡ capped a.width
     → (parts_judged s p a es).width ≡ added a.width (some_if (rules.have_widths s (expressions_of es)) (widths_of s (expressions_of es)))
 parts-width s p [] a h = added-none a.width h
 parts-width s p (e ∷ es) a h =
@@ -239,7 +239,7 @@ parts-width s p (e ∷ es) a h =
     ∙ ap (λ w. added (added a.width w) (some_if (rules.have_widths s (expressions_of es)) (widths_of s (expressions_of es)))) (itself-width s p (tree_of e))
     ∙ added-some a.width (rules.has_width s (tree_of e)) (rules.have_widths s (expressions_of es)) (width_of s (tree_of e)) (widths_of s (expressions_of es))
 
-parts-unsized : (s : Scope) (p : Place) (es : List Expression) (a : Judged) → a.unsized_number ≡ false → (parts_judged s p a es).unsized_number ≡ false
+parts-unsized : (s : Scope) (p : Position) (es : List Expression) (a : Judged) → a.unsized_number ≡ false → (parts_judged s p a es).unsized_number ≡ false
 parts-unsized s p [] a h = h
 parts-unsized s p (e ∷ es) a h = parts-unsized s p es (with_part a (itself_at s p (tree_of e))) refl
 
@@ -291,11 +291,11 @@ known-fits : (h : Bool) (w : ℕ) → some_if (rules.is_at_most_128 (some_if h w
 known-fits true w = refl
 known-fits false w = refl
 
-module _ (s : Scope) (p : Place) (es : List Expression) where
+module _ (s : Scope) (p : Position) (es : List Expression) where
   parts-known : (parts_judged s p no_parts es).width ≡ capped (some_if (rules.have_widths s (expressions_of es)) (widths_of s (expressions_of es)))
   parts-known = parts-width s p es no_parts refl ∙ added-zero _
 
-  parts-rules : (parts_judged s p no_parts es).broken ≡ coded (rules.broken_parts s (place_of p) (expressions_of es))
+  parts-rules : (parts_judged s p no_parts es).broken ≡ coded (rules.broken_parts s (position_of p) (expressions_of es))
   parts-rules = parts-broken s p es no_parts
 
   pub joined-judged : judged_at s p (pure.concatenation (expressions_of es)) ≡ joined (parts_judged s p no_parts es)
@@ -333,7 +333,7 @@ module _ (s : Scope) (p : Place) (es : List Expression) where
       }
 
 -- operators before an operand
-prefixed-judged : (s : Scope) (p : Place) (o : PrefixOperator) (x : pure.Expression) → judged_at s p (prefixed o x) ≡ cond (is_reduction o) (one_bit (itself_at s p x)) (regarded (judged_at s p x))
+prefixed-judged : (s : Scope) (p : Position) (o : PrefixOperator) (x : pure.Expression) → judged_at s p (prefixed o x) ≡ cond (is_reduction o) (one_bit (itself_at s p x)) (regarded (judged_at s p x))
 unfolding judged_at sized_at sign_at
 prefixed-judged s p Plus x = refl
 prefixed-judged s p Minus x = refl
@@ -341,15 +341,15 @@ prefixed-judged s p Complement x = refl
 prefixed-judged s Anywhere _ x = refl
 prefixed-judged s (Constant w t) _ x = refl
 
-own-own : (p : Place) (v w : Option ℕ) (t u : Bool) → own_place (own_place p v t) w u ≡ own_place p w u
+own-own : (p : Position) (v w : Option ℕ) (t u : Bool) → own_place (own_place p v t) w u ≡ own_place p w u
 own-own Anywhere v w t u = refl
 own-own (Constant a b) v w t u = refl
 
-pub judged-width : (s : Scope) (p : Place) (x : pure.Expression) → (judged_at s p x).width ≡ sized_at s x
+pub judged-width : (s : Scope) (p : Position) (x : pure.Expression) → (judged_at s p x).width ≡ sized_at s x
 unfolding judged_at
 judged-width s p x = refl
 
-pub judged-unsized : (s : Scope) (p : Place) (x : pure.Expression) → (judged_at s p x).unsized_number ≡ rules.is_unsized x
+pub judged-unsized : (s : Scope) (p : Position) (x : pure.Expression) → (judged_at s p x).unsized_number ≡ rules.is_unsized x
 unfolding judged_at
 judged-unsized s p x = refl
 
@@ -358,8 +358,8 @@ unfolding sign_at
 sign-same s os x h = sign-all_prefixed s os x ∙ ap (λ b. not b && sign_of s x) h
 
 -- by itself, after operators; r says whether one of them makes one bit
-module _ (s : Scope) (os : List PrefixOperator) (x : pure.Expression) (same : (p : Place) → judged_at s p (all_prefixed os x) ≡ prefixed_at s p os x) where
-  itself-after : (p : Place) (r : Bool) → has_reduction os ≡ r → one_bit (itself_at s p (all_prefixed os x)) ≡ one_bit (itself_at s p x)
+module _ (s : Scope) (os : List PrefixOperator) (x : pure.Expression) (same : (p : Position) → judged_at s p (all_prefixed os x) ≡ prefixed_at s p os x) where
+  itself-after : (p : Position) (r : Bool) → has_reduction os ≡ r → one_bit (itself_at s p (all_prefixed os x)) ≡ one_bit (itself_at s p x)
   itself-after p true h =
       let w : Option ℕ = sized_at s (all_prefixed os x) in
       let t : Bool = sign_at s (all_prefixed os x) in
@@ -373,15 +373,15 @@ module _ (s : Scope) (os : List PrefixOperator) (x : pure.Expression) (same : (p
       ap one_bit (same (own_place p w t)) ∙ ap (λ b. one_bit (cond b (one_bit (itself_at s (own_place p w t) x)) (kept (is_none_before os) (judged_at s (own_place p w t) x)))) h
       ∙ ap (λ v. one_bit (judged_at s (own_place p v t) x)) e ∙ ap (λ u. one_bit (judged_at s (own_place p (sized_at s x) u) x)) (sign-same s os x h)
 
-  regarded-after : (p : Place) (r : Bool) → regarded (cond r (one_bit (itself_at s p x)) (kept (is_none_before os) (judged_at s p x))) ≡ cond r (one_bit (itself_at s p x)) (kept false (judged_at s p x))
+  regarded-after : (p : Position) (r : Bool) → regarded (cond r (one_bit (itself_at s p x)) (kept (is_none_before os) (judged_at s p x))) ≡ cond r (one_bit (itself_at s p x)) (kept false (judged_at s p x))
   regarded-after p true = refl
   regarded-after p false = refl
 
-  after : (p : Place) (o : PrefixOperator) (r : Bool) → is_reduction o ≡ r → cond r (one_bit (itself_at s p (all_prefixed os x))) (regarded (judged_at s p (all_prefixed os x))) ≡ cond (r || has_reduction os) (one_bit (itself_at s p x)) (kept false (judged_at s p x))
+  after : (p : Position) (o : PrefixOperator) (r : Bool) → is_reduction o ≡ r → cond r (one_bit (itself_at s p (all_prefixed os x))) (regarded (judged_at s p (all_prefixed os x))) ≡ cond (r || has_reduction os) (one_bit (itself_at s p x)) (kept false (judged_at s p x))
   after p o true h = itself-after p (has_reduction os) refl
   after p o false h = ap regarded (same p) ∙ regarded-after p (has_reduction os)
 
-pub all_prefixed-judged : (s : Scope) (os : List PrefixOperator) (p : Place) (x : pure.Expression) → judged_at s p (all_prefixed os x) ≡ prefixed_at s p os x
+pub all_prefixed-judged : (s : Scope) (os : List PrefixOperator) (p : Position) (x : pure.Expression) → judged_at s p (all_prefixed os x) ≡ prefixed_at s p os x
 all_prefixed-judged s [] p x = refl
 all_prefixed-judged s (o ∷ os) p x =
     prefixed-judged s p o (all_prefixed os x) ∙ after s os x (λ q. all_prefixed-judged s os q x) p o (is_reduction o) refl

@@ -15,10 +15,10 @@ use Rattle.v_value.specs.Evaluation.{sign_at}
 use Rattle.v_size.specs.declared.rule.Broken.{Broken}
 use Rattle.v_size.specs.declared.rule.Judged.{Judged}
 use Rattle.v_size.specs.declared.rule.Kind.{Kind}
-use Rattle.v_size.specs.declared.rule.Place.{Place}
-use Rattle.v_size.specs.declared.rule.Place.TheVariants.{Anywhere, Constant}
+use Rattle.v_size.specs.declared.rule.Position.{Position}
+use Rattle.v_size.specs.declared.rule.Position.TheVariants.{Anywhere, Constant}
 use Rattle.v_size.specs.declared.sizing.SizeRefusal.{SizeRefusal}
-use Rattle.v_size.specs.Rule.{coded, unbroken, place_of, number_at, kind_of, kind_option, first_kind}
+use Rattle.v_size.specs.Rule.{coded, unbroken, position_of, number_at, kind_of, kind_option, first_kind}
 use Rattle.v_size.specs.Judged.{sized_at, judged_at, itself_at, constant_broken_at, constant_number_at, fits_context, divisor_test, exponent_test}
 use Rattle.v_size.specs.Sizing.{IsSizing, given}
 use Rattle.v_size.proofs.Unbroken.{unbroken-holds}
@@ -49,7 +49,7 @@ unfolding judged_at sized_at sign_at constant_broken_at
 itself-constant s w t e = refl
 
 -- an exponent by itself
-module _ (s : Scope) (p : Place) (e : pure.Expression) (b : Broken) where
+module _ (s : Scope) (p : Position) (e : pure.Expression) (b : Broken) where
   pub exponent-anywhere : p ≡ Anywhere → true ≡ exponent_test s p e b
   unfolding exponent_test
   exponent-anywhere i = sym (ap (λ q. exponent_test s q e b) i)
@@ -78,7 +78,7 @@ second-true false b h = absurd (false≢true h)
 
 -- a divisor in its place
 module _ (s : Scope) (y : pure.Expression) where
-  pub divisor-anywhere : (p : Place) (b : Broken) → p ≡ Anywhere → true ≡ divisor_test s p y b
+  pub divisor-anywhere : (p : Position) (b : Broken) → p ≡ Anywhere → true ≡ divisor_test s p y b
   unfolding divisor_test
   divisor-anywhere p b i = sym (ap (λ q. divisor_test s q y b) i)
 
@@ -124,7 +124,7 @@ module _ (s : Scope) (y : pure.Expression) where
             ap (λ x. x == 0) k ∙ sym (ap (λ b. b && ((nat_le (width_of s y) w && nat_le w 128) && (value_of s no_values y w t == 0))) h ∙ ap (λ b. b && (value_of s no_values y w t == 0)) (fits-is true i))
 
 -- where the place or its width is known
-module _ (s : Scope) (y : pure.Expression) (p q : Place) (i : p ≡ q) where
+module _ (s : Scope) (y : pure.Expression) (p q : Position) (i : p ≡ q) where
   pub judged-moved : (j : Judged) → j ≡ judged_at s p y → j ≡ judged_at s q y
   judged-moved j h = h ∙ ap (λ k. judged_at s k y) i
 

@@ -11,9 +11,9 @@ use Rattle.v_syntax.specs.declared.tree.Selects.{Selects, Whole, One, Two}
 use Rattle.v_syntax.specs.Tree.{select_of, selects_of}
 use Rattle.v_size.specs.declared.rule.Broken.{Broken}
 use Rattle.v_size.specs.declared.rule.Judged.{Judged}
-use Rattle.v_size.specs.declared.rule.Place.{Place}
+use Rattle.v_size.specs.declared.rule.Position.{Position}
 use Rattle.v_size.specs.declared.select.Selected.{Selected}
-use Rattle.v_size.specs.Rule.{coded, both, place_of}
+use Rattle.v_size.specs.Rule.{coded, both, position_of}
 use Rattle.v_size.specs.Judged.{Taken, fitting, taken_of, taken_by, taken_at, constant_number_at, bits_broken, read_width, whole_judged, one_judged, two_judged, select_broken_at, name_at}
 use Rattle.v_size.proofs.Chains.{both-none}
 
@@ -65,50 +65,50 @@ one_made o own b k =
 abbrev named_as : Broken → Option ℕ → Judged
 named_as b w = record { broken = b; width = w; unsized_number = false }
 
-one-by : (s : Scope) (p : Place) (o : Object) (x : pure.Select) (m : Bool) → is_memory o ≡ m →
+one-by : (s : Scope) (p : Position) (o : Object) (x : pure.Select) (m : Bool) → is_memory o ≡ m →
     cond m
-    (named_as (both (coded (rules.by_name (place_of p) o (pure.one x))) (coded (rules.broken_select s (place_of p) x))) (read_width o (Some (object_width o))))
-    (named_as (both (coded (rules.by_name (place_of p) o (pure.one x))) (both (coded (rules.broken_select s (place_of p) x)) (bits_broken o (taken_at s x)))) (read_width o (fitting (taken_of (taken_at s x)))))
-    ≡ named_as (both (coded (rules.by_name (place_of p) o (pure.one x))) (both (coded (rules.broken_select s (place_of p) x)) (coded (cond m rules.nothing (rules.broken_bits s o x)))))
+    (named_as (both (coded (rules.by_name (position_of p) o (pure.one x))) (coded (rules.broken_select s (position_of p) x))) (read_width o (Some (object_width o))))
+    (named_as (both (coded (rules.by_name (position_of p) o (pure.one x))) (both (coded (rules.broken_select s (position_of p) x)) (bits_broken o (taken_at s x)))) (read_width o (fitting (taken_of (taken_at s x)))))
+    ≡ named_as (both (coded (rules.by_name (position_of p) o (pure.one x))) (both (coded (rules.broken_select s (position_of p) x)) (coded (cond m rules.nothing (rules.broken_bits s o x)))))
     (some_if ((o.is_declared && nat_le (object_width o) 128) && (m || rules.select_has_width s x)) (cond m (object_width o) (select_bits s no_values o x).count))
 one-by s p o x true i = λ j. record {
-  broken = both (coded (rules.by_name (place_of p) o (pure.one x))) (both-none (coded (rules.broken_select s (place_of p) x)) j);
+  broken = both (coded (rules.by_name (position_of p) o (pure.one x))) (both-none (coded (rules.broken_select s (position_of p) x)) j);
   width = whole-read (o.is_declared && nat_le (object_width o) 128) (object_width o) j;
   unsized_number = false;
 }
 one-by s p o x false i = λ j. record {
-  broken = both (coded (rules.by_name (place_of p) o (pure.one x))) (both (coded (rules.broken_select s (place_of p) x)) (sym (bits-at s o x) j));
+  broken = both (coded (rules.by_name (position_of p) o (pure.one x))) (both (coded (rules.broken_select s (position_of p) x)) (sym (bits-at s o x) j));
   width = select-read (o.is_declared && nat_le (object_width o) 128) (rules.select_has_width s x) (select_bits s no_values o x).count (fitting (taken_of (taken_at s x))) (select-width s o x) j;
   unsized_number = false;
 }
 
-one-pure : (s : Scope) (p : Place) (o : Object) (x : pure.Select) → one_made o (coded (rules.by_name (place_of p) o (pure.one x))) (select_broken_at s p x) (taken_at s x) ≡ name_at s p o (pure.one x)
+one-pure : (s : Scope) (p : Position) (o : Object) (x : pure.Select) → one_made o (coded (rules.by_name (position_of p) o (pure.one x))) (select_broken_at s p x) (taken_at s x) ≡ name_at s p o (pure.one x)
 unfolding name_at select_broken_at
 one-pure s p o x = one-by s p o x (is_memory o) refl
 
 abbrev two_made : Object → Broken → Broken → Broken → Taken → Judged
 two_made o own a b k = record { broken = both own (both a (both b (bits_broken o k))); width = read_width o (fitting (taken_of k)); unsized_number = false }
 
-two-pure : (s : Scope) (p : Place) (o : Object) (x y : pure.Select) → two_made o (coded (rules.by_name (place_of p) o (pure.two x y))) (select_broken_at s p x) (select_broken_at s p y) (taken_at s y) ≡ name_at s p o (pure.two x y)
+two-pure : (s : Scope) (p : Position) (o : Object) (x y : pure.Select) → two_made o (coded (rules.by_name (position_of p) o (pure.two x y))) (select_broken_at s p x) (select_broken_at s p y) (taken_at s y) ≡ name_at s p o (pure.two x y)
 unfolding name_at select_broken_at
 two-pure s p o x y = λ j. record {
-  broken = both (coded (rules.by_name (place_of p) o (pure.two x y))) (both (coded (rules.broken_select s (place_of p) x)) (both (coded (rules.broken_select s (place_of p) y)) (sym (bits-at s o y) j)));
+  broken = both (coded (rules.by_name (position_of p) o (pure.two x y))) (both (coded (rules.broken_select s (position_of p) x)) (both (coded (rules.broken_select s (position_of p) y)) (sym (bits-at s o y) j)));
   width = select-read (o.is_declared && nat_le (object_width o) 128) (rules.select_has_width s y) (select_bits s no_values o y).count (fitting (taken_of (taken_at s y))) (select-width s o y) j;
   unsized_number = false;
 }
 
-whole-pure : (s : Scope) (p : Place) (o : Object) → whole_judged (coded (rules.by_name (place_of p) o pure.whole)) o ≡ name_at s p o pure.whole
+whole-pure : (s : Scope) (p : Position) (o : Object) → whole_judged (coded (rules.by_name (position_of p) o pure.whole)) o ≡ name_at s p o pure.whole
 unfolding name_at
 whole-pure s p o = λ j. record {
-  broken = both-none (coded (rules.by_name (place_of p) o pure.whole)) j;
+  broken = both-none (coded (rules.by_name (position_of p) o pure.whole)) j;
   width = whole-read (o.is_declared && nat_le (object_width o) 128) (object_width o) j;
   unsized_number = false;
 }
 
 -- x are the selects, own what the name breaks itself, and r the result
-module _ (s : Scope) (p : Place) (o : Object) (x : Selects) (own : Broken) (is_own : own ≡ coded (rules.by_name (place_of p) o (selects_of x))) (r : Judged) where
-  own-of : (y : pure.Selects) → selects_of x ≡ y → own ≡ coded (rules.by_name (place_of p) o y)
-  own-of y i = is_own ∙ ap (λ z. coded (rules.by_name (place_of p) o z)) i
+module _ (s : Scope) (p : Position) (o : Object) (x : Selects) (own : Broken) (is_own : own ≡ coded (rules.by_name (position_of p) o (selects_of x))) (r : Judged) where
+  own-of : (y : pure.Selects) → selects_of x ≡ y → own ≡ coded (rules.by_name (position_of p) o y)
+  own-of y i = is_own ∙ ap (λ z. coded (rules.by_name (position_of p) o z)) i
 
   named-of : (y : pure.Selects) → selects_of x ≡ y → name_at s p o y ≡ name_at s p o (selects_of x)
   named-of y i = sym (ap (name_at s p o) i)
@@ -120,15 +120,15 @@ module _ (s : Scope) (p : Place) (o : Object) (x : Selects) (own : Broken) (is_o
   pub at-One : (y : Select) → x ≡ One y → (t : Selected) → t.broken ≡ select_broken_at s p (select_of y) → taken_by t.bits ≡ taken_at s (select_of y) → r ≡ one_judged own o t → r ≡ name_at s p o (selects_of x)
   at-One y i t is_b is_k h =
       h ∙ ap (λ a. one_made o a t.broken (taken_by t.bits)) (own-of (pure.one (select_of y)) (ap selects_of i))
-      ∙ ap (λ b. one_made o (coded (rules.by_name (place_of p) o (pure.one (select_of y)))) b (taken_by t.bits)) is_b
-      ∙ ap (one_made o (coded (rules.by_name (place_of p) o (pure.one (select_of y)))) (select_broken_at s p (select_of y))) is_k
+      ∙ ap (λ b. one_made o (coded (rules.by_name (position_of p) o (pure.one (select_of y)))) b (taken_by t.bits)) is_b
+      ∙ ap (one_made o (coded (rules.by_name (position_of p) o (pure.one (select_of y)))) (select_broken_at s p (select_of y))) is_k
       ∙ one-pure s p o (select_of y) ∙ named-of (pure.one (select_of y)) (ap selects_of i)
 
   pub at-Two : (y z : Select) → x ≡ Two y z → (a : Broken) → a ≡ select_broken_at s p (select_of y) → (t : Selected) → t.broken ≡ select_broken_at s p (select_of z) → taken_by t.bits ≡ taken_at s (select_of z)
       → r ≡ two_judged own o a t → r ≡ name_at s p o (selects_of x)
   at-Two y z i a is_a t is_b is_k h =
       h ∙ ap (λ c. two_made o c a t.broken (taken_by t.bits)) (own-of (pure.two (select_of y) (select_of z)) (ap selects_of i))
-      ∙ ap (λ c. two_made o (coded (rules.by_name (place_of p) o (pure.two (select_of y) (select_of z)))) c t.broken (taken_by t.bits)) is_a
-      ∙ ap (λ c. two_made o (coded (rules.by_name (place_of p) o (pure.two (select_of y) (select_of z)))) (select_broken_at s p (select_of y)) c (taken_by t.bits)) is_b
-      ∙ ap (two_made o (coded (rules.by_name (place_of p) o (pure.two (select_of y) (select_of z)))) (select_broken_at s p (select_of y)) (select_broken_at s p (select_of z))) is_k
+      ∙ ap (λ c. two_made o (coded (rules.by_name (position_of p) o (pure.two (select_of y) (select_of z)))) c t.broken (taken_by t.bits)) is_a
+      ∙ ap (λ c. two_made o (coded (rules.by_name (position_of p) o (pure.two (select_of y) (select_of z)))) (select_broken_at s p (select_of y)) c (taken_by t.bits)) is_b
+      ∙ ap (two_made o (coded (rules.by_name (position_of p) o (pure.two (select_of y) (select_of z)))) (select_broken_at s p (select_of y)) (select_broken_at s p (select_of z))) is_k
       ∙ two-pure s p o (select_of y) (select_of z) ∙ named-of (pure.two (select_of y) (select_of z)) (ap selects_of i)

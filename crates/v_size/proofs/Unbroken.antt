@@ -5,7 +5,7 @@ use Rattle.std.proofs.lemmas.Bool.Decides.{nat_tests}
 use Rattle.wb_values.specs.Choice.{some_if}
 use Rattle.verilog_trees.specs.Syntax.{Number, Expression, number, name, concatenation, replication, as_signed, as_unsigned, unary, reduction, binary, shift, power, comparison, logical, conditional, Expressions, no_expressions, expression, Select, index, part, part_up, part_down, Selects, whole, one, two}
 use Rattle.verilog_meaning.specs.Expression.{Object, Scope, object_width, is_memory, no_values, natural_of, integer_of, sign_of, width_of, widths_of, selects_width, select_bits}
-use Rattle.verilog_rules.specs.Expression.{Broken, Place, nothing, also, is_unbroken, constant_if, select_if, width_if, by_number, by_name, by_total, by_bounds, copies, count_between, bits_between_bounds, is_at_most_128, is_over_128, is_below, runs_against, divides, is_bad_divisor, is_bad_exponent, is_unsized, wider, number_if, as_constant, by_itself, in_context, broken, broken_parts, broken_selects, broken_select, broken_bits, has_width, have_widths, selects_have_width, select_has_width}
+use Rattle.verilog_rules.specs.Expression.{Broken, Position, nothing, also, is_unbroken, constant_if, select_if, width_if, by_number, by_name, by_total, by_bounds, copies, count_between, bits_between_bounds, is_at_most_128, is_over_128, is_below, runs_against, divides, is_bad_divisor, is_bad_exponent, is_unsized, wider, number_if, as_constant, by_itself, in_context, broken, broken_parts, broken_selects, broken_select, broken_bits, has_width, have_widths, selects_have_width, select_has_width}
 use Rattle.v_value.specs.Narrow.{IsWidth, IsNarrow, AreNarrow, IsSelectNarrow, AreSelectsNarrow, HasNarrowObjects}
 use Rattle.v_value.proofs.Selected.{count-is}
 
@@ -74,7 +74,7 @@ number-fits k h =
     let y = pair (nat_le 1 k.width) (nat_lt k.value (2 ^ k.width)) x in
     (tested k.width most, ((least k.width y.0, most), below k.value (2 ^ k.width) y.1))
 
-name-declared : (p : Place) (o : Object) (x : Selects) → is_unbroken (by_name p o x) ≡ true → o.is_declared ≡ true
+name-declared : (p : Position) (o : Object) (x : Selects) → is_unbroken (by_name p o x) ≡ true → o.is_declared ≡ true
 name-declared p o x h = declared o.is_declared (pair (not (not o.is_declared)) _ h).0
 
 total-fits : (h : Bool) (w : ℕ) → h ≡ true → is_unbroken (by_total (some_if h w)) ≡ true → (is_at_most_128 (some_if h w) ≡ true) × IsWidth w
@@ -118,7 +118,7 @@ module _ (s : Scope) (objects : HasNarrowObjects s) where
   number-known b k h = ap (λ t. some_if t (integer_of s no_values k)) h
 
   -- the bits that a select takes
-  bits-hold : (p : Place) (o : Object) (x : Select) → is_unbroken (broken_select s p x) ≡ true → is_unbroken (broken_bits s o x) ≡ true →
+  bits-hold : (p : Position) (o : Object) (x : Select) → is_unbroken (broken_select s p x) ≡ true → is_unbroken (broken_bits s o x) ≡ true →
       (select_has_width s x ≡ true) × IsWidth (select_bits s no_values o x).count
   bits-hold p o (index i) e g = (refl, (omega arith, omega arith))
   bits-hold p o (part h l) e g =
@@ -141,7 +141,7 @@ module _ (s : Scope) (objects : HasNarrowObjects s) where
       counted-fit (number_if (broken s (as_constant s (has_width s n) n) n) s n) (integer_of s no_values n) (number-known (broken s (as_constant s (has_width s n) n) n) n r.1) (constant-unbroken (is_below (pos 1) (number_if (broken s (as_constant s (has_width s n) n) n) s n)) r.0) (width-unbroken (is_over_128 (copies (number_if (broken s (as_constant s (has_width s n) n) n) s n) (Some 1))) g)
 
   -- what a name with one select reads, m saying whether it is a memory
-  one-holds : (p : Place) (o : Object) (x : Select) → IsWidth (object_width o) → (m : Bool) → is_memory o ≡ m → is_unbroken (broken_select s p x) ≡ true → is_unbroken (cond m nothing (broken_bits s o x)) ≡ true →
+  one-holds : (p : Position) (o : Object) (x : Select) → IsWidth (object_width o) → (m : Bool) → is_memory o ≡ m → is_unbroken (broken_select s p x) ≡ true → is_unbroken (cond m nothing (broken_bits s o x)) ≡ true →
       (selects_have_width s o (one x) ≡ true) × IsWidth (selects_width s o (one x))
   one-holds p o x w true i e g =
       (ap (λ z. z || select_has_width s x) i, subst (λ z. IsWidth (cond z (object_width o) (select_bits s no_values o x).count)) (sym i) w)
@@ -150,7 +150,7 @@ module _ (s : Scope) (objects : HasNarrowObjects s) where
       (ap (λ z. z || select_has_width s x) i ∙ r.0, subst (λ z. IsWidth (cond z (object_width o) (select_bits s no_values o x).count)) (sym i) r.1)
 
   mutual
-    pub unbroken-holds : (p : Place) (e : Expression) → is_unbroken (broken s p e) ≡ true → (has_width s e ≡ true) × IsNarrow s e
+    pub unbroken-holds : (p : Position) (e : Expression) → is_unbroken (broken s p e) ≡ true → (has_width s e ≡ true) × IsNarrow s e
     unbroken-holds p (number k) h = number-fits k h
     unbroken-holds p (name n x) h =
         let q = unbroken-also (by_name p (s n) x) (broken_selects s p (s n) x) h in
@@ -198,7 +198,7 @@ module _ (s : Scope) (objects : HasNarrowObjects s) where
         (i.0, (i.1, (unbroken-holds (by_itself s p (has_width s n) n) n r.1).1))
     unbroken-holds p (comparison op x y) h =
         let w : Option ℕ = wider (some_if (has_width s x) (width_of s x)) (some_if (has_width s y) (width_of s y)) in
-        let c : Place = in_context p w (sign_of s x && sign_of s y) in
+        let c : Position = in_context p w (sign_of s x && sign_of s y) in
         let q = unbroken-also (broken s c x) (broken s c y) h in
         (refl, ((unbroken-holds c x q.0).1, (unbroken-holds c y q.1).1))
     unbroken-holds p (logical op x y) h =
@@ -211,7 +211,7 @@ module _ (s : Scope) (objects : HasNarrowObjects s) where
         let j = unbroken-holds p y q.1 in
         (and-both (has_width s x) (has_width s y) i.0 j.0, ((unbroken-holds (by_itself s p (has_width s c) c) c r.0).1, i.1, j.1))
 
-    parts-hold : (p : Place) (es : Expressions) → is_unbroken (broken_parts s p es) ≡ true → (have_widths s es ≡ true) × AreNarrow s es
+    parts-hold : (p : Position) (es : Expressions) → is_unbroken (broken_parts s p es) ≡ true → (have_widths s es ≡ true) × AreNarrow s es
     parts-hold p no_expressions h = (refl, tt)
     parts-hold p (expression e es) h =
         let b : Broken = broken s (by_itself s p (has_width s e) e) e in
@@ -221,7 +221,7 @@ module _ (s : Scope) (objects : HasNarrowObjects s) where
         let j = parts-hold p es q.1 in
         (and-both (has_width s e) (have_widths s es) i.0 j.0, (i.1, j.1))
 
-    selects-hold : (p : Place) (o : Object) (x : Selects) → IsWidth (object_width o) → is_unbroken (broken_selects s p o x) ≡ true →
+    selects-hold : (p : Position) (o : Object) (x : Selects) → IsWidth (object_width o) → is_unbroken (broken_selects s p o x) ≡ true →
         (selects_have_width s o x ≡ true) × (IsWidth (selects_width s o x) × AreSelectsNarrow s x)
     selects-hold p o whole w h = (refl, (w, tt))
     selects-hold p o (one x) w h =
@@ -234,7 +234,7 @@ module _ (s : Scope) (objects : HasNarrowObjects s) where
         let f = bits-hold p o y r.0 r.1 in
         (f.0, (f.1, (select-holds p x q.0, select-holds p y r.0)))
 
-    select-holds : (p : Place) (x : Select) → is_unbroken (broken_select s p x) ≡ true → IsSelectNarrow s x
+    select-holds : (p : Position) (x : Select) → is_unbroken (broken_select s p x) ≡ true → IsSelectNarrow s x
     select-holds p (index i) h = (unbroken-holds (by_itself s p (has_width s i) i) i h).1
     select-holds p (part a b) h =
         let q = unbroken-also (broken s (as_constant s (has_width s a) a) a) (broken s (as_constant s (has_width s b) b) b) h in

@@ -19,13 +19,13 @@ use Rattle.v_value.specs.Links.{leaves_to_left, has_reduction}
 use Rattle.v_value.specs.Evaluation.{is_logical, sign_at}
 use Rattle.v_size.specs.declared.rule.Broken.{Broken}
 use Rattle.v_size.specs.declared.rule.Judged.{Judged}
-use Rattle.v_size.specs.declared.rule.Place.{Place}
-use Rattle.v_size.specs.declared.rule.Place.TheVariants.{Anywhere, Constant}
+use Rattle.v_size.specs.declared.rule.Position.{Position}
+use Rattle.v_size.specs.declared.rule.Position.TheVariants.{Anywhere, Constant}
 use Rattle.v_size.specs.declared.select.Bits.{Bits}
 use Rattle.v_size.specs.declared.select.Bits.TheVariants.{One, Between, Count}
 use Rattle.v_size.specs.declared.select.Selected.{Selected}
 use Rattle.v_size.specs.declared.judged.Left.{Left}
-use Rattle.v_size.specs.Rule.{coded, both, unbroken, place_of, number_at}
+use Rattle.v_size.specs.Rule.{coded, both, unbroken, position_of, number_at}
 
 -- 129 stands for all widths above 128
 abbrev pub capped : Option ℕ → Option ℕ
@@ -82,7 +82,7 @@ two_judged own o x y =
     record { broken = both own (both x (both y.broken (bits_broken o (taken_by y.bits)))); width = read_width o (fitting (taken_of (taken_by y.bits))); unsized_number = false }
 
 -- the same place in the context of another width and sign
-abbrev pub own_place : Place → Option ℕ → Bool → Place
+abbrev pub own_place : Position → Option ℕ → Bool → Position
 own_place Anywhere w t = Anywhere
 own_place (Constant v u) w t = Constant w t
 
@@ -90,10 +90,10 @@ own_place (Constant v u) w t = Constant w t
 unfoldable pub sized_at : Scope → pure.Expression → Option ℕ
 sized_at s e = some_if (rules.has_width s e) (width_of s e)
 
-unfoldable pub judged_at : Scope → Place → pure.Expression → Judged
-judged_at s p e = record { broken = coded (rules.broken s (place_of p) e); width = sized_at s e; unsized_number = rules.is_unsized e }
+unfoldable pub judged_at : Scope → Position → pure.Expression → Judged
+judged_at s p e = record { broken = coded (rules.broken s (position_of p) e); width = sized_at s e; unsized_number = rules.is_unsized e }
 
-abbrev pub itself_at : Scope → Place → pure.Expression → Judged
+abbrev pub itself_at : Scope → Position → pure.Expression → Judged
 itself_at s p e = judged_at s (own_place p (sized_at s e) (sign_at s e)) e
 
 unfoldable pub constant_broken_at : Scope → pure.Expression → Broken
@@ -116,7 +116,7 @@ is_none_before _ = false
 abbrev pub kept : Bool → Judged → Judged
 kept alone j = record { broken = j.broken; width = j.width; unsized_number = alone && j.unsized_number }
 
-abbrev pub prefixed_at : Scope → Place → List PrefixOperator → pure.Expression → Judged
+abbrev pub prefixed_at : Scope → Position → List PrefixOperator → pure.Expression → Judged
 prefixed_at s p os x = cond (has_reduction os) (one_bit (itself_at s p x)) (kept (is_none_before os) (judged_at s p x))
 
 -- an expression of this width, where it has one, fits a context of w bits, at most 128
@@ -125,22 +125,22 @@ fits_context None w = false
 fits_context (Some n) w = nat_le n w && nat_le w 128
 
 -- a right operand that divides, or is an exponent
-unfoldable pub divisor_test : Scope → Place → pure.Expression → Broken → Bool
-divisor_test s p y b = rules.is_bad_divisor s (place_of p) y (unbroken b)
+unfoldable pub divisor_test : Scope → Position → pure.Expression → Broken → Bool
+divisor_test s p y b = rules.is_bad_divisor s (position_of p) y (unbroken b)
 
-unfoldable pub exponent_test : Scope → Place → pure.Expression → Broken → Bool
-exponent_test s p y b = rules.is_bad_exponent (place_of p) (some_if (unbroken b) (meaning.integer_of s meaning.no_values y))
+unfoldable pub exponent_test : Scope → Position → pure.Expression → Broken → Bool
+exponent_test s p y b = rules.is_bad_exponent (position_of p) (some_if (unbroken b) (meaning.integer_of s meaning.no_values y))
 
 abbrev pub constant_rule : Bool → Judged → Judged
 constant_rule broken j = record { broken = both (coded (rules.constant_if broken)) j.broken; width = j.width; unsized_number = j.unsized_number }
 
-abbrev pub divisor_at : Scope → Place → pure.Expression → Judged
+abbrev pub divisor_at : Scope → Position → pure.Expression → Judged
 divisor_at s p y = constant_rule (divisor_test s p y (judged_at s p y).broken) (judged_at s p y)
 
-abbrev pub exponent_at : Scope → Place → pure.Expression → Judged
+abbrev pub exponent_at : Scope → Position → pure.Expression → Judged
 exponent_at s p y = constant_rule (exponent_test s p y (itself_at s p y).broken) (itself_at s p y)
 
-abbrev pub right_at : Scope → Place → BinaryOperator → pure.Expression → Judged
+abbrev pub right_at : Scope → Position → BinaryOperator → pure.Expression → Judged
 right_at s p Power y = exponent_at s p y
 right_at s p ShiftLeft y = itself_at s p y
 right_at s p ShiftRight y = itself_at s p y
@@ -153,27 +153,27 @@ abbrev pub applied : BinaryOperator → Judged → Judged → Judged
 applied o a b = record { broken = both a.broken b.broken; width = cond (leaves_to_left o) a.width (rules.wider a.width b.width); unsized_number = false }
 
 -- a chain of links after an operand
-abbrev pub links_judged : Scope → Place → Judged → List BinaryLink → Judged
+abbrev pub links_judged : Scope → Position → Judged → List BinaryLink → Judged
 links_judged s p a [] = a
 links_judged s p a (l ∷ ls) = links_judged s p (applied l.operator a (right_at s p l.operator (tree_of l.operand))) ls
 
 -- Tests: where the right operand stands, its own width and sign being v and u, and those of the left w and t
-abbrev pub test_place : Place → TestOperator → Option ℕ → Bool → Option ℕ → Bool → Place
+abbrev pub test_place : Position → TestOperator → Option ℕ → Bool → Option ℕ → Bool → Position
 test_place p o w t v u = cond (is_logical o) (own_place p v u) (own_place p (rules.wider w v) (t && u))
 
 -- and where the left one does
-abbrev pub left_place : Place → TestOperator → Option ℕ → Bool → Option ℕ → Bool → Place
+abbrev pub left_place : Position → TestOperator → Option ℕ → Bool → Option ℕ → Bool → Position
 left_place p o w t v u = cond (is_logical o) (own_place p w t) (own_place p (rules.wider w v) (t && u))
 
 -- where the first operand, of width w and sign t, stands before tests
-abbrev pub first_place : Scope → Place → Option ℕ → Bool → List TestLink → Place
+abbrev pub first_place : Scope → Position → Option ℕ → Bool → List TestLink → Position
 first_place s p w t [] = p
 first_place s p w t (l ∷ ls) = left_place p l.operator w t (sized_at s (tree_of l.operand)) (sign_at s (tree_of l.operand))
 
-unfoldable pub tested_at : Scope → Place → Option ℕ → Bool → TestOperator → pure.Expression → Broken
+unfoldable pub tested_at : Scope → Position → Option ℕ → Bool → TestOperator → pure.Expression → Broken
 tested_at s p w t o y = (judged_at s (test_place p o w t (sized_at s y) (sign_at s y)) y).broken
 
-abbrev pub tests_judged : Scope → Place → Left → List TestLink → Judged
+abbrev pub tests_judged : Scope → Position → Left → List TestLink → Judged
 tests_judged s p a [] = record { broken = a.broken; width = a.width; unsized_number = a.unsized_number }
 tests_judged s p a (l ∷ ls) =
     tests_judged s p (record { broken = both a.broken (tested_at s p a.width a.signed l.operator (tree_of l.operand)); width = Some 1; signed = false; unsized_number = false }) ls
@@ -182,7 +182,7 @@ tests_judged s p a (l ∷ ls) =
 abbrev pub with_choice : Judged → Judged → Judged → Judged
 with_choice a c v = record { broken = both (both c.broken v.broken) a.broken; width = rules.wider v.width a.width; unsized_number = false }
 
-abbrev pub choices_judged : Scope → Place → Judged → List Choice → Judged
+abbrev pub choices_judged : Scope → Position → Judged → List Choice → Judged
 choices_judged s p a [] = a
 choices_judged s p a (c ∷ cs) = choices_judged s p (with_choice a (itself_at s p (tree_of c.condition)) (judged_at s p (tree_of c.value))) cs
 
@@ -193,7 +193,7 @@ with_part a e = record { broken = both a.broken (both (coded (rules.constant_if 
 abbrev pub no_parts : Judged
 no_parts = record { broken = coded rules.nothing; width = Some 0; unsized_number = false }
 
-abbrev pub parts_judged : Scope → Place → Judged → List Expression → Judged
+abbrev pub parts_judged : Scope → Position → Judged → List Expression → Judged
 parts_judged s p a [] = a
 parts_judged s p a (e ∷ es) = parts_judged s p (with_part a (itself_at s p (tree_of e))) es
 
@@ -221,13 +221,13 @@ taken_of_select s (part_down b n) = many (constant_number_at s n)
 unfoldable pub taken_at : Scope → pure.Select → Taken
 taken_at s x = taken_of_select s x
 
-unfoldable pub select_broken_at : Scope → Place → pure.Select → Broken
-select_broken_at s p x = coded (rules.broken_select s (place_of p) x)
+unfoldable pub select_broken_at : Scope → Position → pure.Select → Broken
+select_broken_at s p x = coded (rules.broken_select s (position_of p) x)
 
-unfoldable pub name_at : Scope → Place → Object → pure.Selects → Judged
+unfoldable pub name_at : Scope → Position → Object → pure.Selects → Judged
 name_at s p o x =
     record {
-      broken = both (coded (rules.by_name (place_of p) o x)) (coded (rules.broken_selects s (place_of p) o x));
+      broken = both (coded (rules.by_name (position_of p) o x)) (coded (rules.broken_selects s (position_of p) o x));
       width = some_if ((o.is_declared && nat_le (object_width o) 128) && rules.selects_have_width s o x) (meaning.selects_width s o x);
       unsized_number = false;
     }

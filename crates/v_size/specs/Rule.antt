@@ -6,8 +6,8 @@ use Rattle.verilog_rules.specs.Expression.{anywhere, constant, undeclared_name, 
 use Rattle.v_value.specs.declared.select.Integer.{Integer}
 use Rattle.v_value.specs.Index.{integer_at}
 use Rattle.v_size.specs.declared.rule.Broken.{Broken}
-use Rattle.v_size.specs.declared.rule.Place.{Place}
-use Rattle.v_size.specs.declared.rule.Place.TheVariants.{Anywhere, Constant}
+use Rattle.v_size.specs.declared.rule.Position.{Position}
+use Rattle.v_size.specs.declared.rule.Position.TheVariants.{Anywhere, Constant}
 use Rattle.v_size.specs.declared.rule.Kind.{Kind}
 use Rattle.v_size.specs.declared.rule.Kind.TheVariants.{Undeclared, HasXz, BadConstant, WidthOver128, BadSelect, MemoryUse}
 
@@ -60,9 +60,9 @@ first_kind b =
     (cond b.bad_select (Some bad_select_of_name)
     (some_if b.memory_use bad_use_of_memory)))))
 
-abbrev pub place_of : Place → rules.Place
-place_of Anywhere = anywhere
-place_of (Constant w t) = constant w t
+abbrev pub position_of : Position → rules.Position
+position_of Anywhere = anywhere
+position_of (Constant w t) = constant w t
 
 -- the numbers of constants
 abbrev pub number_at : Option Integer → Option ℤ

@@ -1,17 +1,17 @@
 //! Which rules expressions break, and their widths, one after the other down the tree.
 ghost use Rattle.std.specs.Prelude.{◌≡◌, ◌&&◌, false, Some};
 ghost use Rattle.std.proofs.Props.{props};
-ghost use Rattle.v_size.specs.declared.rule.Place.TheVariants.{Anywhere, Constant};
+ghost use Rattle.v_size.specs.declared.rule.Position.TheVariants.{Anywhere, Constant};
 ghost use Rattle.verilog_rules.specs.Expression as rules;
 ghost use Rattle.v_value.specs.Scope.{object_of, scope_at};
 ghost use Rattle.v_value.specs.Narrow.{HasNarrowObjects};
 ghost use Rattle.v_value.specs.Links.{is_reduction, has_reduction, leaves_to_left};
 ghost use Rattle.v_value.specs.Evaluation.{is_logical, sign_at};
 ghost use Rattle.v_syntax.specs.Tree.{tree_of, select_of, selects_of};
-ghost use Rattle.v_size.specs.Rule.{coded, both, place_of, number_at};
+ghost use Rattle.v_size.specs.Rule.{coded, both, position_of, number_at};
 ghost use Rattle.v_size.specs.Judged.{own_place, sized_at, judged_at, itself_at, constant_broken_at, constant_number_at, regarded, one_bit, is_none_before, kept, prefixed_at, fits_context, divisor_test, exponent_test, constant_rule, divisor_at, exponent_at, right_at, applied, links_judged, test_place, first_place, tested_at, tests_judged, with_choice, choices_judged, with_part, no_parts, parts_judged, joined, repeated, counted, select_broken_at, taken_by, taken_at, single, bounded, many, name_at};
 
-use crate::rule::{Broken, Judged, Place, also, constant_if, is_unbroken, nothing};
+use crate::rule::{Broken, Judged, Position, also, constant_if, is_unbroken, nothing};
 use crate::select::{Bits, Selected, by_name, number_judged, one_judged, two_judged, whole_judged};
 use crate::total::{
     added, by_total, copies, fitting, is_number_below_one, is_number_below_zero, wider,
@@ -92,12 +92,12 @@ fn is_logical(operator: TestOperator) -> bool
 }
 
 /// The same place in the context of another width and sign.
-fn own_place(place: Place, width: Option<u32>, signed: bool) -> Place
+fn own_place(place: Position, width: Option<u32>, signed: bool) -> Position
     ensures { result ≡ own_place place width signed }
 {
     match place {
-        Place::Anywhere => Place::Anywhere,
-        Place::Constant(_, _) => Place::Constant(width, signed),
+        Position::Anywhere => Position::Anywhere,
+        Position::Constant(_, _) => Position::Constant(width, signed),
     }
 }
 
@@ -166,7 +166,7 @@ fn number_of(names: Names<'_, '_>, constant: &Expression<'_>, broken: Broken) ->
 /// Whether an exponent that breaks these rules by itself is refused: where no constant is wanted, and where it is below 0.
 fn is_bad_exponent(
     names: Names<'_, '_>,
-    place: Place,
+    place: Position,
     exponent: &Expression<'_>,
     broken: Broken,
 ) -> bool
@@ -174,8 +174,8 @@ fn is_bad_exponent(
     ensures { result ≡ exponent_test (scope_at names.entry.scope.now) place (tree_of exponent.now) broken }
 {
     match place {
-        Place::Anywhere => true,
-        Place::Constant(_, _) => is_number_below_zero(number_of(names, exponent, broken)),
+        Position::Anywhere => true,
+        Position::Constant(_, _) => is_number_below_zero(number_of(names, exponent, broken)),
     }
 }
 
@@ -230,7 +230,7 @@ fn is_zero_constant(
 /// Whether a divisor is refused: where no constant is wanted, and where it is 0.
 fn is_bad_divisor(
     names: Names<'_, '_>,
-    place: Place,
+    place: Position,
     divisor: &Expression<'_>,
     judged: Judged,
 ) -> bool
@@ -238,8 +238,8 @@ fn is_bad_divisor(
     ensures { result ≡ divisor_test (scope_at names.entry.scope.now) place (tree_of divisor.now) judged.broken }
 {
     match place {
-        Place::Anywhere => true,
-        Place::Constant(width, signed) => is_zero_constant(names, divisor, judged, width, signed),
+        Position::Anywhere => true,
+        Position::Constant(width, signed) => is_zero_constant(names, divisor, judged, width, signed),
     }
 }
 
@@ -268,13 +268,13 @@ fn both(x: bool, y: bool) -> bool
 
 /// Where the right operand of a test stands: `width` and `signed` are the left's, `own` and `own_signed` its own.
 fn test_place(
-    place: Place,
+    place: Position,
     operator: TestOperator,
     width: Option<u32>,
     signed: bool,
     own: Option<u32>,
     own_signed: bool,
-) -> Place
+) -> Position
     ensures { result ≡ test_place place operator width signed own own_signed }
 {
     if is_logical(operator) {
@@ -397,7 +397,7 @@ fn many_taken(base: Judged, count: ConstantNumber) -> Selected
 
 /// What an expression in this place breaks, and its width.
 #[cycle(judged)]
-pub(crate) fn judge(names: Names<'_, '_>, place: Place, expression: &Expression<'_>) -> Judged
+pub(crate) fn judge(names: Names<'_, '_>, place: Position, expression: &Expression<'_>) -> Judged
     ensures { result ≡ judged_at (scope_at names.entry.scope.now) place (tree_of expression.now) }
 {
     match expression {
@@ -418,7 +418,7 @@ pub(crate) fn judge(names: Names<'_, '_>, place: Place, expression: &Expression<
             links,
         ),
         Expression::Test(first, links) => {
-            let own = judge(names, Place::Anywhere, first);
+            let own = judge(names, Position::Anywhere, first);
             let signed = operand_sign(names, first);
             let first_place = first_place(names, place, own.width, signed, links);
             let judged = in_place(names, first_place, first, own);
@@ -441,22 +441,22 @@ pub(crate) fn judge(names: Names<'_, '_>, place: Place, expression: &Expression<
 
 /// The same expression in another place, where `own` is what it is anywhere.
 #[cycle(judged)]
-fn in_place(names: Names<'_, '_>, place: Place, expression: &Expression<'_>, own: Judged) -> Judged
+fn in_place(names: Names<'_, '_>, place: Position, expression: &Expression<'_>, own: Judged) -> Judged
     requires { own ≡ judged_at (scope_at names.scope.now) Anywhere (tree_of expression.now) }
     ensures { result ≡ judged_at (scope_at names.entry.scope.now) place (tree_of expression.now) }
 {
     match place {
-        Place::Anywhere => own,
-        Place::Constant(width, signed) => judge(names, Place::Constant(width, signed), expression),
+        Position::Anywhere => own,
+        Position::Constant(width, signed) => judge(names, Position::Constant(width, signed), expression),
     }
 }
 
 /// An expression by itself.
 #[cycle(judged)]
-fn by_itself(names: Names<'_, '_>, place: Place, expression: &Expression<'_>) -> Judged
+fn by_itself(names: Names<'_, '_>, place: Position, expression: &Expression<'_>) -> Judged
     ensures { result ≡ itself_at (scope_at names.entry.scope.now) place (tree_of expression.now) }
 {
-    let own = judge(names, Place::Anywhere, expression);
+    let own = judge(names, Position::Anywhere, expression);
     let signed = operand_sign(names, expression);
     in_place(names, own_place(place, own.width, signed), expression, own)
 }
@@ -467,7 +467,7 @@ pub(crate) fn judged_constant(names: Names<'_, '_>, expression: &Expression<'_>)
     ensures broken { result.broken ≡ constant_broken_at (scope_at names.entry.scope.now) (tree_of expression.now) }
     ensures number { number_at result.number ≡ constant_number_at (scope_at names.entry.scope.now) (tree_of expression.now) }
 {
-    let judged = by_itself(names, Place::Constant(None, false), expression);
+    let judged = by_itself(names, Position::Constant(None, false), expression);
     ConstantNumber {
         broken: judged.broken,
         number: number_of(names, expression, judged.broken),
@@ -478,7 +478,7 @@ pub(crate) fn judged_constant(names: Names<'_, '_>, expression: &Expression<'_>)
 #[cycle(judged)]
 fn prefixed(
     names: Names<'_, '_>,
-    place: Place,
+    place: Position,
     operators: &[PrefixOperator],
     operand: &Expression<'_>,
 ) -> Judged
@@ -495,7 +495,7 @@ fn prefixed(
 #[cycle(judged)]
 fn right(
     names: Names<'_, '_>,
-    place: Place,
+    place: Position,
     operator: BinaryOperator,
     operand: &Expression<'_>,
 ) -> Judged
@@ -514,7 +514,7 @@ fn right(
 
 /// An exponent.
 #[cycle(judged)]
-fn exponent(names: Names<'_, '_>, place: Place, operand: &Expression<'_>) -> Judged
+fn exponent(names: Names<'_, '_>, place: Position, operand: &Expression<'_>) -> Judged
     ensures { result ≡ exponent_at (scope_at names.entry.scope.now) place (tree_of operand.now) }
 {
     let judged = by_itself(names, place, operand);
@@ -526,7 +526,7 @@ fn exponent(names: Names<'_, '_>, place: Place, operand: &Expression<'_>) -> Jud
 
 /// A divisor.
 #[cycle(judged)]
-fn divisor(names: Names<'_, '_>, place: Place, operand: &Expression<'_>) -> Judged
+fn divisor(names: Names<'_, '_>, place: Position, operand: &Expression<'_>) -> Judged
     ensures { result ≡ divisor_at (scope_at names.entry.scope.now) place (tree_of operand.now) }
 {
     let judged = judge(names, place, operand);
@@ -537,7 +537,7 @@ fn divisor(names: Names<'_, '_>, place: Place, operand: &Expression<'_>) -> Judg
 #[cycle(judged)]
 fn links_judged(
     names: Names<'_, '_>,
-    place: Place,
+    place: Position,
     first: Judged,
     links: &[BinaryLink<'_>],
 ) -> Judged
@@ -558,18 +558,18 @@ fn links_judged(
 #[cycle(judged)]
 fn first_place(
     names: Names<'_, '_>,
-    place: Place,
+    place: Position,
     width: Option<u32>,
     signed: bool,
     links: &[TestLink<'_>],
-) -> Place
+) -> Position
     ensures { result ≡ first_place (scope_at names.entry.scope.now) place width signed links.now }
 {
     match place {
-        Place::Anywhere => Place::Anywhere,
-        Place::Constant(own, own_signed) => first_context(
+        Position::Anywhere => Position::Anywhere,
+        Position::Constant(own, own_signed) => first_context(
             names,
-            Place::Constant(own, own_signed),
+            Position::Constant(own, own_signed),
             width,
             signed,
             links,
@@ -581,11 +581,11 @@ fn first_place(
 #[cycle(judged)]
 fn first_context(
     names: Names<'_, '_>,
-    place: Place,
+    place: Position,
     width: Option<u32>,
     signed: bool,
     links: &[TestLink<'_>],
-) -> Place
+) -> Position
     ensures { result ≡ first_place (scope_at names.entry.scope.now) place width signed links.now }
 {
     match links {
@@ -604,21 +604,21 @@ fn first_context(
 #[cycle(judged)]
 fn right_context(
     names: Names<'_, '_>,
-    place: Place,
+    place: Position,
     width: Option<u32>,
     signed: bool,
     operand: &Expression<'_>,
-) -> Place
+) -> Position
     ensures { result ≡ own_place place (rules.wider width (sized_at (scope_at names.entry.scope.now) (tree_of operand.now))) (signed && sign_at (scope_at names.entry.scope.now) (tree_of operand.now)) }
 {
-    let right = judge(names, Place::Anywhere, operand);
+    let right = judge(names, Position::Anywhere, operand);
     let right_signed = operand_sign(names, operand);
     own_place(place, wider(width, right.width), both(signed, right_signed))
 }
 
 /// A chain of tests after its first operand.
 #[cycle(judged)]
-fn tests_judged(names: Names<'_, '_>, place: Place, first: Left, links: &[TestLink<'_>]) -> Judged
+fn tests_judged(names: Names<'_, '_>, place: Position, first: Left, links: &[TestLink<'_>]) -> Judged
     ensures { result ≡ tests_judged (scope_at names.entry.scope.now) place first links.now }
 {
     let mut left = first;
@@ -646,7 +646,7 @@ fn tests_judged(names: Names<'_, '_>, place: Place, first: Left, links: &[TestLi
 #[cycle(judged)]
 fn tested(
     names: Names<'_, '_>,
-    place: Place,
+    place: Position,
     width: Option<u32>,
     signed: bool,
     operator: TestOperator,
@@ -654,7 +654,7 @@ fn tested(
 ) -> Broken
     ensures { result ≡ tested_at (scope_at names.entry.scope.now) place width signed operator (tree_of operand.now) }
 {
-    let own = judge(names, Place::Anywhere, operand);
+    let own = judge(names, Position::Anywhere, operand);
     let own_signed = operand_sign(names, operand);
     let operand_place = test_place(place, operator, width, signed, own.width, own_signed);
     in_place(names, operand_place, operand, own).broken
@@ -664,7 +664,7 @@ fn tested(
 #[cycle(judged)]
 fn choices_judged(
     names: Names<'_, '_>,
-    place: Place,
+    place: Position,
     choices: &[Choice<'_>],
     last: Judged,
 ) -> Judged
@@ -683,7 +683,7 @@ fn choices_judged(
 
 /// Parts side by side.
 #[cycle(judged)]
-fn parts_judged(names: Names<'_, '_>, place: Place, parts: &[Expression<'_>]) -> Judged
+fn parts_judged(names: Names<'_, '_>, place: Position, parts: &[Expression<'_>]) -> Judged
     ensures { result ≡ parts_judged (scope_at names.entry.scope.now) place no_parts parts.now }
 {
     let mut all = no_parts();
@@ -695,7 +695,7 @@ fn parts_judged(names: Names<'_, '_>, place: Place, parts: &[Expression<'_>]) ->
 
 /// A name with what stands after it.
 #[cycle(judged)]
-fn named(names: Names<'_, '_>, place: Place, object: Object, selects: &Selects<'_>) -> Judged
+fn named(names: Names<'_, '_>, place: Position, object: Object, selects: &Selects<'_>) -> Judged
     ensures { result ≡ name_at (scope_at names.entry.scope.now) place (object_of object) (selects_of selects.now) }
 {
     let own = by_name(place, object, selects);
@@ -713,7 +713,7 @@ fn named(names: Names<'_, '_>, place: Place, object: Object, selects: &Selects<'
 
 /// What the expressions in a select break, and the bits that it takes.
 #[cycle(judged)]
-fn selected(names: Names<'_, '_>, place: Place, select: &Select<'_>) -> Selected
+fn selected(names: Names<'_, '_>, place: Position, select: &Select<'_>) -> Selected
     ensures broken { result.broken ≡ select_broken_at (scope_at names.entry.scope.now) place (select_of select.now) }
     ensures bits { taken_by result.bits ≡ taken_at (scope_at names.entry.scope.now) (select_of select.now) }
 {

@@ -36,7 +36,7 @@ pub(crate) struct Broken {
 /// Where an expression stands: where anything may be read, or where a constant is wanted, in the context of a width, where that
 /// has a value, and a sign.
 #[derive(Clone, Copy, PartialEq, Eq, Debug)]
-pub(crate) enum Place {
+pub(crate) enum Position {
     Anywhere,
     Constant(Option<u32>, bool),
 }

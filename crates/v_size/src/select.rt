@@ -5,10 +5,10 @@ ghost use Rattle.verilog_rules.specs.Expression as rules;
 ghost use Rattle.v_value.specs.Scope.{object_of};
 ghost use Rattle.v_value.specs.Index.{integer_at};
 ghost use Rattle.v_syntax.specs.Tree.{number_of, select_of, selects_of};
-ghost use Rattle.v_size.specs.Rule.{coded, both, place_of, number_at};
+ghost use Rattle.v_size.specs.Rule.{coded, both, position_of, number_at};
 ghost use Rattle.v_size.specs.Judged.{number_judged, capped, fitting, taken_of, taken_by, bits_broken, read_width, whole_judged, one_judged, two_judged};
 
-use crate::rule::{Broken, Judged, Place, also, nothing, select_if, width_if};
+use crate::rule::{Broken, Judged, Position, also, nothing, select_if, width_if};
 use crate::total::{copies, fitting};
 use v_syntax::tree::{Number, Select, Selects};
 use v_value::scope::Object;
@@ -126,8 +126,8 @@ fn all_three(x: bool, y: bool, z: bool) -> bool
 }
 
 /// What a name breaks with what stands after it.
-pub(crate) fn by_name(place: Place, object: Object, selects: &Selects<'_>) -> Broken
-    ensures { result ≡ coded (rules.by_name (place_of place) (object_of object) (selects_of selects.now)) }
+pub(crate) fn by_name(place: Position, object: Object, selects: &Selects<'_>) -> Broken
+    ensures { result ≡ coded (rules.by_name (position_of place) (object_of object) (selects_of selects.now)) }
 {
     let declared = object.is_declared;
     let memory = object.addresses.is_some();
@@ -137,7 +137,7 @@ pub(crate) fn by_name(place: Place, object: Object, selects: &Selects<'_>) -> Br
         has_xz: false,
         bad_constant: all_three(
             declared,
-            matches!(place, Place::Constant(_, _)),
+            matches!(place, Position::Constant(_, _)),
             object.constant.is_none(),
         ),
         width_over_128: declared && last_place(object) > 127,

@@ -7,7 +7,7 @@ ghost use Rattle.v_syntax.specs.Tree.{tree_of};
 ghost use Rattle.v_size.specs.Sizing.{IsSizing, given};
 
 use crate::judged::{Names, judge};
-use crate::rule::{Kind, Place, first_kind};
+use crate::rule::{Kind, Position, first_kind};
 use v_syntax::tree::Expression;
 use v_value::scope::Scope;
 use v_value::sign::sign_of;
@@ -40,7 +40,7 @@ pub fn size(scope: &Scope<'_>, expression: &Expression<'_>) -> Result<(u32, bool
     ensures { (broken (scope_at scope.now) anywhere (tree_of expression.now)).misshapen ≡ false → IsSizing (scope_at scope.now) (tree_of expression.now) result }
 {
     let names = Names { scope };
-    let judged = judge(names, Place::Anywhere, expression);
+    let judged = judge(names, Position::Anywhere, expression);
     let signed = sign_of(scope, expression);
     given(first_kind(judged.broken), judged.width, signed)
 }

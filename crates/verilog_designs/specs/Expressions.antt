@@ -8,8 +8,8 @@ use Rattle.verilog_meaning.specs.Statement.{targets_width}
 use Rattle.verilog_meaning.specs.Register.{is_clocked}
 use Rattle.verilog_meaning.specs.Hierarchy.{Declaration, declarations, header_ports, module_named, Placed}
 use Rattle.verilog_meaning.specs.Settled.{port_directions, as_target, Connection, instance_connections, port_meant}
-use Rattle.verilog_rules.specs.Expression.{Broken, nothing, also, constant_if, width_if, Place, anywhere, constant, by_name as by_a_name, by_total, broken, broken_selects, has_width, broken_constant, constant_number, is_over_128}
-use Rattle.verilog_designs.specs.Known.{as_bound, known_range_width, value_place, known_scope}
+use Rattle.verilog_rules.specs.Expression.{Broken, nothing, also, constant_if, width_if, Position, anywhere, constant, by_name as by_a_name, by_total, broken, broken_selects, has_width, broken_constant, constant_number, is_over_128}
+use Rattle.verilog_designs.specs.Known.{as_bound, known_range_width, value_position, known_scope}
 use Rattle.verilog_designs.specs.Ports.{is_output, port_direction}
 use Rattle.verilog_designs.specs.Constants.{has_net_as_constant}
 
@@ -34,7 +34,7 @@ broken_range s (Some r) = also (broken_bound s r.left) (broken_bound s r.right)
 -- the values of a declaration of parameters
 abbrev pub broken_values : Scope → Option Range → List (Name × Expression) → Broken
 broken_values s r [] = nothing
-broken_values s r (v ∷ vs) = also (broken s (value_place s r v.1) v.1) (broken_values s r vs)
+broken_values s r (v ∷ vs) = also (broken s (value_position s r v.1) v.1) (broken_values s r vs)
 
 -- WidthOver128: a parameter of a wider range.
 abbrev pub broken_width : Scope → Option Range → Broken
@@ -65,16 +65,16 @@ abbrev mutual
 
 abbrev mutual
   -- A target with its indexes in this place: a constant is wanted in a continuous assignment and in a connection of an output.
-  pub broken_target : Scope → Place → Target → Broken
+  pub broken_target : Scope → Position → Target → Broken
   broken_target s p (place n x) = also (by_a_name anywhere (s n) x) (broken_selects s p (s n) x)
   broken_target s p (joined ts) = also (by_total (some_if (targets_have_width s ts) (targets_width s ts))) (broken_targets s p ts)
 
-  pub broken_targets : Scope → Place → Targets → Broken
+  pub broken_targets : Scope → Position → Targets → Broken
   broken_targets s p no_targets = nothing
   broken_targets s p (target t ts) = also (broken_target s p t) (broken_targets s p ts)
 
 -- where indexes must be constant (a context of their own stands in its stead at each of them)
-abbrev pub by_constants : Place
+abbrev pub by_constants : Position
 by_constants = constant None false
 
 abbrev mutual
@@ -88,7 +88,7 @@ abbrev mutual
   one_writes_memory s (target t ts) = writes_memory s t || one_writes_memory s ts
 
 -- A target outside clocked blocks. MemoryUse: a memory is written there.
-abbrev pub broken_net_target : Scope → Place → Target → Broken
+abbrev pub broken_net_target : Scope → Position → Target → Broken
 broken_net_target s p t = also (memory_if (writes_memory s t)) (broken_target s p t)
 
 -- ---- statements

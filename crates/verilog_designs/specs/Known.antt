@@ -6,7 +6,7 @@ use Rattle.wb_values.specs.Choice.{first_of, some_if}
 use Rattle.verilog_trees.specs.Syntax.{Expression, Range, ParameterDeclaration, Connections, Module, Source}
 use Rattle.verilog_meaning.specs.Expression.{Object, Scope, undeclared, object_or_undeclared, scope_of, distance, width_of, sign_of}
 use Rattle.verilog_meaning.specs.Hierarchy.{parameter_object, overridden_object, all_parameters, Declaration, declarations, declaration_of, PathStep, Placed, module_named, Instance, instance_reached, connected, overridable}
-use Rattle.verilog_rules.specs.Expression.{is_unbroken, Place, constant, broken, has_width, wider, as_constant, constant_number}
+use Rattle.verilog_rules.specs.Expression.{is_unbroken, Position, constant, broken, has_width, wider, as_constant, constant_number}
 
 -- the value of a bound of a range: from 0 to 65,535
 abbrev pub as_bound : Option ℤ → Option ℕ
@@ -37,9 +37,9 @@ abbrev pub known_range_width : Scope → Range → Option ℕ
 known_range_width s r = option_map (λ b. distance b.0 b.1 + 1) (known_range s r)
 
 -- The place of a parameter's value: a constant, in the context of the range that is declared, if one is.
-abbrev pub value_place : Scope → Option Range → Expression → Place
-value_place s None e = as_constant s (has_width s e) e
-value_place s (Some r) e = constant (wider (known_range_width s r) (some_if (has_width s e) (width_of s e))) (sign_of s e)
+abbrev pub value_position : Scope → Option Range → Expression → Position
+value_position s None e = as_constant s (has_width s e) e
+value_position s (Some r) e = constant (wider (known_range_width s r) (some_if (has_width s e) (width_of s e))) (sign_of s e)
 
 abbrev pub range_is_known : Scope → Option Range → Bool
 range_is_known s None = true
@@ -48,7 +48,7 @@ range_is_known s (Some r) = is_some (known_range s r)
 -- a parameter of this value, where it has one
 abbrev pub known_parameter : Scope → Bool → Option Range → Expression → Option Object
 known_parameter s signed r e =
-    some_if (is_unbroken (broken s (value_place s r e) e) && range_is_known s r) (parameter_object s signed r e)
+    some_if (is_unbroken (broken s (value_position s r e) e) && range_is_known s r) (parameter_object s signed r e)
 
 -- a parameter that is overridden by this value, where that has one
 abbrev pub known_override : Scope → Bool → Option Range → Option Object → Option Object

@@ -62,16 +62,16 @@ width_if b = record { undeclared = false; has_xz = false; bad_constant = false; 
 
 -- Where an expression stands: where anything may be read, or where a constant is wanted. The value of a constant is that in the
 -- context of a width and a sign; its width may have no value.
-pub data Place : Type 0 where
-  anywhere : Place
-  constant : Option ℕ → Bool → Place
+pub data Position : Type 0 where
+  anywhere : Position
+  constant : Option ℕ → Bool → Position
 
 -- the same place in the context of another width and sign
-abbrev pub in_context : Place → Option ℕ → Bool → Place
+abbrev pub in_context : Position → Option ℕ → Bool → Position
 in_context anywhere w t = anywhere
 in_context (constant v u) w t = constant w t
 
-abbrev pub wants_constant : Place → Bool
+abbrev pub wants_constant : Position → Bool
 wants_constant anywhere = false
 wants_constant (constant w t) = true
 
@@ -117,7 +117,7 @@ has_many_words (Some a) = nat_lt 65535 (distance a.0 a.1)
 
 -- What a name breaks with what stands after it. Of a name that is not declared nothing else is judged.
 -- BadConstant: a net or a variable where a constant is wanted. WidthOver128: a net of more than 128 bits.
-abbrev pub by_name : Place → Object → Selects → Broken
+abbrev pub by_name : Position → Object → Selects → Broken
 by_name p o x =
     record {
       undeclared = not o.is_declared;
@@ -182,13 +182,13 @@ divides _ = false
 
 -- BadConstant: / or % where no constant is wanted; and else a divisor that is 0 in its context, where it has a value there. (A
 -- context is no narrower than what stands in it.)
-abbrev pub is_bad_divisor : Scope → Place → Expression → Bool → Bool
+abbrev pub is_bad_divisor : Scope → Position → Expression → Bool → Bool
 is_bad_divisor s anywhere y has = true
 is_bad_divisor s (constant None t) y has = false
 is_bad_divisor s (constant (Some w) t) y has = has && ((nat_le (width_of s y) w && nat_le w 128) && (value_of s no_values y w t == 0))
 
 -- BadConstant: ** where no constant is wanted; and else an exponent below 0.
-abbrev pub is_bad_exponent : Place → Option ℤ → Bool
+abbrev pub is_bad_exponent : Position → Option ℤ → Bool
 is_bad_exponent anywhere n = true
 is_bad_exponent (constant w t) n = is_below (pos 0) n
 
@@ -197,15 +197,15 @@ abbrev pub number_if : Broken → Scope → Expression → Option ℤ
 number_if b s k = some_if (is_unbroken b) (integer_of s no_values k)
 
 -- by itself: in the context of its own width, where that has a value, and sign
-abbrev pub by_itself : Scope → Place → Bool → Expression → Place
+abbrev pub by_itself : Scope → Position → Bool → Expression → Position
 by_itself s p has x = in_context p (some_if has (width_of s x)) (sign_of s x)
 
-abbrev pub as_constant : Scope → Bool → Expression → Place
+abbrev pub as_constant : Scope → Bool → Expression → Position
 as_constant s has k = constant (some_if has (width_of s k)) (sign_of s k)
 
 abbrev mutual
   -- The rules that an expression in this place breaks.
-  pub broken : Scope → Place → Expression → Broken
+  pub broken : Scope → Position → Expression → Broken
   broken s p (number k) = by_number k
   broken s p (name n x) = also (by_name p (s n) x) (broken_selects s p (s n) x)
   broken s p (concatenation es) = also (by_total (some_if (have_widths s es) (widths_of s es))) (broken_parts s p es)
@@ -231,18 +231,18 @@ abbrev mutual
   broken s p (logical op x y) = also (broken s (by_itself s p (has_width s x) x) x) (broken s (by_itself s p (has_width s y) y) y)
   broken s p (conditional c x y) = also (also (broken s (by_itself s p (has_width s c) c) c) (broken s p x)) (broken s p y)
 
-  pub broken_parts : Scope → Place → Expressions → Broken
+  pub broken_parts : Scope → Position → Expressions → Broken
   broken_parts s p no_expressions = nothing
   broken_parts s p (expression e es) =
       also (also (constant_if (is_unsized e)) (broken s (by_itself s p (has_width s e) e) e)) (broken_parts s p es)
 
-  pub broken_selects : Scope → Place → Object → Selects → Broken
+  pub broken_selects : Scope → Position → Object → Selects → Broken
   broken_selects s p o whole = nothing
   broken_selects s p o (one x) = also (broken_select s p x) (cond (is_memory o) nothing (broken_bits s o x))
   broken_selects s p o (two x y) = also (broken_select s p x) (also (broken_select s p y) (broken_bits s o y))
 
   -- what a select breaks by the expressions in it: bounds, and widths of +: and -:, must be constant
-  pub broken_select : Scope → Place → Select → Broken
+  pub broken_select : Scope → Position → Select → Broken
   broken_select s p (index i) = broken s (by_itself s p (has_width s i) i) i
   broken_select s p (part h l) = also (broken s (as_constant s (has_width s h) h) h) (broken s (as_constant s (has_width s l) l) l)
   broken_select s p (part_up b n) =

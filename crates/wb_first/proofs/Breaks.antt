@@ -11,7 +11,7 @@ use Rattle.refinement.specs.Run.{Run, IsRun}
 use Rattle.refinement.specs.Refinement.{state_at, inputs_at}
 use Rattle.refinement.specs.Obligation.{Fact, reset_active, reset_inactive, assumed, invariant, start, no_start, decoded, commit, no_commit, initial, same, one_decodes, ends, result_of, never, Means, MeansAll}
 use Rattle.wb_first.specs.Names.{First, setting_of}
-use Rattle.wb_first.specs.Accepted.{fits_sort, state_sort, states_are_mapped, has_no_child, updates_of}
+use Rattle.wb_first.specs.Accepted.{fits_mapped_sort, state_sort, states_are_mapped, has_no_child, update_entries}
 use Rattle.wb_first.specs.Decided.{same_value, first_valuation, second_valuation, state_of, start_point, is_reset, starts, decodes_option, decodes_number, commits_number, initial_met, decode_count, result_at, is_met, all_met}
 use Rattle.wb_first.proofs.Alike.{and_left, and_right}
 use Rattle.wb_first.proofs.Rules.{Keeps}
@@ -38,15 +38,15 @@ sort_found (d ∷ ds) n =
     ]
 
 pub sort_entry : (f : First) (es : Entries Expression) → states_are_mapped f es ≡ true → (n : Name) (e : Expression) → entry_of es n ≡ Some e
-    → fits_sort f (state_sort (states_of f.model.top) n) e ≡ true
+    → fits_mapped_sort f (state_sort (states_of f.model.top) n) e ≡ true
 sort_entry f [] h n e is_e = cc
 sort_entry f (x ∷ es) h n e is_e =
     (elim (same_name x.0 n) as
-    (λ t. same_name x.0 n ≡ t → cond t (Some x.1) (entry_of es n) ≡ Some e → fits_sort f (state_sort (states_of f.model.top) n) e ≡ true) [
+    (λ t. same_name x.0 n ≡ t → cond t (Some x.1) (entry_of es n) ≡ Some e → fits_mapped_sort f (state_sort (states_of f.model.top) n) e ≡ true) [
       | true ↦ λ t some.
           let same : x.1 ≡ e = cc in
-          subst (λ m. fits_sort f (state_sort (states_of f.model.top) m) e ≡ true) (same_name_true x.0 n t)
-          (subst (λ g. fits_sort f (state_sort (states_of f.model.top) x.0) g ≡ true) same (and_right _ _ (and_left _ _ (and_left _ _ h))))
+          subst (λ m. fits_mapped_sort f (state_sort (states_of f.model.top) m) e ≡ true) (same_name_true x.0 n t)
+          (subst (λ g. fits_mapped_sort f (state_sort (states_of f.model.top) x.0) g ≡ true) same (and_right _ _ (and_left _ _ (and_left _ _ h))))
       | false ↦ λ t some. sort_entry f es (and_right _ _ h) n e some
     ]) refl is_e
 
@@ -54,7 +54,7 @@ sort_entry f (x ∷ es) h n e is_e =
 state_compares : (f : First) → Keeps f → (v : Valuation) (n : Name) → same_value (state_of f v n) (state_of f v n) ≡ true
 state_compares f k v n = by_both (sort_of_state (state_named (states_of f.model.top) n)) refl (entry_of f.map.states n) refl
   where
-    by_sort : (t : Sort) (e : Expression) → fits_sort f (Some t) e ≡ true
+    by_sort : (t : Sort) (e : Expression) → fits_mapped_sort f (Some t) e ≡ true
         → same_value (mapped_value (setting_of f) v t e) (mapped_value (setting_of f) v t e) ≡ true
     by_sort truth e h = same_truth (is_true (map_scope (setting_of f)) v e)
     by_sort (word w) e h = same_number (self_value (map_scope (setting_of f)) v e)
@@ -65,7 +65,7 @@ state_compares f k v n = by_both (sort_of_state (state_named (states_of f.model.
         → same_value (mapped_or_zero (setting_of f) v t o) (mapped_or_zero (setting_of f) v t o) ≡ true
     by_both (Some t) is_t (Some e) is_e =
         by_sort t e
-        (subst (λ x. fits_sort f x e ≡ true) (sort_found (states_of f.model.top) n ∙ is_t) (sort_entry f f.map.states k.states n e is_e))
+        (subst (λ x. fits_mapped_sort f x e ≡ true) (sort_found (states_of f.model.top) n ∙ is_t) (sort_entry f f.map.states k.states n e is_e))
     by_both (Some t) is_t None is_e = same_number 0
     by_both None is_t (Some e) is_e = same_number 0
     by_both None is_t None is_e = same_number 0
@@ -175,7 +175,7 @@ module _ (f : First) (k : Keeps f) (run : Run) (is_run : IsRun (setting_of f) ru
       (λ j o e n d. one.no_other j o e n (ap (holds (decode_of o)) (point_first f k run is_run) ∙ d)) in
       rw (valid, count) refl
 
-  done_childless : (i : Instruction) → has_no_child (child_program i) ≡ true → (p : Valuation) → DoesInstruction i p (updated (updates_of i) p)
+  done_childless : (i : Instruction) → has_no_child (child_program i) ≡ true → (p : Valuation) → DoesInstruction i p (updated (update_entries i) p)
   done_childless (instruction called decode update no_child) h p = refl
   done_childless (instruction called decode update (child steps program)) h p = absurd (let e : false ≡ true = h in cc)
 
@@ -188,13 +188,13 @@ module _ (f : First) (k : Keeps f) (run : Run) (is_run : IsRun (setting_of f) ru
       by_instruction None is_o t = absurd (let e : false ≡ true = t in cc)
       by_instruction (Some i) is_o t =
           let point : Valuation = point_of f.model (state_at s run 0) (inputs_at s run 0) in
-          let after : Valuation = updated (updates_of i) point in
+          let after : Valuation = updated (update_entries i) point in
           let does : Does f.model i (state_at s run 0) (inputs_at s run 0) (own_states f.model after) =
           (after, done_childless i (childless_at (instructions_in f.model.top) k.childless j i is_o) point, refl) in
           let result : state_at s run 1 n ≡ own_states f.model after n = m i (own_states f.model after) is_o does in
           let own : own_states f.model after n ≡ after n = rw is_state refl in
-          not_words (state_of f W n) (updated (updates_of i) (start_point f V) n) (state_compares f k W n)
-          (sym (ap (λ q. q n) (state_second f k run is_run)) ∙ (result ∙ (own ∙ ap (λ p. updated (updates_of i) p n) (point_first f k run is_run))))
+          not_words (state_of f W n) (updated (update_entries i) (start_point f V) n) (state_compares f k W n)
+          (sym (ap (λ q. q n) (state_second f k run is_run)) ∙ (result ∙ (own ∙ ap (λ p. updated (update_entries i) p n) (point_first f k run is_run))))
 
   -- a claim that holds is met
   pub met_claim : (x : Fact) → IsClaim f x → Means s run x → is_met f V W x ≡ true

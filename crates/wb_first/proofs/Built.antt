@@ -15,7 +15,7 @@ use Rattle.verilog_meaning.specs.Settled.{inside, IsDeclared, IsValueOf, HasAssi
 use Rattle.verilog_meaning.specs.Next.{AreRegisters, IsNext}
 use Rattle.first_text.specs.Tree.{Term, term_tree, Part, register, assignment, clocked, FirstModule, module_tree, Port}
 use Rattle.wb_first.specs.Names.{First, scope_of_first, bits_of_name, is_input, is_output, is_variable, is_variable_among, is_declared, is_register, assigned, port_named, has_direction, same_direction}
-use Rattle.wb_first.specs.Accepted.{all_names, keys, term_names, is_source, is_net, is_among, are_distinct, variables_agree, is_accepted}
+use Rattle.wb_first.specs.Accepted.{all_names, keys, term_names, is_source, is_net_output, is_one_of, all_differ, variables_agree, is_accepted}
 use Rattle.wb_first.specs.Cycle.{held, assigned_number, settled, next_registers}
 use Rattle.wb_first.proofs.Shape.{assigned_trees, no_connections, no_combinational, assignments_of, not_memory, first_placed, design_of_first, only_top, only_placed, declared_same, input_port, port_input}
 use Rattle.wb_first.proofs.Bits.{whole_written, zero_unset}
@@ -39,12 +39,12 @@ abbrev AllFound : Entries Term → Entries Term → Type 0
 AllFound every [] = Unit {0}
 AllFound every (e ∷ es) = (entry_of every e.0 ≡ Some e.1) × AllFound every es
 
-not_among : (es : Entries Term) (n m : Name) (e : Term) → is_among (keys es) n ≡ false → entry_of es m ≡ Some e → same_name n m ≡ false
+not_among : (es : Entries Term) (n m : Name) (e : Term) → is_one_of (keys es) n ≡ false → entry_of es m ≡ Some e → same_name n m ≡ false
 not_among [] n m e out some = cc
 not_among (x ∷ es) n m e out some =
     (elim (same_name x.0 m) as (λ t. same_name x.0 m ≡ t → cond t (Some x.1) (entry_of es m) ≡ Some e → same_name n m ≡ false) [
-      | true ↦ λ t s. subst (λ y. same_name n y ≡ false) (same_name_true x.0 m t) (turned (first_false (same_name x.0 n) (is_among (keys es) n) out))
-      | false ↦ λ t s. not_among es n m e (second_false (same_name x.0 n) (is_among (keys es) n) out) s
+      | true ↦ λ t s. subst (λ y. same_name n y ≡ false) (same_name_true x.0 m t) (turned (first_false (same_name x.0 n) (is_one_of (keys es) n) out))
+      | false ↦ λ t s. not_among es n m e (second_false (same_name x.0 n) (is_one_of (keys es) n) out) s
     ]) refl some
   where
     first_false : (a b : Bool) → (a || b) ≡ false → a ≡ false
@@ -64,7 +64,7 @@ not_among (x ∷ es) n m e out some =
           | false ↦ λ e'. refl
         ]) refl
 
-found_behind : (x : Name × Term) (every es : Entries Term) → is_among (keys every) x.0 ≡ false → AllFound every es → AllFound (x ∷ every) es
+found_behind : (x : Name × Term) (every es : Entries Term) → is_one_of (keys every) x.0 ≡ false → AllFound every es → AllFound (x ∷ every) es
 found_behind x every [] out h = tt
 found_behind x every (e ∷ es) out h =
     ((let other : same_name x.0 e.0 ≡ false = not_among every x.0 e.0 e.1 out h.0 in rw other h.0), found_behind x every es out h.1)
@@ -73,10 +73,10 @@ false_of_not : (b : Bool) → not b ≡ true → b ≡ false
 false_of_not true h = cc
 false_of_not false h = refl
 
-all_found : (es : Entries Term) → are_distinct (keys es) ≡ true → AllFound es es
+all_found : (es : Entries Term) → all_differ (keys es) ≡ true → AllFound es es
 all_found [] h = tt
 all_found (x ∷ es) h =
-    (rw (same_name_refl x.0) refl, found_behind x es es (false_of_not (is_among (keys es) x.0) (and_left _ _ h)) (all_found es (and_right _ _ h)))
+    (rw (same_name_refl x.0) refl, found_behind x es es (false_of_not (is_one_of (keys es) x.0) (and_left _ _ h)) (all_found es (and_right _ _ h)))
 
 -- a variable is no input
 variable_no_input : (m : FirstModule) (ps : List Part) → variables_agree m ps ≡ true → (n : Name) → is_variable_among ps n ≡ true → is_input m n ≡ false
@@ -103,7 +103,7 @@ input_no_output m n h = by_port (port_named m.ports n) h
 -- what the proof below takes of the rules, besides Keeps
 pub record KeepsMore (f : First) : Type 0 where
   pub variables : variables_agree f.design f.design.parts ≡ true
-  pub distinct : are_distinct (keys (assigned f.design)) ≡ true
+  pub distinct : all_differ (keys (assigned f.design)) ≡ true
 
 pub keeps_more : (f : First) → is_accepted f ≡ true → KeepsMore f
 keeps_more f h =
@@ -189,10 +189,10 @@ module _ (f : First) (k : Keeps f) (more : KeepsMore f) (r i : Valuation)
   abbrev V : Valuation
   V = settled f r i
 
-  net_rule : (n : Name) (e : Term) → entry_of (assigned f.design) n ≡ Some e → is_net f n ≡ true
-  net_rule n e is_e = key_passes (is_net f) (assigned f.design) k.nets n e is_e
+  net_rule : (n : Name) (e : Term) → entry_of (assigned f.design) n ≡ Some e → is_net_output f n ≡ true
+  net_rule n e is_e = key_passes (is_net_output f) (assigned f.design) k.nets n e is_e
 
-  no_entry : (n : Name) → (is_net f n ≡ true → ⊥) → entry_of (assigned f.design) n ≡ None
+  no_entry : (n : Name) → (is_net_output f n ≡ true → ⊥) → entry_of (assigned f.design) n ≡ None
   no_entry n bad = by_entry (entry_of (assigned f.design) n) refl
     where
       by_entry : (o : Option Term) → entry_of (assigned f.design) n ≡ o → o ≡ None
@@ -269,7 +269,7 @@ module _ (f : First) (k : Keeps f) (more : KeepsMore f) (r i : Valuation)
         | false ↦ λ t. refl
       ]) refl
     where
-      net : is_net f n ≡ true
+      net : is_net_output f n ≡ true
       net = net_rule n e is_e
 
       known : is_declared f.design n ≡ true

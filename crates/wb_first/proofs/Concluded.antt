@@ -7,7 +7,7 @@ use Rattle.model_meaning.specs.Instruction.{IsInstruction}
 use Rattle.refinement.specs.Run.{Run, IsRun}
 use Rattle.refinement.specs.Obligation.{ended_at, MeansAll, Obligation, Falsifies, IsWholeCommand, obligations, bound_named}
 use Rattle.wb_first.specs.Names.{First, setting_of, scope_of_first, is_input, is_declared, is_register}
-use Rattle.wb_first.specs.Accepted.{is_accepted, is_data, is_among, entry_names}
+use Rattle.wb_first.specs.Accepted.{is_accepted, is_data, is_one_of, names_of_entries}
 use Rattle.wb_first.specs.Decided.{start_point, first_of_values, second_of_values, first_valuation, second_valuation, is_met, all_met, is_broken, is_broken_by, is_whole_command, is_command_by}
 use Rattle.wb_first.specs.Claims.{AreValues, AreValuesOf, IsObligation, RunsHaveValues, ValuesHaveRuns, OneCycle, BoundIsOne, BrokenIsFalsified, UnbrokenHolds, CommandsAreWhole, StartHasSorts, EndHasSorts, ResultsHaveSorts}
 use Rattle.wb_first.proofs.Alike.{and_left, and_right}
@@ -82,7 +82,7 @@ pub bound_is_one : BoundIsOne
 bound_is_one f accepted j i is_i =
     let k : Keeps f = keeps f accepted in
     bound_one f k (instruction_name i)
-    (instruction_among (is_among (entry_names f.map.instructions)) (instructions_in f.model.top) k.each_entry j i is_i)
+    (instruction_among (is_one_of (names_of_entries f.map.instructions)) (instructions_in f.model.top) k.each_entry j i is_i)
 
 module _ (f : First) (accepted : is_accepted f ≡ true) (run : Run) (is_run : IsRun (setting_of f) run 1) where
   abbrev V : Valuation

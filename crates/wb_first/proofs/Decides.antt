@@ -11,7 +11,7 @@ use Rattle.refinement.specs.Run.{Run, IsRun, IsResetAt}
 use Rattle.refinement.specs.Refinement.{state_at, inputs_at, CommitsAt}
 use Rattle.refinement.specs.Obligation.{Fact, reset_active, reset_inactive, assumed, invariant, start, no_start, decoded, commit, no_commit, initial, same, one_decodes, ends, result_of, never, Means, MeansAll, Obligation, Holds}
 use Rattle.wb_first.specs.Names.{First, setting_of, is_declared}
-use Rattle.wb_first.specs.Accepted.{updates_of}
+use Rattle.wb_first.specs.Accepted.{update_entries}
 use Rattle.wb_first.specs.Cycle.{settled, next_registers}
 use Rattle.wb_first.specs.Decided.{same_value, no_inputs, first_valuation, second_valuation, state_of, start_point, is_reset, starts, decodes_option, decodes_number, commits_by, commits_option, commits_number, initial_met, decode_count, result_at, is_met, all_met, is_broken}
 use Rattle.wb_first.proofs.Alike.{and_left, and_right}
@@ -190,15 +190,15 @@ module _ (f : First) (k : Keeps f) (run : Run) (is_run : IsRun (setting_of f) ru
       → Means s run (result_of j n 1)
   claimed_result j n is_state h i r is_i does =
       let after : Valuation = does.0 in
-      let updates : after ≡ updated (updates_of i) (point_of f.model (state_at s run 0) (inputs_at s run 0)) =
+      let updates : after ≡ updated (update_entries i) (point_of f.model (state_at s run 0) (inputs_at s run 0)) =
       done_is_updated i (childless_at (instructions_in f.model.top) k.childless j i is_i)
       (point_of f.model (state_at s run 0) (inputs_at s run 0)) after does.1 in
-      let here : state_of f W n ≡ updated (updates_of i) (start_point f V) n =
-      same_value_true (state_of f W n) (updated (updates_of i) (start_point f V) n)
+      let here : state_of f W n ≡ updated (update_entries i) (start_point f V) n =
+      same_value_true (state_of f W n) (updated (update_entries i) (start_point f V) n)
       (subst (λ o. same_value (state_of f W n) (result_at o (start_point f V) n) ≡ true) is_i h) in
       let result : r n ≡ after n = ap (λ q. q n) does.2 ∙ rw is_state refl in
       ap (λ q. q n) state_second
-      ∙ (here ∙ (ap (λ p. updated (updates_of i) p n) (sym point_first) ∙ (sym (ap (λ q. q n) updates) ∙ sym result)))
+      ∙ (here ∙ (ap (λ p. updated (update_entries i) p n) (sym point_first) ∙ (sym (ap (λ q. q n) updates) ∙ sym result)))
 
   pub claimed : (x : Fact) → IsClaim f x → is_met f V W x ≡ true → Means s run x
   claimed (reset_active t) h m = absurd h

@@ -9,7 +9,7 @@ use Rattle.refinement.specs.Map.{InstructionMap, instruction_map}
 use Rattle.first_text.specs.Tree.{FirstModule}
 use Rattle.verilog_trees.specs.Syntax.{input}
 use Rattle.wb_first.specs.Names.{First, is_input, is_declared, port_named, has_direction, is_variable}
-use Rattle.wb_first.specs.Accepted.{is_map_expression, entries_are_accepted, no_children, has_no_child, updates_of}
+use Rattle.wb_first.specs.Accepted.{is_map_expression, entries_are_accepted, no_children, has_no_child, update_entries}
 use Rattle.wb_first.specs.Decided.{same_value, decode_count}
 use Rattle.wb_first.proofs.Alike.{and_left, and_right}
 
@@ -106,7 +106,7 @@ one_counted (x ∷ is) p h =
         others (suc k) o e n d = one.no_other k o e (λ q. n (ap suc q)) d
 
 -- an instruction without child does its updates
-pub done_is_updated : (i : Instruction) → has_no_child (child_program i) ≡ true → (p q : Valuation) → DoesInstruction i p q → q ≡ updated (updates_of i) p
+pub done_is_updated : (i : Instruction) → has_no_child (child_program i) ≡ true → (p q : Valuation) → DoesInstruction i p q → q ≡ updated (update_entries i) p
 done_is_updated (instruction called decode update no_child) h p q d = d
 done_is_updated (instruction called decode update (child steps program)) h p q d = absurd (let e : false ≡ true = h in cc)
 

@@ -7,7 +7,7 @@ use Rattle.model_meaning.specs.Model.{Instruction, instruction_name, instruction
 use Rattle.refinement.specs.Map.{InstructionMap, instruction_map}
 use Rattle.refinement.specs.Obligation.{Fact, reset_active, reset_inactive, no_start, initial, same, result_of, Obligation, for_each, invariant_obligations, state_obligations, with_initial_values, reset_obligations, idle_obligations, decode_obligation, not_ended, ended_at, child_obligations, bound_obligation, commit_obligations, instruction_obligations, all_instruction_obligations, obligations, bound_named, bound_in}
 use Rattle.wb_first.specs.Names.{First}
-use Rattle.wb_first.specs.Accepted.{is_among, all_names, entry_names, instruction_names, has_no_child, no_children}
+use Rattle.wb_first.specs.Accepted.{is_one_of, all_names, names_of_entries, names_of_instructions, has_no_child, no_children}
 use Rattle.wb_first.proofs.Alike.{and_left, and_right}
 use Rattle.wb_first.proofs.Rules.{Keeps}
 use Rattle.wb_first.proofs.Decides.{AreHypotheses, IsClaim, IsFirstObligation}
@@ -75,17 +75,17 @@ each_found : (ds : List StateDeclaration) → Named (λ n. IsTrue (is_some (stat
 each_found [] = tt
 each_found (d ∷ ds) = (own_name_found d ds, all_later d ds ds (each_found ds))
 
-pub entry_found : (es : List InstructionMap) (n : Name) → is_among (entry_names es) n ≡ true
+pub entry_found : (es : List InstructionMap) (n : Name) → is_one_of (names_of_entries es) n ≡ true
     → (e : InstructionMap) × (instruction_map es n ≡ Some e)
 entry_found [] n h = absurd (let c : false ≡ true = h in cc)
 entry_found (x ∷ es) n h =
     (elim (same_name x.called n) as
-    (λ b. (b || is_among (entry_names es) n) ≡ true → (e : InstructionMap) × (cond b (Some x) (instruction_map es n) ≡ Some e)) [
+    (λ b. (b || is_one_of (names_of_entries es) n) ≡ true → (e : InstructionMap) × (cond b (Some x) (instruction_map es n) ≡ Some e)) [
       | true ↦ λ g. (x, refl)
       | false ↦ λ g. entry_found es n g
     ]) h
 
-pub instruction_among : (p : Name → Bool) (is : List Instruction) → all_names p (instruction_names is) ≡ true → (j : ℕ) (i : Instruction)
+pub instruction_among : (p : Name → Bool) (is : List Instruction) → all_names p (names_of_instructions is) ≡ true → (j : ℕ) (i : Instruction)
     → slice_get is j ≡ Some i → p (instruction_name i) ≡ true
 instruction_among p [] h j i e = cc
 instruction_among p (x ∷ is) h zero i e = let here : x ≡ i = cc in subst (λ y. p (instruction_name y) ≡ true) here (and_left _ _ h)
@@ -104,7 +104,7 @@ module _ (f : First) (k : Keeps f) where
   no_assumptions : length f.map.assume ≡ 0
   no_assumptions = is_number (length f.map.assume) 0 k.no_assumptions
 
-  pub bound_one : (n : Name) → is_among (entry_names f.map.instructions) n ≡ true → bound_named f.map n ≡ 1
+  pub bound_one : (n : Name) → is_one_of (names_of_entries f.map.instructions) n ≡ true → bound_named f.map n ≡ 1
   bound_one n h =
       let found = entry_found f.map.instructions n h in
       ap bound_in found.1 ∙ is_number found.0.bound 1 (entry_accepted f f.map.instructions k.entries n found.0 found.1).1
@@ -174,7 +174,7 @@ module _ (f : First) (k : Keeps f) where
           (with_fact (states_of f.model.top) (each_found (states_of f.model.top))))
 
   instructions_first : (j : ℕ) (is : List Instruction) → no_children is ≡ true
-      → all_names (is_among (entry_names f.map.instructions)) (instruction_names is) ≡ true
+      → all_names (is_one_of (names_of_entries f.map.instructions)) (names_of_instructions is) ≡ true
       → ((m : ℕ) (i : Instruction) → slice_get is m ≡ Some i → IsTrue (is_some (slice_get (instructions_in f.model.top) (plus j m))))
       → AllFirst f (all_instruction_obligations f.model f.map j is)
   instructions_first j [] c h there = tt

@@ -4,13 +4,13 @@ use Rattle.std.specs.Prelude.{◌==◌, length}
 use Rattle.wb_values.specs.Value.{same_name}
 use Rattle.model_meaning.specs.Model.{states_of, instructions_in}
 use Rattle.wb_first.specs.Names.{First, bits_of_name, is_input, assigned, blocks_among}
-use Rattle.wb_first.specs.Accepted.{is_accepted, is_accepted_module, is_accepted_map, is_accepted_model, has_plain_names, all_names, is_among, keys, terms_read, is_source, is_net, is_kept, has_one_block, is_map_expression, states_are_mapped, all_states_mapped, inputs_are_mapped, all_inputs_mapped, entries_are_accepted, entry_names, instruction_names, port_names, no_children}
+use Rattle.wb_first.specs.Accepted.{is_accepted, is_accepted_module, is_accepted_map, is_accepted_model, has_plain_names, all_names, is_one_of, keys, terms_read, is_source, is_net_output, is_kept, has_one_block, is_map_expression, states_are_mapped, all_states_mapped, inputs_are_mapped, all_inputs_mapped, entries_are_accepted, names_of_entries, names_of_instructions, port_names, no_children}
 use Rattle.wb_first.proofs.Alike.{and_left, and_right}
 
 pub record Keeps (f : First) : Type 0 where
   pub is_top : same_name f.design.own_name f.map.top ≡ true
   pub clock_input : is_input f.design f.map.clock ≡ true
-  pub nets : all_names (is_net f) (keys (assigned f.design)) ≡ true
+  pub nets : all_names (is_net_output f) (keys (assigned f.design)) ≡ true
   pub sources : terms_read (is_source f) (assigned f.design) ≡ true
   pub block : has_one_block f (blocks_among f.design.parts) ≡ true
   pub outputs : all_names (is_kept f.design) (port_names f.design.ports) ≡ true
@@ -24,7 +24,7 @@ pub record Keeps (f : First) : Type 0 where
   pub inputs : inputs_are_mapped f f.map.inputs ≡ true
   pub all_inputs : all_inputs_mapped f.map.inputs f.model.inputs ≡ true
   pub entries : entries_are_accepted f f.map.instructions ≡ true
-  pub each_entry : all_names (is_among (entry_names f.map.instructions)) (instruction_names (instructions_in f.model.top)) ≡ true
+  pub each_entry : all_names (is_one_of (names_of_entries f.map.instructions)) (names_of_instructions (instructions_in f.model.top)) ≡ true
   pub no_assumptions : (length f.map.assume == 0) ≡ true
   pub no_invariants : (length f.map.invariants == 0) ≡ true
   pub childless : no_children (instructions_in f.model.top) ≡ true

@@ -18,7 +18,7 @@ use Rattle.verilog_trees.specs.Syntax as verilog
 use Rattle.verilog_meaning.specs.Expression.{Object, object_width, widened, whole_value, self_value}
 use Rattle.refinement.specs.Map.{dotted_parts, with_character, object_at, object_in, map_scope, mapped_value, mapped_or_zero, mapped_state, mapped_inputs, sort_of_input}
 use Rattle.wb_first.specs.Names.{First, setting_of, scope_of_first, bits_of_name, is_declared}
-use Rattle.wb_first.specs.Accepted.{is_accepted, is_accepted_module, is_accepted_map, is_accepted_model, has_plain_names, has_dot, is_map_expression, map_width, fits_sort, state_sort, inputs_are_mapped, all_states_mapped, all_inputs_mapped, declared_sort, is_sort_of, has_declared_names, is_term_of, are_updates, updates_of, are_instructions, are_states}
+use Rattle.wb_first.specs.Accepted.{is_accepted, is_accepted_module, is_accepted_map, is_accepted_model, has_plain_names, has_dot, is_map_expression, map_width, fits_mapped_sort, state_sort, inputs_are_mapped, all_states_mapped, all_inputs_mapped, declared_sort, is_sort_of, has_declared_names, is_term_of, are_updates, update_entries, are_instructions, are_states}
 use Rattle.wb_first.specs.Decided.{start_point, result_at}
 use Rattle.wb_first.proofs.Alike.{and_left, and_right}
 use Rattle.wb_first.proofs.Shape.{not_signed, not_constant, top_placed, design_of_first}
@@ -111,14 +111,14 @@ module _ (f : First) (k : Keeps f) (v : Valuation) (numbers : AreNumbers f v) wh
   expression_fits w (logical op x y) h g = absurd (let e : false ≡ true = h in cc)
   expression_fits w (conditional c x y) h g = absurd (let e : false ≡ true = h in cc)
 
-  value_sorted : (t : Sort) (e : Expression) → is_map_expression f e ≡ true → fits_sort f (Some t) e ≡ true
+  value_sorted : (t : Sort) (e : Expression) → is_map_expression f e ≡ true → fits_mapped_sort f (Some t) e ≡ true
       → HasSort (mapped_value (setting_of f) v t e) t
   value_sorted truth e h g = refl
   value_sorted (word w) e h g = test_of (self_value (map_scope (setting_of f)) v e) (2 ^ w) (expression_fits w e h g)
   value_sorted (memory a d) e h g = absurd (let c : false ≡ true = g in cc)
 
   entry_sorted : (t : Sort) (o : Option Expression) → is_some o ≡ true → ((e : Expression) → o ≡ Some e → is_map_expression f e ≡ true)
-      → ((e : Expression) → o ≡ Some e → fits_sort f (Some t) e ≡ true) → HasSort (mapped_or_zero (setting_of f) v (Some t) o) t
+      → ((e : Expression) → o ≡ Some e → fits_mapped_sort f (Some t) e ≡ true) → HasSort (mapped_or_zero (setting_of f) v (Some t) o) t
   entry_sorted t (Some e) some h g = value_sorted t e (h e refl) (g e refl)
   entry_sorted t None some h g = absurd (let c : false ≡ true = some in cc)
 
@@ -145,15 +145,15 @@ input_mapped es (i ∷ is) h n t e =
     ]) refl e
 
 input_fits : (f : First) (es : Entries Expression) → inputs_are_mapped f es ≡ true → (n : Name) (e : Expression) → entry_of es n ≡ Some e
-    → fits_sort f (sort_of_input f.model.inputs n) e ≡ true
+    → fits_mapped_sort f (sort_of_input f.model.inputs n) e ≡ true
 input_fits f [] h n e is_e = cc
 input_fits f (x ∷ es) h n e is_e =
     (elim (same_name x.0 n) as
-    (λ t. same_name x.0 n ≡ t → cond t (Some x.1) (entry_of es n) ≡ Some e → fits_sort f (sort_of_input f.model.inputs n) e ≡ true) [
+    (λ t. same_name x.0 n ≡ t → cond t (Some x.1) (entry_of es n) ≡ Some e → fits_mapped_sort f (sort_of_input f.model.inputs n) e ≡ true) [
       | true ↦ λ t some.
           let same : x.1 ≡ e = cc in
-          subst (λ m. fits_sort f (sort_of_input f.model.inputs m) e ≡ true) (same_name_true x.0 n t)
-          (subst (λ g. fits_sort f (sort_of_input f.model.inputs x.0) g ≡ true) same (and_right _ _ (and_left _ _ h)))
+          subst (λ m. fits_mapped_sort f (sort_of_input f.model.inputs m) e ≡ true) (same_name_true x.0 n t)
+          (subst (λ g. fits_mapped_sort f (sort_of_input f.model.inputs x.0) g ≡ true) same (and_right _ _ (and_left _ _ h)))
       | false ↦ λ t some. input_fits f es (and_right _ _ h) n e some
     ]) refl is_e
 
@@ -173,14 +173,14 @@ module _ (f : First) (k : Keeps f) (v : Valuation) (numbers : AreNumbers f v) wh
       (sym (sym (sort_found (states_of f.model.top) n) ∙ is_t))
       (entry_sorted f k v numbers t (entry_of f.map.states n) (state_mapped f.map.states (states_of f.model.top) k.all_states n t is_t)
       (λ e is_e. (state_entry f f.map.states k.states n e is_e).0)
-      (λ e is_e. subst (λ o. fits_sort f o e ≡ true) is_t (sort_entry f f.map.states k.states n e is_e)))
+      (λ e is_e. subst (λ o. fits_mapped_sort f o e ≡ true) is_t (sort_entry f f.map.states k.states n e is_e)))
 
   input_sorted : (n : Name) (t : Sort) → sort_of_input f.model.inputs n ≡ Some t → HasSort (mapped_inputs (setting_of f) v n) t
   input_sorted n t is_t =
       subst (λ o. HasSort (mapped_or_zero (setting_of f) v o (entry_of f.map.inputs n)) t) (sym is_t)
       (entry_sorted f k v numbers t (entry_of f.map.inputs n) (input_mapped f.map.inputs f.model.inputs k.all_inputs n t is_t)
       (λ e is_e. input_entry f f.map.inputs k.inputs n e is_e)
-      (λ e is_e. subst (λ o. fits_sort f o e ≡ true) is_t (input_fits f f.map.inputs k.inputs n e is_e)))
+      (λ e is_e. subst (λ o. fits_mapped_sort f o e ≡ true) is_t (input_fits f f.map.inputs k.inputs n e is_e)))
 
   -- each declared name has a value of its sort at the start
   pub start_sorted : (n : Name) (t : Sort) → declared_sort f n ≡ Some t → HasSort (start_point f v n) t
@@ -294,10 +294,10 @@ is_sorted f h =
     record { states = and_right _ _ (and_left _ _ (and_left _ _ m)); instructions = and_right _ _ m }
 
 updates_at : (f : First) (is : List Instruction) → are_instructions f is ≡ true → (j : ℕ) (i : Instruction) → slice_get is j ≡ Some i
-    → are_updates f (updates_of i) ≡ true
+    → are_updates f (update_entries i) ≡ true
 updates_at f [] h j i e = cc
 updates_at f (x ∷ is) h zero i e =
-    let here : x ≡ i = cc in subst (λ y. are_updates f (updates_of y) ≡ true) here (and_right _ _ (and_left _ _ h))
+    let here : x ≡ i = cc in subst (λ y. are_updates f (update_entries y) ≡ true) here (and_right _ _ (and_left _ _ h))
 updates_at f (x ∷ is) h (suc j) i e = updates_at f is (and_right _ _ h) j i e
 
 update_found : (f : First) (us : Entries Term) → are_updates f us ≡ true → (n : Name) (e : Term) → entry_of us n ≡ Some e
@@ -328,16 +328,16 @@ no_input f (d ∷ ds) h n t e =
 pub result_sorted : (f : First) → IsSorted f → (p : Valuation) → ((n : Name) (t : Sort) → declared_sort f n ≡ Some t → HasSort (p n) t)
     → (j : ℕ) (i : Instruction) → slice_get (instructions_in f.model.top) j ≡ Some i → (n : Name) (t : Sort)
     → state_sort (states_of f.model.top) n ≡ Some t → HasSort (result_at (Some i) p n) t
-result_sorted f rules p sorted j i is_i n t is_t = by_update (entry_of (updates_of i) n) refl
+result_sorted f rules p sorted j i is_i n t is_t = by_update (entry_of (update_entries i) n) refl
   where
     declared : declared_sort f n ≡ Some t
     declared =
         ap (λ b. cond b (sort_of_input f.model.inputs n) (state_sort (states_of f.model.top) n)) (no_input f (states_of f.model.top) rules.states n t is_t)
         ∙ is_t
 
-    by_update : (o : Option Term) → entry_of (updates_of i) n ≡ o → HasSort (models.updated_value o p (p n)) t
+    by_update : (o : Option Term) → entry_of (update_entries i) n ≡ o → HasSort (models.updated_value o p (p n)) t
     by_update None e = sorted n t declared
     by_update (Some u) e =
         term_sorted f p sorted t u
         (subst (λ s. is_term_of f s u ≡ true) is_t
-        (update_found f (updates_of i) (updates_at f (instructions_in f.model.top) rules.instructions j i is_i) n u e))
+        (update_found f (update_entries i) (updates_at f (instructions_in f.model.top) rules.instructions j i is_i) n u e))

@@ -16,14 +16,14 @@ abbrev pub all_names : (Name → Bool) → List Name → Bool
 all_names p [] = true
 all_names p (n ∷ ns) = p n && all_names p ns
 
-abbrev pub is_among : List Name → Name → Bool
-is_among [] n = false
-is_among (m ∷ ms) n = same_name m n || is_among ms n
+abbrev pub is_one_of : List Name → Name → Bool
+is_one_of [] n = false
+is_one_of (m ∷ ms) n = same_name m n || is_one_of ms n
 
 -- no name stands twice
-abbrev pub are_distinct : List Name → Bool
-are_distinct [] = true
-are_distinct (n ∷ ns) = not (is_among ns n) && are_distinct ns
+abbrev pub all_differ : List Name → Bool
+all_differ [] = true
+all_differ (n ∷ ns) = not (is_one_of ns n) && all_differ ns
 
 abbrev pub keys : {A : Type 0} → Entries A → List Name
 keys [] = []
@@ -67,10 +67,10 @@ abbrev pub port_names : List Port → List Name
 port_names [] = []
 port_names (p ∷ ps) = p.own_name ∷ port_names ps
 
-abbrev pub variable_names : List Part → List Name
-variable_names [] = []
-variable_names (register b n ∷ ps) = n ∷ variable_names ps
-variable_names (_ ∷ ps) = variable_names ps
+abbrev pub reg_names : List Part → List Name
+reg_names [] = []
+reg_names (register b n ∷ ps) = n ∷ reg_names ps
+reg_names (_ ∷ ps) = reg_names ps
 
 -- a bound is at most 65535
 abbrev pub has_small_bounds : Bounds → Bool
@@ -103,10 +103,10 @@ variables_agree m (_ ∷ ps) = variables_agree m ps
 -- every declared name, each once
 abbrev pub new_names : List Name → List Name → List Name
 new_names ports [] = []
-new_names ports (n ∷ ns) = cond (is_among ports n) (new_names ports ns) (n ∷ new_names ports ns)
+new_names ports (n ∷ ns) = cond (is_one_of ports n) (new_names ports ns) (n ∷ new_names ports ns)
 
-abbrev pub declared_names : FirstModule → List Name
-declared_names m = port_names m.ports ++ new_names (port_names m.ports) (variable_names m.parts)
+abbrev pub names_declared : FirstModule → List Name
+names_declared m = port_names m.ports ++ new_names (port_names m.ports) (reg_names m.parts)
 
 abbrev pub is_narrow : FirstModule → Name → Bool
 is_narrow m n = nat_le (bits_of_name m n) 128
@@ -131,8 +131,8 @@ terms_read p [] = true
 terms_read p (e ∷ es) = all_names p (term_names e.1) && terms_read p es
 
 -- an output that is no variable
-abbrev pub is_net : First → Name → Bool
-is_net f n = is_data f n && is_output f.design n && not (is_variable f.design n)
+abbrev pub is_net_output : First → Name → Bool
+is_net_output f n = is_data f n && is_output f.design n && not (is_variable f.design n)
 
 abbrev pub is_target : First → Name → Bool
 is_target f n = is_data f n && is_variable f.design n
@@ -154,14 +154,14 @@ is_accepted_module f =
     same_name f.design.own_name f.map.top
     && is_input f.design f.map.clock
     && (bits_of_name f.design f.map.clock == 1)
-    && are_distinct (port_names f.design.ports)
-    && are_distinct (variable_names f.design.parts)
+    && all_differ (port_names f.design.ports)
+    && all_differ (reg_names f.design.parts)
     && ports_are_small f.design.ports
     && variables_are_small f.design.parts
     && variables_agree f.design f.design.parts
-    && all_names (is_narrow f.design) (declared_names f.design)
-    && all_names (is_net f) (keys (assigned f.design))
-    && are_distinct (keys (assigned f.design))
+    && all_names (is_narrow f.design) (names_declared f.design)
+    && all_names (is_net_output f) (keys (assigned f.design))
+    && all_differ (keys (assigned f.design))
     && terms_read (is_source f) (assigned f.design)
     && has_one_block f (blocks_among f.design.parts)
     && all_names (is_kept f.design) (port_names f.design.ports)
@@ -171,22 +171,22 @@ has_dot [] = false
 has_dot (c ∷ cs) = (c == 46) || has_dot cs
 
 -- a plain decimal has 32 bits
-abbrev pub is_plain : Number → Bool
-is_plain k = (k.width == 32) && nat_lt k.value (2 ^ 32)
+abbrev pub is_plain_decimal : Number → Bool
+is_plain_decimal k = (k.width == 32) && nat_lt k.value (2 ^ 32)
 
 -- an expression of the map: a name of the module that is not the clock, or a plain decimal
 abbrev pub is_map_expression : First → Expression → Bool
 is_map_expression f (name n whole) = is_data f n && not (has_dot n)
-is_map_expression f (number k) = is_plain k
+is_map_expression f (number k) = is_plain_decimal k
 is_map_expression f _ = false
 
 abbrev pub map_width : First → Expression → ℕ
 map_width f e = width_of (scope_of_first f.design) e
 
-abbrev pub fits_sort : First → Option Sort → Expression → Bool
-fits_sort f (Some truth) e = map_width f e == 1
-fits_sort f (Some (word w)) e = map_width f e == w
-fits_sort f _ e = false
+abbrev pub fits_mapped_sort : First → Option Sort → Expression → Bool
+fits_mapped_sort f (Some truth) e = map_width f e == 1
+fits_mapped_sort f (Some (word w)) e = map_width f e == w
+fits_mapped_sort f _ e = false
 
 -- reads no input: neither itself nor by its assignment
 abbrev pub term_reads_no_input : First → Option trees.Term → Bool
@@ -205,7 +205,7 @@ state_sort (d ∷ ds) n = cond (same_name d.state_name n) (Some d.sort) (state_s
 abbrev pub states_are_mapped : First → Entries Expression → Bool
 states_are_mapped f [] = true
 states_are_mapped f (e ∷ es) =
-    is_map_expression f e.1 && fits_sort f (state_sort (states_of f.model.top) e.0) e.1 && is_input_free f e.1 && states_are_mapped f es
+    is_map_expression f e.1 && fits_mapped_sort f (state_sort (states_of f.model.top) e.0) e.1 && is_input_free f e.1 && states_are_mapped f es
 
 abbrev pub all_states_mapped : Entries Expression → List StateDeclaration → Bool
 all_states_mapped es [] = true
@@ -214,19 +214,19 @@ all_states_mapped es (d ∷ ds) = is_some (entry_of es d.state_name) && all_stat
 abbrev pub inputs_are_mapped : First → Entries Expression → Bool
 inputs_are_mapped f [] = true
 inputs_are_mapped f (e ∷ es) =
-    is_map_expression f e.1 && fits_sort f (sort_of_input f.model.inputs e.0) e.1 && inputs_are_mapped f es
+    is_map_expression f e.1 && fits_mapped_sort f (sort_of_input f.model.inputs e.0) e.1 && inputs_are_mapped f es
 
 abbrev pub all_inputs_mapped : Entries Expression → List InputDeclaration → Bool
 all_inputs_mapped es [] = true
 all_inputs_mapped es (i ∷ is) = is_some (entry_of es i.input_name) && all_inputs_mapped es is
 
-abbrev pub instruction_names : List Instruction → List Name
-instruction_names [] = []
-instruction_names (i ∷ is) = instruction_name i ∷ instruction_names is
+abbrev pub names_of_instructions : List Instruction → List Name
+names_of_instructions [] = []
+names_of_instructions (i ∷ is) = instruction_name i ∷ names_of_instructions is
 
-abbrev pub entry_names : List InstructionMap → List Name
-entry_names [] = []
-entry_names (e ∷ es) = e.called ∷ entry_names es
+abbrev pub names_of_entries : List InstructionMap → List Name
+names_of_entries [] = []
+names_of_entries (e ∷ es) = e.called ∷ names_of_entries es
 
 -- each entry's commit is an expression, and its bound is 1
 abbrev pub entries_are_accepted : First → List InstructionMap → Bool
@@ -246,9 +246,9 @@ is_accepted_map f =
     && inputs_are_mapped f f.map.inputs
     && all_inputs_mapped f.map.inputs f.model.inputs
     && entries_are_accepted f f.map.instructions
-    && are_distinct (entry_names f.map.instructions)
-    && all_names (is_among (instruction_names (instructions_in f.model.top))) (entry_names f.map.instructions)
-    && all_names (is_among (entry_names f.map.instructions)) (instruction_names (instructions_in f.model.top))
+    && all_differ (names_of_entries f.map.instructions)
+    && all_names (is_one_of (names_of_instructions (instructions_in f.model.top))) (names_of_entries f.map.instructions)
+    && all_names (is_one_of (names_of_entries f.map.instructions)) (names_of_instructions (instructions_in f.model.top))
     && (length f.map.assume == 0)
     && (length f.map.invariants == 0)
 
@@ -288,12 +288,12 @@ abbrev pub are_updates : First → Entries Term → Bool
 are_updates f [] = true
 are_updates f (u ∷ us) = is_term_of f (state_sort (states_of f.model.top) u.0) u.1 && are_updates f us
 
-abbrev pub updates_of : Instruction → Entries Term
-updates_of (instruction called decode update program) = update
+abbrev pub update_entries : Instruction → Entries Term
+update_entries (instruction called decode update program) = update
 
 abbrev pub are_instructions : First → List Instruction → Bool
 are_instructions f [] = true
-are_instructions f (i ∷ is) = is_term_of f (Some truth) (decode_of i) && are_updates f (updates_of i) && are_instructions f is
+are_instructions f (i ∷ is) = is_term_of f (Some truth) (decode_of i) && are_updates f (update_entries i) && are_instructions f is
 
 -- an initial value is one of the state's sort
 abbrev pub is_initial_of : Sort → Option Value → Bool
@@ -320,7 +320,7 @@ is_plain_name (c ∷ cs) = nat_lt c 128 && is_plain_name cs
 
 -- The names that the module declares are of ASCII characters, as all that the grammar allows are.
 abbrev pub has_plain_names : First → Bool
-has_plain_names f = all_names is_plain_name (declared_names f.design)
+has_plain_names f = all_names is_plain_name (names_declared f.design)
 
 abbrev pub is_accepted : First → Bool
 is_accepted f = is_accepted_module f && is_accepted_map f && is_accepted_model f && has_plain_names f

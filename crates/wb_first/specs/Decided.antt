@@ -5,7 +5,7 @@ use Rattle.model_meaning.specs.Model.{Instruction, instruction_name, instruction
 use Rattle.refinement.specs.Map.{InstructionMap, instruction_map, condition_holds, mapped_state, mapped_inputs}
 use Rattle.refinement.specs.Obligation.{Fact, reset_active, reset_inactive, assumed, invariant, start, no_start, decoded, commit, no_commit, initial, same, one_decodes, ends, result_of, never, Obligation, ended_at}
 use Rattle.wb_first.specs.Names.{First, setting_of}
-use Rattle.wb_first.specs.Accepted.{updates_of}
+use Rattle.wb_first.specs.Accepted.{update_entries}
 use Rattle.wb_first.specs.Cycle.{settled, next_registers}
 
 abbrev pub same_value : Value → Value → Bool
@@ -74,7 +74,7 @@ decode_count (j ∷ js) p = cond (holds (decode_of j) p) (suc (decode_count js p
 
 -- the state that instruction number j leaves, at a name
 abbrev pub result_at : Option Instruction → Valuation → Name → Value
-result_at (Some i) p n = updated (updates_of i) p n
+result_at (Some i) p n = updated (update_entries i) p n
 result_at None p n = number 0
 
 -- A fact on concrete values. In this profile hypotheses speak of cycle 0, and claims of cycles 0 and 1.

@@ -7,5 +7,5 @@ use Rattle.first_text.specs.declared.tree.FirstModule.{FirstModule}
 use Rattle.first_text.specs.View.{first_module_of}
 use Rattle.wb_first.specs.Names.{First}
 
-abbrev pub first_of : FirstModel → FirstMap → FirstModule → First
-first_of m p d = record { model = first_model_of m; map = map_of p; design = first_module_of d }
+abbrev pub first_of_parts : FirstModel → FirstMap → FirstModule → First
+first_of_parts m p d = record { model = first_model_of m; map = map_of p; design = first_module_of d }

@@ -6,7 +6,7 @@ use Rattle.first_text.specs.View.{first_module_of}
 use Rattle.first_text.specs.declared.tree.FirstModule.{FirstModule}
 use Rattle.first_tree.specs.Profile.{IsWithinProfile}
 use Rattle.first_json.specs.MapFile.{map_of_bytes}
-use Rattle.first_json.specs.ModelFile.{model_of_bytes}
+use Rattle.first_model.specs.Profile.{model_of_bytes}
 use Rattle.first_json.specs.ModelView.{first_model_of}
 use Rattle.first_json.specs.View.{map_of}
 use Rattle.first_json.specs.declared.model.FirstModel.{FirstModel}
@@ -15,7 +15,7 @@ use Rattle.model_meaning.specs.Model.{Model}
 use Rattle.refinement.specs.Map.{Map}
 use Rattle.wb_first.specs.Names.{First}
 use Rattle.wb_first.specs.Accepted.{is_accepted}
-use Rattle.wb_first.specs.View.{first_of}
+use Rattle.wb_first.specs.View.{first_of_parts}
 use Rattle.model_files.specs.Meaning.{ModelRule, model_reading}
 use Rattle.ila_rules.specs.Rule.{rule_name}
 use Rattle.ila_json.specs.Reading.{refusal_in}
@@ -26,7 +26,7 @@ use Rattle.verilog_text.specs.Grammar.{IsSource, IsTreeOf}
 use Rattle.wb_top.specs.Files.{IsKindOfText, IsFirstKind, IsKind, IsCaseOf, text_kind}
 use Rattle.wb_top.specs.Outcome.{Told, IsChecked, IsReported}
 use Rattle.wb_top.specs.Texts.{not_yet_text}
-use Rattle.wb_top.specs.Judged.{part_of, IsOutside}
+use Rattle.wb_top.specs.Judged.{obstacle_of, IsOutside}
 use Rattle.wb_top.specs.declared.judged.Place.{Place}
 use Rattle.wb_top.specs.declared.judged.Place.TheVariants.{Design, Together}
 use Rattle.wb_top.specs.declared.status.Status.{Status}
@@ -72,7 +72,7 @@ pub not_accepted : (m p : List ℕ) (ds : List (List ℕ)) (ms : Source) (model 
     → ◌≡◌ {A = Option Map} (Some (map_of map)) (map_of_bytes p)
     → IsTreeOf ds ms → ms ≡ module_tree (first_module_of design) ∷ []
     → OneSource → ((a b : PureModule) → module_tree a ≡ module_tree b → a ≡ b)
-    → false ≡ is_accepted (first_of model map design)
+    → false ≡ is_accepted (first_of_parts model map design)
     → (f : First) → ¬ IsCaseOf m p ds f
 not_accepted m p ds ms model map design is_model is_map is_tree is_design one_source one_module refused f case =
     let same_model : first_model_of model ≡ f.model = some_same _ _ (is_model ∙ case.is_model) in
@@ -81,7 +81,7 @@ not_accepted m p ds ms model map design is_model is_map is_tree is_design one_so
     sym is_design ∙ one_tree one_source ds ms (module_tree f.design ∷ []) is_tree case.is_design in
     let same_design : first_module_of design ≡ f.design =
     one_module (first_module_of design) f.design (one_of_list (module_tree (first_module_of design)) (module_tree f.design) same_tree) in
-    let same : first_of model map design ≡ f = λ i. record { model = same_model i; map = same_map i; design = same_design i } in
+    let same : first_of_parts model map design ≡ f = λ i. record { model = same_model i; map = same_map i; design = same_design i } in
     clash (refused ∙ ap is_accepted same ∙ case.accepted)
   where
     clash : ◌≡◌ {A = Bool} false true → ⊥
@@ -109,11 +109,11 @@ pub outside_together : (m p : List ℕ) (ds : List (List ℕ)) (ms : Source) (mo
     → ◌≡◌ {A = Option Map} (Some (map_of map)) (map_of_bytes p)
     → IsTreeOf ds ms → ms ≡ module_tree (first_module_of design) ∷ [] → IsWithinProfile (first_module_of design)
     → OneSource → ((a b : PureModule) → module_tree a ≡ module_tree b → a ≡ b)
-    → false ≡ is_accepted (first_of model map design) → IsOutside m p ds Together
+    → false ≡ is_accepted (first_of_parts model map design) → IsOutside m p ds Together
 outside_together m p ds ms model map design count is_model is_map is_tree is_design within one_source one_module refused = (
   not_accepted m p ds ms model map design is_model is_map is_tree is_design one_source one_module refused,
   (
-    first_of model map design,
+    first_of_parts model map design,
     record {
       is_model = sym is_model;
       is_map = sym is_map;
@@ -129,8 +129,8 @@ outside_together m p ds ms model map design count is_model is_map is_tree is_des
 
 -- Files outside the profile that no kind refuses are refused by what keeps them outside.
 pub refused_outside : (m p : List ℕ) (ds : List (List ℕ)) (place : Place) (budget : ℕ) (told : Told) → IsOutside m p ds place → IsKind m ds None
-    → told.text ≡ not_yet_text (part_of place) → told.spent ≡ [] → IsChecked budget (m ∷ p ∷ ds) Refused told
-refused_outside m p ds place budget told outside unbroken is nothing = (None, unbroken, (outside.0, part_of place, outside.1, is), nothing)
+    → told.text ≡ not_yet_text (obstacle_of place) → told.spent ≡ [] → IsChecked budget (m ∷ p ∷ ds) Refused told
+refused_outside m p ds place budget told outside unbroken is nothing = (None, unbroken, (outside.0, obstacle_of place, outside.1, is), nothing)
 
 -- Files whose tree is a module of the profile, accepted with the model and the map, are a case.
 pub is_case : (m p : List ℕ) (ds : List (List ℕ)) (ms : Source) (f : First) → model_of_bytes m ≡ Some f.model → map_of_bytes p ≡ Some f.map → length ds ≡ 1

@@ -7,7 +7,7 @@ use Rattle.wb_top.specs.declared.status.Status.{Status}
 use Rattle.wb_top.specs.declared.status.Status.TheVariants.{Done, WriteFault, Limit}
 use Rattle.wb_top.specs.Words.{Command}
 use Rattle.wb_top.specs.Files.{first_long}
-use Rattle.wb_top.specs.Outcome.{Told, IsWithin, IsAnswer, IsOutcome, AskForCheck, Headline}
+use Rattle.wb_top.specs.Outcome.{Told, IsWithin, IsAnswer, IsCallOutcome, AskForCheck, Headline}
 
 done_is_no_limit : ◌≡◌ {A = Status} Done Limit → ⊥
 done_is_no_limit h = subst is_done h tt
@@ -23,7 +23,7 @@ same_command a b h = ap (λ o. value_or a o) h
     value_or z None = z
     value_or z (Some w) = w
 
-pub headline_of : (held : Option (Name → Option (List ℕ))) (words : List Name) (text : Told) → IsOutcome held words Done text → AskForCheck words → Headline held words
+pub headline_of : (held : Option (Name → Option (List ℕ))) (words : List Name) (text : Told) → IsCallOutcome held words Done text → AskForCheck words → Headline held words
 headline_of held words text (c, is, contents, are, answer) (check, is_check, budget, verb) =
     within (first_long 0 contents) (subst (λ v. IsAnswer v contents Done text) (ap (λ d. d.verb) (same_command c check (sym is ∙ is_check)) ∙ verb) answer)
   where
@@ -39,8 +39,8 @@ done_is_no_fault h = subst is_done h tt
     is_done _ = ⊥
 
 -- the same from what was answered, which is the outcome's status where the write did not fail
-pub headline_at : (held : Option (Name → Option (List ℕ))) (words : List Name) (status answered : Status) (text : Told) → IsOutcome held words status text
+pub headline_at : (held : Option (Name → Option (List ℕ))) (words : List Name) (status answered : Status) (text : Told) → IsCallOutcome held words status text
     → (answered ≢ WriteFault → answered ≡ status) → AskForCheck words → answered ≡ Done → Headline held words
 headline_at held words status answered text outcome same asks done =
     let no_fault : answered ≢ WriteFault = λ h. done_is_no_fault (sym done ∙ h) in
-    headline_of held words text (subst (λ s. IsOutcome held words s text) (sym (same no_fault) ∙ done) outcome) asks
+    headline_of held words text (subst (λ s. IsCallOutcome held words s text) (sym (same no_fault) ∙ done) outcome) asks

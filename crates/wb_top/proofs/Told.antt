@@ -13,7 +13,7 @@ use Rattle.std.proofs.lemmas.Bool.Decides.{nat_tests}
 use Rattle.wb_top.specs.Files.{most_bytes, has_fitting_length, first_long, AreHeld}
 use Rattle.wb_top.specs.Simulated.{Pair, runs, refused, pair_of, IsSimulated, AreSimulated}
 use Rattle.wb_top.specs.Asked.{wanted_names, AskedAll, AskedSome}
-use Rattle.wb_top.specs.Outcome.{Told, IsEnd, IsWithin, IsAnswer, IsAnswered, IsOutcome}
+use Rattle.wb_top.specs.Outcome.{Told, IsEnd, IsWithin, IsAnswer, IsAnswered, IsCallOutcome}
 use Rattle.wb_top.specs.declared.status.Status.{Status}
 use Rattle.wb_top.specs.declared.status.Status.TheVariants.{Done, Failed, Unknown, Usage, Refused, ReadFault, WriteFault, NoMemory, Limit}
 
@@ -171,7 +171,7 @@ no_end_is_usage None Simulate contents text h = no_simulation_is_usage contents 
 
 -- an answer on files is never about the words
 answered_outcome : (held : Option (Name → Option (List ℕ))) (words : List Name) (status : Status) (text : Told)
-    → IsAnswered held words status text → IsOutcome held words status text
+    → IsAnswered held words status text → IsCallOutcome held words status text
 answered_outcome held words Done text answered = answered
 answered_outcome held words Failed text answered = answered
 answered_outcome held words Unknown text answered = answered
@@ -192,7 +192,7 @@ pub record AsksFor (words : List Name) (verb : Verb) (names : List Name) : Type 
 -- The outcome of a command.
 pub outcome_of_answer : (held : Option (Name → Option (List ℕ))) (words : List Name) (verb : Verb) (names : List Name)
     (contents : List (List ℕ)) (status : Status) (text : Told) → AsksFor words verb names
-    → AreStartsOf held names most_bytes contents → IsAnswer verb contents status text → IsOutcome held words status text
+    → AreStartsOf held names most_bytes contents → IsAnswer verb contents status text → IsCallOutcome held words status text
 outcome_of_answer held words verb names contents status text asks read answer =
     let all : HeldAnswer held asks.command.verb asks.command.files status text =
     held_answer held asks.command.verb asks.command.files contents status text (subst (λ ns. AreStartsOf held ns most_bytes contents) asks.are_names read)

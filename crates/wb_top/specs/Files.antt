@@ -11,7 +11,7 @@ use Rattle.ila_json.specs.Reading.{refusal_in}
 use Rattle.first_text.specs.Tree.{module_tree}
 use Rattle.first_tree.specs.Profile.{IsWithinProfile}
 use Rattle.first_json.specs.MapFile.{map_of_bytes}
-use Rattle.first_json.specs.ModelFile.{model_of_bytes}
+use Rattle.first_model.specs.Profile.{model_of_bytes}
 use Rattle.wb_first.specs.Names.{First}
 use Rattle.wb_first.specs.Accepted.{is_accepted}
 

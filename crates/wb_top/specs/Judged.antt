@@ -5,23 +5,23 @@ use Rattle.wb_first.specs.CaseView.{case_of}
 use Rattle.ila_rules.specs.Rule.{rule_view, rule_name}
 use Rattle.v_lex.specs.Reading.{refusal_of}
 use Rattle.wb_top.specs.Files.{IsCaseOf, IsKind, text_kind}
-use Rattle.wb_top.specs.Profile.{Part, several_designs, model_file, map_file, design_file, all_together, KeepsOutside}
+use Rattle.wb_top.specs.Profile.{Obstacle, several_designs, model_file, map_file, design_file, all_together, KeepsOutside}
 use Rattle.wb_top.specs.declared.judged.Place.{Place}
 use Rattle.wb_top.specs.declared.judged.Place.TheVariants.{Model, Map, Design, Designs, Together}
 use Rattle.wb_top.specs.declared.judged.Judged.{Judged}
 use Rattle.wb_top.specs.declared.judged.Judged.TheVariants.{Case, Outside, Refused, RefusedText, RefusedTree}
 
--- the part that a place of the code stands for
-abbrev pub part_of : Place → Part
-part_of Model = model_file
-part_of Map = map_file
-part_of Design = design_file
-part_of Designs = several_designs
-part_of Together = all_together
+-- the obstacle that a place of the code stands for
+abbrev pub obstacle_of : Place → Obstacle
+obstacle_of Model = model_file
+obstacle_of Map = map_file
+obstacle_of Design = design_file
+obstacle_of Designs = several_designs
+obstacle_of Together = all_together
 
 -- The bytes stand for no case, and this keeps them outside the profile.
 abbrev pub IsOutside : List ℕ → List ℕ → List (List ℕ) → Place → Type 0
-IsOutside m p ds place = ((f : First) → ¬ IsCaseOf m p ds f) × KeepsOutside m p ds (part_of place)
+IsOutside m p ds place = ((f : First) → ¬ IsCaseOf m p ds f) × KeepsOutside m p ds (obstacle_of place)
 
 -- Of files of which no kind refuses one: a case is what the bytes stand for; outside the profile they stand for none.
 abbrev pub IsInProfile : List ℕ → List ℕ → List (List ℕ) → Judged → Type 0

@@ -13,7 +13,7 @@ use Rattle.wb_top.specs.declared.verb.Verb.TheVariants.{Check, Simulate}
 use Rattle.wb_top.specs.Words.{Command, command_of}
 use Rattle.wb_top.specs.Files.{first_long, IsRefusingKind, IsCase, AreHeld}
 use Rattle.wb_top.specs.Simulated.{AreSimulated}
-use Rattle.wb_top.specs.Profile.{Part, KeepFilesOutside}
+use Rattle.wb_top.specs.Profile.{Obstacle, KeepFilesOutside}
 use Rattle.wb_top.specs.Texts.{usage_text, limit_text, IsRefusalBy, not_yet_text}
 use Rattle.wb_top.specs.declared.status.Status.{Status}
 use Rattle.wb_top.specs.declared.status.Status.TheVariants.{Done, Failed, Unknown, Usage, Refused, Limit}
@@ -36,7 +36,7 @@ IsReported f budget _ t = ⊥
 abbrev pub IsRefused : List (List ℕ) → Option (List ℕ) → List ℕ → Type 0
 IsRefused contents (Some kind) text = IsRefusalBy kind text
 IsRefused contents None text =
-    ((f : First) → ¬ IsCase contents f) × (part : Part) × KeepFilesOutside contents part × (text ≡ not_yet_text part)
+    ((f : First) → ¬ IsCase contents f) × (obstacle : Obstacle) × KeepFilesOutside contents obstacle × (text ≡ not_yet_text obstacle)
 
 -- A check of these files, and what it tells.
 abbrev pub IsChecked : (budget : ℕ) → List (List ℕ) → Status → Told → Type 0
@@ -65,19 +65,19 @@ IsAnswered held words status t =
 
 -- The outcome of a call: its status and what it tells, before that is written. Usage: clap does not take the words, so they ask for
 -- no command.
-abbrev pub IsOutcome : Option (Name → Option (List ℕ)) → List Name → Status → Told → Type 0
-IsOutcome held words Usage t = (takes workbench_app words ≡ false) × (command_of words ≡ None) × (t.text ≡ usage_text) × (t.spent ≡ [])
-IsOutcome held words status t = IsAnswered held words status t
+abbrev pub IsCallOutcome : Option (Name → Option (List ℕ)) → List Name → Status → Told → Type 0
+IsCallOutcome held words Usage t = (takes workbench_app words ≡ false) × (command_of words ≡ None) × (t.text ≡ usage_text) × (t.spent ≡ [])
+IsCallOutcome held words status t = IsAnswered held words status t
 
 -- What was written, where it is told, is the text of an outcome with this status, and this is what the outcome shows beside it.
 abbrev pub Wrote : Option (Name → Option (List ℕ)) → List Name → Status → List Spent → (before after : Option (List ℕ)) → Type 0
 Wrote held words status spent before after =
-    (text : List ℕ) × IsOutcome held words status (record { text = text; spent = spent }) × (after ≡ with_appended before text)
+    (text : List ℕ) × IsCallOutcome held words status (record { text = text; spent = spent }) × (after ≡ with_appended before text)
 
 -- A prefix of an outcome's text was written.
 abbrev pub WrotePrefix : Option (Name → Option (List ℕ)) → List Name → List Spent → (before after : Option (List ℕ)) → Type 0
 WrotePrefix held words spent before after =
-    (status : Status) × (text : List ℕ) × IsOutcome held words status (record { text = text; spent = spent }) × GrewByPrefix before after text
+    (status : Status) × (text : List ℕ) × IsCallOutcome held words status (record { text = text; spent = spent }) × GrewByPrefix before after text
 
 -- the words ask for a check
 abbrev pub AskForCheck : List Name → Type 0

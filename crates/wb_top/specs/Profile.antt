@@ -3,21 +3,21 @@ use Rattle.std.specs.Prelude.{◌≡◌, ◌<◌, ℕ, false, List, [], ◌∷�
 use Rattle.first_text.specs.Tree.{FirstModule, module_tree}
 use Rattle.first_tree.specs.Profile.{IsWithinProfile}
 use Rattle.first_json.specs.MapFile.{map_of_bytes}
-use Rattle.first_json.specs.ModelFile.{model_of_bytes}
+use Rattle.first_model.specs.Profile.{model_of_bytes}
 use Rattle.verilog_text.specs.Grammar.{IsTreeOf}
 use Rattle.wb_first.specs.Names.{First}
 use Rattle.wb_first.specs.Accepted.{is_accepted}
 
 -- what keeps the files of a check outside the profile
-pub data Part : Type 0 where
-  several_designs model_file map_file design_file all_together : Part
+pub data Obstacle : Type 0 where
+  several_designs model_file map_file design_file all_together : Obstacle
 
-abbrev pub part_text : Part → List ℕ
-part_text several_designs = codes "more than one Verilog file"
-part_text model_file = codes "the model file"
-part_text map_file = codes "the map file"
-part_text design_file = codes "the Verilog file"
-part_text all_together = codes "the files together"
+abbrev pub obstacle_text : Obstacle → List ℕ
+obstacle_text several_designs = codes "more than one Verilog file"
+obstacle_text model_file = codes "the model file"
+obstacle_text map_file = codes "the map file"
+obstacle_text design_file = codes "the Verilog file"
+obstacle_text all_together = codes "the files together"
 
 -- The one Verilog file has the tree of a module of the profile.
 pub record IsDesign (designs : List (List ℕ)) (design : FirstModule) : Type 0 where
@@ -33,7 +33,7 @@ pub record IsNotAccepted (model_bytes map_bytes : List ℕ) (designs : List (Lis
   pub refused : is_accepted f ≡ false
 
 -- The first of these, in this order, that is so.
-abbrev pub KeepsOutside : (model_bytes map_bytes : List ℕ) → (designs : List (List ℕ)) → Part → Type 0
+abbrev pub KeepsOutside : (model_bytes map_bytes : List ℕ) → (designs : List (List ℕ)) → Obstacle → Type 0
 KeepsOutside m p ds several_designs = 1 < length ds
 KeepsOutside m p ds model_file = (length ds ≡ 1) × (model_of_bytes m ≡ None)
 KeepsOutside m p ds map_file = (length ds ≡ 1) × IsTrue (is_some (model_of_bytes m)) × (map_of_bytes p ≡ None)
@@ -42,6 +42,6 @@ KeepsOutside m p ds design_file =
 KeepsOutside m p ds all_together = (f : First) × IsNotAccepted m p ds f
 
 -- of the files of a check in their order
-abbrev pub KeepFilesOutside : List (List ℕ) → Part → Type 0
-KeepFilesOutside (m ∷ p ∷ ds) part = KeepsOutside m p ds part
-KeepFilesOutside _ part = ⊥
+abbrev pub KeepFilesOutside : List (List ℕ) → Obstacle → Type 0
+KeepFilesOutside (m ∷ p ∷ ds) obstacle = KeepsOutside m p ds obstacle
+KeepFilesOutside _ obstacle = ⊥

@@ -1,7 +1,7 @@
 -- The texts that a call writes beside reports.
 use Rattle.std.specs.Prelude.{◌≡◌, ◌<◌, ◌≤◌, ℕ, Bool, ◌&&◌, nat_le, List, [], ◌∷◌, ◌++◌, length, codes, decimal, IsTrue}
 use Rattle.std.specs.List.{list_all}
-use Rattle.wb_top.specs.Profile.{Part, part_text}
+use Rattle.wb_top.specs.Profile.{Obstacle, obstacle_text}
 
 abbrev pub usage_text : List ℕ
 usage_text = codes "usage" ++ 10 ∷ []
@@ -26,5 +26,5 @@ IsRefusalBy rule text =
     (note : List ℕ) × IsNote note × (text ≡ codes "refused " ++ (rule ++ 10 ∷ (codes "note " ++ (note ++ 10 ∷ []))))
 
 -- what is written of files that are outside the first profile: the kind of the refusal, and what keeps them outside
-abbrev pub not_yet_text : Part → List ℕ
-not_yet_text part = codes "refused N1 NotYet" ++ 10 ∷ (codes "note " ++ (part_text part ++ 10 ∷ []))
+abbrev pub not_yet_text : Obstacle → List ℕ
+not_yet_text obstacle = codes "refused N1 NotYet" ++ 10 ∷ (codes "note " ++ (obstacle_text obstacle ++ 10 ∷ []))

@@ -1,12 +1,14 @@
 //! Whether files are a case of the first profile, and which kind refuses the model file or the Verilog files.
 
-ghost use Rattle.std.specs.Prelude.{◌≡◌, ◌<◌, ◌∷◌, [], None, Ok, IfOk, IfSome, IfNone, map, length};
+ghost use Rattle.std.specs.Prelude.{◌≡◌, ◌<◌, ◌∷◌, [], None, Ok, IfOk, IfSome, IfNone, map, length, option_map};
 ghost use Rattle.model_files.specs.Meaning.{model_reading};
 ghost use Rattle.verilog_text.specs.Text.{tokens_in};
 ghost use Rattle.verilog_text.specs.Grammar.{IsTreeOf};
 ghost use Rattle.first_text.specs.Tree.{FirstModule as PureModule, module_tree};
 ghost use Rattle.first_text.specs.View.{first_module_of};
 ghost use Rattle.first_tree.specs.Profile.{IsWithinProfile};
+ghost use Rattle.first_json.specs.ModelView.{first_model_of};
+ghost use Rattle.first_model.specs.Profile.{model_of_bytes};
 ghost use Rattle.ila_json.specs.Reading.{refusal_in};
 ghost use Rattle.v_token.specs.View.{tokens_of};
 ghost use Rattle.v_syntax.specs.Source.{source_of};
@@ -14,10 +16,11 @@ ghost use Rattle.wb_top.specs.Judged.{IsJudged, IsInProfile};
 
 use crate::stop::NoMemory;
 use first_accept::accept;
-use first_json::{read_map, read_model};
+use first_json::{FirstModel, read_map};
+use first_model::read_first_model;
 use first_text::FirstModule;
 use first_tree::{first_module, one_module};
-use ila_json::model_refusal;
+use ila_json::ModelStop;
 use ila_rules::ModelRefusal;
 use std::alloc::{AllocError, Global};
 use v_lex::{LexRefusal, LexStop, Note, note_at, tokens};
@@ -65,45 +68,50 @@ pub(crate) fn judge(
     requires { 0 < length designs.now }
     ensures { IfOk result (IsJudged model.now map_file.now (map (λ d. d.items) designs.now)) }
 {
-    match model_refusal(alloc, model)? {
-        Some(refusal) => Ok(Judged::Refused(refusal)),
-        None => of_text(alloc, model, map_file, designs),
+    match read_first_model(alloc, model) {
+        Ok(first) => of_text(alloc, model, first, map_file, designs),
+        Err(ModelStop::Refused(refusal)) => Ok(Judged::Refused(refusal)),
+        Err(ModelStop::NoMemory) => Err(AllocError),
     }
 }
 
-/// Judges the bytes of files whose model file breaks no rule.
+/// Judges the bytes of files whose model file breaks no rule and has this model, if it is in the profile.
 fn of_text(
     alloc: Global,
     model: &[u8],
+    first: Option<FirstModel>,
     map_file: &[u8],
     designs: &[Vec<u8>],
 ) -> Result<Judged, NoMemory>
     requires some { 0 < length designs.now }
     requires unbroken { refusal_in (model_reading model.now) ≡ None }
+    requires is_read { option_map first_model_of first ≡ model_of_bytes model.now }
     ensures { IfOk result (IsJudged model.now map_file.now (map (λ d. d.items) designs.now)) }
 {
     match tokens(alloc, designs) {
-        Ok(tokens) => of_tokens(alloc, model, map_file, designs, &tokens),
+        Ok(tokens) => of_tokens(alloc, model, first, map_file, designs, &tokens),
         Err(LexStop::Refused(refusal)) => Ok(Judged::RefusedText(refusal)),
         Err(LexStop::NoMemory) => Err(AllocError),
     }
 }
 
-/// Judges the bytes of files whose model file breaks no rule, and whose Verilog files have these tokens.
+/// The same of files whose Verilog files have these tokens.
 fn of_tokens(
     alloc: Global,
     model: &[u8],
+    first: Option<FirstModel>,
     map_file: &[u8],
     designs: &[Vec<u8>],
     tokens: &[Token<'_>],
 ) -> Result<Judged, NoMemory>
     requires some { 0 < length designs.now }
     requires unbroken { refusal_in (model_reading model.now) ≡ None }
+    requires is_read { option_map first_model_of first ≡ model_of_bytes model.now }
     requires are_tokens { tokens_in (map (λ d. d.items) designs.now) ≡ Ok (tokens_of tokens.now) }
     ensures { IfOk result (IsJudged model.now map_file.now (map (λ d. d.items) designs.now)) }
 {
     match parse(alloc, tokens) {
-        Ok(tree) => in_profile(alloc, model, map_file, designs, &tree),
+        Ok(tree) => in_profile(alloc, model, first, map_file, designs, &tree),
         Err(ParseStop::Refused(left)) => {
             let token = tokens.get(tokens.len().saturating_sub(left)).copied();
             match note_at(alloc, designs, token) {
@@ -115,37 +123,41 @@ fn of_tokens(
     }
 }
 
-/// Judges the bytes of files whose model file breaks no rule, and whose Verilog files have this tree.
+/// The same of files whose Verilog files have this tree.
 fn in_profile(
     alloc: Global,
     model: &[u8],
+    first: Option<FirstModel>,
     map_file: &[u8],
     designs: &[Vec<u8>],
     tree: &Tree<'_>,
 ) -> Result<Judged, NoMemory>
     requires some { 0 < length designs.now }
+    requires is_read { option_map first_model_of first ≡ model_of_bytes model.now }
     requires is_tree { IsTreeOf (map (λ d. d.items) designs.now) (source_of tree.now) }
     ensures { IfOk result (IsInProfile model.now map_file.now (map (λ d. d.items) designs.now)) }
 {
     if designs.len() != 1 {
         return Ok(Judged::Outside(Place::Designs));
     }
-    one_in_profile(alloc, model, map_file, designs, tree)
+    one_in_profile(alloc, model, first, map_file, designs, tree)
 }
 
 /// The same of files of which one is a Verilog file.
 fn one_in_profile(
     alloc: Global,
     model: &[u8],
+    first: Option<FirstModel>,
     map_file: &[u8],
     designs: &[Vec<u8>],
     tree: &Tree<'_>,
 ) -> Result<Judged, NoMemory>
     requires one { length designs.now ≡ 1 }
+    requires is_read { option_map first_model_of first ≡ model_of_bytes model.now }
     requires is_tree { IsTreeOf (map (λ d. d.items) designs.now) (source_of tree.now) }
     ensures { IfOk result (IsInProfile model.now map_file.now (map (λ d. d.items) designs.now)) }
 {
-    let Some(model) = read_model(alloc, model)? else {
+    let Some(model) = first else {
         return Ok(Judged::Outside(Place::Model));
     };
     let Some(map) = read_map(alloc, map_file)? else {

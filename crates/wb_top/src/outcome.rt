@@ -2,7 +2,7 @@
 
 ghost use Rattle.std.specs.Prelude.{◌≡◌, ◌≢◌, ◌≤◌, IfOk, OnOk, OnErr, IsErrOf, IsSome, map, string_bytes};
 ghost use Rattle.wb_outside.specs.Outside.{Rose, next_count, with_appended, GrewByPrefix};
-ghost use Rattle.wb_top.specs.Outcome.{IsOutcome};
+ghost use Rattle.wb_top.specs.Outcome.{IsCallOutcome};
 ghost use Rattle.wb_top.specs.Showing.{told_of};
 ghost use Rattle.wb_top.specs.Words.{command_of};
 ghost use Rattle.wb_top.specs.Asked.{AskedAll, AskedSome};
@@ -27,7 +27,7 @@ pub(crate) fn outcome<S: Shelf>(
     shelf: &mut S,
 ) -> Result<Outcome, Stop>
     ensures keeps { S.holds shelf.new ≡ S.holds shelf.old }
-    ensures outcome { IfOk result (λ o. IsOutcome (S.holds shelf.old) (map string_bytes words.now) o.status (told_of o)) }
+    ensures outcome { IfOk result (λ o. IsCallOutcome (S.holds shelf.old) (map string_bytes words.now) o.status (told_of o)) }
     ensures ok_asked { OnOk result (AskedAll (command_of (map string_bytes words.now)) (S.asked shelf.old) (S.asked shelf.new)) }
     ensures err_asked { OnErr result (AskedSome (command_of (map string_bytes words.now)) (S.asked shelf.old) (S.asked shelf.new)) }
     ensures never_falls { S.faults shelf.old ≤ S.faults shelf.new }

@@ -5,7 +5,7 @@ ghost use Rattle.ila_rules.specs.Rule.{rule_view, rule_name};
 ghost use Rattle.ila_sim.specs.Scripts.{name_of_kind};
 ghost use Rattle.v_lex.specs.Reading.{refusal_of};
 ghost use Rattle.wb_top.specs.Files.{text_kind};
-ghost use Rattle.wb_top.specs.Judged.{part_of};
+ghost use Rattle.wb_top.specs.Judged.{obstacle_of};
 ghost use Rattle.wb_top.specs.Texts.{usage_text, limit_text, IsRefusalBy, not_yet_text};
 
 use crate::judged::Place;
@@ -128,13 +128,13 @@ pub(crate) fn limit(alloc: Global, number: usize) -> Result<Vec<u8>, NoMemory>
 
 /// The text for files that are not accepted yet.
 pub(crate) fn refusal(alloc: Global, place: Place) -> Result<Vec<u8>, NoMemory>
-    ensures { IfOk result (λ text. text.items ≡ not_yet_text (part_of place)) }
+    ensures { IfOk result (λ text. text.items ≡ not_yet_text (obstacle_of place)) }
 {
     Vec::from_slice(alloc, refusal_text(place))
 }
 
 fn refusal_text(place: Place) -> &'static [u8]
-    ensures { result.now ≡ not_yet_text (part_of place) }
+    ensures { result.now ≡ not_yet_text (obstacle_of place) }
 {
     match place {
         Place::Model => b"refused N1 NotYet\nnote the model file\n",

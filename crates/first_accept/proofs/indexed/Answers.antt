@@ -3,7 +3,7 @@ use Rattle.wb_values.specs.Value.{entry_of}
 use Rattle.refinement.specs.Map.{sort_of_input}
 use Rattle.wb_values.specs.Choice.{first_of}
 use Rattle.wb_first.specs.Names.{port_named, is_variable_among, assigned_among}
-use Rattle.wb_first.specs.Accepted.{is_among, set_names, state_sort}
+use Rattle.wb_first.specs.Accepted.{is_one_of, set_names, state_sort}
 use Rattle.first_json.specs.ModelView.{state_view, input_view}
 use Rattle.first_text.specs.View.{first_module_of, port_of, part_of, action_of}
 use Rattle.first_accept.specs.Known.{texts, port_bounds, variable_bounds}
@@ -23,7 +23,7 @@ invariant_of-result c =
       finds_variables = λ q. c.in_ok-variables.ensures q ∙ ap (λ ps. is_variable_among (map part_of ps) q) c.deref-4.ensures.value;
       finds_registers = λ q.
           c.in_ok-registers.ensures q
-          ∙ (ap (λ ns. is_among ns q) (ap texts c.as_slice.ensures.value ∙ names)
+          ∙ (ap (λ ns. is_one_of ns q) (ap texts c.as_slice.ensures.value ∙ names)
           ∙ sym (registers_of (first_module_of c.args.design.now).parts (action_of c.args.action.now) c.requires q));
       finds_terms = λ q. c.in_ok-terms.ensures q ∙ ap (λ ps. entry_of (assigned_among (map part_of ps)) q) c.deref-5.ensures.value;
       finds_states = λ q. c.in_ok-states.ensures q ∙ ap (λ ss. state_sort (map state_view ss) q) c.deref-6.ensures.value;

@@ -1,6 +1,6 @@
 use Rattle.std.proofs.Common.{List, map, subst, arith}
 use Rattle.std.proofs.lemmas.List.{length-map}
-use Rattle.first_facts.specs.View.{obligation_of}
+use Rattle.first_terms.specs.Claims.{obligation_of}
 use Rattle.wb_first.specs.CaseView.{case_of}
 use Rattle.first_check.specs.Found.{AreFound, AreCovered}
 use Rattle.first_check.specs.declared.names.BitName.{BitName}

@@ -1,6 +1,6 @@
 use Rattle.std.proofs.Common.{sym, subst}
 use Rattle.wb_first.specs.CaseView.{case_of}
-use Rattle.first_facts.specs.View.{obligation_of}
+use Rattle.first_terms.specs.Claims.{obligation_of}
 use Rattle.first_check.specs.Bits.{AreBitNames}
 use Rattle.first_check.proofs.Verdicts.{verdict}
 use Rattle.first_check.proofs.deciding.find_obligation.Goals as goal

@@ -2,7 +2,7 @@ use Rattle.std.proofs.Common.{◌≡◌, ◌∙◌, ◌+◌, map, ap, length, So
 use Rattle.std.specs.Prelude.{slice_get}
 use Rattle.std.proofs.lemmas.List.{length_push}
 use Rattle.std.proofs.lemmas.Option.{slice_get-map}
-use Rattle.first_facts.specs.View.{obligation_of}
+use Rattle.first_terms.specs.Claims.{obligation_of}
 use Rattle.wb_first.specs.CaseView.{case_of}
 use Rattle.first_check.proofs.Verdicts.{element_at, found_more}
 use Rattle.first_check.proofs.deciding.find_obligations.Goals as goal

@@ -1,5 +1,5 @@
 use Rattle.std.proofs.Common.{◌≡◌, map, length}
-use Rattle.first_facts.specs.View.{obligation_of}
+use Rattle.first_terms.specs.Claims.{obligation_of}
 use Rattle.first_terms.specs.Ready.{IsReady}
 use Rattle.wb_first.specs.CaseView.{case_of}
 use Rattle.first_check.specs.Found.{AreFound}

@@ -1,5 +1,5 @@
 use Rattle.std.proofs.Common.{◌∙◌, ap, arith, length, ◌<◌}
-use Rattle.wb_first.specs.Accepted.{is_among}
+use Rattle.wb_first.specs.Accepted.{is_one_of}
 use Rattle.wb_first.specs.CaseView.{case_of}
 use Rattle.first_trace.specs.Traced.{Names}
 use Rattle.first_trace.proofs.Inserted.{registers_among}
@@ -9,7 +9,7 @@ use Rattle.first_check.proofs.names.bit_names.Goals as goal
 pub bit_name-requires-clause-registers : goal.bit_name-requires-clause-registers
 bit_name-requires-clause-registers c =
     λ n. c.in_ok-registers.ensures n
-    ∙ (ap (λ ns. is_among ns n) (c.registers.ensures ∙ ap (λ (q : Names). q.registers) c.requires.traced)
+    ∙ (ap (λ ns. is_one_of ns n) (c.registers.ensures ∙ ap (λ (q : Names). q.registers) c.requires.traced)
     ∙ registers_among (case_of c.args.case.now).design.parts n)
 
 pub loop-place-preserved : goal.loop-place-preserved

@@ -3,8 +3,8 @@ use Rattle.std.specs.Prelude.{count_by}
 use Rattle.std.proofs.lemmas.List.{length-map}
 use Rattle.refinement.specs.Obligation.{obligations}
 use Rattle.first_json.specs.ModelView.{instruction_view}
-use Rattle.first_facts.specs.View.{obligation_of}
-use Rattle.first_facts.specs.declared.facts.Obligation.{Obligation}
+use Rattle.first_terms.specs.Claims.{obligation_of}
+use Rattle.first_terms.specs.declared.claims.Obligation.{Obligation}
 use Rattle.first_trace.specs.Traced.{Names, names_of}
 use Rattle.wb_first.specs.CaseView.{case_of}
 use Rattle.first_report.specs.Lines.{verdict_lines_by, cover_lines_by}

@@ -1,5 +1,5 @@
 use Rattle.std.proofs.Common.{◌≡◌, ◌++◌, map, drop}
-use Rattle.first_facts.specs.View.{obligation_of}
+use Rattle.first_terms.specs.Claims.{obligation_of}
 use Rattle.first_report.specs.Lines.{verdict_lines_by}
 use Rattle.first_report.proofs.lines.append_verdicts.Given as goal
 

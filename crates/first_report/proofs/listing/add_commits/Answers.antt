@@ -2,7 +2,7 @@ use Rattle.std.proofs.Common.{ℕ, ◌<◌, ◌++◌, length, ap, ◌∙◌, ari
 use Rattle.refinement.specs.Obligation.{Obligation, commit, result_of}
 use Rattle.wb_values.specs.Value.{Name}
 use Rattle.first_json.specs.ModelView.{state_view}
-use Rattle.first_facts.specs.View.{obligation_of}
+use Rattle.first_terms.specs.Claims.{obligation_of}
 use Rattle.first_report.specs.Listed.{commit_lines, started_with}
 use Rattle.first_report.proofs.Lists.{pushed, cut, step}
 use Rattle.first_report.proofs.listing.add_commits.Goals as goal

@@ -1,6 +1,6 @@
 use Rattle.std.proofs.Common.{◌≡◌, ◌++◌, map, drop}
 use Rattle.first_json.specs.ModelView.{state_view, instruction_view}
-use Rattle.first_facts.specs.View.{obligation_of}
+use Rattle.first_terms.specs.Claims.{obligation_of}
 use Rattle.first_report.specs.Listed.{instructions_lines}
 use Rattle.first_report.proofs.listing.add_instructions.Given as goal
 

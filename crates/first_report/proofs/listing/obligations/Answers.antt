@@ -1,6 +1,6 @@
 use Rattle.std.proofs.Common.{◌++◌, map, sym, ap, ◌∙◌}
 use Rattle.first_json.specs.ModelView.{state_view, instruction_view}
-use Rattle.first_facts.specs.View.{obligation_of}
+use Rattle.first_terms.specs.Claims.{obligation_of}
 use Rattle.first_report.specs.Listed.{initial_lines, idle_lines, decode_line, instructions_lines}
 use Rattle.first_report.proofs.Lists.{pushed, gathered}
 use Rattle.first_report.proofs.Claimed.{lines}

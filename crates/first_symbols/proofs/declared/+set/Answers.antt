@@ -1,7 +1,7 @@
 use Rattle.std.proofs.Common.{◌≡◌, ◌||◌, ap, sym, ◌∙◌}
 use Rattle.wb_first.specs.Names.{sets, one_sets}
 use Rattle.first_text.specs.View.{action_of, actions_of}
-use Rattle.first_cycle.proofs.Actions.{action_of-Block}
+use Rattle.first_symbols.proofs.Actions.{action_of-Block}
 use Rattle.first_symbols.specs.Table.{has_name}
 use Rattle.first_symbols.proofs.declared.+set.Goals as goal
 

@@ -1,7 +1,7 @@
 use Rattle.std.proofs.Common.{◌≡◌, ℕ, List, map, drop}
 use Rattle.wb_values.specs.Choice.{first_of}
 use Rattle.first_symbols.specs.Table.{under_name}
-use Rattle.first_cycle.specs.Widths.{port_bounds}
+use Rattle.first_symbols.specs.Widths.{port_bounds}
 use Rattle.first_text.specs.View.{port_of, bounds_of}
 use Rattle.first_symbols.proofs.declared.bounds_of_ports.Given as goal
 

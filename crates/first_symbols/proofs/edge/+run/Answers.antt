@@ -4,9 +4,9 @@ use Rattle.wb_values.specs.Value.{truth}
 use Rattle.first_text.specs.Tree as trees
 use Rattle.first_text.specs.View.{term_of, action_of, actions_of}
 use Rattle.wb_first.specs.Accepted.{read_names, all_read_names}
-use Rattle.first_cycle.specs.Updates.{updates_in, all_updates_in}
+use Rattle.first_symbols.specs.Actions.{updates_in, all_updates_in}
 use Rattle.first_text.specs.declared.tree.Action.{the_lemmas}
-use Rattle.first_cycle.proofs.Actions.{action_of-Block}
+use Rattle.first_symbols.proofs.Actions.{action_of-Block}
 use Rattle.first_store.proofs.Growing.{Grows-trans, IsOfSort-kept}
 use Rattle.first_symbols.specs.Table.{ids_of}
 use Rattle.first_symbols.proofs.Standing.{AreWords-kept}

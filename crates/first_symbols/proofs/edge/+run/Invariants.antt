@@ -1,7 +1,7 @@
 use Rattle.std.proofs.Common.{drop}
 use Rattle.first_text.specs.View.{actions_of}
 use Rattle.wb_first.specs.Accepted.{all_read_names}
-use Rattle.first_cycle.specs.Updates.{all_updates_in}
+use Rattle.first_symbols.specs.Actions.{all_updates_in}
 use Rattle.first_symbols.specs.Table.{ids_of}
 use Rattle.first_symbols.proofs.Walked.{IsGoing}
 use Rattle.first_symbols.proofs.edge.+run.Given as goal

@@ -1,7 +1,7 @@
 use Rattle.std.proofs.Common.{◌&&◌, not}
 use Rattle.wb_values.specs.Value.{truth, truth_value}
 use Rattle.first_text.specs.View.{term_of}
-use Rattle.first_cycle.specs.Terms.{is_true_at}
+use Rattle.first_symbols.specs.Terms.{is_true_at}
 use Rattle.first_store.proofs.Growing.{Grows-trans, IsOfSort-kept, Means-kept}
 use Rattle.first_symbols.proofs.edge.branch_guards.Goals as goal
 

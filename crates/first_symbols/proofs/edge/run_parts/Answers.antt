@@ -2,7 +2,7 @@ use Rattle.std.proofs.Common.{drop, map, arith, refl}
 use Rattle.std.proofs.Math.ListN.{drop_of_length-le}
 use Rattle.wb_values.specs.Value.{truth}
 use Rattle.first_text.specs.View.{part_of}
-use Rattle.first_cycle.specs.Updates.{part_updates, block_updates}
+use Rattle.first_symbols.specs.Actions.{part_updates, block_updates}
 use Rattle.first_store.proofs.Growing.{IsOfSort-kept}
 use Rattle.first_symbols.specs.Table.{ids_of}
 use Rattle.first_symbols.specs.Updates.{part_reads, block_reads}

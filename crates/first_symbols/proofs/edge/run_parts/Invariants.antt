@@ -1,6 +1,6 @@
 use Rattle.std.proofs.Common.{drop, map}
 use Rattle.first_text.specs.View.{part_of}
-use Rattle.first_cycle.specs.Updates.{block_updates}
+use Rattle.first_symbols.specs.Actions.{block_updates}
 use Rattle.first_symbols.specs.Table.{ids_of}
 use Rattle.first_symbols.specs.Updates.{block_reads}
 use Rattle.first_symbols.proofs.Walked.{IsGoing}

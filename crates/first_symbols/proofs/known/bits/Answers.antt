@@ -1,7 +1,7 @@
 use Rattle.std.proofs.Common.{◌≤◌, ◌∙◌, ap, sym, subst}
 use Rattle.wb_first.specs.CaseView.{case_of}
-use Rattle.first_cycle.specs.Widths.{bounds_width, AreSmallBounds}
-use Rattle.first_cycle.proofs.Ranges.{bounds_small, bits_are, bits_narrow}
+use Rattle.first_symbols.specs.Widths.{bounds_width, AreSmallBounds}
+use Rattle.first_symbols.proofs.Ranges.{bounds_small, bits_are, bits_narrow}
 use Rattle.first_symbols.proofs.known.bits.Goals as goal
 
 pub width-requires : goal.width-requires

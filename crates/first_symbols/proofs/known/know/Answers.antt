@@ -3,7 +3,7 @@ use Rattle.wb_values.specs.Value.{entry_of}
 use Rattle.wb_values.specs.Choice.{first_of}
 use Rattle.wb_first.specs.Names.{port_named, is_set_among, assigned_among}
 use Rattle.first_text.specs.View.{port_of, part_of}
-use Rattle.first_cycle.specs.Widths.{port_bounds, part_bounds}
+use Rattle.first_symbols.specs.Widths.{port_bounds, part_bounds}
 use Rattle.first_symbols.proofs.known.know.Goals as goal
 
 pub invariant_of-result : goal.invariant_of-result

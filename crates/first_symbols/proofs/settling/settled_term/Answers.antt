@@ -4,7 +4,7 @@ use Rattle.first_text.specs.View.{term_of}
 use Rattle.wb_first.specs.CaseView.{case_of}
 use Rattle.wb_first.specs.Names.{bits_of_name, assigned}
 use Rattle.wb_first.specs.Cycle.{held, settled}
-use Rattle.first_cycle.specs.Terms.{assigned_at}
+use Rattle.first_symbols.specs.Terms.{assigned_at}
 use Rattle.first_symbols.specs.Table.{ids_of}
 use Rattle.first_symbols.specs.Standing.{StandsFor}
 use Rattle.first_symbols.proofs.Standing.{width_at_most, same_width, StandsFor-same}

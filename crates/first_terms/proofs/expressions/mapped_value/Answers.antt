@@ -4,7 +4,7 @@ use Rattle.first_terms.proofs.MapExpressions.{mapped_truth, mapped_word}
 use Rattle.std.proofs.Common.{sym, subst}
 use Rattle.std.proofs.lemmas.Result.{IfOk-weaker}
 use Rattle.std.proofs.Common.{◌≡◌, true, Some}
-use Rattle.wb_first.specs.Accepted.{fits_sort}
+use Rattle.wb_first.specs.Accepted.{fits_mapped_sort}
 use Rattle.first_json.specs.ModelView.{sort_view}
 use Rattle.first_json.specs.View.{expression_of}
 use Rattle.first_store.specs.Meaning.{Means}
@@ -35,5 +35,5 @@ returns-in-Word-clause-meaning c = IfOk-weaker c.number.result _ _
     (λ id m f values r h.
     subst (λ (s : FirstSort). Means f c.number.new.terms id.0 (sort_view s) (mapped_at f values (sort_view s) (expression_of c.args.expression.now))) (sym c.in-Word.is)
     (mapped_word f c.number.new.terms values (expression_of c.args.expression.now) id.0 c.in-Word.field-0
-    (subst (λ (s : FirstSort). fits_sort f (Some (sort_view s)) (expression_of c.args.expression.now) ≡ true) c.in-Word.is h) (m f values r)))
+    (subst (λ (s : FirstSort). fits_mapped_sort f (Some (sort_view s)) (expression_of c.args.expression.now) ≡ true) c.in-Word.is h) (m f values r)))
     c.number.ensures.meaning

@@ -1,10 +1,10 @@
-use Rattle.first_facts.specs.declared.facts.Fact.{Fact}
+use Rattle.first_terms.specs.declared.claims.Fact.{Fact}
 use Rattle.first_terms.proofs.FactParts.{reset_met, no_reset_met, start_met, no_start_met, no_commit_met, commit_met, never_met}
 use Rattle.std.proofs.Common.{sym, subst}
 use Rattle.std.proofs.lemmas.Result.{IfOk-weaker}
 use Rattle.first_store.proofs.Growing.{Grows-refl, Grows-trans}
 -- NOTE from the lead, 14:46: to be in time, helper 8 (/tmp/h8) proves the module facts; leave it, prove expressions, mapping, modelled, decoding (in this order), keep the lemma files as they are or only add to them, and commit those modules' proofs when done.
-use Rattle.first_facts.specs.View.{fact_of}
+use Rattle.first_terms.specs.Claims.{fact_of}
 use Rattle.first_store.specs.Meaning.{MeansTruth}
 use Rattle.first_terms.specs.Asked.{met_at}
 use Rattle.first_terms.specs.Read.{IsOwn}

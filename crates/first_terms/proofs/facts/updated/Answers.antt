@@ -1,6 +1,6 @@
 use Rattle.first_terms.specs.Asked.{state_before, term_at}
 use Rattle.first_terms.proofs.SortKinds.{own_state}
-use Rattle.wb_first.specs.Accepted.{updates_of}
+use Rattle.wb_first.specs.Accepted.{update_entries}
 use Rattle.first_terms.specs.Tables.{under_name}
 use Rattle.std.proofs.Common.{Bor}
 use Rattle.first_json.specs.declared.model.FirstTerm.{FirstTerm}
@@ -20,7 +20,7 @@ use Rattle.first_terms.proofs.facts.updated.Goals as goal
 pub model_term-requires : goal.model_term-requires
 model_term-requires c = let r = c.requires in
     let e = (ap (option_map (λ (e : Bor FirstTerm). term_view e.now)) (c.in-Some.ensures.value ∙ ap (under_name c.args.instruction.now.updates) c.as_bytes.ensures.value) ∙ r.3.prepared.updates c.args.name.now) in
-    (r.0, r.1, update_term r.0 r.3.accepted (updates_of r.2) r.3.updates c.args.name.now r.1 r.3.sort (term_view c.in-Some.term.now.now) (sym e), r.3.point)
+    (r.0, r.1, update_term r.0 r.3.accepted (update_entries r.2) r.3.updates c.args.name.now r.1 r.3.sort (term_view c.in-Some.term.now.now) (sym e), r.3.point)
 
 pub state-requires : goal.state-requires
 state-requires c = let r = c.requires in (r.0, c.args.terms.now, r.1, r.3.point, subst (λ n. state_sort (states_of r.0.model.top) n ≡ Some r.1) (sym c.as_bytes-in-None.ensures.value) r.3.sort)
@@ -34,7 +34,7 @@ returns-in-Some-clause-meaning c = IfOk-weaker c.model_term.result _ _
     let e = (ap (option_map (λ (e : Bor FirstTerm). term_view e.now)) (c.in-Some.ensures.value ∙ ap (under_name c.args.instruction.now.updates) c.as_bytes.ensures.value) ∙ u.prepared.updates c.args.name.now) in
     let t = term_view c.in-Some.term.now.now in
     Means-same f c.model_term.new.terms id.0 s (term_at f t) (result_of_at f (Some i) c.args.name.now) (λ x fits. result_update f i c.args.name.now t (sym e) x)
-    (m f s (update_term f u.accepted (updates_of i) u.updates c.args.name.now s u.sort t (sym e)) u.point))
+    (m f s (update_term f u.accepted (update_entries i) u.updates c.args.name.now s u.sort t (sym e)) u.point))
     c.model_term.ensures.meaning
 
 pub returns-in-None-clause-grows : goal.returns-in-None-clause-grows

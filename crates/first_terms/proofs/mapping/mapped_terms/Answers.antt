@@ -14,7 +14,7 @@ use Rattle.first_terms.proofs.Items.{left_item, left_none}
 use Rattle.std.proofs.Common.{arith, sym, ap, ◌∙◌, subst}
 use Rattle.first_store.proofs.Growing.{Grows-refl, Grows-trans}
 use Rattle.std.proofs.Common.{◌≡◌, true, Some, map, option_map, string_bytes, ◌+◌, List}
-use Rattle.wb_first.specs.Accepted.{fits_sort}
+use Rattle.wb_first.specs.Accepted.{fits_mapped_sort}
 use Rattle.first_json.specs.ModelView.{sort_view}
 use Rattle.first_json.specs.View.{expression_of, entry_of_mapped}
 use Rattle.first_symbols.specs.Table.{ids_of}
@@ -45,7 +45,7 @@ loop-entry-preserved c = record {
       let m = string_bytes c.entry-item.result.name in
       let fits = and_right _ _ (and_left _ _ t) in
       let s = sort_there f (option_map sort_view (under_name c.args.sorts.now m)) e fits in
-      let means = c.in_ok-term.ensures.meaning f values s.0 (record { accepted = r.accepted; symbols = symbols_grown f (ids_of c.args.symbols.now) values c.loop-entry.invariant.grows r.symbols; expression = and_left _ _ (and_left _ _ (subst (λ (es : List Mapped). are_mapped f (λ q. option_map sort_view (under_name c.args.sorts.now q)) (map entry_of_mapped es) ≡ true) (left_item c.args.entries.now c.loop-entry.entry-index c.entry-item.result c.loop-entry-test.true c.entry-item.is) (c.loop-entry.invariant.filled f values r).0)) }) s.1 (subst (λ o. fits_sort f o e ≡ true) s.1 fits) in (
+      let means = c.in_ok-term.ensures.meaning f values s.0 (record { accepted = r.accepted; symbols = symbols_grown f (ids_of c.args.symbols.now) values c.loop-entry.invariant.grows r.symbols; expression = and_left _ _ (and_left _ _ (subst (λ (es : List Mapped). are_mapped f (λ q. option_map sort_view (under_name c.args.sorts.now q)) (map entry_of_mapped es) ≡ true) (left_item c.args.entries.now c.loop-entry.entry-index c.entry-item.result c.loop-entry-test.true c.entry-item.is) (c.loop-entry.invariant.filled f values r).0)) }) s.1 (subst (λ o. fits_mapped_sort f o e ≡ true) s.1 fits) in (
         and_right _ _ t,
         λ n.
             subst (IsFilled f c.entry_term.new.terms values (λ q. option_map sort_view (under_name c.args.sorts.now q)) (map entry_of_mapped c.args.entries.now) (map entry_of_mapped (drop (c.loop-entry.entry-index + 1) c.args.entries.now)) n)

@@ -1,6 +1,6 @@
 use Rattle.first_terms.proofs.Items.{get_or-any}
 use Rattle.wb_values.specs.Value.{truth}
-use Rattle.first_facts.specs.declared.facts.Fact.{Fact}
+use Rattle.first_terms.specs.declared.claims.Fact.{Fact}
 use Rattle.std.proofs.Common.{List, slice_index_or}
 use Rattle.first_terms.proofs.Moved.{case_grown}
 use Rattle.first_terms.proofs.Counted.{AreMet, met_start, met_turn, met_end}
@@ -10,7 +10,7 @@ use Rattle.std.proofs.Common.{arith, subst}
 use Rattle.first_store.proofs.Growing.{Grows-trans, Means-kept, IsOfSort-kept}
 -- NOTE from the lead, 14:46: to be in time, the lead (/tmp/me4) proves the module obligations; leave it, prove expressions, mapping, modelled, decoding (in this order), keep the lemma files as they are or only add to them, and commit those modules' proofs when done.
 use Rattle.std.proofs.Common.{map, ◌+◌, List, slice_index_or}
-use Rattle.first_facts.specs.View.{fact_of}
+use Rattle.first_terms.specs.Claims.{fact_of}
 use Rattle.first_terms.proofs.obligations.all_met.Goals as goal
 
 pub returns-in_err-all-clause-grows : goal.returns-in_err-all-clause-grows

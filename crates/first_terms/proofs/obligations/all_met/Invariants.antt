@@ -1,6 +1,6 @@
 use Rattle.std.proofs.Common.{map, drop}
 use Rattle.wb_first.specs.Names.{First}
-use Rattle.first_facts.specs.View.{fact_of}
+use Rattle.first_terms.specs.Claims.{fact_of}
 use Rattle.first_store.specs.Meaning.{Grows}
 use Rattle.first_terms.specs.Read.{AllOwn}
 use Rattle.first_terms.specs.Shared.{IsCase}

@@ -1,6 +1,6 @@
 use Rattle.std.specs.Prelude.{◌||◌}
 use Rattle.std.proofs.Common.{List}
-use Rattle.first_facts.specs.declared.facts.Fact.{Fact}
+use Rattle.first_terms.specs.declared.claims.Fact.{Fact}
 use Rattle.wb_values.specs.Value.{truth}
 use Rattle.first_terms.proofs.Whole.{obligation_is}
 use Rattle.first_terms.proofs.Moved.{case_grown}
@@ -9,7 +9,7 @@ use Rattle.std.proofs.lemmas.Result.{IfOk-weaker}
 use Rattle.first_store.proofs.Growing.{Grows-trans, Means-kept, IsOfSort-kept}
 -- NOTE from the lead, 14:46: to be in time, the lead (/tmp/me4) proves the module obligations; leave it, prove expressions, mapping, modelled, decoding (in this order), keep the lemma files as they are or only add to them, and commit those modules' proofs when done.
 use Rattle.std.proofs.Common.{not, map, List}
-use Rattle.first_facts.specs.View.{fact_of, obligation_of}
+use Rattle.first_terms.specs.Claims.{fact_of, obligation_of}
 use Rattle.first_store.specs.Meaning.{MeansTruth}
 use Rattle.first_terms.specs.Asked.{met_at, all_met_at}
 use Rattle.first_terms.specs.Read.{AllOwn}

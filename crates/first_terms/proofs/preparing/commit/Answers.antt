@@ -4,7 +4,7 @@ use Rattle.first_json.specs.ModelView.{instruction_view}
 use Rattle.first_json.specs.View.{expression_of}
 use Rattle.wb_first.specs.CaseView.{case_of}
 use Rattle.wb_first.specs.Decided.{first_of_values}
-use Rattle.first_facts.specs.Commit.{commit_of}
+use Rattle.first_terms.specs.Commit.{commit_of}
 use Rattle.first_symbols.specs.Table.{ids_of}
 use Rattle.first_store.proofs.Growing.{ok_one}
 use Rattle.first_terms.proofs.PreparingAnswers.{commit_read, commit_some, commit_none}

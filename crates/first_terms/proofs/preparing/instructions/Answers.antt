@@ -6,7 +6,7 @@ use Rattle.wb_first.specs.Decided.{first_of_values}
 use Rattle.first_store.specs.Meaning.{Means}
 use Rattle.first_symbols.specs.Table.{ids_of}
 use Rattle.first_store.proofs.Growing.{Grows-refl, Grows-trans}
-use Rattle.first_facts.proofs.Instructions.{all_listed}
+use Rattle.first_terms.proofs.Listed.{all_listed}
 use Rattle.first_terms.specs.Shared.{ArePrepared}
 use Rattle.first_terms.proofs.Moved.{symbols_grown, point_grown, prepared_moved, grown}
 use Rattle.first_terms.proofs.PreparingAnswers.{cut, decode_term, prepared_turn}

@@ -5,7 +5,7 @@ use Rattle.first_terms.specs.Tables.{under_name}
 use Rattle.refinement.specs.Map.{instruction_map}
 use Rattle.first_json.specs.View.{expression_of, instruction_map_of}
 use Rattle.first_json.specs.declared.map.FirstExpression.{FirstExpression}
-use Rattle.first_facts.specs.Commit.{commit_of}
+use Rattle.first_terms.specs.Commit.{commit_of}
 use Rattle.first_terms.proofs.tables.commits_by_name.Given as goal
 
 abbrev pub invariant-loop-entry : goal.invariant-loop-entry

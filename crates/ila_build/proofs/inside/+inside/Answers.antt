@@ -2,7 +2,7 @@ use Rattle.std.proofs.Common.{◌≡◌, ◌+◌, ◌<◌, ◌≤◌, ◌∙◌,
 use Rattle.model_files.specs.Written.{no_child}
 use Rattle.ila_file.specs.View.{instruction_view, instructions_view, instructions_from, machine_view}
 use Rattle.ila_file.specs.declared.written.WrittenChild.{out-WrittenChild}
-use Rattle.ila_build.specs.Building.{instructions_in, IsChildPut}
+use Rattle.ila_build.specs.Building.{own_instructions, IsChildPut}
 use Rattle.ila_build.specs.Inside.{AreChildrenPut, IsProgramPut, program_in, links_from}
 use Rattle.ila_build.proofs.Definitions.{rest_cut, rest_end}
 use Rattle.ila_build.proofs.WrittenParts.{instructions_seen, child_seen, no_child_seen}
@@ -56,7 +56,7 @@ put_children-returns-clause-put t c =
     let i = c.loop-instruction.instruction-index in
     let h : length is ≤ i = omega arith in
     let all = instructions_view is in
-    let e : all ≡ instructions_in (machine_view c.args.machine.now) = ap instructions_view c.deref-instruction-items.ensures.value ∙ instructions_seen c.args.machine.now in
+    let e : all ≡ own_instructions (machine_view c.args.machine.now) = ap instructions_view c.deref-instruction-items.ensures.value ∙ instructions_seen c.args.machine.now in
     subst (AreChildrenPut c.args.terms.now c.args.known.now c.args.children.now.items c.loop-instruction.terms c.loop-instruction.known c.loop-instruction.children.items) e
     (inside_end c.args.terms.now c.loop-instruction.terms c.args.known.now c.loop-instruction.known c.args.children.now.items c.loop-instruction.children.items all
     (subst (λ r. AreToPutInside c.args.terms.now c.args.known.now c.args.children.now.items c.loop-instruction.terms c.loop-instruction.known c.loop-instruction.children.items r all) (ap instructions_from (rest_end instruction_view is i h)) c.loop-instruction.invariant.0))
@@ -68,7 +68,7 @@ put_program-returns-clause-put t c =
     let own = out-WrittenChild c.args.child.now in
     let w = machine_view own.machine in
     let next : c.in-Some.next ≡ suc (length c.args.children.now.items) = omega (arith, c.in-Some.ensures, c.len-id.ensures) in
-    let links : c.in-Ok.links.items ≡ links_from (suc (length c.args.children.now.items)) (instructions_in w) = c.in-Ok.ensures ∙ ap (λ k. links_from k (instructions_in w)) next in
+    let links : c.in-Ok.links.items ≡ links_from (suc (length c.args.children.now.items)) (own_instructions w) = c.in-Ok.ensures ∙ ap (λ k. links_from k (own_instructions w)) next in
     subst (IsProgramPut c.args.terms.now c.args.known.now c.args.children.now.items c.put_children.new.terms c.put_children.new.known c.put_children.new.children.items) (sym (child_seen c.args.child.now))
     (program_put c.args.terms.now c.put_child.new.terms c.put_children.new.terms c.args.known.now c.put_child.new.known c.put_children.new.known c.in-Ok.links.items
     c.args.children.now.items c.push.new.self.items c.put_children.new.children.items w own.steps c.in_ok-own.own
@@ -84,7 +84,7 @@ put_children-returns-in_err-put_child_of-clause-unrefused t c =
     let all = instructions_view is in
     let rest = instructions_view (drop (i + 1) is) in
     let s = c.in_err-put_child_of.field-0.0 in
-    let e : all ≡ instructions_in (machine_view c.args.machine.now) = ap instructions_view c.deref-instruction-items.ensures.value ∙ instructions_seen c.args.machine.now in
+    let e : all ≡ own_instructions (machine_view c.args.machine.now) = ap instructions_view c.deref-instruction-items.ensures.value ∙ instructions_seen c.args.machine.now in
     let cut = ap instructions_from (rest_cut instruction_view is i w h c.instruction-item.is) in
     rw (p.1, p.2) (subst (λ x. IsNoRefusal s (AreBelowDue c.args.terms.now c.args.known.now x)) e
     (child_lost c.args.terms.now c.loop-instruction.terms c.args.known.now c.loop-instruction.known c.args.children.now.items c.loop-instruction.children.items (instruction_view w) (instructions_view (drop i is)) rest all s
@@ -118,7 +118,7 @@ put_children-returns-clause-laid t c =
     let i = c.loop-instruction.instruction-index in
     let h : length is ≤ i = omega arith in
     let all = instructions_view is in
-    let e : all ≡ instructions_in (machine_view c.args.machine.now) = ap instructions_view c.deref-instruction-items.ensures.value ∙ instructions_seen c.args.machine.now in
+    let e : all ≡ own_instructions (machine_view c.args.machine.now) = ap instructions_view c.deref-instruction-items.ensures.value ∙ instructions_seen c.args.machine.now in
     subst (AreLaidPut c.args.terms.now c.args.known.now c.args.children.now.items c.loop-instruction.terms c.loop-instruction.children.items c.args.around) e
     (lay_end c.args.terms.now c.loop-instruction.terms c.args.known.now c.args.children.now.items c.loop-instruction.children.items c.args.around all
     (subst (λ r. AreToLay c.args.terms.now c.args.known.now c.args.children.now.items c.loop-instruction.terms c.loop-instruction.children.items c.args.around r all) (ap instructions_from (rest_end instruction_view is i h)) c.loop-instruction.invariant.3))
@@ -130,7 +130,7 @@ put_program-returns-clause-laid t c =
     let own = out-WrittenChild c.args.child.now in
     let w = machine_view own.machine in
     let next : c.in-Some.next ≡ suc (length c.args.children.now.items) = omega (arith, c.in-Some.ensures, c.len-id.ensures) in
-    let links : c.in-Ok.links.items ≡ links_from (suc (length c.args.children.now.items)) (instructions_in w) = c.in-Ok.ensures ∙ ap (λ k. links_from k (instructions_in w)) next in
+    let links : c.in-Ok.links.items ≡ links_from (suc (length c.args.children.now.items)) (own_instructions w) = c.in-Ok.ensures ∙ ap (λ k. links_from k (own_instructions w)) next in
     let id : c.len-id.result ≡ length c.args.children.now.items = omega (arith, c.len-id.ensures) in
     subst (IsLaidPut c.args.terms.now c.args.known.now c.args.children.now.items c.put_children.new.terms c.put_children.new.children.items c.args.around) (sym (child_seen c.args.child.now))
     (program_laid c.args.terms.now c.put_child.new.terms c.put_children.new.terms c.args.known.now c.put_child.new.known c.in-Ok.links.items
@@ -152,7 +152,7 @@ put_children-returns-in_err-put_child_of-clause-left t c =
     let h : i < length is = omega arith in
     let all = instructions_view is in
     let rest = instructions_view (drop (i + 1) is) in
-    let e : all ≡ instructions_in (machine_view c.args.machine.now) = ap instructions_view c.deref-instruction-items.ensures.value ∙ instructions_seen c.args.machine.now in
+    let e : all ≡ own_instructions (machine_view c.args.machine.now) = ap instructions_view c.deref-instruction-items.ensures.value ∙ instructions_seen c.args.machine.now in
     let cut = ap instructions_from (rest_cut instruction_view is i w h c.instruction-item.is) in
     subst (λ x. IsLeft c.args.terms.now c.args.known.now c.put_child_of.new.terms c.put_child_of.new.known (names_below x) (size_below x)) e
     (leave_below_lost c.args.terms.now c.loop-instruction.terms c.put_child_of.new.terms c.args.known.now c.loop-instruction.known c.put_child_of.new.known (instruction_view w) (instructions_view (drop i is)) rest all cut c.loop-instruction.invariant.4 c.in_err-put_child_of.ensures.left)
@@ -166,7 +166,7 @@ put_children-returns-clause-left t c =
     let i = c.loop-instruction.instruction-index in
     let h : length is ≤ i = omega arith in
     let all = instructions_view is in
-    let e : all ≡ instructions_in (machine_view c.args.machine.now) = ap instructions_view c.deref-instruction-items.ensures.value ∙ instructions_seen c.args.machine.now in
+    let e : all ≡ own_instructions (machine_view c.args.machine.now) = ap instructions_view c.deref-instruction-items.ensures.value ∙ instructions_seen c.args.machine.now in
     subst (λ x. IsLeft c.args.terms.now c.args.known.now c.loop-instruction.terms c.loop-instruction.known (names_below x) (size_below x)) e
     (leave_end c.args.terms.now c.loop-instruction.terms c.args.known.now c.loop-instruction.known (names_below all) (size_below all) (in_table c.loop-instruction.terms c.loop-instruction.known c.loop-instruction.invariant.0.table)
     (subst (λ r. IsLeaving c.args.terms.now c.args.known.now c.loop-instruction.terms c.loop-instruction.known (names_below r) (size_below r) (names_below all) (size_below all)) (ap instructions_from (rest_end instruction_view is i h)) c.loop-instruction.invariant.4))

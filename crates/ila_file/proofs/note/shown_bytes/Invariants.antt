@@ -1,5 +1,5 @@
 use Rattle.std.proofs.Common.{◌≡◌, map, take}
-use Rattle.ila_file.specs.Notes.{shown}
+use Rattle.model_places.specs.Notes.{shown}
 use Rattle.ila_file.proofs.note.shown_bytes.Given as goal
 
 abbrev pub invariant-loop-byte : goal.invariant-loop-byte

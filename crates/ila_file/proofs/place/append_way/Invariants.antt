@@ -1,5 +1,5 @@
 use Rattle.std.proofs.Common.{◌≡◌, ◌++◌, take}
-use Rattle.ila_file.specs.Places.{way_text}
+use Rattle.model_places.specs.Sites.{way_text}
 use Rattle.ila_file.proofs.place.append_way.Given as goal
 
 abbrev pub invariant-loop-instruction : goal.invariant-loop-instruction

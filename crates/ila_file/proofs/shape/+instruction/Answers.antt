@@ -28,22 +28,22 @@ child_under-child_in-requires t c =
     let less : depth (view c.in-Some.found.now) < depth (view c.args.value.now) = found_below (codes "child") _ _ (sym c.in-Some.ensures) in
     (omega (arith, less, c.decreases), tt)
 
-pub instructions_under-instructions_in-requires : goal.instructions_under-instructions_in-requires
-instructions_under-instructions_in-requires t c =
+pub instructions_under-written_instructions-requires : goal.instructions_under-written_instructions-requires
+instructions_under-written_instructions-requires t c =
     let ds = items_view c.in_ok-items.items.now.items in
     let listed : under as_array (codes "instructions") (view c.args.value.now) ≡ Some ds = search rules in
     (omega (arith, list_below (codes "instructions") (view c.args.value.now) ds listed, c.decreases), tt)
 
-pub instructions_in-instruction_in-requires : goal.instructions_in-instruction_in-requires
-instructions_in-instruction_in-requires t c =
+pub written_instructions-instruction_in-requires : goal.written_instructions-instruction_in-requires
+written_instructions-instruction_in-requires t c =
     let vs = c.args.items.now.items in
     let i = c.loop-item.item-index in
     let here : i < length vs = search rules in
     let is : c.item-item.result ≡ get_or vs i c.item-item.result = search rules in
     (omega (arith, item_below vs i c.item-item.result here is, c.decreases), tt)
 
-pub instructions_in-loop-item-preserved : goal.instructions_in-loop-item-preserved
-instructions_in-loop-item-preserved t c =
+pub written_instructions-loop-item-preserved : goal.written_instructions-loop-item-preserved
+written_instructions-loop-item-preserved t c =
     let vs = c.deref-item-items.result.now in
     let i = c.loop-item.item-index in
     let v = c.item-item.result in
@@ -55,8 +55,8 @@ instructions_in-loop-item-preserved t c =
     ∙ before_pushed instruction_view kept _ c.in_ok-instruction.instruction _ (all_instructions (items_view (drop (i + 1) vs)))
     (ap (λ (w : Value). instruction_in (view w)) (sym c.item-item.is) ∙ c.in_ok-instruction.ensures) c.in_ok-push.ensures.items)
 
-pub instructions_in-returns : goal.instructions_in-returns
-instructions_in-returns t c =
+pub written_instructions-returns : goal.written_instructions-returns
+written_instructions-returns t c =
     let vs = c.deref-item-items.result.now in
     let kept = c.loop-item.instructions.items in
     let over : drop c.loop-item.item-index vs ≡ [] = drop_all c.loop-item.item-index vs c.loop-item-test.false in

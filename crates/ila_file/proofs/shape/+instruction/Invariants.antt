@@ -22,9 +22,9 @@ decreases-child_in l = 3 * depth (view l.value.now) + 1
 abbrev pub decreases-instructions_under : goal.decreases-instructions_under
 decreases-instructions_under l = 3 * depth (view l.value.now)
 
-abbrev pub decreases-instructions_in : goal.decreases-instructions_in
-decreases-instructions_in l = 3 * items_depth (items_view l.items.now.items) + 3
+abbrev pub decreases-written_instructions : goal.decreases-written_instructions
+decreases-written_instructions l = 3 * items_depth (items_view l.items.now.items) + 3
 
-abbrev pub invariant-instructions_in-loop-item : goal.invariant-instructions_in-loop-item
-invariant-instructions_in-loop-item l =
+abbrev pub invariant-written_instructions-loop-item : goal.invariant-written_instructions-loop-item
+invariant-written_instructions-loop-item l =
     all_instructions (items_view l.item-items) ≡ before (map instruction_view l.instructions.items) (all_instructions (items_view (drop l.item-index l.item-items)))

@@ -8,7 +8,7 @@ abbrev pub invariant-judge_machine-loop-index : goal.invariant-judge_machine-loo
 invariant-judge_machine-loop-index l = record {
   frames : l.frames.items ≡ l.initial.frames.items;
   flaws : instructions_flaws (look_frames l.initial.frames.items) (look_of l.initial.frames.items l.last) (states_frames l.initial.frames.items)
-      (instructions_view (drop l.index l.instruction-items)) (flaws_view l.findings)
+      l.index (instructions_view (drop l.index l.instruction-items)) (flaws_view l.findings)
       ≡ instructions_flaws (look_frames l.initial.frames.items) (look_of l.initial.frames.items l.last) (states_frames l.initial.frames.items)
-      (instructions_view l.instruction-items) (flaws_view l.initial.findings);
+      0 (instructions_view l.instruction-items) (flaws_view l.initial.findings);
 }

@@ -6,8 +6,8 @@ use Rattle.ila_rules.proofs.walk.add_definitions.Given as goal
 
 abbrev pub invariant-loop-index : goal.invariant-loop-index
 invariant-loop-index l = record {
-  flaws : definition_flaws (look_of l.frames l.frame) (map definition_view (drop l.index l.definitions)) (flaws_view l.findings)
-      ≡ definition_flaws (look_of l.frames l.fn.frame) (map definition_view l.definitions) (flaws_view l.fn.findings);
+  flaws : definition_flaws (look_of l.frames l.frame) l.index (map definition_view (drop l.index l.definitions)) (flaws_view l.findings)
+      ≡ definition_flaws (look_of l.frames l.fn.frame) 0 (map definition_view l.definitions) (flaws_view l.fn.findings);
   look : look_definitions (look_of l.frames l.frame) (map definition_view (drop l.index l.definitions))
       ≡ look_definitions (look_of l.frames l.fn.frame) (map definition_view l.definitions);
   states : states_frame l.frame ≡ states_frame l.fn.frame;

@@ -6,5 +6,5 @@ use Rattle.ila_rules.proofs.walk.judge_updates.Given as goal
 
 abbrev pub invariant-loop-update : goal.invariant-loop-update
 invariant-loop-update l =
-    update_flaws (look_of l.frames l.last) (states_frames l.frames) (map update_view (drop l.update-index l.updates)) (flaws_view l.findings)
-    ≡ update_flaws (look_of l.frames l.last) (states_frames l.frames) (map update_view l.updates) (flaws_view l.fn.findings)
+    update_flaws (look_of l.frames l.last) (states_frames l.frames) l.index l.name (map update_view (drop l.update-index l.updates)) (flaws_view l.findings)
+    ≡ update_flaws (look_of l.frames l.last) (states_frames l.frames) l.index l.name (map update_view l.updates) (flaws_view l.fn.findings)

@@ -12,9 +12,9 @@ returns-clause-flaws c =
     let ss = map state_view c.args.states.now in
     let ds = map definition_view c.args.definitions.now in
     c.in_ok-add_definitions.ensures.flaws
-    ∙ (ap (λ (l : LookUp). definition_flaws l ds (flaws_view c.add_states.new.findings))
+    ∙ (ap (λ (l : LookUp). definition_flaws l 0 ds (flaws_view c.add_states.new.findings))
     (states_in_last c.args.frames.now c.new-frame.result c.add_states.new.frame ss c.new-frame.ensures.look c.in_ok-add_states.ensures.look)
-    ∙ ap (λ (f : Flaws). definition_flaws (look_states (look_frames c.args.frames.now) ss) ds f) c.in_ok-add_states.ensures.flaws)
+    ∙ ap (λ (f : Flaws). definition_flaws (look_states (look_frames c.args.frames.now) ss) 0 ds f) c.in_ok-add_states.ensures.flaws)
 
 pub returns-clause-look : goal.returns-clause-look
 returns-clause-look c =

@@ -3,7 +3,6 @@ use Rattle.wb_values.specs.Value.{memory}
 use Rattle.model_meaning.specs.Term.{Term, sort_of}
 use Rattle.wb_terms.specs.declared.nodes.Node.TheVariants.{Name, Ite, Store}
 use Rattle.wb_terms.specs.Graph.{tree, tree_of_node}
-use Rattle.wb_terms.proofs.StoreLemmas.{AllBelow-le}
 use Rattle.ob_mem.specs.Words.{entry_at}
 use Rattle.ob_mem.specs.Images.{IsImage}
 use Rattle.ob_mem.proofs.Imaging.{leaf_parts, update_sorts}
@@ -25,11 +24,6 @@ put_choice-requires-clause-sort c =
     let t = c.node.ensures.tree ∙ ap (tree_of_node c.args.old.now) c.in-Ite.is in
     (c.requires.sort.0, sym (ap sort_of t) ∙ c.requires.sort.1)
 
-pub put_choice-requires-clause-room : goal.put_choice-requires-clause-room
-put_choice-requires-clause-room c =
-    let arm = c.in-Ite in
-    AllBelow-le c.args.id.0 (length c.args.images.now) (arm.c.0 ∷ arm.x.0 ∷ arm.y.0 ∷ []) c.requires.room (rw arm.is at c.node.ensures.over.operands)
-
 pub put_choice-requires-clause-images : goal.put_choice-requires-clause-images
 put_choice-requires-clause-images c =
     let arm = c.in-Ite in
@@ -39,11 +33,6 @@ pub put_update-requires-clause-sort : goal.put_update-requires-clause-sort
 put_update-requires-clause-sort c =
     let t = c.node.ensures.tree ∙ ap (tree_of_node c.args.old.now) c.in-Store.is in
     (c.requires.sort.0, sym (ap sort_of t) ∙ c.requires.sort.1)
-
-pub put_update-requires-clause-room : goal.put_update-requires-clause-room
-put_update-requires-clause-room c =
-    let arm = c.in-Store in
-    AllBelow-le c.args.id.0 (length c.args.images.now) (arm.m.0 ∷ arm.i.0 ∷ arm.x.0 ∷ []) c.requires.room (rw arm.is at c.node.ensures.over.operands)
 
 pub put_update-requires-clause-images : goal.put_update-requires-clause-images
 put_update-requires-clause-images c =

@@ -1,30 +1,44 @@
-use Rattle.std.proofs.Common.{◌≡◌, ◌∙◌, ◌++◌, ◌∷◌, ◌+◌, ◌<◌, ℕ, [], List, Bool, Option, Some, None, cond, length, drop, get_or, false, arith, sym, ap, append_assoc}
-use Rattle.std.proofs.lemmas.List.{drop_more, get_or_default}
-use Rattle.wb_values.specs.Value.{Sort, truth, Entries}
-use Rattle.sat_gates.specs.Layout.{firsts_of, end_of, next_after}
+use Rattle.std.proofs.Common.{◌≡◌, ◌∙◌, ◌+◌, ◌<◌, List, length, Option, ap, sym, subst, arith}
+use Rattle.std.specs.Map.{lookup}
+use Rattle.std.specs.Ordering.{nat_cmp}
+use Rattle.std.specs.BTreeMap.{get, is_at}
+use Rattle.std.proofs.lemmas.Bool.{false≢true}
+use Rattle.sat_gates.specs.Layout.{bit_count}
+use Rattle.sat_gates.specs.Used.{listed}
+use Rattle.sat_gates.proofs.Members.{emptied}
+use Rattle.sat_gates.proofs.Laying.{among, laying_start, laying_next, laying_turn, laying_firsts, laying_end}
 use Rattle.sat_gates.proofs.layout.lay_out.Goals as goal
 
-turn : (es : Entries Sort) (us : List Bool) (place next after : ℕ) (u : Bool) (s : Sort) (firsts more all : List (Option ℕ)) (end : ℕ) → place < length es → place < length us
-    → get_or us place u ≡ u → s ≡ (get_or es place ([], truth)).1 → more ≡ firsts ++ cond u (Some next) None ∷ [] → after ≡ next_after next s u
-    → firsts ++ firsts_of next (drop place es) (drop place us) ≡ all → end_of next (drop place es) (drop place us) ≡ end
-    → (more ++ firsts_of after (drop (place + 1) es) (drop (place + 1) us) ≡ all) × (end_of after (drop (place + 1) es) (drop (place + 1) us) ≡ end)
-turn es us place next after u s firsts more all end i j at same e f h k =
-    let x = get_or es place ([], truth) in
-    let d : drop place us ≡ u ∷ drop (place + 1) us = drop_more us place u j ∙ ap (λ b. b ∷ drop (place + 1) us) at in
-    let g : drop place es ≡ x ∷ drop (place + 1) es = drop_more es place ([], truth) i in
-    let n : after ≡ next_after next x.1 u = f ∙ ap (λ t. next_after next t u) same in (
-      ap (λ b. b ++ firsts_of after (drop (place + 1) es) (drop (place + 1) us)) e
-          ∙ (append_assoc firsts (cond u (Some next) None ∷ []) (firsts_of after (drop (place + 1) es) (drop (place + 1) us))
-          ∙ (ap (λ m. firsts ++ (cond u (Some next) None ∷ firsts_of m (drop (place + 1) es) (drop (place + 1) us))) n
-          ∙ (ap (λ l. firsts ++ firsts_of next l (u ∷ drop (place + 1) us)) (sym g) ∙ (ap (λ l. firsts ++ firsts_of next (drop place es) l) (sym d) ∙ h)))),
-      ap (λ m. end_of m (drop (place + 1) es) (drop (place + 1) us)) n
-          ∙ (ap (λ l. end_of next l (u ∷ drop (place + 1) us)) (sym g) ∙ (ap (λ l. end_of next (drop place es) l) (sym d) ∙ k)),
+pub loop-name-init : goal.loop-name-init
+loop-name-init c =
+    (0, laying_start c.args.terms.now.names c.args.used.keys (get nat_cmp c.new-firsts.result) c.requires.below (λ q. ap (λ es. lookup (is_at (nat_cmp q)) es) c.new-firsts.ensures.empty))
+
+pub name_sort-requires : goal.name_sort-requires
+name_sort-requires c =
+    laying_next c.args.terms.now.names (among c.args.used.keys) c.in-Some.name c.pop_first.new.self.keys c.loop-name.used.keys (get nat_cmp c.loop-name.firsts) c.loop-name.inputs c.loop-name.invariant.0
+    c.in-Some.ensures.removal c.loop-name.invariant.1
+
+pub loop-name-preserved : goal.loop-name-preserved
+loop-name-preserved c =
+    let l = c.loop-name in (
+      c.in-Some.name + 1,
+      laying_turn c.args.terms.now.names (among c.args.used.keys) c.in-Some.name c.pop_first.new.self.keys l.used.keys (get nat_cmp l.firsts) (get nat_cmp c.insert.new.self)
+          l.inputs c.in_ok-inputs.inputs l.invariant.0 c.in-Some.ensures.removal c.in-Some.ensures.all_above c.in_ok-insert.ensures.updates.0
+          (c.in_ok-inputs.ensures ∙ ap (λ s. l.inputs + bit_count s) c.name_sort.ensures.sort) l.invariant.1,
     )
 
-pub loop-place-preserved : goal.loop-place-preserved
-loop-place-preserved c =
-    let place = c.loop-place.place in
-    let i : place < length c.args.used.now = c.loop-place-test.true in
-    turn c.args.terms.now.names c.args.used.now place c.loop-place.inputs c.in_ok-inputs.inputs (get_or c.args.used.now place false) _ c.loop-place.firsts.items c.put_first.new.firsts.items
-    (firsts_of 0 c.args.terms.now.names c.args.used.now) (end_of 0 c.args.terms.now.names c.args.used.now) (omega (arith, i, c.requires)) i
-    (get_or_default c.args.used.now place (get_or c.args.used.now place false) false i) c.name_sort.ensures.sort c.in_ok-inputs.ensures.first c.in_ok-inputs.ensures.next c.loop-place.invariant.0 c.loop-place.invariant.1
+pub loop-name-smaller : goal.loop-name-smaller
+loop-name-smaller c = omega (arith, ap length c.in-Some.ensures.removal)
+
+pub returns-clause-firsts : goal.returns-clause-firsts
+returns-clause-firsts c =
+    let l = c.loop-name in
+    ap (λ n. listed (get nat_cmp l.firsts) 0 n) c.name_count-names.ensures.names
+    ∙ laying_firsts c.args.terms.now.names (among c.args.used.keys) l.used.keys (get nat_cmp l.firsts) l.inputs l.invariant.0
+    (emptied l.used.keys (λ i. false≢true (c.in_default.ensures.variant.1 i))) l.invariant.1
+
+pub returns-clause-inputs : goal.returns-clause-inputs
+returns-clause-inputs c =
+    let l = c.loop-name in
+    laying_end c.args.terms.now.names (among c.args.used.keys) l.used.keys (get nat_cmp l.firsts) l.inputs l.invariant.0
+    (emptied l.used.keys (λ i. false≢true (c.in_default.ensures.variant.1 i))) l.invariant.1

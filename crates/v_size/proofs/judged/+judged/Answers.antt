@@ -3,7 +3,7 @@ use Rattle.v_syntax.specs.declared.tree.BinaryOperator.TheVariants.{Power, Shift
 use Rattle.v_syntax.specs.declared.tree.Expression.{the_lemmas}
 use Rattle.v_syntax.specs.Tree.{tree_of}
 use Rattle.v_value.specs.Scope.{object_of, scope_at}
-use Rattle.v_size.specs.declared.rule.Place.TheVariants.{Anywhere, Constant}
+use Rattle.v_size.specs.declared.rule.Position.TheVariants.{Anywhere, Constant}
 use Rattle.v_size.specs.Rule.{number_at}
 use Rattle.v_size.specs.Judged.{judged_at, taken_by}
 use Rattle.v_size.proofs.Arms as arms

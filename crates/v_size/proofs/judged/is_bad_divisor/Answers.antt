@@ -1,7 +1,7 @@
 use Rattle.std.proofs.Common.{ap}
 use Rattle.v_value.specs.Scope.{scope_at}
 use Rattle.v_syntax.specs.Tree.{tree_of}
-use Rattle.v_size.specs.declared.rule.Place.TheVariants.{Constant}
+use Rattle.v_size.specs.declared.rule.Position.TheVariants.{Constant}
 use Rattle.v_size.proofs.Known as known
 use Rattle.v_size.proofs.judged.is_bad_divisor.Goals as goal
 

@@ -1,16 +1,12 @@
-use Rattle.std.proofs.Common.{◌∙◌, ap, sym, option_map}
-use Rattle.ila_rules.specs.declared.rule.ModelRefusal.{ModelRefusal}
-use Rattle.ila_rules.specs.Rule.{rule_view}
+use Rattle.std.proofs.Common.{ap, sym}
+use Rattle.ila_json.specs.Reading.{refusal_in}
 use Rattle.wb_top.proofs.Cases.{kind_of_model}
 use Rattle.wb_top.proofs.judged.judge.Goals as goal
 
-pub returns-in-Some : goal.returns-in-Some
-returns-in-Some c =
-    kind_of_model c.args.model.now _ _ (ap (option_map (λ (r : ModelRefusal). rule_view r.rule)) (sym c.in-Some.is) ∙ c.in_ok-refusal.ensures)
+pub returns-in-Err-Refused : goal.returns-in-Err-Refused
+returns-in-Err-Refused c =
+    let said = rw c.in-Err-Refused.field-0-is at c.in-Err-Refused.ensures in
+    rw c.in-Err-Refused.field-0-is (kind_of_model c.args.model.now _ _ (sym (ap refusal_in said)))
 
 pub of_text-requires : goal.of_text-requires
-of_text-requires c =
-    record {
-      some = c.requires;
-      unbroken = sym (ap (option_map (λ (r : ModelRefusal). rule_view r.rule)) (sym c.in-None.is) ∙ c.in_ok-refusal.ensures);
-    }
+of_text-requires c = record { some = c.requires; unbroken = c.in-Ok.ensures.0; is_read = c.in-Ok.ensures.1 }

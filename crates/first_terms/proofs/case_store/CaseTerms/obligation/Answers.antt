@@ -1,5 +1,5 @@
 use Rattle.wb_first.specs.CaseView.{case_of}
-use Rattle.first_facts.specs.View.{obligation_of}
+use Rattle.first_terms.specs.Claims.{obligation_of}
 use Rattle.first_store.proofs.Growing.{ok_one}
 use Rattle.first_terms.proofs.Own.{own_hypotheses, own_claim}
 use Rattle.first_terms.proofs.Cut.{IsCut, shared_cut, ready_cut, names_cut}

@@ -1,6 +1,6 @@
 use Rattle.std.proofs.Common.{◌≡◌, ◌<◌, ◌≤◌, List, ℕ, length, map, take, sym, ap, ◌∙◌, subst}
 use Rattle.std.specs.List.{list_all}
-use Rattle.ila_file.specs.Notes.{shown, is_printable, or_quotes, note_of}
+use Rattle.model_places.specs.Notes.{shown, is_printable, or_quotes, note_of}
 use Rattle.ila_file.proofs.Shown.{all_printable, few, some_shown}
 use Rattle.ila_file.proofs.note.Note.new.Goals as goal
 

@@ -1,7 +1,0 @@
-use Rattle.std.proofs.Common.{◌≡◌, drop, map}
-use Rattle.first_text.specs.View.{port_of}
-use Rattle.first_cycle.specs.Widths.{port_bounds}
-use Rattle.first_cycle.proofs.widths.port_bounds.Given as goal
-
-abbrev pub invariant-loop-port : goal.invariant-loop-port
-invariant-loop-port l = port_bounds (map port_of l.ports) l.name ≡ port_bounds (map port_of (drop l.port-index l.ports)) l.name

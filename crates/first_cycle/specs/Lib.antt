@@ -1,4 +1,0 @@
-pub mod Terms
-pub mod Updates
-pub mod Values
-pub mod Widths

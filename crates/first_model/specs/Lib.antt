@@ -1,0 +1,4 @@
+pub mod Profile
+pub mod Names
+pub mod Making
+pub mod Reading

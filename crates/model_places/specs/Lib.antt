@@ -1,0 +1,5 @@
+pub mod Sites
+pub mod Notes
+pub mod Parts
+pub mod First
+pub mod KeyPlaces

@@ -1,5 +1,0 @@
-//! A machine with memories, definitions, fetch and nested child programs.
-
-/// The machine. Its parts are used in each of the ways that the model language has.
-pub(super) const MACHINE: &str =
-    r#"{"name":"machine","states":[{"name":"p","sort":8,"init":"0x1f"},{"name":"m","sort":[4,8]},{"name":"n","sort":[4,8]},{"name":"t","sort":"bool","init":true}],"inputs":[{"name":"x","sort":4},{"name":"y","sort":4}],"define":[["half",["extract",7,4,"p"]],["put",["store","m","x","p"]]],"fetch":["load","m","x"],"valid":["eq","fetch","p"],"instructions":[{"name":"RUN","decode":"t","update":{"p":["const",8,0],"m":"put"},"child":{"states":[{"name":"i","sort":3,"init":0}],"define":[["last",["eq","i",["const",3,7]]]],"fetch":["add","i",["const",3,1]],"valid":["ult","i",["const",3,4]],"steps":4,"instructions":[{"name":"STEP","decode":["not","last"],"update":{"p":["add","p",["zext",8,"half"]],"i":"fetch"},"child":{"states":[{"name":"j","sort":2,"init":3}],"valid":"t","steps":3,"instructions":[{"name":"LAST","decode":true,"update":{"j":["add","j",["const",2,1]],"n":["store","n","y","p"]}}]}}]}},{"name":"SKIP","decode":["not","t"],"update":{}}]}"#;

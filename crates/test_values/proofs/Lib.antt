@@ -1,0 +1,2 @@
+-- Lemmas on ladders.
+pub mod Ladders

@@ -1,0 +1,5 @@
+use Rattle.test_values.proofs.Ladders.{small_assignment}
+use Rattle.test_values.proofs.ladder.assignment.Goals as goal
+
+pub returns : goal.returns
+returns c = small_assignment c.args.name c.number.result c.number.ensures

@@ -1,0 +1,77 @@
+//! A statement that is one long ladder of `else if`, run down to its last arm.
+
+ghost use Rattle.std.specs.Prelude.{◌<◌, ◌^◌, IfOk};
+ghost use Rattle.test_values.specs.Small.{IsSmall, IsSmallStatement};
+
+use crate::value::Stop;
+use std::alloc::{AllocError, Global};
+use v_statement::statement::run;
+use v_syntax::tree::{Arm, Expression, Number, Selects, Statement, Target};
+use v_value::scope::{Scope, Value, Values};
+
+/// An unsigned number of 32 bits.
+fn number<'s>(value: u128) -> Expression<'s>
+    requires { value < 2 ^ 32 }
+    ensures { IsSmall result }
+{
+    Expression::Number(Number {
+        width: 32,
+        sized: true,
+        signed: false,
+        value,
+        unknown: 0,
+        wild: 0,
+        has_unknown: false,
+        has_wild: false,
+    })
+}
+
+/// `name = 1;`
+fn assignment<'s>(name: &'s str) -> Statement<'s>
+    ensures { IsSmallStatement result }
+{
+    Statement::Blocking(Target::Place(name, Selects::Whole), number(1))
+}
+
+/// `if (0) ; else if (0) ; .. else if (1) q = 1;` with so many arms before the last one.
+fn ladder(alloc: Global, before: usize) -> Result<Statement<'static>, AllocError>
+    ensures { IfOk result IsSmallStatement }
+{
+    let mut arms = Vec::new(alloc);
+    for _ in 0..before {
+        arms.push(Arm {
+            condition: number(0),
+            statement: Statement::Empty,
+        })?;
+    }
+    arms.push(Arm {
+        condition: number(1),
+        statement: assignment("q"),
+    })?;
+    Ok(Statement::If(arms, None))
+}
+
+/// What values and updates there are after a ladder of so many arms before the last one.
+pub fn ladder_run(alloc: Global, before: &str) -> Result<String, Stop> {
+    let Ok(before) = before.parse::<usize>() else {
+        return Err(Stop::Other("is no row"));
+    };
+    let scope = Scope {
+        declarations: Vec::new(alloc),
+    };
+    let mut values = Values {
+        entries: Vec::new(alloc),
+    };
+    let mut updates = Vec::new(alloc);
+    let statement = ladder(alloc, before)?;
+    run(alloc, &scope, &statement, &mut values, &mut updates)?;
+    let Some(entry) = values.entries.last() else {
+        return Err(Stop::Other("nothing was assigned"));
+    };
+    let Value::Number(number) = entry.value else {
+        return Err(Stop::Other("no number was assigned"));
+    };
+    let (count, name, waiting) = (values.entries.len(), entry.name, updates.len());
+    let found = format!(in alloc; "{count} value, {name} {number}, {waiting} updates")?;
+    Ok(found)
+}

@@ -1,2 +1,0 @@
--- Lemmas on chains.
-pub mod Chains
