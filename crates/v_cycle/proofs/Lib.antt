@@ -1,0 +1,5 @@
+pub mod Steps
+pub mod Memory
+pub mod Terms
+pub mod Sorts
+pub mod Cycles

@@ -1,0 +1,4 @@
+pub mod Table
+pub mod Parts
+pub mod Seen
+pub mod Design

@@ -1,0 +1,62 @@
+//! A design: its store of terms, and which of them stand for what.
+
+ghost use Rattle.std.specs.Prelude.{◌≡◌, ◌≤◌, ◌<◌, ◌-◌, [], ℕ, List, IfSome, IsTrue, drop, length, map, option_map, slice_index_or, string_bytes, take};
+ghost use Rattle.wb_values.specs.Value.{truth};
+ghost use Rattle.v_design.specs.Table.{terms_at};
+ghost use Rattle.v_design.specs.Parts.{are_terms_of, are_words, is_within};
+
+use std::collections::BTreeMap;
+use wb_terms::{NameId, TermId, Terms};
+
+/// A design as terms. The names of its store are its registers, and then the inputs of its top but for the clock.
+#[derive(Drop)]
+pub struct Design {
+    /// The names, and all terms of the design.
+    pub terms: Terms,
+    /// How many of the names are registers.
+    pub register_count: usize,
+    /// The term of each register's value after the clock's edge, in the order of the registers.
+    pub next: Vec<TermId>,
+    /// The term of what each net, variable and memory settles to, by its dotted name.
+    pub settled: BTreeMap<String, TermId>,
+    /// The outputs of the top, in the order of its ports.
+    pub outputs: Vec<String>,
+    pub ghost counted: { register_count ≤ length terms.names },
+    pub ghost sorted: { IsTrue (are_terms_of terms (take register_count terms.names) (map (λ id. id.0) next.items)) },
+    pub ghost words: { IsTrue (are_words (drop register_count terms.names)) },
+    pub ghost within: { (n : List ℕ) → IsTrue (is_within terms (terms_at settled n)) },
+}
+
+impl Design {
+    ghost use Rattle.v_design.specs.Seen.{parts_of};
+
+    /// How many registers the design has.
+    pub fn register_count(&self) -> usize
+        ensures { result ≡ (parts_of self.now).register_count }
+    {
+        self.register_count
+    }
+
+    /// How many inputs its top has, but for the clock.
+    pub fn input_count(&self) -> usize
+        ensures { result ≡ length self.now.terms.names - self.now.register_count }
+    {
+        self.terms.name_count() as usize - self.register_count
+    }
+
+    /// The dotted name of a register.
+    pub fn register_name(&self, place: usize) -> &str
+        requires { place < self.now.register_count }
+        ensures { result.now ≡ (slice_index_or (take self.now.register_count self.now.terms.names) place ([], truth)).0 }
+    {
+        self.terms.name(NameId(place))
+    }
+
+    /// The term of what a net, variable or memory settles to, by its dotted name, if the design has that.
+    pub fn settled(&self, path: &str) -> Option<TermId>
+        ensures term { option_map (λ id. id.0) result ≡ (parts_of self.now).settled path.now }
+        ensures within { IfSome result (λ id. id.0 < length self.now.terms.nodes) }
+    {
+        self.settled.get(path).copied()
+    }
+}

@@ -1,0 +1,9 @@
+//! A design as terms of a store: what its nets, variables and memories settle to, and what the clock's edge makes of its registers.
+#![tactic(auto)]
+
+mod design;
+mod values;
+
+pub use design::Design;
+pub use values::{Inputs, Registers};
+pub use wb_terms::NoMemory;
