@@ -24,7 +24,10 @@ fn main(rt: HostRuntime) -> io::Result<()> {
         let again = printed_of(alloc, printed.as_str())?;
         let layout = with_lines(alloc, wanted)?;
         let is_laid_out = wanted == "*" || printed.as_str() == layout.as_str();
-        if !is_laid_out || !printed.as_str().starts_with("module") || again.as_str() != printed.as_str() {
+        if !is_laid_out
+            || !printed.as_str().starts_with("module")
+            || again.as_str() != printed.as_str()
+        {
             differing = differing.saturating_add(1);
             println!(rt; "{source}\n{printed}")?;
         }

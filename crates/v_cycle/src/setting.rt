@@ -74,7 +74,13 @@ pub(crate) fn set_value(value: &mut Value, terms: &Terms, env: &Env, words: &Eva
 }
 
 /// Gives each value that of its term, of whose sort it is.
-pub(crate) fn set_next(values: &mut [Value], terms: &Terms, env: &Env, words: &Evaluated, next: &[TermId])
+pub(crate) fn set_next(
+    values: &mut [Value],
+    terms: &Terms,
+    env: &Env,
+    words: &Evaluated,
+    next: &[TermId],
+)
     requires holds { Holds terms.now env.now words.now }
     requires fits { Fits terms.now env.now }
     requires sorted { AreOfTerms terms.now next.now (map as_value values.old) }

@@ -89,5 +89,5 @@ returns-clause-registers c =
     ap (map as_value) (new_items g d.register_count s.env.values s.registers.values is r.made.registers r.inputs r.made.names vs rs vs-are rs-are d.counted d.next.items d.sorted xs h)
     ∙ c.set_next.ensures.values
     ∙ ap₂ (λ ids ws. map (λ id. val (tree g id.0) (valuation_of (named g.names ws))) ids) c.deref-2.ensures.value
-      (names_at g d.register_count s.env.values s.registers.values is r.made.registers r.inputs r.made.names vs rs vs-are rs-are d.counted)
+    (names_at g d.register_count s.env.values s.registers.values is r.made.registers r.inputs r.made.names vs rs vs-are rs-are d.counted)
     ∙ sym (map-map (value_in (parts_of d) (register_values s.registers) (input_values c.args.inputs.now)) (λ id. id.0) d.next.items)
