@@ -6,7 +6,7 @@ use Rattle.wb_terms.specs.Graph.{Graph, tree}
 use Rattle.wb_terms.specs.Environment.{named}
 
 -- A store of terms whose names are the design's registers and then the inputs of its top; the term of each register's value after the
--- clock's edge, in the order of the registers; the term of what each net, variable and memory settles to, by its dotted name; and the
+-- clock's edge, in the order of the registers; the term of what each net and variable settles to, by its dotted name; and the
 -- outputs of the top, in the order of its ports.
 pub record Parts : Type 0 where
   pub graph : Graph

@@ -17,7 +17,7 @@ pub struct Design {
     pub register_count: usize,
     /// The term of each register's value after the clock's edge, in the order of the registers.
     pub next: Vec<TermId>,
-    /// The term of what each net, variable and memory settles to, by its dotted name.
+    /// The term of what each net and variable settles to, by its dotted name.
     pub settled: BTreeMap<String, TermId>,
     /// The outputs of the top, in the order of its ports.
     pub outputs: Vec<String>,
@@ -52,7 +52,7 @@ impl Design {
         self.terms.name(NameId(place))
     }
 
-    /// The term of what a net, variable or memory settles to, by its dotted name, if the design has that.
+    /// The term of what a net or variable settles to, by its dotted name, if the design has that.
     pub fn settled(&self, path: &str) -> Option<TermId>
         ensures term { option_map (λ id. id.0) result ≡ (parts_of self.now).settled path.now }
         ensures within { IfSome result (λ id. id.0 < length self.now.terms.nodes) }

@@ -1,4 +1,4 @@
-//! A design as terms of a store: what its nets, variables and memories settle to, and what the clock's edge makes of its registers.
+//! A design as terms of a store: what its nets and variables settle to, and what the clock's edge makes of its registers.
 #![tactic(auto)]
 
 mod design;
