@@ -227,7 +227,10 @@ fn numbers_of_stored(alloc: Global) -> Result<String, PutStop> {
     let length = terms.len();
     terms.cut(8);
     let left = terms.len();
-    let value = eval(&terms, &env, &mut scratch, a);
+    let Ok(mut room) = Scratch::new(alloc, &terms) else {
+        return Err(PutStop::NoMemory);
+    };
+    let value = eval(&terms, &env, &mut room, a);
     let words = if is_right { "200 2" } else { "others" };
     match format!(in alloc; "{word} {words} {length} {left} {value}") {
         Ok(text) => Ok(text),
