@@ -1,0 +1,15 @@
+pub mod Build
+pub mod Dots
+pub mod Fitting
+pub mod Kept
+pub mod Spots
+pub mod Links
+pub mod Givers
+pub mod Rounds
+pub mod Fixed
+pub mod Directions
+pub mod Declared
+pub mod Memories
+pub mod Inputs
+pub mod Drivers
+pub mod Exists
