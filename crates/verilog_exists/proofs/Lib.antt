@@ -13,3 +13,4 @@ pub mod Memories
 pub mod Inputs
 pub mod Drivers
 pub mod Exists
+pub mod Runs
