@@ -12,5 +12,9 @@ pub mod Declared
 pub mod Memories
 pub mod Inputs
 pub mod Drivers
+pub mod Scopes
+pub mod Rules
+pub mod Parameters
+pub mod Valued
 pub mod Exists
 pub mod Runs

@@ -97,7 +97,7 @@ registers_at settle after first zero = first
 registers_at settle after first (suc t) = after (settle (registers_at settle after first t) t)
 
 pub run_exists : RunExists
-run_exists s first inputs accepted fit dotless ranges are_registers are_inputs = (
+run_exists s first inputs accepted fit shapely dotless are_registers are_inputs = (
   record {
     registers = registers_at settle after first;
     inputs = inputs;
@@ -114,10 +114,10 @@ run_exists s first inputs accepted fit dotless ranges are_registers are_inputs =
 )
   where
     settle : Valuation → ℕ → Valuation
-    settle registers t = (settled_exists (design_of s) registers (inputs t) accepted fit dotless ranges (are_inputs t)).0
+    settle registers t = (settled_exists (design_of s) registers (inputs t) accepted fit shapely dotless (are_inputs t)).0
 
     is_settled : (registers : Valuation) (t : ℕ) → IsSettled (design_of s) registers (inputs t) (settle registers t)
-    is_settled registers t = (settled_exists (design_of s) registers (inputs t) accepted fit dotless ranges (are_inputs t)).1
+    is_settled registers t = (settled_exists (design_of s) registers (inputs t) accepted fit shapely dotless (are_inputs t)).1
 
     after : Valuation → Valuation
     after v = (next_exists (design_of s) v accepted dotless).0

@@ -7,7 +7,7 @@ use Rattle.verilog_designs.specs.Accepted.{IsAccepted}
 use Rattle.refinement.specs.Map.{Setting, design_of}
 use Rattle.refinement.specs.Run.{Run, IsRun}
 use Rattle.verilog_unique.specs.Unique.{NumbersFit}
-use Rattle.verilog_exists.specs.Exists.{NamesHaveNoDots, RangesHaveValues}
+use Rattle.verilog_exists.specs.Exists.{NamesHaveNoDots, IsShapely}
 
 -- After an edge of the clock at any valuation an accepted design has next registers.
 abbrev pub NextRegistersExist : Type 0
@@ -17,6 +17,6 @@ NextRegistersExist = (d : Design) (v : Valuation) → IsAccepted d → NamesHave
 abbrev pub RunExists : Type 0
 RunExists =
     (s : Setting) (registers : Valuation) (inputs : ℕ → Valuation)
-    → IsAccepted (design_of s) → NumbersFit (design_of s).source → NamesHaveNoDots (design_of s).source → RangesHaveValues (design_of s)
+    → IsAccepted (design_of s) → NumbersFit (design_of s).source → IsShapely (design_of s) → NamesHaveNoDots (design_of s).source
     → AreRegisters (design_of s) registers → ((t : ℕ) → AreInputs (design_of s) (inputs t))
     → (run : Run) × (run.registers 0 ≡ registers) × (run.inputs ≡ inputs) × ((cycles : ℕ) → IsRun s run cycles)

@@ -1,8 +1,13 @@
 //! The laws, each the contract of a function without code.
-ghost use Rattle.verilog_exists.specs.Exists.{SettledValuationExists};
+ghost use Rattle.verilog_exists.specs.Exists.{RangesExist, SettledValuationExists};
 ghost use Rattle.verilog_exists.specs.Runs.{NextRegistersExist, RunExists};
 
-/// An accepted design, whose numbers fit, has a settled valuation for any registers and any inputs of their widths.
+/// Each net, variable and memory of an accepted design, whose tree is that of a text, has a range with a value.
+pub fn ranges_of_an_accepted_design_have_values()
+    ensures { RangesExist }
+{}
+
+/// An accepted design, whose tree is that of a text, has a settled valuation for any registers and any inputs of their widths.
 pub fn an_accepted_design_has_a_settled_valuation()
     ensures { SettledValuationExists }
 {}
