@@ -97,7 +97,7 @@ registers_at settle after first zero = first
 registers_at settle after first (suc t) = after (settle (registers_at settle after first t) t)
 
 pub run_exists : RunExists
-run_exists s first inputs accepted fit shapely dotless are_registers are_inputs = (
+run_exists s first inputs accepted text are_registers are_inputs = (
   record {
     registers = registers_at settle after first;
     inputs = inputs;
@@ -114,13 +114,13 @@ run_exists s first inputs accepted fit shapely dotless are_registers are_inputs 
 )
   where
     settle : Valuation → ℕ → Valuation
-    settle registers t = (settled_exists (design_of s) registers (inputs t) accepted fit shapely dotless (are_inputs t)).0
+    settle registers t = (settled_exists (design_of s) registers (inputs t) accepted text (are_inputs t)).0
 
     is_settled : (registers : Valuation) (t : ℕ) → IsSettled (design_of s) registers (inputs t) (settle registers t)
-    is_settled registers t = (settled_exists (design_of s) registers (inputs t) accepted fit shapely dotless (are_inputs t)).1
+    is_settled registers t = (settled_exists (design_of s) registers (inputs t) accepted text (are_inputs t)).1
 
     after : Valuation → Valuation
-    after v = (next_exists (design_of s) v accepted dotless).0
+    after v = (next_exists (design_of s) v accepted text.no_dots).0
 
     goes_on : (v : Valuation) → IsNext (design_of s) v (after v)
-    goes_on v = (next_exists (design_of s) v accepted dotless).1
+    goes_on v = (next_exists (design_of s) v accepted text.no_dots).1

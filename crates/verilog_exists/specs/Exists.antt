@@ -24,6 +24,12 @@ NamesHaveNoDots source = (k : Name) (m : Module) (n : Name) → module_named sou
 abbrev pub IsShapely : Design → Type 0
 IsShapely d = (path : List PathStep) (p : Placed) → known_at d.source d.top path ≡ Some p → (broken_module d.source p).misshapen ≡ false
 
+-- The design's tree is that of a text.
+pub record IsOfText (d : Design) : Type 0 where
+  pub numbers_fit : NumbersFit d.source
+  pub shapely : IsShapely d
+  pub no_dots : NamesHaveNoDots d.source
+
 -- By the rules' reading each net, variable and memory has a range with a value.
 abbrev pub RangesHaveValues : Design → Type 0
 RangesHaveValues d =
@@ -33,10 +39,8 @@ RangesHaveValues d =
 abbrev pub RangesExist : Type 0
 RangesExist = (d : Design) → IsAccepted d → IsShapely d → RangesHaveValues d
 
--- An accepted design, whose tree is that of a text (its numbers fit, it is shapely, and its names have no dots), has a settled
--- valuation for any registers, and for any inputs that give each input of the top but the clock a value of its width.
+-- An accepted design, whose tree is that of a text, has a settled valuation for any registers, and for any inputs that give each input
+-- of the top but the clock a value of its width.
 abbrev pub SettledValuationExists : Type 0
 SettledValuationExists =
-    (d : Design) (registers inputs : Valuation)
-    → IsAccepted d → NumbersFit d.source → IsShapely d → NamesHaveNoDots d.source → AreInputs d inputs
-    → (v : Valuation) × IsSettled d registers inputs v
+    (d : Design) (registers inputs : Valuation) → IsAccepted d → IsOfText d → AreInputs d inputs → (v : Valuation) × IsSettled d registers inputs v
