@@ -3,7 +3,7 @@ ghost use Rattle.verilog_exists.specs.Exists.{RangesExist, SettledValuationExist
 ghost use Rattle.verilog_exists.specs.One.{OneSettledValuation};
 ghost use Rattle.verilog_exists.specs.Runs.{NextRegistersExist, RunExists};
 
-/// Each net, variable and memory of an accepted design, whose tree is that of a text, has a range with a value.
+/// Each net, variable and memory of an accepted design that is shapely has a range with a value.
 pub fn ranges_of_an_accepted_design_have_values()
     ensures { RangesExist }
 {}
