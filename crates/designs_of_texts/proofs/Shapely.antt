@@ -1,0 +1,212 @@
+-- In an expression that can be printed the rules' reading finds no number that does not fit its width, and no parts without bits.
+use Rattle.std.proofs.Common.{◌≡◌, ◌∙◌, ◌<◌, ◌≤◌, ◌+◌, ◌*◌, ◌^◌, ◌==◌, ◌&&◌, ◌||◌, not, nat_le, nat_lt, ℕ, zero, suc, min, max, Bool, true, false, cond, Option, Some, None, ℤ, pos, negsuc, refl, sym, ap, subst, arith}
+use Rattle.std.specs.Prelude.{int_le, natural_of}
+use Rattle.std.proofs.Math.Pow.{pow_mono}
+use Rattle.std.proofs.Math.Option.{some-injective}
+use Rattle.std.proofs.lemmas.Bool.{and_parts, false≢true}
+use Rattle.std.proofs.lemmas.Bool.Decides.{nat_tests}
+use Rattle.std.proofs.lemmas.Option.{none-some}
+use Rattle.wb_values.specs.Choice.{some_if}
+use Rattle.verilog_trees.specs.Syntax as tree
+use Rattle.verilog_trees.specs.Syntax.{Number, Expression, Expressions, no_expressions, expression, Select, Selects, whole, one, two}
+use Rattle.verilog_text.specs.Spelling.{kept_width}
+use Rattle.verilog_meaning.specs.Expression.{Object, Scope, no_values, object_width, is_memory, width_of, widths_of, selects_width, select_bits, integer_of}
+use Rattle.verilog_rules.specs.Expression.{Broken, Position, also, nothing, is_unbroken, by_total, copies, is_at_most_128, number_if, broken, broken_parts, broken_selects, broken_select, broken_bits, broken_constant, has_width, have_widths, select_has_width, selects_have_width, bits_between_bounds}
+use Rattle.v_print.specs.Printable.{IsPrintableNumber, IsPrintable, ArePrintable, AreSome, IsPrintableSelect, ArePrintableSelects}
+
+pub or-false : (a b : Bool) → a ≡ false → b ≡ false → (a || b) ≡ false
+or-false true b h k = absurd (false≢true (sym h))
+or-false false b h k = k
+
+-- ---- widths
+
+some-width : (b : Bool) (w : ℕ) → (b ≡ true → 1 ≤ w) → (b ≡ false → w ≡ 32) → 1 ≤ w
+some-width true w h k = h refl
+some-width false w h k = let e : w ≡ 32 = k refl in omega (arith, e)
+
+number-width : (k : Number) → IsPrintableNumber k → 1 ≤ k.width
+number-width k h = some-width k.sized k.width h.some_bits h.plain_width
+
+at-least : (i : ℤ) → int_le (pos 1) i ≡ true → 1 ≤ natural_of i
+at-least (pos zero) h = absurd (false≢true h)
+at-least (pos (suc n)) h = omega arith
+at-least (negsuc n) h = absurd (false≢true h)
+
+mul-some : (a b : ℕ) → 1 ≤ a → 1 ≤ b → 1 ≤ a * b
+mul-some zero b h k = absurd (omega (arith, h))
+mul-some (suc a) zero h k = absurd (omega (arith, k))
+mul-some (suc a) (suc b) h k = omega arith
+
+record Copied (o : Option ℤ) (u : Option ℕ) : Type 0 where
+  number : ℤ
+  width : ℕ
+  is_number : o ≡ Some number
+  is_width : u ≡ Some width
+  some : 1 ≤ natural_of number
+
+copied : (o : Option ℤ) (u : Option ℕ) → is_at_most_128 (copies o u) ≡ true → Copied o u
+copied None u h = absurd (false≢true h)
+copied (Some i) None h = absurd (false≢true h)
+copied (Some i) (Some w) h = by (int_le (pos 1) i) refl h
+  where
+    by : (b : Bool) → int_le (pos 1) i ≡ b → is_at_most_128 (some_if b (natural_of i * w)) ≡ true → Copied (Some i) (Some w)
+    by true e h = record { number = i; width = w; is_number = refl; is_width = refl; some = at-least i e }
+    by false e h = absurd (false≢true h)
+
+pub of-choice : {A : Type 0} (b : Bool) (x y : A) → some_if b x ≡ Some y → (b ≡ true) × (x ≡ y)
+of-choice true x y e = (refl, some-injective x y e)
+of-choice false x y e = absurd (none-some y e)
+
+-- the count of copies, or of bits
+counted : (s : Scope) (k : Expression) (u : Option ℕ) → is_at_most_128 (copies (number_if (broken_constant s k) s k) u) ≡ true
+    → 1 ≤ natural_of (integer_of s no_values k)
+counted s k u h =
+    let c = copied (number_if (broken_constant s k) s k) u h in
+    subst (λ i. 1 ≤ natural_of i) (sym (of-choice (is_unbroken (broken_constant s k)) (integer_of s no_values k) c.number c.is_number).1) c.some
+
+select-bits : (s : Scope) (o : Object) (x : Select) → select_has_width s x ≡ true → 1 ≤ (select_bits s no_values o x).count
+select-bits s o (tree.index i) h = omega arith
+select-bits s o (tree.part x y) h = omega arith
+select-bits s o (tree.part_up b n) h = counted s n (Some 1) h
+select-bits s o (tree.part_down b n) h = counted s n (Some 1) h
+
+whole-bits : (o : Object) → 1 ≤ object_width o
+whole-bits o = omega arith
+
+selects-bits : (s : Scope) (o : Object) (x : Selects) → selects_have_width s o x ≡ true → 1 ≤ selects_width s o x
+selects-bits s o whole h = whole-bits o
+selects-bits s o (one x) h = by (is_memory o) h
+  where
+    by : (b : Bool) → (b || select_has_width s x) ≡ true → 1 ≤ cond b (object_width o) (select_bits s no_values o x).count
+    by true h = whole-bits o
+    by false h = select-bits s o x h
+selects-bits s o (two x y) h = select-bits s o y h
+
+mutual
+  -- what can be printed and has a width has some bits
+  pub bits : (s : Scope) (e : Expression) → IsPrintable e → has_width s e ≡ true → 1 ≤ width_of s e
+  bits s (tree.number k) h w = number-width k h
+  bits s (tree.name n x) h w = selects-bits s (s n) x (and_parts _ (selects_have_width s (s n) x) w).1
+  bits s (tree.concatenation es) h w = together s es h.0 h.1 (joined-widths (have_widths s es) (widths_of s es) w)
+  bits s (tree.replication k es) h w =
+      let c = copied (number_if (broken_constant s k) s k) (some_if (have_widths s es) (widths_of s es)) w in
+      let known = of-choice (have_widths s es) (widths_of s es) c.width c.is_width in
+      mul-some (natural_of (integer_of s no_values k)) (widths_of s es)
+      (counted s k (some_if (have_widths s es) (widths_of s es)) w) (together s es h.1 h.2 known.0)
+  bits s (tree.as_signed x) h w = bits s x h w
+  bits s (tree.as_unsigned x) h w = bits s x h w
+  bits s (tree.unary op x) h w = bits s x h w
+  bits s (tree.reduction op x) h w = omega arith
+  bits s (tree.binary op x y) h w = let a = bits s x h.0 (and_parts (has_width s x) (has_width s y) w).0 in omega (arith, a)
+  bits s (tree.shift op x n) h w = bits s x h.0 w
+  bits s (tree.power x n) h w = bits s x h.0 w
+  bits s (tree.comparison op x y) h w = omega arith
+  bits s (tree.logical op x y) h w = omega arith
+  bits s (tree.conditional c x y) h w = let a = bits s x h.1 (and_parts (has_width s x) (has_width s y) w).0 in omega (arith, a)
+
+  -- and so have parts, if there are any
+  pub together : (s : Scope) (es : Expressions) → AreSome es → ArePrintable es → have_widths s es ≡ true → 1 ≤ widths_of s es
+  together s no_expressions some h w = absurd some
+  together s (expression e es) some h w = let a = bits s e h.0 (and_parts (has_width s e) (have_widths s es) w).0 in omega (arith, a)
+
+  joined-widths : (b : Bool) (w : ℕ) → is_at_most_128 (some_if b w) ≡ true → b ≡ true
+  joined-widths true w h = refl
+  joined-widths false w h = absurd (false≢true h)
+
+-- ---- shape
+
+fit : (a b c : Bool) → b ≡ true → c ≡ true → (a && not (b && c)) ≡ false
+fit true true true h k = refl
+fit false b c h k = refl
+fit true false c h k = absurd (false≢true h)
+fit true true false h k = absurd (false≢true k)
+
+is-at-least : (w : ℕ) → 1 ≤ w → nat_le 1 w ≡ true
+is-at-least w h = grind (arith, nat_tests)
+
+is-below : (x n : ℕ) → x < n → nat_lt x n ≡ true
+is-below x n h = grind (arith, nat_tests)
+
+value-fits : (k : Number) → IsPrintableNumber k → k.value < 2 ^ k.width
+value-fits k h =
+    let kept : kept_width k.width ≤ k.width = omega arith in
+    let more : 2 ^ kept_width k.width ≤ 2 ^ k.width = pow_mono kept in
+    omega (arith, h.value_fits, more)
+
+pub number-shapely : (k : Number) → IsPrintableNumber k → (nat_le k.width 128 && not (nat_le 1 k.width && nat_lt k.value (2 ^ k.width))) ≡ false
+number-shapely k h =
+    fit (nat_le k.width 128) (nat_le 1 k.width) (nat_lt k.value (2 ^ k.width)) (is-at-least k.width (number-width k h)) (is-below k.value (2 ^ k.width) (value-fits k h))
+
+is-zero : (w : ℕ) → 1 ≤ w → (w == 0) ≡ false
+is-zero zero h = absurd (omega (arith, h))
+is-zero (suc w) h = refl
+
+pub total-shapely : (u : Option ℕ) → ((w : ℕ) → u ≡ Some w → 1 ≤ w) → (by_total u).misshapen ≡ false
+total-shapely None h = refl
+total-shapely (Some w) h = is-zero w (h w refl)
+
+copies-some : (o : Option ℤ) (u : Option ℕ) (w : ℕ) → ((v : ℕ) → u ≡ Some v → 1 ≤ v) → copies o u ≡ Some w → 1 ≤ w
+copies-some None u w h e = absurd (none-some w e)
+copies-some (Some i) None w h e = absurd (none-some w e)
+copies-some (Some i) (Some v) w h e = by (int_le (pos 1) i) refl e
+  where
+    by : (b : Bool) → int_le (pos 1) i ≡ b → some_if b (natural_of i * v) ≡ Some w → 1 ≤ w
+    by true k e = subst (λ n. 1 ≤ n) (some-injective (natural_of i * v) w e) (mul-some (natural_of i) v (at-least i k) (h v refl))
+    by false k e = absurd (none-some w e)
+
+parts-some : (s : Scope) (es : Expressions) (w : ℕ) → AreSome es → ArePrintable es → some_if (have_widths s es) (widths_of s es) ≡ Some w → 1 ≤ w
+parts-some s es w some h e =
+    let c = of-choice (have_widths s es) (widths_of s es) w e in
+    subst (λ n. 1 ≤ n) c.1 (together s es some h c.0)
+
+mutual
+  pub shapely : (s : Scope) (p : Position) (e : Expression) → IsPrintable e → (broken s p e).misshapen ≡ false
+  shapely s p (tree.number k) h = number-shapely k h
+  shapely s p (tree.name n x) h = selects-shapely s p (s n) x h.1
+  shapely s p (tree.concatenation es) h =
+      or-false (by_total (some_if (have_widths s es) (widths_of s es))).misshapen (broken_parts s p es).misshapen
+      (total-shapely (some_if (have_widths s es) (widths_of s es)) (λ w. parts-some s es w h.0 h.1)) (parts-shapely s p es h.1)
+  shapely s p (tree.replication k es) h =
+      or-false (broken_constant s k).misshapen _ (shapely s _ k h.0)
+      (or-false (by_total (copies (number_if (broken_constant s k) s k) (some_if (have_widths s es) (widths_of s es)))).misshapen (broken_parts s p es).misshapen
+      (total-shapely (copies (number_if (broken_constant s k) s k) (some_if (have_widths s es) (widths_of s es)))
+      (λ w. copies-some (number_if (broken_constant s k) s k) (some_if (have_widths s es) (widths_of s es)) w (λ v. parts-some s es v h.1 h.2)))
+      (parts-shapely s p es h.2))
+  shapely s p (tree.as_signed x) h = shapely s _ x h
+  shapely s p (tree.as_unsigned x) h = shapely s _ x h
+  shapely s p (tree.unary op x) h = shapely s p x h
+  shapely s p (tree.reduction op x) h = shapely s _ x h
+  shapely s p (tree.binary op x y) h = or-false (broken s p x).misshapen (broken s p y).misshapen (shapely s p x h.0) (shapely s p y h.1)
+  shapely s p (tree.shift op x n) h = or-false (broken s p x).misshapen _ (shapely s p x h.0) (shapely s _ n h.1)
+  shapely s p (tree.power x n) h = or-false (broken s p x).misshapen _ (shapely s p x h.0) (shapely s _ n h.1)
+  shapely s p (tree.comparison op x y) h = or-false _ _ (shapely s _ x h.0) (shapely s _ y h.1)
+  shapely s p (tree.logical op x y) h = or-false _ _ (shapely s _ x h.0) (shapely s _ y h.1)
+  shapely s p (tree.conditional c x y) h =
+      or-false _ (broken s p y).misshapen (or-false _ (broken s p x).misshapen (shapely s _ c h.0) (shapely s p x h.1)) (shapely s p y h.2)
+
+  pub parts-shapely : (s : Scope) (p : Position) (es : Expressions) → ArePrintable es → (broken_parts s p es).misshapen ≡ false
+  parts-shapely s p no_expressions h = refl
+  parts-shapely s p (expression e es) h = or-false _ (broken_parts s p es).misshapen (shapely s _ e h.0) (parts-shapely s p es h.1)
+
+  pub selects-shapely : (s : Scope) (p : Position) (o : Object) (x : Selects) → ArePrintableSelects x → (broken_selects s p o x).misshapen ≡ false
+  selects-shapely s p o whole h = refl
+  selects-shapely s p o (one x) h = or-false (broken_select s p x).misshapen _ (select-shapely s p x h) (memory-bits (is_memory o) s o x)
+  selects-shapely s p o (two x y) h =
+      or-false (broken_select s p x).misshapen _ (select-shapely s p x h.0)
+      (or-false (broken_select s p y).misshapen (broken_bits s o y).misshapen (select-shapely s p y h.1) (bits-shapely s o y))
+
+  select-shapely : (s : Scope) (p : Position) (x : Select) → IsPrintableSelect x → (broken_select s p x).misshapen ≡ false
+  select-shapely s p (tree.index i) h = shapely s _ i h
+  select-shapely s p (tree.part x y) h = or-false _ _ (shapely s _ x h.0) (shapely s _ y h.1)
+  select-shapely s p (tree.part_up b n) h = or-false _ _ (shapely s _ b h.0) (shapely s _ n h.1)
+  select-shapely s p (tree.part_down b n) h = or-false _ _ (shapely s _ b h.0) (shapely s _ n h.1)
+
+  bits-shapely : (s : Scope) (o : Object) (x : Select) → (broken_bits s o x).misshapen ≡ false
+  bits-shapely s o (tree.index i) = refl
+  bits-shapely s o (tree.part x y) = refl
+  bits-shapely s o (tree.part_up b n) = refl
+  bits-shapely s o (tree.part_down b n) = refl
+
+  memory-bits : (b : Bool) (s : Scope) (o : Object) (x : Select) → (cond b nothing (broken_bits s o x)).misshapen ≡ false
+  memory-bits true s o x = refl
+  memory-bits false s o x = bits-shapely s o x
