@@ -1,5 +1,5 @@
 -- No dot stands in a name that can be printed.
-use Rattle.std.proofs.Common.{◌≡◌, ◌∙◌, ◌⊎◌, inl, inr, ◌++◌, ◌&&◌, ◌||◌, ℕ, Bool, true, false, List, [], ◌∷◌, refl, sym, ap, subst}
+use Rattle.std.proofs.Common.{◌≡◌, ◌∙◌, ◌⊎◌, inl, inr, ◌++◌, ◌&&◌, ◌||◌, ℕ, Bool, true, false, List, [], ◌∷◌, Option, refl, sym, ap, subst}
 use Rattle.std.specs.List.{Contains, list_all}
 use Rattle.std.proofs.lemmas.Bool.{and_parts, false≢true}
 use Rattle.wb_values.specs.Value.{Name}
@@ -49,7 +49,7 @@ no-dot n h c = in-word n (printed-word n h.is_written) (among_contains n 46 c)
 
 -- ---- the names of a module
 
-IsNamed : Declaration → Type 0
+abbrev IsNamed : Declaration → Type 0
 IsNamed d = IsPrintableName d.of_name
 
 of-ports : (d : PortDeclaration) (ns : List Name) → Each IsPrintableName ns → Each IsNamed (each_port d ns)
@@ -117,11 +117,12 @@ instances-of (tree.instances m given is ∷ items) h =
 
 names : (m : Module) → IsPrintableModule m → Each IsPrintableName (declared_names m)
 names m h =
-    each-append IsPrintableName (names_where (λ d. true) (declarations m)) (parameter_names (all_parameters m) ++ all_instance_names m.items)
+    each-append IsPrintableName (names_where (λ d. true) (declarations m) ++ parameter_names (all_parameters m)) (all_instance_names m.items)
+    (each-append IsPrintableName (names_where (λ d. true) (declarations m)) (parameter_names (all_parameters m))
     (names-of (declarations m) (each-append IsNamed (port_declarations (header_ports m.ports)) (item_declarations m.items)
     (of-header (header_ports m.ports) (header-list m.ports h.2)) (of-items m.items h.3)))
-    (each-append IsPrintableName (parameter_names (all_parameters m)) (all_instance_names m.items)
-    (of-parameters (all_parameters m) (all-printable m h)) (instances-of m.items h.3))
+    (of-parameters (all_parameters m) (all-printable m h)))
+    (instances-of m.items h.3)
 
 pub no-dots : (ms : Source) → IsPrintableSource ms → NamesHaveNoDots ms
 no-dots ms h k m n e c = no-dot n (each-at IsPrintableName (declared_names m) n (names m (module-of ms k m h e)) (among_contains (declared_names m) n c))

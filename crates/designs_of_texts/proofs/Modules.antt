@@ -2,7 +2,6 @@
 use Rattle.std.proofs.Common.{◌≡◌, ◌∙◌, ◌++◌, ℕ, suc, ◌⊎◌, inl, inr, Bool, true, false, List, [], ◌∷◌, cond, Option, Some, None, refl, sym, ap, subst}
 use Rattle.std.specs.List.{Contains}
 use Rattle.std.proofs.lemmas.Option.{none-some}
-use Rattle.std.proofs.Math.Option.{some-injective}
 use Rattle.wb_values.specs.Value.{Name, Entries, entry_of, same_name}
 use Rattle.wb_values.specs.Choice.{first_of}
 use Rattle.verilog_trees.specs.Syntax as tree
@@ -44,7 +43,7 @@ body (tree.instances m given is ∷ items) h = body items h.1
 
 -- ---- overrides
 
-IsFit : Instance → Type 0
+abbrev IsFit : Instance → Type 0
 IsFit i = ArePrintableOverrides i.parameters
 
 -- a choice by a test is one of the two
@@ -52,8 +51,11 @@ pick : {A : Type 0} (b : Bool) (x y : Option A) (e : A) (P : A → Type 0) → (
 pick true x y e P h k q = h q
 pick false x y e P h k q = k q
 
+pub same-some : {A : Type 0} (x y : A) → Some x ≡ Some y → x ≡ y
+same-some x y e = cc
+
 is-some : {A : Type 0} (P : A → Type 0) (x y : A) → Some x ≡ Some y → P x → P y
-is-some P x y e h = subst P (some-injective x y e) h
+is-some P x y e h = subst P (same-some x y e) h
 
 first : (o p : Option Instance) (i : Instance) → (o ≡ Some i → IsFit i) → (p ≡ Some i → IsFit i) → first_of o p ≡ Some i → IsFit i
 first None p i h k e = k e
@@ -80,24 +82,23 @@ instances-fit (tree.instances m given is ∷ items) u i h e =
 optional : (o : Option Expression) (e : Expression) → o ≡ Some e → IsPrintableOptional o → IsPrintable e
 optional o e q h = subst IsPrintableOptional q h
 
+pick-joined : (b : Bool) (x : Option Expression) (y : Option (Option Expression)) (e : Expression) → (x ≡ Some e → IsPrintable e)
+    → (joined_option y ≡ Some e → IsPrintable e) → joined_option (cond b (Some x) y) ≡ Some e → IsPrintable e
+pick-joined true x y e h k q = h q
+pick-joined false x y e h k q = k q
+
 under-name : (es : List (Name × Option Expression)) (n : Name) (e : Expression) → Each IsPrintableWire es → joined_option (entry_of es n) ≡ Some e
     → IsPrintable e
 under-name [] n e h q = absurd (none-some e q)
-under-name (x ∷ es) n e h q = by (same_name x.0 n) q
-  where
-    by : (b : Bool) → joined_option (cond b (Some x.1) (entry_of es n)) ≡ Some e → IsPrintable e
-    by true q = optional x.1 e q h.0.1
-    by false q = under-name es n e h.1 q
+under-name (x ∷ es) n e h q =
+    pick-joined (same_name x.0 n) x.1 (entry_of es n) e (λ r. optional x.1 e r h.0.1) (under-name es n e h.1) q
 
 by-place : (es : List (Option Expression)) (names : List Name) (n : Name) (e : Expression) → Each IsPrintableOptional es → in_order es names n ≡ Some e
     → IsPrintable e
 by-place [] names n e h q = absurd (none-some e q)
 by-place (o ∷ es) [] n e h q = absurd (none-some e q)
-by-place (o ∷ es) (m ∷ ms) n e h q = by (same_name m n) q
-  where
-    by : (b : Bool) → cond b o (in_order es ms n) ≡ Some e → IsPrintable e
-    by true q = optional o e q h.0
-    by false q = by-place es ms n e h.1 q
+by-place (o ∷ es) (m ∷ ms) n e h q =
+    pick (same_name m n) o (in_order es ms n) e IsPrintable (λ r. optional o e r h.0) (by-place es ms n e h.1) q
 
 override : (given : Connections) (names : List Name) (n : Name) (e : Expression) → ArePrintableOverrides given → connected given names n ≡ Some e
     → IsPrintable e
@@ -106,7 +107,7 @@ override (by_order es) names n e h q = by-place es names n e h q
 
 -- ---- assignments, blocks and connections
 
-AssignedFits : (Target × Expression) → Type 0
+abbrev AssignedFits : (Target × Expression) → Type 0
 AssignedFits a = LeavesAre AnyName a.1
 
 wire-assigned : (n : Name) (o : Option Expression) → IsPrintableOptional o → Each AssignedFits (wire_assignment n o)
@@ -149,7 +150,7 @@ blocks-fit (tree.assign ts ∷ items) h = blocks-fit items h.1
 blocks-fit (tree.always es x ∷ items) h = block-fits (is_clocked es) x (combinational_blocks items) (statements x h.0.1) (blocks-fit items h.1)
 blocks-fit (tree.instances m given is ∷ items) h = blocks-fit items h.1
 
-ConnectedFits : Connection → Type 0
+abbrev ConnectedFits : Connection → Type 0
 ConnectedFits c = LeavesAre AnyName c.expression
 
 if-any : (u : Name) (q : PortPlace) (o : Option Expression) → IsPrintableOptional o → Each ConnectedFits (connection_if_any u q o)

@@ -1,17 +1,18 @@
 -- In an expression that can be printed the rules' reading finds no number that does not fit its width, and no parts without bits.
 use Rattle.std.proofs.Common.{◌≡◌, ◌∙◌, ◌<◌, ◌≤◌, ◌+◌, ◌*◌, ◌^◌, ◌==◌, ◌&&◌, ◌||◌, not, nat_le, nat_lt, ℕ, zero, suc, min, max, Bool, true, false, cond, Option, Some, None, ℤ, pos, negsuc, refl, sym, ap, subst, arith}
-use Rattle.std.specs.Prelude.{int_le, natural_of}
+use Rattle.std.specs.Prelude.{int_le}
 use Rattle.std.proofs.Math.Pow.{pow_mono}
-use Rattle.std.proofs.Math.Option.{some-injective}
 use Rattle.std.proofs.lemmas.Bool.{and_parts, false≢true}
 use Rattle.std.proofs.lemmas.Bool.Decides.{nat_tests}
 use Rattle.std.proofs.lemmas.Option.{none-some}
+use Rattle.wb_values.specs.Value.{Name}
 use Rattle.wb_values.specs.Choice.{some_if}
 use Rattle.verilog_trees.specs.Syntax as tree
 use Rattle.verilog_trees.specs.Syntax.{Number, Expression, Expressions, no_expressions, expression, Select, Selects, whole, one, two}
 use Rattle.verilog_text.specs.Spelling.{kept_width}
-use Rattle.verilog_meaning.specs.Expression.{Object, Scope, no_values, object_width, is_memory, width_of, widths_of, selects_width, select_bits, integer_of}
-use Rattle.verilog_rules.specs.Expression.{Broken, Position, also, nothing, is_unbroken, by_total, copies, is_at_most_128, number_if, broken, broken_parts, broken_selects, broken_select, broken_bits, broken_constant, has_width, have_widths, select_has_width, selects_have_width, bits_between_bounds}
+use Rattle.verilog_meaning.specs.Expression.{Object, Scope, no_values, object_width, is_memory, natural_of, sign_of, width_of, widths_of, selects_width, select_bits, integer_of}
+use Rattle.verilog_rules.specs.Expression.{Broken, Position, also, nothing, is_unbroken, by_total, copies, is_at_most_128, number_if, broken, broken_parts, broken_selects, broken_select, broken_bits, broken_constant, by_itself, as_constant, in_context, wider, has_width, have_widths, select_has_width, selects_have_width, bits_between_bounds}
+use Rattle.designs_of_texts.proofs.Modules.{same-some}
 use Rattle.v_print.specs.Printable.{IsPrintableNumber, IsPrintable, ArePrintable, AreSome, IsPrintableSelect, ArePrintableSelects}
 
 pub or-false : (a b : Bool) → a ≡ false → b ≡ false → (a || b) ≡ false
@@ -54,7 +55,7 @@ copied (Some i) (Some w) h = by (int_le (pos 1) i) refl h
     by false e h = absurd (false≢true h)
 
 pub of-choice : {A : Type 0} (b : Bool) (x y : A) → some_if b x ≡ Some y → (b ≡ true) × (x ≡ y)
-of-choice true x y e = (refl, some-injective x y e)
+of-choice true x y e = (refl, same-some x y e)
 of-choice false x y e = absurd (none-some y e)
 
 -- the count of copies, or of bits
@@ -81,6 +82,10 @@ selects-bits s o (one x) h = by (is_memory o) h
     by true h = whole-bits o
     by false h = select-bits s o x h
 selects-bits s o (two x y) h = select-bits s o y h
+
+joined-widths : (b : Bool) (w : ℕ) → is_at_most_128 (some_if b w) ≡ true → b ≡ true
+joined-widths true w h = refl
+joined-widths false w h = absurd (false≢true h)
 
 mutual
   -- what can be printed and has a width has some bits
@@ -109,10 +114,6 @@ mutual
   together s no_expressions some h w = absurd some
   together s (expression e es) some h w = let a = bits s e h.0 (and_parts (has_width s e) (have_widths s es) w).0 in omega (arith, a)
 
-  joined-widths : (b : Bool) (w : ℕ) → is_at_most_128 (some_if b w) ≡ true → b ≡ true
-  joined-widths true w h = refl
-  joined-widths false w h = absurd (false≢true h)
-
 -- ---- shape
 
 fit : (a b c : Bool) → b ≡ true → c ≡ true → (a && not (b && c)) ≡ false
@@ -139,7 +140,7 @@ number-shapely k h =
 
 is-zero : (w : ℕ) → 1 ≤ w → (w == 0) ≡ false
 is-zero zero h = absurd (omega (arith, h))
-is-zero (suc w) h = refl
+is-zero (suc w) h = grind (arith, nat_tests)
 
 pub total-shapely : (u : Option ℕ) → ((w : ℕ) → u ≡ Some w → 1 ≤ w) → (by_total u).misshapen ≡ false
 total-shapely None h = refl
@@ -151,7 +152,7 @@ copies-some (Some i) None w h e = absurd (none-some w e)
 copies-some (Some i) (Some v) w h e = by (int_le (pos 1) i) refl e
   where
     by : (b : Bool) → int_le (pos 1) i ≡ b → some_if b (natural_of i * v) ≡ Some w → 1 ≤ w
-    by true k e = subst (λ n. 1 ≤ n) (some-injective (natural_of i * v) w e) (mul-some (natural_of i) v (at-least i k) (h v refl))
+    by true k e = subst (λ n. 1 ≤ n) (same-some (natural_of i * v) w e) (mul-some (natural_of i) v (at-least i k) (h v refl))
     by false k e = absurd (none-some w e)
 
 parts-some : (s : Scope) (es : Expressions) (w : ℕ) → AreSome es → ArePrintable es → some_if (have_widths s es) (widths_of s es) ≡ Some w → 1 ≤ w
@@ -159,54 +160,179 @@ parts-some s es w some h e =
     let c = of-choice (have_widths s es) (widths_of s es) w e in
     subst (λ n. 1 ≤ n) c.1 (together s es some h c.0)
 
+-- the rules' reading finds neither in the expression, wherever it stands; in parts; in selects; in one select
+IsShape : Scope → Expression → Type 0
+IsShape s e = (p : Position) → (broken s p e).misshapen ≡ false
+
+AreShape : Scope → Expressions → Type 0
+AreShape s es = (p : Position) → (broken_parts s p es).misshapen ≡ false
+
+AreSelects : Scope → Selects → Type 0
+AreSelects s x = (p : Position) (o : Object) → (broken_selects s p o x).misshapen ≡ false
+
+IsSelect : Scope → Select → Type 0
+IsSelect s x = (p : Position) → (broken_select s p x).misshapen ≡ false
+
+at-number : (s : Scope) (k : Number) → IsPrintableNumber k → IsShape s (tree.number k)
+unfolding IsShape
+at-number s k h p = number-shapely k h
+
+at-name : (s : Scope) (n : Name) (x : Selects) → AreSelects s x → IsShape s (tree.name n x)
+unfolding IsShape AreSelects
+at-name s n x h p = h p (s n)
+
+at-concatenation : (s : Scope) (es : Expressions) → AreSome es → ArePrintable es → AreShape s es → IsShape s (tree.concatenation es)
+unfolding IsShape AreShape
+at-concatenation s es some h k p =
+    or-false (by_total (some_if (have_widths s es) (widths_of s es))).misshapen (broken_parts s p es).misshapen
+    (total-shapely (some_if (have_widths s es) (widths_of s es)) (λ w. parts-some s es w some h)) (k p)
+
+at-replication : (s : Scope) (c : Expression) (es : Expressions) → AreSome es → ArePrintable es → IsShape s c → AreShape s es → IsShape s (tree.replication c es)
+unfolding IsShape AreShape
+at-replication s c es some h i k p =
+    or-false (broken_constant s c).misshapen ((by_total (copies (number_if (broken_constant s c) s c) (some_if (have_widths s es) (widths_of s es)))).misshapen || (broken_parts s p es).misshapen)
+    (i (as_constant s (has_width s c) c))
+    (or-false (by_total (copies (number_if (broken_constant s c) s c) (some_if (have_widths s es) (widths_of s es)))).misshapen (broken_parts s p es).misshapen
+    (total-shapely (copies (number_if (broken_constant s c) s c) (some_if (have_widths s es) (widths_of s es)))
+    (λ w. copies-some (number_if (broken_constant s c) s c) (some_if (have_widths s es) (widths_of s es)) w (λ v. parts-some s es v some h)))
+    (k p))
+
+at-signed : (s : Scope) (x : Expression) → IsShape s x → IsShape s (tree.as_signed x)
+unfolding IsShape
+at-signed s x h p = h (by_itself s p (has_width s x) x)
+
+at-unsigned : (s : Scope) (x : Expression) → IsShape s x → IsShape s (tree.as_unsigned x)
+unfolding IsShape
+at-unsigned s x h p = h (by_itself s p (has_width s x) x)
+
+at-unary : (s : Scope) (op : tree.UnaryOperator) (x : Expression) → IsShape s x → IsShape s (tree.unary op x)
+unfolding IsShape
+at-unary s op x h p = h p
+
+at-reduction : (s : Scope) (op : tree.ReductionOperator) (x : Expression) → IsShape s x → IsShape s (tree.reduction op x)
+unfolding IsShape
+at-reduction s op x h p = h (by_itself s p (has_width s x) x)
+
+at-binary : (s : Scope) (op : tree.BinaryOperator) (x y : Expression) → IsShape s x → IsShape s y → IsShape s (tree.binary op x y)
+unfolding IsShape
+at-binary s op x y h k p = or-false (broken s p x).misshapen (broken s p y).misshapen (h p) (k p)
+
+at-shift : (s : Scope) (op : tree.ShiftOperator) (x n : Expression) → IsShape s x → IsShape s n → IsShape s (tree.shift op x n)
+unfolding IsShape
+at-shift s op x n h k p =
+    or-false (broken s p x).misshapen (broken s (by_itself s p (has_width s n) n) n).misshapen (h p) (k (by_itself s p (has_width s n) n))
+
+at-power : (s : Scope) (x n : Expression) → IsShape s x → IsShape s n → IsShape s (tree.power x n)
+unfolding IsShape
+at-power s x n h k p =
+    or-false (broken s p x).misshapen (broken s (by_itself s p (has_width s n) n) n).misshapen (h p) (k (by_itself s p (has_width s n) n))
+
+at-comparison : (s : Scope) (op : tree.ComparisonOperator) (x y : Expression) → IsShape s x → IsShape s y → IsShape s (tree.comparison op x y)
+unfolding IsShape
+at-comparison s op x y h k p =
+    let w = wider (some_if (has_width s x) (width_of s x)) (some_if (has_width s y) (width_of s y)) in
+    let q = in_context p w (sign_of s x && sign_of s y) in
+    or-false (broken s q x).misshapen (broken s q y).misshapen (h q) (k q)
+
+at-logical : (s : Scope) (op : tree.LogicalOperator) (x y : Expression) → IsShape s x → IsShape s y → IsShape s (tree.logical op x y)
+unfolding IsShape
+at-logical s op x y h k p =
+    or-false (broken s (by_itself s p (has_width s x) x) x).misshapen (broken s (by_itself s p (has_width s y) y) y).misshapen
+    (h (by_itself s p (has_width s x) x)) (k (by_itself s p (has_width s y) y))
+
+at-conditional : (s : Scope) (c x y : Expression) → IsShape s c → IsShape s x → IsShape s y → IsShape s (tree.conditional c x y)
+unfolding IsShape
+at-conditional s c x y i h k p =
+    or-false ((broken s (by_itself s p (has_width s c) c) c).misshapen || (broken s p x).misshapen) (broken s p y).misshapen
+    (or-false (broken s (by_itself s p (has_width s c) c) c).misshapen (broken s p x).misshapen (i (by_itself s p (has_width s c) c)) (h p)) (k p)
+
+at-none : (s : Scope) → AreShape s no_expressions
+unfolding AreShape
+at-none s p = refl
+
+at-part : (s : Scope) (e : Expression) (es : Expressions) → IsShape s e → AreShape s es → AreShape s (expression e es)
+unfolding IsShape AreShape
+at-part s e es h k p =
+    or-false (broken s (by_itself s p (has_width s e) e) e).misshapen (broken_parts s p es).misshapen (h (by_itself s p (has_width s e) e)) (k p)
+
+bits-shapely : (s : Scope) (o : Object) (x : Select) → (broken_bits s o x).misshapen ≡ false
+bits-shapely s o (tree.index i) = refl
+bits-shapely s o (tree.part x y) = refl
+bits-shapely s o (tree.part_up b n) = refl
+bits-shapely s o (tree.part_down b n) = refl
+
+memory-bits : (b : Bool) (s : Scope) (o : Object) (x : Select) → (cond b nothing (broken_bits s o x)).misshapen ≡ false
+memory-bits true s o x = refl
+memory-bits false s o x = bits-shapely s o x
+
+at-whole : (s : Scope) → AreSelects s whole
+unfolding AreSelects
+at-whole s p o = refl
+
+at-one : (s : Scope) (x : Select) → IsSelect s x → AreSelects s (one x)
+unfolding AreSelects IsSelect
+at-one s x h p o = or-false (broken_select s p x).misshapen (cond (is_memory o) nothing (broken_bits s o x)).misshapen (h p) (memory-bits (is_memory o) s o x)
+
+at-two : (s : Scope) (x y : Select) → IsSelect s x → IsSelect s y → AreSelects s (two x y)
+unfolding AreSelects IsSelect
+at-two s x y h k p o =
+    or-false (broken_select s p x).misshapen ((broken_select s p y).misshapen || (broken_bits s o y).misshapen) (h p)
+    (or-false (broken_select s p y).misshapen (broken_bits s o y).misshapen (k p) (bits-shapely s o y))
+
+at-index : (s : Scope) (i : Expression) → IsShape s i → IsSelect s (tree.index i)
+unfolding IsShape IsSelect
+at-index s i h p = h (by_itself s p (has_width s i) i)
+
+at-range : (s : Scope) (x y : Expression) → IsShape s x → IsShape s y → IsSelect s (tree.part x y)
+unfolding IsShape IsSelect
+at-range s x y h k p = or-false (broken_constant s x).misshapen (broken_constant s y).misshapen (h (as_constant s (has_width s x) x)) (k (as_constant s (has_width s y) y))
+
+at-up : (s : Scope) (b n : Expression) → IsShape s b → IsShape s n → IsSelect s (tree.part_up b n)
+unfolding IsShape IsSelect
+at-up s b n h k p =
+    or-false (broken s (by_itself s p (has_width s b) b) b).misshapen (broken_constant s n).misshapen (h (by_itself s p (has_width s b) b)) (k (as_constant s (has_width s n) n))
+
+at-down : (s : Scope) (b n : Expression) → IsShape s b → IsShape s n → IsSelect s (tree.part_down b n)
+unfolding IsShape IsSelect
+at-down s b n h k p =
+    or-false (broken s (by_itself s p (has_width s b) b) b).misshapen (broken_constant s n).misshapen (h (by_itself s p (has_width s b) b)) (k (as_constant s (has_width s n) n))
+
 mutual
-  pub shapely : (s : Scope) (p : Position) (e : Expression) → IsPrintable e → (broken s p e).misshapen ≡ false
-  shapely s p (tree.number k) h = number-shapely k h
-  shapely s p (tree.name n x) h = selects-shapely s p (s n) x h.1
-  shapely s p (tree.concatenation es) h =
-      or-false (by_total (some_if (have_widths s es) (widths_of s es))).misshapen (broken_parts s p es).misshapen
-      (total-shapely (some_if (have_widths s es) (widths_of s es)) (λ w. parts-some s es w h.0 h.1)) (parts-shapely s p es h.1)
-  shapely s p (tree.replication k es) h =
-      or-false (broken_constant s k).misshapen _ (shapely s _ k h.0)
-      (or-false (by_total (copies (number_if (broken_constant s k) s k) (some_if (have_widths s es) (widths_of s es)))).misshapen (broken_parts s p es).misshapen
-      (total-shapely (copies (number_if (broken_constant s k) s k) (some_if (have_widths s es) (widths_of s es)))
-      (λ w. copies-some (number_if (broken_constant s k) s k) (some_if (have_widths s es) (widths_of s es)) w (λ v. parts-some s es v h.1 h.2)))
-      (parts-shapely s p es h.2))
-  shapely s p (tree.as_signed x) h = shapely s _ x h
-  shapely s p (tree.as_unsigned x) h = shapely s _ x h
-  shapely s p (tree.unary op x) h = shapely s p x h
-  shapely s p (tree.reduction op x) h = shapely s _ x h
-  shapely s p (tree.binary op x y) h = or-false (broken s p x).misshapen (broken s p y).misshapen (shapely s p x h.0) (shapely s p y h.1)
-  shapely s p (tree.shift op x n) h = or-false (broken s p x).misshapen _ (shapely s p x h.0) (shapely s _ n h.1)
-  shapely s p (tree.power x n) h = or-false (broken s p x).misshapen _ (shapely s p x h.0) (shapely s _ n h.1)
-  shapely s p (tree.comparison op x y) h = or-false _ _ (shapely s _ x h.0) (shapely s _ y h.1)
-  shapely s p (tree.logical op x y) h = or-false _ _ (shapely s _ x h.0) (shapely s _ y h.1)
-  shapely s p (tree.conditional c x y) h =
-      or-false _ (broken s p y).misshapen (or-false _ (broken s p x).misshapen (shapely s _ c h.0) (shapely s p x h.1)) (shapely s p y h.2)
+  shape : (s : Scope) (e : Expression) → IsPrintable e → IsShape s e
+  shape s (tree.number k) h = at-number s k h
+  shape s (tree.name n x) h = at-name s n x (selects-shape s x h.1)
+  shape s (tree.concatenation es) h = at-concatenation s es h.0 h.1 (parts-shape s es h.1)
+  shape s (tree.replication k es) h = at-replication s k es h.1 h.2 (shape s k h.0) (parts-shape s es h.2)
+  shape s (tree.as_signed x) h = at-signed s x (shape s x h)
+  shape s (tree.as_unsigned x) h = at-unsigned s x (shape s x h)
+  shape s (tree.unary op x) h = at-unary s op x (shape s x h)
+  shape s (tree.reduction op x) h = at-reduction s op x (shape s x h)
+  shape s (tree.binary op x y) h = at-binary s op x y (shape s x h.0) (shape s y h.1)
+  shape s (tree.shift op x n) h = at-shift s op x n (shape s x h.0) (shape s n h.1)
+  shape s (tree.power x n) h = at-power s x n (shape s x h.0) (shape s n h.1)
+  shape s (tree.comparison op x y) h = at-comparison s op x y (shape s x h.0) (shape s y h.1)
+  shape s (tree.logical op x y) h = at-logical s op x y (shape s x h.0) (shape s y h.1)
+  shape s (tree.conditional c x y) h = at-conditional s c x y (shape s c h.0) (shape s x h.1) (shape s y h.2)
 
-  pub parts-shapely : (s : Scope) (p : Position) (es : Expressions) → ArePrintable es → (broken_parts s p es).misshapen ≡ false
-  parts-shapely s p no_expressions h = refl
-  parts-shapely s p (expression e es) h = or-false _ (broken_parts s p es).misshapen (shapely s _ e h.0) (parts-shapely s p es h.1)
+  parts-shape : (s : Scope) (es : Expressions) → ArePrintable es → AreShape s es
+  parts-shape s no_expressions h = at-none s
+  parts-shape s (expression e es) h = at-part s e es (shape s e h.0) (parts-shape s es h.1)
 
-  pub selects-shapely : (s : Scope) (p : Position) (o : Object) (x : Selects) → ArePrintableSelects x → (broken_selects s p o x).misshapen ≡ false
-  selects-shapely s p o whole h = refl
-  selects-shapely s p o (one x) h = or-false (broken_select s p x).misshapen _ (select-shapely s p x h) (memory-bits (is_memory o) s o x)
-  selects-shapely s p o (two x y) h =
-      or-false (broken_select s p x).misshapen _ (select-shapely s p x h.0)
-      (or-false (broken_select s p y).misshapen (broken_bits s o y).misshapen (select-shapely s p y h.1) (bits-shapely s o y))
+  selects-shape : (s : Scope) (x : Selects) → ArePrintableSelects x → AreSelects s x
+  selects-shape s whole h = at-whole s
+  selects-shape s (one x) h = at-one s x (select-shape s x h)
+  selects-shape s (two x y) h = at-two s x y (select-shape s x h.0) (select-shape s y h.1)
 
-  select-shapely : (s : Scope) (p : Position) (x : Select) → IsPrintableSelect x → (broken_select s p x).misshapen ≡ false
-  select-shapely s p (tree.index i) h = shapely s _ i h
-  select-shapely s p (tree.part x y) h = or-false _ _ (shapely s _ x h.0) (shapely s _ y h.1)
-  select-shapely s p (tree.part_up b n) h = or-false _ _ (shapely s _ b h.0) (shapely s _ n h.1)
-  select-shapely s p (tree.part_down b n) h = or-false _ _ (shapely s _ b h.0) (shapely s _ n h.1)
+  select-shape : (s : Scope) (x : Select) → IsPrintableSelect x → IsSelect s x
+  select-shape s (tree.index i) h = at-index s i (shape s i h)
+  select-shape s (tree.part x y) h = at-range s x y (shape s x h.0) (shape s y h.1)
+  select-shape s (tree.part_up b n) h = at-up s b n (shape s b h.0) (shape s n h.1)
+  select-shape s (tree.part_down b n) h = at-down s b n (shape s b h.0) (shape s n h.1)
 
-  bits-shapely : (s : Scope) (o : Object) (x : Select) → (broken_bits s o x).misshapen ≡ false
-  bits-shapely s o (tree.index i) = refl
-  bits-shapely s o (tree.part x y) = refl
-  bits-shapely s o (tree.part_up b n) = refl
-  bits-shapely s o (tree.part_down b n) = refl
+pub shapely : (s : Scope) (p : Position) (e : Expression) → IsPrintable e → (broken s p e).misshapen ≡ false
+unfolding IsShape
+shapely s p e h = shape s e h p
 
-  memory-bits : (b : Bool) (s : Scope) (o : Object) (x : Select) → (cond b nothing (broken_bits s o x)).misshapen ≡ false
-  memory-bits true s o x = refl
-  memory-bits false s o x = bits-shapely s o x
+pub selects-shapely : (s : Scope) (p : Position) (o : Object) (x : Selects) → ArePrintableSelects x → (broken_selects s p o x).misshapen ≡ false
+unfolding AreSelects
+selects-shapely s p o x h = selects-shape s x h p o

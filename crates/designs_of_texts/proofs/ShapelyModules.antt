@@ -1,5 +1,5 @@
 -- In the modules of a source that can be printed the rules' reading finds no number that does not fit its width, and no parts without bits.
-use Rattle.std.proofs.Common.{◌≡◌, ◌∙◌, ◌≤◌, ◌+◌, ◌&&◌, ◌||◌, ℕ, Bool, true, false, cond, List, [], ◌∷◌, Option, Some, None, refl, sym, ap, subst, arith}
+use Rattle.std.proofs.Common.{◌≡◌, ◌∙◌, ◌≤◌, ◌+◌, ◌&&◌, ◌||◌, ℕ, suc, Bool, true, false, cond, List, [], ◌∷◌, Option, Some, None, refl, sym, ap, subst, arith}
 use Rattle.std.proofs.lemmas.Bool.{and_parts}
 use Rattle.wb_values.specs.Value.{Name}
 use Rattle.wb_values.specs.Choice.{some_if}
@@ -13,14 +13,13 @@ use Rattle.verilog_meaning.specs.Settled.{Design, as_target, all_as_targets, Con
 use Rattle.verilog_rules.specs.Expression.{Broken, Position, anywhere, nothing, also, by_total, broken, broken_selects}
 use Rattle.verilog_designs.specs.Known.{known_at, known_below, known_instance, known_constants, known_overrides, known_scope}
 use Rattle.std.proofs.lemmas.Option.{none-some}
-use Rattle.std.proofs.Math.Option.{some-injective}
 use Rattle.std.specs.Prelude.{option_map, option_and_then}
 use Rattle.verilog_designs.specs.Expressions.{broken_bound, broken_range, broken_values, broken_width, broken_addresses, broken_parameters, broken_header, broken_ports, target_has_width, targets_have_width, broken_target, broken_targets, broken_net_target, may_be_wild, judged_item, broken_item, broken_items, broken_block_target, broken_statement, broken_statements, broken_arms, broken_event_list, broken_events, broken_assignments, broken_initial_values, broken_output, broken_connection, broken_connections, broken_instances, broken_named_values, broken_ordered_values, broken_overrides, broken_declarations, broken_module_item, broken_module_items, broken_module}
 use Rattle.v_print.specs.Printable.{IsPrintable, ArePrintable, AreSome, AreSomeTargets, IsPrintableTarget, ArePrintableTargets, IsPrintableStatement, ArePrintableStatements, ArePrintableItems, Each, EachOfSome, IsPrintableOptional, IsPrintableRange, IsPrintablePort, IsPrintableSetting, IsPrintableParameter, IsPrintableWire, IsPrintableVariable, ArePrintableConnections, ArePrintableOverrides, IsPrintableInstance, IsPrintableAssignment, IsPrintableItem, IsPrintableHeader, ArePrintablePorts, IsPrintableModule, IsPrintableSource}
 use Rattle.verilog_unique.proofs.Options.{from_map, from_chain}
 use Rattle.verilog_exists.specs.Exists.{IsShapely}
 use Rattle.designs_of_texts.proofs.Lists.{each-append, each-some}
-use Rattle.designs_of_texts.proofs.Modules.{module-of}
+use Rattle.designs_of_texts.proofs.Modules.{module-of, same-some}
 use Rattle.designs_of_texts.proofs.Shapely.{or-false, bits, number-shapely, total-shapely, shapely, selects-shapely, of-choice}
 
 -- ---- ranges and parameters
@@ -87,7 +86,7 @@ mutual
 -- an expression that is a target as well
 mutual
   as-printable : (e : Expression) (t : Target) → IsPrintable e → as_target e ≡ Some t → IsPrintableTarget t
-  as-printable (tree.name n x) t h q = subst IsPrintableTarget (some-injective (tree.place n x) t q) h
+  as-printable (tree.name n x) t h q = subst IsPrintableTarget (same-some (tree.place n x) t q) h
   as-printable (tree.concatenation es) t h q =
       let f = from_map tree.joined (all_as_targets es) t q in
       subst IsPrintableTarget f.2 (all-printable es f.0 h.0 h.1 f.1)
@@ -109,10 +108,10 @@ mutual
   all-printable (expression e es) ts some h q =
       let f = from_chain (λ t. option_map (target t) (all_as_targets es)) (as_target e) ts q in
       let g = from_map (target f.0) (all_as_targets es) ts f.2 in
-      subst (λ us. IsPrintableTarget (tree.joined us)) g.2 (tt, as-printable e f.0 h.0 f.1, rest-printable es g.0 h.1 g.1)
+      subst (λ us. IsPrintableTarget (tree.joined us)) g.2 (tt, (as-printable e f.0 h.0 f.1, rest-printable es g.0 h.1 g.1))
 
   rest-printable : (es : Expressions) (ts : Targets) → ArePrintable es → all_as_targets es ≡ Some ts → ArePrintableTargets ts
-  rest-printable no_expressions ts h q = subst ArePrintableTargets (some-injective no_targets ts q) tt
+  rest-printable no_expressions ts h q = subst ArePrintableTargets (same-some no_targets ts q) tt
   rest-printable (expression e es) ts h q =
       let f = from_chain (λ t. option_map (target t) (all_as_targets es)) (as_target e) ts q in
       let g = from_map (target f.0) (all_as_targets es) ts f.2 in
@@ -207,7 +206,7 @@ connection s None c h = shapely s anywhere c.expression h
 connection s (Some m) c h =
     chosen _ (broken_output s c.expression (as_target c.expression)) (broken s anywhere c.expression) (output s c.expression (as_target c.expression) h refl) (shapely s anywhere c.expression h)
 
-IsPrintableConnection : Connection → Type 0
+abbrev IsPrintableConnection : Connection → Type 0
 IsPrintableConnection c = IsPrintable c.expression
 
 connections : (s : Scope) (below : Option Module) (cs : List Connection) → Each IsPrintableConnection cs → (broken_connections s below cs).misshapen ≡ false
