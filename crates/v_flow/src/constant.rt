@@ -22,13 +22,16 @@ pub(crate) fn is_constant(scope: &Scope<'_>, expression: &Expression<'_>) -> boo
         Expression::AsUnsigned(operand) => is_constant(scope, operand),
         Expression::Prefix(_, operand) => is_constant(scope, operand),
         Expression::Binary(first, links) => {
-            are_constant_links(scope, is_constant(scope, first), links)
+            let known = is_constant(scope, first);
+            are_constant_links(scope, known, links)
         }
         Expression::Test(first, links) => {
-            are_constant_tests(scope, is_constant(scope, first), links)
+            let known = is_constant(scope, first);
+            are_constant_tests(scope, known, links)
         }
         Expression::Conditional(choices, last) => {
-            are_constant_choices(scope, choices, is_constant(scope, last))
+            let known = is_constant(scope, last);
+            are_constant_choices(scope, choices, known)
         }
     }
 }
@@ -94,11 +97,22 @@ fn are_constant_choices(scope: &Scope<'_>, choices: &[Choice<'_>], last: bool) -
         return false;
     }
     for choice in choices {
-        if !is_constant(scope, &choice.condition) || !is_constant(scope, &choice.value) {
+        if !is_constant_choice(scope, choice) {
             return false;
         }
     }
     true
+}
+
+/// Whether a condition with its value is constant.
+#[cycle(constant)]
+fn is_constant_choice(scope: &Scope<'_>, choice: &Choice<'_>) -> bool
+    ensures { result ≡ (constant_at (scope_at scope.now) (tree_of choice.now.condition) && constant_at (scope_at scope.now) (tree_of choice.now.value)) }
+{
+    if !is_constant(scope, &choice.condition) {
+        return false;
+    }
+    is_constant(scope, &choice.value)
 }
 
 /// Whether the index of a select is constant, or the base of `+:` and `-:`.

@@ -4,13 +4,12 @@
 mod assigned;
 mod constant;
 mod place;
-mod read;
 mod reached;
+mod read;
 pub mod span;
 mod statement;
 
 pub use assigned::add_assigned;
-pub use constant::is_constant;
+pub use reached::{add_reached, add_surely_reached, add_target_reads};
 pub use read::add_reads;
-pub use reached::{add_reached, add_target_reads};
 pub use statement::add_statement_reads;

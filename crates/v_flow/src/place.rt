@@ -1,18 +1,20 @@
 //! The bits that names with selects mean, or may mean where an index is no constant.
 
-ghost use Rattle.std.specs.Prelude.{◌≡◌, ◌≤◌, ◌&&◌, ◌-ℤ◌, ◌+ℤ◌, ◌+◌, ◌^◌, ◌-◌, nat_lt, pos, option_and_then};
+ghost use Rattle.std.specs.Prelude.{◌≡◌, OnOk, ◌<◌, ◌≤◌, IfSome, ◌&&◌, ◌-ℤ◌, ◌+ℤ◌, ◌^◌, nat_lt, pos, option_and_then};
 ghost use Rattle.verilog_trees.specs.Syntax.{name as named, one, two, whole};
 ghost use Rattle.verilog_meaning.specs.Expression.{object_width, word_number};
 ghost use Rattle.verilog_meaning.specs.Register.{is_set, is_within, is_word_number, word_count, is_bit_of};
+ghost use Rattle.verilog_designs.specs.Reads.{or_in};
 ghost use Rattle.v_value.specs.Scope.{object_of, scope_at};
 ghost use Rattle.v_value.specs.Index.{integer_at, span_of};
 ghost use Rattle.v_value.specs.Narrow.{IsWidth, IsNarrow, IsSelectNarrow, IsNarrowObject, HasNarrowObjects};
 ghost use Rattle.v_syntax.specs.Tree.{select_of, selects_of};
-ghost use Rattle.v_flow.specs.Spans.{is_between, bits_of, clamped};
+ghost use Rattle.v_flow.specs.Spans.{is_between, bits_of, bits_in, clamped};
 ghost use Rattle.v_flow.specs.Flow.{meant_word, meant_bit, select_count, place_bits};
 
 use crate::constant::is_constant_select;
 use crate::span::Span;
+use std::alloc::AllocError;
 use v_syntax::tree::{Select, Selects};
 use v_value::scope::{Object, Scope};
 use v_value::select::{self, Integer, word_number};
@@ -34,10 +36,7 @@ fn all_words(object: Object) -> Words
         None => 1,
         Some((first, last)) => u64::from(first.max(last) - first.min(last)) + 1,
     };
-    Words {
-        from: 0,
-        to,
-    }
+    Words { from: 0, to }
 }
 
 /// The word that an index names, or no word.
@@ -46,22 +45,17 @@ fn word_at(object: Object, index: Integer) -> Words
         ≡ (nat_lt k (word_count (object_of object)) && is_word_number (option_and_then (λ a. word_number a (integer_at index)) object.addresses) k) }
 {
     match object.addresses {
-        None => Words {
-            from: 0,
-            to: 0,
-        },
+        None => Words { from: 0, to: 0 },
         Some(addresses) => one_word(word_number(addresses, index)),
     }
 }
 
 fn one_word(number: Option<u128>) -> Words
+    requires { IfSome number (λ w. w < 2 ^ 32) }
     ensures { (k : _) → is_between result.from result.to k ≡ is_word_number number k }
 {
     match number {
-        None => Words {
-            from: 0,
-            to: 0,
-        },
+        None => Words { from: 0, to: 0 },
         Some(word) => Words {
             from: word as u64,
             to: word as u64 + 1,
@@ -159,7 +153,7 @@ fn bits_meant(scope: &Scope<'_>, object: Object, select: &Select<'_>) -> u128
 }
 
 /// All bits of a name.
-pub(crate) fn whole_place<'s>(scope: &Scope<'_>, name: &'s str) -> Span<'s>
+fn whole_place<'s>(scope: &Scope<'_>, name: &'s str) -> Span<'s>
     requires { HasNarrowObjects (scope_at scope.now) }
     ensures { bits_of result ≡ place_bits (scope_at scope.now) name.now whole }
 {
@@ -218,7 +212,7 @@ fn two_place<'s>(
 }
 
 /// The bits that a name with selects may mean.
-pub(crate) fn place<'s>(scope: &Scope<'_>, name: &'s str, selects: &Selects<'_>) -> Span<'s>
+fn place<'s>(scope: &Scope<'_>, name: &'s str, selects: &Selects<'_>) -> Span<'s>
     requires objects { HasNarrowObjects (scope_at scope.now) }
     requires narrow { IsNarrow (scope_at scope.now) (named name.now (selects_of selects.now)) }
     ensures { bits_of result ≡ place_bits (scope_at scope.now) name.now (selects_of selects.now) }
@@ -228,4 +222,32 @@ pub(crate) fn place<'s>(scope: &Scope<'_>, name: &'s str, selects: &Selects<'_>)
         Selects::One(select) => one_place(scope, name, select),
         Selects::Two(index, select) => two_place(scope, name, index, select),
     }
+}
+
+/// Adds all bits of a name.
+pub(crate) fn add_whole<'s>(
+    scope: &Scope<'_>,
+    name: &'s str,
+    found: &mut Vec<Span<'s>>,
+) -> Result<(), AllocError>
+    requires { HasNarrowObjects (scope_at scope.now) }
+    ensures { OnOk result (bits_in found.new.items ≡ or_in (bits_in found.old.items) (place_bits (scope_at scope.now) name.now whole)) }
+{
+    found.push(whole_place(scope, name))?;
+    Ok(())
+}
+
+/// Adds the bits that a name with selects may mean.
+pub(crate) fn add_meant<'s>(
+    scope: &Scope<'_>,
+    name: &'s str,
+    selects: &Selects<'_>,
+    found: &mut Vec<Span<'s>>,
+) -> Result<(), AllocError>
+    requires objects { HasNarrowObjects (scope_at scope.now) }
+    requires narrow { IsNarrow (scope_at scope.now) (named name.now (selects_of selects.now)) }
+    ensures { OnOk result (bits_in found.new.items ≡ or_in (bits_in found.old.items) (place_bits (scope_at scope.now) name.now (selects_of selects.now))) }
+{
+    found.push(place(scope, name, selects))?;
+    Ok(())
 }

@@ -13,7 +13,7 @@ ghost use Rattle.v_flow.specs.Narrow.{HasNarrowParts, HaveNarrowParts};
 ghost use Rattle.v_flow.specs.Flow.{place_reached, reached, one_reached, targets_read_at, target_reads_at};
 
 use crate::constant::are_constant_selects;
-use crate::place::place;
+use crate::place::add_meant;
 use crate::read::add_selects;
 use crate::span::Span;
 use std::alloc::AllocError;
@@ -32,11 +32,29 @@ fn add_place<'s>(
     requires narrow { IsNarrow (scope_at scope.now) (named name.now (selects_of selects.now)) }
     ensures { OnOk result (bits_in found.new.items ≡ or_in (bits_in found.old.items) (place_reached (scope_at scope.now) surely name.now (selects_of selects.now))) }
 {
-    if surely && !are_constant_selects(scope, selects) {
-        return Ok(());
+    if surely {
+        add_sure(scope, name, selects, found)
+    } else {
+        add_meant(scope, name, selects, found)
     }
-    found.push(place(scope, name, selects))?;
-    Ok(())
+}
+
+/// Adds the bits of a name where all indexes behind it are constant.
+fn add_sure<'s>(
+    scope: &Scope<'_>,
+    name: &'s str,
+    selects: &Selects<'s>,
+    found: &mut Vec<Span<'s>>,
+) -> Result<(), AllocError>
+    requires objects { HasNarrowObjects (scope_at scope.now) }
+    requires narrow { IsNarrow (scope_at scope.now) (named name.now (selects_of selects.now)) }
+    ensures { OnOk result (bits_in found.new.items ≡ or_in (bits_in found.old.items) (place_reached (scope_at scope.now) true name.now (selects_of selects.now))) }
+{
+    if are_constant_selects(scope, selects) {
+        add_meant(scope, name, selects, found)
+    } else {
+        Ok(())
+    }
 }
 
 #[cycle(reaching)]

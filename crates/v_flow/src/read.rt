@@ -11,7 +11,7 @@ ghost use Rattle.v_flow.specs.Spans.{bits_in};
 ghost use Rattle.v_flow.specs.Flow.{name_reads_at, reads_at, select_reads_at, selects_read_at, parts_read, links_read, tests_read, choices_read};
 
 use crate::constant::are_constant_selects;
-use crate::place::{place, whole_place};
+use crate::place::{add_meant, add_whole};
 use crate::span::Span;
 use std::alloc::AllocError;
 use v_syntax::tree::{BinaryLink, Choice, Expression, Select, Selects, TestLink};
@@ -32,11 +32,10 @@ fn add_name<'s>(
         return Ok(());
     }
     if are_constant_selects(scope, selects) {
-        found.push(place(scope, name, selects))?;
+        add_meant(scope, name, selects, found)
     } else {
-        found.push(whole_place(scope, name))?;
+        add_whole(scope, name, found)
     }
-    Ok(())
 }
 
 #[cycle(reading)]
