@@ -1,5 +1,5 @@
 -- What ladders, cases and blocks read and assign, by the lists of their parts, and what narrow ones say of their parts.
-use Rattle.std.proofs.Common.{◌≡◌, ◌∙◌, refl, ap, sym, subst, Bool, true, false, List, [], ◌∷◌, Option, Some, None}
+use Rattle.std.proofs.Common.{◌≡◌, ◌∙◌, refl, ap, sym, subst, false, List, [], ◌∷◌, Option, Some, None}
 use Rattle.std.specs.Prelude.{ℕ, ◌&&◌, ◌||◌}
 use Rattle.std.specs.declared.boxed.Box.{Box}
 use Rattle.std.specs.declared.vec.Vec.{Vec}
@@ -8,7 +8,7 @@ use Rattle.std.specs.Borrow.{Bor}
 use Rattle.verilog_trees.specs.Syntax as pure
 use Rattle.verilog_meaning.specs.Expression.{Scope}
 use Rattle.verilog_meaning.specs.Register.{is_bit_of, may_reach, may_assign, may_assign_in_all, may_assign_in_case}
-use Rattle.verilog_designs.specs.Reads.{BitSet, no_bits, or_in, reads, reads_in_all, target_reads, items_read}
+use Rattle.verilog_designs.specs.Reads.{BitSet, no_bits, or_in, reads, target_reads, items_read}
 use Rattle.verilog_designs.specs.Drivers.{statement_reads, statements_read, arms_read}
 use Rattle.v_syntax.specs.declared.tree.Expression.{Expression}
 use Rattle.v_syntax.specs.declared.tree.Target.{Target}

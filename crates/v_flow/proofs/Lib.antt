@@ -5,3 +5,4 @@ pub mod Constants
 pub mod Places
 pub mod Targets
 pub mod Flows
+pub mod Behind

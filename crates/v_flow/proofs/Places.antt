@@ -8,7 +8,7 @@ use Rattle.std.proofs.lemmas.Bool.{cases_lt}
 use Rattle.std.proofs.lemmas.Bool.Decides.{nat_tests}
 use Rattle.verilog_trees.specs.Syntax.{name, Select, Selects, whole, one, two}
 use Rattle.verilog_meaning.specs.Expression.{Object, Scope, distance, object_width, is_memory, word_number, Bits, no_values, select_index, select_bits}
-use Rattle.verilog_meaning.specs.Register.{is_set, is_word_number, may_mean, may_mean_word, may_mean_bit, word_count, words_between, is_bit_of}
+use Rattle.verilog_meaning.specs.Register.{is_set, is_word_number, may_mean, may_mean_word, may_mean_bit, word_count, is_bit_of}
 use Rattle.verilog_meaning.specs.Register.{is_within, selects_are_constant}
 use Rattle.wb_values.specs.Value.{Name, same_name}
 use Rattle.verilog_designs.specs.Reads.{no_bits}

@@ -8,12 +8,12 @@ use Rattle.std.specs.Prelude.{ℕ}
 use Rattle.wb_values.specs.Value.{Name as PureName}
 use Rattle.verilog_trees.specs.Syntax as pure
 use Rattle.verilog_meaning.specs.Expression.{Scope}
-use Rattle.verilog_designs.specs.Reads.{BitSet, no_bits, or_in, reads, reads_in_all, name_reads, selects_read, select_reads}
+use Rattle.verilog_designs.specs.Reads.{BitSet, no_bits, or_in, reads, reads_in_all, selects_read, select_reads}
 use Rattle.v_syntax.specs.declared.tree.Number.{Number as CodeNumber}
 use Rattle.v_syntax.specs.declared.tree.PrefixOperator.{PrefixOperator}
 use Rattle.v_syntax.specs.declared.tree.PrefixOperator.TheVariants.{Plus}
 use Rattle.v_syntax.specs.declared.tree.BinaryOperator.{BinaryOperator}
-use Rattle.v_syntax.specs.declared.tree.BinaryOperator.TheVariants.{Power, Multiply, Divide, Modulo, Add, Subtract, ShiftLeft, ShiftRight, ArithmeticShiftRight}
+use Rattle.v_syntax.specs.declared.tree.BinaryOperator.TheVariants.{Power, ShiftLeft, ShiftRight, ArithmeticShiftRight}
 use Rattle.v_syntax.specs.declared.tree.TestOperator.{TestOperator}
 use Rattle.v_syntax.specs.declared.tree.TestOperator.TheVariants.{Less}
 use Rattle.v_syntax.specs.declared.tree.BinaryLink.{BinaryLink}

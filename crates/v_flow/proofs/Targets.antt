@@ -1,5 +1,5 @@
 -- What targets read, and the bits that an assignment to them may reach or surely reaches.
-use Rattle.std.proofs.Common.{◌≡◌, ◌∙◌, refl, ap, sym, subst, Bool, true, false, cond, List, [], ◌∷◌}
+use Rattle.std.proofs.Common.{◌≡◌, ◌∙◌, refl, ap, sym, subst, Bool, true, false, cond, List}
 use Rattle.std.specs.Prelude.{ℕ, ◌&&◌, ◌||◌}
 use Rattle.std.proofs.lemmas.Slice.Eq.{bytes_eq-Decides}
 use Rattle.std.specs.declared.vec.Vec.{Vec}
@@ -9,7 +9,7 @@ use Rattle.wb_values.specs.Value.{Name, same_name}
 use Rattle.verilog_trees.specs.Syntax as pure
 use Rattle.verilog_meaning.specs.Expression.{Scope}
 use Rattle.verilog_meaning.specs.Register.{is_bit_of, may_mean, may_reach, may_reach_one, selects_are_constant}
-use Rattle.verilog_designs.specs.Reads.{BitSet, no_bits, or_in, target_reads, targets_read, surely_reaches, one_surely_reaches}
+use Rattle.verilog_designs.specs.Reads.{no_bits, or_in, target_reads, targets_read, surely_reaches, one_surely_reaches}
 use Rattle.v_syntax.specs.declared.tree.Target.{Target, Place, Joined}
 use Rattle.v_syntax.specs.declared.tree.Selects.{Selects}
 use Rattle.v_syntax.specs.Tree.{target_of, selects_of}

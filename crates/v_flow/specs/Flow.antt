@@ -1,12 +1,12 @@
 -- What the code's chains, selects and statements read and assign, over the lists of their parts. The names that do not unfold by
 -- themselves say what the definitions say.
-use Rattle.std.specs.Prelude.{ℕ, Bool, true, cond, is_some, ◌&&◌, nat_lt, List, [], ◌∷◌, Option, Some, None, option_and_then}
+use Rattle.std.specs.Prelude.{ℕ, Bool, true, cond, ◌&&◌, nat_lt, List, [], ◌∷◌}
 use Rattle.wb_values.specs.Value.{Name, same_name}
 use Rattle.verilog_trees.specs.Syntax as pure
-use Rattle.verilog_meaning.specs.Expression.{Object, Scope, object_width, word_number, Bits, select_bits, no_values}
-use Rattle.verilog_meaning.specs.Register.{is_constant, are_constant, select_is_constant, selects_are_constant, is_within, may_mean_bit, may_mean_word, is_word_number, may_mean, may_reach, may_reach_one, may_assign, may_assign_in_all, may_assign_in_case, word_count, is_bit_of}
-use Rattle.verilog_designs.specs.Reads.{BitSet, no_bits, or_in, name_reads, reads, reads_in_all, select_reads, selects_read, target_reads, targets_read, items_read, surely_reaches, one_surely_reaches}
-use Rattle.verilog_designs.specs.Drivers.{statement_reads, statements_read, arms_read}
+use Rattle.verilog_meaning.specs.Expression.{Object, Scope, object_width, select_bits, no_values}
+use Rattle.verilog_meaning.specs.Register.{is_constant, select_is_constant, selects_are_constant, may_mean_bit, may_mean_word, may_mean, may_reach, may_reach_one, may_assign, word_count, is_bit_of}
+use Rattle.verilog_designs.specs.Reads.{BitSet, no_bits, or_in, name_reads, reads, select_reads, selects_read, target_reads, targets_read, surely_reaches, one_surely_reaches}
+use Rattle.verilog_designs.specs.Drivers.{statement_reads}
 use Rattle.v_syntax.specs.declared.tree.Expression.{Expression}
 use Rattle.v_syntax.specs.declared.tree.BinaryLink.{BinaryLink}
 use Rattle.v_syntax.specs.declared.tree.TestLink.{TestLink}

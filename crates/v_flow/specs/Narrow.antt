@@ -1,5 +1,4 @@
 -- Targets and statements whose expressions and places fit words of 128 bits.
-use Rattle.std.specs.Prelude.{List, [], ◌∷◌}
 use Rattle.verilog_trees.specs.Syntax.{name, Target, place, joined, Targets, no_targets, target, Statement, empty, blocking, nonblocking, if_then, if_else, case, block, Statements, no_statements, statement, CaseItems, no_items, arm, default_arm}
 use Rattle.verilog_meaning.specs.Expression.{Scope}
 use Rattle.v_value.specs.Narrow.{IsNarrow, AreNarrow}

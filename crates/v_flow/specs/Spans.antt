@@ -1,7 +1,7 @@
 -- The sets of bits that spans stand for.
 use Rattle.std.specs.Prelude.{ℕ, min, Bool, ◌&&◌, nat_le, nat_lt, List, [], ◌∷◌, ℤ, pos, negsuc}
-use Rattle.verilog_meaning.specs.Expression.{Object, Scope}
-use Rattle.verilog_meaning.specs.Register.{is_set, word_count, is_bit_of}
+use Rattle.verilog_meaning.specs.Expression.{Scope}
+use Rattle.verilog_meaning.specs.Register.{is_set, is_bit_of}
 use Rattle.wb_values.specs.Value.{same_name}
 use Rattle.verilog_designs.specs.Reads.{BitSet, no_bits, or_in}
 use Rattle.v_flow.specs.declared.span.Span.{Span}

@@ -3,6 +3,7 @@
 
 mod assigned;
 mod constant;
+pub mod laws;
 mod place;
 mod reached;
 mod read;

@@ -3,11 +3,11 @@
 ghost use Rattle.std.specs.Prelude.{◌≡◌, OnOk, ◌<◌, ◌≤◌, IfSome, ◌&&◌, ◌-ℤ◌, ◌+ℤ◌, ◌^◌, nat_lt, pos, option_and_then};
 ghost use Rattle.verilog_trees.specs.Syntax.{name as named, one, two, whole};
 ghost use Rattle.verilog_meaning.specs.Expression.{object_width, word_number};
-ghost use Rattle.verilog_meaning.specs.Register.{is_set, is_within, is_word_number, word_count, is_bit_of};
+ghost use Rattle.verilog_meaning.specs.Register.{is_set, is_within, is_word_number, word_count};
 ghost use Rattle.verilog_designs.specs.Reads.{or_in};
 ghost use Rattle.v_value.specs.Scope.{object_of, scope_at};
 ghost use Rattle.v_value.specs.Index.{integer_at, span_of};
-ghost use Rattle.v_value.specs.Narrow.{IsWidth, IsNarrow, IsSelectNarrow, IsNarrowObject, HasNarrowObjects};
+ghost use Rattle.v_value.specs.Narrow.{IsWidth, IsNarrow, IsSelectNarrow, HasNarrowObjects};
 ghost use Rattle.v_syntax.specs.Tree.{select_of, selects_of};
 ghost use Rattle.v_flow.specs.Spans.{is_between, bits_of, bits_in, clamped};
 ghost use Rattle.v_flow.specs.Flow.{meant_word, meant_bit, select_count, place_bits};

@@ -1,6 +1,6 @@
 //! The bits that targets read, and those that an assignment to them may assign or surely assigns.
 
-ghost use Rattle.std.specs.Prelude.{◌≡◌, OnOk, cond, IfOk, true, false};
+ghost use Rattle.std.specs.Prelude.{◌≡◌, OnOk, true, false};
 ghost use Rattle.verilog_trees.specs.Syntax.{name as named};
 ghost use Rattle.verilog_meaning.specs.Register.{may_reach};
 ghost use Rattle.verilog_designs.specs.Reads.{or_in, target_reads, surely_reaches};

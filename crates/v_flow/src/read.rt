@@ -2,7 +2,7 @@
 
 ghost use Rattle.std.specs.Prelude.{◌≡◌, OnOk};
 ghost use Rattle.verilog_trees.specs.Syntax.{name as named};
-ghost use Rattle.verilog_designs.specs.Reads.{or_in, reads, reads_in_all};
+ghost use Rattle.verilog_designs.specs.Reads.{or_in, reads};
 ghost use Rattle.v_value.specs.Scope.{scope_at};
 ghost use Rattle.v_value.specs.Narrow.{IsNarrow, AreNarrow, IsSelectNarrow, AreSelectsNarrow, HasNarrowObjects};
 ghost use Rattle.v_value.specs.Links.{AreLinksNarrow, AreTestsNarrow, AreChoicesNarrow};

@@ -1,16 +1,14 @@
-use Rattle.std.proofs.Common.{◌≡◌, ◌∙◌, ◌+◌, drop, length, ap, sym, subst, rules, arith}
+use Rattle.std.proofs.Common.{◌∙◌, ap, sym, subst, rules, arith}
 use Rattle.std.proofs.lemmas.Result.{on_ok_weaker}
 use Rattle.std.proofs.lemmas.List.{at_drop_all}
 use Rattle.verilog_designs.specs.Reads.{or_in}
 use Rattle.v_value.specs.Scope.{scope_at}
-use Rattle.v_syntax.specs.Tree.{statement_of}
 use Rattle.v_syntax.specs.declared.tree.Statement.{the_lemmas}
-use Rattle.v_statement.specs.Effects.{item_statement}
 use Rattle.v_statement.proofs.Runs.{rest_is}
 use Rattle.v_flow.specs.Spans.{bits_in}
 use Rattle.v_flow.specs.Narrow.{IsNarrowFlow}
-use Rattle.v_flow.specs.Flow.{reads_at, statement_reads_at, assigned_at, all_read, ladder_reads, labels_read, bodies_read, all_assigned, ladder_assigned, bodies_assigned, AreNarrowLadder, AreNarrowAll, AreNarrowItems}
-use Rattle.v_flow.proofs.Sets.{joins, joins-three, turn, turn-two, end, nothing}
+use Rattle.v_flow.specs.Flow.{assigned_at, all_assigned, ladder_assigned, bodies_assigned, AreNarrowLadder, AreNarrowAll, AreNarrowItems}
+use Rattle.v_flow.proofs.Sets.{joins, turn, end, nothing}
 use Rattle.v_flow.proofs.Flows as flow
 use Rattle.v_flow.proofs.assigned.+assigning.Goals as goal
 

@@ -1,6 +1,5 @@
-use Rattle.std.proofs.Common.{◌≡◌, ◌∙◌, ◌+◌, drop, length, ap, sym, subst, rules, arith}
+use Rattle.std.proofs.Common.{◌∙◌, ◌+◌, drop, ap, arith}
 use Rattle.v_value.specs.Scope.{scope_at}
-use Rattle.v_syntax.specs.Tree.{selects_of, expressions_of}
 use Rattle.v_statement.proofs.Runs.{rest_is}
 use Rattle.v_syntax.specs.Tree.{tree_of}
 use Rattle.v_flow.specs.Flow.{constant_at, parts_constant, links_constant, tests_constant, choices_constant}

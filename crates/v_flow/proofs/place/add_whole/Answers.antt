@@ -1,5 +1,5 @@
-use Rattle.std.proofs.Common.{◌≡◌, ◌∙◌, ◌-◌, ap, sym, subst}
-use Rattle.v_flow.proofs.Sets.{push, nothing}
+use Rattle.std.proofs.Common.{◌∙◌, ap}
+use Rattle.v_flow.proofs.Sets.{push}
 use Rattle.v_flow.specs.Spans.{bits_in}
 use Rattle.verilog_designs.specs.Reads.{or_in}
 use Rattle.v_flow.proofs.place.add_whole.Goals as goal

@@ -1,4 +1,4 @@
-use Rattle.std.proofs.Common.{◌≡◌, ◌∙◌, ◌-◌, ◌^◌, ◌≤◌, arith, ap, sym, subst}
+use Rattle.std.proofs.Common.{◌∙◌, ◌-◌, ◌^◌, ◌≤◌, arith, ap}
 use Rattle.verilog_meaning.specs.Register.{is_set}
 use Rattle.v_flow.proofs.Places as places
 use Rattle.v_flow.proofs.place.mask_between.Goals as goal

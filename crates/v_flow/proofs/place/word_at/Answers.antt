@@ -1,9 +1,7 @@
-use Rattle.std.proofs.Common.{◌≡◌, ◌∙◌, ◌-◌, ap, sym, subst}
-use Rattle.v_value.specs.Scope.{object_of, scope_at}
-use Rattle.v_syntax.specs.Tree.{select_of, selects_of}
-use Rattle.v_value.specs.Index.{integer_at, span_of}
+use Rattle.std.proofs.Common.{◌∙◌, ap, sym}
+use Rattle.v_value.specs.Index.{integer_at}
 use Rattle.std.specs.Prelude.{◌&&◌, nat_lt, option_and_then}
-use Rattle.verilog_meaning.specs.Register.{is_word_number, word_count, words_between}
+use Rattle.verilog_meaning.specs.Register.{is_word_number, words_between}
 use Rattle.verilog_meaning.specs.Expression.{word_number}
 use Rattle.v_flow.proofs.Places as places
 use Rattle.v_flow.proofs.place.word_at.Goals as goal

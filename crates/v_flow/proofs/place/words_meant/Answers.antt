@@ -1,7 +1,7 @@
-use Rattle.std.proofs.Common.{◌≡◌, ◌∙◌, ◌-◌, ap, sym, subst}
+use Rattle.std.proofs.Common.{◌∙◌, ◌-◌}
 use Rattle.v_value.specs.Scope.{object_of, scope_at}
-use Rattle.v_syntax.specs.Tree.{select_of, selects_of}
-use Rattle.v_value.specs.Index.{integer_at, span_of}
+use Rattle.v_syntax.specs.Tree.{select_of}
+use Rattle.v_value.specs.Index.{integer_at}
 use Rattle.v_flow.proofs.Places as places
 use Rattle.v_flow.proofs.place.words_meant.Goals as goal
 

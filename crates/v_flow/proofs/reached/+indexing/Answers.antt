@@ -1,4 +1,4 @@
-use Rattle.std.proofs.Common.{◌≡◌, ◌∙◌, ◌+◌, drop, length, ap, sym, subst, rules, arith}
+use Rattle.std.proofs.Common.{◌∙◌, ◌+◌, drop, ap, subst, rules, arith}
 use Rattle.std.proofs.lemmas.Result.{on_ok_weaker}
 use Rattle.std.proofs.lemmas.List.{at_drop_all}
 use Rattle.verilog_designs.specs.Reads.{or_in}
@@ -9,7 +9,7 @@ use Rattle.v_statement.specs.Statements.{target_list}
 use Rattle.v_statement.proofs.Runs.{rest_is}
 use Rattle.v_flow.specs.Spans.{bits_in}
 use Rattle.v_flow.specs.Narrow.{HaveNarrowParts}
-use Rattle.v_flow.specs.Flow.{one_reached, targets_read_at}
+use Rattle.v_flow.specs.Flow.{targets_read_at}
 use Rattle.v_flow.proofs.Sets.{turn, end}
 use Rattle.v_flow.proofs.Targets as target
 use Rattle.v_flow.proofs.reached.+indexing.Goals as goal

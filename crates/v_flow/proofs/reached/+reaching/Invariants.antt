@@ -4,7 +4,7 @@ use Rattle.v_value.specs.Scope.{scope_at}
 use Rattle.v_statement.specs.Statements.{target_list}
 use Rattle.v_flow.specs.Spans.{bits_in}
 use Rattle.v_flow.specs.Narrow.{HaveNarrowParts}
-use Rattle.v_flow.specs.Flow.{one_reached, targets_read_at}
+use Rattle.v_flow.specs.Flow.{one_reached}
 use Rattle.v_flow.proofs.reached.+reaching.Given as goal
 
 abbrev pub invariant-add_all-loop-target : goal.invariant-add_all-loop-target

@@ -1,4 +1,4 @@
-use Rattle.std.proofs.Common.{◌≡◌, ◌∙◌, ◌+◌, drop, length, ap, sym, subst, rules, arith}
+use Rattle.std.proofs.Common.{◌∙◌, ap, subst, rules, arith}
 use Rattle.std.proofs.lemmas.Result.{on_ok_weaker}
 use Rattle.std.proofs.lemmas.List.{at_drop_all}
 use Rattle.verilog_designs.specs.Reads.{or_in}

@@ -1,9 +1,8 @@
-use Rattle.std.proofs.Common.{◌≡◌, ◌∙◌, ◌-◌, ap, sym, subst}
+use Rattle.std.proofs.Common.{◌∙◌, ◌-◌, ap}
 use Rattle.std.proofs.lemmas.Result.{on_ok_weaker}
-use Rattle.v_value.specs.Scope.{object_of, scope_at}
-use Rattle.v_syntax.specs.Tree.{select_of, selects_of}
-use Rattle.v_value.specs.Index.{integer_at, span_of}
-use Rattle.v_flow.proofs.Sets.{push, nothing}
+use Rattle.v_value.specs.Scope.{scope_at}
+use Rattle.v_syntax.specs.Tree.{selects_of}
+use Rattle.v_flow.proofs.Sets.{nothing}
 use Rattle.v_flow.specs.Spans.{bits_in}
 use Rattle.verilog_designs.specs.Reads.{or_in}
 use Rattle.std.specs.Prelude.{is_some}

@@ -2,7 +2,7 @@ use Rattle.std.proofs.Common.{◌≡◌, drop}
 use Rattle.verilog_designs.specs.Reads.{or_in}
 use Rattle.v_value.specs.Scope.{scope_at}
 use Rattle.v_flow.specs.Spans.{bits_in}
-use Rattle.v_flow.specs.Flow.{all_read, ladder_reads, labels_read, bodies_read, all_assigned, ladder_assigned, bodies_assigned, AreNarrowLadder, AreNarrowAll, AreNarrowItems}
+use Rattle.v_flow.specs.Flow.{labels_read, AreNarrowItems}
 use Rattle.v_flow.proofs.statement.add_labels.Given as goal
 
 abbrev pub invariant-loop-item : goal.invariant-loop-item
