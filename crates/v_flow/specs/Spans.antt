@@ -17,11 +17,12 @@ abbrev pub bits_in : List Span → BitSet
 bits_in [] = no_bits
 bits_in (x ∷ xs) = or_in (bits_of x) (bits_in xs)
 
--- those of the bits that are bits of their names
+-- Those of the bits that are bits of their names. (A parameter has bits here, though none in the rules: whoever asks for bits of nets and
+-- variables leaves out constants.)
 abbrev pub existing : Scope → BitSet → BitSet
 existing s p n k b = is_bit_of (s n) k b && p n k b
 
--- the place below the width that is nearest to an integer, or the width
+-- the number from 0 to the width, both among them, that is nearest to an integer
 abbrev pub clamped : ℕ → ℤ → ℕ
 clamped w (pos n) = min n w
 clamped w (negsuc n) = 0
