@@ -51,6 +51,19 @@ fn ladder(alloc: Global, before: usize) -> Result<Statement<'static>, AllocError
     Ok(Statement::If(arms, None))
 }
 
+/// The value that was assigned last, with how many values there are, and how many updates wait.
+fn told(alloc: Global, values: &Values<'_>, waiting: usize) -> Result<String, Stop> {
+    let Some(entry) = values.entries.last() else {
+        return Err(Stop::Other("nothing was assigned"));
+    };
+    let Value::Number(number) = entry.value else {
+        return Err(Stop::Other("no number was assigned"));
+    };
+    let (count, name) = (values.entries.len(), entry.name);
+    let found = format!(in alloc; "{count} value, {name} {number}, {waiting} updates")?;
+    Ok(found)
+}
+
 /// What values and updates there are after a ladder of so many arms before the last one.
 pub fn ladder_run(alloc: Global, before: &str) -> Result<String, Stop> {
     let Ok(before) = before.parse::<usize>() else {
@@ -65,13 +78,5 @@ pub fn ladder_run(alloc: Global, before: &str) -> Result<String, Stop> {
     let mut updates = Vec::new(alloc);
     let statement = ladder(alloc, before)?;
     run(alloc, &scope, &statement, &mut values, &mut updates)?;
-    let Some(entry) = values.entries.last() else {
-        return Err(Stop::Other("nothing was assigned"));
-    };
-    let Value::Number(number) = entry.value else {
-        return Err(Stop::Other("no number was assigned"));
-    };
-    let (count, name, waiting) = (values.entries.len(), entry.name, updates.len());
-    let found = format!(in alloc; "{count} value, {name} {number}, {waiting} updates")?;
-    Ok(found)
+    told(alloc, &values, updates.len())
 }
