@@ -239,7 +239,9 @@ fn is_bad_divisor(
 {
     match place {
         Position::Anywhere => true,
-        Position::Constant(width, signed) => is_zero_constant(names, divisor, judged, width, signed),
+        Position::Constant(width, signed) => is_zero_constant(
+            names, divisor, judged, width, signed,
+        ),
     }
 }
 
@@ -441,13 +443,22 @@ pub(crate) fn judge(names: Names<'_, '_>, place: Position, expression: &Expressi
 
 /// The same expression in another place, where `own` is what it is anywhere.
 #[cycle(judged)]
-fn in_place(names: Names<'_, '_>, place: Position, expression: &Expression<'_>, own: Judged) -> Judged
+fn in_place(
+    names: Names<'_, '_>,
+    place: Position,
+    expression: &Expression<'_>,
+    own: Judged,
+) -> Judged
     requires { own ≡ judged_at (scope_at names.scope.now) Anywhere (tree_of expression.now) }
     ensures { result ≡ judged_at (scope_at names.entry.scope.now) place (tree_of expression.now) }
 {
     match place {
         Position::Anywhere => own,
-        Position::Constant(width, signed) => judge(names, Position::Constant(width, signed), expression),
+        Position::Constant(width, signed) => judge(
+            names,
+            Position::Constant(width, signed),
+            expression,
+        ),
     }
 }
 
@@ -618,7 +629,12 @@ fn right_context(
 
 /// A chain of tests after its first operand.
 #[cycle(judged)]
-fn tests_judged(names: Names<'_, '_>, place: Position, first: Left, links: &[TestLink<'_>]) -> Judged
+fn tests_judged(
+    names: Names<'_, '_>,
+    place: Position,
+    first: Left,
+    links: &[TestLink<'_>],
+) -> Judged
     ensures { result ≡ tests_judged (scope_at names.entry.scope.now) place first links.now }
 {
     let mut left = first;

@@ -1,0 +1,7 @@
+mod Written
+mod Cells
+mod Stands
+mod Replaced
+mod Kept
+mod Pieces
+mod Running

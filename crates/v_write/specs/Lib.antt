@@ -1,0 +1,6 @@
+pub mod Parts
+pub mod Guard
+pub mod Changed
+pub mod Written
+pub mod Turns
+pub mod Running
