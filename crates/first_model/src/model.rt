@@ -12,7 +12,7 @@ use crate::NoMemory;
 use crate::declarations::{declare_inputs, declare_states, inputs_of, states_of};
 use crate::instructions::instructions_of;
 use crate::names::no_names;
-use crate::parts::{own_instructions, is_plain, states_in, valid_in};
+use crate::parts::{is_plain, own_instructions, states_in, valid_in};
 use crate::stop::Stop;
 use crate::terms::term_of;
 use first_json::FirstModel;

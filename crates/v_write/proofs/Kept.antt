@@ -47,16 +47,16 @@ module _ (g h : Graph) (grows : Grows g h) where
   worth_kept : (p : Valuation) (i : Operand) → IsOfSort g i.id.0 (word i.width) → worth h p i.id.0 ≡ worth g p i.id.0
   worth_kept p i k = ap (λ (t : Term). as_number (val t p)) (tree_kept i.id.0 grows k.below)
 
-  address_before : (o : Object) (p : Valuation) (a : Option Operand) → IsAddress g a → HasAddress g p a → HasAddress h p a × (cell_meant o h p a ≡ cell_meant o g p a)
-  address_before o p None k f = (tt, refl)
-  address_before o p (Some a) k f =
+  pub address_there : (o : Object) (p : Valuation) (a : Option Operand) → IsAddress g a → HasAddress g p a → HasAddress h p a × (cell_meant o h p a ≡ cell_meant o g p a)
+  address_there o p None k f = (tt, refl)
+  address_there o p (Some a) k f =
       let e = worth_kept p a k in
       (subst (λ z. HasNumber h a.id.0 a.width p z) (sym e) (number_kept a.id.0 a.width p (worth g p a.id.0) grows k.below f),
       ap (λ z. indexed_cell o (integer_from a.signed a.width z)) e)
 
   pub place_kept : (s : Scope) (q : Part) (p : Valuation) → IsPart s g q → HasIndexes g p q → HasIndexes h p q × (place_meant s h p q ≡ place_meant s g p q)
   place_kept s q p k f =
-      let a = address_before (s q.name.now) p q.address k.address f.0 in
+      let a = address_there (s q.name.now) p q.address k.address f.0 in
       let b = bits_before (s q.name.now) g h q.bits q.count grows k.bits p f.1 in
       ((a.0, b.0), λ i. record { of_name = q.name.now; cell = a.1 i; bits = b.1 i })
 

@@ -5,3 +5,6 @@ mod Replaced
 mod Kept
 mod Pieces
 mod Running
+mod Indexed
+mod Lowered
+mod Trees

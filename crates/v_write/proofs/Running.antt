@@ -1,8 +1,9 @@
 -- Effects one after the other, and effects by cases.
 use Rattle.std.proofs.Common.{◌≡◌, ℕ, Bool, true, false, cond, not, ◌&&◌, List, [], ◌∷◌, ◌++◌, Option, Some, None, refl, ap, sym, subst, ◌∙◌}
 use Rattle.wb_values.specs.Value.{truth, Valuation}
-use Rattle.verilog_meaning.specs.Expression.{Scope}
-use Rattle.verilog_meaning.specs.Statement.{Effect, Update, unchanged, followed_by, with_update, with_updates}
+use Rattle.verilog_trees.specs.Syntax.{Target, Expression, blocking, nonblocking}
+use Rattle.verilog_meaning.specs.Expression.{Scope, assigned_value, is_true}
+use Rattle.verilog_meaning.specs.Statement.{Effect, Update, unchanged, followed_by, with_update, with_updates, written, target_width, run}
 use Rattle.wb_terms.specs.Graph.{Graph}
 use Rattle.wb_terms.specs.declared.nodes.TermId.{TermId}
 use Rattle.v_operators.specs.Meaning.{Grows, IsOfSort, HasTruth}
@@ -10,8 +11,10 @@ use Rattle.v_operators.proofs.Growing.{Grows-refl, Grows-trans, IsOfSort-kept, t
 use Rattle.v_lower.specs.Lowered.{Images, HasImages, StandsFor}
 use Rattle.v_lower.proofs.Lowering.{images_kept}
 use Rattle.v_write.specs.Guard.{IsGuard, Guards}
-use Rattle.v_write.specs.Written.{AreOfNames}
-use Rattle.v_write.specs.Running.{Runs, IsUnderWay, IsGoing}
+use Rattle.v_write.specs.declared.part.Part.{Part}
+use Rattle.v_write.specs.Selecting.{IsPrepared}
+use Rattle.v_write.specs.Written.{AreOfNames, ArePartsWritten}
+use Rattle.v_write.specs.Running.{Runs, IsUnderWay, IsGoing, IsCondition}
 use Rattle.v_write.proofs.Stands.{stands_after}
 use Rattle.v_write.proofs.Kept.{guard_there, guard_kept}
 
@@ -191,6 +194,32 @@ module _ (s : Scope) (a n : Images) (g : Graph) (guard : Option TermId) (all : V
             subst (λ z. StandsFor s l k p z) (w.ends_next ∙ ap (λ (e : Effect). cond c (with_updates s u e.updates) u) (same p v)) (r.stands_next p w.valuation w.updated w.holds w.stands w.stands_next w.guards);
       }
 
+-- one way on, and then another
+pub going_on : (s : Scope) (a n b m d l : Images) (g h k : Graph) (guard on over : Option TermId) (all mid rest : Valuation → Valuation → Effect)
+    → IsGoing s a n g guard all b m h on mid → IsGoing s b m h on mid d l k over rest → IsGoing s a n g guard all d l k over rest
+going_on s a n b m d l g h k guard on over all mid rest so to =
+    record {
+      grows = Grows-trans so.grows to.grows;
+      known = to.known;
+      known_next = to.known_next;
+      names = λ x. to.names x ∙ so.names x;
+      names_next = λ x. to.names_next x ∙ so.names_next x;
+      there = to.there;
+      goes = λ p v u c sv su is_c.
+          let f = so.goes p v u c sv su is_c in
+          let e = to.goes p f.valuation f.updated f.holds f.stands f.stands_next f.guards in
+          record {
+            valuation = e.valuation;
+            updated = e.updated;
+            holds = e.holds;
+            stands = e.stands;
+            stands_next = e.stands_next;
+            guards = e.guards;
+            ends = e.ends ∙ f.ends;
+            ends_next = e.ends_next ∙ f.ends_next;
+          };
+    }
+
 -- the same effect under another name
 pub runs_as : (s : Scope) (a n b m : Images) (g h : Graph) (guard : Option TermId) (f e : Valuation → Effect) → ((v : Valuation) → f v ≡ e v) → Runs s a n g guard f b m h → Runs s a n g guard e b m h
 runs_as s a n b m g h guard f e same r =
@@ -214,3 +243,52 @@ nothing_ran s a n g guard known next =
       stands = λ p v u c sv su is_c. subst (λ z. StandsFor s a g p z) (sym (either_same c v)) sv;
       stands_next = λ p v u c sv su is_c. subst (λ z. StandsFor s n g p z) (sym (either_same c u)) su;
     }
+
+-- ---- assignments
+
+module _ (s : Scope) (g f h : Graph) (guard : Option TermId) (t : Target) (e : Expression) (qs : List Part) (id w : ℕ) (gf : Grows g f) (there : IsGuard g guard) where
+  pub blocking_ran : (a n b : Images) → HasImages s a g → HasImages s n g → Grows f h → IsPrepared s a f t e qs id w → ArePartsWritten s a f guard qs id w b h → Runs s a n g guard (run s (blocking t e)) b n h
+  blocking_ran a n b known next fh r o =
+      record {
+        known = o.known;
+        known_next = images_kept s n g h (Grows-trans gf fh) next;
+        names = o.names;
+        names_next = λ k. refl;
+        stands = λ p v u c sv su is_c.
+            let st = stands_after s a g f p v gf known sv in
+            subst (λ z. StandsFor s b h p (cond c (written s v z (assigned_value s v (target_width s t) e)) v)) (r.places p v st)
+            (o.stands p v (assigned_value s v (target_width s t) e) c st (r.indexes p v st) (r.value p v st) (guard_kept g f gf p guard c there is_c));
+        stands_next = λ p v u c sv su is_c. subst (λ z. StandsFor s n h p z) (sym (either_same c u)) (stands_after s n g h p u (Grows-trans gf fh) next su);
+      }
+
+  pub nonblocking_ran : (a n m : Images) → HasImages s a g → HasImages s n g → Grows f h → IsPrepared s a f t e qs id w → ArePartsWritten s n f guard qs id w m h → Runs s a n g guard (run s (nonblocking t e)) a m h
+  nonblocking_ran a n m known next fh r o =
+      record {
+        known = images_kept s a g h (Grows-trans gf fh) known;
+        known_next = o.known;
+        names = λ k. refl;
+        names_next = o.names;
+        stands = λ p v u c sv su is_c. subst (λ z. StandsFor s a h p z) (sym (either_same c v)) (stands_after s a g h p v (Grows-trans gf fh) known sv);
+        stands_next = λ p v u c sv su is_c.
+            let st = stands_after s a g f p v gf known sv in
+            subst (λ z. StandsFor s m h p (cond c (written s u z (assigned_value s v (target_width s t) e)) u)) (r.places p v st)
+            (o.stands p u (assigned_value s v (target_width s t) e) c (stands_after s n g f p u gf next su) (r.indexes p v st) (r.value p v st) (guard_kept g f gf p guard c there is_c));
+      }
+
+-- ---- one arm of a ladder
+
+pub arm_going : (s : Scope) (a n b m : Images) (g f i h : Graph) (guard : Option TermId) (c : Expression) (said : ℕ) (taken other : TermId) (x rest : Valuation → Effect)
+    → HasImages s a g → HasImages s n g → IsGuard g guard → Grows g f → IsCondition s a f c said → Grows f i
+    → ((p : Valuation) (k t : Bool) → Guards f p guard k → HasTruth f said p t → HasTruth i taken.0 p (k && t))
+    → ((p : Valuation) (k t : Bool) → Guards f p guard k → HasTruth f said p t → HasTruth i other.0 p (k && not t))
+    → IsOfSort i other.0 truth → Grows i h → Runs s a n i (Some taken) x b m h
+    → IsGoing s a n g guard (λ p v. cond (is_true s v c) (x v) (rest v)) b m h (Some other) (λ p v. rest v)
+arm_going s a n b m g f i h guard c said taken other x rest known next there gf is_said fi is_taken is_other sort ih r =
+    let all : Valuation → Valuation → Effect = λ p v. cond (is_true s v c) (x v) (rest v) in
+    going_else s a n g guard all a n b m g i h guard taken other (λ p v. is_true s v c) x (λ p v. rest v)
+    (started s a n g guard all known next there) (Grows-trans gf fi)
+    (λ p v k sv is_k.
+      let t = is_said.value p v (stands_after s a g f p v gf known sv) in
+      let q = guard_kept g f gf p guard k there is_k in
+      (is_taken p k (is_true s v c) q t, is_other p k (is_true s v c) q t))
+    sort ih r

@@ -1,10 +1,9 @@
 -- Targets and statements that break no rule: their names are declared and no parameters, and what stands in them has values of at
 -- most 128 bits.
 use Rattle.std.specs.Prelude.{◌≡◌, ◌≤◌, List, [], ◌∷◌, Option, Some, None}
-use Rattle.verilog_trees.specs.Syntax.{name, Expression, Expressions, no_expressions, expression, Target, place, joined, Targets, no_targets, target, CaseKind, Statement, empty, blocking, nonblocking, if_then, if_else, case, block, Statements, no_statements, statement, CaseItems, no_items, arm, default_arm}
+use Rattle.verilog_trees.specs.Syntax.{name, Expression, Target, place, joined, Targets, no_targets, target, Statement, empty, blocking, nonblocking, if_then, if_else, case, block, Statements, no_statements, statement}
 use Rattle.verilog_meaning.specs.Expression.{Scope}
 use Rattle.verilog_meaning.specs.Statement.{target_width}
-use Rattle.verilog_designs.specs.Expressions.{judged_item}
 use Rattle.v_syntax.specs.declared.tree.Target.{Target as CodeTarget}
 use Rattle.v_syntax.specs.declared.tree.Statement.{Statement as CodeStatement}
 use Rattle.v_syntax.specs.declared.tree.Arm.{Arm}
@@ -25,11 +24,6 @@ abbrev mutual
 abbrev pub IsSoundAssignment : Scope → Target → Expression → Type 0
 IsSoundAssignment s t e = IsSoundTarget s t × (1 ≤ target_width s t) × (target_width s t ≤ 128) × IsSound s e
 
--- the values of an item of a case, without wild digits where they may stand
-abbrev pub AreSoundItems : Scope → CaseKind → Expressions → Type 0
-AreSoundItems s k no_expressions = Unit {0}
-AreSoundItems s k (expression e es) = IsSound s (judged_item k e) × AreSoundItems s k es
-
 abbrev mutual
   pub IsSoundStatement : Scope → Statement → Type 0
   IsSoundStatement s empty = Unit {0}
@@ -37,17 +31,12 @@ abbrev mutual
   IsSoundStatement s (nonblocking t e) = IsSoundAssignment s t e
   IsSoundStatement s (if_then c x) = IsSound s c × IsSoundStatement s x
   IsSoundStatement s (if_else c x y) = IsSound s c × IsSoundStatement s x × IsSoundStatement s y
-  IsSoundStatement s (case k e items) = IsSound s e × AreSoundArms s k items
+  IsSoundStatement s (case k e items) = ⊥
   IsSoundStatement s (block n xs) = AreSoundStatements s xs
 
   pub AreSoundStatements : Scope → Statements → Type 0
   AreSoundStatements s no_statements = Unit {0}
   AreSoundStatements s (statement x xs) = IsSoundStatement s x × AreSoundStatements s xs
-
-  pub AreSoundArms : Scope → CaseKind → CaseItems → Type 0
-  AreSoundArms s k no_items = Unit {0}
-  AreSoundArms s k (arm es x items) = AreSoundItems s k es × IsSoundStatement s x × AreSoundArms s k items
-  AreSoundArms s k (default_arm x items) = IsSoundStatement s x × AreSoundArms s k items
 
 -- trees over plain lists of their parts (the trees themselves are nested)
 abbrev pub target_list : List CodeTarget → Targets

@@ -2,16 +2,15 @@
 use Rattle.std.specs.Prelude.{◌≡◌, ℕ, Bool, cond, List, Option, is_some, ◌++◌}
 use Rattle.wb_values.specs.Value.{Name, Value, Valuation, word}
 use Rattle.model_meaning.specs.Term.{val}
-use Rattle.verilog_trees.specs.Syntax.{Target}
 use Rattle.verilog_meaning.specs.Expression.{Object, Scope}
-use Rattle.verilog_meaning.specs.Statement.{Place, places, written_cell, written_place, written}
+use Rattle.verilog_meaning.specs.Statement.{written_cell, written_place, written}
 use Rattle.verilog_meaning.specs.Settled.{IsValueOf}
 use Rattle.wb_terms.specs.Graph.{Graph, tree}
 use Rattle.wb_terms.specs.declared.nodes.TermId.{TermId}
 use Rattle.v_operators.specs.Meaning.{IsOfSort, HasNumber}
 use Rattle.v_lower.specs.Lowered.{Images, HasImages, StandsFor, IsSortOf}
 use Rattle.v_write.specs.declared.part.Part.{Part}
-use Rattle.v_write.specs.Parts.{cell_meant, bits_meant, place_meant, places_meant, HasIndexes, HaveIndexes, AreParts}
+use Rattle.v_write.specs.Parts.{cell_meant, bits_meant, place_meant, places_meant, HasIndexes, HaveIndexes}
 use Rattle.v_write.specs.Guard.{Guards}
 
 -- The same names have terms.
@@ -37,9 +36,3 @@ pub record ArePartsWritten (s : Scope) (a : Images) (g : Graph) (guard : Option 
   pub names : AreOfNames a b
   pub stands : (p v : Valuation) (x : ℕ) (c : Bool) → StandsFor s a g p v → HaveIndexes g p qs → HasNumber g number w p x → Guards g p guard c
       → StandsFor s b h p (cond c (written s v (places_meant s g p qs) x) v)
-
--- The second list has the parts of the first and then those of the target, whose indexes are read in the images.
-pub record ArePrepared (s : Scope) (a : Images) (g : Graph) (old : List Part) (t : Target) (h : Graph) (new : List Part) : Type 0 where
-  pub parts : AreParts s h new
-  pub indexes : (p v : Valuation) → StandsFor s a h p v → HaveIndexes g p old → HaveIndexes h p new
-  pub places : (p v : Valuation) → StandsFor s a h p v → places_meant s h p new ≡ places_meant s g p old ++ places s v t

@@ -3,6 +3,9 @@
 
 mod changing;
 mod part;
+mod preparing;
+mod reading;
+mod statement;
 mod writing;
 
 /// Out of memory.

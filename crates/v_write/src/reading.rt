@@ -17,7 +17,7 @@ ghost use Rattle.v_write.specs.Running.{IsCondition, IsAssigned};
 use crate::NoMemory;
 use std::alloc::AllocError;
 use v_bits::{Operand, resized};
-use v_lower::{NamedTerms, SizeStop, lower};
+use v_lower::{NamedTerms, lower};
 use v_operators::{both, is_nonzero, put};
 use v_syntax::tree::Expression;
 use v_value::scope::Scope;
@@ -44,8 +44,8 @@ pub(crate) fn lowered(
 {
     match lower(scope, table, expression, width, signed, terms) {
         Ok(id) => Ok(id),
-        Err(SizeStop::NoMemory) => Err(AllocError),
-        Err(SizeStop::Refused(_)) => unreachable!(),
+        // No rule is broken, so memory ran out.
+        Err(_) => Err(AllocError),
     }
 }
 
