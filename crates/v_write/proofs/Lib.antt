@@ -8,3 +8,4 @@ mod Running
 mod Indexed
 mod Lowered
 mod Trees
+mod Whole

@@ -6,3 +6,4 @@ pub mod Turns
 pub mod Sound
 pub mod Selecting
 pub mod Running
+pub mod Blocks

@@ -40,7 +40,7 @@ struct Taken {
 
 /// The word and the bits that a name with selects means, so many of them.
 #[derive(Clone, Copy)]
-struct Selected {
+struct Meant {
     address: Option<Operand>,
     bits: PartBits,
     count: u32,
@@ -212,7 +212,7 @@ fn selected_by_one(
     object: Object,
     name: &str,
     select: &Select<'_>,
-) -> Result<Selected, NoMemory>
+) -> Result<Meant, NoMemory>
     requires objects { HasNarrowObjects (scope_at scope.now) }
     requires known { HasImages (scope_at scope.now) (images_at table.now) terms.old }
     requires object { object_of object ≡ scope_at scope.now name.now }
@@ -223,14 +223,14 @@ fn selected_by_one(
     if object.addresses.is_some() {
         let address = address_of(scope, table, terms, select)?;
         let count = object_width(object);
-        return Ok(Selected {
+        return Ok(Meant {
             address: Some(address),
             bits: PartBits::All,
             count,
         });
     }
     let taken = taken_bits(scope, table, terms, object, select)?;
-    Ok(Selected {
+    Ok(Meant {
         address: None,
         bits: taken.bits,
         count: taken.count,
@@ -245,7 +245,7 @@ fn selected(
     object: Object,
     name: &str,
     selects: &Selects<'_>,
-) -> Result<Selected, NoMemory>
+) -> Result<Meant, NoMemory>
     requires objects { HasNarrowObjects (scope_at scope.now) }
     requires known { HasImages (scope_at scope.now) (images_at table.now) terms.old }
     requires object { object_of object ≡ scope_at scope.now name.now }
@@ -256,7 +256,7 @@ fn selected(
     match selects {
         Selects::Whole => {
             let count = object_width(object);
-            Ok(Selected {
+            Ok(Meant {
                 address: None,
                 bits: PartBits::All,
                 count,
@@ -269,7 +269,7 @@ fn selected(
         Selects::Two(index, select) => {
             let address = address_of(scope, table, terms, index)?;
             let taken = taken_bits(scope, table, terms, object, select)?;
-            Ok(Selected {
+            Ok(Meant {
                 address: Some(address),
                 bits: taken.bits,
                 count: taken.count,
@@ -307,7 +307,7 @@ fn add_part<'s>(
 
 /// Adds the parts of a target, the leftmost first.
 #[cycle(parts)]
-fn add_parts<'s>(
+pub(crate) fn add_parts<'s>(
     scope: &Scope<'_>,
     table: &NamedTerms<'_>,
     terms: &mut Terms,
@@ -369,7 +369,7 @@ fn width_of_parts(parts: &[Part<'_>]) -> u32
 
 /// An assignment before it is written: the parts of its target, the leftmost first, and its value, a word of so many bits.
 #[derive(Drop)]
-pub(crate) struct Prepared<'s> {
+pub(crate) struct Assignment<'s> {
     pub(crate) parts: Vec<Part<'s>>,
     pub(crate) value: TermId,
     pub(crate) width: u32,
@@ -383,7 +383,7 @@ pub(crate) fn prepared<'s>(
     terms: &mut Terms,
     target: &Target<'s>,
     expression: &Expression<'_>,
-) -> Result<Prepared<'s>, NoMemory>
+) -> Result<Assignment<'s>, NoMemory>
     requires objects { HasNarrowObjects (scope_at scope.now) }
     requires known { HasImages (scope_at scope.now) (images_at table.now) terms.old }
     requires sound { IsSoundAssignment (scope_at scope.now) (target_of target.now) (tree_of expression.now) }
@@ -394,7 +394,7 @@ pub(crate) fn prepared<'s>(
     add_parts(scope, table, terms, target, &mut parts)?;
     let width = width_of_parts(&parts);
     let value = assigned(scope, table, terms, expression, width)?;
-    Ok(Prepared {
+    Ok(Assignment {
         parts,
         value,
         width,

@@ -126,7 +126,7 @@ pub(crate) fn assigned(
 
 /// A condition's two sides: where another holds beside it, and where that doesn't.
 #[derive(Clone, Copy, PartialEq, Eq, Debug)]
-pub(crate) struct Sides {
+pub(crate) struct Split {
     pub(crate) taken: TermId,
     pub(crate) other: TermId,
 }
@@ -164,7 +164,7 @@ pub(crate) fn sides(
     terms: &mut Terms,
     guard: Option<TermId>,
     said: TermId,
-) -> Result<Sides, NoMemory>
+) -> Result<Split, NoMemory>
     requires guard { IsGuard terms.old guard }
     requires said { IsOfSort terms.old said.0 truth }
     ensures grows { Grows terms.old terms.new }
@@ -176,5 +176,5 @@ pub(crate) fn sides(
     let taken = with(terms, guard, said)?;
     let no = opposite(terms, said)?;
     let other = with(terms, guard, no)?;
-    Ok(Sides { taken, other })
+    Ok(Split { taken, other })
 }
