@@ -68,6 +68,7 @@ fn piece(
     requires within { low + count ≤ width }
     ensures grows { Grows terms.old terms.new }
     ensures made { IfOk result (λ r. Makes terms.old terms.new number.0 width r.0 count (λ x. x / 2 ^ low % 2 ^ count)) }
+    ensures within { low + count ≤ width }
 {
     if count == width {
         return Ok(number);

@@ -41,7 +41,7 @@ run_statement-returns-in_ok-defer-in-Nonblocking-clause-ran t c =
 pub run_statement-run_arms-requires : goal.run_statement-run_arms-requires
 run_statement-run_arms-requires t c = (
   search (rules, the_lemmas),
-  (c.requires.objects, (c.requires.known, (c.requires.known_next, (c.requires.guard, subst (AreSoundBranches (scope_at c.args.scope.now)) (sym c.deref-in-If.ensures.value) (sound-If (scope_at c.args.scope.now) c.args.statement.now c.in-If.arms c.in-If.last c.in-If.is c.requires.sound).0))))
+  (c.requires.objects, (c.requires.known, (c.requires.known_next, (c.requires.guard, subst (AreSoundBranches (scope_at c.args.scope.now)) (sym c.deref.ensures.value) (sound-If (scope_at c.args.scope.now) c.args.statement.now c.in-If.arms c.in-If.last c.in-If.is c.requires.sound).0))))
 )
 
 pub run_statement-run_statement-requires : goal.run_statement-run_statement-requires
@@ -56,16 +56,16 @@ pub run_statement-returns-in_ok-run_statement-in-Some-clause-ran : goal.run_stat
 run_statement-returns-in_ok-run_statement-in-Some-clause-ran t c =
     let y = last_statement c.in-If.last in
     let same = last_run (scope_at c.args.scope.now) c.in-If.last c.in-Some.other c.in-Some.is c.deref-in-Some.result.now c.deref-in-Some.ensures in
-    ran (scope_at c.args.scope.now) (images_at c.args.table.now) (images_at c.args.next.now) c.args.terms.now c.args.guard (λ p v. run (scope_at c.args.scope.now) (or_empty (arm_list c.deref-in-If.result.now y)) v) (images_at c.run_arms.new.table) (images_at c.run_arms.new.next) (images_at c.run_statement.new.table) (images_at c.run_statement.new.next) c.run_arms.new.terms c.run_statement.new.terms c.in_ok-rest-in-If.rest
+    ran (scope_at c.args.scope.now) (images_at c.args.table.now) (images_at c.args.next.now) c.args.terms.now c.args.guard (λ p v. run (scope_at c.args.scope.now) (or_empty (arm_list c.deref.result.now y)) v) (images_at c.run_arms.new.table) (images_at c.run_arms.new.next) (images_at c.run_statement.new.table) (images_at c.run_statement.new.next) c.run_arms.new.terms c.run_statement.new.terms c.in_ok-rest-in-If.rest
     (λ v. run (scope_at c.args.scope.now) (or_empty y) v) (λ v. run (scope_at c.args.scope.now) (statement_of c.args.statement.now) v) (c.in_ok-rest-in-If.ensures.going y)
     (runs_as (scope_at c.args.scope.now) (images_at c.run_arms.new.table) (images_at c.run_arms.new.next) (images_at c.run_statement.new.table) (images_at c.run_statement.new.next) c.run_arms.new.terms c.run_statement.new.terms c.in_ok-rest-in-If.rest _ _ same c.in_ok-run_statement-in-Some.ensures.ran)
-    (λ p v. run-If (scope_at c.args.scope.now) c.args.statement.now c.in-If.arms c.in-If.last c.in-If.is c.deref-in-If.result.now c.deref-in-If.ensures.value v)
+    (λ p v. run-If (scope_at c.args.scope.now) c.args.statement.now c.in-If.arms c.in-If.last c.in-If.is c.deref.result.now c.deref.ensures.value v)
 
 pub run_statement-returns-in-None-clause-ran : goal.run_statement-returns-in-None-clause-ran
 run_statement-returns-in-None-clause-ran t c =
-    let going = subst (λ y. IsGoing (scope_at c.args.scope.now) (images_at c.args.table.now) (images_at c.args.next.now) c.args.terms.now c.args.guard (λ p v. run (scope_at c.args.scope.now) (or_empty (arm_list c.deref-in-If.result.now y)) v) (images_at c.run_arms.new.table) (images_at c.run_arms.new.next) c.run_arms.new.terms c.in_ok-rest-in-If.rest (λ p v. run (scope_at c.args.scope.now) (or_empty y) v)) (ap last_statement c.in-None.is) (c.in_ok-rest-in-If.ensures.going (last_statement c.in-If.last)) in
-    ended (scope_at c.args.scope.now) (images_at c.args.table.now) (images_at c.args.next.now) c.args.terms.now c.args.guard (λ p v. run (scope_at c.args.scope.now) (or_empty (arm_list c.deref-in-If.result.now None)) v) (images_at c.run_arms.new.table) (images_at c.run_arms.new.next) c.run_arms.new.terms c.in_ok-rest-in-If.rest (λ v. run (scope_at c.args.scope.now) (statement_of c.args.statement.now) v) going
-    (λ p v. ap (λ y. run (scope_at c.args.scope.now) (or_empty (arm_list c.deref-in-If.result.now y)) v) (sym (ap last_statement c.in-None.is)) ∙ run-If (scope_at c.args.scope.now) c.args.statement.now c.in-If.arms c.in-If.last c.in-If.is c.deref-in-If.result.now c.deref-in-If.ensures.value v)
+    let going = subst (λ y. IsGoing (scope_at c.args.scope.now) (images_at c.args.table.now) (images_at c.args.next.now) c.args.terms.now c.args.guard (λ p v. run (scope_at c.args.scope.now) (or_empty (arm_list c.deref.result.now y)) v) (images_at c.run_arms.new.table) (images_at c.run_arms.new.next) c.run_arms.new.terms c.in_ok-rest-in-If.rest (λ p v. run (scope_at c.args.scope.now) (or_empty y) v)) (ap last_statement c.in-None.is) (c.in_ok-rest-in-If.ensures.going (last_statement c.in-If.last)) in
+    ended (scope_at c.args.scope.now) (images_at c.args.table.now) (images_at c.args.next.now) c.args.terms.now c.args.guard (λ p v. run (scope_at c.args.scope.now) (or_empty (arm_list c.deref.result.now None)) v) (images_at c.run_arms.new.table) (images_at c.run_arms.new.next) c.run_arms.new.terms c.in_ok-rest-in-If.rest (λ v. run (scope_at c.args.scope.now) (statement_of c.args.statement.now) v) going
+    (λ p v. ap (λ y. run (scope_at c.args.scope.now) (or_empty (arm_list c.deref.result.now y)) v) (sym (ap last_statement c.in-None.is)) ∙ run-If (scope_at c.args.scope.now) c.args.statement.now c.in-If.arms c.in-If.last c.in-If.is c.deref.result.now c.deref.ensures.value v)
 
 pub run_statement-unreachable-requires : goal.run_statement-unreachable-requires
 run_statement-unreachable-requires t c = subst (λ x. IsSoundStatement (scope_at c.args.scope.now) (statement_of x)) c.in-Case.is c.requires.sound
@@ -151,6 +151,9 @@ run_arms-loop-arm-preserved t c =
 
 pub run_arms-returns-clause-grows : goal.run_arms-returns-clause-grows
 run_arms-returns-clause-grows t c = (c.loop-arm.invariant.so_far None).grows
+
+pub run_arms-returns-in_err-rest-clause-grows : goal.run_arms-returns-in_err-rest-clause-grows
+run_arms-returns-in_err-rest-clause-grows t c = Grows-trans (c.loop-arm.invariant.so_far None).grows c.run_arm.ensures.grows
 
 pub run_arms-returns-clause-going : goal.run_arms-returns-clause-going
 run_arms-returns-clause-going t c y =

@@ -17,7 +17,7 @@ invariant-run_all-loop-statement l = record {
 
 abbrev pub invariant-run_arms-loop-arm : goal.invariant-run_arms-loop-arm
 invariant-run_arms-loop-arm l = record {
-  so_far : (y : Option pure.Statement) → IsGoing (scope_at l.scope) (images_at l.initial.table) (images_at l.initial.next) l.initial.terms l.guard (λ p v. run (scope_at l.scope) (or_empty (arm_list l.arms y)) v)
+  so_far : (y : Option pure.Statement) → IsGoing (scope_at l.scope) (images_at l.initial.table) (images_at l.initial.next) l.initial.terms l.fn.guard (λ p v. run (scope_at l.scope) (or_empty (arm_list l.arms y)) v)
       (images_at l.table) (images_at l.next) l.terms l.rest (λ p v. run (scope_at l.scope) (or_empty (arm_list (drop l.arm-index l.arms) y)) v);
   sound : AreSoundBranches (scope_at l.scope) (drop l.arm-index l.arms);
 }

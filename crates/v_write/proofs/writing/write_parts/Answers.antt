@@ -34,12 +34,6 @@ write_part-requires-clause-part c =
 pub write_part-requires-clause-guard : goal.write_part-requires-clause-guard
 write_part-requires-clause-guard c = guard_there c.args.terms.now c.piece.new.terms (Grows-trans c.loop-i.invariant.grows c.in_ok-bits.ensures.grows) c.args.guard c.requires.guard
 
-pub overflow_add-low : goal.overflow_add-low
-overflow_add-low c =
-    let ps = c.args.parts.now in
-    let l = next_within ps _ (length ps - (c.loop-i.i + 1)) (length ps - c.loop-i.i) (length ps - 1 - c.loop-i.i) c.loop-i.low c.args.width (omega arith) (omega arith) (omega arith) c.loop-i.invariant.lowest c.requires.width in
-    omega (arith, l, c.ranges.width.fits)
-
 pub loop-i-preserved : goal.loop-i-preserved
 loop-i-preserved c =
     let ps = c.args.parts.now in
