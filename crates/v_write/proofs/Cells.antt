@@ -122,6 +122,7 @@ in_range a (pos i) k e = by_tests (nat_le (min a.0 a.1) i) (nat_le i (max a.0 a.
   first : Option ℕ → ℕ
   first (Some x) = x
   first None = 0
+
   by_tests : (s t : Bool) → nat_le (min a.0 a.1) i ≡ s → nat_le i (max a.0 a.1) ≡ t → cond (s && t) (Some (i - min a.0 a.1)) None ≡ Some k → k < distance a.0 a.1 + 1
   by_tests true true p q r =
       let low : min a.0 a.1 ≤ i = grind (arith, nat_tests, p) in

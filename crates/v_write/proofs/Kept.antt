@@ -50,9 +50,10 @@ module _ (g h : Graph) (grows : Grows g h) where
   pub address_there : (o : Object) (p : Valuation) (a : Option Operand) → IsAddress g a → HasAddress g p a → HasAddress h p a × (cell_meant o h p a ≡ cell_meant o g p a)
   address_there o p None k f = (tt, refl)
   address_there o p (Some a) k f =
-      let e = worth_kept p a k in
-      (subst (λ z. HasNumber h a.id.0 a.width p z) (sym e) (number_kept a.id.0 a.width p (worth g p a.id.0) grows k.below f),
-      ap (λ z. indexed_cell o (integer_from a.signed a.width z)) e)
+      let e = worth_kept p a k in (
+        subst (λ z. HasNumber h a.id.0 a.width p z) (sym e) (number_kept a.id.0 a.width p (worth g p a.id.0) grows k.below f),
+        ap (λ z. indexed_cell o (integer_from a.signed a.width z)) e,
+      )
 
   pub place_kept : (s : Scope) (q : Part) (p : Valuation) → IsPart s g q → HasIndexes g p q → HasIndexes h p q × (place_meant s h p q ≡ place_meant s g p q)
   place_kept s q p k f =

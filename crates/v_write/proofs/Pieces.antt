@@ -84,14 +84,16 @@ module _ (s : Scope) (a : Images) (g : Graph) (guard : Option TermId) (qs : List
         lowest = is_low ∙ sym (ap counts none);
         stands = λ p v x c st indexes is_x is_c. subst (λ z. StandsFor s a g p z) (sym (nothing p v x c low none)) st;
       } where
-    gone : (rs : List Part) → drop (length rs) rs ≡ []
-    gone [] = refl
-    gone (r ∷ rs) = gone rs
-    same : (v : Valuation) (c : Bool) → cond c v v ≡ v
-    same v true = refl
-    same v false = refl
-    nothing : (p v : Valuation) (x : ℕ) (c : Bool) (low : ℕ) → drop i qs ≡ [] → cond c (written s v (places_meant s g p (drop i qs)) (x % 2 ^ low)) v ≡ v
-    nothing p v x c low none = ap (λ rs. cond c (written s v (places_meant s g p rs) (x % 2 ^ low)) v) none ∙ same v c
+        gone : (rs : List Part) → drop (length rs) rs ≡ []
+        gone [] = refl
+        gone (r ∷ rs) = gone rs
+
+        same : (v : Valuation) (c : Bool) → cond c v v ≡ v
+        same v true = refl
+        same v false = refl
+
+        nothing : (p v : Valuation) (x : ℕ) (c : Bool) (low : ℕ) → drop i qs ≡ [] → cond c (written s v (places_meant s g p (drop i qs)) (x % 2 ^ low)) v ≡ v
+        nothing p v x c low none = ap (λ rs. cond c (written s v (places_meant s g p rs) (x % 2 ^ low)) v) none ∙ same v c
 
   pub turned : (b e : Images) (h k l : Graph) (d : Part) (m i j low next bits : ℕ) → m < length qs → i ≡ suc m → j ≡ m → IsWriting s a g guard qs number w (drop i qs) low b h
       → Grows h k → Makes h k number w bits (get_or qs j d).count (λ x. x / 2 ^ low % 2 ^ (get_or qs j d).count)
@@ -105,49 +107,56 @@ module _ (s : Scope) (a : Images) (g : Graph) (guard : Option TermId) (qs : List
         lowest = is_next ∙ (ap (λ z. z + (get_or qs j d).count) is_rest ∙ (add_comm (counts (drop (suc m) qs)) (get_or qs j d).count ∙ sym more));
         stands = λ p v x c st indexes is_x is_c. by p v x c st indexes is_x is_c;
       } where
-    gh : Grows g h
-    gh = so.grows
-    gk : Grows g k
-    gk = Grows-trans so.grows hk
-    is_rest : low ≡ counts (drop (suc m) qs)
-    is_rest = so.lowest ∙ ap (λ z. counts (drop z qs)) is_i
-    more : counts (drop m qs) ≡ (get_or qs j d).count + counts (drop (suc m) qs)
-    more = counts_more qs d m within ∙ ap (λ z. (get_or qs z d).count + counts (drop (suc m) qs)) (sym is_j)
-    is_part : IsPart s g (get_or qs j d)
-    is_part = part_at s g qs d j (subst (λ z. z < length qs) (sym is_j) within) parts
-    shown : (p : Valuation) → drop m qs ≡ get_or qs j d ∷ drop (suc m) qs
-    shown p = drop-cons qs m d within ∙ ap (λ z. get_or qs z d ∷ drop (suc m) qs) (sym is_j)
-    after : (p v : Valuation) (x : ℕ) → written_place s (written s v (places_meant s g p (drop i qs)) (x % 2 ^ low)) (place_meant s g p (get_or qs j d)) (x / 2 ^ low % 2 ^ (get_or qs j d).count)
-        ≡ written s v (places_meant s g p (drop m qs)) (x % 2 ^ next)
-    after p v x =
-        let pl = place_meant s g p (get_or qs j d) in
-        let pls = places_meant s g p (drop (suc m) qs) in
-        let wide : low ≡ places_width pls = is_rest ∙ parts_count s g p (drop (suc m) qs) (parts_from s g qs (suc m) parts) in
-        let n : (get_or qs j d).count ≡ pl.bits.count = part_count s g p (get_or qs j d) is_part in
-        let all : next ≡ places_width (pl ∷ pls) = is_next ∙ (add_comm low (get_or qs j d).count ∙ (λ z. n z + wide z)) in
-        ap (λ z. written_place s (written s v (places_meant s g p (drop z qs)) (x % 2 ^ low)) pl (x / 2 ^ low % 2 ^ (get_or qs j d).count)) is_i
-        ∙ (ap (λ z. written_place s (written s v pls (x % 2 ^ z)) pl (x / 2 ^ z % 2 ^ (get_or qs j d).count)) wide
-        ∙ (ap (λ z. written_place s (written s v pls (x % 2 ^ places_width pls)) pl (x / 2 ^ places_width pls % 2 ^ z)) n
-        ∙ (sym (written_more s v pl pls x)
-        ∙ (ap (λ z. written s v (pl ∷ pls) (x % 2 ^ z)) (sym all)
-        ∙ ap (λ rs. written s v (places_meant s g p rs) (x % 2 ^ next)) (sym (shown p))))))
-    by : (p v : Valuation) (x : ℕ) (c : Bool) → StandsFor s a g p v → HaveIndexes g p qs → HasNumber g number w p x → Guards g p guard c
-        → StandsFor s e l p (cond c (written s v (places_meant s g p (drop m qs)) (x % 2 ^ next)) v)
-    by p v x c st indexes is_x is_c =
-        let was = so.stands p v x c st indexes is_x is_c in
-        let u : Valuation = cond c (written s v (places_meant s g p (drop i qs)) (x % 2 ^ low)) v in
-        let own = indexes_at g p qs d j (subst (λ z. z < length qs) (sym is_j) within) indexes in
-        let f = place_kept g k gk s (get_or qs j d) p is_part own in
-        let y : ℕ = x / 2 ^ low % 2 ^ (get_or qs j d).count in
-        let at : HasNumber k bits (get_or qs j d).count p y = piece.value p x (number_kept number w p x gh sort.below is_x) in
-        let got : StandsFor s e l p (cond c (written_place s u (place_meant s k p (get_or qs j d)) y) u) =
-        part.stands p u y c (stands_after s b h k p u hk so.known was) f.0 at (guard_kept g k gk p guard c there is_c) in
-        let here : StandsFor s e l p (cond c (written_place s u (place_meant s g p (get_or qs j d)) y) u) = subst (λ z. StandsFor s e l p (cond c (written_place s u z y) u)) f.1 got in
-        chosen c here where
-      chosen : (t : Bool) → StandsFor s e l p (cond t (written_place s (cond t (written s v (places_meant s g p (drop i qs)) (x % 2 ^ low)) v) (place_meant s g p (get_or qs j d)) (x / 2 ^ low % 2 ^ (get_or qs j d).count)) (cond t (written s v (places_meant s g p (drop i qs)) (x % 2 ^ low)) v))
-          → StandsFor s e l p (cond t (written s v (places_meant s g p (drop m qs)) (x % 2 ^ next)) v)
-      chosen true st = subst (λ z. StandsFor s e l p z) (after p v x) st
-      chosen false st = st
+        gh : Grows g h
+        gh = so.grows
+
+        gk : Grows g k
+        gk = Grows-trans so.grows hk
+
+        is_rest : low ≡ counts (drop (suc m) qs)
+        is_rest = so.lowest ∙ ap (λ z. counts (drop z qs)) is_i
+
+        more : counts (drop m qs) ≡ (get_or qs j d).count + counts (drop (suc m) qs)
+        more = counts_more qs d m within ∙ ap (λ z. (get_or qs z d).count + counts (drop (suc m) qs)) (sym is_j)
+
+        is_part : IsPart s g (get_or qs j d)
+        is_part = part_at s g qs d j (subst (λ z. z < length qs) (sym is_j) within) parts
+
+        shown : (p : Valuation) → drop m qs ≡ get_or qs j d ∷ drop (suc m) qs
+        shown p = drop-cons qs m d within ∙ ap (λ z. get_or qs z d ∷ drop (suc m) qs) (sym is_j)
+
+        after : (p v : Valuation) (x : ℕ) → written_place s (written s v (places_meant s g p (drop i qs)) (x % 2 ^ low)) (place_meant s g p (get_or qs j d)) (x / 2 ^ low % 2 ^ (get_or qs j d).count)
+            ≡ written s v (places_meant s g p (drop m qs)) (x % 2 ^ next)
+        after p v x =
+            let pl = place_meant s g p (get_or qs j d) in
+            let pls = places_meant s g p (drop (suc m) qs) in
+            let wide : low ≡ places_width pls = is_rest ∙ parts_count s g p (drop (suc m) qs) (parts_from s g qs (suc m) parts) in
+            let n : (get_or qs j d).count ≡ pl.bits.count = part_count s g p (get_or qs j d) is_part in
+            let all : next ≡ places_width (pl ∷ pls) = is_next ∙ (add_comm low (get_or qs j d).count ∙ (λ z. n z + wide z)) in
+            ap (λ z. written_place s (written s v (places_meant s g p (drop z qs)) (x % 2 ^ low)) pl (x / 2 ^ low % 2 ^ (get_or qs j d).count)) is_i
+            ∙ (ap (λ z. written_place s (written s v pls (x % 2 ^ z)) pl (x / 2 ^ z % 2 ^ (get_or qs j d).count)) wide
+            ∙ (ap (λ z. written_place s (written s v pls (x % 2 ^ places_width pls)) pl (x / 2 ^ places_width pls % 2 ^ z)) n
+            ∙ (sym (written_more s v pl pls x)
+            ∙ (ap (λ z. written s v (pl ∷ pls) (x % 2 ^ z)) (sym all)
+            ∙ ap (λ rs. written s v (places_meant s g p rs) (x % 2 ^ next)) (sym (shown p))))))
+
+        by : (p v : Valuation) (x : ℕ) (c : Bool) → StandsFor s a g p v → HaveIndexes g p qs → HasNumber g number w p x → Guards g p guard c
+            → StandsFor s e l p (cond c (written s v (places_meant s g p (drop m qs)) (x % 2 ^ next)) v)
+        by p v x c st indexes is_x is_c =
+            let was = so.stands p v x c st indexes is_x is_c in
+            let u : Valuation = cond c (written s v (places_meant s g p (drop i qs)) (x % 2 ^ low)) v in
+            let own = indexes_at g p qs d j (subst (λ z. z < length qs) (sym is_j) within) indexes in
+            let f = place_kept g k gk s (get_or qs j d) p is_part own in
+            let y : ℕ = x / 2 ^ low % 2 ^ (get_or qs j d).count in
+            let at : HasNumber k bits (get_or qs j d).count p y = piece.value p x (number_kept number w p x gh sort.below is_x) in
+            let got : StandsFor s e l p (cond c (written_place s u (place_meant s k p (get_or qs j d)) y) u) =
+            part.stands p u y c (stands_after s b h k p u hk so.known was) f.0 at (guard_kept g k gk p guard c there is_c) in
+            let here : StandsFor s e l p (cond c (written_place s u (place_meant s g p (get_or qs j d)) y) u) = subst (λ z. StandsFor s e l p (cond c (written_place s u z y) u)) f.1 got in
+            chosen c here where
+              chosen : (t : Bool) → StandsFor s e l p (cond t (written_place s (cond t (written s v (places_meant s g p (drop i qs)) (x % 2 ^ low)) v) (place_meant s g p (get_or qs j d)) (x / 2 ^ low % 2 ^ (get_or qs j d).count)) (cond t (written s v (places_meant s g p (drop i qs)) (x % 2 ^ low)) v))
+                  → StandsFor s e l p (cond t (written s v (places_meant s g p (drop m qs)) (x % 2 ^ next)) v)
+              chosen true st = subst (λ z. StandsFor s e l p z) (after p v x) st
+              chosen false st = st
 
   pub finished : (b : Images) (h : Graph) (i low : ℕ) → i ≡ 0 → w ≡ counts qs → IsWriting s a g guard qs number w (drop i qs) low b h → ArePartsWritten s a g guard qs number w b h
   finished b h i low is_i is_w so =
@@ -156,10 +165,11 @@ module _ (s : Scope) (a : Images) (g : Graph) (guard : Option TermId) (qs : List
         names = so.names;
         stands = λ p v x c st indexes is_x is_c. subst (λ z. StandsFor s b h p (cond c z v)) (whole p v x is_x.fits) (so.stands p v x c st indexes is_x is_c);
       } where
-    all : low ≡ w
-    all = so.lowest ∙ (ap (λ z. counts (drop z qs)) is_i ∙ sym is_w)
-    whole : (p v : Valuation) (x : ℕ) → x < 2 ^ w → written s v (places_meant s g p (drop i qs)) (x % 2 ^ low) ≡ written s v (places_meant s g p qs) x
-    whole p v x l =
-        ap (λ z. written s v (places_meant s g p (drop z qs)) (x % 2 ^ low)) is_i
-        ∙ (ap (λ z. written s v (places_meant s g p qs) (x % 2 ^ z)) all
-        ∙ written_all s v (places_meant s g p qs) x w (is_w ∙ parts_count s g p qs parts) l)
+        all : low ≡ w
+        all = so.lowest ∙ (ap (λ z. counts (drop z qs)) is_i ∙ sym is_w)
+
+        whole : (p v : Valuation) (x : ℕ) → x < 2 ^ w → written s v (places_meant s g p (drop i qs)) (x % 2 ^ low) ≡ written s v (places_meant s g p qs) x
+        whole p v x l =
+            ap (λ z. written s v (places_meant s g p (drop z qs)) (x % 2 ^ low)) is_i
+            ∙ (ap (λ z. written s v (places_meant s g p qs) (x % 2 ^ z)) all
+            ∙ written_all s v (places_meant s g p qs) x w (is_w ∙ parts_count s g p qs parts) l)

@@ -297,7 +297,7 @@ memory_sorted g h o old id a d t so q r n = subst (λ z. IsOfSort h id z) (ap so
 
 pub name_stored : (o : Object) (g h : Graph) (q : Part) (i : Operand) (old value id a d : ℕ) → q.address ≡ Some i → IsOfSort g old (memory a d) → IsOfSort h id (memory a d)
     → ((p : Valuation) (v : Value) (x : ℕ) → IsNumber g p i → HaveIndex g p q.bits → val (tree g old) p ≡ v → IsValueOf o v → HasNumber g value q.count p x
-      → val (tree h id) p ≡ written_cell o v (indexed_cell o (index_meant g p i)) (bits_meant o g p q.bits) x)
+    → val (tree h id) p ≡ written_cell o v (indexed_cell o (index_meant g p i)) (bits_meant o g p q.bits) x)
     → Changes o g h q old value id
 name_stored o g h q i old value id a d some was n worth_new =
     record {

@@ -113,13 +113,14 @@ module _ (s : Scope) (a n : Images) (g : Graph) (guard : Option TermId) (all : V
               ends_next = two p f.valuation f.updated f.holds ∙ f.ends_next;
             };
       } where
-    one : (p v : Valuation) (c : Bool) → cond c (rest p (cond c (first v).valuation v)).valuation (cond c (first v).valuation v) ≡ cond c (followed_by (first v) (rest p)).valuation v
-    one p v true = refl
-    one p v false = refl
-    two : (p v u : Valuation) (c : Bool) → cond c (with_updates s (cond c (with_updates s u (first v).updates) u) (rest p (cond c (first v).valuation v)).updates) (cond c (with_updates s u (first v).updates) u)
-        ≡ cond c (with_updates s u (followed_by (first v) (rest p)).updates) u
-    two p v u true = sym (updates-append s u (first v).updates (rest p (first v).valuation).updates)
-    two p v u false = refl
+        one : (p v : Valuation) (c : Bool) → cond c (rest p (cond c (first v).valuation v)).valuation (cond c (first v).valuation v) ≡ cond c (followed_by (first v) (rest p)).valuation v
+        one p v true = refl
+        one p v false = refl
+
+        two : (p v u : Valuation) (c : Bool) → cond c (with_updates s (cond c (with_updates s u (first v).updates) u) (rest p (cond c (first v).valuation v)).updates) (cond c (with_updates s u (first v).updates) u)
+            ≡ cond c (with_updates s u (followed_by (first v) (rest p)).updates) u
+        two p v u true = sym (updates-append s u (first v).updates (rest p (first v).valuation).updates)
+        two p v u false = refl
 
   -- One of two effects is to come: the first ran where the test holds, and the other is left where it doesn't.
   pub going_else : (b m d l : Images) (h i k : Graph) (on : Option TermId) (taken other : TermId) (test : Valuation → Valuation → Bool) (first : Valuation → Effect) (rest : Valuation → Valuation → Effect)
@@ -152,15 +153,16 @@ module _ (s : Scope) (a n : Images) (g : Graph) (guard : Option TermId) (all : V
               ends_next = two p f.valuation f.updated f.holds (test p f.valuation) ∙ f.ends_next;
             };
       } where
-    one : (p v : Valuation) (c t : Bool) → cond (c && not t) (rest p (cond (c && t) (first v).valuation v)).valuation (cond (c && t) (first v).valuation v) ≡ cond c (cond t (first v) (rest p v)).valuation v
-    one p v true true = refl
-    one p v true false = refl
-    one p v false t = refl
-    two : (p v u : Valuation) (c t : Bool) → cond (c && not t) (with_updates s (cond (c && t) (with_updates s u (first v).updates) u) (rest p (cond (c && t) (first v).valuation v)).updates) (cond (c && t) (with_updates s u (first v).updates) u)
-        ≡ cond c (with_updates s u (cond t (first v) (rest p v)).updates) u
-    two p v u true true = refl
-    two p v u true false = refl
-    two p v u false t = refl
+        one : (p v : Valuation) (c t : Bool) → cond (c && not t) (rest p (cond (c && t) (first v).valuation v)).valuation (cond (c && t) (first v).valuation v) ≡ cond c (cond t (first v) (rest p v)).valuation v
+        one p v true true = refl
+        one p v true false = refl
+        one p v false t = refl
+
+        two : (p v u : Valuation) (c t : Bool) → cond (c && not t) (with_updates s (cond (c && t) (with_updates s u (first v).updates) u) (rest p (cond (c && t) (first v).valuation v)).updates) (cond (c && t) (with_updates s u (first v).updates) u)
+            ≡ cond c (with_updates s u (cond t (first v) (rest p v)).updates) u
+        two p v u true true = refl
+        two p v u true false = refl
+        two p v u false t = refl
 
   -- nothing is left
   pub ended : (b m : Images) (h : Graph) (on : Option TermId) (f : Valuation → Effect) → IsGoing s a n g guard all b m h on (λ p v. unchanged v) → ((p v : Valuation) → all p v ≡ f v) → Runs s a n g guard f b m h
@@ -288,7 +290,7 @@ arm_going s a n b m g f i h guard c said taken other x rest known next there gf 
     going_else s a n g guard all a n b m g i h guard taken other (λ p v. is_true s v c) x (λ p v. rest v)
     (started s a n g guard all known next there) (Grows-trans gf fi)
     (λ p v k sv is_k.
-      let t = is_said.value p v (stands_after s a g f p v gf known sv) in
-      let q = guard_kept g f gf p guard k there is_k in
-      (is_taken p k (is_true s v c) q t, is_other p k (is_true s v c) q t))
+    let t = is_said.value p v (stands_after s a g f p v gf known sv) in
+    let q = guard_kept g f gf p guard k there is_k in
+    (is_taken p k (is_true s v c) q t, is_other p k (is_true s v c) q t))
     sort ih r

@@ -61,29 +61,31 @@ module _ (s : Scope) (a b : Images) (g h : Graph) (n : Name) (id old : ℕ) (gro
         some = λ m t u. subst (λ c. IsTrue c) (sym (names_kept m)) (known.some m t u);
         image = λ m k e. by m k e (same_name n m) refl;
       } where
-    by : (m : Name) (k : ℕ) → b m ≡ Some k → (c : Bool) → same_name n m ≡ c → IsImage s h m k
-    by m k e true t = let q = given m k t e in subst (λ z. IsImage s h z k) q.0 (subst (λ z. IsImage s h n z) q.1 i)
-    by m k e false t = (images_kept s a g h grows known).image m k (left m k t e)
+        by : (m : Name) (k : ℕ) → b m ≡ Some k → (c : Bool) → same_name n m ≡ c → IsImage s h m k
+        by m k e true t = let q = given m k t e in subst (λ z. IsImage s h z k) q.0 (subst (λ z. IsImage s h n z) q.1 i)
+        by m k e false t = (images_kept s a g h grows known).image m k (left m k t e)
 
   pub stands_written : (p v : Valuation) (y : Value) → StandsFor s a g p v → IsValueOf (s n) y → val (tree h id) p ≡ y → StandsFor s b h p (with_value v n y)
   stands_written p v y st f e =
       record { fits = λ m k i. fits m k i (same_name n m) refl; same = λ m k i. same m k i (same_name n m) refl } where
-    fits : (m : Name) (k : ℕ) → b m ≡ Some k → (c : Bool) → same_name n m ≡ c → IsValueOf (s m) (cond c y (v m))
-    fits m k i true t = subst (λ z. IsValueOf (s z) y) (same_is n m t) f
-    fits m k i false t = st.fits m k (left m k t i)
-    same : (m : Name) (k : ℕ) → b m ≡ Some k → (c : Bool) → same_name n m ≡ c → val (tree h k) p ≡ cond c y (v m)
-    same m k i true t = ap (λ z. val (tree h z) p) (sym (given m k t i).1) ∙ e
-    same m k i false t = (stands_after s a g h p v grows known st).same m k (left m k t i)
+        fits : (m : Name) (k : ℕ) → b m ≡ Some k → (c : Bool) → same_name n m ≡ c → IsValueOf (s m) (cond c y (v m))
+        fits m k i true t = subst (λ z. IsValueOf (s z) y) (same_is n m t) f
+        fits m k i false t = st.fits m k (left m k t i)
+
+        same : (m : Name) (k : ℕ) → b m ≡ Some k → (c : Bool) → same_name n m ≡ c → val (tree h k) p ≡ cond c y (v m)
+        same m k i true t = ap (λ z. val (tree h z) p) (sym (given m k t i).1) ∙ e
+        same m k i false t = (stands_after s a g h p v grows known st).same m k (left m k t i)
 
   -- the term is worth what the name had
   pub stands_kept : (p v : Valuation) → StandsFor s a g p v → val (tree h id) p ≡ v n → StandsFor s b h p v
   stands_kept p v st e =
       subst (λ u. StandsFor s b h p u) same (stands_written p v (v n) st (st.fits n old had) e) where
-    same_at : (m : Name) (c : Bool) → same_name n m ≡ c → cond c (v n) (v m) ≡ v m
-    same_at m true t = ap v (same_is n m t)
-    same_at m false t = refl
-    same : with_value v n (v n) ≡ v
-    same = λ i m. same_at m (same_name n m) refl i
+        same_at : (m : Name) (c : Bool) → same_name n m ≡ c → cond c (v n) (v m) ≡ v m
+        same_at m true t = ap v (same_is n m t)
+        same_at m false t = refl
+
+        same : with_value v n (v n) ≡ v
+        same = λ i m. same_at m (same_name n m) refl i
 
 -- ---- a part is written, where a condition holds
 
@@ -113,14 +115,14 @@ module _ (s : Scope) (a b : Images) (g i h : Graph) (q : Part) (guard : Option T
         names = names_kept s a b g h q.name.now id old all known had is_b;
         stands = λ p v x c st indexes is_x is_c. by p v x st indexes is_x c (chosen p c is_c);
       } where
-    by : (p v : Valuation) (x : ℕ) → StandsFor s a g p v → HasIndexes g p q → HasNumber g number q.count p x → (c : Bool)
-        → val (tree h id) p ≡ cond c (val (tree i new) p) (val (tree i old) p) → StandsFor s b h p (cond c (written_place s v (place_meant s g p q) x) v)
-    by p v x st indexes is_x true e =
-        let all : Grows g h = Grows-trans grows on in
-        let was : IsValueOf (s q.name.now) (v q.name.now) = st.fits q.name.now old had in
-        stands_written s a b g h q.name.now id old all known had is_b p v _ st (cell_fits p v x was)
-        (e ∙ changed.value p (v q.name.now) x indexes (st.same q.name.now old had) was is_x)
-    by p v x st indexes is_x false e =
-        let all : Grows g h = Grows-trans grows on in
-        stands_kept s a b g h q.name.now id old all known had is_b p v st
-        (e ∙ (ap (λ (t : Term). val t p) (tree_kept old grows (known.image q.name.now old had).of_sort.below) ∙ st.same q.name.now old had))
+        by : (p v : Valuation) (x : ℕ) → StandsFor s a g p v → HasIndexes g p q → HasNumber g number q.count p x → (c : Bool)
+            → val (tree h id) p ≡ cond c (val (tree i new) p) (val (tree i old) p) → StandsFor s b h p (cond c (written_place s v (place_meant s g p q) x) v)
+        by p v x st indexes is_x true e =
+            let all : Grows g h = Grows-trans grows on in
+            let was : IsValueOf (s q.name.now) (v q.name.now) = st.fits q.name.now old had in
+            stands_written s a b g h q.name.now id old all known had is_b p v _ st (cell_fits p v x was)
+            (e ∙ changed.value p (v q.name.now) x indexes (st.same q.name.now old had) was is_x)
+        by p v x st indexes is_x false e =
+            let all : Grows g h = Grows-trans grows on in
+            stands_kept s a b g h q.name.now id old all known had is_b p v st
+            (e ∙ (ap (λ (t : Term). val t p) (tree_kept old grows (known.image q.name.now old had).of_sort.below) ∙ st.same q.name.now old had))

@@ -192,7 +192,7 @@ pub(crate) fn changed(
 {
     match part.address {
         None => {
-                    let width = object_width(object);
+            let width = object_width(object);
             let id = word_changed(terms, object, old, width, number, part)?;
             Ok(id)
         }

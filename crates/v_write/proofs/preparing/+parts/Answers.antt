@@ -21,10 +21,17 @@ add_parts-returns-in_ok-add_part-in-Place-clause-prepared t c =
 pub add_parts-add_all_parts-requires : goal.add_parts-add_all_parts-requires
 add_parts-add_all_parts-requires t c = (
   search (rules, the_lemmas),
-  (c.requires.objects, (c.requires.known, (
-    let h = subst (IsSoundTarget (scope_at c.args.scope.now)) (ap target_of c.in-Joined.is ∙ target_of-Joined c.in-Joined.targets) c.requires.sound in
-    subst (λ ts. AreSoundTargets (scope_at c.args.scope.now) (target_list ts)) (sym c.deref.ensures.value) h,
-    c.requires.parts)))
+  (
+    c.requires.objects,
+    (
+      c.requires.known,
+      (
+        let h = subst (IsSoundTarget (scope_at c.args.scope.now)) (ap target_of c.in-Joined.is ∙ target_of-Joined c.in-Joined.targets) c.requires.sound in
+            subst (λ ts. AreSoundTargets (scope_at c.args.scope.now) (target_list ts)) (sym c.deref.ensures.value) h,
+        c.requires.parts,
+      ),
+    ),
+  ),
 )
 
 pub add_parts-returns-in_ok-add_all_parts-in-Joined-clause-prepared : goal.add_parts-returns-in_ok-add_all_parts-in-Joined-clause-prepared
@@ -43,9 +50,16 @@ add_all_parts-loop-target-init t c =
 pub add_all_parts-add_parts-requires : goal.add_all_parts-add_parts-requires
 add_all_parts-add_parts-requires t c = (
   search (rules, the_lemmas),
-  (c.requires.objects, (c.loop-target.invariant.known, (
-    (subst (λ ts. AreSoundTargets (scope_at c.args.scope.now) (target_list ts)) (rest_is c.args.targets.now c.loop-target.target-index c.target-item.result (omega arith) c.target-item.is) c.loop-target.invariant.sound).0,
-    c.loop-target.invariant.so_far.parts)))
+  (
+    c.requires.objects,
+    (
+      c.loop-target.invariant.known,
+      (
+        (subst (λ ts. AreSoundTargets (scope_at c.args.scope.now) (target_list ts)) (rest_is c.args.targets.now c.loop-target.target-index c.target-item.result (omega arith) c.target-item.is) c.loop-target.invariant.sound).0,
+        c.loop-target.invariant.so_far.parts,
+      ),
+    ),
+  ),
 )
 
 pub add_all_parts-loop-target-preserved : goal.add_all_parts-loop-target-preserved

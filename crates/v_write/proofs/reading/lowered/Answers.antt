@@ -13,5 +13,5 @@ returns-in-Ok-clause-grows c = c.in-Ok.ensures.1
 pub returns-in-Ok-clause-lowered : goal.returns-in-Ok-clause-lowered
 returns-in-Ok-clause-lowered c = c.in-Ok.ensures.2
 
-pub returns-in-Err : goal.returns-in-Err
-returns-in-Err c = refused_same (scope_at c.args.scope.now) (images_at c.args.table.now) c.args.terms.now c.lower.new.terms (tree_of c.args.expression.now) c.args.width c.args.signed _ c.in-Err.ensures
+pub returns-in-Err-clause-grows : goal.returns-in-Err-clause-grows
+returns-in-Err-clause-grows c = refused_same (scope_at c.args.scope.now) (images_at c.args.table.now) c.args.terms.now c.lower.new.terms (tree_of c.args.expression.now) c.args.width c.args.signed _ c.in-Err.ensures

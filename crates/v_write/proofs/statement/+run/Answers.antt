@@ -41,16 +41,15 @@ run_statement-returns-in_ok-defer-in-Nonblocking-clause-ran t c =
 pub run_statement-run_arms-requires : goal.run_statement-run_arms-requires
 run_statement-run_arms-requires t c = (
   search (rules, the_lemmas),
-  (c.requires.objects, (c.requires.known, (c.requires.known_next, (c.requires.guard, subst (AreSoundBranches (scope_at c.args.scope.now)) (sym c.deref.ensures.value) (sound-If (scope_at c.args.scope.now) c.args.statement.now c.in-If.arms c.in-If.last c.in-If.is c.requires.sound).0))))
+  (c.requires.objects, (c.requires.known, (c.requires.known_next, (c.requires.guard, subst (AreSoundBranches (scope_at c.args.scope.now)) (sym c.deref.ensures.value) (sound-If (scope_at c.args.scope.now) c.args.statement.now c.in-If.arms c.in-If.last c.in-If.is c.requires.sound).0)))),
 )
 
 pub run_statement-run_statement-requires : goal.run_statement-run_statement-requires
 run_statement-run_statement-requires t c =
-    let going = c.in_ok-rest-in-If.ensures.going None in
-    (
-  search (rules, the_lemmas),
-  (c.requires.objects, (going.known, (going.known_next, (going.there, last_sound (scope_at c.args.scope.now) c.in-If.last c.in-Some.other c.in-Some.is c.deref-in-Some.result.now c.deref-in-Some.ensures (sound-If (scope_at c.args.scope.now) c.args.statement.now c.in-If.arms c.in-If.last c.in-If.is c.requires.sound).1))))
-)
+    let going = c.in_ok-rest-in-If.ensures.going None in (
+      search (rules, the_lemmas),
+      (c.requires.objects, (going.known, (going.known_next, (going.there, last_sound (scope_at c.args.scope.now) c.in-If.last c.in-Some.other c.in-Some.is c.deref-in-Some.result.now c.deref-in-Some.ensures (sound-If (scope_at c.args.scope.now) c.args.statement.now c.in-If.arms c.in-If.last c.in-If.is c.requires.sound).1)))),
+    )
 
 pub run_statement-returns-in_ok-run_statement-in-Some-clause-ran : goal.run_statement-returns-in_ok-run_statement-in-Some-clause-ran
 run_statement-returns-in_ok-run_statement-in-Some-clause-ran t c =
@@ -73,7 +72,7 @@ run_statement-unreachable-requires t c = subst (λ x. IsSoundStatement (scope_at
 pub run_statement-run_all-requires : goal.run_statement-run_all-requires
 run_statement-run_all-requires t c = (
   search (rules, the_lemmas),
-  (c.requires.objects, (c.requires.known, (c.requires.known_next, (c.requires.guard, subst (λ xs. AreSoundStatements (scope_at c.args.scope.now) (statement_list xs)) (sym c.deref-in-Block.ensures.value) (subst (IsSoundStatement (scope_at c.args.scope.now)) (ap statement_of c.in-Block.is ∙ statement_of-Block c.in-Block.field-0 c.in-Block.statements) c.requires.sound)))))
+  (c.requires.objects, (c.requires.known, (c.requires.known_next, (c.requires.guard, subst (λ xs. AreSoundStatements (scope_at c.args.scope.now) (statement_list xs)) (sym c.deref-in-Block.ensures.value) (subst (IsSoundStatement (scope_at c.args.scope.now)) (ap statement_of c.in-Block.is ∙ statement_of-Block c.in-Block.field-0 c.in-Block.statements) c.requires.sound))))),
 )
 
 pub run_statement-returns-in_ok-run_all-in-Block-clause-ran : goal.run_statement-returns-in_ok-run_all-in-Block-clause-ran
@@ -89,7 +88,7 @@ run_all-loop-statement-init t c =
 pub run_all-run_statement-requires : goal.run_all-run_statement-requires
 run_all-run_statement-requires t c = (
   search (rules, the_lemmas),
-  (c.requires.objects, (c.loop-statement.invariant.so_far.known, (c.loop-statement.invariant.so_far.known_next, (c.loop-statement.invariant.so_far.there, (subst (λ ys. AreSoundStatements (scope_at c.args.scope.now) (statement_list ys)) (rest_is c.args.statements.now c.loop-statement.statement-index c.statement-item.result (omega arith) c.statement-item.is) c.loop-statement.invariant.sound).0))))
+  (c.requires.objects, (c.loop-statement.invariant.so_far.known, (c.loop-statement.invariant.so_far.known_next, (c.loop-statement.invariant.so_far.there, (subst (λ ys. AreSoundStatements (scope_at c.args.scope.now) (statement_list ys)) (rest_is c.args.statements.now c.loop-statement.statement-index c.statement-item.result (omega arith) c.statement-item.is) c.loop-statement.invariant.sound).0)))),
 )
 
 pub run_all-loop-statement-preserved : goal.run_all-loop-statement-preserved
@@ -126,11 +125,10 @@ run_arms-loop-arm-init t c =
 pub run_arms-run_arm-requires : goal.run_arms-run_arm-requires
 run_arms-run_arm-requires t c =
     let sound = subst (AreSoundBranches (scope_at c.args.scope.now)) (rest_is c.args.arms.now c.loop-arm.arm-index c.arm-item.result (omega arith) c.arm-item.is) c.loop-arm.invariant.sound in
-    let so = c.loop-arm.invariant.so_far None in
-    (
-  search (rules, the_lemmas),
-  (c.requires.objects, (so.known, (so.known_next, (so.there, (sound.0, sound.1)))))
-)
+    let so = c.loop-arm.invariant.so_far None in (
+      search (rules, the_lemmas),
+      (c.requires.objects, (so.known, (so.known_next, (so.there, (sound.0, sound.1))))),
+    )
 
 pub run_arms-loop-arm-preserved : goal.run_arms-loop-arm-preserved
 run_arms-loop-arm-preserved t c =
@@ -143,7 +141,7 @@ run_arms-loop-arm-preserved t c =
           let all : Valuation → Valuation → Effect = λ p v. run (scope_at c.args.scope.now) (or_empty (arm_list xs y)) v in
           let mid : Valuation → Valuation → Effect = λ p v. cond (is_true (scope_at c.args.scope.now) v (tree_of r.condition)) (run (scope_at c.args.scope.now) (statement_of r.statement) v) (run (scope_at c.args.scope.now) (or_empty (arm_list (drop (i + 1) xs) y)) v) in
           let so = going_as (scope_at c.args.scope.now) (images_at c.args.table.now) (images_at c.args.next.now) c.args.terms.now c.args.guard all (images_at c.loop-arm.table) (images_at c.loop-arm.next) c.loop-arm.terms c.loop-arm.rest (λ p v. run (scope_at c.args.scope.now) (or_empty (arm_list (drop i xs) y)) v) mid
-              (λ p v. ap (λ ys. run (scope_at c.args.scope.now) (or_empty (arm_list ys y)) v) rest ∙ run-arm_before (scope_at c.args.scope.now) v (tree_of r.condition) (statement_of r.statement) (arm_list (drop (i + 1) xs) y)) (c.loop-arm.invariant.so_far y) in
+          (λ p v. ap (λ ys. run (scope_at c.args.scope.now) (or_empty (arm_list ys y)) v) rest ∙ run-arm_before (scope_at c.args.scope.now) v (tree_of r.condition) (statement_of r.statement) (arm_list (drop (i + 1) xs) y)) (c.loop-arm.invariant.so_far y) in
           going_on (scope_at c.args.scope.now) (images_at c.args.table.now) (images_at c.args.next.now) (images_at c.loop-arm.table) (images_at c.loop-arm.next) (images_at c.run_arm.new.table) (images_at c.run_arm.new.next) c.args.terms.now c.loop-arm.terms c.run_arm.new.terms c.args.guard c.loop-arm.rest c.in_ok-rest.rest all mid
           (λ p v. run (scope_at c.args.scope.now) (or_empty (arm_list (drop (i + 1) xs) y)) v) so (c.in_ok-rest.ensures.going (λ v. run (scope_at c.args.scope.now) (or_empty (arm_list (drop (i + 1) xs) y)) v));
       sound = (subst (AreSoundBranches (scope_at c.args.scope.now)) rest c.loop-arm.invariant.sound).2;
@@ -170,11 +168,10 @@ run_arm-sides-requires-clause-said t c = c.in_ok-said.ensures.condition.of_sort
 
 pub run_arm-run_statement-requires : goal.run_arm-run_statement-requires
 run_arm-run_statement-requires t c =
-    let grows = Grows-trans c.in_ok-said.ensures.grows c.in_ok-split.ensures.grows in
-    (
-  search (rules, the_lemmas),
-  (c.requires.objects, (images_kept (scope_at c.args.scope.now) (images_at c.args.table.now) c.args.terms.now c.sides.new.terms grows c.requires.known, (images_kept (scope_at c.args.scope.now) (images_at c.args.next.now) c.args.terms.now c.sides.new.terms grows c.requires.known_next, (c.in_ok-split.ensures.taken_sort, c.requires.sound))))
-)
+    let grows = Grows-trans c.in_ok-said.ensures.grows c.in_ok-split.ensures.grows in (
+      search (rules, the_lemmas),
+      (c.requires.objects, (images_kept (scope_at c.args.scope.now) (images_at c.args.table.now) c.args.terms.now c.sides.new.terms grows c.requires.known, (images_kept (scope_at c.args.scope.now) (images_at c.args.next.now) c.args.terms.now c.sides.new.terms grows c.requires.known_next, (c.in_ok-split.ensures.taken_sort, c.requires.sound)))),
+    )
 
 pub run_arm-returns-clause-going : goal.run_arm-returns-clause-going
 run_arm-returns-clause-going t c rest =
