@@ -35,7 +35,7 @@ not_so false e = refl
 not_so true e = absurd (false≢true e)
 
 well_shaped : (b : Broken) → is_unbroken b ≡ true → b.misshapen ≡ false
-well_shaped b h = not_so b.misshapen (last_of _ _ (last_of _ _ (last_of _ _ (last_of _ _ (last_of _ _ (last_of _ _ h))))))
+well_shaped b h = not_so b.misshapen (last_of (not b.memory_use) _ (last_of (not b.bad_select) _ (last_of (not b.width_over_128) _ (last_of (not b.bad_constant) _ (last_of (not b.has_xz) _ (last_of (not b.undeclared) _ h))))))
 
 pub asked : (s : Scope) (im : Images) (g : Graph) (e : Expression) (w : ℕ) → HasImages s im g → IsSound s e → width_at s e ≤ w → w ≤ 128 → IsAsked s im g e w
 unfolding sound_at width_at
