@@ -1,0 +1,11 @@
+mod Written
+mod Cells
+mod Stands
+mod Replaced
+mod Kept
+mod Pieces
+mod Running
+mod Indexed
+mod Lowered
+mod Trees
+mod Whole

@@ -1,0 +1,224 @@
+//! Statements lowered to terms: each assignment is written under the condition on which it is reached.
+
+ghost use Rattle.std.specs.Prelude.{◌≡◌, ℕ, Option, IfOk, OnOk, cond};
+ghost use Rattle.wb_values.specs.Value.{Valuation};
+ghost use Rattle.verilog_trees.specs.Syntax as pure;
+ghost use Rattle.verilog_meaning.specs.Expression.{is_true};
+ghost use Rattle.verilog_meaning.specs.Statement.{Effect, run, run_all};
+ghost use Rattle.v_syntax.specs.Tree.{tree_of, target_of, statement_of, or_empty};
+ghost use Rattle.v_value.specs.Scope.{scope_at};
+ghost use Rattle.v_value.specs.Narrow.{HasNarrowObjects};
+ghost use Rattle.v_operators.specs.Meaning.{Grows};
+ghost use Rattle.v_lower.specs.Lowered.{Images, HasImages};
+ghost use Rattle.v_lower.specs.Table.{images_at};
+ghost use Rattle.v_lower.specs.Walking.{IsSound};
+ghost use Rattle.v_write.specs.Guard.{IsGuard};
+ghost use Rattle.v_write.specs.Sound.{IsSoundAssignment, IsSoundStatement, AreSoundStatements, AreSoundBranches, statement_list, arm_list};
+ghost use Rattle.v_write.specs.Running.{Runs, IsGoing};
+
+use crate::NoMemory;
+use crate::preparing::prepared;
+use crate::reading::{condition, sides};
+use crate::writing::write_parts;
+use std::alloc::Global;
+use v_lower::NamedTerms;
+use v_syntax::tree::{Arm, Expression, Statement, Target};
+use v_value::scope::Scope;
+use wb_terms::{TermId, Terms};
+
+/// A blocking assignment, where a condition holds.
+pub(crate) fn assign<'s>(
+    alloc: Global,
+    scope: &Scope<'_>,
+    target: &Target<'s>,
+    expression: &Expression<'_>,
+    table: &mut NamedTerms<'s>,
+    terms: &mut Terms,
+    guard: Option<TermId>,
+) -> Result<(), NoMemory>
+    requires objects { HasNarrowObjects (scope_at scope.now) }
+    requires known { HasImages (scope_at scope.now) (images_at table.old) terms.old }
+    requires guard { IsGuard terms.old guard }
+    requires sound { IsSoundAssignment (scope_at scope.now) (target_of target.now) (tree_of expression.now) }
+    ensures grows { Grows terms.old terms.new }
+    ensures ran { OnOk result ((n : Images) → HasImages (scope_at scope.now) n terms.old → Runs (scope_at scope.now) (images_at table.old) n terms.old guard (run (scope_at scope.now) (pure.blocking (target_of target.now) (tree_of expression.now))) (images_at table.new) n terms.new) }
+{
+    let ready = prepared(alloc, scope, table, terms, target, expression)?;
+    write_parts(
+        scope,
+        table,
+        terms,
+        &ready.parts,
+        ready.value,
+        ready.width,
+        guard,
+    )?;
+    Ok(())
+}
+
+/// A nonblocking assignment, where a condition holds: its places and its value are read in one table, and written in the other.
+pub(crate) fn defer<'s>(
+    alloc: Global,
+    scope: &Scope<'_>,
+    target: &Target<'s>,
+    expression: &Expression<'_>,
+    table: &NamedTerms<'_>,
+    next: &mut NamedTerms<'s>,
+    terms: &mut Terms,
+    guard: Option<TermId>,
+) -> Result<(), NoMemory>
+    requires objects { HasNarrowObjects (scope_at scope.now) }
+    requires known { HasImages (scope_at scope.now) (images_at table.now) terms.old }
+    requires known_next { HasImages (scope_at scope.now) (images_at next.old) terms.old }
+    requires guard { IsGuard terms.old guard }
+    requires sound { IsSoundAssignment (scope_at scope.now) (target_of target.now) (tree_of expression.now) }
+    ensures grows { Grows terms.old terms.new }
+    ensures ran { OnOk result (Runs (scope_at scope.now) (images_at table.now) (images_at next.old) terms.old guard (run (scope_at scope.now) (pure.nonblocking (target_of target.now) (tree_of expression.now))) (images_at table.now) (images_at next.new) terms.new) }
+{
+    let ready = prepared(alloc, scope, table, terms, target, expression)?;
+    write_parts(
+        scope,
+        next,
+        terms,
+        &ready.parts,
+        ready.value,
+        ready.width,
+        guard,
+    )?;
+    Ok(())
+}
+
+/// A statement, where a condition holds.
+#[cycle(run)]
+pub(crate) fn run_statement<'s>(
+    alloc: Global,
+    scope: &Scope<'_>,
+    statement: &Statement<'s>,
+    table: &mut NamedTerms<'s>,
+    next: &mut NamedTerms<'s>,
+    terms: &mut Terms,
+    guard: Option<TermId>,
+) -> Result<(), NoMemory>
+    requires objects { HasNarrowObjects (scope_at scope.now) }
+    requires known { HasImages (scope_at scope.now) (images_at table.old) terms.old }
+    requires known_next { HasImages (scope_at scope.now) (images_at next.old) terms.old }
+    requires guard { IsGuard terms.old guard }
+    requires sound { IsSoundStatement (scope_at scope.now) (statement_of statement.now) }
+    ensures grows { Grows terms.old terms.new }
+    ensures ran { OnOk result (Runs (scope_at scope.now) (images_at table.old) (images_at next.old) terms.old guard (run (scope_at scope.now) (statement_of statement.now)) (images_at table.new) (images_at next.new) terms.new) }
+{
+    match statement {
+        Statement::Empty => Ok(()),
+        Statement::Blocking(target, expression) => {
+            assign(alloc, scope, target, expression, table, terms, guard)?;
+            Ok(())
+        }
+        Statement::Nonblocking(target, expression) => {
+            defer(alloc, scope, target, expression, table, next, terms, guard)?;
+            Ok(())
+        }
+        Statement::If(arms, last) => {
+            let rest = run_arms(alloc, scope, arms, table, next, terms, guard)?;
+            match last {
+                Some(other) => {
+                    run_statement(alloc, scope, other, table, next, terms, rest)?;
+                    Ok(())
+                }
+                None => Ok(()),
+            }
+        }
+        Statement::Case(_, _, _) => unreachable!(),
+        Statement::Block(_, statements) => {
+            run_all(alloc, scope, statements, table, next, terms, guard)?;
+            Ok(())
+        }
+    }
+}
+
+/// Statements one after the other, where a condition holds.
+#[cycle(run)]
+fn run_all<'s>(
+    alloc: Global,
+    scope: &Scope<'_>,
+    statements: &[Statement<'s>],
+    table: &mut NamedTerms<'s>,
+    next: &mut NamedTerms<'s>,
+    terms: &mut Terms,
+    guard: Option<TermId>,
+) -> Result<(), NoMemory>
+    requires objects { HasNarrowObjects (scope_at scope.now) }
+    requires known { HasImages (scope_at scope.now) (images_at table.old) terms.old }
+    requires known_next { HasImages (scope_at scope.now) (images_at next.old) terms.old }
+    requires guard { IsGuard terms.old guard }
+    requires sound { AreSoundStatements (scope_at scope.now) (statement_list statements.now) }
+    ensures grows { Grows terms.old terms.new }
+    ensures ran { OnOk result (Runs (scope_at scope.now) (images_at table.old) (images_at next.old) terms.old guard (run_all (scope_at scope.now) (statement_list statements.now)) (images_at table.new) (images_at next.new) terms.new) }
+{
+    for statement in statements {
+        run_statement(alloc, scope, statement, table, next, terms, guard)?;
+    }
+    Ok(())
+}
+
+/// The arms of a ladder, where a condition holds. It answers the condition on which none of them is taken.
+#[cycle(run)]
+fn run_arms<'s>(
+    alloc: Global,
+    scope: &Scope<'_>,
+    arms: &[Arm<'s>],
+    table: &mut NamedTerms<'s>,
+    next: &mut NamedTerms<'s>,
+    terms: &mut Terms,
+    guard: Option<TermId>,
+) -> Result<Option<TermId>, NoMemory>
+    requires objects { HasNarrowObjects (scope_at scope.now) }
+    requires known { HasImages (scope_at scope.now) (images_at table.old) terms.old }
+    requires known_next { HasImages (scope_at scope.now) (images_at next.old) terms.old }
+    requires guard { IsGuard terms.old guard }
+    requires sound { AreSoundBranches (scope_at scope.now) arms.now }
+    ensures grows { Grows terms.old terms.new }
+    ensures going { IfOk result (λ r. (y : Option pure.Statement) → IsGoing (scope_at scope.now) (images_at table.old) (images_at next.old) terms.old guard (λ p v. run (scope_at scope.now) (or_empty (arm_list arms.now y)) v)
+        (images_at table.new) (images_at next.new) terms.new r (λ p v. run (scope_at scope.now) (or_empty y) v)) }
+{
+    let mut rest = guard;
+    for arm in arms {
+        rest = run_arm(alloc, scope, arm, table, next, terms, rest)?;
+    }
+    Ok(rest)
+}
+
+/// One arm of a ladder, where a condition holds. It answers the condition on which it is not taken.
+#[cycle(run)]
+fn run_arm<'s>(
+    alloc: Global,
+    scope: &Scope<'_>,
+    arm: &Arm<'s>,
+    table: &mut NamedTerms<'s>,
+    next: &mut NamedTerms<'s>,
+    terms: &mut Terms,
+    guard: Option<TermId>,
+) -> Result<Option<TermId>, NoMemory>
+    requires objects { HasNarrowObjects (scope_at scope.now) }
+    requires known { HasImages (scope_at scope.now) (images_at table.old) terms.old }
+    requires known_next { HasImages (scope_at scope.now) (images_at next.old) terms.old }
+    requires guard { IsGuard terms.old guard }
+    requires condition { IsSound (scope_at scope.now) (tree_of arm.now.condition) }
+    requires sound { IsSoundStatement (scope_at scope.now) (statement_of arm.now.statement) }
+    ensures grows { Grows terms.old terms.new }
+    ensures going { IfOk result (λ r. (rest : Valuation → Effect) → IsGoing (scope_at scope.now) (images_at table.old) (images_at next.old) terms.old guard
+        (λ p v. cond (is_true (scope_at scope.now) v (tree_of arm.now.condition)) (run (scope_at scope.now) (statement_of arm.now.statement) v) (rest v))
+        (images_at table.new) (images_at next.new) terms.new r (λ p v. rest v)) }
+{
+    let said = condition(scope, table, terms, &arm.condition)?;
+    let split = sides(terms, guard, said)?;
+    run_statement(
+        alloc,
+        scope,
+        &arm.statement,
+        table,
+        next,
+        terms,
+        Some(split.taken),
+    )?;
+    Ok(Some(split.other))
+}
