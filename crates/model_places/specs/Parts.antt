@@ -1,6 +1,4 @@
--- What stands where in a model file, in the order in which a model is gone through: its name, inputs, states, define, fetch, valid, and
--- its instructions; of an instruction its name, decode, updates by the bytes of their names, and child; of a child steps first. Keys may
--- stand in any order in the file, whose reading keeps none, so this need not be the order of the text.
+-- What stands where in a model file, in the order in which the file is read.
 use Rattle.std.specs.Prelude.{ℕ, suc, ◌+◌, List, [], ◌∷◌, ◌++◌, length, Option, Some, None, codes}
 use Rattle.wb_values.specs.Value.{Name, Sort, Value, Entries}
 use Rattle.model_meaning.specs.Model.{StateDeclaration, InputDeclaration, state_named}
