@@ -15,6 +15,3 @@ pub use model::{
     FirstValue,
 };
 pub use stop::NoMemory;
-
-#[cfg(test)]
-mod tests;

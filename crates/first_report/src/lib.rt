@@ -14,6 +14,3 @@ pub use first_check::NoMemory;
 pub use listing::obligations;
 pub use spending::Spent;
 pub use totals::Ending;
-
-#[cfg(test)]
-mod tests;

@@ -10,8 +10,6 @@ mod known;
 mod operands;
 mod settling;
 mod table;
-#[cfg(test)]
-mod tests;
 
 pub use building::{CaseSymbols, symbols};
 pub use first_store::NoMemory;

@@ -8,3 +8,4 @@ mod Named
 mod Counted
 mod Declared
 mod Events
+mod ClockNames

@@ -12,7 +12,7 @@ use Rattle.v_syntax.specs.declared.module.ParameterDeclaration.{ParameterDeclara
 use Rattle.v_syntax.specs.Source.{item_of}
 use Rattle.v_hier.specs.declared.known.Names.{Names}
 use Rattle.v_hier.specs.Tables.{has_name}
-use Rattle.v_hier.specs.Reading.{knows, all_known, expression_known, range_known, ports_known, text_known, uses_other, unknown_with, IsRead}
+use Rattle.v_hier.specs.Reading.{has_net, knows, all_known, expression_known, range_known, ports_known, text_known, uses_other, unknown_with, IsRead}
 use Rattle.v_hier.proofs.Declared.{rest_is}
 use Rattle.v_hier.proofs.Texts.{range-known, ports-known, text_names, text-known}
 
@@ -66,7 +66,7 @@ read-declared ns s n h =
     let f : Name → Bool = λ q. same_name n q || has_name ns.before q in
     let g : Name → Bool = λ q. has_name s q in
     let same : f ≡ g = λ i q. (or_cond (same_name n q) (has_name ns.before q) ∙ sym (h q)) i in
-    λ rest. ap (λ b. uses_other (has_name ns.parameters) b (has_name ns.nets) rest) same
+    λ rest. ap (λ b. uses_other (has_name ns.parameters) b (has_net ns.nets) rest) same
 
 -- one part after the other
 pub read-then : (a b c : Names) (xs ys : List Mention) (known : Bool) → IsRead a xs true b → IsRead b ys known c → IsRead a (xs ++ ys) known c
@@ -127,10 +127,10 @@ start m p b d before hp hb hd (declares n ∷ ms) =
     start m p (λ q. same_name n q || b q) d (n ∷ before) hp (λ q. ap (λ x. same_name n q || x) (hb q)) hd ms
 
 pub start-names : (m : pure.Module) (ns : Names) → ((q : Name) → has_name ns.parameters q ≡ is_among (parameter_names (all_parameters m)) q)
-    → ((q : Name) → has_name ns.nets q ≡ is_declared_among (declarations m) q) → ((q : Name) → has_name ns.before q ≡ false)
+    → ((q : Name) → has_net ns.nets q ≡ is_declared_among (declarations m) q) → ((q : Name) → has_name ns.before q ≡ false)
     → (ms : List Mention) → unknown_with ns ms ≡ uses_unknown m [] ms
 unfolding unknown_with
-start-names m ns hp hd hb ms = start m (has_name ns.parameters) (has_name ns.before) (has_name ns.nets) [] hp hb hd ms
+start-names m ns hp hd hb ms = start m (has_name ns.parameters) (has_name ns.before) (has_net ns.nets) [] hp hb hd ms
 
 -- parameters, the list of ports, items
 pub text-stop : (a b : Names) (xs ys zs : List Mention) → IsRead a xs true b → IsRead b ys false b → true ≡ unknown_with a (xs ++ ys ++ zs)

@@ -24,17 +24,17 @@ ordered-known : (k : Name → Bool) (es : List (Option Expression)) → all_know
 ordered-known k [] = refl
 ordered-known k (e ∷ es) = known-both k (names_in_optional e) _ _ _ (optional-known k e) (ordered-known k es)
 
-addresses-known : (k : Name → Bool) (vs : List (Name × Option Range)) → all_known k (names_in_addresses vs) ≡ addresses_known k vs
+pub addresses-known : (k : Name → Bool) (vs : List (Name × Option Range)) → all_known k (names_in_addresses vs) ≡ addresses_known k vs
 addresses-known k [] = refl
 addresses-known k (v ∷ vs) = known-both k (names_in_range v.1) _ _ _ (range-known k v.1) (addresses-known k vs)
 
-assignments-known : (k : Name → Bool) (ts : List (Target × Expression)) → all_known k (names_in_assignments ts) ≡ assignments_known k ts
+pub assignments-known : (k : Name → Bool) (ts : List (Target × Expression)) → all_known k (names_in_assignments ts) ≡ assignments_known k ts
 unfolding expression_known target_known
 assignments-known k [] = refl
 assignments-known k (a ∷ rest) =
     known-both k (names_in_target a.0 ++ names_in a.1) _ _ _ (known-append k (names_in_target a.0) (names_in a.1)) (assignments-known k rest)
 
-connections-known : (k : Name → Bool) (cs : Connections) → all_known k (names_in_connections cs) ≡ connections_known k cs
+pub connections-known : (k : Name → Bool) (cs : Connections) → all_known k (names_in_connections cs) ≡ connections_known k cs
 connections-known k (by_name cs) = named-known k cs
 connections-known k (by_order es) = ordered-known k es
 

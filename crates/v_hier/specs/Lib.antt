@@ -3,3 +3,4 @@ pub mod Reading
 pub mod Entries
 pub mod Standings
 pub mod Instances
+pub mod Clock

@@ -13,14 +13,20 @@ use Rattle.v_syntax.specs.declared.tree.Arm.{Arm}
 use Rattle.v_syntax.specs.declared.tree.CaseItem.{CaseItem, Values, Default}
 use Rattle.v_syntax.specs.Tree.{tree_of, target_of, statement_of}
 use Rattle.v_hier.specs.declared.known.Names.{Names}
+use Rattle.v_hier.specs.declared.known.Nets.{Nets}
+use Rattle.v_hier.specs.declared.known.Nets.TheVariants.{Declared, Any}
 use Rattle.v_hier.specs.Tables.{has_name}
 
 -- A parameter may be used once it is declared, a net or variable wherever it is declared.
 abbrev pub may_use : (parameter before net : Name → Bool) → Name → Bool
 may_use p b d n = cond (p n) (b n) (d n)
 
+abbrev pub has_net : Nets → Name → Bool
+has_net (Declared s) n = has_name s n
+has_net Any n = true
+
 abbrev pub knows : Names → Name → Bool
-knows ns n = may_use (has_name ns.parameters) (has_name ns.before) (has_name ns.nets) n
+knows ns n = may_use (has_name ns.parameters) (has_name ns.before) (has_net ns.nets) n
 
 -- each of the names may be used
 abbrev pub all_known : (Name → Bool) → List Name → Bool
@@ -148,7 +154,7 @@ uses_other p b d (used n ∷ rest) = not (may_use p b d n) || uses_other p b d r
 uses_other p b d (declares n ∷ rest) = uses_other p (λ q. same_name n q || b q) d rest
 
 unfoldable pub unknown_with : Names → List Mention → Bool
-unknown_with ns ms = uses_other (has_name ns.parameters) (has_name ns.before) (has_name ns.nets) ms
+unknown_with ns ms = uses_other (has_name ns.parameters) (has_name ns.before) (has_net ns.nets) ms
 
 -- What reading a part of the text comes to: whether each of its names may be used, and which may be after it.
 abbrev pub IsRead : Names → List Mention → Bool → Names → Type 0

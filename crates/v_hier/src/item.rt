@@ -60,7 +60,7 @@ fn are_wires_known(wires: &[Wire<'_>], names: &Names<'_>) -> bool
 }
 
 /// Whether each name in the addresses of variables may be used.
-fn are_variables_known(variables: &[Variable<'_>], names: &Names<'_>) -> bool
+pub(crate) fn are_variables_known(variables: &[Variable<'_>], names: &Names<'_>) -> bool
     ensures { result ≡ addresses_known (knows names.now) (map (λ v. (v.name.now, optional_range_of v.addresses)) variables.now) }
 {
     for variable in variables {
@@ -72,7 +72,7 @@ fn are_variables_known(variables: &[Variable<'_>], names: &Names<'_>) -> bool
 }
 
 /// Whether each name in continuous assignments may be used.
-fn are_assignments_known(assignments: &[Assignment<'_>], names: &Names<'_>) -> bool
+pub(crate) fn are_assignments_known(assignments: &[Assignment<'_>], names: &Names<'_>) -> bool
     ensures { result ≡ assignments_known (knows names.now) (map (λ a. (target_of a.target, tree_of a.value)) assignments.now) }
 {
     for assignment in assignments {
@@ -110,7 +110,7 @@ fn are_ordered_known(connections: &[Option<Expression<'_>>], names: &Names<'_>) 
 }
 
 /// Whether each name in the connections may be used.
-fn are_connections_known(connections: &Connections<'_>, names: &Names<'_>) -> bool
+pub(crate) fn are_connections_known(connections: &Connections<'_>, names: &Names<'_>) -> bool
     ensures { result ≡ connections_known (knows names.now) (connections_of connections.now) }
 {
     match connections {

@@ -1,17 +1,36 @@
 //! Which names may be used at a point of a module's text.
 ghost use Rattle.std.specs.Prelude.{◌≡◌, ◌&&◌, ◌∷◌, [], ℕ, List, true, IfOk};
 ghost use Rattle.verilog_designs.specs.Names.{declares};
-ghost use Rattle.v_hier.specs.Reading.{knows, IsRead};
+ghost use Rattle.v_hier.specs.Reading.{has_net, knows, IsRead};
 
 use std::alloc::AllocError;
 use std::collections::BTreeSet;
+
+/// The names that may be used besides parameters.
+#[derive(Drop)]
+pub(crate) enum Nets<'t> {
+    /// Those of the set.
+    Declared(BTreeSet<&'t str>),
+    /// Each.
+    Any,
+}
 
 /// The names of a module: its parameters, its nets and variables, and the parameters that are declared already.
 #[derive(Drop)]
 pub(crate) struct Names<'t> {
     pub(crate) parameters: BTreeSet<&'t str>,
-    pub(crate) nets: BTreeSet<&'t str>,
+    pub(crate) nets: Nets<'t>,
     pub(crate) before: BTreeSet<&'t str>,
+}
+
+/// Whether the name may be used, where it is no parameter.
+fn is_net(nets: &Nets<'_>, name: &str) -> bool
+    ensures { result ≡ has_net nets.now name.now }
+{
+    match nets {
+        Nets::Declared(set) => set.contains(name),
+        Nets::Any => true,
+    }
 }
 
 /// Whether the name may be used.
@@ -21,7 +40,7 @@ pub(crate) fn is_known(names: &Names<'_>, name: &str) -> bool
     if names.parameters.contains(name) {
         return names.before.contains(name);
     }
-    names.nets.contains(name)
+    is_net(&names.nets, name)
 }
 
 /// Whether both hold.

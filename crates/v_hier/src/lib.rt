@@ -2,6 +2,7 @@
 //! though nothing declares them (IEEE 1364-2005, 4.11, 12.1 to 12.3).
 #![tactic(auto)]
 
+mod clock;
 mod duplicate;
 mod entry;
 mod expression;
@@ -12,6 +13,7 @@ mod statement;
 mod top;
 mod undeclared;
 
+pub use clock::has_clock_as_data;
 pub use duplicate::{has_duplicate, has_duplicate_module};
 pub use top::{has_parts, top_of};
 pub use undeclared::has_undeclared;

@@ -6,11 +6,12 @@ ghost use Rattle.verilog_meaning.specs.Settled.{is_declared_among};
 ghost use Rattle.verilog_designs.specs.Names.{is_among, parameter_names, module_names, instantiates_unknown, has_undeclared};
 ghost use Rattle.v_syntax.specs.Source.{item_of, module_of, source_of};
 ghost use Rattle.v_hier.specs.Tables.{has_name};
+ghost use Rattle.v_hier.specs.Reading.{has_net};
 ghost use Rattle.v_hier.specs.Entries.{entries_of, entry_names};
 ghost use Rattle.v_hier.specs.Instances.{instantiates_other};
 
 use crate::entry::{Entry, add_nets, add_parameters, module_entries};
-use crate::known::Names;
+use crate::known::{Names, Nets};
 use crate::reading::uses_unknown;
 use std::alloc::{AllocError, Global};
 use std::collections::BTreeSet;
@@ -59,7 +60,7 @@ fn module_set<'s>(alloc: Global, modules: &[Module<'s>]) -> Result<BTreeSet<&'s 
 /// The names of a module, where no parameter is declared yet.
 fn names_of<'s>(alloc: Global, within: &Module<'s>) -> Result<Names<'s>, AllocError>
     ensures parameters { IfOk result (λ ns. (q : List ℕ) → has_name ns.parameters q ≡ is_among (parameter_names (all_parameters (module_of within.now))) q) }
-    ensures nets { IfOk result (λ ns. (q : List ℕ) → has_name ns.nets q ≡ is_declared_among (declarations (module_of within.now)) q) }
+    ensures nets { IfOk result (λ ns. (q : List ℕ) → has_net ns.nets q ≡ is_declared_among (declarations (module_of within.now)) q) }
     ensures before { IfOk result (λ ns. (q : List ℕ) → has_name ns.before q ≡ false) }
 {
     let parameters = parameter_set(alloc, within)?;
@@ -67,7 +68,7 @@ fn names_of<'s>(alloc: Global, within: &Module<'s>) -> Result<Names<'s>, AllocEr
     let before = BTreeSet::new(alloc);
     Ok(Names {
         parameters,
-        nets,
+        nets: Nets::Declared(nets),
         before,
     })
 }

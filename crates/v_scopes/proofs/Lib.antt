@@ -1,8 +1,9 @@
-mod Parts
+pub mod Parts
 mod Judged
 mod Clocks
 mod Listed
-mod Joined
+pub mod Joined
 mod Objects
 mod Empty
 mod Chosen
+pub mod OneClock

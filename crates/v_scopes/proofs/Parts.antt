@@ -105,7 +105,7 @@ nothing_known_below source n h u [] =
     (module_named source n) refl
 nothing_known_below source n h u (v ∷ path) = ap (option_and_then (known_below source u)) (nothing_known_below source n h v path)
 
-nothing_below : (source : Source) (n : Name) → has_parts source ≡ false → (u : PathStep) (path : List PathStep) → placed_at source n (u ∷ path) ≡ None
+pub nothing_below : (source : Source) (n : Name) → has_parts source ≡ false → (u : PathStep) (path : List PathStep) → placed_at source n (u ∷ path) ≡ None
 nothing_below source n h u [] =
     below_none source n (at_top given_of) (placed_below source u)
     (λ m e. ap (option_and_then (placed_instance source (u ∷ []) (placed_scope (at_top given_of m)))) (not_reached m u (whole_module source n m h e)))

@@ -4,6 +4,7 @@
 
 mod clock;
 mod constant;
+pub mod laws;
 mod range;
 mod refusal;
 mod row;

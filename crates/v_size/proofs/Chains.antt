@@ -177,7 +177,7 @@ or-none : (x : Bool) → x ≡ x || false
 or-none true = refl
 or-none false = refl
 
-both-assoc : (a b c : Broken) → both a (both b c) ≡ both (both a b) c
+pub both-assoc : (a b c : Broken) → both a (both b c) ≡ both (both a b) c
 both-assoc a b c = λ i. record {
   undeclared = or-assoc a.undeclared b.undeclared c.undeclared i;
   has_xz = or-assoc a.has_xz b.has_xz c.has_xz i;
@@ -255,7 +255,7 @@ zero-same : (w : ℕ) → (min w 129 == 0) ≡ (w == 0)
 zero-same zero = refl
 zero-same (suc w) = grind (arith, nat_tests)
 
-total-capped : (a : Option ℕ) → coded (rules.by_total (capped a)) ≡ coded (rules.by_total a)
+pub total-capped : (a : Option ℕ) → coded (rules.by_total (capped a)) ≡ coded (rules.by_total a)
 total-capped None = refl
 total-capped (Some w) =
     let e : nat_lt 128 (min w 129) ≡ nat_lt 128 w = over-same w in

@@ -4,3 +4,4 @@ pub mod Named
 pub mod Arms
 pub mod Known
 pub mod Steps
+pub mod Assigned

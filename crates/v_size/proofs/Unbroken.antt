@@ -44,10 +44,10 @@ unbroken-also a b =
     step a.undeclared b.undeclared _ _ _ (step a.has_xz b.has_xz _ _ _ (step a.bad_constant b.bad_constant _ _ _
     (step a.width_over_128 b.width_over_128 _ _ _ (step a.bad_select b.bad_select _ _ _ (step a.memory_use b.memory_use _ _ _ (base a.misshapen b.misshapen))))))
 
-constant-unbroken : (c : Bool) → is_unbroken (constant_if c) ≡ true → c ≡ false
+pub constant-unbroken : (c : Bool) → is_unbroken (constant_if c) ≡ true → c ≡ false
 constant-unbroken c h = not-true c (pair (not c) true h).0
 
-width-unbroken : (c : Bool) → is_unbroken (width_if c) ≡ true → c ≡ false
+pub width-unbroken : (c : Bool) → is_unbroken (width_if c) ≡ true → c ≡ false
 width-unbroken c h = not-true c (pair (not c) true h).0
 
 within : (w : ℕ) → nat_lt 128 w ≡ false → w ≤ 128
@@ -77,7 +77,7 @@ number-fits k h =
 name-declared : (p : Position) (o : Object) (x : Selects) → is_unbroken (by_name p o x) ≡ true → o.is_declared ≡ true
 name-declared p o x h = declared o.is_declared (pair (not (not o.is_declared)) _ h).0
 
-total-fits : (h : Bool) (w : ℕ) → h ≡ true → is_unbroken (by_total (some_if h w)) ≡ true → (is_at_most_128 (some_if h w) ≡ true) × IsWidth w
+pub total-fits : (h : Bool) (w : ℕ) → h ≡ true → is_unbroken (by_total (some_if h w)) ≡ true → (is_at_most_128 (some_if h w) ≡ true) × IsWidth w
 total-fits true w e g =
     let p = pair (not (nat_lt 128 w)) _ g in
     let most : w ≤ 128 = within w (not-true _ p.0) in
@@ -221,7 +221,7 @@ module _ (s : Scope) (objects : HasNarrowObjects s) where
         let j = parts-hold p es q.1 in
         (and-both (has_width s e) (have_widths s es) i.0 j.0, (i.1, j.1))
 
-    selects-hold : (p : Position) (o : Object) (x : Selects) → IsWidth (object_width o) → is_unbroken (broken_selects s p o x) ≡ true →
+    pub selects-hold : (p : Position) (o : Object) (x : Selects) → IsWidth (object_width o) → is_unbroken (broken_selects s p o x) ≡ true →
         (selects_have_width s o x ≡ true) × (IsWidth (selects_width s o x) × AreSelectsNarrow s x)
     selects-hold p o whole w h = (refl, (w, tt))
     selects-hold p o (one x) w h =

@@ -231,3 +231,7 @@ name_at s p o x =
       width = some_if ((o.is_declared && nat_le (object_width o) 128) && rules.selects_have_width s o x) (meaning.selects_width s o x);
       unsized_number = false;
     }
+
+-- an object with a number
+abbrev pub with_number : Object → Object
+with_number o = record o { constant = Some 0 }

@@ -28,9 +28,9 @@ use v_value::value::value_in_context;
 
 /// A scope, all of whose objects fit words.
 #[derive(Clone, Copy)]
-pub(crate) struct Names<'s, 't> {
-    pub(crate) scope: &'s Scope<'t>,
-    pub(crate) ghost narrow: { HasNarrowObjects (scope_at scope.now) } by { Prim.hlevel props },
+pub struct Names<'s, 't> {
+    pub scope: &'s Scope<'t>,
+    pub ghost narrow: { HasNarrowObjects (scope_at scope.now) } by { Prim.hlevel props },
 }
 
 /// What stands left of a test: the rules that it breaks, its width and its sign, and whether it is a number without a size.
@@ -44,9 +44,9 @@ pub(crate) struct Left {
 
 /// A constant: the rules that it breaks, and its number, where it breaks none.
 #[derive(Clone, Copy, PartialEq, Eq, Debug)]
-pub(crate) struct ConstantNumber {
-    pub(crate) broken: Broken,
-    pub(crate) number: Option<Integer>,
+pub struct ConstantNumber {
+    pub broken: Broken,
+    pub number: Option<Integer>,
 }
 
 /// Whether the operator makes one bit of a whole operand.
@@ -711,7 +711,12 @@ fn parts_judged(names: Names<'_, '_>, place: Position, parts: &[Expression<'_>])
 
 /// A name with what stands after it.
 #[cycle(judged)]
-fn named(names: Names<'_, '_>, place: Position, object: Object, selects: &Selects<'_>) -> Judged
+pub(crate) fn named(
+    names: Names<'_, '_>,
+    place: Position,
+    object: Object,
+    selects: &Selects<'_>,
+) -> Judged
     ensures { result ≡ name_at (scope_at names.entry.scope.now) place (object_of object) (selects_of selects.now) }
 {
     let own = by_name(place, object, selects);

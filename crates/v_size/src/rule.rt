@@ -23,20 +23,20 @@ pub enum Kind {
 
 /// Which rules are broken. The last is no kind: it says that a tree is of no text.
 #[derive(Clone, Copy, PartialEq, Eq, Debug)]
-pub(crate) struct Broken {
-    pub(crate) undeclared: bool,
-    pub(crate) has_xz: bool,
-    pub(crate) bad_constant: bool,
-    pub(crate) width_over_128: bool,
-    pub(crate) bad_select: bool,
-    pub(crate) memory_use: bool,
-    pub(crate) misshapen: bool,
+pub struct Broken {
+    pub undeclared: bool,
+    pub has_xz: bool,
+    pub bad_constant: bool,
+    pub width_over_128: bool,
+    pub bad_select: bool,
+    pub memory_use: bool,
+    pub misshapen: bool,
 }
 
 /// Where an expression stands: where anything may be read, or where a constant is wanted, in the context of a width, where that
 /// has a value, and a sign.
 #[derive(Clone, Copy, PartialEq, Eq, Debug)]
-pub(crate) enum Position {
+pub enum Position {
     Anywhere,
     Constant(Option<u32>, bool),
 }
@@ -51,7 +51,7 @@ pub(crate) struct Judged {
 }
 
 /// No rule.
-pub(crate) fn nothing() -> Broken
+pub fn nothing() -> Broken
     ensures { result ≡ coded rules.nothing }
 {
     Broken {
@@ -73,7 +73,7 @@ fn or(x: bool, y: bool) -> bool
 }
 
 /// The rules that one or the other breaks.
-pub(crate) fn also(x: Broken, y: Broken) -> Broken
+pub fn also(x: Broken, y: Broken) -> Broken
     ensures { result ≡ both x y }
 {
     Broken {
@@ -88,7 +88,7 @@ pub(crate) fn also(x: Broken, y: Broken) -> Broken
 }
 
 /// The rule on constants, where it is broken.
-pub(crate) fn constant_if(broken: bool) -> Broken
+pub fn constant_if(broken: bool) -> Broken
     ensures { result ≡ coded (rules.constant_if broken) }
 {
     Broken {
@@ -108,7 +108,7 @@ pub(crate) fn select_if(broken: bool) -> Broken
 }
 
 /// The rule on widths, where it is broken.
-pub(crate) fn width_if(broken: bool) -> Broken
+pub fn width_if(broken: bool) -> Broken
     ensures { result ≡ coded (rules.width_if broken) }
 {
     Broken {
@@ -118,7 +118,7 @@ pub(crate) fn width_if(broken: bool) -> Broken
 }
 
 /// Whether no rule is broken.
-pub(crate) fn is_unbroken(broken: Broken) -> bool
+pub fn is_unbroken(broken: Broken) -> bool
     ensures { result ≡ unbroken broken }
 {
     !broken.undeclared

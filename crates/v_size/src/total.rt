@@ -8,7 +8,7 @@ use crate::rule::{Broken, nothing};
 use v_value::select::Integer;
 
 /// Both widths together, where both have values.
-pub(crate) fn added(x: Option<u32>, y: Option<u32>) -> Option<u32>
+pub fn added(x: Option<u32>, y: Option<u32>) -> Option<u32>
     ensures { result ≡ added x y }
 {
     match (x, y) {
@@ -92,7 +92,7 @@ pub(crate) fn fitting(width: Option<u32>) -> Option<u32>
 }
 
 /// The rules that so many bits together break.
-pub(crate) fn by_total(width: Option<u32>) -> Broken
+pub fn by_total(width: Option<u32>) -> Broken
     ensures { result ≡ coded (rules.by_total width) }
 {
     match width {

@@ -1,17 +1,17 @@
 -- What cells hold after a number was written to them, and that it is a value of their object.
-use Rattle.std.proofs.Common.{◌≡◌, ℕ, zero, suc, ◌+◌, ◌-◌, ◌*◌, ◌/◌, ◌%◌, ◌^◌, ◌<◌, ◌≤◌, min, max, Bool, true, false, cond, not, ◌&&◌, nat_le, nat_lt, List, [], ◌∷◌, length, Option, Some, None, refl, ap, sym, subst, ◌∙◌, arith, ⊎_elim, slice_index, slice_set, length-set, get_or-set_same, get_or-set_other, eqb-true, ℤ, pos, negsuc, ◌-ℤ◌}
-use Rattle.std.specs.Prelude.{IsTrue, IfSome, is_some, option_and_then}
+use Rattle.std.proofs.Common.{◌≡◌, ℕ, zero, suc, ◌+◌, ◌-◌, ◌*◌, ◌/◌, ◌%◌, ◌^◌, ◌<◌, ◌≤◌, min, max, Bool, true, false, cond, not, ◌&&◌, nat_le, nat_lt, List, [], ◌∷◌, Option, Some, None, refl, ap, sym, subst, ◌∙◌, arith, ⊎_elim, slice_index, slice_set, length-set, get_or-set_other, ℤ, pos, negsuc, ◌-ℤ◌}
+use Rattle.std.specs.Prelude.{is_some, option_and_then}
 use Rattle.std.proofs.Math.Pow.{pow_pos}
-use Rattle.std.proofs.Math.Nat.{mod-lt, mod-one, mod-eq_of_lt, div-eq_of_lt, div-one}
+use Rattle.std.proofs.Math.Nat.{mod-lt, mod-one, mod-eq_of_lt, div-eq_of_lt}
 use Rattle.std.proofs.lemmas.Bool.{false≢true, cases_lt}
 use Rattle.std.proofs.lemmas.Bool.Decides.{nat_tests}
 use Rattle.std.proofs.lemmas.Int.{ints}
 use borrow.Author.Tests.{lt-ltb, le-ltb, lt-leb, le-leb}
-use Rattle.wb_values.specs.Value.{Value, truth_value, number, words, as_number, as_words}
+use Rattle.wb_values.specs.Value.{Value, truth_value, number, words, as_number}
 use Rattle.verilog_meaning.specs.Expression.{Object, Bits, distance, object_width, is_memory, word_number}
 use Rattle.verilog_meaning.specs.Statement.{Cell, variable_cell, word_cell, no_cell, cell_at, indexed_cell, all_bits, with_bits_at, with_bits, written_cell}
 use Rattle.verilog_meaning.specs.Register.{word_count, words_between}
-use Rattle.verilog_meaning.specs.Settled.{IsAddressWidth, AreWords, IsValueOf}
+use Rattle.verilog_meaning.specs.Settled.{AreWords, IsValueOf}
 use Rattle.v_bits.specs.Moving.{IsPlace, at_place, below_zero, far_above, far_below}
 
 -- ---- all bits

@@ -1,21 +1,19 @@
 -- Parts of targets: what their selects mean, by the terms of their indexes.
-use Rattle.std.proofs.Common.{◌≡◌, ◌+◌, ◌-◌, ◌≤◌, ℕ, Bool, true, false, cond, nat_le, List, [], ◌∷◌, ◌++◌, Option, Some, None, refl, ap, sym, subst, ◌∙◌, arith, append_assoc, append-nil, pos, ◌-ℤ◌}
-use Rattle.std.specs.Prelude.{is_some}
-use Rattle.std.proofs.lemmas.Bool.{false≢true}
+use Rattle.std.proofs.Common.{◌≡◌, ◌+◌, ◌-◌, ◌≤◌, ℕ, true, false, cond, nat_le, List, [], ◌∷◌, ◌++◌, Some, None, refl, ap, sym, subst, ◌∙◌, arith, append_assoc, append-nil, pos, ◌-ℤ◌}
 use Rattle.std.specs.declared.boxed.Box.{Box}
 use Rattle.std.specs.declared.alloc.Global.{Global}
 use Rattle.wb_values.specs.Value.{Name, word, as_number, Valuation}
 use Rattle.verilog_trees.specs.Syntax as pure
 use Rattle.verilog_trees.specs.Syntax.{index, part, part_up, part_down, whole, one, two, place, no_targets, target}
-use Rattle.verilog_meaning.specs.Expression.{Object, Scope, Bits, is_memory, object_width, no_values, natural_of, integer_from, integer_of, place_of_bit, value_of, width_of, sign_of, select_bits, select_index, selects_width, assigned_value}
-use Rattle.verilog_meaning.specs.Statement.{Place, variable_cell, indexed_cell, all_bits, named_place, places, all_places, target_width, targets_width, places_width}
+use Rattle.verilog_meaning.specs.Expression.{Object, Scope, Bits, is_memory, object_width, no_values, integer_from, integer_of, place_of_bit, value_of, sign_of, select_bits, select_index, selects_width, assigned_value}
+use Rattle.verilog_meaning.specs.Statement.{variable_cell, indexed_cell, all_bits, places, all_places, target_width}
 use Rattle.wb_terms.specs.Graph.{Graph}
 use Rattle.v_syntax.specs.declared.tree.Expression.{Expression}
 use Rattle.v_syntax.specs.declared.tree.Select.{Select, Index, Part, PartUp, PartDown}
-use Rattle.v_syntax.specs.declared.tree.Selects.{Selects, Whole, One, Two}
+use Rattle.v_syntax.specs.declared.tree.Selects.{Selects, Whole, Two}
 use Rattle.v_syntax.specs.Tree.{tree_of, select_of, selects_of}
 use Rattle.v_value.specs.Narrow.{IsWidth}
-use Rattle.v_value.specs.Evaluation.{sign_at, count_at, taken_at}
+use Rattle.v_value.specs.Evaluation.{sign_at, count_at}
 use Rattle.v_value.specs.Scope.{object_of}
 use Rattle.v_value.specs.Index.{span_of}
 use Rattle.v_value.specs.declared.scope.Object.{Object as CodeObject}
@@ -24,17 +22,16 @@ use Rattle.v_bits.specs.declared.operand.Operand.{Operand}
 use Rattle.v_operators.specs.Meaning.{Grows, IsOfSort, HasNumber}
 use Rattle.v_operators.proofs.Growing.{Grows-refl, Grows-trans, IsOfSort-kept}
 use Rattle.v_lower.specs.Lowered.{Images, HasImages, StandsFor, IsLoweredAlone, has_sort}
-use Rattle.v_lower.specs.Walking.{IsSound, IsNameSound, IsIndex, IsSelectSound, IsBounded}
-use Rattle.v_lower.specs.Contexts.{IsTaken}
+use Rattle.v_lower.specs.Walking.{IsSound, IsNameSound, IsSelectSound, IsBounded}
 use Rattle.v_lower.proofs.Lowering.{stands_before}
 use Rattle.v_lower.proofs.Taken.{index-bits, up-bits, down-bits}
 use Rattle.v_lower.proofs.Contextual.{few_up, few_down}
 use Rattle.v_write.specs.declared.part.Part.{Part as CodePart}
 use Rattle.v_write.specs.declared.part.PartBits.{PartBits}
 use Rattle.v_write.specs.declared.part.PartBits.TheVariants.{All, Known, Moving}
-use Rattle.v_write.specs.Parts.{worth, index_meant, cell_meant, bits_meant, place_meant, places_meant, counts, IsNumber, HasAddress, HaveIndex, HaveIndexes, IsAddress, AreBits, IsPart, AreParts}
+use Rattle.v_write.specs.Parts.{index_meant, place_meant, places_meant, counts, IsNumber, HasAddress, HaveIndex, HaveIndexes, IsPart, AreParts}
 use Rattle.v_write.specs.Selecting.{IsIndexOf, IsTakenBy, IsSelectedBy, ArePrepared, ArePreparing, IsPrepared}
-use Rattle.v_write.proofs.Kept.{address_there, bits_kept, parts_kept, places_kept, parts_count}
+use Rattle.v_write.proofs.Kept.{address_there, parts_kept, places_kept}
 
 -- ---- the term of an index
 

@@ -1,19 +1,18 @@
 -- Parts, their places and conditions in a store that has grown.
-use Rattle.std.proofs.Common.{◌≡◌, ◌+◌, ℕ, Bool, true, false, cond, List, [], ◌∷◌, ◌++◌, Option, Some, None, refl, ap, sym, subst, ◌∙◌, pos, ◌-ℤ◌}
-use Rattle.std.specs.Prelude.{is_some}
+use Rattle.std.proofs.Common.{◌≡◌, ◌+◌, ℕ, Bool, List, [], ◌∷◌, Option, Some, None, refl, ap, sym, subst}
 use Rattle.wb_values.specs.Value.{word, truth, as_number, Valuation}
 use Rattle.model_meaning.specs.Term.{Term, val}
-use Rattle.verilog_meaning.specs.Expression.{Object, Scope, integer_from, place_of_bit}
-use Rattle.verilog_meaning.specs.Statement.{Cell, Place, indexed_cell, places_width}
-use Rattle.wb_terms.specs.Graph.{Graph, tree}
+use Rattle.verilog_meaning.specs.Expression.{Object, Scope, integer_from}
+use Rattle.verilog_meaning.specs.Statement.{indexed_cell, places_width}
+use Rattle.wb_terms.specs.Graph.{Graph}
 use Rattle.wb_terms.specs.declared.nodes.TermId.{TermId}
 use Rattle.v_bits.specs.declared.operand.Operand.{Operand}
-use Rattle.v_operators.specs.Meaning.{Grows, IsOfSort, HasNumber, HasTruth}
+use Rattle.v_operators.specs.Meaning.{Grows, IsOfSort, HasNumber}
 use Rattle.v_operators.proofs.Growing.{IsOfSort-kept, number_kept, truth_kept, tree_kept}
 use Rattle.v_write.specs.declared.part.Part.{Part}
 use Rattle.v_write.specs.declared.part.PartBits.{PartBits}
 use Rattle.v_write.specs.declared.part.PartBits.TheVariants.{All, Known, Moving}
-use Rattle.v_write.specs.Parts.{worth, index_meant, cell_meant, bits_meant, place_meant, places_meant, counts, IsNumber, IsAddress, AreBits, IsPart, IsPartOf, AreParts, HasAddress, HaveIndex, HasIndexes, HaveIndexes}
+use Rattle.v_write.specs.Parts.{worth, cell_meant, bits_meant, place_meant, places_meant, counts, IsAddress, AreBits, IsPart, IsPartOf, AreParts, HasAddress, HasIndexes, HaveIndexes}
 use Rattle.v_write.specs.Guard.{IsGuard, Guards}
 use Rattle.v_write.proofs.Replaced.{bits_before}
 

@@ -8,4 +8,8 @@ mod Running
 mod Indexed
 mod Lowered
 mod Trees
+mod Values
+mod Matches
+mod Items
 mod Whole
+mod Unbroken

@@ -1,11 +1,11 @@
 -- Parts of a target, written from the right.
 use Rattle.std.proofs.Common.{◌≡◌, ℕ, zero, suc, ◌+◌, ◌-◌, ◌/◌, ◌%◌, ◌^◌, ◌<◌, ◌≤◌, Bool, true, false, cond, List, [], ◌∷◌, length, drop, get_or, Option, refl, ap, sym, subst, ◌∙◌, arith, add_comm}
 use Rattle.std.proofs.Math.Seq.{drop-cons}
-use Rattle.std.proofs.Math.Nat.{mod-one, mod-eq_of_lt, div-one}
+use Rattle.std.proofs.Math.Nat.{mod-eq_of_lt, div-one}
 use Rattle.wb_values.specs.Value.{word, Valuation}
 use Rattle.wb_values.specs.Number.{word_extract}
 use Rattle.verilog_meaning.specs.Expression.{Scope}
-use Rattle.verilog_meaning.specs.Statement.{Place, written, written_place, places_width}
+use Rattle.verilog_meaning.specs.Statement.{written, written_place, places_width}
 use Rattle.wb_terms.specs.Graph.{Graph}
 use Rattle.wb_terms.specs.declared.nodes.TermId.{TermId}
 use Rattle.v_operators.specs.Meaning.{Grows, IsOfSort, HasNumber, Makes}

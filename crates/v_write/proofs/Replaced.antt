@@ -1,17 +1,16 @@
 -- Terms that are worth what a name holds after a number was written to some of its bits.
-use Rattle.std.proofs.Common.{◌≡◌, ℕ, ◌+◌, ◌-◌, ◌*◌, ◌/◌, ◌%◌, ◌^◌, ◌<◌, ◌≤◌, min, max, Bool, true, false, cond, not, ◌&&◌, nat_le, nat_lt, List, [], ◌∷◌, length, Option, Some, None, refl, ap, sym, subst, ◌∙◌, arith, slice_index, slice_set, eq-eqb, ℤ, pos, negsuc, ◌-ℤ◌}
-use Rattle.std.specs.Prelude.{IsTrue, IfSome, is_some, option_and_then, ◌==◌}
+use Rattle.std.proofs.Common.{◌≡◌, ℕ, ◌+◌, ◌-◌, ◌/◌, ◌%◌, ◌^◌, ◌<◌, ◌≤◌, min, Bool, true, false, cond, not, ◌&&◌, nat_le, nat_lt, List, length, Option, Some, None, refl, ap, sym, subst, ◌∙◌, arith, slice_index, slice_set, eq-eqb, ℤ, pos, ◌-ℤ◌}
+use Rattle.std.specs.Prelude.{IfSome, is_some, option_and_then, ◌==◌}
 use Rattle.std.proofs.Math.Pow.{pow_mono}
 use Rattle.std.proofs.Math.Nat.{mod-eq_of_lt, div-one}
 use Rattle.std.proofs.lemmas.Bool.{false≢true}
 use Rattle.std.proofs.lemmas.Bool.Decides.{nat_tests}
-use borrow.Author.Tests.{lt-ltb}
-use Rattle.wb_values.specs.Value.{Name, Sort, truth, word, memory, Value, truth_value, number, words, as_number, as_words, as_truth, Valuation}
+use Rattle.wb_values.specs.Value.{Sort, truth, word, memory, Value, truth_value, number, words, as_number, as_words, as_truth, Valuation}
 use Rattle.wb_values.specs.Number.{word_sub, word_extract}
 use Rattle.wb_values.specs.Choice.{some_if}
 use Rattle.model_meaning.specs.Term.{Term, load, ite, same_sort, load_sort, ite_sort, sort_of, val}
-use Rattle.verilog_meaning.specs.Expression.{Object, Scope, Bits, distance, object_width, is_memory, word_number, integer_from, place_of_bit}
-use Rattle.verilog_meaning.specs.Statement.{Cell, variable_cell, indexed_cell, cell_at, all_bits, with_bits, with_bits_at, written_cell}
+use Rattle.verilog_meaning.specs.Expression.{Object, Bits, distance, object_width, is_memory, word_number, integer_from, place_of_bit}
+use Rattle.verilog_meaning.specs.Statement.{indexed_cell, cell_at, all_bits, with_bits, with_bits_at, written_cell}
 use Rattle.verilog_meaning.specs.Register.{word_count, words_between}
 use Rattle.verilog_meaning.specs.Settled.{IsAddressWidth, AreWords, IsValueOf}
 use Rattle.wb_terms.specs.Graph.{Graph, tree}
@@ -22,18 +21,18 @@ use Rattle.v_value.specs.declared.select.Span.{Span}
 use Rattle.v_bits.specs.declared.operand.Operand.{Operand}
 use Rattle.v_bits.specs.declared.selecting.Wanted.{Wanted}
 use Rattle.v_operators.specs.Meaning.{Grows, IsOfSort, HasNumber, HasTruth, Makes, Joins}
-use Rattle.v_operators.proofs.Growing.{Grows-trans, IsOfSort-kept, number_kept, truth_kept, tree_kept}
+use Rattle.v_operators.proofs.Growing.{Grows-trans, IsOfSort-kept, number_kept, tree_kept}
 use Rattle.v_operators.proofs.Forms.{formed}
 use Rattle.v_bits.specs.Moving.{IsPlace, near}
 use Rattle.v_bits.specs.Writing.{Unites, Stores, written_from, stored}
 use Rattle.v_bits.proofs.Shifting.{place-sub, address_room, near-place}
 use Rattle.v_bits.proofs.Stores.{some_address, few_addresses}
-use Rattle.v_lower.specs.Lowered.{Images, HasImages, IsImage, IsSortOf, has_sort}
+use Rattle.v_lower.specs.Lowered.{IsSortOf, has_sort}
 use Rattle.verilog_rules.specs.Expression.{has_many_words}
 use Rattle.v_write.specs.declared.part.Part.{Part}
 use Rattle.v_write.specs.declared.part.PartBits.{PartBits}
 use Rattle.v_write.specs.declared.part.PartBits.TheVariants.{All, Known, Moving}
-use Rattle.v_write.specs.Parts.{worth, index_meant, cell_meant, bits_meant, IsNumber, HasAddress, HaveIndex, AreBits, IsAddress, IsPart}
+use Rattle.v_write.specs.Parts.{worth, index_meant, cell_meant, bits_meant, IsNumber, HasAddress, HaveIndex, AreBits}
 use Rattle.v_write.specs.Guard.{IsGuard, Guards}
 use Rattle.v_write.specs.Changed.{ChangesWord, ChangesMemory, Reads, IsTermOf, IsChoice}
 use Rattle.v_write.specs.Written.{Changes}

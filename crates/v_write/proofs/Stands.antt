@@ -1,23 +1,22 @@
 -- Images and environments after one name was given another term.
-use Rattle.std.proofs.Common.{◌≡◌, ℕ, ◌<◌, Bool, true, false, cond, not, List, [], ◌∷◌, length, Option, Some, None, refl, ap, sym, subst, ◌∙◌}
-use Rattle.std.specs.Prelude.{IsSome, IsTrue, is_some}
-use Rattle.std.proofs.lemmas.Bool.{false≢true}
+use Rattle.std.proofs.Common.{◌≡◌, ℕ, Bool, true, false, cond, Option, Some, None, refl, ap, sym, subst, ◌∙◌}
+use Rattle.std.specs.Prelude.{IsTrue, is_some}
 use Rattle.std.proofs.lemmas.Slice.Eq.{bytes_eq-Decides}
 use Rattle.wb_values.specs.Value.{Name, Value, Valuation, same_name, with_value}
 use Rattle.model_meaning.specs.Term.{Term, val}
-use Rattle.verilog_meaning.specs.Expression.{Object, Scope, is_memory}
-use Rattle.verilog_meaning.specs.Statement.{Place, Cell, written_cell, written_place, variable_cell}
+use Rattle.verilog_meaning.specs.Expression.{Scope, is_memory}
+use Rattle.verilog_meaning.specs.Statement.{written_cell, written_place}
 use Rattle.verilog_meaning.specs.Settled.{IsValueOf}
 use Rattle.wb_terms.specs.Graph.{Graph, tree}
 use Rattle.wb_terms.specs.declared.nodes.TermId.{TermId}
 use Rattle.v_bits.specs.declared.operand.Operand.{Operand}
 use Rattle.v_operators.specs.Meaning.{Grows, IsOfSort, HasNumber}
 use Rattle.v_operators.proofs.Growing.{tree_kept, IsOfSort-kept, Grows-trans}
-use Rattle.v_lower.specs.Lowered.{Images, HasImages, IsImage, StandsFor, has_sort, has_number}
+use Rattle.v_lower.specs.Lowered.{Images, HasImages, IsImage, StandsFor}
 use Rattle.v_lower.proofs.Lowering.{images_kept}
 use Rattle.v_write.specs.declared.part.Part.{Part}
 use Rattle.v_write.specs.Parts.{cell_meant, bits_meant, place_meant, HasIndexes, IsPart, index_meant}
-use Rattle.v_write.specs.Guard.{IsGuard, Guards}
+use Rattle.v_write.specs.Guard.{Guards}
 use Rattle.v_write.specs.Changed.{IsTermOf}
 use Rattle.v_write.specs.Written.{AreOfNames, Changes, IsPartWritten}
 use Rattle.v_write.proofs.Cells.{memory_fits, number_fits}

@@ -11,14 +11,17 @@ use Rattle.std.specs.declared.vec.Vec.{Vec}
 use Rattle.std.specs.declared.alloc.Global.{Global}
 use Rattle.std.specs.Borrow.{Bor}
 use Rattle.verilog_trees.specs.Syntax as pure
-use Rattle.verilog_trees.specs.Syntax.{joined, target, block, statement}
+use Rattle.verilog_trees.specs.Syntax.{joined, target, case, block, statement, arm, default_arm}
 use Rattle.v_syntax.specs.declared.tree.Target.{Target, Joined, Row_of-Target, end_of-Target, more_of-Target, items-the_row-Target, items_hidden-the_row-Target-0}
 use Rattle.v_syntax.specs.declared.tree.Target.TheBlock.{hidden-the_row-Target-0}
 use Rattle.v_syntax.specs.declared.tree.Arm.{Arm}
-use Rattle.v_syntax.specs.declared.tree.Statement.{Statement, If, Block, Row_of-Arm, end_of-Arm, more_of-Arm, items-the_row-Arm, items_hidden-the_row-Arm-0, Row_of-Statement, end_of-Statement, more_of-Statement, items-the_row-Statement, items_hidden-the_row-Statement-2}
-use Rattle.v_syntax.specs.declared.tree.CaseItem.TheBlock.{hidden-the_row-Arm-0, hidden-the_row-Statement-2}
-use Rattle.v_syntax.specs.Tree.{tree_of, target_of, targets_of, statement_of, statements_of, arms_before, arm_before, or_empty, name_of_option}
-use Rattle.v_write.specs.Sound.{target_list, statement_list, arm_list, IsSoundStatement, AreSoundBranches}
+use Rattle.v_syntax.specs.declared.tree.CaseItem.{CaseItem, Values, Default}
+use Rattle.v_syntax.specs.declared.tree.CaseKind.{CaseKind}
+use Rattle.v_syntax.specs.declared.tree.Expression.{Expression}
+use Rattle.v_syntax.specs.declared.tree.Statement.{Statement, If, Case, Block, Row_of-Arm, end_of-Arm, more_of-Arm, items-the_row-Arm, items_hidden-the_row-Arm-0, Row_of-CaseItem, end_of-CaseItem, more_of-CaseItem, items-the_row-CaseItem, items_hidden-the_row-CaseItem-1, Row_of-Statement, end_of-Statement, more_of-Statement, items-the_row-Statement, items_hidden-the_row-Statement-2}
+use Rattle.v_syntax.specs.declared.tree.CaseItem.TheBlock.{hidden-the_row-Arm-0, hidden-the_row-CaseItem-1, hidden-the_row-Statement-2}
+use Rattle.v_syntax.specs.Tree.{tree_of, expressions_of, target_of, targets_of, statement_of, statements_of, items_of, arms_before, arm_before, or_empty, name_of_option, case_kind_of}
+use Rattle.v_write.specs.Sound.{target_list, statement_list, arm_list, item_list, IsSoundStatement, AreSoundBranches}
 use mathlib.Core.Former as Former
 
 targets-row : (n : Former.Count) (k : Row_of-Target n) → targets_of k ≡ target_list (items-the_row-Target n k)
@@ -47,6 +50,11 @@ statements-row : (n : Former.Count) (k : Row_of-Statement n) → statements_of k
 statements-row n end_of-Statement = refl
 statements-row n (more_of-Statement x k) = ap (statement (statement_of x)) (statements-row _ k)
 
+items-row : (n : Former.Count) (k : Row_of-CaseItem n) → items_of k ≡ item_list (items-the_row-CaseItem n k)
+items-row n end_of-CaseItem = refl
+items-row n (more_of-CaseItem (Values es x) k) = ap (arm (expressions_of es.items) (statement_of x)) (items-row _ k)
+items-row n (more_of-CaseItem (Default x) k) = ap (default_arm (statement_of x)) (items-row _ k)
+
 -- what stands behind the last else
 abbrev pub last_statement : Option (Box Statement Global) → Option pure.Statement
 last_statement None = None
@@ -56,6 +64,9 @@ pub statement_of-If : (v : Vec Arm Global) (o : Option (Box Statement Global)) �
 statement_of-If v None = ap or_empty (arms-row _ (hidden-the_row-Arm-0 v) None ∙ ap (λ as_. arm_list as_ None) (items_hidden-the_row-Arm-0 v))
 statement_of-If v (Some b) =
     ap or_empty (arms-row _ (hidden-the_row-Arm-0 v) (Some (statement_of b.value)) ∙ ap (λ as_. arm_list as_ (Some (statement_of b.value))) (items_hidden-the_row-Arm-0 v))
+
+pub statement_of-Case : (k : CaseKind) (e : Expression) (v : Vec CaseItem Global) → statement_of (Case k e v) ≡ case (case_kind_of k) (tree_of e) (item_list v.items)
+statement_of-Case k e v = ap (case (case_kind_of k) (tree_of e)) (items-row _ (hidden-the_row-CaseItem-1 v) ∙ ap item_list (items_hidden-the_row-CaseItem-1 v))
 
 pub statement_of-Block : (n : Option (Bor (List ℕ))) (v : Vec Statement Global) → statement_of (Block n v) ≡ block (name_of_option n) (statement_list v.items)
 statement_of-Block n v = ap (block (name_of_option n)) (statements-row _ (hidden-the_row-Statement-2 v) ∙ ap statement_list (items_hidden-the_row-Statement-2 v))

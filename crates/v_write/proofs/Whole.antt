@@ -1,12 +1,12 @@
 -- Targets and statements by themselves, under no condition.
-use Rattle.std.proofs.Common.{◌≡◌, ℕ, Option, None, [], refl, ap, sym, subst, ◌∙◌, true, cond, List}
-use Rattle.wb_values.specs.Value.{word, Valuation}
+use Rattle.std.proofs.Common.{ℕ, None, [], refl, subst, true, List}
+use Rattle.wb_values.specs.Value.{word}
 use Rattle.verilog_trees.specs.Syntax.{Target, Statement}
 use Rattle.verilog_meaning.specs.Expression.{Scope}
-use Rattle.verilog_meaning.specs.Statement.{written, places, run}
+use Rattle.verilog_meaning.specs.Statement.{written, run}
 use Rattle.wb_terms.specs.Graph.{Graph}
-use Rattle.v_operators.specs.Meaning.{Grows, IsOfSort, HasNumber}
-use Rattle.v_operators.proofs.Growing.{Grows-refl, Grows-same, number_kept, cut_back}
+use Rattle.v_operators.specs.Meaning.{Grows, IsOfSort}
+use Rattle.v_operators.proofs.Growing.{number_kept}
 use Rattle.v_lower.specs.Lowered.{Images, HasImages, StandsFor}
 use Rattle.v_write.specs.declared.part.Part.{Part}
 use Rattle.v_write.specs.Written.{ArePartsWritten}

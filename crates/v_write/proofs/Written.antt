@@ -1,12 +1,12 @@
 -- Numbers written to places one after the other, from the right.
-use Rattle.std.proofs.Common.{◌≡◌, ℕ, zero, suc, ◌+◌, ◌-◌, ◌*◌, ◌/◌, ◌%◌, ◌^◌, ◌<◌, ◌≤◌, List, [], ◌∷◌, refl, ap, sym, subst, ◌∙◌, arith, ⊎_elim, slice_index, slice_set, ℤ, pos, negsuc}
+use Rattle.std.proofs.Common.{◌≡◌, ℕ, ◌+◌, ◌-◌, ◌*◌, ◌/◌, ◌%◌, ◌^◌, ◌<◌, ◌≤◌, List, ◌∷◌, refl, ap, sym, subst, ◌∙◌, arith, ⊎_elim, slice_index, slice_set, ℤ, pos, negsuc}
 use Rattle.std.proofs.Math.Pow.{pow_pos, mod-mod-pow}
-use Rattle.std.proofs.Math.Nat.{mod-lt, mod-one, mod-mod, mod-eq_of_lt, div-eq_of_lt}
+use Rattle.std.proofs.Math.Nat.{mod-lt, mod-one, mod-mod, mod-eq_of_lt}
 use Rattle.std.proofs.lemmas.Nat.{mod-pow-add, div-mul-add}
 use Rattle.std.proofs.lemmas.Bool.{cases_lt}
 use Rattle.wb_values.specs.Value.{Value, number, words, as_number, as_words, Valuation, with_value}
 use Rattle.verilog_meaning.specs.Expression.{Scope, Object, object_width, Bits}
-use Rattle.verilog_meaning.specs.Statement.{Cell, variable_cell, word_cell, no_cell, Place, with_bits_at, with_bits, written_cell, written_place, written, places_width}
+use Rattle.verilog_meaning.specs.Statement.{Cell, variable_cell, word_cell, no_cell, Place, with_bits_at, written_cell, written_place, written, places_width}
 
 mod_below : (x n : ℕ) → x % 2 ^ n < 2 ^ n
 mod_below x n = mod-lt x (pow_pos n)

@@ -1,5 +1,5 @@
 -- What is promised of a target and of a statement: the images after them stand for the valuation that the definitions give.
-use Rattle.std.specs.Prelude.{◌≡◌, ℕ}
+use Rattle.std.specs.Prelude.{ℕ}
 use Rattle.wb_values.specs.Value.{Valuation}
 use Rattle.verilog_trees.specs.Syntax.{Target, Statement}
 use Rattle.verilog_meaning.specs.Expression.{Scope}

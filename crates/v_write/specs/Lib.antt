@@ -5,5 +5,8 @@ pub mod Written
 pub mod Turns
 pub mod Sound
 pub mod Selecting
+pub mod Matching
+pub mod Cases
 pub mod Running
 pub mod Blocks
+pub mod Soundness

@@ -34,16 +34,23 @@ pub record IsUnderWay (s : Scope) (b m : Images) (h : Graph) (p : Valuation) (gu
   pub ends : cond holds (rest valuation).valuation valuation ≡ v
   pub ends_next : cond holds (with_updates s updated (rest valuation).updates) updated ≡ u
 
--- Of an effect the rest is still to come, under a condition of its own. (Both may depend on the environment.)
-pub record IsGoing (s : Scope) (a n : Images) (g : Graph) (guard : Option TermId) (all : Valuation → Valuation → Effect) (b m : Images) (h : Graph) (on : Option TermId) (rest : Valuation → Valuation → Effect) : Type 0 where
+-- What is known of an environment: nothing, or what number of w bits a term is worth.
+abbrev pub Always : Valuation → Type 0
+Always p = Unit {0}
+
+abbrev pub IsWorth : Graph → ℕ → ℕ → ℕ → Valuation → Type 0
+IsWorth g id w x p = HasNumber g id w p x
+
+-- Of an effect the rest is still to come, under a condition of its own, in each environment of which this is known.
+pub record IsGoing (s : Scope) (a n : Images) (g : Graph) (IsKnown : Valuation → Type 0) (guard : Option TermId) (all : Valuation → Effect) (b m : Images) (h : Graph) (on : Option TermId) (rest : Valuation → Effect) : Type 0 where
   pub grows : Grows g h
   pub known : HasImages s b h
   pub known_next : HasImages s m h
   pub names : AreOfNames a b
   pub names_next : AreOfNames n m
   pub there : IsGuard h on
-  pub goes : (p v u : Valuation) (c : Bool) → StandsFor s a g p v → StandsFor s n g p u → Guards g p guard c
-      → IsUnderWay s b m h p on (rest p) (cond c (all p v).valuation v) (cond c (with_updates s u (all p v).updates) u)
+  pub goes : (p v u : Valuation) (c : Bool) → IsKnown p → StandsFor s a g p v → StandsFor s n g p u → Guards g p guard c
+      → IsUnderWay s b m h p on rest (cond c (all v).valuation v) (cond c (with_updates s u (all v).updates) u)
 
 -- The term is a truth value: whether the expression is true.
 pub record IsCondition (s : Scope) (a : Images) (g : Graph) (e : Expression) (id : ℕ) : Type 0 where

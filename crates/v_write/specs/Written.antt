@@ -1,6 +1,6 @@
 -- When images stand for a valuation after a number was written to a part of a target, or to all of them.
-use Rattle.std.specs.Prelude.{◌≡◌, ℕ, Bool, cond, List, Option, is_some, ◌++◌}
-use Rattle.wb_values.specs.Value.{Name, Value, Valuation, word}
+use Rattle.std.specs.Prelude.{◌≡◌, ℕ, Bool, cond, List, Option, is_some}
+use Rattle.wb_values.specs.Value.{Name, Value, Valuation}
 use Rattle.model_meaning.specs.Term.{val}
 use Rattle.verilog_meaning.specs.Expression.{Object, Scope}
 use Rattle.verilog_meaning.specs.Statement.{written_cell, written_place, written}

@@ -3,6 +3,8 @@
 
 mod block;
 mod changing;
+mod choosing;
+pub mod laws;
 mod part;
 mod preparing;
 mod reading;

@@ -1,28 +1,31 @@
 //! Statements lowered to terms: each assignment is written under the condition on which it is reached.
 
 ghost use Rattle.std.specs.Prelude.{◌≡◌, ℕ, Option, IfOk, OnOk, cond};
-ghost use Rattle.wb_values.specs.Value.{Valuation};
+ghost use Rattle.wb_values.specs.Value.{word, Valuation};
 ghost use Rattle.verilog_trees.specs.Syntax as pure;
 ghost use Rattle.verilog_meaning.specs.Expression.{is_true};
 ghost use Rattle.verilog_meaning.specs.Statement.{Effect, run, run_all};
-ghost use Rattle.v_syntax.specs.Tree.{tree_of, target_of, statement_of, or_empty};
+ghost use Rattle.v_syntax.specs.Tree.{tree_of, target_of, statement_of, or_empty, case_kind_of};
 ghost use Rattle.v_value.specs.Scope.{scope_at};
 ghost use Rattle.v_value.specs.Narrow.{HasNarrowObjects};
-ghost use Rattle.v_operators.specs.Meaning.{Grows};
+ghost use Rattle.v_operators.specs.Meaning.{Grows, IsOfSort};
 ghost use Rattle.v_lower.specs.Lowered.{Images, HasImages};
 ghost use Rattle.v_lower.specs.Table.{images_at};
 ghost use Rattle.v_lower.specs.Walking.{IsSound};
 ghost use Rattle.v_write.specs.Guard.{IsGuard};
-ghost use Rattle.v_write.specs.Sound.{IsSoundAssignment, IsSoundStatement, AreSoundStatements, AreSoundBranches, statement_list, arm_list};
-ghost use Rattle.v_write.specs.Running.{Runs, IsGoing};
+ghost use Rattle.v_write.specs.Sound.{IsSoundAssignment, IsSoundStatement, AreSoundStatements, AreSoundBranches, AreSoundItems, statement_list, arm_list, item_list};
+ghost use Rattle.v_write.specs.Matching.{IsComparable};
+ghost use Rattle.v_write.specs.Cases.{item_effect, item_statement};
+ghost use Rattle.v_write.specs.Running.{Runs, Always, IsWorth, IsGoing};
 
 use crate::NoMemory;
+use crate::choosing::{Selector, default_item, item_matches, lowered_selector};
 use crate::preparing::prepared;
 use crate::reading::{condition, sides};
 use crate::writing::write_parts;
 use std::alloc::Global;
 use v_lower::NamedTerms;
-use v_syntax::tree::{Arm, Expression, Statement, Target};
+use v_syntax::tree::{Arm, CaseItem, CaseKind, Expression, Statement, Target};
 use v_value::scope::Scope;
 use wb_terms::{TermId, Terms};
 
@@ -127,7 +130,12 @@ pub(crate) fn run_statement<'s>(
                 None => Ok(()),
             }
         }
-        Statement::Case(_, _, _) => unreachable!(),
+        Statement::Case(kind, expression, items) => {
+            run_case(
+                alloc, scope, items, *kind, expression, table, next, terms, guard,
+            )?;
+            Ok(())
+        }
         Statement::Block(_, statements) => {
             run_all(alloc, scope, statements, table, next, terms, guard)?;
             Ok(())
@@ -177,8 +185,8 @@ fn run_arms<'s>(
     requires guard { IsGuard terms.old guard }
     requires sound { AreSoundBranches (scope_at scope.now) arms.now }
     ensures grows { Grows terms.old terms.new }
-    ensures going { IfOk result (λ r. (y : Option pure.Statement) → IsGoing (scope_at scope.now) (images_at table.old) (images_at next.old) terms.old guard (λ p v. run (scope_at scope.now) (or_empty (arm_list arms.now y)) v)
-        (images_at table.new) (images_at next.new) terms.new r (λ p v. run (scope_at scope.now) (or_empty y) v)) }
+    ensures going { IfOk result (λ r. (y : Option pure.Statement) → IsGoing (scope_at scope.now) (images_at table.old) (images_at next.old) terms.old Always guard (λ v. run (scope_at scope.now) (or_empty (arm_list arms.now y)) v)
+        (images_at table.new) (images_at next.new) terms.new r (λ v. run (scope_at scope.now) (or_empty y) v)) }
 {
     let mut rest = guard;
     for arm in arms {
@@ -205,9 +213,9 @@ fn run_arm<'s>(
     requires condition { IsSound (scope_at scope.now) (tree_of arm.now.condition) }
     requires sound { IsSoundStatement (scope_at scope.now) (statement_of arm.now.statement) }
     ensures grows { Grows terms.old terms.new }
-    ensures going { IfOk result (λ r. (rest : Valuation → Effect) → IsGoing (scope_at scope.now) (images_at table.old) (images_at next.old) terms.old guard
-        (λ p v. cond (is_true (scope_at scope.now) v (tree_of arm.now.condition)) (run (scope_at scope.now) (statement_of arm.now.statement) v) (rest v))
-        (images_at table.new) (images_at next.new) terms.new r (λ p v. rest v)) }
+    ensures going { IfOk result (λ r. (rest : Valuation → Effect) → IsGoing (scope_at scope.now) (images_at table.old) (images_at next.old) terms.old Always guard
+        (λ v. cond (is_true (scope_at scope.now) v (tree_of arm.now.condition)) (run (scope_at scope.now) (statement_of arm.now.statement) v) (rest v))
+        (images_at table.new) (images_at next.new) terms.new r rest) }
 {
     let said = condition(scope, table, terms, &arm.condition)?;
     let split = sides(terms, guard, said)?;
@@ -221,4 +229,115 @@ fn run_arm<'s>(
         Some(split.taken),
     )?;
     Ok(Some(split.other))
+}
+
+/// A case, where a condition holds: its items in their order, and then its default, wherever that stands.
+#[cycle(run)]
+fn run_case<'s>(
+    alloc: Global,
+    scope: &Scope<'_>,
+    items: &[CaseItem<'s>],
+    kind: CaseKind,
+    expression: &Expression<'_>,
+    table: &mut NamedTerms<'s>,
+    next: &mut NamedTerms<'s>,
+    terms: &mut Terms,
+    guard: Option<TermId>,
+) -> Result<(), NoMemory>
+    requires objects { HasNarrowObjects (scope_at scope.now) }
+    requires known { HasImages (scope_at scope.now) (images_at table.old) terms.old }
+    requires known_next { HasImages (scope_at scope.now) (images_at next.old) terms.old }
+    requires guard { IsGuard terms.old guard }
+    requires expression { IsSound (scope_at scope.now) (tree_of expression.now) }
+    requires items { AreSoundItems (scope_at scope.now) (case_kind_of kind) (item_list items.now) }
+    ensures grows { Grows terms.old terms.new }
+    ensures ran { OnOk result (Runs (scope_at scope.now) (images_at table.old) (images_at next.old) terms.old guard
+        (run (scope_at scope.now) (pure.case (case_kind_of kind) (tree_of expression.now) (item_list items.now))) (images_at table.new) (images_at next.new) terms.new) }
+{
+    let selector = lowered_selector(scope, table, terms, kind, expression, items)?;
+    let mut rest = guard;
+    for item in items {
+        rest = run_item(alloc, scope, item, selector, table, next, terms, rest)?;
+    }
+    match default_item(items) {
+        Some(index) => {
+            run_default(alloc, scope, &items[index], table, next, terms, rest)?;
+            Ok(())
+        }
+        None => Ok(()),
+    }
+}
+
+/// One item of a case, where a condition holds. It answers the condition on which it does not match; a default never does.
+#[cycle(run)]
+fn run_item<'s>(
+    alloc: Global,
+    scope: &Scope<'_>,
+    item: &CaseItem<'s>,
+    selector: Selector,
+    table: &mut NamedTerms<'s>,
+    next: &mut NamedTerms<'s>,
+    terms: &mut Terms,
+    guard: Option<TermId>,
+) -> Result<Option<TermId>, NoMemory>
+    requires objects { HasNarrowObjects (scope_at scope.now) }
+    requires known { HasImages (scope_at scope.now) (images_at table.old) terms.old }
+    requires known_next { HasImages (scope_at scope.now) (images_at next.old) terms.old }
+    requires guard { IsGuard terms.old guard }
+    requires selector { IsOfSort terms.old selector.id.0 (word selector.width) }
+    requires item { IsComparable (scope_at scope.now) (case_kind_of selector.kind) selector.width item.now }
+    ensures grows { Grows terms.old terms.new }
+    ensures going { IfOk result (λ r. (a : ℕ) (rest : Valuation → Effect) → IsGoing (scope_at scope.now) (images_at table.old) (images_at next.old) terms.old
+        (IsWorth terms.old selector.id.0 selector.width a) guard
+        (λ v. item_effect (scope_at scope.now) (case_kind_of selector.kind) selector.width selector.signed a item.now v (rest v))
+        (images_at table.new) (images_at next.new) terms.new r rest) }
+{
+    match item {
+        CaseItem::Values(values, statement) => {
+            let said = item_matches(scope, table, terms, selector, values)?;
+            let split = sides(terms, guard, said)?;
+            run_statement(
+                alloc,
+                scope,
+                statement,
+                table,
+                next,
+                terms,
+                Some(split.taken),
+            )?;
+            Ok(Some(split.other))
+        }
+        CaseItem::Default(_) => Ok(guard),
+    }
+}
+
+/// The statement of the default of a case, where a condition holds.
+#[cycle(run)]
+fn run_default<'s>(
+    alloc: Global,
+    scope: &Scope<'_>,
+    item: &CaseItem<'s>,
+    table: &mut NamedTerms<'s>,
+    next: &mut NamedTerms<'s>,
+    terms: &mut Terms,
+    guard: Option<TermId>,
+) -> Result<(), NoMemory>
+    requires objects { HasNarrowObjects (scope_at scope.now) }
+    requires known { HasImages (scope_at scope.now) (images_at table.old) terms.old }
+    requires known_next { HasImages (scope_at scope.now) (images_at next.old) terms.old }
+    requires guard { IsGuard terms.old guard }
+    requires sound { IsSoundStatement (scope_at scope.now) (item_statement item.now) }
+    ensures grows { Grows terms.old terms.new }
+    ensures ran { OnOk result (Runs (scope_at scope.now) (images_at table.old) (images_at next.old) terms.old guard (run (scope_at scope.now) (item_statement item.now)) (images_at table.new) (images_at next.new) terms.new) }
+{
+    match item {
+        CaseItem::Values(_, statement) => {
+            run_statement(alloc, scope, statement, table, next, terms, guard)?;
+            Ok(())
+        }
+        CaseItem::Default(statement) => {
+            run_statement(alloc, scope, statement, table, next, terms, guard)?;
+            Ok(())
+        }
+    }
 }

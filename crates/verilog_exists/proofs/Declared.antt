@@ -10,13 +10,14 @@ use Rattle.verilog_meaning.specs.Hierarchy.{Declaration, declarations, declarati
 use Rattle.verilog_meaning.specs.Settled.{Design, IsPlacedIn, is_declared_among, IsDeclared, wire_assignment, wire_assignments, assignments, as_target, all_as_targets, Connection, port_connections, IsConnectedTo}
 use Rattle.verilog_designs.specs.Names.{is_among, parameter_names, names_in, names_in_all, names_in_selects, names_in_target, names_in_targets, names_in_assignments, used, uses, item_mentions, all_item_mentions}
 use Rattle.verilog_designs.specs.Drivers.{target_names, targets_names, assigned_names, assigned_in_all, assigned_in_arms, is_declared_input, is_variable, is_fixed, HasBadDriver}
-use Rattle.verilog_designs.specs.Accepted.{IsAccepted, undeclared, bad_driver}
+use Rattle.verilog_designs.specs.Accepted.{undeclared, bad_driver}
 use Rattle.verilog_unique.proofs.Options.{from_map, from_chain, is_same, left_true, right_true}
 use Rattle.verilog_unique.proofs.Descent.{IsAmong, among_left, among_right, among_either, contains_among}
 use Rattle.verilog_unique.proofs.Standing.{IsKnownIn, mentioned_known}
 use Rattle.verilog_unique.proofs.Mentioned.{AreUsed, in_module, connection_used}
 use Rattle.verilog_unique.proofs.Constants.{Within}
 use Rattle.verilog_unique.proofs.Parameters.{parameter_number}
+use Rattle.verilog_exists.specs.Loops.{IsAcceptedButForLoops}
 use Rattle.verilog_exists.proofs.Directions.{variable_declared}
 use Rattle.verilog_exists.proofs.Rounds.{reached_name}
 
@@ -188,7 +189,7 @@ target_of_items (instances m given is ∷ items) a n h k = later (instances m gi
 
 -- ---- in an accepted design
 
-module _ (d : Design) (accepted : IsAccepted d) (p : Placed) (at : IsPlacedIn d p) where
+module _ (d : Design) (accepted : IsAcceptedButForLoops d) (p : Placed) (at : IsPlacedIn d p) where
   parameter_fixed : (n : Name) → IsTrue (is_among (parameter_names (all_parameters p.of_module)) n) → IsTrue (is_fixed p n)
   parameter_fixed n t =
       right_true (is_declared_input (declaration_of (declarations p.of_module) n)) (is_some (placed_scope p n).constant) (parameter_number d p.path p at n t)
@@ -201,7 +202,7 @@ module _ (d : Design) (accepted : IsAccepted d) (p : Placed) (at : IsPlacedIn d 
   -- an assignment drives what is no variable, no input and no parameter
   pub assignment_free : (a : Target × Expression) (n : Name) → IsAmong (assignments p.of_module.items) a → IsAmong (target_names a.0) n → ¬ IsTrue (is_fixed p n)
   assignment_free a n h k t =
-      accepted bad_driver (HasBadDriver.by_assignment p a n at (contains_among (assignments p.of_module.items) a h) (contains_among (target_names a.0) n k)
+      accepted bad_driver (λ e. cc) (HasBadDriver.by_assignment p a n at (contains_among (assignments p.of_module.items) a h) (contains_among (target_names a.0) n k)
       (right_true (is_variable p n) (is_fixed p n) t))
 
   pub assignment_declared : (a : Target × Expression) (n : Name) → IsAmong (assignments p.of_module.items) a → IsAmong (target_names a.0) n → IsDeclared p n
@@ -211,7 +212,7 @@ module _ (d : Design) (accepted : IsAccepted d) (p : Placed) (at : IsPlacedIn d 
       found : MentionedOrDeclared p.of_module.items n → IsDeclared p n
       found (inl used_there) =
           known_declared n (assignment_free a n h k)
-          (mentioned_known d (accepted undeclared) p.path p at n (in_module p.of_module (n ∷ []) only n (inl refl)))
+          (mentioned_known d (accepted undeclared (λ e. cc)) p.path p at n (in_module p.of_module (n ∷ []) only n (inl refl)))
         where
           only : AreUsed (all_item_mentions p.of_module.items) (n ∷ [])
           only m (inl e) = subst (λ i. IsAmong (all_item_mentions p.of_module.items) (used i)) e used_there
@@ -221,7 +222,7 @@ module _ (d : Design) (accepted : IsAccepted d) (p : Placed) (at : IsPlacedIn d 
   pub output_free : (c : Connection) (below : Placed) (m : Name) (t : Target) (n : Name) → IsAmong (port_connections p.of_module.items) c
       → IsConnectedTo d p c below m output → as_target c.expression ≡ Some t → IsAmong (target_names t) n → ¬ IsTrue (is_fixed p n)
   output_free c below m t n h connected e k f =
-      accepted bad_driver (HasBadDriver.by_output p c t n at (contains_among (port_connections p.of_module.items) c h)
+      accepted bad_driver (λ e. cc) (HasBadDriver.by_output p c t n at (contains_among (port_connections p.of_module.items) c h)
       (record { below = below; port = m; is_output = connected; is_target = e }) (contains_among (target_names t) n k)
       (right_true (is_variable p n) (is_fixed p n) f))
 
@@ -229,13 +230,13 @@ module _ (d : Design) (accepted : IsAccepted d) (p : Placed) (at : IsPlacedIn d 
       → IsConnectedTo d p c below m output → as_target c.expression ≡ Some t → IsAmong (target_names t) n → IsDeclared p n
   output_declared c below m t n h connected e k =
       known_declared n (output_free c below m t n h connected e k)
-      (mentioned_known d (accepted undeclared) p.path p at n
+      (mentioned_known d (accepted undeclared (λ e. cc)) p.path p at n
       (in_module p.of_module (names_in c.expression) (connection_used p.of_module.items c h) n (from_expression c.expression t e n k)))
 
   -- a block assigns variables alone, and no input and no parameter
   pub block_free : (x : Statement) (n : Name) → IsAmong (combinational_blocks p.of_module.items) x → IsAmong (assigned_names x) n → ¬ IsTrue (is_fixed p n)
   block_free x n h k t =
-      accepted bad_driver (HasBadDriver.in_combinational p x n at (contains_among (combinational_blocks p.of_module.items) x h)
+      accepted bad_driver (λ e. cc) (HasBadDriver.in_combinational p x n at (contains_among (combinational_blocks p.of_module.items) x h)
       (contains_among (assigned_names x) n k) (right_true (not (is_variable p n)) (is_fixed p n) t))
 
   pub block_declared : (x : Statement) (n : Name) → IsAmong (combinational_blocks p.of_module.items) x → IsAmong (assigned_names x) n → IsDeclared p n
@@ -244,10 +245,10 @@ module _ (d : Design) (accepted : IsAccepted d) (p : Placed) (at : IsPlacedIn d 
       variable : (is_variable p n ≡ true) ⊎ (is_variable p n ≡ false) → IsDeclared p n
       variable (inl e) = variable_declared (declarations p.of_module) n e
       variable (inr e) =
-          absurd (accepted bad_driver (HasBadDriver.in_combinational p x n at (contains_among (combinational_blocks p.of_module.items) x h)
+          absurd (accepted bad_driver (λ e. cc) (HasBadDriver.in_combinational p x n at (contains_among (combinational_blocks p.of_module.items) x h)
           (contains_among (assigned_names x) n k) (left_true (not (is_variable p n)) (is_fixed p n) (ap not e))))
 
   pub clocked_free : (x : Statement) (n : Name) → IsAmong (clocked_blocks p.of_module.items) x → IsAmong (assigned_names x) n → ¬ IsTrue (is_fixed p n)
   clocked_free x n h k t =
-      accepted bad_driver (HasBadDriver.in_clocked p x n at (contains_among (clocked_blocks p.of_module.items) x h)
+      accepted bad_driver (λ e. cc) (HasBadDriver.in_clocked p x n at (contains_among (clocked_blocks p.of_module.items) x h)
       (contains_among (assigned_names x) n k) (right_true (not (is_variable p n)) (is_fixed p n) t))

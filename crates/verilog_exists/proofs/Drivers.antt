@@ -12,7 +12,7 @@ use Rattle.verilog_designs.specs.Names.{names_in_connections, names_in_parameter
 use Rattle.verilog_designs.specs.Ports.{is_input, is_output, port_direction}
 use Rattle.verilog_designs.specs.Constants.{index_names, constant_names_in_instances, constant_names_in_module_items, constant_names_in_module, has_net_as_constant}
 use Rattle.verilog_designs.specs.Drivers.{parts_of, all_parts_of, Driver, assigned, connected, clocked, combinational, MayDrive, IsSameDriven, target_names, is_declared_input, is_fixed, HasBadDriver}
-use Rattle.verilog_designs.specs.Accepted.{is_input_port, is_wide_clock, has_no_clock, HasNoTop, IsAccepted, no_top, undeclared, bad_constant, bad_driver}
+use Rattle.verilog_designs.specs.Accepted.{is_input_port, is_wide_clock, has_no_clock, HasNoTop, no_top, undeclared, bad_constant, bad_driver}
 use Rattle.verilog_designs.specs.Names.{is_among}
 use Rattle.verilog_settled.specs.Locality.{has_constant_selects}
 use Rattle.verilog_unique.proofs.Options.{not_true, not_is_false, first_false, left_true, both_true, same_is}
@@ -24,6 +24,7 @@ use Rattle.verilog_unique.proofs.Parameters.{parameter_number}
 use Rattle.verilog_unique.proofs.Ports.{port_is_declared}
 use Rattle.verilog_unique.proofs.Constants.{target_constant, as_target_named, in_assignments, in_connection, in_connections, in_instances, in_item, is_known, parameter_if_constant}
 use Rattle.verilog_exists.specs.Exists.{RangesHaveValues}
+use Rattle.verilog_exists.specs.Loops.{IsAcceptedButForLoops}
 use Rattle.verilog_exists.proofs.Links.{Link, IsLink, of_assignment, of_output, of_input, assignment_link, output_link, input_link}
 use Rattle.verilog_exists.proofs.Givers.{IsSound}
 use Rattle.verilog_exists.proofs.Rounds.{reached_name}
@@ -65,7 +66,7 @@ mutual
             record { part = r.part; is_part = among_right (parts_of t) (all_parts_of ts) r.part r.is_part; reaches = r.reaches }
       ]
 
-one_assigns : (s : Scope) (xs : List Statement) (n : Name) (k b : ℕ) → IsTrue (one_may_assign s xs n k b)
+pub one_assigns : (s : Scope) (xs : List Statement) (n : Name) (k b : ℕ) → IsTrue (one_may_assign s xs n k b)
     → (x : Statement) × IsAmong xs x × IsTrue (may_assign s x n k b)
 one_assigns s [] n k b t = absurd (false≢true t)
 one_assigns s (x ∷ xs) n k b t =
@@ -78,10 +79,10 @@ same_driven o k b =
 
 -- ---- what drives a bit of a module
 
-module _ (d : Design) (accepted : IsAccepted d) (p : Placed) (at : IsPlacedIn d p) (n : Name) (k b : ℕ) (is_bit : IsBitOf p n k b) where
+module _ (d : Design) (accepted : IsAcceptedButForLoops d) (p : Placed) (at : IsPlacedIn d p) (n : Name) (k b : ℕ) (is_bit : IsBitOf p n k b) where
   not_two : (one other : Driver) → ¬ (one ≡ other) → MayDrive d p one n k b → MayDrive d p other n k b → ⊥
   not_two one other apart f g =
-      accepted bad_driver (HasBadDriver.two p at (record {
+      accepted bad_driver (λ e. cc) (HasBadDriver.two p at (record {
         name = n;
         word = k;
         bit = b;
@@ -274,13 +275,13 @@ module _ (d : Design) (accepted : IsAccepted d) (p : Placed) (at : IsPlacedIn d 
 
 -- ---- constant indexes (the same stands in the proofs of `verilog_unique`)
 
-module _ (d : Design) (accepted : IsAccepted d) (p : Placed) (at : IsPlacedIn d p) where
+module _ (d : Design) (accepted : IsAcceptedButForLoops d) (p : Placed) (at : IsPlacedIn d p) where
   no_net : has_net_as_constant d.source p.of_module ≡ false
   no_net =
       let q = is_known d p.path p at in
       subst (λ m. has_net_as_constant d.source m ≡ false) q.2
       (not_true (has_net_as_constant d.source q.0.of_module)
-      (λ t. accepted bad_constant (record { path = p.path; place = q.0; is_placed = q.1; is_so = left_true (has_net_as_constant d.source q.0.of_module) _ t })))
+      (λ t. accepted bad_constant (λ e. cc) (record { path = p.path; place = q.0; is_placed = q.1; is_so = left_true (has_net_as_constant d.source q.0.of_module) _ t })))
 
   in_module_constants : (n : Name) → IsAmong (constant_names_in_module_items d.source p.of_module.items) n → IsAmong (constant_names_in_module d.source p.of_module) n
   in_module_constants n h =
@@ -293,7 +294,7 @@ module _ (d : Design) (accepted : IsAccepted d) (p : Placed) (at : IsPlacedIn d 
       target_constant (placed_scope p) t
       (λ n h. parameter_number d p.path p at n
       (parameter_if_constant d.source p.of_module n no_net (in_module_constants n (f n h))
-      (mentioned_known d (accepted undeclared) p.path p at n (in_module p.of_module (index_names t) used n h))))
+      (mentioned_known d (accepted undeclared (λ e. cc)) p.path p at n (in_module p.of_module (index_names t) used n h))))
 
   output_constants : (c : Connection) → IsAmong (port_connections p.of_module.items) c → (below : Placed) (m : Name) (t : Target)
       → IsConnectedTo d p c below m output → as_target c.expression ≡ Some t
@@ -321,7 +322,7 @@ module _ (d : Design) (accepted : IsAccepted d) (p : Placed) (at : IsPlacedIn d 
 
 -- ---- all of it
 
-module _ (d : Design) (accepted : IsAccepted d) (ranges : RangesHaveValues d) where
+module _ (d : Design) (accepted : IsAcceptedButForLoops d) (ranges : RangesHaveValues d) where
   link_name : (p : Placed) (l : Link) (n : Name) → IsPlacedIn d p → IsLink d p l → IsAmong (target_names l.target) n
       → IsDeclared p n × (is_memory (placed_scope p n) ≡ false)
   link_name p _ n at (of_assignment a h) k =
@@ -338,7 +339,7 @@ module _ (d : Design) (accepted : IsAccepted d) (ranges : RangesHaveValues d) wh
   clock_port : (p : Placed) → at_path d [] ≡ Some p → HasPort p.of_module d.clock input
   clock_port p top =
       let q = is_known d [] p top in
-      let clock : has_no_clock q.0 d.clock ≡ false = not_true (has_no_clock q.0 d.clock) (λ t. accepted no_top (HasNoTop.no_clock q.0 q.1 t)) in
+      let clock : has_no_clock q.0 d.clock ≡ false = not_true (has_no_clock q.0 d.clock) (λ t. accepted no_top (λ e. cc) (HasNoTop.no_clock q.0 q.1 t)) in
       let port : is_input_port q.0.of_module d.clock ≡ true =
       not_is_false (is_input_port q.0.of_module d.clock) (first_false (not (is_input_port q.0.of_module d.clock)) (is_wide_clock q.0 d.clock) clock) in
       subst (λ m. HasPort m d.clock input) q.2

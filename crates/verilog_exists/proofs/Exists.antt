@@ -15,7 +15,7 @@ use Rattle.verilog_exists.proofs.Drivers.{is_sound}
 
 pub settled_exists : SettledValuationExists
 settled_exists d registers inputs accepted text inputs_fit =
-    let sound : IsSound d = is_sound d accepted (ranges_have_values d accepted text.shapely) in
+    let sound : IsSound d = is_sound d (λ kind other. accepted kind) (ranges_have_values d accepted text.shapely) in
     let fixed = some_fixed d accepted text.numbers_fit sound registers inputs (sees_its_own d text.no_dots (accepted bad_hierarchy)) in
     (fixed.0, is_settled d accepted text.numbers_fit sound registers inputs fixed.0 inputs_fit fixed.1)
 

@@ -10,12 +10,13 @@ use Rattle.verilog_meaning.specs.Settled.{Design, at_path, IsPlacedIn, PortPlace
 use Rattle.verilog_designs.specs.Known.{known_scope}
 use Rattle.verilog_designs.specs.Names.{count_of, instance_names, all_instance_names, has_duplicate, has_repeated}
 use Rattle.verilog_designs.specs.Ports.{connected_names, are_bad_connections, is_badly_connected, are_badly_connected, has_bad_instance, has_bad_port, lacks_direction, lacks_port, has_reg_input, has_unequal_ranges}
-use Rattle.verilog_designs.specs.Accepted.{IsAccepted, bad_port}
+use Rattle.verilog_designs.specs.Accepted.{bad_port}
 use Rattle.verilog_unique.proofs.Options.{first_false, second_false, not_true, not_is_false, is_same}
 use Rattle.verilog_unique.proofs.Descent.{IsAmong, among_left, among_right, among_either}
 use Rattle.verilog_unique.proofs.Paths.{stands_at}
 use Rattle.verilog_unique.proofs.Instances.{any_false, instance_once}
 use Rattle.verilog_unique.proofs.Constants.{is_known}
+use Rattle.verilog_exists.specs.Loops.{IsAcceptedButForLoops}
 use Rattle.verilog_exists.proofs.Links.{input_link}
 use Rattle.verilog_exists.proofs.Memories.{StandsIn, no_duplicate, stands_below}
 
@@ -244,7 +245,7 @@ good_item source (instances o g js ∷ items) m given is e (inl f) =
 good_item source (instances o g js ∷ items) m given is e (inr h) =
     good_item source items m given is (second_false (are_badly_connected (module_named source o) g js) (has_bad_instance source items) e) h
 
-module _ (d : Design) (accepted : IsAccepted d) where
+module _ (d : Design) (accepted : IsAcceptedButForLoops d) where
   good_instances : (p : Placed) → IsPlacedIn d p → has_bad_instance d.source p.of_module.items ≡ false
   good_instances p at =
       let q = is_known d p.path p at in
@@ -252,7 +253,7 @@ module _ (d : Design) (accepted : IsAccepted d) where
       (second_false (has_reg_input q.0.of_module || has_unequal_ranges (known_scope q.0) q.0.of_module) (has_bad_instance d.source q.0.of_module.items)
       (second_false (lacks_direction q.0.of_module || lacks_port q.0.of_module)
       ((has_reg_input q.0.of_module || has_unequal_ranges (known_scope q.0) q.0.of_module) || has_bad_instance d.source q.0.of_module.items)
-      (not_true (has_bad_port d.source q.0) (λ t. accepted bad_port (record { path = p.path; place = q.0; is_placed = q.1; is_so = t })))))
+      (not_true (has_bad_port d.source q.0) (λ t. accepted bad_port (λ e. cc) (record { path = p.path; place = q.0; is_placed = q.1; is_so = t })))))
 
   good_connections : (around : Placed) → IsPlacedIn d around → (c : Connection) (p : Placed) → (s : StandsIn d around c p)
       → are_bad_connections (port_order p.of_module) s.place.connections ≡ false

@@ -17,7 +17,7 @@ use Rattle.verilog_designs.specs.Names.{is_among, count_of, parameter_names, nam
 use Rattle.verilog_designs.specs.Ports.{is_output, port_direction}
 use Rattle.verilog_designs.specs.Expressions.{writes_memory, one_writes_memory, broken_target, by_constants, broken_statement, broken_statements, broken_arms, broken_block_target, broken_assignments, broken_connection, broken_output, broken_connections, broken_instances, broken_declarations, broken_module_item, broken_module_items, broken_module}
 use Rattle.verilog_designs.specs.Drivers.{target_names, targets_names, assigned_names, assigned_in_all, assigned_in_arms}
-use Rattle.verilog_designs.specs.Accepted.{IsAccepted, HasDuplicateName, duplicate_name, memory_use}
+use Rattle.verilog_designs.specs.Accepted.{HasDuplicateName, duplicate_name, memory_use}
 use Rattle.verilog_unique.proofs.Options.{from_map, from_chain, first_false, second_false, not_true, not_is_false, same_is, is_same, split}
 use Rattle.verilog_unique.proofs.Descent.{IsAmong, among_left, among_right, among_either}
 use Rattle.verilog_unique.proofs.Paths.{StepsTo, step_of}
@@ -26,6 +26,7 @@ use Rattle.verilog_unique.proofs.Instances.{Belongs, belongs, one_module, any_fa
 use Rattle.verilog_unique.proofs.Constants.{is_known}
 use Rattle.verilog_unique.proofs.Parameters.{placed_constants, parameter_number, no_constant_memory}
 use Rattle.verilog_exists.specs.Exists.{RangesHaveValues}
+use Rattle.verilog_exists.specs.Loops.{IsAcceptedButForLoops}
 
 -- ---- a memory has addresses
 
@@ -542,10 +543,10 @@ pub record StandsIn (d : Design) (p : Placed) (c : Connection) (below : Placed) 
   pub place : Belongs p.of_module.items c
   pub is_below : module_named d.source place.of_module ≡ Some below.of_module
 
-module _ (d : Design) (accepted : IsAccepted d) where
+module _ (d : Design) (accepted : IsAcceptedButForLoops d) where
   pub no_duplicate : (p : Placed) → IsPlacedIn d p → has_duplicate p.of_module ≡ false
   no_duplicate p at =
-      not_true (has_duplicate p.of_module) (λ t. accepted duplicate_name (HasDuplicateName.names p.of_module (stands_in d p.path p at) t))
+      not_true (has_duplicate p.of_module) (λ t. accepted duplicate_name (λ e. cc) (HasDuplicateName.names p.of_module (stands_in d p.path p at) t))
 
   pub stands_below : (p : Placed) → IsPlacedIn d p → (c : Connection) → IsAmong (port_connections p.of_module.items) c → (below : Placed)
       → at_path d (instance_step c.of_instance ∷ p.path) ≡ Some below → StandsIn d p c below
@@ -601,7 +602,7 @@ module _ (d : Design) (accepted : IsAccepted d) where
         (second_false _
         ((broken_declarations (known_scope known.0) known.0.of_module (declarations known.0.of_module)).memory_use
         || (broken_module_items d.source (known_scope known.0) known.0.of_module.items).memory_use)
-        (not_true (broken_module d.source known.0).memory_use (λ t. accepted memory_use (record { path = p.path; place = known.0; is_placed = known.1; is_so = t }))))
+        (not_true (broken_module d.source known.0).memory_use (λ t. accepted memory_use (λ e. cc) (record { path = p.path; place = known.0; is_placed = known.1; is_so = t }))))
 
     item_unused : (i : Item) → IsAmong p.of_module.items i → (broken_module_item d.source (known_scope known.0) i).memory_use ≡ false
     item_unused i h =

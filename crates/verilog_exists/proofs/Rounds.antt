@@ -84,7 +84,7 @@ never_surely true h k = false≢true k
 never_surely false h k = false≢true h
 
 -- A bit that a target with constant indexes reaches is the same after two right sides were written, or those differ at a bit that gives it.
-linked_local : (around inner : Scope) (v w inner_v inner_w : Valuation) (IsKnown : Name → Type 0) (t : Target) (e : Expression) (u : Bit)
+pub linked_local : (around inner : Scope) (v w inner_v inner_w : Valuation) (IsKnown : Name → Type 0) (t : Target) (e : Expression) (u : Bit)
     → HasNoConstantMemory around → HasNoConstantMemory inner → AllFit inner IsKnown inner_v → AllFit inner IsKnown inner_w → LeavesAre IsKnown e
     → is_memory (around u.of_name) ≡ false → IsValueOf (around u.of_name) (v u.of_name) → IsValueOf (around u.of_name) (w u.of_name)
     → IsTrue (has_constant_selects around t) → IsTrue (may_reach around t u.of_name u.word u.place)
@@ -132,7 +132,7 @@ mutual
 
 -- ---- bits on which others depend are bits of declared names (the same stands in the proofs of `verilog_unique`)
 
-nets_declared : (d : Design) → ¬ HasUndeclared d → (p : Placed) (ns : List Name) → IsPlacedIn d p → AreUsed (all_item_mentions p.of_module.items) ns
+pub nets_declared : (d : Design) → ¬ HasUndeclared d → (p : Placed) (ns : List Name) → IsPlacedIn d p → AreUsed (all_item_mentions p.of_module.items) ns
     → Covers (placed_scope p) (IsBitDeclared p) ns
 nets_declared d good p ns at f y h =
     record {
@@ -140,7 +140,7 @@ nets_declared d good p ns at f y h =
       is_bit = h.is_bit;
     }
 
-port_bits : (p : Placed) (n : Name) (way : Direction) → HasPort p.of_module n way → Covers (placed_scope p) (IsBitDeclared p) (n ∷ [])
+pub port_bits : (p : Placed) (n : Name) (way : Direction) → HasPort p.of_module n way → Covers (placed_scope p) (IsBitDeclared p) (n ∷ [])
 port_bits p n way h y net = record { is_declared = named y.of_name net.is_named; is_bit = net.is_bit }
   where
     named : (m : Name) → IsAmong (n ∷ []) m → IsDeclared p m

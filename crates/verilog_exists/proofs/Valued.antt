@@ -14,13 +14,14 @@ use Rattle.verilog_designs.specs.Known.{known_range, known_object, with_range, k
 use Rattle.verilog_designs.specs.Names.{is_among, names_in, names_in_range, names_in_named, names_in_ordered, names_in_connections, names_in_values, names_in_parameters, names_in_ports, names_in_addresses, names_in_instances, Mention, used, declares, uses, all_parameter_mentions, item_mentions, all_item_mentions, mentions, parameter_names, may_be_used, uses_unknown, has_undeclared, instantiates_unknown}
 use Rattle.verilog_designs.specs.Constants.{constant_names_in_item, constant_names_in_module_items, constant_names_in_module, constant_names_in_initial, constant_names_in_instances, has_net_as_constant}
 use Rattle.verilog_designs.specs.Expressions.{broken_range, broken_parameters, broken_header, broken_ports, broken_declarations, broken_initial_values, broken_addresses, broken_instances, broken_named_values, broken_ordered_values, broken_overrides, broken_module_item, broken_module_items, broken_module}
-use Rattle.verilog_designs.specs.Accepted.{StandsIn, at_top, below, IsAccepted, undeclared, has_xz, bad_constant, width_over_128, bad_select, memory_use}
+use Rattle.verilog_designs.specs.Accepted.{StandsIn, at_top, below, undeclared, has_xz, bad_constant, width_over_128, bad_select, memory_use}
 use Rattle.verilog_unique.proofs.Options.{from_map, from_chain, first_false, second_false, not_true, not_is_false, same_is}
 use Rattle.verilog_unique.proofs.Descent.{IsAmong, among_left, among_right, among_either, contains_among}
 use Rattle.verilog_unique.proofs.Standing.{IsKnownIn}
 use Rattle.verilog_unique.proofs.Mentioned.{AreUsed, in_module}
 use Rattle.verilog_unique.proofs.Constants.{Within, in_item, parameter_if_constant}
-use Rattle.verilog_exists.specs.Exists.{IsShapely, RangesExist}
+use Rattle.verilog_exists.specs.Exists.{IsShapely, RangesHaveValues, RangesExist}
+use Rattle.verilog_exists.specs.Loops.{IsAcceptedButForLoops}
 use Rattle.verilog_exists.proofs.Rules.{Good, good_left, good_right, HasEntry, AllDeclared, entry_declared, Grows, own_known, range_known}
 use Rattle.verilog_exists.proofs.Parameters.{used_front, parameters_grow, parameters_append, still, AreValues, object_declared, After, IsGoodDeclaration, walk_header, walk_items}
 
@@ -338,15 +339,15 @@ test_among (m ∷ ns) n t = chosen (same_name m n) (λ e. same_is m n e) (test_a
 
 -- ---- all modules of an accepted design
 
-module _ (d : Design) (accepted : IsAccepted d) (shapely : IsShapely d) where
+module _ (d : Design) (accepted : IsAcceptedButForLoops d) (shapely : IsShapely d) where
   good_module : (path : List PathStep) (q : Placed) → known_at d.source d.top path ≡ Some q → Good (broken_module d.source q)
   good_module path q e =
       record {
-        digits = not_true (broken_module d.source q).has_xz (λ t. accepted has_xz (record { path = path; place = q; is_placed = e; is_so = t }));
-        constants = not_true (broken_module d.source q).bad_constant (λ t. accepted bad_constant (record { path = path; place = q; is_placed = e; is_so = t }));
-        widths = not_true (broken_module d.source q).width_over_128 (λ t. accepted width_over_128 (record { path = path; place = q; is_placed = e; is_so = t }));
-        selects = not_true (broken_module d.source q).bad_select (λ t. accepted bad_select (record { path = path; place = q; is_placed = e; is_so = t }));
-        memories = not_true (broken_module d.source q).memory_use (λ t. accepted memory_use (record { path = path; place = q; is_placed = e; is_so = t }));
+        digits = not_true (broken_module d.source q).has_xz (λ t. accepted has_xz (λ e. cc) (record { path = path; place = q; is_placed = e; is_so = t }));
+        constants = not_true (broken_module d.source q).bad_constant (λ t. accepted bad_constant (λ e. cc) (record { path = path; place = q; is_placed = e; is_so = t }));
+        widths = not_true (broken_module d.source q).width_over_128 (λ t. accepted width_over_128 (λ e. cc) (record { path = path; place = q; is_placed = e; is_so = t }));
+        selects = not_true (broken_module d.source q).bad_select (λ t. accepted bad_select (λ e. cc) (record { path = path; place = q; is_placed = e; is_so = t }));
+        memories = not_true (broken_module d.source q).memory_use (λ t. accepted memory_use (λ e. cc) (record { path = path; place = q; is_placed = e; is_so = t }));
         shape = shapely path q e;
       }
 
@@ -376,7 +377,7 @@ module _ (d : Design) (accepted : IsAccepted d) (shapely : IsShapely d) where
   nothing_undeclared : (path : List PathStep) (q : Placed) → known_at d.source d.top path ≡ Some q → has_undeclared d.source q.of_module ≡ false
   nothing_undeclared path q e =
       not_true (has_undeclared d.source q.of_module)
-      (λ t. accepted undeclared (record { within = q.of_module; stands = stands path q e; names_unknown = t }))
+      (λ t. accepted undeclared (λ e. cc) (record { within = q.of_module; stands = stands path q e; names_unknown = t }))
 
   -- what an instance gives to parameters has values
   overrides_are : (path : List PathStep) (q : Placed) → known_at d.source d.top path ≡ Some q → HasValues q.of_module q.constants
@@ -616,9 +617,12 @@ module _ (source : Source) (m : Module) (all : Entries Object) (has : HasValues 
       by_entry None f = by_declaration (declaration_of (declarations m) n) refl (declared_something (declarations m) n t)
       by_entry (Some o) f = f refl
 
--- In an accepted design whose tree is that of a text each range has a value.
-pub ranges_have_values : RangesExist
-ranges_have_values d accepted shapely path q n e declared =
+-- In a design that breaks no rule but perhaps that on loops, and whose tree is that of a text, each range has a value.
+pub ranges_known : (d : Design) → IsAcceptedButForLoops d → IsShapely d → RangesHaveValues d
+ranges_known d accepted shapely path q n e declared =
     object_there d.source q.of_module q.constants (has_values d accepted shapely path q e) (no_net d accepted shapely path q e)
     (first_false (uses_unknown q.of_module [] (mentions q.of_module)) (instantiates_unknown d.source q.of_module.items) (nothing_undeclared d accepted shapely path q e))
     (good_rules d accepted shapely path q e) n declared
+
+pub ranges_have_values : RangesExist
+ranges_have_values d accepted shapely = ranges_known d (λ kind other. accepted kind) shapely

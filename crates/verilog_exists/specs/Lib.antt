@@ -1,3 +1,4 @@
 pub mod Exists
 pub mod One
 pub mod Runs
+pub mod Loops

@@ -54,6 +54,15 @@ kept (y ∷ ys) x (inl e) z (inr g) n = g
 kept (y ∷ ys) x (inr h) z (inl f) n = inl f
 kept (y ∷ ys) x (inr h) z (inr g) n = inr (kept ys x h z g n)
 
+-- an element of the list is the one that is left out, or is left
+pub split : {A : Type 0} (xs : List A) (x : A) (h : IsAmong xs x) (z : A) → IsAmong xs z → (z ≡ x) ⊎ IsAmong (without xs x h) z
+unfolding without
+split [] x h z g = absurd g
+split (y ∷ ys) x (inl e) z (inl f) = inl (sym f ∙ e)
+split (y ∷ ys) x (inl e) z (inr g) = inr g
+split (y ∷ ys) x (inr h) z (inl f) = inr (inl f)
+split (y ∷ ys) x (inr h) z (inr g) = elim (split ys x h z g) as (λ _. (z ≡ x) ⊎ IsAmong (y ∷ without ys x h) z) [ inl e ↦ inl e | inr k ↦ inr (inr k) ]
+
 -- Far holds of each pair of neighbours and of longer chains, and of nothing with itself. Where each element with the property has
 -- one below it with the property, none that lies in the list with all below it has it.
 pub descends : {A : Type 0} (Below Far : A → A → Type 0) (P : A → Type 0) → ((u y : A) → Below u y → Far u y)

@@ -31,18 +31,18 @@ use Rattle.verilog_unique.proofs.Fitting.{leaves, statements, numbers_in, known_
 
 -- ---- one of a list holds
 
-assigned_one : (s : Scope) (v : Valuation) (ts : List (Target × Expression)) (a : Target × Expression) → HasAssigned s v ts → IsAmong ts a
+pub assigned_one : (s : Scope) (v : Valuation) (ts : List (Target × Expression)) (a : Target × Expression) → HasAssigned s v ts → IsAmong ts a
     → Has s v a.0 (assigned_value s v (target_width s a.0) a.1)
 assigned_one s v [] a h k = absurd k
 assigned_one s v (t ∷ ts) a h (inl e) = subst (λ (b : Target × Expression). Has s v b.0 (assigned_value s v (target_width s b.0) b.1)) e h.0
 assigned_one s v (t ∷ ts) a h (inr k) = assigned_one s v ts a h.1 k
 
-run_one : (s : Scope) (v : Valuation) (xs : List Statement) (x : Statement) → HasRunAll s v xs → IsAmong xs x → HasRun s v x
+pub run_one : (s : Scope) (v : Valuation) (xs : List Statement) (x : Statement) → HasRunAll s v xs → IsAmong xs x → HasRun s v x
 run_one s v [] x h k = absurd k
 run_one s v (y ∷ xs) x h (inl e) = subst (HasRun s v) e h.0
 run_one s v (y ∷ xs) x h (inr k) = run_one s v xs x h.1 k
 
-connected_one : (d : Design) (v : Valuation) (p : Placed) (cs : List Connection) (c : Connection) → HasConnected d v p cs → IsAmong cs c
+pub connected_one : (d : Design) (v : Valuation) (p : Placed) (cs : List Connection) (c : Connection) → HasConnected d v p cs → IsAmong cs c
     → HasConnection d v p c
 connected_one d v p [] c h k = absurd k
 connected_one d v p (x ∷ cs) c h (inl e) = subst (HasConnection d v p) e h.0

@@ -1,5 +1,4 @@
-use Rattle.std.proofs.Common.{sym}
-use Rattle.v_syntax.specs.Tree.{target_of, statement_of}
+use Rattle.v_syntax.specs.Tree.{statement_of}
 use Rattle.v_value.specs.Scope.{scope_at}
 use Rattle.v_operators.proofs.Growing.{Grows-same, cut_back}
 use Rattle.v_lower.specs.Table.{images_at}

@@ -1,4 +1,4 @@
-use Rattle.std.proofs.Common.{◌∙◌, [], None, ap, sym, subst}
+use Rattle.std.proofs.Common.{◌∙◌, None, ap, sym, subst}
 use Rattle.wb_values.specs.Value.{word}
 use Rattle.v_syntax.specs.Tree.{target_of}
 use Rattle.v_value.specs.Scope.{scope_at}

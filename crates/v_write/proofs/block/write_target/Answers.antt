@@ -1,9 +1,4 @@
-use Rattle.std.proofs.Common.{sym}
-use Rattle.v_syntax.specs.Tree.{target_of, statement_of}
-use Rattle.v_value.specs.Scope.{scope_at}
 use Rattle.v_operators.proofs.Growing.{Grows-same, cut_back}
-use Rattle.v_lower.specs.Table.{images_at}
-use Rattle.v_write.proofs.Whole.{statement_lowered}
 use Rattle.v_write.proofs.block.write_target.Goals as goal
 
 pub returns-in-Ok-clause-written : goal.returns-in-Ok-clause-written

@@ -1,8 +1,7 @@
-use Rattle.std.proofs.Common.{◌≡◌, false, ap, ◌∙◌}
+use Rattle.std.proofs.Common.{ap, ◌∙◌}
 use Rattle.std.specs.Prelude.{is_some}
-use Rattle.verilog_meaning.specs.Expression.{is_memory}
 use Rattle.v_value.specs.Scope.{object_of}
-use Rattle.v_write.proofs.Replaced.{term_word, name_changed, sort_width, word_of_width}
+use Rattle.v_write.proofs.Replaced.{name_changed, sort_width, word_of_width}
 use Rattle.v_write.proofs.changing.changed.Goals as goal
 
 pub object_width-width-requires : goal.object_width-width-requires

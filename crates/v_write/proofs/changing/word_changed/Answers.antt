@@ -1,6 +1,6 @@
 use Rattle.v_value.specs.Scope.{object_of}
 use Rattle.v_operators.proofs.Growing.{Grows-refl}
-use Rattle.v_write.proofs.Replaced.{whole_changed, known_changed, moving_changed}
+use Rattle.v_write.proofs.Replaced.{whole_changed}
 use Rattle.v_write.proofs.changing.word_changed.Goals as goal
 
 pub returns-in-All-clause-grows : goal.returns-in-All-clause-grows

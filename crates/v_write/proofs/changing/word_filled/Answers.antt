@@ -1,6 +1,6 @@
 use Rattle.wb_values.specs.Value.{word}
 use Rattle.v_value.specs.Scope.{object_of}
-use Rattle.v_operators.proofs.Growing.{Grows-refl, Grows-trans, IsOfSort-kept}
+use Rattle.v_operators.proofs.Growing.{Grows-refl, IsOfSort-kept}
 use Rattle.v_write.proofs.Kept.{bits_kept}
 use Rattle.v_write.proofs.Replaced.{all_filled, bits_filled}
 use Rattle.v_write.proofs.changing.word_filled.Goals as goal

@@ -1,4 +1,4 @@
-use Rattle.std.proofs.Common.{◌+◌, ◌∙◌, ap, sym, subst, rules, drop, arith, length}
+use Rattle.std.proofs.Common.{◌+◌, ◌∙◌, ap, sym, subst, rules, drop, arith}
 use Rattle.verilog_trees.specs.Syntax.{joined}
 use Rattle.v_syntax.specs.Tree.{target_of}
 use Rattle.v_syntax.specs.declared.tree.Target.{the_lemmas}

@@ -1,5 +1,5 @@
-use Rattle.v_syntax.specs.Tree.{tree_of, select_of, selects_of}
-use Rattle.v_value.specs.Scope.{object_of, scope_at}
+use Rattle.v_syntax.specs.Tree.{selects_of}
+use Rattle.v_value.specs.Scope.{scope_at}
 use Rattle.v_lower.specs.Table.{images_at}
 use Rattle.v_lower.proofs.Soundness.{sound-name}
 use Rattle.v_write.proofs.Indexed.{one_prepared}

@@ -1,8 +1,5 @@
-use Rattle.v_syntax.specs.Tree.{tree_of, select_of, selects_of}
-use Rattle.v_value.specs.Scope.{object_of, scope_at}
+use Rattle.v_value.specs.Scope.{scope_at}
 use Rattle.v_lower.specs.Table.{images_at}
-use Rattle.std.proofs.Common.{subst}
-use Rattle.v_lower.specs.Walking.{IsIndex}
 use Rattle.v_write.proofs.Indexed.{an_index, index_sound}
 use Rattle.v_write.proofs.preparing.address_of.Goals as goal
 

@@ -1,4 +1,4 @@
-use Rattle.std.proofs.Common.{◌≡◌, ◌≤◌, ◌∙◌, [], ap, sym, subst, arith}
+use Rattle.std.proofs.Common.{◌≤◌, ◌∙◌, ap, sym, subst}
 use Rattle.v_syntax.specs.Tree.{tree_of, target_of}
 use Rattle.v_value.specs.Scope.{scope_at}
 use Rattle.v_lower.specs.Table.{images_at}

@@ -1,4 +1,4 @@
-use Rattle.v_syntax.specs.Tree.{tree_of, select_of, selects_of}
+use Rattle.v_syntax.specs.Tree.{select_of}
 use Rattle.v_value.specs.Scope.{object_of, scope_at}
 use Rattle.v_lower.specs.Table.{images_at}
 use Rattle.std.proofs.Common.{◌≤◌, ◌∙◌, ap, sym, subst}

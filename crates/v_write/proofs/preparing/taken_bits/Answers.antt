@@ -1,9 +1,8 @@
-use Rattle.v_syntax.specs.Tree.{tree_of, select_of, selects_of}
+use Rattle.v_syntax.specs.Tree.{select_of}
 use Rattle.v_value.specs.Scope.{object_of, scope_at}
 use Rattle.v_lower.specs.Table.{images_at}
 use Rattle.std.proofs.Common.{◌≤◌, ◌∙◌, ap, sym, subst}
 use Rattle.verilog_meaning.specs.Expression.{Bits, no_values}
-use Rattle.v_value.specs.Index.{span_of}
 use Rattle.v_value.specs.Narrow.{IsWidth}
 use Rattle.v_value.proofs.Selected.{count-is}
 use Rattle.v_operators.proofs.Growing.{Grows-refl}

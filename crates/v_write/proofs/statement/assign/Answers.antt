@@ -1,4 +1,4 @@
-use Rattle.v_syntax.specs.Tree.{tree_of, target_of, statement_of, or_empty}
+use Rattle.v_syntax.specs.Tree.{tree_of, target_of}
 use Rattle.v_value.specs.Scope.{scope_at}
 use Rattle.v_lower.specs.Table.{images_at}
 use Rattle.std.proofs.Common.{◌∙◌, ap, sym, subst}

@@ -1,7 +1,6 @@
-use Rattle.std.proofs.Common.{sym, ap, subst, ◌∙◌}
-use Rattle.wb_values.specs.Value.{word}
+use Rattle.std.proofs.Common.{sym, subst}
 use Rattle.v_value.specs.Scope.{scope_at}
-use Rattle.v_operators.proofs.Growing.{Grows-trans, IsOfSort-kept}
+use Rattle.v_operators.proofs.Growing.{IsOfSort-kept}
 use Rattle.v_lower.specs.Table.{images_at}
 use Rattle.v_lower.proofs.Named.{without_number}
 use Rattle.v_write.specs.Parts.{IsPartOf}

@@ -1,4 +1,4 @@
-use Rattle.std.proofs.Common.{◌≡◌, ◌+◌, ◌-◌, ◌<◌, ◌≤◌, suc, length, refl, ap, sym, subst, ◌∙◌, arith}
+use Rattle.std.proofs.Common.{◌+◌, ◌-◌, length, refl, arith}
 use Rattle.wb_values.specs.Value.{word}
 use Rattle.v_value.specs.Scope.{scope_at}
 use Rattle.v_operators.proofs.Growing.{Grows-trans, IsOfSort-kept}

@@ -1,0 +1,11 @@
+use Rattle.std.proofs.Common.{◌≡◌, drop, map}
+use Rattle.std.specs.Prelude.{not, is_some}
+use Rattle.std.specs.List.{list_any}
+use Rattle.v_scopes.specs.Scopes.{declared_in}
+use Rattle.v_ports.specs.Ports.{direction_in}
+use Rattle.v_ports.proofs.ports.lacks_direction.Given as goal
+
+abbrev pub invariant-loop-name : goal.invariant-loop-name
+invariant-loop-name l =
+    list_any (λ n. not (is_some (direction_in (declared_in l.names n)))) (map (λ n. n.now) l.order)
+    ≡ list_any (λ n. not (is_some (direction_in (declared_in l.names n)))) (map (λ n. n.now) (drop l.name-index l.order))

@@ -1,0 +1,8 @@
+//! What is refused of the ports of a module (IEEE 1364-2005, 12.3). Connections of instances are left for later.
+#![tactic(auto)]
+
+pub mod laws;
+mod ports;
+mod ranges;
+
+pub use ports::has_bad_port;

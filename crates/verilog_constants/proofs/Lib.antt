@@ -1,0 +1,5 @@
+pub mod Digits
+pub mod Nets
+pub mod Names
+pub mod Expressions
+pub mod Modules

@@ -1,0 +1,3 @@
+pub mod Loops
+pub mod Drivers
+pub mod Turns
