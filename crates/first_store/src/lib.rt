@@ -3,8 +3,6 @@
 
 mod equality;
 mod putting;
-#[cfg(test)]
-mod tests;
 mod truths;
 mod words;
 

@@ -9,6 +9,3 @@ mod values;
 pub use names::{TraceNames, trace_names};
 pub use text::append_trace;
 pub use values::{NoMemory, TraceValues};
-
-#[cfg(test)]
-mod tests;
