@@ -21,6 +21,25 @@ fn prefix(operator: PrefixOperator) -> &'static str {
     }
 }
 
+fn shift(operator: BinaryOperator) -> &'static str {
+    match operator {
+        BinaryOperator::ShiftLeft => "<<",
+        BinaryOperator::ShiftRight => ">>",
+        BinaryOperator::ArithmeticShiftRight => ">>>",
+        _ => "",
+    }
+}
+
+fn bitwise(operator: BinaryOperator) -> &'static str {
+    match operator {
+        BinaryOperator::And => "&",
+        BinaryOperator::Xor => "^",
+        BinaryOperator::Xnor => "~^",
+        BinaryOperator::Or => "|",
+        _ => shift(operator),
+    }
+}
+
 fn binary(operator: BinaryOperator) -> &'static str {
     match operator {
         BinaryOperator::Power => "**",
@@ -29,13 +48,7 @@ fn binary(operator: BinaryOperator) -> &'static str {
         BinaryOperator::Modulo => "%",
         BinaryOperator::Add => "+",
         BinaryOperator::Subtract => "-",
-        BinaryOperator::ShiftLeft => "<<",
-        BinaryOperator::ShiftRight => ">>",
-        BinaryOperator::ArithmeticShiftRight => ">>>",
-        BinaryOperator::And => "&",
-        BinaryOperator::Xor => "^",
-        BinaryOperator::Xnor => "~^",
-        BinaryOperator::Or => "|",
+        _ => bitwise(operator),
     }
 }
 
