@@ -1,0 +1,9 @@
+pub mod Touching
+pub mod Meeting
+pub mod Walking
+pub mod Adding
+pub mod Driving
+pub mod Taking
+pub mod Numbering
+pub mod Numbered
+pub mod OneModule

@@ -1,0 +1,4 @@
+pub mod Sets
+pub mod Lists
+pub mod Tables
+pub mod Premises
