@@ -5,11 +5,11 @@ use Rattle.wb_values.specs.Value.{Name, same_name}
 use Rattle.wb_values.specs.Choice.{first_of}
 use Rattle.model_files.specs.Shape.{unsigned_in, sort_in, term_in, private_state_in, state_declared_in, input_in, definition_in, instruction_in}
 use Rattle.model_places.specs.Sites.{Way, into, Spot, Site, site_at, key_spot, part_spot, member_spot}
-use Rattle.model_places.specs.ShapePlaces.{Judged, judged, under, has, fits_if_there, may_have, named_spot, in_list, list_places, optional_list_places, state_places, input_places, definition_spot, definition_places, update_places, in_object, own_places, machine_places, instruction_places, child_places_under, child_places, instruction_places_under, instruction_list_places, all_instruction_places, shape_places, first_misfit}
+use Rattle.model_places.specs.ShapePlaces.{Judged, judged, under, has, fits_if_there, may_have, named_spot, in_list, list_places, optional_list_places, private_sort_in, state_places, input_places, definition_spot, definition_places, update_places, in_object, own_places, machine_places, instruction_places, child_places_under, child_places, instruction_places_under, instruction_list_places, all_instruction_places, shape_places, first_misfit}
 use Rattle.model_places.proofs.Fitting.{instruction_fits}
 use Rattle.serde_json.specs.Data.{Data, null, boolean, number, string, array, object, Items, no_items, item, Members, no_members, member}
 use Rattle.serde_json.specs.Find.{get_member, get, as_str, as_array, as_object}
-use Rattle.ila_file.specs.Parts.{state_of}
+use Rattle.ila_file.specs.Parts.{sort_of, state_of}
 use Rattle.ila_file.specs.KeySpots.{listed, first_item}
 use Rattle.ila_file.specs.ShapeSpots.{unless, in_required, in_optional, state_fault, state_misfits, input_misfits, definition_misfits, term_misfit, machine_misfit, bad_update, update_misfit, child_misfit, instruction_misfit, is_no_instruction, misfit_below, misfit_in_child}
 use Rattle.ila_file.proofs.Shapes.{found}
@@ -68,12 +68,12 @@ three w s true true false ps = refl
 three w s true false z ps = refl
 three w s false y z ps = refl
 
-states_first : (p : Bool) (w : Way) (k : ℕ) (ds : Items) → first_misfit (state_places (state_of p) w k ds) ≡ option_map (site_at w) (state_misfits p k ds)
+states_first : (p : Bool) (w : Way) (k : ℕ) (ds : Items) → first_misfit (state_places (sort_of p) (state_of p) w k ds) ≡ option_map (site_at w) (state_misfits p k ds)
 states_first p w k no_items = refl
 states_first p w k (item d ds) =
     let spot : Option Spot = option_map (part_spot (named_spot (codes "states") k d)) (state_fault p d) in
-    three w (named_spot (codes "states") k d) (has as_str (codes "name") d) (has sort_in (codes "sort") d) (is_some (state_of p d)) (state_places (state_of p) w (k + 1) ds)
-    ∙ spots_both w spot (state_misfits p (k + 1) ds) (option_map (site_at w) spot) (first_misfit (state_places (state_of p) w (k + 1) ds)) refl (states_first p w (k + 1) ds)
+    three w (named_spot (codes "states") k d) (has as_str (codes "name") d) (has (sort_of p) (codes "sort") d) (is_some (state_of p d)) (state_places (sort_of p) (state_of p) w (k + 1) ds)
+    ∙ spots_both w spot (state_misfits p (k + 1) ds) (option_map (site_at w) spot) (first_misfit (state_places (sort_of p) (state_of p) w (k + 1) ds)) refl (states_first p w (k + 1) ds)
 
 inputs_first : (k : ℕ) (ds : Items) → first_misfit (input_places k ds) ≡ option_map (site_at []) (input_misfits k ds)
 inputs_first k no_items = refl
@@ -124,7 +124,7 @@ instructions_first w ms = list_under_first w ms
 -- ---- machines
 
 -- a machine, its head aside
-machine_first : (p : Bool) (w : Way) (ms : Members) → first_misfit (machine_places (state_of p) w (object ms) (instruction_places_under w ms))
+machine_first : (p : Bool) (w : Way) (ms : Members) → first_misfit (machine_places (sort_of p) (state_of p) w (object ms) (instruction_places_under w ms))
     ≡ first_of (option_map (site_at w) (first_of (in_required (codes "states") (state_misfits p 0) (under as_array (codes "states") (object ms))) (term_misfit (object ms)))) (misfit_below w (object ms))
 machine_first p w ms =
     let d : Data = object ms in
@@ -132,12 +132,12 @@ machine_first p w ms =
     let valid : List Judged = judged w (key_spot (codes "valid")) (has term_in (codes "valid") d) ∷ is in
     let fetch : List Judged = judged w (key_spot (codes "fetch")) (may_have term_in (codes "fetch") d) ∷ valid in
     let define : List Judged = optional_list_places (definition_places w 0) w (codes "define") d in
-    let states : List Judged = list_places (state_places (state_of p) w 0) w (codes "states") d in
+    let states : List Judged = list_places (state_places (sort_of p) (state_of p) w 0) w (codes "states") d in
     let no_list : Option Spot = unless (has as_array (codes "instructions") d) (key_spot (codes "instructions")) in
     let no_valid : Option Spot = first_of (unless (has term_in (codes "valid") d) (key_spot (codes "valid"))) no_list in
     let no_fetch : Option Spot = first_of (unless (may_have term_in (codes "fetch") d) (key_spot (codes "fetch"))) no_valid in
     some_then w (in_required (codes "states") (state_misfits p 0) (under as_array (codes "states") d)) (term_misfit d) states (define ++ fetch) (misfit_below w d)
-    (required_first w (state_places (state_of p) w 0) (state_misfits p 0) (codes "states") (states_first p w 0) (under as_array (codes "states") d))
+    (required_first w (state_places (sort_of p) (state_of p) w 0) (state_misfits p 0) (codes "states") (states_first p w 0) (under as_array (codes "states") d))
     (some_then w (in_optional (codes "define") (definition_misfits 0) (get (codes "define") d)) no_fetch define fetch (misfit_below w d)
     (optional_first w (definition_places w 0) (definition_misfits 0) (codes "define") (definitions_first w 0) (get (codes "define") d))
     (one_then w (key_spot (codes "fetch")) (may_have term_in (codes "fetch") d) no_valid valid (misfit_below w d)
@@ -145,12 +145,12 @@ machine_first p w ms =
 
 -- a child: the steps first
 child_first : (w : Way) (ms : Members)
-    → first_misfit (judged w (key_spot (codes "steps")) (has unsigned_in (codes "steps") (object ms)) ∷ machine_places private_state_in w (object ms) (instruction_places_under w ms))
+    → first_misfit (judged w (key_spot (codes "steps")) (has unsigned_in (codes "steps") (object ms)) ∷ machine_places private_sort_in private_state_in w (object ms) (instruction_places_under w ms))
     ≡ first_of (option_map (site_at w) (machine_misfit true (object ms))) (misfit_below w (object ms))
 child_first w ms =
     one_then w (key_spot (codes "steps")) (has unsigned_in (codes "steps") (object ms))
     (first_of (in_required (codes "states") (state_misfits true 0) (under as_array (codes "states") (object ms))) (term_misfit (object ms)))
-    (machine_places private_state_in w (object ms) (instruction_places_under w ms)) (misfit_below w (object ms)) (machine_first true w ms)
+    (machine_places private_sort_in private_state_in w (object ms) (instruction_places_under w ms)) (misfit_below w (object ms)) (machine_first true w ms)
 
 -- the first misfit of a file: of the machine, and then of its instructions
 pub model_first : (d : Data) → first_misfit (shape_places d) ≡ first_of (option_map (site_at []) (machine_misfit false d)) (misfit_below [] d)
@@ -162,7 +162,7 @@ model_first (array ds) = refl
 model_first (object ms) =
     let d : Data = object ms in
     let inputs : List Judged = list_places (input_places 0) [] (codes "inputs") d in
-    let top : List Judged = machine_places state_declared_in [] d (instruction_places_under [] ms) in
+    let top : List Judged = machine_places sort_in state_declared_in [] d (instruction_places_under [] ms) in
     let input : Option Spot = in_required (codes "inputs") (input_misfits 0) (under as_array (codes "inputs") d) in
     let behind : Option Spot = first_of (in_required (codes "states") (state_misfits false 0) (under as_array (codes "states") d)) (term_misfit d) in
     let no_name : Option Spot = unless (has as_str (codes "name") d) (key_spot (codes "name")) in

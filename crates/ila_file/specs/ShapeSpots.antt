@@ -4,10 +4,10 @@ use Rattle.wb_values.specs.Value.{Name}
 use Rattle.wb_values.specs.Choice.{first_of}
 use Rattle.serde_json.specs.Data.{Data, Items, no_items, item, Members, no_members, member}
 use Rattle.serde_json.specs.Find.{get, as_str, as_array, as_object}
-use Rattle.model_files.specs.Shape.{unsigned_in, sort_in, term_in, input_in, definition_in, instruction_in}
+use Rattle.model_files.specs.Shape.{unsigned_in, term_in, input_in, definition_in, instruction_in}
 use Rattle.model_places.specs.Sites.{Way, Spot, Site, site_at, key_spot, part_spot, member_spot}
 use Rattle.model_places.specs.ShapePlaces.{under, has, may_have, named_spot, in_list, definition_spot, all_instruction_places, first_misfit}
-use Rattle.ila_file.specs.Parts.{state_of}
+use Rattle.ila_file.specs.Parts.{sort_of, state_of}
 
 -- the spot, where what stands there does not fit
 abbrev pub unless : (fits : Bool) → Spot → Option Spot
@@ -31,7 +31,7 @@ initial_fault p d = cond (is_some (state_of p d)) None (Some (codes "init"))
 
 -- where it has a name
 abbrev pub value_fault : (is_private : Bool) → Data → Option Name
-value_fault p d = cond (has sort_in (codes "sort") d) (initial_fault p d) (Some (codes "sort"))
+value_fault p d = cond (has (sort_of p) (codes "sort") d) (initial_fault p d) (Some (codes "sort"))
 
 abbrev pub state_fault : (is_private : Bool) → Data → Option Name
 state_fault p d = cond (has as_str (codes "name") d) (value_fault p d) (Some (codes "name"))

@@ -1,7 +1,7 @@
 -- Nothing of another kind stands in a file's data exactly where it is a written model: place by place.
 use Rattle.std.proofs.Common.{◌≡◌, ℕ, ◌+◌, Bool, true, false, cond, not, ◌&&◌, List, [], ◌∷◌, ◌++◌, Option, Some, None, option_map, option_and_then, is_some, is_none, refl, sym, ap, ◌∙◌}
 use Rattle.std.specs.Prelude.{codes}
-use Rattle.wb_values.specs.Value.{Name, same_name, Sort, Value, Entries}
+use Rattle.wb_values.specs.Value.{Name, same_name, Sort, truth, word, memory, Value, Entries}
 use Rattle.model_meaning.specs.Model.{StateDeclaration, InputDeclaration}
 use Rattle.serde_json.specs.Data.{Data, null, boolean, number, string, array, object, Items, no_items, item, Members, no_members, member}
 use Rattle.serde_json.specs.Find.{get, get_member, as_str, as_array, as_object}
@@ -9,7 +9,7 @@ use Rattle.model_files.specs.Written.{WrittenTerm, WrittenMachine, WrittenInstru
 use Rattle.model_files.specs.Shape.{required, optional, if_there, with_first, all_in, list_in, unsigned_in, sort_in, term_in, initial_in, private_initial_in, state_from, state_declared_in, private_state_in, input_in, definition_in, entry_named, entries_in, update_in, instruction_from, with_instruction, machine_from, machine_in, child_from, instruction_in, child_under, child_in, instructions_under, written_instructions_in, all_instructions, model_from, model_in}
 use Rattle.model_places.specs.Sites.{Way, into, Spot, key_spot, part_spot, member_spot}
 use Rattle.model_places.specs.Notes.{site_note}
-use Rattle.model_places.specs.ShapePlaces.{Judged, judged, under, has, fits_if_there, may_have, named_spot, in_list, list_places, optional_list_places, state_places, input_places, definition_spot, definition_places, update_places, in_object, own_places, machine_places, instruction_places, child_places_under, child_places, instruction_places_under, instruction_list_places, all_instruction_places, shape_places, first_misfit, shape_note}
+use Rattle.model_places.specs.ShapePlaces.{Judged, judged, under, has, fits_if_there, may_have, named_spot, in_list, list_places, optional_list_places, no_memory, private_sort_in, state_places, input_places, definition_spot, definition_places, update_places, in_object, own_places, machine_places, instruction_places, child_places_under, child_places, instruction_places_under, instruction_list_places, all_instruction_places, shape_places, first_misfit, shape_note}
 
 -- nothing of another kind stands at these
 abbrev pub fit : List Judged → Bool
@@ -119,8 +119,8 @@ optional_list_fits f read w k d h = shown (get k d) where
   shown (Some (object ms)) = refl
 
 -- what is a state has a name and a sort
-abbrev IsWhole : (Data → Option StateDeclaration) → Type 0
-IsWhole state = (d : Data) → (has as_str (codes "name") d && (has sort_in (codes "sort") d && is_some (state d))) ≡ is_some (state d)
+abbrev IsWhole : (Data → Option Sort) → (Data → Option StateDeclaration) → Type 0
+IsWhole sort state = (d : Data) → (has as_str (codes "name") d && (has sort (codes "sort") d && is_some (state d))) ≡ is_some (state d)
 
 declared : (initial : Sort → Option Data → Option (Option Value)) (n : Option Name) (s : Option Sort) (i : Option Data)
     → (is_some n && (is_some s && is_some (state_from initial n s i))) ≡ is_some (state_from initial n s i)
@@ -129,7 +129,7 @@ declared initial None (Some s) i = refl
 declared initial (Some n) None i = refl
 declared initial (Some n) (Some s) i = refl
 
-declared_whole : IsWhole state_declared_in
+declared_whole : IsWhole sort_in state_declared_in
 declared_whole null = refl
 declared_whole (boolean b) = refl
 declared_whole (number n) = refl
@@ -137,24 +137,41 @@ declared_whole (string s) = refl
 declared_whole (array ds) = refl
 declared_whole (object ms) = declared initial_in (required as_str (codes "name") ms) (required sort_in (codes "sort") ms) (get_member (codes "init") ms)
 
-private_whole : IsWhole private_state_in
+-- what stands under the key sort of a private state
+private_sort : (o : Option Data) → option_and_then private_sort_in o ≡ no_memory (option_and_then sort_in o)
+private_sort None = refl
+private_sort (Some d) = refl
+
+stated : (n : Option Name) (s : Option Sort) (i : Option Data)
+    → (is_some n && (is_some (no_memory s) && is_some (state_from private_initial_in n s i))) ≡ is_some (state_from private_initial_in n s i)
+stated None None i = refl
+stated None (Some s) i = refl
+stated (Some n) None i = refl
+stated (Some n) (Some truth) i = refl
+stated (Some n) (Some (word w)) i = refl
+stated (Some n) (Some (memory a w)) i = refl
+
+private_whole : IsWhole private_sort_in private_state_in
 private_whole null = refl
 private_whole (boolean b) = refl
 private_whole (number n) = refl
 private_whole (string s) = refl
 private_whole (array ds) = refl
-private_whole (object ms) = declared private_initial_in (required as_str (codes "name") ms) (required sort_in (codes "sort") ms) (get_member (codes "init") ms)
+private_whole (object ms) =
+    ap (λ o. is_some (required as_str (codes "name") ms) && (is_some o && is_some (private_state_in (object ms)))) (private_sort (get_member (codes "sort") ms))
+    ∙ stated (required as_str (codes "name") ms) (required sort_in (codes "sort") ms) (get_member (codes "init") ms)
 
 fit_three : (w : Way) (s t u : Spot) (a b c r : Bool) (ps : List Judged) → fit ps ≡ r → fit (judged w s a ∷ judged w t b ∷ judged w u c ∷ ps) ≡ ((a && (b && c)) && r)
 fit_three w s t u true true c r ps h = fit_then w u c r ps h
 fit_three w s t u true false c r ps h = refl
 fit_three w s t u false b c r ps h = refl
 
-states_fit : (state : Data → Option StateDeclaration) → IsWhole state → (w : Way) (k : ℕ) (ds : Items) → fit (state_places state w k ds) ≡ is_some (all_in state ds)
-states_fit state h w k no_items = refl
-states_fit state h w k (item d ds) =
+states_fit : (sort : Data → Option Sort) (state : Data → Option StateDeclaration) → IsWhole sort state → (w : Way) (k : ℕ) (ds : Items)
+    → fit (state_places sort state w k ds) ≡ is_some (all_in state ds)
+states_fit sort state h w k no_items = refl
+states_fit sort state h w k (item d ds) =
     fit_three w (part_spot (named_spot (codes "states") k d) (codes "name")) (part_spot (named_spot (codes "states") k d) (codes "sort")) (part_spot (named_spot (codes "states") k d) (codes "init"))
-    (has as_str (codes "name") d) (has sort_in (codes "sort") d) (is_some (state d)) (is_some (all_in state ds)) (state_places state w (k + 1) ds) (states_fit state h w (k + 1) ds)
+    (has as_str (codes "name") d) (has sort (codes "sort") d) (is_some (state d)) (is_some (all_in state ds)) (state_places sort state w (k + 1) ds) (states_fit sort state h w (k + 1) ds)
     ∙ (ap (λ t. t && is_some (all_in state ds)) (h d) ∙ sym (some_first (state d) (all_in state ds)))
 
 inputs_fit : (k : ℕ) (ds : Items) → fit (input_places k ds) ≡ is_some (all_in input_in ds)
@@ -197,14 +214,14 @@ own_fits w s d =
     fit_then w (part_spot s (codes "name")) (has as_str (codes "name") d) (has term_in (codes "decode") d && is_some (under update_in (codes "update") d)) decode
     (fit_then w (part_spot s (codes "decode")) (has term_in (codes "decode") d) (is_some (under update_in (codes "update") d)) update (updates_fit w (part_spot s (codes "update")) (part_spot s (codes "update")) d))
 
-machine_fits : (state : Data → Option StateDeclaration) → IsWhole state → (w : Way) (ms : Members) (is : List Judged) (r : Option WrittenInstructions) → fit is ≡ is_some r
-    → fit (machine_places state w (object ms) is) ≡ is_some (machine_in state ms r)
-machine_fits state h w ms is r g =
-    let states : List Judged = list_places (state_places state w 0) w (codes "states") (object ms) in
+machine_fits : (sort : Data → Option Sort) (state : Data → Option StateDeclaration) → IsWhole sort state → (w : Way) (ms : Members) (is : List Judged) (r : Option WrittenInstructions)
+    → fit is ≡ is_some r → fit (machine_places sort state w (object ms) is) ≡ is_some (machine_in state ms r)
+machine_fits sort state h w ms is r g =
+    let states : List Judged = list_places (state_places sort state w 0) w (codes "states") (object ms) in
     let define : List Judged = optional_list_places (definition_places w 0) w (codes "define") (object ms) in
     let valid : List Judged = judged w (key_spot (codes "valid")) (has term_in (codes "valid") (object ms)) ∷ is in
     let fetch : List Judged = judged w (key_spot (codes "fetch")) (may_have term_in (codes "fetch") (object ms)) ∷ valid in
-    fit_joined states (define ++ fetch) _ _ (list_fits (state_places state w 0) state w (codes "states") (object ms) (states_fit state h w 0))
+    fit_joined states (define ++ fetch) _ _ (list_fits (state_places sort state w 0) state w (codes "states") (object ms) (states_fit sort state h w 0))
     (fit_joined define fetch _ _ (optional_list_fits (definition_places w 0) definition_in w (codes "define") (object ms) (definitions_fit w 0))
     (fit_then w (key_spot (codes "fetch")) (may_have term_in (codes "fetch") (object ms)) (has term_in (codes "valid") (object ms) && is_some r) valid
     (fit_then w (key_spot (codes "valid")) (has term_in (codes "valid") (object ms)) (is_some r) is g)
@@ -240,8 +257,8 @@ mutual
   child_fits w k s (array ds) = refl
   child_fits w k s (object ms) =
       fit_then (into w k) (key_spot (codes "steps")) (has unsigned_in (codes "steps") (object ms)) (is_some (machine_in private_state_in ms (instructions_under ms)))
-      (machine_places private_state_in (into w k) (object ms) (instruction_places_under (into w k) ms))
-      (machine_fits private_state_in private_whole (into w k) ms (instruction_places_under (into w k) ms) (instructions_under ms) (instructions_fit (into w k) ms))
+      (machine_places private_sort_in private_state_in (into w k) (object ms) (instruction_places_under (into w k) ms))
+      (machine_fits private_sort_in private_state_in private_whole (into w k) ms (instruction_places_under (into w k) ms) (instructions_under ms) (instructions_fit (into w k) ms))
       ∙ sym (some_child (required unsigned_in (codes "steps") ms) (machine_in private_state_in ms (instructions_under ms)))
 
   instructions_fit : (w : Way) (ms : Members) → fit (instruction_places_under w ms) ≡ is_some (instructions_under ms)
@@ -271,10 +288,10 @@ model_fits (string s) = refl
 model_fits (array ds) = refl
 model_fits (object ms) =
     let inputs : List Judged = list_places (input_places 0) [] (codes "inputs") (object ms) in
-    let top : List Judged = machine_places state_declared_in [] (object ms) (instruction_places_under [] ms) in
+    let top : List Judged = machine_places sort_in state_declared_in [] (object ms) (instruction_places_under [] ms) in
     fit_then [] (key_spot (codes "name")) (has as_str (codes "name") (object ms)) _ (inputs ++ top)
     (fit_joined inputs top _ _ (list_fits (input_places 0) input_in [] (codes "inputs") (object ms) (inputs_fit 0))
-    (machine_fits state_declared_in declared_whole [] ms (instruction_places_under [] ms) (instructions_under ms) (instructions_fit [] ms)))
+    (machine_fits sort_in state_declared_in declared_whole [] ms (instruction_places_under [] ms) (instructions_under ms) (instructions_fit [] ms)))
     ∙ sym (some_model (required as_str (codes "name") ms) (required (list_in input_in) (codes "inputs") ms) (machine_in state_declared_in ms (instructions_under ms)))
 
 -- the note that there is then

@@ -1,7 +1,7 @@
 -- The first place of a model file at which something of another kind stands than the place wants, or a key is missing, in the order
 -- in which a model is gone through: the lists and objects first, and then what stands in them.
 use Rattle.std.specs.Prelude.{ℕ, ◌+◌, Bool, true, false, cond, List, [], ◌∷◌, ◌++◌, Option, Some, None, is_some, option_map, option_and_then, codes}
-use Rattle.wb_values.specs.Value.{Name, same_name}
+use Rattle.wb_values.specs.Value.{Name, same_name, Sort, truth, word, memory}
 use Rattle.model_meaning.specs.Model.{StateDeclaration}
 use Rattle.serde_json.specs.Data.{Data, array, object, Items, no_items, item, Members, no_members, member}
 use Rattle.serde_json.specs.Find.{get, at, as_str, as_array, as_object}
@@ -54,15 +54,25 @@ list_places f way k d = judged way (key_spot k) (has as_array k d) ∷ in_list f
 abbrev pub optional_list_places : (Items → List Judged) → Way → Name → Data → List Judged
 optional_list_places f way k d = judged way (key_spot k) (may_have as_array k d) ∷ in_list f (under as_array k d)
 
--- Of each state the name, the sort and the initial value. What has a name and a sort is a state where its initial value is of the
--- kind that the sort wants.
-abbrev pub state_places : (state : Data → Option StateDeclaration) → Way → ℕ → Items → List Judged
-state_places state way k no_items = []
-state_places state way k (item d ds) =
+-- the sort of a private state, which is no memory
+abbrev pub no_memory : Option Sort → Option Sort
+no_memory None = None
+no_memory (Some truth) = Some truth
+no_memory (Some (word w)) = Some (word w)
+no_memory (Some (memory a w)) = None
+
+abbrev pub private_sort_in : Data → Option Sort
+private_sort_in d = no_memory (sort_in d)
+
+-- Of each state the name, the sort and the initial value, by how its sort and the whole of it are read. What has a name and a sort
+-- is a state where its initial value is of the kind that the sort wants.
+abbrev pub state_places : (sort : Data → Option Sort) → (state : Data → Option StateDeclaration) → Way → ℕ → Items → List Judged
+state_places sort state way k no_items = []
+state_places sort state way k (item d ds) =
     judged way (part_spot (named_spot (codes "states") k d) (codes "name")) (has as_str (codes "name") d)
-    ∷ judged way (part_spot (named_spot (codes "states") k d) (codes "sort")) (has sort_in (codes "sort") d)
+    ∷ judged way (part_spot (named_spot (codes "states") k d) (codes "sort")) (has sort (codes "sort") d)
     ∷ judged way (part_spot (named_spot (codes "states") k d) (codes "init")) (is_some (state d))
-    ∷ state_places state way (k + 1) ds
+    ∷ state_places sort state way (k + 1) ds
 
 abbrev pub input_places : ℕ → Items → List Judged
 input_places k no_items = []
@@ -96,9 +106,9 @@ own_places way spot d =
     ∷ in_object (update_places way (part_spot spot (codes "update"))) (under as_object (codes "update") d)
 
 -- a machine, by how its states are read and by the places of its instructions
-abbrev pub machine_places : (state : Data → Option StateDeclaration) → Way → Data → (instructions : List Judged) → List Judged
-machine_places state way d is =
-    list_places (state_places state way 0) way (codes "states") d
+abbrev pub machine_places : (sort : Data → Option Sort) → (state : Data → Option StateDeclaration) → Way → Data → (instructions : List Judged) → List Judged
+machine_places sort state way d is =
+    list_places (state_places sort state way 0) way (codes "states") d
     ++ (optional_list_places (definition_places way 0) way (codes "define") d
     ++ (judged way (key_spot (codes "fetch")) (may_have term_in (codes "fetch") d)
     ∷ judged way (key_spot (codes "valid")) (has term_in (codes "valid") d) ∷ is))
@@ -120,7 +130,7 @@ abbrev mutual
   child_places way k spot (object ms) =
       judged way spot true
       ∷ judged (into way k) (key_spot (codes "steps")) (has unsigned_in (codes "steps") (object ms))
-      ∷ machine_places private_state_in (into way k) (object ms) (instruction_places_under (into way k) ms)
+      ∷ machine_places private_sort_in private_state_in (into way k) (object ms) (instruction_places_under (into way k) ms)
   child_places way k spot _ = judged way spot false ∷ []
 
   -- what stands under the key instructions, which must be there
@@ -142,7 +152,7 @@ abbrev pub shape_places : Data → List Judged
 shape_places (object ms) =
     judged [] (key_spot (codes "name")) (has as_str (codes "name") (object ms))
     ∷ (list_places (input_places 0) [] (codes "inputs") (object ms)
-    ++ machine_places state_declared_in [] (object ms) (instruction_places_under [] ms))
+    ++ machine_places sort_in state_declared_in [] (object ms) (instruction_places_under [] ms))
 shape_places _ = judged [] (key_spot (codes "model")) false ∷ []
 
 -- ---- notes
