@@ -44,7 +44,8 @@ const MEMORY_KEYS: [&str; 2] = ["name", "sort"];
 
 const STATE_KEYS: [&str; 3] = ["name", "sort", "init"];
 
-/// The place of a key that objects of its kind do not have, where there is one: that of the first such object in the file.
+/// The note of the first key, in the order in which a model is gone through, that objects of its kind do not have, where there is
+/// one.
 pub fn unknown_key(alloc: Global, value: &Value) -> Result<Option<Note>, NoMemory>
     ensures found { IfOk result (λ o. is_some o ≡ model_has_unknown_key (view value.now)) }
     ensures note { IfOk result (λ o. found_text o ≡ unknown_key_note (view value.now)) }
