@@ -1,2 +1,2 @@
 mod Refusals
-mod Notes
+pub mod Notes
