@@ -9,7 +9,6 @@ use Rattle.model_places.specs.KeyPlaces.{unknown_key_note}
 use Rattle.model_places.specs.ShapePlaces.{shape_note}
 use Rattle.model_places.specs.Notes.{site_note}
 use Rattle.model_places.specs.Parts.{Thing, Part, parts_of}
-use Rattle.model_places.specs.Sites.{Site}
 use Rattle.model_files.specs.Meaning.{ModelReading, stands_for, refused_by, ModelRule, BadJson, BadShape, UnknownKey, BadName, DuplicateName, UnknownName, BadWidth, BadSort, BadNumber, MemoryCopy, TooDeepChild, BadSteps, model_of, broken_rule, judged_by, with_known_keys}
 use Rattle.ila_json.specs.Reading.{refusal_in, IsNoteBy, IsNoteOf}
 

@@ -1,4 +1,4 @@
-use Rattle.std.proofs.Common.{Some, ap, ◌∙◌, subst}
+use Rattle.std.proofs.Common.{ap, ◌∙◌, subst}
 use Rattle.serde_json.specs.View.{view}
 use Rattle.model_files.specs.Meaning.{of_shape, with_known_keys}
 use Rattle.ila_file.specs.Places.{note_text}
@@ -31,5 +31,6 @@ returns-in-Some-clause-note c =
 
 pub returns-in-Err-Refused-clause-note : goal.returns-in-Err-Refused-clause-note
 returns-in-Err-Refused-clause-note c =
+    let same = rw c.in-Err-Refused.field-0-is at c.refused-refusal.ensures.note in
     note_of_shape (rule_view c.refused-refusal.result.rule) (view c.args.value.now) (note_text c.refused-refusal.result.note) (note_text c.in-Err-Refused.note) c.refused-refusal.ensures.rule
-    c.refused-refusal.ensures.note (subst (IsShapeNoted (view c.args.value.now)) c.in-Err-Refused.field-0-is c.in-Err-Refused.ensures.note)
+    same (subst (IsShapeNoted (view c.args.value.now)) c.in-Err-Refused.field-0-is c.in-Err-Refused.ensures.note)
