@@ -1,7 +1,9 @@
 //! From the bytes of a model file to the model of the profile.
 
-ghost use Rattle.std.specs.Prelude.{◌≡◌};
+ghost use Rattle.std.specs.Prelude.{◌≡◌, IfErr};
 ghost use Rattle.serde_json.specs.View.{view};
+ghost use Rattle.model_files.specs.Shape.{document};
+ghost use Rattle.ila_json.specs.Reading.{IsNoted};
 ghost use Rattle.first_model.specs.Profile.{has_definitions};
 ghost use Rattle.first_model.specs.Reading.{IsFirstRead};
 
@@ -12,9 +14,10 @@ use serde_json::Value;
 use std::alloc::Global;
 
 /// The model that the bytes of a model file stand for, where they are in the profile, and none where they stand for another; or the
-/// first rule, in the order in which they are judged, that refuses them, with its place.
+/// first rule, in the order in which they are judged, that refuses them, with the first place at which it is broken.
 pub fn read_first_model(alloc: Global, bytes: &[u8]) -> Result<Option<FirstModel>, ModelStop>
-    ensures { IsFirstRead result bytes.now }
+    ensures reading { IsFirstRead result bytes.now }
+    ensures note { IfErr result (IsNoted (document bytes.now)) }
 {
     let value = read_document(alloc, bytes)?;
     let written = read_written(alloc, &value)?;

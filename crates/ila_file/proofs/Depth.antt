@@ -8,7 +8,7 @@ use Rattle.serde_json.specs.Data.{Data, null, boolean, number, string, array, ob
 use Rattle.serde_json.specs.Find.{get_member, get, as_array}
 use Rattle.serde_json.specs.View.{view, items_view}
 use Rattle.serde_json.specs.declared.value.Value.{Value}
-use Rattle.ila_file.specs.Parts.{under}
+use Rattle.model_places.specs.ShapePlaces.{under}
 
 abbrev Below : ℕ → Option Data → Type 0
 Below n None = ⊤

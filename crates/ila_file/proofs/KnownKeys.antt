@@ -2,10 +2,10 @@
 use Rattle.std.proofs.Common.{◌≡◌, Bool, true, false, cond, ◌||◌, Option, Some, option_and_then, is_some, refl, ap, ◌∙◌}
 use Rattle.std.specs.Prelude.{codes}
 use Rattle.wb_values.specs.Value.{Name, same_name}
-use Rattle.model_files.specs.Keys.{has_other_key, some_item, some_item_of, some_item_under, is_list, is_memory_state, state_has_other_key, input_has_other_key, input_keys, instruction_keys, child_keys, model_keys, instruction_has_unknown_key, child_under_has_unknown_key, child_has_unknown_key, instructions_under_have_unknown_key, instructions_have_unknown_key, some_instruction_has_unknown_key, model_has_unknown_key}
+use Rattle.model_files.specs.Keys.{has_other_key, some_item, some_item_of, some_item_under, is_list, is_memory_state, state_has_other_key, instruction_keys, child_keys, instruction_has_unknown_key, child_under_has_unknown_key, child_has_unknown_key, instructions_under_have_unknown_key, instructions_have_unknown_key, some_instruction_has_unknown_key}
 use Rattle.serde_json.specs.Data.{Data, null, boolean, number, string, array, object, Items, no_items, item, Members, no_members, member}
 use Rattle.serde_json.specs.Find.{get_member, as_array, as_object}
-use Rattle.ila_file.specs.KeyParts.{other_key_in, is_list_found, memory_keys, valued_keys, state_key_parts, some_listed, child_key_parts, child_key_found, instruction_key_parts, model_key_parts}
+use Rattle.ila_file.specs.KeyParts.{is_list_found, memory_keys, valued_keys, state_key_parts, some_listed, child_key_parts, child_key_found, instruction_key_parts}
 use Rattle.ila_file.proofs.Shapes.{found}
 
 listed : (d : Data) → is_some (as_array d) ≡ is_list d
@@ -20,7 +20,7 @@ list_found_if : (b : Bool) (d : Data) (o : Option Data) (r : Bool) → is_list_f
 list_found_if true d o r h = listed d
 list_found_if false d o r h = h
 
-memory_found : (ms : Members) → is_list_found (get_member (codes "sort") ms) ≡ is_memory_state ms
+pub memory_found : (ms : Members) → is_list_found (get_member (codes "sort") ms) ≡ is_memory_state ms
 memory_found no_members = refl
 memory_found (member k d ms) =
     ap is_list_found (found (codes "sort") k (Some d) (get_member (codes "sort") ms)) ∙ list_found_if (same_name k (codes "sort")) d _ _ (memory_found ms)
@@ -32,14 +32,6 @@ state_keys-parts (number n) = refl
 state_keys-parts (string s) = refl
 state_keys-parts (array ds) = refl
 state_keys-parts (object ms) = ap (λ b. has_other_key (cond b memory_keys valued_keys) ms) (memory_found ms)
-
-pub input_keys-parts : (d : Data) → other_key_in input_keys (as_object d) ≡ input_has_other_key d
-input_keys-parts null = refl
-input_keys-parts (boolean t) = refl
-input_keys-parts (number n) = refl
-input_keys-parts (string s) = refl
-input_keys-parts (array ds) = refl
-input_keys-parts (object ms) = refl
 
 -- ---- lists under a key
 
@@ -107,13 +99,3 @@ instruction_keys-parts (number n) = refl
 instruction_keys-parts (string s) = refl
 instruction_keys-parts (array ds) = refl
 instruction_keys-parts (object ms) = ap (λ b. has_other_key instruction_keys ms || b) (child_found ms)
-
-pub model_keys-parts : (d : Data) → model_key_parts d ≡ model_has_unknown_key d
-model_keys-parts null = refl
-model_keys-parts (boolean t) = refl
-model_keys-parts (number n) = refl
-model_keys-parts (string s) = refl
-model_keys-parts (array ds) = refl
-model_keys-parts (object ms) =
-    λ i. has_other_key model_keys ms || (some_under state_has_other_key (codes "states") ms i
-    || (some_under input_has_other_key (codes "inputs") ms i || instructions_found ms i))

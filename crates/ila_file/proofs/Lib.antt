@@ -7,3 +7,7 @@ pub mod Operations
 pub mod Shapes
 pub mod Shown
 pub mod Ways
+pub mod KeySites
+pub mod KeyNotes
+pub mod ShapeSites
+pub mod ShapeNotes

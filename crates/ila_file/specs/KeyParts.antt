@@ -1,10 +1,10 @@
 -- Keys that a model file's objects do not have, by what stands under the others.
 use Rattle.std.specs.Prelude.{Bool, false, cond, ◌||◌, List, [], ◌∷◌, Option, Some, None, is_some, codes}
 use Rattle.wb_values.specs.Value.{Name}
-use Rattle.model_files.specs.Keys.{has_other_key, some_item, model_keys, instruction_keys, child_keys, state_has_other_key, input_has_other_key, instruction_has_unknown_key}
+use Rattle.model_files.specs.Keys.{has_other_key, some_item, instruction_keys, child_keys, state_has_other_key, instruction_has_unknown_key}
 use Rattle.serde_json.specs.Data.{Data, Items, Members}
 use Rattle.serde_json.specs.Find.{get, as_array, as_object}
-use Rattle.ila_file.specs.Parts.{under}
+use Rattle.model_places.specs.ShapePlaces.{under}
 
 -- data that is no object has no keys
 abbrev pub other_key_in : List Name → Option Members → Bool
@@ -40,9 +40,3 @@ child_key_found (Some d) = child_key_parts d
 
 abbrev pub instruction_key_parts : Data → Bool
 instruction_key_parts d = other_key_in instruction_keys (as_object d) || child_key_found (get (codes "child") d)
-
-abbrev pub model_key_parts : Data → Bool
-model_key_parts d =
-    other_key_in model_keys (as_object d)
-    || (some_listed state_has_other_key (under as_array (codes "states") d)
-    || (some_listed input_has_other_key (under as_array (codes "inputs") d) || some_listed instruction_has_unknown_key (under as_array (codes "instructions") d)))

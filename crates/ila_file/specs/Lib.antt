@@ -3,3 +3,5 @@ pub mod Places
 pub mod Reading
 pub mod Parts
 pub mod KeyParts
+pub mod KeySpots
+pub mod ShapeSpots

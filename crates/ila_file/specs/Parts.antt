@@ -6,10 +6,7 @@ use Rattle.model_files.specs.Written.{WrittenTerm, WrittenMachine, machine, Writ
 use Rattle.model_files.specs.Shape.{if_there, list_in, unsigned_in, sort_in, term_in, initial_in, private_initial_in, state_declared_in, private_state_in, state_from, input_in, input_from, definition_in, update_in, instruction_from, child_from, all_instructions, model_from}
 use Rattle.serde_json.specs.Data.{Data}
 use Rattle.serde_json.specs.Find.{get, as_str, as_array}
-
--- What stands under a key. Data that is no object has no keys.
-abbrev pub under : {A : Type 0} → (Data → Option A) → Name → Data → Option A
-under f k d = option_and_then f (get k d)
+use Rattle.model_places.specs.ShapePlaces.{under, private_sort_in}
 
 abbrev pub under_if_there : {A : Type 0} → (Data → Option A) → Name → Data → Option (Option A)
 under_if_there f k d = if_there f (get k d)
@@ -18,6 +15,11 @@ under_if_there f k d = if_there f (get k d)
 abbrev pub initial_of : (is_private : Bool) → Sort → Option Data → Option (Option Value)
 initial_of true = private_initial_in
 initial_of false = initial_in
+
+-- the sort of a private state or of another one
+abbrev pub sort_of : (is_private : Bool) → Data → Option Sort
+sort_of true = private_sort_in
+sort_of false = sort_in
 
 abbrev pub state_of : (is_private : Bool) → Data → Option StateDeclaration
 state_of true = private_state_in

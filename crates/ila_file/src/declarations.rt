@@ -5,7 +5,8 @@ ghost use Rattle.serde_json.specs.Data.{array};
 ghost use Rattle.serde_json.specs.Find.{as_str};
 ghost use Rattle.serde_json.specs.View.{view, items_view, members_view};
 ghost use Rattle.model_files.specs.Shape.{all_in, sort_in, term_in, input_in, definition_in, entry_named, entries_in};
-ghost use Rattle.ila_file.specs.Parts.{under, initial_of, state_of, state_under, input_under};
+ghost use Rattle.model_places.specs.ShapePlaces.{under};
+ghost use Rattle.ila_file.specs.Parts.{initial_of, state_of, state_under, input_under};
 ghost use Rattle.ila_file.specs.Reading.{IsReading};
 ghost use Rattle.ila_file.specs.View.{initial_view, sort_view, state_view, input_view, definition_view, update_view, states_view, inputs_view, definitions_view, updates_view};
 

@@ -1,13 +1,15 @@
 //! Keys that a model file's objects do not have.
 
-ghost use Rattle.std.specs.Prelude.{◌≡◌, IfOk, is_some, map};
+ghost use Rattle.std.specs.Prelude.{◌≡◌, IfOk, is_some, codes, map, option_map};
 ghost use Rattle.serde_json.specs.Find.{get, as_array, as_object};
 ghost use Rattle.serde_json.specs.View.{view, items_view, members_view};
 ghost use Rattle.model_meaning.specs.Among.{is_among};
-ghost use Rattle.model_files.specs.Keys.{has_other_key, some_item, state_has_other_key, input_has_other_key, input_keys, instruction_has_unknown_key, model_has_unknown_key};
-ghost use Rattle.std.specs.Prelude.{codes};
-ghost use Rattle.ila_file.specs.Parts.{under};
-ghost use Rattle.ila_file.specs.KeyParts.{other_key_in, is_list_found, state_key_parts, some_listed, child_key_parts, child_key_found, instruction_key_parts, model_key_parts};
+ghost use Rattle.model_files.specs.Keys.{has_other_key, some_item, state_has_other_key, instruction_has_unknown_key, model_has_unknown_key};
+ghost use Rattle.model_places.specs.KeyPlaces.{first_other_key, unknown_key_note};
+ghost use Rattle.model_places.specs.ShapePlaces.{under};
+ghost use Rattle.ila_file.specs.KeyParts.{other_key_in, is_list_found, state_key_parts, some_listed, child_key_parts, child_key_found, instruction_key_parts};
+ghost use Rattle.ila_file.specs.KeySpots.{other_key_of, state_key_of};
+ghost use Rattle.ila_file.specs.Places.{found_text};
 
 use crate::diagnosis::unknown_key_note;
 use crate::shape::list_under;
@@ -42,41 +44,20 @@ const MEMORY_KEYS: [&str; 2] = ["name", "sort"];
 
 const STATE_KEYS: [&str; 3] = ["name", "sort", "init"];
 
-/// The place of a key that objects of its kind do not have, where there is one: that of the first such object in the file.
+/// The note of the first key, in the order in which a model is gone through, that objects of its kind do not have, where there is
+/// one.
 pub fn unknown_key(alloc: Global, value: &Value) -> Result<Option<Note>, NoMemory>
-    ensures { IfOk result (λ o. is_some o ≡ model_has_unknown_key (view value.now)) }
+    ensures found { IfOk result (λ o. is_some o ≡ model_has_unknown_key (view value.now)) }
+    ensures note { IfOk result (λ o. found_text o ≡ unknown_key_note (view value.now)) }
 {
-    if !model_has_unknown_key(value) {
-        return Ok(None);
-    }
     let note = unknown_key_note(alloc, value)?;
-    Ok(Some(note))
-}
-
-fn model_has_unknown_key(value: &Value) -> bool
-    ensures { result ≡ model_has_unknown_key (view value.now) }
-{
-    model_by_parts(value)
-}
-
-fn model_by_parts(value: &Value) -> bool
-    ensures { result ≡ model_key_parts (view value.now) }
-{
-    if other_key_in(value, &MODEL_KEYS).is_some() {
-        return true;
-    }
-    if some_state_under(value) {
-        return true;
-    }
-    if some_input_under(value) {
-        return true;
-    }
-    instructions_have_unknown_key(value)
+    Ok(note)
 }
 
 /// The first key of an object that is none of these.
 pub(crate) fn other_key_in<'v>(value: &'v Value, keys: &[&str]) -> Option<&'v str>
-    ensures { is_some result ≡ other_key_in (map (λ k. k.now) keys.now) (as_object (view value.now)) }
+    ensures is { is_some result ≡ other_key_in (map (λ k. k.now) keys.now) (as_object (view value.now)) }
+    ensures key { option_map (λ k. k.now) result ≡ other_key_of (map (λ k. k.now) keys.now) (as_object (view value.now)) }
 {
     match value.as_object() {
         Some(members) => other_key(members, keys),
@@ -85,7 +66,8 @@ pub(crate) fn other_key_in<'v>(value: &'v Value, keys: &[&str]) -> Option<&'v st
 }
 
 fn other_key<'v>(members: &'v Map<String, Value>, keys: &[&str]) -> Option<&'v str>
-    ensures { is_some result ≡ has_other_key (map (λ k. k.now) keys.now) (members_view members.now.entries) }
+    ensures is { is_some result ≡ has_other_key (map (λ k. k.now) keys.now) (members_view members.now.entries) }
+    ensures key { option_map (λ k. k.now) result ≡ first_other_key (map (λ k. k.now) keys.now) (members_view members.now.entries) }
 {
     for (key, _found) in members.iter() {
         if !is_among(key.as_str(), keys) {
@@ -108,7 +90,8 @@ fn is_among(name: &str, keys: &[&str]) -> bool
 
 /// The first key of a state's object that a state of its sort does not have.
 pub(crate) fn state_other_key<'v>(value: &'v Value) -> Option<&'v str>
-    ensures { is_some result ≡ state_key_parts (view value.now) }
+    ensures is { is_some result ≡ state_key_parts (view value.now) }
+    ensures key { option_map (λ k. k.now) result ≡ state_key_of (view value.now) }
 {
     if is_memory_state(value) {
         other_key_in(value, &MEMORY_KEYS)
@@ -132,12 +115,6 @@ fn state_has_other_key(value: &Value) -> bool
     state_other_key(value).is_some()
 }
 
-fn input_has_other_key(value: &Value) -> bool
-    ensures { result ≡ input_has_other_key (view value.now) }
-{
-    other_key_in(value, &INPUT_KEYS).is_some()
-}
-
 fn some_state_under(value: &Value) -> bool
     ensures { result ≡ some_listed state_has_other_key (under as_array (codes "states") (view value.now)) }
 {
@@ -152,26 +129,6 @@ fn some_state(items: &[Value]) -> bool
 {
     for item in items {
         if state_has_other_key(item) {
-            return true;
-        }
-    }
-    false
-}
-
-fn some_input_under(value: &Value) -> bool
-    ensures { result ≡ some_listed input_has_other_key (under as_array (codes "inputs") (view value.now)) }
-{
-    match list_under(value, "inputs") {
-        Some(items) => some_input(items),
-        None => false,
-    }
-}
-
-fn some_input(items: &[Value]) -> bool
-    ensures { result ≡ some_item input_has_other_key (items_view items.now) }
-{
-    for item in items {
-        if input_has_other_key(item) {
             return true;
         }
     }

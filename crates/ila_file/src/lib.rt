@@ -3,13 +3,17 @@
 
 mod declarations;
 mod diagnosis;
+mod instruction_misfits;
 mod keys;
+mod machine_misfits;
 mod note;
 mod place;
 mod scalars;
 mod shape;
+mod state_misfits;
 mod stop;
 mod terms;
+mod unknown_keys;
 mod written;
 
 pub use keys::unknown_key;

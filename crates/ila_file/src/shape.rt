@@ -1,11 +1,12 @@
 //! The written model that a file's data has the shape of.
 
-ghost use Rattle.std.specs.Prelude.{◌≡◌, codes, Some, option_map};
+ghost use Rattle.std.specs.Prelude.{◌≡◌, codes, false, is_none, IfErr, Some, option_map};
 ghost use Rattle.serde_json.specs.Find.{get, as_array, as_object};
 ghost use Rattle.serde_json.specs.View.{view, items_view, members_view};
 ghost use Rattle.model_files.specs.Shape.{list_in, unsigned_in, input_in, definition_in, term_in, update_in, instruction_in, all_instructions, model_in};
-ghost use Rattle.ila_file.specs.Parts.{under, under_if_there, or_empty, state_of, machine_under, child_found, instruction_list, instruction_parts, child_parts, model_parts};
-ghost use Rattle.ila_file.specs.Reading.{IsReading, IsNotedReading};
+ghost use Rattle.model_places.specs.ShapePlaces.{shape_note, under};
+ghost use Rattle.ila_file.specs.Parts.{under_if_there, or_empty, state_of, machine_under, child_found, instruction_list, instruction_parts, child_parts, model_parts};
+ghost use Rattle.ila_file.specs.Reading.{IsReading, IsNotedReading, IsShapeNoted};
 ghost use Rattle.ila_file.specs.View.{term_view, states_view, inputs_view, definitions_view, updates_view, fetch_view, instructions_view, machine_view, instruction_view, child_view, instruction_list_view, held_child_view, model_view};
 
 use crate::declarations::{definitions_in, inputs_in, states_in, text_under, updates_in};
@@ -28,11 +29,7 @@ pub(crate) fn list_under<'v>(value: &'v Value, key: &str) -> Option<&'v Vec<Valu
 }
 
 /// The term under a key that must be there.
-pub(crate) fn term_under<'v>(
-    alloc: Global,
-    value: &'v Value,
-    key: &str,
-) -> Result<WrittenTerm<'v>, Stop>
+fn term_under<'v>(alloc: Global, value: &'v Value, key: &str) -> Result<WrittenTerm<'v>, Stop>
     ensures { IsReading term_view result (under term_in key.now (view value.now)) }
 {
     let found = value.get(key).ok_or(Stop::Refused)?;
@@ -41,10 +38,7 @@ pub(crate) fn term_under<'v>(
 }
 
 /// The term under the key `fetch`, which may be absent.
-pub(crate) fn fetch_under<'v>(
-    alloc: Global,
-    value: &'v Value,
-) -> Result<Option<WrittenTerm<'v>>, Stop>
+fn fetch_under<'v>(alloc: Global, value: &'v Value) -> Result<Option<WrittenTerm<'v>>, Stop>
     ensures { IsReading fetch_view result (under_if_there term_in (codes "fetch") (view value.now)) }
 {
     match value.get("fetch") {
@@ -248,9 +242,11 @@ fn model_by_parts<'v>(alloc: Global, value: &'v Value) -> Result<WrittenModel<'v
     })
 }
 
-/// The written model that a file's data has the shape of. Its names are borrowed from the data.
+/// The written model that a file's data has the shape of. Its names are borrowed from the data. The note of a refusal leads to the
+/// first place, in the order in which a model is gone through, at which something of another kind stands or a key is missing.
 pub fn read_shape<'v>(alloc: Global, value: &'v Value) -> Result<WrittenModel<'v>, ShapeStop>
-    ensures { IsNotedReading model_view result (model_in (view value.now)) }
+    ensures shape { IsNotedReading model_view result (model_in (view value.now)) }
+    ensures note { IfErr result (IsShapeNoted (view value.now)) }
 {
     match model_in(alloc, value) {
         Ok(model) => Ok(model),
@@ -259,10 +255,14 @@ pub fn read_shape<'v>(alloc: Global, value: &'v Value) -> Result<WrittenModel<'v
     }
 }
 
-/// The refusal of data of another shape, with a note.
-fn refusal(alloc: Global, value: &Value) -> ShapeStop {
+/// The refusal of data of another shape, with its note.
+fn refusal(alloc: Global, value: &Value) -> ShapeStop
+    requires { is_none (shape_note (view value.now)) ≡ false }
+    ensures { IsShapeNoted (view value.now) result }
+{
     match shape_note(alloc, value) {
-        Ok(note) => ShapeStop::Refused(note),
+        Ok(Some(note)) => ShapeStop::Refused(note),
+        Ok(None) => unreachable!(),
         Err(_) => ShapeStop::NoMemory,
     }
 }

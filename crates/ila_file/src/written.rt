@@ -1,4 +1,4 @@
-//! A model file as it is written: its parts in the order of the file, with names, widths and numbers as they stand there.
+//! A model file as it is written: lists in their order, with names, widths and numbers as they stand there.
 
 /// The operators with one operand.
 #[derive(Clone, Copy, PartialEq, Eq, Debug)]

@@ -1,4 +1,5 @@
--- Which rules on names a model file breaks, without the places: gathered name after name in the order of the file.
+-- Which rules on names a model file breaks, without the places: gathered name after name in the order in which a model
+-- is gone through.
 use Rattle.std.specs.Prelude.{Bool, false, not, ◌||◌, List, [], ◌∷◌, map}
 use Rattle.wb_values.specs.Value.{Name}
 use Rattle.model_files.specs.Written.{WrittenMachine, machine, WrittenInstruction, instruction, WrittenInstructions, no_instructions, and_then, WrittenChild, no_child, child, WrittenModel}

@@ -139,7 +139,7 @@ all_data_after : (ns : List Name) (s : NameFlags) → all_data_flags ns s ≡ na
 all_data_after [] s = nothing_after s
 all_data_after (n ∷ ns) s = all_data_after ns (data_flags n s) ∙ (ap (names_after ns []) (data_after n s) ∙ after_after (n ∷ []) ns [] [] s)
 
--- ---- the names of machines, instructions in the order of the file
+-- ---- the names of machines, instructions in the order in which a model is gone through
 
 append_assoc : {A : Type 0} (xs ys zs : List A) → xs ++ (ys ++ zs) ≡ (xs ++ ys) ++ zs
 append_assoc [] ys zs = refl
@@ -200,7 +200,7 @@ mutual
   child_named no_child s = nothing_after s
   child_named (child steps program) s = machine_named program s
 
--- ---- the order of the file against the order of the machines
+-- ---- that order against the order of the machines
 
 moved : (xs ys zs : List Name) → IsPermutation (xs ++ (ys ++ zs)) (ys ++ (xs ++ zs))
 moved xs ys zs =

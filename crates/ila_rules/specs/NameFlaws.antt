@@ -1,4 +1,5 @@
--- The first places of a model file at which a name is not legal or stands again, gathered name after name in the order of the file.
+-- The first places of a model file at which a name is not legal or stands again, gathered name after name in the order in which a
+-- model is gone through.
 use Rattle.std.specs.Prelude.{ℕ, ◌+◌, ◌-◌, Bool, true, false, cond, not, List, [], ◌∷◌, map, length, take, Option, Some, None, codes}
 use Rattle.wb_values.specs.Value.{Name, same_name}
 use Rattle.wb_values.specs.Names.{is_model_name}

@@ -1,4 +1,5 @@
--- Refusals of model files: the rule, and the note of the first place at which it is broken.
+-- Refusals of model files: the rule, and the note of the first place, in the order in which a model is gone through, at which it is
+-- broken.
 use Rattle.std.specs.Prelude.{◌≡◌, ℕ, List, Option, Some, option_map, IfSome}
 use Rattle.model_files.specs.Meaning.{ModelRule}
 use Rattle.model_files.specs.Written.{WrittenModel}
@@ -15,6 +16,6 @@ refusal_view r = (rule_view r.rule, note_text r.note)
 abbrev pub noted : ModelRule → Option (List ℕ) → Option (ModelRule × List ℕ)
 noted rule note = option_map (λ t. (rule, t)) note
 
--- The note leads to the first place of the file at which the rule is broken.
+-- The note leads to the first place at which the rule is broken.
 abbrev pub IsNotedIn : WrittenModel → Option (ModelRule × List ℕ) → Type 0
 IsNotedIn m found = IfSome found (λ r. first_note r.0 m ≡ Some r.1)

@@ -60,6 +60,6 @@ impl ModelRule {
 #[derive(Drop)]
 pub struct ModelRefusal {
     pub rule: ModelRule,
-    /// The first place in the file at which the rule is broken.
+    /// The first place, in the order in which a model is gone through, at which the rule is broken.
     pub note: Note,
 }

@@ -103,7 +103,7 @@ key_by m i k w v false u a b h g = test_apart _ _ (apart_by i k (i * m + w) (k *
 key_same : (m i k w v : ℕ) → w < m → v < m → (i * m + w == k * m + v) ≡ ((i == k) && (w == v))
 key_same m i k w v h g = key_by m i k w v (i == k) (w == v) refl refl h g
 
-suits_within : (ss : List meaning.Settable) (k : ℕ) (s : Set) → suits_at ss k s ≡ true → k < length ss
+pub suits_within : (ss : List meaning.Settable) (k : ℕ) (s : Set) → suits_at ss k s ≡ true → k < length ss
 suits_within [] k s h = absurd (false≢true h)
 suits_within (t ∷ ss) zero s h = omega arith
 suits_within (t ∷ ss) (suc k) s h = omega (arith, suits_within ss k s h)
@@ -127,7 +127,7 @@ word_same ss s t a h g =
 pub is_less : (a b : ℕ) → nat_lt a b ≡ true → a < b
 is_less a b h = grind (arith, nat_tests)
 
-any_same : (ss : List meaning.Settable) (s : Set) (sets : List Set) → are_apart ss ≡ true → s.place < length ss → are_within (length ss) sets ≡ true
+pub any_same : (ss : List meaning.Settable) (s : Set) (sets : List Set) → are_apart ss ≡ true → s.place < length ss → are_within (length ss) sets ≡ true
     → list_any (λ m. key_of s == m) (map key_of sets) ≡ list_any (is_same_word (set_at ss s)) (map (set_at ss) sets)
 any_same ss s [] a h g = refl
 any_same ss s (t ∷ sets) a h g =

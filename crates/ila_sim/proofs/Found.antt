@@ -172,3 +172,9 @@ set_in_there es text right k x r cut same e f =
     ∙ (any_set es (take k text) (at_last 91 (take k text)) (numeral_in right)
     ∙ (ap (λ t. set_of (map settable_of es) (take k text) (at_last 91 (take k text)) (numeral_in t)) same
     ∙ sym (ap (λ o. meaning.set_from (map settable_of es) o) cut))))
+
+-- the name at a place of the list
+pub called_there : (es : List Settable) (k : ℕ) (d : Settable) → k < length es → called_at (map settable_of es) k ≡ (get_or es k d).name.items
+called_there [] k d h = absurd (omega (arith, h))
+called_there (e ∷ es) zero d h = refl
+called_there (e ∷ es) (suc k) d h = called_there es k d (omega (arith, h))

@@ -10,3 +10,6 @@ mod Declared
 mod Made
 mod Told
 mod Steps
+mod Faulty
+mod Again
+mod Numbered

@@ -1,5 +1,5 @@
 -- Marks say which names are set.
-use Rattle.std.proofs.Common.{◌≡◌, ℕ, zero, suc, ◌+◌, ◌<◌, Bool, true, false, nat_lt, ◌||◌, List, [], ◌∷◌, map, length, drop, arith, refl, ap, sym, ◌∙◌}
+use Rattle.std.proofs.Common.{◌≡◌, ℕ, zero, suc, ◌+◌, ◌<◌, Bool, true, false, nat_lt, ◌||◌, List, [], ◌∷◌, map, length, drop, cond, Option, Some, None, option_map, arith, refl, ap, sym, ◌∙◌}
 use Rattle.std.specs.Prelude.{◌==◌, replicate, slice_set}
 use Rattle.std.specs.List.{list_any, list_all}
 use Rattle.std.proofs.lemmas.List.{length-map}
@@ -9,7 +9,8 @@ use Rattle.wb_values.specs.Value.{same_name}
 use Rattle.ila_sim.specs.declared.names.Settable.{Settable}
 use Rattle.ila_sim.specs.declared.set.Set.{Set}
 use Rattle.ila_sim.specs.Lines.{sets_view}
-use Rattle.ila_sim.specs.Marks.{marks_of}
+use Rattle.ila_sim.specs.Faults.{first_left_out}
+use Rattle.ila_sim.specs.Marks.{marks_of, first_unmarked}
 use Rattle.ila_sim.specs.Names.{are_apart, settable_of}
 use Rattle.ila_sim.specs.Places.{called_at}
 use Rattle.ila_sim.specs.Sets.{set_at, are_within}
@@ -94,3 +95,29 @@ every_name es sets a g =
     ap (λ n. list_all (λ b. b) (marks_of (replicate n false) sets)) (sym count)
     ∙ (ap (list_all (λ b. b)) (marks_are (replicate (length (map settable_of es)) false) sets)
     ∙ all_marked (map settable_of es) 0 (map settable_of es) sets a g refl)
+
+first_marked : (ss : List meaning.Settable) (j : ℕ) (ts : List meaning.Settable) (sets : List Set) → are_apart ss ≡ true → are_within (length ss) sets ≡ true → drop j ss ≡ ts
+    → option_map (called_at ss) (first_unmarked j (with_marks j (replicate (length ts) false) sets)) ≡ first_left_out (map (set_at ss) sets) ts
+first_marked ss j [] sets a g e = refl
+first_marked ss j (t ∷ ts) sets a g e =
+    let d : IsDropped ss j t ts = dropped ss j t ts e in
+    let one : is_marked sets j ≡ sets_name (map (set_at ss) sets) t =
+    marked_name ss j sets a d.within g ∙ ap (λ n. list_any (λ u. same_name u.called n) (map (set_at ss) sets)) d.called in
+    ap (λ b. option_map (called_at ss) (cond b (first_unmarked (suc j) (with_marks (suc j) (replicate (length ts) false) sets)) (Some j))) one
+    ∙ shown (sets_name (map (set_at ss) sets) t) d.called (first_marked ss (suc j) ts sets a g d.rest)
+  where
+    shown : (b : Bool) → called_at ss j ≡ t.called
+        → option_map (called_at ss) (first_unmarked (suc j) (with_marks (suc j) (replicate (length ts) false) sets)) ≡ first_left_out (map (set_at ss) sets) ts
+        → option_map (called_at ss) (cond b (first_unmarked (suc j) (with_marks (suc j) (replicate (length ts) false) sets)) (Some j))
+        ≡ cond b (first_left_out (map (set_at ss) sets) ts) (Some t.called)
+    shown true c h = h
+    shown false c h = ap (λ n. Some n) c
+
+-- the first place that is not marked is that of the first name that is not set
+pub first_name : (es : List Settable) (sets : List Set) → are_apart (map settable_of es) ≡ true → are_within (length (map settable_of es)) sets ≡ true
+    → option_map (called_at (map settable_of es)) (first_unmarked 0 (marks_of (replicate (length es) false) sets)) ≡ first_left_out (sets_view (map settable_of es) sets) (map settable_of es)
+first_name es sets a g =
+    let count : length (map settable_of es) ≡ length es = length-map es settable_of in
+    ap (λ n. option_map (called_at (map settable_of es)) (first_unmarked 0 (marks_of (replicate n false) sets))) (sym count)
+    ∙ (ap (λ bs. option_map (called_at (map settable_of es)) (first_unmarked 0 bs)) (marks_are (replicate (length (map settable_of es)) false) sets)
+    ∙ first_marked (map settable_of es) 0 (map settable_of es) sets a g refl)

@@ -45,10 +45,10 @@ first_added {X} old new k v u absent q =
 same_at : (k q : ℕ) → is_at (nat_cmp k) q ≡ (k == q)
 same_at k q = grind (arith, nat_tests)
 
-turned : (m n : ℕ) → (m == n) ≡ (n == m)
+pub turned : (m n : ℕ) → (m == n) ≡ (n == m)
 turned m n = grind (arith, nat_tests)
 
-has_more : (s n : BTreeSet ℕ) (k : ℕ) (b : Bool) → sorted.Updates nat_cmp s n k b → (q : ℕ) → has_number n q ≡ cond (k == q) b (has_number s q)
+pub has_more : (s n : BTreeSet ℕ) (k : ℕ) (b : Bool) → sorted.Updates nat_cmp s n k b → (q : ℕ) → has_number n q ≡ cond (k == q) b (has_number s q)
 has_more s n k b u q = u.0 q ∙ ap (λ t. cond t b (has_number s q)) (same_at k q)
 
 all_true : (p : ℕ → Bool) (ns : List ℕ) → ((n : ℕ) → p n ≡ true) → list_all p ns ≡ true

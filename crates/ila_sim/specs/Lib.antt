@@ -11,3 +11,5 @@ pub mod Marks
 pub mod Outcomes
 pub mod Texts
 pub mod Whole
+pub mod Faults
+pub mod Noted

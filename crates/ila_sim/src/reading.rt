@@ -1,8 +1,10 @@
 //! The reading of a script.
 
-ghost use Rattle.std.specs.Prelude.{◌≡◌, None, Some, cond, codes, IfOk};
+ghost use Rattle.std.specs.Prelude.{◌≡◌, false, None, Some, cond, is_none, IfErr, IfOk};
 ghost use Rattle.std.specs.Str.{is_utf8};
 ghost use Rattle.scripts.specs.Script.{reading_from, script_reading, script_in, without_skipped, lines_of};
+ghost use Rattle.ila_sim.specs.Faults.{script_note};
+ghost use Rattle.ila_sim.specs.Noted.{IsNoted};
 ghost use Rattle.ila_sim.specs.Reading.{IsReading};
 ghost use Rattle.ila_sim.specs.Scripts.{script_view, IsScriptWithin, IsAnswered, IsStopOf};
 ghost use Rattle.ila_sim.specs.Settables.{settables_view};
@@ -44,10 +46,13 @@ fn lines_in<'a>(alloc: Global, names: &'a Names, bytes: &'a [u8]) -> Result<Scri
 
 /// A refusal with the note that leads to its place.
 fn refused<'a>(alloc: Global, names: &'a Names, bytes: &'a [u8], kind: ScriptKind) -> ScriptStop
-    ensures { IsStopOf kind result }
+    requires { is_none (script_note kind (settables_view names.now) bytes.now) ≡ false }
+    ensures kind { IsStopOf kind result }
+    ensures note { IsNoted (settables_view names.now) bytes.now result }
 {
     match note_of(alloc, bytes, names, kind) {
-        Ok(note) => ScriptStop::Refused(ScriptRefusal { kind, note }),
+        Ok(Some(note)) => ScriptStop::Refused(ScriptRefusal { kind, note }),
+        Ok(None) => unreachable!(),
         Err(_) => ScriptStop::NoMemory,
     }
 }
@@ -59,8 +64,10 @@ fn if_complete<'a>(
     bytes: &'a [u8],
     script: Script,
 ) -> Result<Script, ScriptStop>
-    requires { IsScriptWithin (settables_view names.now) script }
+    requires within { IsScriptWithin (settables_view names.now) script }
+    requires read { script_reading (settables_view names.now) bytes.now ≡ reading_from (settables_view names.now) (Some (script_view (settables_view names.now) script)) }
     ensures answer { IsAnswered (settables_view names.now) result (reading_from (settables_view names.now) (Some (script_view (settables_view names.now) script))) }
+    ensures note { IfErr result (IsNoted (settables_view names.now) bytes.now) }
     ensures right { IfOk result (IsScriptWithin (settables_view names.now)) }
 {
     match all_set(alloc, &names.inputs, &script.inputs) {
@@ -70,14 +77,15 @@ fn if_complete<'a>(
     }
 }
 
-/// Reads a script. A bad line is answered before an input that is left out. What a script sets are words of the names, to
-/// values that fit.
+/// Reads a script. A bad line is answered before an input that is left out; the note of a refusal leads to the first line that is
+/// bad, or that leaves out an input. What a script sets are words of the names, to values that fit.
 pub fn read_script<'a>(
     alloc: Global,
     bytes: &'a [u8],
     names: &'a Names,
 ) -> Result<Script, ScriptStop>
     ensures answer { IsAnswered (settables_view names.now) result (script_reading (settables_view names.now) bytes.now) }
+    ensures note { IfErr result (IsNoted (settables_view names.now) bytes.now) }
     ensures right { IfOk result (IsScriptWithin (settables_view names.now)) }
 {
     match lines_in(alloc, names, bytes) {

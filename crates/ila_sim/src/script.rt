@@ -24,7 +24,7 @@ pub struct Script {
 }
 
 /// A line that is not skipped.
-fn line_in<'a>(alloc: Global, names: &Found<'a>, line: &'a [u8]) -> Result<Line, Stop>
+pub(crate) fn line_in<'a>(alloc: Global, names: &Found<'a>, line: &'a [u8]) -> Result<Line, Stop>
     ensures line { IsReading (line_view (found_view names.now)) result (line_in (found_view names.now) line.now) }
     ensures places { IfOk result (λ l. IsTrue (is_line_within (found_view names.now) l)) }
 {

@@ -3,7 +3,7 @@
 ghost use Rattle.std.specs.Prelude.{IfOk};
 ghost use Rattle.scripts.specs.Script.{settables_of, script_reading};
 ghost use Rattle.ila_model.specs.Model.{model_of};
-ghost use Rattle.ila_sim.specs.Whole.{IsSimulated};
+ghost use Rattle.ila_sim.specs.Whole.{IsSimulated, IsSimulationNoted};
 
 use crate::naming::names_of;
 use crate::reading::read_script;
@@ -22,9 +22,11 @@ pub enum Simulation {
     Refused(ScriptRefusal),
 }
 
-/// Reads a script, runs it on the model, and tells what the model does. No more than one state is kept at a time.
+/// Reads a script, runs it on the model, and tells what the model does, or refuses the script with the note of the first line that
+/// is bad, or that leaves out an input. No more than one state is kept at a time.
 pub fn simulated(alloc: Global, model: &IlaModel, script: &[u8]) -> Result<Simulation, NoMemory>
-    ensures { IfOk result (IsSimulated (model_of model.now) (script_reading (settables_of (model_of model.now)) script.now)) }
+    ensures told { IfOk result (IsSimulated (model_of model.now) (script_reading (settables_of (model_of model.now)) script.now)) }
+    ensures note { IfOk result (IsSimulationNoted (settables_of (model_of model.now)) script.now) }
 {
     let names = names_of(alloc, model)?;
     match read_script(alloc, script, &names) {

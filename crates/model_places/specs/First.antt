@@ -1,4 +1,4 @@
--- The first place of a model file at which a rule is broken.
+-- The first place of a model file, in the order in which a model is gone through, at which a rule is broken.
 use Rattle.std.specs.Prelude.{ℕ, Bool, false, cond, not, ◌&&◌, ◌||◌, nat_le, nat_lt, List, [], ◌∷◌, Option, Some, None, option_map}
 use Rattle.wb_values.specs.Value.{Name, same_name}
 use Rattle.wb_values.specs.Names.{is_model_name}
@@ -86,7 +86,7 @@ abbrev pub first_among : ((before : List Thing) → Thing → Bool) → (before 
 first_among is_broken before [] = None
 first_among is_broken before (p ∷ ps) = cond (is_broken before p.thing) (Some p.site) (first_among is_broken (p.thing ∷ before) ps)
 
--- The first place of a model file at which the rule is broken, and the note that leads there.
+-- The first place at which the rule is broken, and the note that leads there.
 abbrev pub first_site : ModelRule → WrittenModel → Option Site
 first_site rule m = first_among (breaks rule) [] (parts_of m)
 

@@ -1,4 +1,5 @@
--- The first key of a model file that objects of its kind do not have. What stands under such a key is not looked at.
+-- The first key of a model file that objects of its kind do not have, in the order in which a model is gone through. What stands
+-- under such a key is not looked at.
 use Rattle.std.specs.Prelude.{ℕ, ◌+◌, cond, List, [], ◌∷◌, ◌++◌, Option, Some, None, option_map, codes}
 use Rattle.wb_values.specs.Value.{Name, same_name}
 use Rattle.wb_values.specs.Choice.{first_of}
@@ -74,15 +75,15 @@ abbrev mutual
   all_instruction_objects way k no_items = []
   all_instruction_objects way k (item d ds) = instruction_objects way k d ++ all_instruction_objects way (k + 1) ds
 
--- The objects of a model file, in the order in which they are judged: the model, its states, its inputs, and each instruction with
--- those in it.
+-- The objects of a model file, in the order in which a model is gone through: the model, its inputs, its states, and each
+-- instruction with those in it; of a child the child, its states, and its instructions.
 abbrev pub objects_in : Data → List Keyed
 objects_in (object ms) =
     keyed [] key_spot model_keys ms
-    ∷ (objects_under (state_objects [] 0) (codes "states") ms ++ (objects_under (input_objects 0) (codes "inputs") ms ++ instruction_objects_under [] ms))
+    ∷ (objects_under (input_objects 0) (codes "inputs") ms ++ (objects_under (state_objects [] 0) (codes "states") ms ++ instruction_objects_under [] ms))
 objects_in _ = []
 
--- the first key of an object that is none of these
+-- the first key of an object, by the bytes of the keys, that is none of these
 abbrev pub first_other_key : List Name → Members → Option Name
 first_other_key ks no_members = None
 first_other_key ks (member k d ms) = cond (is_among k ks) (first_other_key ks ms) (Some k)
@@ -95,6 +96,6 @@ abbrev pub first_key_site : List Keyed → Option Site
 first_key_site [] = None
 first_key_site (o ∷ os) = first_of (other_key_site o) (first_key_site os)
 
--- The note of the first unknown key of a model file.
+-- The note of the first unknown key of a model file: an object's own keys come before those of the objects in it.
 abbrev pub unknown_key_note : Data → Option (List ℕ)
 unknown_key_note d = option_map site_note (first_key_site (objects_in d))

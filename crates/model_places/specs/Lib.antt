@@ -3,3 +3,4 @@ pub mod Notes
 pub mod Parts
 pub mod First
 pub mod KeyPlaces
+pub mod ShapePlaces

@@ -1,4 +1,6 @@
--- What stands where in a model file, in the order in which the file is read.
+-- What stands where in a model file, in the order in which a model is gone through: its name, inputs, states, definitions, fetch,
+-- valid condition and instructions; of an instruction its name, decode condition, updates by the bytes of their names, and child; of a
+-- child that it is one, its steps, and then its states and all that follows. No order of keys in the file is kept.
 use Rattle.std.specs.Prelude.{ℕ, suc, ◌+◌, List, [], ◌∷◌, ◌++◌, length, Option, Some, None, codes}
 use Rattle.wb_values.specs.Value.{Name, Sort, Value, Entries}
 use Rattle.model_meaning.specs.Model.{StateDeclaration, InputDeclaration, state_named}
@@ -82,6 +84,6 @@ abbrev mutual
       ∷ part_at (into way k) (key_spot (codes "steps")) (step_limit steps)
       ∷ machine_parts (into way k) inner below
 
--- The parts of a model file.
+-- The parts of a model file, in that order.
 abbrev pub parts_of : WrittenModel → List Part
 parts_of m = part_at [] (key_spot (codes "name")) (model_name m.model_name) ∷ (input_parts 0 m.inputs ++ machine_parts [] (outermost m) m.top)

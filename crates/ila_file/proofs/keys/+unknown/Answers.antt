@@ -3,7 +3,7 @@ use Rattle.std.specs.Prelude.{codes}
 use Rattle.serde_json.specs.Data.{depth}
 use Rattle.serde_json.specs.Find.{as_array}
 use Rattle.serde_json.specs.View.{view, items_view}
-use Rattle.ila_file.specs.Parts.{under}
+use Rattle.model_places.specs.ShapePlaces.{under}
 use Rattle.ila_file.proofs.Depth.{found_below, list_below, item_below}
 use Rattle.ila_file.proofs.KnownKeys.{instruction_keys-parts}
 use Rattle.ila_file.proofs.keys.+unknown.Goals as goal

@@ -1,7 +1,7 @@
 use Rattle.std.proofs.Common.{◌≡◌, ◌<◌, ◌+◌, List, ◌∷◌, length, drop, get_or, Some, sym, ap, ◌∙◌, arith, rules, subst, [], map, add-one, drop-cons}
 use Rattle.std.specs.Prelude.{codes}
 use Rattle.serde_json.specs.Find.{as_array}
-use Rattle.ila_file.specs.Parts.{under}
+use Rattle.model_places.specs.ShapePlaces.{under}
 use Rattle.serde_json.specs.Data.{depth}
 use Rattle.serde_json.specs.View.{view, items_view}
 use Rattle.serde_json.specs.declared.value.Value.{Value}
