@@ -9,30 +9,48 @@ use v_parse::parse;
 use v_print_source::print::print;
 use v_token::token::Token;
 
+/// How many rows there were, and how many of them came out otherwise.
+#[derive(Drop)]
+struct Table {
+    rows: u64,
+    differ: u64,
+}
+
 fn main(rt: HostRuntime) -> io::Result<()> {
-    let alloc = rt.alloc();
-    let mut rows: u64 = 0;
-    let mut differing: u64 = 0;
-    for line in rt.lines(alloc) {
-        let line = line?;
-        let Some((source, wanted)) = line.as_str().split_once("\t") else {
-            continue;
-        };
-        rows = rows.saturating_add(1);
-        let text = with_lines(alloc, source)?;
-        let printed = printed_of(alloc, text.as_str())?;
-        let again = printed_of(alloc, printed.as_str())?;
-        let layout = with_lines(alloc, wanted)?;
-        let is_laid_out = wanted == "*" || printed.as_str() == layout.as_str();
-        if !is_laid_out
-            || !printed.as_str().starts_with("module")
-            || again.as_str() != printed.as_str()
-        {
-            differing = differing.saturating_add(1);
-            println!(rt; "{source}\n{printed}")?;
+    let mut table = Table { rows: 0, differ: 0 };
+    for line in rt.lines(rt.alloc()) {
+        if let Some(told) = table.take(rt.alloc(), line?.as_str())? {
+            println!(rt; "{told}")?;
         }
     }
-    println!(rt; "{rows} rows, {differing} differ")
+    println!(rt; "{} rows, {} differ", table.rows, table.differ)
+}
+
+impl Table {
+    /// Takes a line. Gives the source and what is printed of it, where that is a row that came out otherwise.
+    fn take(&mut self, alloc: Global, line: &str) -> Result<Option<String>, AllocError> {
+        let Some((source, wanted)) = line.split_once("\t") else {
+            return Ok(None);
+        };
+        self.rows = self.rows.saturating_add(1);
+        let printed = printed_of(alloc, &with_lines(alloc, source)?)?;
+        if is_right(alloc, &printed, wanted)? {
+            return Ok(None);
+        }
+        self.differ = self.differ.saturating_add(1);
+        Ok(Some(format!(in alloc; "{source}\n{printed}")?))
+    }
+}
+
+/// Whether what was printed is a module, is laid out as it is to be, and is printed so again when it is read.
+fn is_right(alloc: Global, printed: &str, wanted: &str) -> Result<bool, AllocError> {
+    if !printed.starts_with("module") {
+        return Ok(false);
+    }
+    if wanted != "*" && with_lines(alloc, wanted)?.as_str() != printed {
+        return Ok(false);
+    }
+    Ok(printed_of(alloc, printed)?.as_str() == printed)
 }
 
 /// The text with a line feed for each `\n`.
@@ -42,7 +60,8 @@ fn with_lines(alloc: Global, text: &str) -> Result<String, AllocError> {
 
 /// What is printed of the tree of a text, or that it has none.
 fn printed_of(alloc: Global, text: &str) -> Result<String, AllocError> {
-    let files = vec![in alloc; Vec::from_slice(alloc, text.as_bytes())?]?;
+    let mut files = Vec::new(alloc);
+    files.push(Vec::from_slice(alloc, text.as_bytes())?)?;
     match tokens(alloc, &files) {
         Ok(tokens) => printed_of_tokens(alloc, &tokens),
         Err(_) => String::from_str(alloc, "no tokens"),

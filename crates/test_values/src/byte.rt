@@ -6,8 +6,8 @@ ghost use Rattle.v_value.specs.Scope.{scope_at, valuation_at, valuation_in};
 ghost use Rattle.v_syntax.specs.Tree.{tree_of};
 ghost use Rattle.v_value.specs.Narrow.{IsNarrow, HasNarrowObjects, HasFittingValues};
 
-use crate::value::Stop;
-use std::alloc::Global;
+use crate::texts::halves;
+use std::alloc::{AllocError, Global};
 use v_syntax::tree::{Expression, Number};
 use v_value::expression::{assigned_value, is_true, self_value, value_of};
 use v_value::scope::{Scope, Values};
@@ -40,6 +40,11 @@ fn no_names<'s>(alloc: Global) -> Scope<'s>
     }
 }
 
+/// One of two words.
+fn said(truth: bool, yes: &'static str, no: &'static str) -> &'static str {
+    if truth { yes } else { no }
+}
+
 /// The sign and the width of the number, and its value widened to 9 bits, assigned to 4, by itself, and as a condition.
 fn shown(
     alloc: Global,
@@ -47,34 +52,25 @@ fn shown(
     values: &Values<'_>,
     signed: bool,
     value: u128,
-) -> Result<String, Stop>
+) -> Result<String, AllocError>
     requires fits { value < 256 }
     requires ready { HasNarrowObjects (scope_at scope.now) × HasFittingValues (scope_at scope.now) (valuation_in values.now) }
 {
     let number = byte(signed, value);
-    let sign = if sign_of(scope, &number) {
-        "signed"
-    } else {
-        "unsigned"
-    };
+    let sign = said(sign_of(scope, &number), "signed", "unsigned");
     let width = width_of(scope, &number);
     let wide = value_of(scope, values, &number, 9, signed);
     let narrow = assigned_value(scope, values, 4, &number);
     let own = self_value(scope, values, &number);
-    let truth = if is_true(scope, values, &number) {
-        "true"
-    } else {
-        "false"
-    };
-    let found = format!(in alloc; "{sign} {width} bits, {wide} {narrow} {own} {truth}")?;
-    Ok(found)
+    let truth = said(is_true(scope, values, &number), "true", "false");
+    format!(in alloc; "{sign} {width} bits, {wide} {narrow} {own} {truth}")
 }
 
 /// The same from `SIGN VALUE`.
-pub fn byte_shown(alloc: Global, text: &str) -> Result<String, Stop> {
-    let (sign, number) = text.split_once(" ").unwrap_or((text, ""));
+pub fn byte_shown(alloc: Global, text: &str) -> Result<String, AllocError> {
+    let (sign, number) = halves(text, " ");
     let Ok(number) = number.parse::<u8>() else {
-        return Err(Stop::Other("is no row"));
+        return String::from_str(alloc, "is no row");
     };
     let scope = no_names(alloc);
     let values = Values {

@@ -1,7 +1,7 @@
 //! How operators that stand beside each other take their operands: the value is that of the same expression with brackets.
 
 use crate::objects::no_names;
-use crate::value::{Stop, assigned};
+use crate::value::{Ask, answered};
 use std::alloc::{AllocError, Global};
 
 /// Operators of two sides with their levels, prefix operators, and operands that tell the groupings apart.
@@ -12,18 +12,22 @@ pub struct Operators<'s> {
     operands: Vec<(&'s str, &'s str, &'s str)>,
 }
 
-/// Two texts are expressions without names that have one value.
-fn is_same(alloc: Global, one: &str, other: &str) -> Result<bool, Stop> {
-    let names = no_names(alloc);
-    let found = assigned(alloc, &names, 32, one)?;
-    let wanted = assigned(alloc, &names, 32, other)?;
-    Ok(found == wanted)
+/// The value of an expression without names, from its pieces.
+fn value_of(alloc: Global, pieces: &[&str]) -> Result<String, AllocError> {
+    let text = pieces.join(alloc, " ")?;
+    answered(alloc, &no_names(alloc), Ask::Assigned(32), &text)
+}
+
+/// Two texts, in pieces, are expressions without names that have one value.
+fn is_same(alloc: Global, one: &[&str], other: &[&str]) -> Result<bool, AllocError> {
+    let found = value_of(alloc, one)?;
+    let wanted = value_of(alloc, other)?;
+    Ok(found == wanted && found.parse::<u128>().is_ok())
 }
 
 /// What is told of so many that are the same, of so many in all.
-fn counted(alloc: Global, same: u64, all: u64) -> Result<String, Stop> {
-    let found = format!(in alloc; "{same} of {all} are the same")?;
-    Ok(found)
+fn counted(alloc: Global, same: u64, all: u64) -> Result<String, AllocError> {
+    format!(in alloc; "{same} of {all} are the same")
 }
 
 /// Of two operators the tighter takes its operands first, and of two of one level the first.
@@ -32,17 +36,16 @@ fn is_tighter_first(
     first: (&str, u32),
     second: (&str, u32),
     operands: (&str, &str, &str),
-) -> Result<bool, Stop> {
+) -> Result<bool, AllocError> {
     let (one, level) = first;
     let (other, other_level) = second;
     let (a, b, c) = operands;
-    let plain = format!(in alloc; "{a} {one} {b} {other} {c}")?;
-    let grouped = if level <= other_level {
-        format!(in alloc; "({a} {one} {b}) {other} {c}")?
+    let plain = [a, one, b, other, c];
+    if level <= other_level {
+        is_same(alloc, &plain, &["(", a, one, b, ")", other, c])
     } else {
-        format!(in alloc; "{a} {one} ({b} {other} {c})")?
-    };
-    is_same(alloc, &plain, &grouped)
+        is_same(alloc, &plain, &[a, one, "(", b, other, c, ")"])
+    }
 }
 
 /// A choice is looser than an operator, in its condition and in its last value.
@@ -50,14 +53,12 @@ fn is_choice_last(
     alloc: Global,
     operator: &str,
     operands: (&str, &str, &str),
-) -> Result<bool, Stop> {
+) -> Result<bool, AllocError> {
     let (a, b, c) = operands;
-    let plain = format!(in alloc; "{a} {operator} {b} ? {c} : 7")?;
-    let grouped = format!(in alloc; "({a} {operator} {b}) ? {c} : 7")?;
-    let condition = is_same(alloc, &plain, &grouped)?;
-    let plain = format!(in alloc; "{a} ? {b} : {c} {operator} 7")?;
-    let grouped = format!(in alloc; "{a} ? {b} : ({c} {operator} 7)")?;
-    let value = is_same(alloc, &plain, &grouped)?;
+    let plain = [a, operator, b, "?", c, ": 7"];
+    let condition = is_same(alloc, &plain, &["(", a, operator, b, ") ?", c, ": 7"])?;
+    let plain = [a, "?", b, ":", c, operator, "7"];
+    let value = is_same(alloc, &plain, &[a, "?", b, ": (", c, operator, "7 )"])?;
     Ok(condition && value)
 }
 
@@ -67,11 +68,10 @@ fn is_prefix_first(
     prefix: &str,
     operator: &str,
     operands: (&str, &str, &str),
-) -> Result<bool, Stop> {
+) -> Result<bool, AllocError> {
     let (a, b, _) = operands;
-    let plain = format!(in alloc; "{prefix} {a} {operator} {b}")?;
-    let grouped = format!(in alloc; "({prefix} {a}) {operator} {b}")?;
-    is_same(alloc, &plain, &grouped)
+    let plain = [prefix, a, operator, b];
+    is_same(alloc, &plain, &["(", prefix, a, ")", operator, b])
 }
 
 impl<'s> Operators<'s> {
@@ -115,7 +115,7 @@ impl<'s> Operators<'s> {
     }
 
     /// Each operator of two sides beside each other.
-    pub fn beside(&self, alloc: Global) -> Result<String, Stop> {
+    pub fn beside(&self, alloc: Global) -> Result<String, AllocError> {
         let mut same: u64 = 0;
         let mut all: u64 = 0;
         for first in &self.levels {
@@ -132,7 +132,7 @@ impl<'s> Operators<'s> {
     }
 
     /// Each operator beside a choice.
-    pub fn choices(&self, alloc: Global) -> Result<String, Stop> {
+    pub fn choices(&self, alloc: Global) -> Result<String, AllocError> {
         let mut same: u64 = 0;
         let mut all: u64 = 0;
         for level in &self.levels {
@@ -147,7 +147,7 @@ impl<'s> Operators<'s> {
     }
 
     /// Each operator behind each prefix operator.
-    pub fn prefixed(&self, alloc: Global) -> Result<String, Stop> {
+    pub fn prefixed(&self, alloc: Global) -> Result<String, AllocError> {
         let mut same: u64 = 0;
         let mut all: u64 = 0;
         for prefix in &self.prefixes {

@@ -3,7 +3,6 @@
 ghost use Rattle.std.specs.Prelude.{◌<◌, ◌^◌, IfOk};
 ghost use Rattle.test_values.specs.Small.{IsSmall, IsSmallStatement};
 
-use crate::value::Stop;
 use std::alloc::{AllocError, Global};
 use v_statement::statement::run;
 use v_syntax::tree::{Arm, Expression, Number, Selects, Statement, Target};
@@ -52,22 +51,21 @@ fn ladder(alloc: Global, before: usize) -> Result<Statement<'static>, AllocError
 }
 
 /// The value that was assigned last, with how many values there are, and how many updates wait.
-fn told(alloc: Global, values: &Values<'_>, waiting: usize) -> Result<String, Stop> {
+fn told(alloc: Global, values: &Values<'_>, waiting: usize) -> Result<String, AllocError> {
     let Some(entry) = values.entries.last() else {
-        return Err(Stop::Other("nothing was assigned"));
+        return String::from_str(alloc, "nothing was assigned");
     };
     let Value::Number(number) = entry.value else {
-        return Err(Stop::Other("no number was assigned"));
+        return String::from_str(alloc, "no number was assigned");
     };
     let (count, name) = (values.entries.len(), entry.name);
-    let found = format!(in alloc; "{count} value, {name} {number}, {waiting} updates")?;
-    Ok(found)
+    format!(in alloc; "{count} value, {name} {number}, {waiting} updates")
 }
 
 /// What values and updates there are after a ladder of so many arms before the last one.
-pub fn ladder_run(alloc: Global, before: &str) -> Result<String, Stop> {
+pub fn ladder_run(alloc: Global, before: &str) -> Result<String, AllocError> {
     let Ok(before) = before.parse::<usize>() else {
-        return Err(Stop::Other("is no row"));
+        return String::from_str(alloc, "is no row");
     };
     let scope = Scope {
         declarations: Vec::new(alloc),

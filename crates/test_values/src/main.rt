@@ -8,6 +8,7 @@ mod ladder;
 mod objects;
 mod runs;
 mod table;
+mod texts;
 mod value;
 
 use std::{fs, io};

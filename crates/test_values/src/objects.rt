@@ -1,6 +1,7 @@
 //! Names with what they stand for, and their values.
 
 use std::alloc::{AllocError, Global};
+use std::str::SplitWhitespace;
 use v_value::scope::{Declaration, Entry, Object, Scope, Value, Values};
 
 /// The names of the rows that follow.
@@ -22,29 +23,35 @@ pub fn no_names<'s>(alloc: Global) -> Names<'s> {
     }
 }
 
+/// The next word as a number.
+pub fn number(words: &mut SplitWhitespace<'_>) -> Option<u32> {
+    words.next()?.parse::<u32>().ok()
+}
+
+/// Whether there is a range, and its bounds: `LEFT RIGHT` or `scalar`.
+fn range_of(words: &mut SplitWhitespace<'_>) -> Option<(bool, u32, u32)> {
+    let first = words.next()?;
+    if first == "scalar" {
+        return Some((false, 0, 0));
+    }
+    Some((true, first.parse::<u32>().ok()?, number(words)?))
+}
+
+/// The addresses of a memory, `memory FIRST LAST`, or the value of a constant, `parameter NUMBER`.
+fn kind_of(words: &mut SplitWhitespace<'_>) -> Option<(Option<(u32, u32)>, Option<u128>)> {
+    match words.next() {
+        Some("memory") => Some((Some((number(words)?, number(words)?)), None)),
+        Some(_) => Some((None, Some(words.next()?.parse::<u128>().ok()?))),
+        None => Some((None, None)),
+    }
+}
+
 /// An object from its words: `SIGN LEFT RIGHT` or `SIGN scalar`, and `memory FIRST LAST` or `parameter NUMBER` besides.
 fn object_of(text: &str) -> Option<Object> {
     let mut words = text.split_whitespace();
     let signed = words.next()? == "signed";
-    let first = words.next()?;
-    let has_range = first != "scalar";
-    let (left, right) = if has_range {
-        (
-            first.parse::<u32>().ok()?,
-            words.next()?.parse::<u32>().ok()?,
-        )
-    } else {
-        (0, 0)
-    };
-    let (addresses, constant) = match words.next() {
-        Some("memory") => {
-            let first = words.next()?.parse::<u32>().ok()?;
-            let last = words.next()?.parse::<u32>().ok()?;
-            (Some((first, last)), None)
-        }
-        Some(_) => (None, Some(words.next()?.parse::<u128>().ok()?)),
-        None => (None, None),
-    };
+    let (has_range, left, right) = range_of(&mut words)?;
+    let (addresses, constant) = kind_of(&mut words)?;
     Some(Object {
         is_declared: true,
         signed,

@@ -8,8 +8,9 @@ ghost use Rattle.v_syntax.specs.Tree.{tree_of, select_of, statement_of};
 ghost use Rattle.v_value.specs.Narrow.{HasNarrowObjects};
 ghost use Rattle.v_statement.specs.Statements.{IsNarrowSelect, IsNarrowStatement};
 
-use crate::value::Stop;
+use crate::objects::number;
 use std::alloc::{AllocError, Global};
+use std::str::SplitWhitespace;
 use v_statement::place::{Bits, Cell, Place};
 use v_statement::register::after_edge;
 use v_statement::statement::run;
@@ -156,40 +157,38 @@ struct Row {
     number: u8,
 }
 
+/// The next word as a number of 8 bits.
+fn small(words: &mut SplitWhitespace<'_>) -> Option<u8> {
+    words.next()?.parse::<u8>().ok()
+}
+
 /// `LEFT RIGHT FIRST FORM SECOND NUMBER`.
 fn row_of(text: &str) -> Option<Row> {
     let mut words = text.split_whitespace();
-    let left = words.next()?.parse::<u32>().ok()?;
-    let right = words.next()?.parse::<u32>().ok()?;
-    let first = words.next()?.parse::<u8>().ok()?;
-    let form = form_of(words.next()?)?;
-    let second = words.next()?.parse::<u8>().ok()?;
-    let number = words.next()?.parse::<u8>().ok()?;
     Some(Row {
-        left,
-        right,
-        first,
-        form,
-        second,
-        number,
+        left: number(&mut words)?,
+        right: number(&mut words)?,
+        first: small(&mut words)?,
+        form: form_of(words.next()?)?,
+        second: small(&mut words)?,
+        number: small(&mut words)?,
     })
 }
 
-fn number_shown(alloc: Global, values: &Values<'_>) -> Result<String, Stop> {
+fn number_shown(alloc: Global, values: &Values<'_>) -> Result<String, AllocError> {
     let Some(number) = last_number(values) else {
-        return Err(Stop::Other("no number was assigned"));
+        return String::from_str(alloc, "no number was assigned");
     };
-    let found = format!(in alloc; "{number}")?;
-    Ok(found)
+    format!(in alloc; "{number}")
 }
 
 /// What a register is after `begin q = 8'h55; q[..] = NUMBER; end`.
-pub fn part_assigned(alloc: Global, text: &str) -> Result<String, Stop> {
+pub fn part_assigned(alloc: Global, text: &str) -> Result<String, AllocError> {
     let Some(row) = row_of(text) else {
-        return Err(Stop::Other("is no row"));
+        return String::from_str(alloc, "is no row");
     };
     if row.left >= 128 || row.right >= 128 || row.first >= 128 || row.second >= 128 {
-        return Err(Stop::Other("is no row"));
+        return String::from_str(alloc, "is no row");
     }
     let values = assigned(
         alloc,
@@ -203,7 +202,7 @@ pub fn part_assigned(alloc: Global, text: &str) -> Result<String, Stop> {
 }
 
 /// What a register `[7:0]` is after 11 was written to four bits from bit 9 downward.
-pub fn written(alloc: Global) -> Result<String, Stop> {
+pub fn written(alloc: Global) -> Result<String, AllocError> {
     let scope = declared(alloc, 7, 0)?;
     let mut values = Values {
         entries: Vec::new(alloc),
@@ -225,12 +224,11 @@ pub fn written(alloc: Global) -> Result<String, Stop> {
 }
 
 /// How many values there are after an edge of a module without items.
-pub fn edge(alloc: Global) -> Result<String, Stop> {
+pub fn edge(alloc: Global) -> Result<String, AllocError> {
     let scope = declared(alloc, 7, 0)?;
     let mut values = Values {
         entries: Vec::new(alloc),
     };
     after_edge(alloc, &scope, &[], &mut values)?;
-    let found = format!(in alloc; "{} values", values.entries.len())?;
-    Ok(found)
+    format!(in alloc; "{} values", values.entries.len())
 }

@@ -5,7 +5,8 @@ use crate::grouping::Operators;
 use crate::ladder::ladder_run;
 use crate::objects::{Names, no_names};
 use crate::runs::{edge, part_assigned, written};
-use crate::value::{Stop, assigned, is_sized, sized, whole};
+use crate::texts::halves;
+use crate::value::{Ask, answered};
 use std::alloc::{AllocError, Global};
 
 /// What was read so far.
@@ -38,15 +39,20 @@ impl<'s> Table<'s> {
         if line.is_empty() || line.starts_with("#") {
             return Ok(None);
         }
-        let (kind, text) = line.split_once(" ").unwrap_or((line, ""));
+        let (kind, text) = halves(line, " ");
         if self.is_taken(alloc, kind, text)? {
             return Ok(None);
         }
         self.rows = self.rows.saturating_add(1);
+        self.told(alloc, line)
+    }
+
+    /// What is to be told of a row, where it came out otherwise.
+    fn told(&mut self, alloc: Global, line: &str) -> Result<Option<String>, AllocError> {
         let (left, wanted) = line
             .split_once(" => ")
             .unwrap_or((line, "a row has an arrow"));
-        let (kind, text) = left.split_once(" ").unwrap_or((left, ""));
+        let (kind, text) = halves(left, " ");
         let found = self.found(alloc, kind, text)?;
         if found.as_str() == wanted {
             return Ok(None);
@@ -74,32 +80,29 @@ impl<'s> Table<'s> {
 
     /// What is found for a row.
     fn found(&self, alloc: Global, kind: &str, text: &str) -> Result<String, AllocError> {
-        match self.found_or_stop(alloc, kind, text) {
-            Ok(text) => Ok(text),
-            Err(Stop::Other(text)) => String::from_str(alloc, text),
-            Err(Stop::Memory) => Err(AllocError),
+        match kind {
+            "self" => answered(alloc, &self.names, Ask::Whole, text),
+            "size" => answered(alloc, &self.names, Ask::Sized, text),
+            "sized" => answered(alloc, &self.names, Ask::IsSized, text),
+            "byte" => byte_shown(alloc, text),
+            "run" => part_assigned(alloc, text),
+            "ladder" => ladder_run(alloc, text),
+            _ => self.found_alone(alloc, kind, text),
         }
     }
 
-    fn found_or_stop(&self, alloc: Global, kind: &str, text: &str) -> Result<String, Stop> {
-        let found = match kind {
-            "self" => whole(alloc, &self.names, text)?,
-            "size" => sized(alloc, &self.names, text)?,
-            "sized" => String::from_str(alloc, is_sized(alloc, &self.names, text)?)?,
-            "byte" => byte_shown(alloc, text)?,
-            "run" => part_assigned(alloc, text)?,
-            "write" => written(alloc)?,
-            "edge" => edge(alloc)?,
-            "ladder" => ladder_run(alloc, text)?,
-            "beside" => self.operators.beside(alloc)?,
-            "choices" => self.operators.choices(alloc)?,
-            "prefixes" => self.operators.prefixed(alloc)?,
+    /// What is found for a row of one word, or of a width and an expression.
+    fn found_alone(&self, alloc: Global, kind: &str, text: &str) -> Result<String, AllocError> {
+        match kind {
+            "write" => written(alloc),
+            "edge" => edge(alloc),
+            "beside" => self.operators.beside(alloc),
+            "choices" => self.operators.choices(alloc),
+            "prefixes" => self.operators.prefixed(alloc),
             _ => {
                 let width = kind.parse::<u32>().unwrap_or(0);
-                let number = assigned(alloc, &self.names, width, text)?;
-                format!(in alloc; "{number}")?
+                answered(alloc, &self.names, Ask::Assigned(width), text)
             }
-        };
-        Ok(found)
+        }
     }
 }

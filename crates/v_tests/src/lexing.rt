@@ -1,7 +1,8 @@
 //! Texts with their tokens or the kind of their refusal.
 
+use crate::sheet::Sheet;
 use std::alloc::{AllocError, Global};
-use v_lex::{LexKind, LexStop, tokens};
+use v_lex::{LexKind, LexRefusal};
 use v_token::token::{Token, TokenKind};
 
 /// The bytes of a token.
@@ -18,30 +19,21 @@ pub fn kind_name(kind: LexKind) -> &'static str {
     }
 }
 
-/// The tokens with `|` between them, or the kind of the refusal.
-pub fn tokens_shown(alloc: Global, files: &[Vec<u8>]) -> Result<String, AllocError> {
-    match tokens(alloc, files) {
-        Ok(tokens) => {
-            let mut text = String::new(alloc);
-            for token in &tokens {
-                if !text.is_empty() {
-                    text.push('|')?;
-                }
-                text.push_str(token.text)?;
-            }
-            Ok(text)
-        }
-        Err(LexStop::Refused(refusal)) => String::from_str(alloc, kind_name(refusal.kind)),
-        Err(LexStop::NoMemory) => Err(AllocError),
+/// The tokens with `|` between them.
+pub fn joined(alloc: Global, tokens: &[Token<'_>]) -> Result<String, AllocError> {
+    let mut out = Sheet::new(alloc);
+    let mut before = "";
+    for token in tokens {
+        out.add(before);
+        out.add(token.text);
+        before = "|";
     }
+    out.into_text()
 }
 
 /// The mark that a text of one token is.
-pub fn mark(alloc: Global, files: &[Vec<u8>]) -> Result<String, AllocError> {
-    let Ok(tokens) = tokens(alloc, files) else {
-        return String::from_str(alloc, "no tokens");
-    };
-    match tokens.as_slice() {
+pub fn mark(alloc: Global, tokens: &[Token<'_>]) -> Result<String, AllocError> {
+    match tokens {
         [token] => match token.kind {
             TokenKind::Mark(mark) => format!(in alloc; "{mark:?}"),
             _ => String::from_str(alloc, "no mark"),
@@ -51,25 +43,10 @@ pub fn mark(alloc: Global, files: &[Vec<u8>]) -> Result<String, AllocError> {
 }
 
 /// The file and the text of a refusal's note.
-pub fn note(alloc: Global, files: &[Vec<u8>]) -> Result<String, AllocError> {
-    match tokens(alloc, files) {
-        Ok(_) => String::from_str(alloc, "read"),
-        Err(LexStop::Refused(refusal)) => {
-            let file = refusal.note.file;
-            let text = String::from_utf8_lossy(alloc, refusal.note.as_bytes())?;
-            format!(in alloc; "file {file} {text}")
-        }
-        Err(LexStop::NoMemory) => Err(AllocError),
-    }
-}
-
-/// The kind of the refusal, or that there is none.
-pub fn kind(alloc: Global, files: &[Vec<u8>]) -> &'static str {
-    match tokens(alloc, files) {
-        Ok(_) => "read",
-        Err(LexStop::Refused(refusal)) => kind_name(refusal.kind),
-        Err(LexStop::NoMemory) => "no memory",
-    }
+pub fn note(alloc: Global, refusal: &LexRefusal) -> Result<String, AllocError> {
+    let file = refusal.note.file;
+    let text = String::from_utf8_lossy(alloc, refusal.note.as_bytes())?;
+    format!(in alloc; "file {file} {text}")
 }
 
 /// Whether a token takes so many bytes at most.

@@ -4,6 +4,7 @@
 
 mod lexing;
 mod reading;
+mod sheet;
 mod shown_expressions;
 mod shown_statements;
 mod table;

@@ -1,21 +1,19 @@
 //! Texts with their trees, or how many tokens are left where the reading stops.
 
 use crate::lexing::kind_name;
+use crate::sheet::Sheet;
 use crate::shown_expressions::show as show_expression;
 use crate::shown_statements::show as show_statement;
 use std::alloc::{AllocError, Global};
 use v_body::statement::statement;
-use v_dotted::{dotted_tokens, whole_expression};
+use v_dotted::{OwnedToken, dotted_tokens, whole_expression};
 use v_expr::number::number;
 use v_expr::{ExpressionStop, expression, selects};
 use v_lex::{LexStop, tokens};
 use v_parse::{ParseStop, parse};
 use v_place::{left_at_first_wrong, left_at_first_wrong_in_expression};
-use v_syntax::tree::Expression;
+use v_syntax::tree::{Expression, Statement};
 use v_token::token::{Token, TokenKind};
-
-/// What is told of texts that have no tokens.
-const NO_TOKENS: &str = "no tokens";
 
 fn token<'s>(kind: TokenKind, text: &'s str) -> Token<'s> {
     Token {
@@ -34,43 +32,42 @@ fn refused(alloc: Global, stop: ExpressionStop) -> Result<String, AllocError> {
     }
 }
 
-/// Adds how many tokens stand behind what was read, if any.
-fn add_rest(alloc: Global, text: &mut String, rest: &[Token<'_>]) -> Result<(), AllocError> {
-    if rest.is_empty() {
-        return Ok(());
+/// The text, and how many tokens stand behind what was read, if any.
+fn with_rest(alloc: Global, text: String, left: usize) -> Result<String, AllocError> {
+    if left == 0 {
+        return Ok(text);
     }
-    let shown = format!(in alloc; " and {} more", rest.len())?;
-    text.push_str(&shown)
+    format!(in alloc; "{text} and {left} more")
 }
 
-/// The expression of a text.
-pub fn expression_shown(alloc: Global, files: &[Vec<u8>]) -> Result<String, AllocError> {
-    let Ok(tokens) = tokens(alloc, files) else {
-        return String::from_str(alloc, NO_TOKENS);
-    };
-    match expression(alloc, &tokens) {
-        Ok((tree, rest)) => {
-            let mut text = String::new(alloc);
-            show_expression(&mut text, &tree)?;
-            add_rest(alloc, &mut text, rest)?;
-            Ok(text)
-        }
+fn expression_text(
+    alloc: Global,
+    tree: &Expression<'_>,
+    left: usize,
+) -> Result<String, AllocError> {
+    let mut out = Sheet::new(alloc);
+    show_expression(tree, &mut out);
+    with_rest(alloc, out.into_text()?, left)
+}
+
+fn statement_text(alloc: Global, tree: &Statement<'_>, left: usize) -> Result<String, AllocError> {
+    let mut out = Sheet::new(alloc);
+    show_statement(tree, &mut out);
+    with_rest(alloc, out.into_text()?, left)
+}
+
+/// The expression that tokens begin with.
+fn expression_shown(alloc: Global, tokens: &[Token<'_>]) -> Result<String, AllocError> {
+    match expression(alloc, tokens) {
+        Ok((tree, rest)) => expression_text(alloc, &tree, rest.len()),
         Err(stop) => refused(alloc, stop),
     }
 }
 
-/// The statement of a text.
-pub fn statement_shown(alloc: Global, files: &[Vec<u8>]) -> Result<String, AllocError> {
-    let Ok(tokens) = tokens(alloc, files) else {
-        return String::from_str(alloc, NO_TOKENS);
-    };
-    match statement(alloc, &tokens) {
-        Ok((tree, rest)) => {
-            let mut text = String::new(alloc);
-            show_statement(&mut text, &tree)?;
-            add_rest(alloc, &mut text, rest)?;
-            Ok(text)
-        }
+/// The statement that tokens begin with.
+fn statement_shown(alloc: Global, tokens: &[Token<'_>]) -> Result<String, AllocError> {
+    match statement(alloc, tokens) {
+        Ok((tree, rest)) => statement_text(alloc, &tree, rest.len()),
         Err(stop) => refused(alloc, stop),
     }
 }
@@ -83,33 +80,16 @@ pub fn system(alloc: Global, text: &str) -> Result<String, AllocError> {
     }
 }
 
-/// How many tokens are left behind the selects of a text.
-pub fn selects_left(alloc: Global, files: &[Vec<u8>]) -> Result<String, AllocError> {
-    let Ok(tokens) = tokens(alloc, files) else {
-        return String::from_str(alloc, NO_TOKENS);
-    };
-    match selects(alloc, &tokens) {
-        Ok((_, rest)) => format!(in alloc; "{} left", rest.len()),
+fn left_shown(alloc: Global, left: usize) -> Result<String, AllocError> {
+    format!(in alloc; "{left} left")
+}
+
+/// How many tokens are left behind the selects that tokens begin with.
+fn selects_left(alloc: Global, tokens: &[Token<'_>]) -> Result<String, AllocError> {
+    match selects(alloc, tokens) {
+        Ok((_, rest)) => left_shown(alloc, rest.len()),
         Err(stop) => refused(alloc, stop),
     }
-}
-
-/// How many tokens are left where a text is refused as a source.
-pub fn source_left(alloc: Global, files: &[Vec<u8>]) -> Result<String, AllocError> {
-    let Ok(tokens) = tokens(alloc, files) else {
-        return String::from_str(alloc, NO_TOKENS);
-    };
-    let left = left_at_first_wrong(alloc, &tokens)?;
-    format!(in alloc; "{left} left")
-}
-
-/// How many tokens are left where a text is refused as an expression.
-pub fn expression_left(alloc: Global, files: &[Vec<u8>]) -> Result<String, AllocError> {
-    let Ok(tokens) = tokens(alloc, files) else {
-        return String::from_str(alloc, NO_TOKENS);
-    };
-    let left = left_at_first_wrong_in_expression(alloc, &tokens)?;
-    format!(in alloc; "{left} left")
 }
 
 /// A number: its size, if any, and what stands from the quote on.
@@ -132,15 +112,16 @@ fn number_of(alloc: Global, tokens: &[Token<'_>]) -> Result<String, AllocError> 
     }
 }
 
-/// The value and the width of a text's expression, with dotted names, where it is a number.
-pub fn dotted(alloc: Global, files: &[Vec<u8>]) -> Result<String, AllocError> {
-    let Ok(tokens) = tokens(alloc, files) else {
-        return String::from_str(alloc, NO_TOKENS);
-    };
-    let Ok(joined) = dotted_tokens(alloc, &tokens) else {
-        return String::from_str(alloc, NO_TOKENS);
-    };
-    match whole_expression(alloc, &joined) {
+/// The value and the width of tokens with dotted names, where they are a number.
+fn dotted(alloc: Global, tokens: &[Token<'_>]) -> Result<String, AllocError> {
+    match dotted_tokens(alloc, tokens) {
+        Ok(joined) => dotted_number(alloc, &joined),
+        Err(_) => String::from_str(alloc, "no tokens"),
+    }
+}
+
+fn dotted_number(alloc: Global, tokens: &[OwnedToken]) -> Result<String, AllocError> {
+    match whole_expression(alloc, tokens) {
         Ok(Expression::Number(number)) => {
             format!(in alloc; "{} in {} bits", number.value, number.width)
         }
@@ -148,40 +129,61 @@ pub fn dotted(alloc: Global, files: &[Vec<u8>]) -> Result<String, AllocError> {
     }
 }
 
-/// Whether a text, all of it, is an expression.
-pub fn expression_chain(alloc: Global, files: &[Vec<u8>]) -> &'static str {
-    let Ok(tokens) = tokens(alloc, files) else {
-        return NO_TOKENS;
-    };
-    match expression(alloc, &tokens) {
+/// Whether tokens, all of them, are an expression.
+fn expression_chain(alloc: Global, tokens: &[Token<'_>]) -> &'static str {
+    match expression(alloc, tokens) {
         Ok((_, [])) => "read",
         _ => "refused",
     }
 }
 
-/// Whether a text, all of it, is a statement.
-pub fn statement_chain(alloc: Global, files: &[Vec<u8>]) -> &'static str {
-    let Ok(tokens) = tokens(alloc, files) else {
-        return NO_TOKENS;
-    };
-    match statement(alloc, &tokens) {
+/// Whether tokens, all of them, are a statement.
+fn statement_chain(alloc: Global, tokens: &[Token<'_>]) -> &'static str {
+    match statement(alloc, tokens) {
         Ok((_, [])) => "read",
         _ => "refused",
+    }
+}
+
+/// What tokens are as this kind of row reads them.
+pub fn read_as(alloc: Global, kind: &str, tokens: &[Token<'_>]) -> Result<String, AllocError> {
+    match kind {
+        "expression" => expression_shown(alloc, tokens),
+        "statement" => statement_shown(alloc, tokens),
+        "selects" => selects_left(alloc, tokens),
+        "wrong" => left_shown(alloc, left_at_first_wrong(alloc, tokens)?),
+        "wrong_in_expression" => {
+            left_shown(alloc, left_at_first_wrong_in_expression(alloc, tokens)?)
+        }
+        "dotted" => dotted(alloc, tokens),
+        "expressions" => String::from_str(alloc, expression_chain(alloc, tokens)),
+        "statements" => String::from_str(alloc, statement_chain(alloc, tokens)),
+        _ => String::from_str(alloc, "is no row"),
+    }
+}
+
+/// The kind that refuses tokens as a source, or that they have a tree.
+fn source_kind(alloc: Global, tokens: &[Token<'_>]) -> &'static str {
+    match parse(alloc, tokens) {
+        Ok(_) => "tree",
+        Err(ParseStop::Refused(_)) => "V6",
+        Err(ParseStop::NoMemory) => "no memory",
     }
 }
 
 /// The kind that refuses files, or that they have a tree.
 pub fn file_kind(alloc: Global, files: &[Vec<u8>]) -> &'static str {
-    let tokens = match tokens(alloc, files) {
-        Ok(tokens) => tokens,
-        Err(LexStop::Refused(refusal)) => return kind_name(refusal.kind),
-        Err(LexStop::NoMemory) => return "no memory",
-    };
-    match parse(alloc, &tokens) {
-        Ok(_) => "tree",
-        Err(ParseStop::Refused(_)) => "V6",
-        Err(ParseStop::NoMemory) => "no memory",
+    match tokens(alloc, files) {
+        Ok(tokens) => source_kind(alloc, &tokens),
+        Err(LexStop::Refused(refusal)) => kind_name(refusal.kind),
+        Err(LexStop::NoMemory) => "no memory",
     }
+}
+
+fn bytes_kind(alloc: Global, bytes: &[u8]) -> Result<&'static str, AllocError> {
+    let mut files = Vec::new(alloc);
+    files.push(Vec::from_slice(alloc, bytes)?)?;
+    Ok(file_kind(alloc, &files))
 }
 
 /// What each file is answered that begins a file, is shorter and is not empty.
@@ -191,8 +193,7 @@ pub fn cuts(alloc: Global, files: &[Vec<u8>]) -> Result<&'static str, AllocError
     };
     let mut answer = "too short";
     for end in 1..file.len() {
-        let cut = vec![in alloc; Vec::from_slice(alloc, &file[..end])?]?;
-        let found = file_kind(alloc, &cut);
+        let found = bytes_kind(alloc, &file[..end])?;
         if end == 1 {
             answer = found;
         }

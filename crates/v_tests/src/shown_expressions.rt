@@ -1,6 +1,6 @@
 //! Trees as text for the tests: brackets round each operator with its operands, `#` for a number.
 
-use std::alloc::AllocError;
+use crate::sheet::Sheet;
 use v_syntax::tree::{
     BinaryLink, BinaryOperator, Choice, Expression, PrefixOperator, Select, Selects, TestLink,
     TestOperator,
@@ -65,155 +65,140 @@ fn test(operator: TestOperator) -> &'static str {
     }
 }
 
-fn repeat(out: &mut String, text: &str, count: usize) -> Result<(), AllocError> {
-    for _ in 0..count {
-        out.push_str(text)?;
-    }
-    Ok(())
-}
-
-fn prefixes(out: &mut String, operators: &[PrefixOperator]) -> Result<(), AllocError> {
+fn prefixes(operators: &[PrefixOperator], out: &mut Sheet) {
     for operator in operators {
-        out.push_str(prefix(*operator))?;
+        out.add(prefix(*operator));
     }
-    Ok(())
+}
+
+/// What stands before the parts of an expression.
+fn begin(expression: &Expression<'_>, out: &mut Sheet) {
+    match expression {
+        Expression::Number(_) => out.add("#"),
+        Expression::Name(name, _) => out.add(name),
+        Expression::Concatenation(_) | Expression::Replication(_, _) => out.add("{"),
+        Expression::AsSigned(_) => out.add("$signed("),
+        Expression::AsUnsigned(_) => out.add("$unsigned("),
+        Expression::Prefix(operators, _) => prefixes(operators, out),
+        Expression::Binary(_, list) => out.add_times("(", list.len()),
+        Expression::Test(_, list) => out.add_times("(", list.len()),
+        Expression::Conditional(_, _) => {}
+    }
+}
+
+/// What stands behind the parts of an expression.
+fn end(expression: &Expression<'_>, out: &mut Sheet) {
+    match expression {
+        Expression::Concatenation(_) => out.add("}"),
+        Expression::Replication(_, _) => out.add("}}"),
+        Expression::AsSigned(_) | Expression::AsUnsigned(_) => out.add(")"),
+        Expression::Prefix(operators, _) => out.add_times(")", operators.len()),
+        Expression::Conditional(list, _) => out.add_times(")", list.len()),
+        _ => {}
+    }
 }
 
 #[cycle(showing)]
-fn parts(out: &mut String, parts: &Vec<Expression<'_>>) -> Result<(), AllocError> {
+fn parts(parts: &Vec<Expression<'_>>, out: &mut Sheet) {
     for part in parts {
-        show(out, part)?;
-        out.push_str(";")?;
+        show(part, out);
+        out.add(";");
     }
-    Ok(())
 }
 
 #[cycle(showing)]
-fn links(out: &mut String, links: &Vec<BinaryLink<'_>>) -> Result<(), AllocError> {
+fn links(links: &Vec<BinaryLink<'_>>, out: &mut Sheet) {
     for link in links {
-        out.push_str(binary(link.operator))?;
-        show(out, &link.operand)?;
-        out.push_str(")")?;
+        out.add(binary(link.operator));
+        show(&link.operand, out);
+        out.add(")");
     }
-    Ok(())
 }
 
 #[cycle(showing)]
-fn tests(out: &mut String, links: &Vec<TestLink<'_>>) -> Result<(), AllocError> {
+fn tests(links: &Vec<TestLink<'_>>, out: &mut Sheet) {
     for link in links {
-        out.push_str(test(link.operator))?;
-        show(out, &link.operand)?;
-        out.push_str(")")?;
+        out.add(test(link.operator));
+        show(&link.operand, out);
+        out.add(")");
     }
-    Ok(())
 }
 
 #[cycle(showing)]
-fn choices(out: &mut String, choices: &Vec<Choice<'_>>) -> Result<(), AllocError> {
+fn choices(choices: &Vec<Choice<'_>>, out: &mut Sheet) {
     for choice in choices {
-        out.push_str("(")?;
-        show(out, &choice.condition)?;
-        out.push_str("?")?;
-        show(out, &choice.value)?;
-        out.push_str(":")?;
+        out.add("(");
+        show(&choice.condition, out);
+        out.add("?");
+        show(&choice.value, out);
+        out.add(":");
     }
-    Ok(())
 }
 
-#[cycle(showing)]
-fn select(out: &mut String, select: &Select<'_>) -> Result<(), AllocError> {
+/// What stands between the two parts of a select.
+fn between(select: &Select<'_>) -> &'static str {
     match select {
-        Select::Index(index) => {
-            out.push_str("[")?;
-            show(out, index)?;
-            out.push_str("]")
-        }
-        Select::Part(left, right) => {
-            out.push_str("[")?;
-            show(out, left)?;
-            out.push_str(":")?;
-            show(out, right)?;
-            out.push_str("]")
-        }
-        Select::PartUp(base, width) => {
-            out.push_str("[")?;
-            show(out, base)?;
-            out.push_str("+:")?;
-            show(out, width)?;
-            out.push_str("]")
-        }
-        Select::PartDown(base, width) => {
-            out.push_str("[")?;
-            show(out, base)?;
-            out.push_str("-:")?;
-            show(out, width)?;
-            out.push_str("]")
-        }
+        Select::PartUp(_, _) => "+:",
+        Select::PartDown(_, _) => "-:",
+        _ => ":",
     }
 }
 
 #[cycle(showing)]
-fn selects(out: &mut String, selects: &Selects<'_>) -> Result<(), AllocError> {
+fn select(select: &Select<'_>, out: &mut Sheet) {
+    out.add("[");
+    match select {
+        Select::Index(index) => show(index, out),
+        Select::Part(first, second)
+        | Select::PartUp(first, second)
+        | Select::PartDown(first, second) => {
+            show(first, out);
+            out.add(between(select));
+            show(second, out);
+        }
+    }
+    out.add("]");
+}
+
+#[cycle(showing)]
+fn selects(selects: &Selects<'_>, out: &mut Sheet) {
     match selects {
-        Selects::Whole => Ok(()),
-        Selects::One(first) => select(out, first),
+        Selects::Whole => {}
+        Selects::One(first) => select(first, out),
         Selects::Two(first, second) => {
-            select(out, first)?;
-            select(out, second)
+            select(first, out);
+            select(second, out);
         }
     }
 }
 
 /// The expression as text, behind what stands there.
 #[cycle(showing)]
-pub fn show(out: &mut String, expression: &Expression<'_>) -> Result<(), AllocError> {
+pub fn show(expression: &Expression<'_>, out: &mut Sheet) {
+    begin(expression, out);
     match expression {
-        Expression::Number(_) => out.push_str("#"),
-        Expression::Name(name, chosen) => {
-            out.push_str(name)?;
-            selects(out, chosen)
-        }
-        Expression::Concatenation(list) => {
-            out.push_str("{")?;
-            parts(out, list)?;
-            out.push_str("}")
-        }
+        Expression::Number(_) => {}
+        Expression::Name(_, chosen) => selects(chosen, out),
+        Expression::Concatenation(list) => parts(list, out),
         Expression::Replication(count, list) => {
-            out.push_str("{")?;
-            show(out, count)?;
-            out.push_str("{")?;
-            parts(out, list)?;
-            out.push_str("}}")
+            show(count, out);
+            out.add("{");
+            parts(list, out);
         }
-        Expression::AsSigned(inside) => {
-            out.push_str("$signed(")?;
-            show(out, inside)?;
-            out.push_str(")")
-        }
-        Expression::AsUnsigned(inside) => {
-            out.push_str("$unsigned(")?;
-            show(out, inside)?;
-            out.push_str(")")
-        }
-        Expression::Prefix(operators, operand) => {
-            prefixes(out, operators)?;
-            show(out, operand)?;
-            repeat(out, ")", operators.len())
-        }
+        Expression::AsSigned(inside) | Expression::AsUnsigned(inside) => show(inside, out),
+        Expression::Prefix(_, operand) => show(operand, out),
         Expression::Binary(first, list) => {
-            repeat(out, "(", list.len())?;
-            show(out, first)?;
-            links(out, list)
+            show(first, out);
+            links(list, out);
         }
         Expression::Test(first, list) => {
-            repeat(out, "(", list.len())?;
-            show(out, first)?;
-            tests(out, list)
+            show(first, out);
+            tests(list, out);
         }
         Expression::Conditional(list, last) => {
-            choices(out, list)?;
-            show(out, last)?;
-            repeat(out, ")", list.len())
+            choices(list, out);
+            show(last, out);
         }
     }
+    end(expression, out);
 }

@@ -1,89 +1,86 @@
 //! Statements as text for the tests: brackets round each form, with a mark for each part.
 
-use std::alloc::AllocError;
+use crate::sheet::Sheet;
 use v_syntax::tree::{Arm, CaseItem, CaseKind, Statement};
 
 #[cycle(showing)]
-fn arms(out: &mut String, arms: &Vec<Arm<'_>>) -> Result<(), AllocError> {
+fn arms(arms: &Vec<Arm<'_>>, out: &mut Sheet) {
     for arm in arms {
-        out.push_str("?")?;
-        show(out, &arm.statement)?;
+        out.add("?");
+        show(&arm.statement, out);
     }
-    Ok(())
 }
 
 #[cycle(showing)]
-fn statements(out: &mut String, statements: &Vec<Statement<'_>>) -> Result<(), AllocError> {
+fn statements(statements: &Vec<Statement<'_>>, out: &mut Sheet) {
     for statement in statements {
-        show(out, statement)?;
+        show(statement, out);
     }
-    Ok(())
-}
-
-fn commas(out: &mut String, count: usize) -> Result<(), AllocError> {
-    for _ in 0..count {
-        out.push_str(",")?;
-    }
-    Ok(())
 }
 
 #[cycle(showing)]
-fn item(out: &mut String, item: &CaseItem<'_>) -> Result<(), AllocError> {
+fn item(item: &CaseItem<'_>, out: &mut Sheet) {
     match item {
         CaseItem::Values(values, statement) => {
-            commas(out, values.len())?;
-            show(out, statement)
+            out.add_times(",", values.len());
+            show(statement, out);
         }
         CaseItem::Default(statement) => {
-            out.push_str("*")?;
-            show(out, statement)
+            out.add("*");
+            show(statement, out);
         }
     }
 }
 
 #[cycle(showing)]
-fn items(out: &mut String, items: &Vec<CaseItem<'_>>) -> Result<(), AllocError> {
+fn items(items: &Vec<CaseItem<'_>>, out: &mut Sheet) {
     for each in items {
-        item(out, each)?;
+        item(each, out);
     }
-    Ok(())
 }
 
-fn opening(kind: CaseKind) -> &'static str {
-    match kind {
-        CaseKind::Exact => "{",
-        CaseKind::Wild => "z{",
+/// What stands before the parts of a statement.
+fn begin(statement: &Statement<'_>, out: &mut Sheet) {
+    match statement {
+        Statement::Empty => out.add(";"),
+        Statement::Blocking(_, _) => out.add("="),
+        Statement::Nonblocking(_, _) => out.add("<="),
+        Statement::If(_, _) => out.add("("),
+        Statement::Case(CaseKind::Exact, _, _) => out.add("{"),
+        Statement::Case(CaseKind::Wild, _, _) => out.add("z{"),
+        Statement::Block(None, _) => out.add("["),
+        Statement::Block(Some(name), _) => {
+            out.add("[");
+            out.add(name);
+        }
+    }
+}
+
+/// What stands behind the parts of a statement.
+fn end(statement: &Statement<'_>) -> &'static str {
+    match statement {
+        Statement::If(_, _) => ")",
+        Statement::Case(_, _, _) => "}",
+        Statement::Block(_, _) => "]",
+        _ => "",
     }
 }
 
 /// `?` for each condition of an `if`, `:` for what stands behind its last `else`, `,` for each value of an item, `*` for `default`.
 #[cycle(showing)]
-pub fn show(out: &mut String, statement: &Statement<'_>) -> Result<(), AllocError> {
+pub fn show(statement: &Statement<'_>, out: &mut Sheet) {
+    begin(statement, out);
     match statement {
-        Statement::Empty => out.push_str(";"),
-        Statement::Blocking(_, _) => out.push_str("="),
-        Statement::Nonblocking(_, _) => out.push_str("<="),
         Statement::If(list, last) => {
-            out.push_str("(")?;
-            arms(out, list)?;
+            arms(list, out);
             if let Some(last) = last {
-                out.push_str(":")?;
-                show(out, last)?;
+                out.add(":");
+                show(last, out);
             }
-            out.push_str(")")
         }
-        Statement::Case(kind, _, list) => {
-            out.push_str(opening(*kind))?;
-            items(out, list)?;
-            out.push_str("}")
-        }
-        Statement::Block(name, list) => {
-            out.push_str("[")?;
-            if let Some(name) = name {
-                out.push_str(name)?;
-            }
-            statements(out, list)?;
-            out.push_str("]")
-        }
+        Statement::Case(_, _, list) => items(list, out),
+        Statement::Block(_, list) => statements(list, out),
+        _ => {}
     }
+    out.add(end(statement));
 }

@@ -1,13 +1,12 @@
 //! A table of rows, line by line: `KIND TEXT => WANTED`. What is found for the TEXT by this kind of test is WANTED. The head of the table
 //! says what kinds there are. Empty lines and those that begin with `#` are skipped.
 
-use crate::lexing::{kind, mark, note, size, tokens_shown};
-use crate::reading::{
-    cuts, dotted, expression_chain, expression_left, expression_shown, file_kind, number_shown,
-    selects_left, source_left, statement_chain, statement_shown, system,
-};
-use crate::texts::{files_of, unescaped};
+use crate::lexing::{joined, kind_name, mark, note, size};
+use crate::reading::{cuts, file_kind, number_shown, read_as, system};
+use crate::texts::{files_of, halves, unescaped};
 use std::alloc::{AllocError, Global};
+use v_lex::{LexStop, tokens};
+use v_token::token::Token;
 
 /// How many rows there were, and how many of them came out otherwise.
 #[derive(Drop)]
@@ -35,9 +34,7 @@ impl Table {
         }
         self.rows = self.rows.saturating_add(1);
         let (row, wanted) = sides(line);
-        let (kind, text) = row.split_once(" ").unwrap_or((row, ""));
-        let files = files_of(alloc, text)?;
-        let found = found(alloc, kind, text, &files)?;
+        let found = found_of(alloc, row)?;
         if found.as_bytes() == unescaped(alloc, wanted)?.as_slice() {
             return Ok(None);
         }
@@ -55,43 +52,48 @@ fn sides(line: &str) -> (&str, &str) {
     }
 }
 
-/// What is found for a text, with its files.
-fn found(
-    alloc: Global,
-    kind_of_row: &str,
-    text: &str,
-    files: &[Vec<u8>],
-) -> Result<String, AllocError> {
-    match kind_of_row {
-        "tokens" => tokens_shown(alloc, files),
-        "mark" => mark(alloc, files),
-        "note" => note(alloc, files),
+/// What is found for a row: `KIND TEXT`.
+fn found_of(alloc: Global, row: &str) -> Result<String, AllocError> {
+    let (kind, text) = halves(row, " ");
+    match kind {
         "number" => number_shown(alloc, text),
-        "expression" => expression_shown(alloc, files),
-        "statement" => statement_shown(alloc, files),
         "system" => system(alloc, text),
-        "selects" => selects_left(alloc, files),
-        "wrong" => source_left(alloc, files),
-        "wrong_in_expression" => expression_left(alloc, files),
-        "dotted" => dotted(alloc, files),
-        _ => String::from_str(alloc, word_found(alloc, kind_of_row, text, files)?),
+        "size" => String::from_str(alloc, size(text)),
+        _ => found_in(alloc, kind, &files_of(alloc, text)?),
     }
 }
 
-/// What is found where it is a word.
-fn word_found(
-    alloc: Global,
-    kind_of_row: &str,
-    text: &str,
-    files: &[Vec<u8>],
-) -> Result<&'static str, AllocError> {
-    match kind_of_row {
-        "kind" => Ok(kind(alloc, files)),
-        "size" => Ok(size(text)),
-        "expressions" => Ok(expression_chain(alloc, files)),
-        "statements" => Ok(statement_chain(alloc, files)),
-        "file" => Ok(file_kind(alloc, files)),
-        "cuts" => cuts(alloc, files),
-        _ => Ok("is no row"),
+/// What is found in files.
+fn found_in(alloc: Global, kind: &str, files: &[Vec<u8>]) -> Result<String, AllocError> {
+    match kind {
+        "file" => return String::from_str(alloc, file_kind(alloc, files)),
+        "cuts" => return String::from_str(alloc, cuts(alloc, files)?),
+        _ => {}
+    }
+    match tokens(alloc, files) {
+        Ok(tokens) => of_tokens(alloc, kind, &tokens),
+        Err(stop) => of_stop(alloc, kind, &stop),
+    }
+}
+
+/// What is found of files that have tokens.
+fn of_tokens(alloc: Global, kind: &str, tokens: &[Token<'_>]) -> Result<String, AllocError> {
+    match kind {
+        "tokens" => joined(alloc, tokens),
+        "mark" => mark(alloc, tokens),
+        "note" | "kind" => String::from_str(alloc, "read"),
+        _ => read_as(alloc, kind, tokens),
+    }
+}
+
+/// What is found of files that have none.
+fn of_stop(alloc: Global, kind: &str, stop: &LexStop) -> Result<String, AllocError> {
+    let LexStop::Refused(refusal) = stop else {
+        return Err(AllocError);
+    };
+    match kind {
+        "note" => note(alloc, refusal),
+        "tokens" | "kind" => String::from_str(alloc, kind_name(refusal.kind)),
+        _ => String::from_str(alloc, "no tokens"),
     }
 }

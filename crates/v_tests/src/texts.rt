@@ -4,21 +4,30 @@
 
 use std::alloc::{AllocError, Global};
 
+/// What stands before and after the first mark; nothing after it where there is none.
+pub fn halves<'t>(text: &'t str, mark: &str) -> (&'t str, &'t str) {
+    text.split_once(mark).unwrap_or((text, ""))
+}
+
 /// The bytes of a text.
 pub fn unescaped(alloc: Global, text: &str) -> Result<Vec<u8>, AllocError> {
     let mut bytes = Vec::new(alloc);
+    add(&mut bytes, text)?;
+    Ok(bytes)
+}
+
+/// Adds the bytes of a text.
+fn add(bytes: &mut Vec<u8>, text: &str) -> Result<(), AllocError> {
     let mut is_escaped = false;
     for byte in text.as_bytes() {
-        if is_escaped {
-            bytes.push(meant(*byte))?;
-            is_escaped = false;
-        } else if *byte == b'\\' {
+        if !is_escaped && *byte == b'\\' {
             is_escaped = true;
-        } else {
-            bytes.push(*byte)?;
+            continue;
         }
+        bytes.push(if is_escaped { meant(*byte) } else { *byte })?;
+        is_escaped = false;
     }
-    Ok(bytes)
+    Ok(())
 }
 
 /// The byte that a letter after a backslash stands for.
@@ -46,17 +55,11 @@ pub fn files_of(alloc: Global, text: &str) -> Result<Vec<Vec<u8>>, AllocError> {
 }
 
 fn file_of(alloc: Global, text: &str) -> Result<Vec<u8>, AllocError> {
-    let Some((before, rest)) = text.split_once('⟨') else {
-        return unescaped(alloc, text);
-    };
-    let (copies, after) = rest.split_once('⟩').unwrap_or((rest, ""));
-    let (numbers, piece) = copies.split_once(" ").unwrap_or((copies, ""));
+    let (before, rest) = halves(text, "⟨");
+    let (copies, after) = halves(rest, "⟩");
     let mut bytes = unescaped(alloc, before)?;
-    match numbers.split_once("..") {
-        Some((from, to)) => add_numbered(alloc, &mut bytes, number(from), number(to), piece)?,
-        None => add_copies(alloc, &mut bytes, number(numbers), piece)?,
-    }
-    bytes.extend_from_slice(&unescaped(alloc, after)?)?;
+    add_copies(alloc, &mut bytes, copies)?;
+    add(&mut bytes, after)?;
     Ok(bytes)
 }
 
@@ -64,15 +67,19 @@ fn number(text: &str) -> u32 {
     text.parse::<u32>().unwrap_or(0)
 }
 
-fn add_copies(
-    alloc: Global,
-    bytes: &mut Vec<u8>,
-    count: u32,
-    piece: &str,
-) -> Result<(), AllocError> {
+/// Adds copies of a piece: `COUNT PIECE` or `FROM..TO PIECE`.
+fn add_copies(alloc: Global, bytes: &mut Vec<u8>, copies: &str) -> Result<(), AllocError> {
+    let (numbers, piece) = halves(copies, " ");
     let piece = unescaped(alloc, piece)?;
+    match numbers.split_once("..") {
+        Some((from, to)) => add_numbered(alloc, bytes, number(from), number(to), &piece),
+        None => add_equal(bytes, number(numbers), &piece),
+    }
+}
+
+fn add_equal(bytes: &mut Vec<u8>, count: u32, piece: &[u8]) -> Result<(), AllocError> {
     for _ in 0..count {
-        bytes.extend_from_slice(&piece)?;
+        bytes.extend_from_slice(piece)?;
     }
     Ok(())
 }
@@ -82,20 +89,21 @@ fn add_numbered(
     bytes: &mut Vec<u8>,
     from: u32,
     to: u32,
-    piece: &str,
+    piece: &[u8],
 ) -> Result<(), AllocError> {
-    let piece = unescaped(alloc, piece)?;
     for place in from..to {
-        let next = place.saturating_add(1);
-        let this_number = format!(in alloc; "{place}")?;
-        let next_number = format!(in alloc; "{next}")?;
-        for byte in &piece {
+        for byte in piece {
             match *byte {
-                b'@' => bytes.extend_from_slice(this_number.as_bytes())?,
-                b'#' => bytes.extend_from_slice(next_number.as_bytes())?,
+                b'@' => add_number(alloc, bytes, place)?,
+                b'#' => add_number(alloc, bytes, place.saturating_add(1))?,
                 other => bytes.push(other)?,
             }
         }
     }
     Ok(())
+}
+
+fn add_number(alloc: Global, bytes: &mut Vec<u8>, number: u32) -> Result<(), AllocError> {
+    let digits = format!(in alloc; "{number}")?;
+    bytes.extend_from_slice(digits.as_bytes())
 }
