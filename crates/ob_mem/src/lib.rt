@@ -6,8 +6,6 @@ mod images;
 mod loads;
 mod names;
 mod rows;
-#[cfg(test)]
-mod tests;
 mod words;
 
 pub use expansion::{Expanded, expand};

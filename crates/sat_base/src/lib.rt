@@ -14,5 +14,3 @@ pub mod laws;
 pub mod literals;
 pub mod logs;
 pub mod memory;
-#[cfg(test)]
-mod tests;

@@ -7,6 +7,4 @@ mod arena;
 pub mod checker;
 mod marks;
 mod numbering;
-#[cfg(test)]
-mod tests;
 mod walk;

@@ -14,8 +14,6 @@ mod minimizing;
 mod order;
 mod pace;
 mod solver;
-#[cfg(test)]
-mod tests;
 mod trail;
 mod walk;
 mod watches;

@@ -1,6 +1,9 @@
 //! Texts of designs whose scopes or refusals are known: prints each row that differs, and how many rows there are.
 #![tactic(auto)]
 
+mod names;
+
+use names::flaws_of;
 use std::alloc::{AllocError, Global};
 use std::{fs, io};
 use v_lex::tokens;
@@ -19,7 +22,7 @@ fn main(rt: HostRuntime) -> io::Result<()> {
         let Some((text, wanted)) = line.split_once("\t") else {
             continue;
         };
-        let found = answer(alloc, text)?;
+        let found = answer(alloc, text, wanted.starts_with("names"))?;
         rows = rows.saturating_add(1);
         if found.as_str() != wanted {
             differing = differing.saturating_add(1);
@@ -29,23 +32,31 @@ fn main(rt: HostRuntime) -> io::Result<()> {
     println!(rt; "{rows} rows, {differing} differ")
 }
 
-/// The names of the text's module `t` with what they stand for, or the kind of the refusal, where its clock is `c`.
-fn answer(alloc: Global, text: &str) -> Result<String, AllocError> {
+/// The names of the text's module `t` with what they stand for, or the kind of the refusal, where its clock is `c`; or what is refused in
+/// its names alone.
+fn answer(alloc: Global, text: &str, names_alone: bool) -> Result<String, AllocError> {
     let files = vec![in alloc; Vec::from_slice(alloc, text.as_bytes())?]?;
     match tokens(alloc, &files) {
-        Ok(tokens) => answer_of_tokens(alloc, &tokens),
+        Ok(tokens) => answer_of_tokens(alloc, &tokens, names_alone),
         Err(_) => String::from_str(alloc, "unread"),
     }
 }
 
-fn answer_of_tokens(alloc: Global, tokens: &[Token<'_>]) -> Result<String, AllocError> {
+fn answer_of_tokens(
+    alloc: Global,
+    tokens: &[Token<'_>],
+    names_alone: bool,
+) -> Result<String, AllocError> {
     match parse(alloc, tokens) {
-        Ok(tree) => answer_of_tree(alloc, &tree),
+        Ok(tree) => answer_of_tree(alloc, &tree, names_alone),
         Err(_) => String::from_str(alloc, "unread"),
     }
 }
 
-fn answer_of_tree(alloc: Global, tree: &Tree<'_>) -> Result<String, AllocError> {
+fn answer_of_tree(alloc: Global, tree: &Tree<'_>, names_alone: bool) -> Result<String, AllocError> {
+    if names_alone {
+        return flaws_of(alloc, tree);
+    }
     match scopes(alloc, tree, "t", "c") {
         Ok(scopes) => names_of(alloc, &scopes.top),
         Err(ScopesStop::Refused(refusal)) => String::from_str(alloc, kind_name(refusal.kind)),

@@ -10,6 +10,3 @@ mod step;
 mod symbols;
 
 pub use first_wrong::{left_at_first_wrong, left_at_first_wrong_in_expression};
-
-#[cfg(test)]
-mod tests;

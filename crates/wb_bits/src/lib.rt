@@ -295,6 +295,3 @@ pub fn sext(n: u32, x: Word) -> Word
         value: x.value | mask_between(x.width, n),
     }
 }
-
-#[cfg(test)]
-mod tests;

@@ -7,8 +7,6 @@ mod memory_sink;
 mod reading;
 mod standard_sink;
 mod streams;
-#[cfg(test)]
-mod tests;
 mod writing;
 
 pub use file_shelf::FileShelf;
