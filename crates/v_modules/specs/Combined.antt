@@ -1,6 +1,5 @@
 -- What is found out of a module: what its declared names break, what its text breaks, and both together.
-use Rattle.std.specs.Prelude.{Bool, true, cond, not, ◌&&◌, ◌||◌, nat_le, nat_lt, List, [], ◌∷◌, Option, Some, None, is_some}
-use Rattle.wb_values.specs.Choice.{some_if}
+use Rattle.std.specs.Prelude.{Bool, true, cond, not, ◌&&◌, ◌||◌, nat_le, nat_lt, List, [], ◌∷◌, None, is_some}
 use Rattle.verilog_trees.specs.Syntax.{Module, Source}
 use Rattle.verilog_meaning.specs.Expression.{Object, Scope, undeclared, object_width, is_memory}
 use Rattle.verilog_meaning.specs.Hierarchy.{header_ports}
@@ -51,12 +50,3 @@ text source s m = rules.also (designs.broken_ports s (header_ports m.ports)) (de
 -- What declared names and the text break together. Where a name is wide, nothing is said of shapes.
 abbrev pub combined : (declared text : Broken) (net : Bool) → Broken
 combined d t n = record (both (coded (rules.constant_if n)) (both t d)) { misshapen = t.misshapen && not d.width_over_128 }
-
--- the first broken rule of a module in the order of the kinds
-abbrev pub first_of_module : Broken → Option rules.Kind
-first_of_module b =
-    cond b.has_xz (Some rules.has_xz_digit)
-    (cond b.bad_constant (Some rules.bad_constant_expression)
-    (cond b.width_over_128 (Some rules.wider_than_128)
-    (cond b.bad_select (Some rules.bad_select_of_name)
-    (some_if b.memory_use rules.bad_use_of_memory))))

@@ -39,7 +39,7 @@ module _ (s : Scope) (c : Bool) where
       statements-row _ r (both a (coded (designs.broken_statement s c (statement_of x))))
       ∙ sym (both-assoc a (coded (designs.broken_statement s c (statement_of x))) (coded (designs.broken_statements s c (statements_of r))))
 
-  -- an arm before what stands behind it
+  -- an arm before what stands after it
   before : (e : pure.Expression) (x : pure.Statement) (o : Option pure.Statement)
       → both (both (broken_at s e) (statement_at s c x)) (statement_at s c (or_empty o)) ≡ statement_at s c (arm_before e x o)
   unfolding broken_at statement_at
@@ -94,7 +94,7 @@ module _ (s : Scope) (c : Bool) where
     pub at-Nonblocking : (t : Target) (e : Expression) → x ≡ Nonblocking t e → r ≡ both (block_target_at s c (target_of t)) (broken_at s (tree_of e)) → r ≡ statement_at s c (statement_of x)
     at-Nonblocking t e i h = h ∙ assigned-later (target_of t) (tree_of e) ∙ sym (ap (λ z. statement_at s c (statement_of z)) i)
 
-    -- with nothing behind the last else
+    -- with nothing after the last else
     pub at-If-alone : (v : Vec Arm Global) (o : Option (Box Statement Global)) → x ≡ If v o → o ≡ None → (arms : List Arm) → arms ≡ v.items
         → (w : Broken) → w ≡ none → r ≡ both (ladder_from s c none arms) w → r ≡ statement_at s c (statement_of x)
     at-If-alone v o i alone arms j w is_w h =
@@ -102,7 +102,7 @@ module _ (s : Scope) (c : Bool) where
         ∙ ap (λ as_. both (ladder_from s c none as_) (statement_at s c (or_empty None))) (j ∙ sym (items_hidden-the_row-Arm-0 v))
         ∙ ladder-row _ (hidden-the_row-Arm-0 v) None none ∙ sym (ap (λ z. statement_at s c (statement_of z)) (i ∙ ap (If v) alone))
 
-    -- w is what the statement behind the last else breaks
+    -- w is what the statement after the last else breaks
     pub at-If : (v : Vec Arm Global) (o : Option (Box Statement Global)) → x ≡ If v o → (b : Box Statement Global) → o ≡ Some b → (arms : List Arm) → arms ≡ v.items
         → (y : Statement) → y ≡ b.value → (w : Broken) → w ≡ statement_at s c (statement_of y) → r ≡ both (ladder_from s c none arms) w → r ≡ statement_at s c (statement_of x)
     at-If v o i b some arms j y l w is_w h =

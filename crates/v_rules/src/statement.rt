@@ -69,7 +69,7 @@ fn broken_statements(names: Names<'_, '_>, clocked: bool, statements: &[Statemen
     all
 }
 
-/// The rules that the arms of an `if` break, and what stands behind its last `else`, which breaks these.
+/// The rules that the arms of an `if` break, and with them those that the statement after its last `else` breaks.
 #[cycle(statement)]
 fn broken_ladder(names: Names<'_, '_>, clocked: bool, arms: &[Arm<'_>], last: Broken) -> Broken
     ensures { result ≡ both (ladder_from (scope_at names.entry.scope.now) clocked none arms.now) last }

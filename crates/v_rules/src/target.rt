@@ -90,7 +90,7 @@ fn whole(parts: Written) -> Written
     }
 }
 
-/// A name with what stands behind it.
+/// A name with the selects after it.
 fn judged_place(
     names: Names<'_, '_>,
     position: Position,

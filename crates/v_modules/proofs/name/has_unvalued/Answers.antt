@@ -1,8 +1,8 @@
 use Rattle.std.proofs.Common.{arith}
 use Rattle.v_value.specs.Scope.{object_of}
 use Rattle.v_scopes.specs.Scopes.{scope_in}
-use Rattle.v_modules.proofs.Assembled.{unvalued-turn}
-use Rattle.v_modules.proofs.module.has_unvalued.Goals as goal
+use Rattle.v_modules.proofs.Named.{unvalued-turn}
+use Rattle.v_modules.proofs.name.has_unvalued.Goals as goal
 
 pub loop-each-preserved : goal.loop-each-preserved
 loop-each-preserved c =
