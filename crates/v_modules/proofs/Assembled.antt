@@ -8,13 +8,12 @@ use Rattle.verilog_trees.specs.Syntax.{ParameterDeclaration, Item, port, paramet
 use Rattle.verilog_meaning.specs.Expression.{Scope, scope_of}
 use Rattle.verilog_meaning.specs.Hierarchy.{body_parameters, all_parameters, declarations, header_ports, Placed}
 use Rattle.verilog_meaning.specs.Settled.{is_declared_among}
-use Rattle.verilog_rules.specs.Expression as rules
 use Rattle.verilog_rules.specs.Expression.{Broken as Rules, nothing, also, constant_if}
 use Rattle.verilog_designs.specs.Names.{is_among, parameter_names, names_in_parameters, names_in_ports}
 use Rattle.verilog_designs.specs.Constants.{constant_names_in_module_items, is_net, has_net_as_constant}
 use Rattle.verilog_designs.specs.Expressions.{broken_header, broken_ports, broken_declarations, broken_module_items, broken_module}
 use Rattle.v_hier.specs.Instances.{is_part, is_any, module_has_parts}
-use Rattle.v_scopes.specs.Rows.{Row, rows, objects_by}
+use Rattle.v_scopes.specs.Rows.{Row, objects_by}
 use Rattle.v_size.specs.declared.rule.Broken.{Broken}
 use Rattle.v_size.specs.Rule.{coded, both}
 use Rattle.v_modules.specs.Combined.{none, names_from, unvalued_from, shape, text, combined}
