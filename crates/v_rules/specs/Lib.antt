@@ -1,0 +1,4 @@
+pub mod Judging
+pub mod Targets
+pub mod Statements
+pub mod Items

@@ -1,0 +1,29 @@
+//! The rules that the ports and the items of a module break, in the scope of the module.
+ghost use Rattle.std.specs.Prelude.{◌≡◌, false, map};
+ghost use Rattle.std.specs.List.{list_any};
+ghost use Rattle.verilog_trees.specs.Syntax.{Source};
+ghost use Rattle.verilog_meaning.specs.Hierarchy.{header_ports};
+ghost use Rattle.verilog_designs.specs.Expressions.{broken_ports, broken_module_items};
+ghost use Rattle.v_hier.specs.Instances.{is_part};
+ghost use Rattle.v_value.specs.Scope.{scope_at};
+ghost use Rattle.v_syntax.specs.Source.{ports_of, item_of};
+ghost use Rattle.v_size.specs.Rule.{coded};
+
+use crate::item::{broken_header, broken_items};
+use v_size::{Broken, Names};
+use v_syntax::module::{Item, Ports};
+
+/// All rules that the declarations in a list of ports break.
+pub fn ports_rules(names: Names<'_, '_>, ports: &Ports<'_>) -> Broken
+    ensures { result ≡ coded (broken_ports (scope_at names.entry.scope.now) (header_ports (ports_of ports.now))) }
+{
+    broken_header(names, ports)
+}
+
+/// All rules that items break which are no parameters and no instances.
+pub fn items_rules(names: Names<'_, '_>, items: &[Item<'_>]) -> Broken
+    ensures { (source : Source) → list_any is_part (map item_of items.now) ≡ false
+        → result ≡ coded (broken_module_items source (scope_at names.entry.scope.now) (map item_of items.now)) }
+{
+    broken_items(names, items)
+}
