@@ -1,4 +1,0 @@
-pub mod Shapes
-pub mod Memories
-pub mod Named
-pub mod Assembled
