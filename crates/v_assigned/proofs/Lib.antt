@@ -1,3 +1,0 @@
-pub mod Parts
-pub mod Modules
-pub mod OneModule
