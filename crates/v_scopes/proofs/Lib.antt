@@ -3,7 +3,7 @@ mod Judged
 mod Clocks
 mod Listed
 pub mod Joined
-mod Objects
+pub mod Objects
 mod Empty
 mod Chosen
 pub mod OneClock
