@@ -2,21 +2,20 @@
 //! standard input; what differs is printed, and how many there were.
 #![tactic(auto)]
 
+mod commands;
+mod contents;
 mod profile;
 mod requests;
+mod rows;
+mod sheet;
 mod spent;
-mod table;
-mod texts;
 
+use rows::told_of_rows;
 use std::io;
-use table::Table;
+use std::io::Read;
 
 fn main(rt: HostRuntime) -> io::Result<()> {
-    let mut table = Table::new(rt.alloc());
-    for line in rt.lines(rt.alloc()) {
-        if let Some(told) = table.take(rt.alloc(), line?.as_str())? {
-            println!(rt; "{told}")?;
-        }
-    }
-    println!(rt; "{} rows, {} differ", table.rows, table.differ)
+    let mut text = String::new(rt.alloc());
+    rt.stdin().read_to_string(&mut text)?;
+    println!(rt; "{}", told_of_rows(rt.alloc(), &text)?)
 }

@@ -1,139 +1,125 @@
 //! What the first profile reads of a map or a model by itself.
 
+use crate::sheet::Sheet;
 use first_json::{
-    FirstExpression, FirstInstruction, FirstModel, FirstTerm, FirstValue, Mapped, read_map,
+    FirstExpression, FirstInstruction, FirstMap, FirstModel, FirstSort, FirstState, FirstTerm,
+    FirstValue, Mapped, read_map,
 };
 use first_model::read_first_model;
 use ila_json::ModelStop;
-use std::alloc::{AllocError, Global};
+use std::alloc::Global;
 
-/// Whether the bytes are a map of the profile.
-pub fn is_map(alloc: Global, bytes: &[u8]) -> Result<&'static str, AllocError> {
-    match read_map(alloc, bytes)? {
-        Some(_) => Ok("yes"),
-        None => Ok("no"),
+/// Adds whether the bytes are a map of the profile, or its parts.
+pub fn add_map(alloc: Global, kind: &str, bytes: &[u8], out: &mut Sheet) {
+    match read_map(alloc, bytes) {
+        Ok(Some(map)) if kind == "shown" => add_parts_of_map(&map, alloc, out),
+        Ok(Some(_)) => out.add("yes"),
+        Ok(None) => out.add("no"),
+        Err(_) => out.fail(),
     }
 }
 
-/// The model of the profile that the bytes stand for, if they do for one.
-fn read_model(alloc: Global, bytes: &[u8]) -> Result<Option<FirstModel>, AllocError> {
+/// Adds whether the bytes are a model of the profile, or its parts.
+pub fn add_model(alloc: Global, kind: &str, bytes: &[u8], out: &mut Sheet) {
     match read_first_model(alloc, bytes) {
-        Ok(model) => Ok(model),
-        Err(ModelStop::Refused(_)) => Ok(None),
-        Err(ModelStop::NoMemory) => Err(AllocError),
+        Ok(Some(model)) if kind == "shown" => add_parts_of_model(&model, alloc, out),
+        Ok(Some(_)) => out.add("yes"),
+        Ok(None) | Err(ModelStop::Refused(_)) => out.add("no"),
+        Err(ModelStop::NoMemory) => out.fail(),
     }
 }
 
-/// Whether the bytes are a model of the profile.
-pub fn is_model(alloc: Global, bytes: &[u8]) -> Result<&'static str, AllocError> {
-    match read_model(alloc, bytes)? {
-        Some(_) => Ok("yes"),
-        None => Ok("no"),
-    }
-}
-
-fn add(text: &mut String, before: &str, word: &str) -> Result<(), AllocError> {
-    text.push_str(before)?;
-    text.push_str(word)
-}
-
-fn add_expression(
-    alloc: Global,
-    text: &mut String,
-    before: &str,
-    expression: &FirstExpression,
-) -> Result<(), AllocError> {
+fn add_expression(expression: &FirstExpression, alloc: Global, out: &mut Sheet) {
     match expression {
-        FirstExpression::Identifier(name) => add(text, before, name),
-        FirstExpression::Decimal(number) => {
-            let digits = format!(in alloc; "{number}")?;
-            add(text, before, &digits)
-        }
+        FirstExpression::Identifier(name) => out.add(name),
+        FirstExpression::Decimal(number) => out.add_number(alloc, "", u128::from(*number)),
     }
 }
 
-fn add_mapped(alloc: Global, text: &mut String, list: &[Mapped]) -> Result<(), AllocError> {
+fn add_mapped(list: &[Mapped], alloc: Global, out: &mut Sheet) {
     for mapped in list {
-        add(text, " ", &mapped.name)?;
-        add_expression(alloc, text, "=", &mapped.expression)?;
+        out.add(" ");
+        out.add(&mapped.name);
+        out.add("=");
+        add_expression(&mapped.expression, alloc, out);
     }
-    Ok(())
 }
 
-/// The parts of a map.
-pub fn map_shown(alloc: Global, bytes: &[u8]) -> Result<String, AllocError> {
-    let Some(map) = read_map(alloc, bytes)? else {
-        return String::from_str(alloc, "no map");
-    };
-    let mut text = String::from_str(alloc, &map.top)?;
-    add(&mut text, ", clock ", &map.clock)?;
-    add(&mut text, ", reset ", &map.reset_signal)?;
-    add(
-        &mut text,
-        if map.reset_active { " at 1" } else { " at 0" },
-        ", start",
-    )?;
-    add_expression(alloc, &mut text, " ", &map.start)?;
-    text.push_str(", states")?;
-    add_mapped(alloc, &mut text, &map.states)?;
-    text.push_str(", inputs")?;
-    add_mapped(alloc, &mut text, &map.inputs)?;
-    text.push_str(", instructions")?;
+/// Adds the parts of a map.
+fn add_parts_of_map(map: &FirstMap, alloc: Global, out: &mut Sheet) {
+    out.add(&map.top);
+    out.add(", clock ");
+    out.add(&map.clock);
+    out.add(", reset ");
+    out.add(&map.reset_signal);
+    out.add(if map.reset_active { " at 1" } else { " at 0" });
+    out.add(", start ");
+    add_expression(&map.start, alloc, out);
+    out.add(", states");
+    add_mapped(&map.states, alloc, out);
+    out.add(", inputs");
+    add_mapped(&map.inputs, alloc, out);
+    out.add(", instructions");
     for instruction in &map.instructions {
-        add(&mut text, " ", &instruction.name)?;
-        add_expression(alloc, &mut text, "=", &instruction.commit)?;
+        out.add(" ");
+        out.add(&instruction.name);
+        out.add("=");
+        add_expression(&instruction.commit, alloc, out);
     }
-    Ok(text)
 }
 
-/// A truth value and a constant as they stand; of other terms that there is one.
-fn add_term(alloc: Global, text: &mut String, term: &FirstTerm) -> Result<(), AllocError> {
+/// Adds a truth value or a constant as it stands; of other terms that there is one.
+fn add_term(term: &FirstTerm, alloc: Global, out: &mut Sheet) {
     match term {
-        FirstTerm::Truth(true) => text.push_str("true"),
+        FirstTerm::Truth(true) => out.add("true"),
         FirstTerm::Const(width, number) => {
-            let shown = format!(in alloc; "{width}'{number}")?;
-            text.push_str(&shown)
+            out.add_number(alloc, "", u128::from(*width));
+            out.add_number(alloc, "'", *number);
         }
-        _ => text.push_str("term"),
+        _ => out.add("term"),
     }
 }
 
-fn add_instruction(
-    alloc: Global,
-    text: &mut String,
-    instruction: &FirstInstruction,
-) -> Result<(), AllocError> {
-    add(text, " ", &instruction.name)?;
+fn add_instruction(instruction: &FirstInstruction, alloc: Global, out: &mut Sheet) {
+    out.add(", ");
+    out.add(&instruction.name);
     for update in &instruction.updates {
-        add(text, " ", &update.state)?;
-        text.push_str("=")?;
-        add_term(alloc, text, &update.term)?;
+        out.add(" ");
+        out.add(&update.state);
+        out.add("=");
+        add_term(&update.term, alloc, out);
     }
-    Ok(())
 }
 
-/// The parts of a model.
-pub fn model_shown(alloc: Global, bytes: &[u8]) -> Result<String, AllocError> {
-    let Some(model) = read_model(alloc, bytes)? else {
-        return String::from_str(alloc, "no model");
-    };
-    let mut text = String::from_str(alloc, &model.name)?;
-    for state in &model.states {
-        let sort = state.sort;
-        let shown = format!(in alloc; ":{sort:?}")?;
-        add(&mut text, ", state ", &state.name)?;
-        text.push_str(&shown)?;
-        if let Some(FirstValue::Number(number)) = state.initial {
-            let shown = format!(in alloc; "={number}")?;
-            text.push_str(&shown)?;
+fn add_sort(sort: FirstSort, alloc: Global, out: &mut Sheet) {
+    match sort {
+        FirstSort::Truth => out.add(":Truth"),
+        FirstSort::Word(width) => {
+            out.add_number(alloc, ":Word(", u128::from(width));
+            out.add(")");
         }
     }
-    let inputs = format!(in alloc; ", inputs {}, valid ", model.inputs.len())?;
-    text.push_str(&inputs)?;
-    add_term(alloc, &mut text, &model.valid)?;
-    for instruction in &model.instructions {
-        text.push_str(",")?;
-        add_instruction(alloc, &mut text, instruction)?;
+}
+
+fn add_state(state: &FirstState, alloc: Global, out: &mut Sheet) {
+    out.add(", state ");
+    out.add(&state.name);
+    add_sort(state.sort, alloc, out);
+    if let Some(FirstValue::Number(number)) = state.initial {
+        out.add_number(alloc, "=", number);
     }
-    Ok(text)
+}
+
+/// Adds the parts of a model.
+fn add_parts_of_model(model: &FirstModel, alloc: Global, out: &mut Sheet) {
+    out.add(&model.name);
+    for state in &model.states {
+        add_state(state, alloc, out);
+    }
+    out.add_number(alloc, ", inputs ", model.inputs.len() as u128);
+    out.add(", valid ");
+    add_term(&model.valid, alloc, out);
+    for instruction in &model.instructions {
+        add_instruction(instruction, alloc, out);
+    }
 }

@@ -1,46 +1,51 @@
 //! What the words of command lines ask for, as the Rust crate `clap` reads them.
 
-use std::alloc::{AllocError, Global};
-use wb_words::{Check, Request, Simulate, WordsStop, request};
+use crate::sheet::Sheet;
+use std::alloc::Global;
+use wb_words::{Request, WordsStop, request};
 
-/// The words of a line.
-fn words_of(alloc: Global, line: &str) -> Result<Vec<String>, AllocError> {
+/// The words of a line. One for which no memory is left is wanting.
+fn words_of(alloc: Global, line: &str) -> Vec<String> {
     let mut words = Vec::new(alloc);
-    for word in line.split(' ') {
-        words.push(String::from_str(alloc, word)?)?;
+    if line.is_empty() {
+        return words;
     }
-    Ok(words)
+    for word in line.split(' ') {
+        if let Ok(word) = String::from_str(alloc, word) {
+            let _kept = words.push(word).is_ok();
+        }
+    }
+    words
 }
 
-/// A request as a line.
-fn told(alloc: Global, request: &Request<'_>) -> Result<String, AllocError> {
+/// Adds a request as a line.
+fn add_request(request: &Request<'_>, alloc: Global, out: &mut Sheet) {
     match request {
         Request::Check(check) => {
-            let mut line = format!(in alloc;
-                "check {} {} {}",
-                check.model, check.map, check.budget
-            )?;
+            out.add("check ");
+            out.add(check.model);
+            out.add(" ");
+            out.add(check.map);
+            out.add_number(alloc, " ", u128::from(check.budget));
             for design in check.designs.iter() {
-                line.push(' ')?;
-                line.push_str(design)?;
+                out.add(" ");
+                out.add(design);
             }
-            Ok(line)
         }
         Request::Simulate(files) => {
-            format!(in alloc; "simulate {} {}", files.model, files.script)
+            out.add("simulate ");
+            out.add(files.model);
+            out.add(" ");
+            out.add(files.script);
         }
     }
 }
 
-/// What the words of a line are answered with, as a line.
-pub fn answer(alloc: Global, line: &str, is_wordless: bool) -> Result<String, AllocError> {
-    let words = if is_wordless {
-        Vec::new(alloc)
-    } else {
-        words_of(alloc, line)?
-    };
-    match request(alloc, &words) {
-        Ok(request) => told(alloc, &request),
-        Err(stop) => format!(in alloc; "{stop:?}"),
+/// Adds what the words of a line are answered with, as a line. An empty line has none.
+pub fn add_answer(alloc: Global, line: &str, out: &mut Sheet) {
+    match request(alloc, &words_of(alloc, line)) {
+        Ok(request) => add_request(&request, alloc, out),
+        Err(WordsStop::Usage) => out.add("Usage"),
+        Err(WordsStop::NoMemory) => out.add("NoMemory"),
     }
 }

@@ -1,55 +1,100 @@
 //! Whether a log shows that a budget was spent, by the plain definition: each lemma follows by its hints, and is new.
 
 use sat_base::{Cnf, Lemma, Lit, Log};
-use std::alloc::{AllocError, Global};
+use std::alloc::Global;
 
 /// The clause or the lemma with this number that stands before a step.
 fn earlier<'a>(formula: &'a Cnf, log: &'a Log, step: usize, number: u64) -> Option<&'a [Lit]> {
-    match formula.clauses().get(number as usize) {
-        Some(clause) => Some(clause.as_slice()),
-        None => {
-            let place = number.saturating_sub(formula.clauses().len() as u64) as usize;
-            if place >= step {
-                return None;
-            }
-            match log.as_slice().get(place) {
-                Some(lemma) => Some(lemma.lits.as_slice()),
-                None => None,
-            }
+    if let Some(clause) = formula.clauses().get(number as usize) {
+        return Some(clause.as_slice());
+    }
+    let place = number.saturating_sub(formula.clauses().len() as u64) as usize;
+    if place >= step {
+        return None;
+    }
+    match log.as_slice().get(place) {
+        Some(lemma) => Some(lemma.lits.as_slice()),
+        None => None,
+    }
+}
+
+/// What is not false of a clause.
+#[derive(Clone, Copy)]
+enum Open {
+    Nothing,
+    One(Lit),
+    Several,
+}
+
+/// What is not false of a clause, where these literals are.
+fn open(clause: &[Lit], false_ones: &[Lit]) -> Open {
+    let mut found = Open::Nothing;
+    for literal in clause {
+        if false_ones.contains(literal) {
+            continue;
+        }
+        match found {
+            Open::Nothing => found = Open::One(*literal),
+            _ => return Open::Several,
         }
     }
+    found
 }
 
 /// Whether a lemma follows by its hints: each but the last names an earlier clause with exactly one literal that is not false, which
 /// so becomes true; the last names one whose literals are all false.
-fn follows(
-    alloc: Global,
-    formula: &Cnf,
-    log: &Log,
-    step: usize,
-    lemma: &Lemma,
-) -> Result<bool, AllocError> {
-    let mut false_ones = Vec::from_slice(alloc, lemma.lits.as_slice())?;
+fn follows(alloc: Global, formula: &Cnf, log: &Log, step: usize, lemma: &Lemma) -> bool {
+    let Ok(mut false_ones) = Vec::from_slice(alloc, lemma.lits.as_slice()) else {
+        return false;
+    };
     let mut hints_left = lemma.hints.len();
     for hint in lemma.hints.as_slice() {
         hints_left = hints_left.saturating_sub(1);
         let Some(clause) = earlier(formula, log, step, *hint) else {
-            return Ok(false);
+            return false;
         };
-        let mut open = clause.iter().filter(|l| !false_ones.contains(*l));
-        match (open.next(), open.next()) {
-            (None, _) => return Ok(hints_left == 0),
-            (Some(last), None) => {
+        match open(clause, &false_ones) {
+            Open::Nothing => return hints_left == 0,
+            Open::One(last) => {
                 let negated = last.negated();
-                if false_ones.contains(&negated) {
-                    return Ok(false);
+                if false_ones.contains(&negated) || false_ones.push(negated).is_err() {
+                    return false;
                 }
-                false_ones.push(negated)?;
             }
-            _ => return Ok(false),
+            Open::Several => return false,
         }
     }
-    Ok(false)
+    false
+}
+
+/// Takes the negation of each literal as false that unit propagation makes true, in one pass over the earlier clauses. Gives whether that
+/// neither fails nor makes this literal true.
+fn is_open_after(
+    formula: &Cnf,
+    log: &Log,
+    step: usize,
+    own: Lit,
+    false_ones: &mut Vec<Lit>,
+) -> bool {
+    for number in 0..formula.clauses().len().saturating_add(step) {
+        let Some(clause) = earlier(formula, log, step, number as u64) else {
+            return false;
+        };
+        match open(clause, false_ones) {
+            Open::Nothing => return false,
+            Open::One(last) => {
+                let negated = last.negated();
+                if last == own {
+                    return false;
+                }
+                if !false_ones.contains(&negated) && false_ones.push(negated).is_err() {
+                    return false;
+                }
+            }
+            Open::Several => {}
+        }
+    }
+    true
 }
 
 /// Whether unit propagation from the negations of the lemma's other literals neither fails nor makes this one true.
@@ -60,69 +105,43 @@ fn is_new_by(
     step: usize,
     lemma: &Lemma,
     own: Lit,
-) -> Result<bool, AllocError> {
+) -> bool {
     let mut false_ones = Vec::new(alloc);
     for literal in lemma.lits.as_slice() {
-        if *literal != own {
-            false_ones.push(*literal)?;
+        if *literal != own && false_ones.push(*literal).is_err() {
+            return false;
         }
     }
-    let count = formula.clauses().len().saturating_add(step);
-    for _pass in 0..count {
-        for number in 0..count {
-            let Some(clause) = earlier(formula, log, step, number as u64) else {
-                return Ok(false);
-            };
-            let mut open = clause.iter().filter(|l| !false_ones.contains(*l));
-            match (open.next(), open.next()) {
-                (None, _) => return Ok(false),
-                (Some(last), None) => {
-                    let negated = last.negated();
-                    if *last == own {
-                        return Ok(false);
-                    }
-                    if !false_ones.contains(&negated) {
-                        false_ones.push(negated)?;
-                    }
-                }
-                _ => {}
-            }
+    for _pass in 0..formula.clauses().len().saturating_add(step) {
+        if !is_open_after(formula, log, step, own, &mut false_ones) {
+            return false;
         }
     }
-    Ok(true)
+    true
 }
 
 /// Whether a lemma is over the formula's variables, none of them twice, follows, and is new.
-fn is_spent_step(
-    alloc: Global,
-    formula: &Cnf,
-    log: &Log,
-    step: usize,
-    lemma: &Lemma,
-) -> Result<bool, AllocError> {
+fn is_spent_step(alloc: Global, formula: &Cnf, log: &Log, step: usize, lemma: &Lemma) -> bool {
     let mut vars = Vec::new(alloc);
     let mut is_new = false;
     for literal in lemma.lits.as_slice() {
-        if literal.var >= formula.vars() || vars.contains(&literal.var) {
-            return Ok(false);
+        if literal.var >= formula.vars()
+            || vars.contains(&literal.var)
+            || vars.push(literal.var).is_err()
+        {
+            return false;
         }
-        vars.push(literal.var)?;
-        is_new = is_new_by(alloc, formula, log, step, lemma, *literal)? || is_new;
+        is_new = is_new_by(alloc, formula, log, step, lemma, *literal) || is_new;
     }
-    Ok(is_new && follows(alloc, formula, log, step, lemma)?)
+    is_new && follows(alloc, formula, log, step, lemma)
 }
 
 /// Whether a log is spent on a budget: so many lemmas, each of which follows and is new.
-pub fn is_spent(
-    alloc: Global,
-    formula: &Cnf,
-    log: &Log,
-    budget: usize,
-) -> Result<bool, AllocError> {
+pub fn is_spent(alloc: Global, formula: &Cnf, log: &Log, budget: usize) -> bool {
     for (step, lemma) in log.as_slice().iter().enumerate() {
-        if !is_spent_step(alloc, formula, log, step, lemma)? {
-            return Ok(false);
+        if !is_spent_step(alloc, formula, log, step, lemma) {
+            return false;
         }
     }
-    Ok(log.as_slice().len() == budget)
+    log.as_slice().len() == budget
 }

@@ -1,83 +1,63 @@
-//! Model files: what refuses them, and how they are put into a store.
+//! Model files: what refuses them, and what they say.
 
-use ila_build::{declare_inputs, declare_states, empty_table, put_machine};
-use ila_file::{Note, ShapeStop, WrittenModel, read_shape, unknown_key};
+use crate::outline::add_outline;
+use crate::sheet::Sheet;
+use ila_file::{ShapeStop, WrittenModel, read_shape, unknown_key};
 use ila_json::{ModelStop, read_document, read_model, read_written};
 use ila_rules::broken_rule;
 use serde_json::Value;
-use std::alloc::{AllocError, Global};
-use wb_terms::PutStop;
-
-/// What is found of a text that is not the file that the row wants.
-const OTHER: &str = "is no file of this kind";
+use std::alloc::Global;
 
 /// The answer that is no refusal.
 const MODEL: &str = "a model";
 
-fn note_text(alloc: Global, note: &Note) -> Result<String, AllocError> {
-    String::from_utf8_lossy(alloc, note.as_bytes())
-}
-
-/// The note of the refusal for the shape of a text, or nothing where it has the shape of a model.
-pub fn shape_note(alloc: Global, text: &str) -> Result<String, AllocError> {
-    let Ok(value) = Value::from_str(alloc, text) else {
-        return String::from_str(alloc, OTHER);
-    };
-    match read_shape(alloc, &value) {
-        Ok(_) => Ok(String::new(alloc)),
-        Err(ShapeStop::Refused(note)) => note_text(alloc, &note),
-        Err(ShapeStop::NoMemory) => Err(AllocError),
+/// Adds the note of the first unknown key, or nothing where there is none.
+fn add_unknown_key(alloc: Global, value: &Value, out: &mut Sheet) {
+    match unknown_key(alloc, value) {
+        Ok(Some(note)) => out.add_bytes(note.as_bytes()),
+        Ok(None) => {}
+        Err(_) => out.fail(),
     }
 }
 
-/// The note of the first unknown key, or nothing where there is none.
-pub fn key_note(alloc: Global, text: &str) -> Result<String, AllocError> {
-    let Ok(value) = Value::from_str(alloc, text) else {
-        return String::from_str(alloc, OTHER);
-    };
-    match unknown_key(alloc, &value)? {
-        Some(note) => note_text(alloc, &note),
-        None => Ok(String::new(alloc)),
-    }
-}
-
-/// The rule that a text of the shape of a model breaks first, and its place, or nothing where it breaks none.
-pub fn rule(alloc: Global, text: &str) -> Result<String, AllocError> {
-    let Ok(value) = Value::from_str(alloc, text) else {
-        return String::from_str(alloc, OTHER);
-    };
-    let Ok(model) = read_shape(alloc, &value) else {
-        return String::from_str(alloc, OTHER);
-    };
-    match broken_rule(alloc, &model)? {
-        Some(refusal) => {
-            let mut text = String::from_str(alloc, refusal.rule.name())?;
-            text.push_str(", ")?;
-            let note = note_text(alloc, &refusal.note)?;
-            text.push_str(&note)?;
-            Ok(text)
+/// Adds the rule that a written model breaks first, and its place, or nothing where it breaks none.
+fn add_broken_rule(model: &WrittenModel<'_>, alloc: Global, out: &mut Sheet) {
+    match broken_rule(alloc, model) {
+        Ok(Some(refusal)) => {
+            out.add(refusal.rule.name());
+            out.add(", ");
+            out.add_bytes(refusal.note.as_bytes());
         }
-        None => Ok(String::new(alloc)),
+        Ok(None) => {}
+        Err(_) => out.fail(),
     }
 }
 
-/// The note of the refusal of a file's bytes.
-pub fn note(alloc: Global, bytes: &[u8]) -> Result<String, AllocError> {
-    match read_model(alloc, bytes) {
-        Ok(_) => String::from_str(alloc, MODEL),
-        Err(ModelStop::Refused(refusal)) => note_text(alloc, &refusal.note),
-        Err(ModelStop::NoMemory) => Err(AllocError),
+/// Adds what is found for data: the note of the refusal for its shape, or, of the shape of a model, what this kind of row asks for.
+fn add_of_value(alloc: Global, value: &Value, kind: &str, out: &mut Sheet) {
+    match read_shape(alloc, value) {
+        Ok(model) => {
+            match kind {
+                "rule" => add_broken_rule(&model, alloc, out),
+                "outline" => add_outline(&model, alloc, out),
+                _ => {}
+            }
+            drop(model);
+        }
+        Err(ShapeStop::Refused(note)) => out.add_bytes(note.as_bytes()),
+        Err(ShapeStop::NoMemory) => out.fail(),
     }
 }
 
-/// What the reading of the data, and of what is written in it, answers.
-fn judged(alloc: Global, bytes: &[u8]) -> &'static str {
-    match read_document(alloc, bytes) {
-        Ok(value) => match read_written(alloc, &value) {
-            Ok(_) => MODEL,
-            Err(stop) => name_of(&stop),
-        },
-        Err(stop) => name_of(&stop),
+/// Adds what is found for a file's data.
+pub fn add_of_data(alloc: Global, file: &[u8], kind: &str, out: &mut Sheet) {
+    let Ok(value) = Value::from_slice(alloc, file) else {
+        return out.add("is not JSON");
+    };
+    if kind == "key" {
+        add_unknown_key(alloc, &value, out);
+    } else {
+        add_of_value(alloc, &value, kind, out);
     }
 }
 
@@ -88,59 +68,50 @@ fn name_of(stop: &ModelStop) -> &'static str {
     }
 }
 
+/// What the reading of what is written in data answers.
+fn judged_value(alloc: Global, value: &Value) -> &'static str {
+    match read_written(alloc, value) {
+        Ok(model) => {
+            drop(model);
+            MODEL
+        }
+        Err(stop) => name_of(&stop),
+    }
+}
+
+/// What the reading of the data, and of what is written in it, answers.
+fn judged(alloc: Global, file: &[u8]) -> &'static str {
+    match read_document(alloc, file) {
+        Ok(value) => judged_value(alloc, &value),
+        Err(stop) => name_of(&stop),
+    }
+}
+
 /// What reads a whole model answers.
-fn whole(alloc: Global, bytes: &[u8]) -> &'static str {
-    match read_model(alloc, bytes) {
+fn whole(alloc: Global, file: &[u8]) -> &'static str {
+    match read_model(alloc, file) {
         Ok(_) => MODEL,
         Err(stop) => name_of(&stop),
     }
 }
 
-/// What both answer.
-pub fn first_answer(alloc: Global, bytes: &[u8]) -> &'static str {
-    let answer = judged(alloc, bytes);
-    if whole(alloc, bytes) == answer {
-        answer
+/// Adds what both answer.
+pub fn add_first_answer(alloc: Global, file: &[u8], out: &mut Sheet) {
+    let answer = judged(alloc, file);
+    if whole(alloc, file) == answer {
+        out.add(answer);
     } else {
-        "two answers"
+        out.add("two answers");
     }
 }
 
-/// What is answered to each text that begins the bytes and is shorter.
-pub fn prefixes(alloc: Global, bytes: &[u8]) -> &'static str {
+/// Adds what is answered to each file that begins this one and is shorter.
+pub fn add_prefixes(alloc: Global, file: &[u8], out: &mut Sheet) {
     let answer = judged(alloc, b"");
-    for end in 0..bytes.len() {
-        if judged(alloc, &bytes[..end]) != answer {
-            return "two answers";
+    for end in 0..file.len() {
+        if judged(alloc, &file[..end]) != answer {
+            out.add("two answers, ");
         }
     }
-    answer
-}
-
-/// How many terms a text of the shape of a model is put into, the place of its valid condition, and how many instructions it has.
-pub fn built(alloc: Global, text: &str) -> Result<String, AllocError> {
-    let Ok(value) = Value::from_str(alloc, text) else {
-        return String::from_str(alloc, OTHER);
-    };
-    let Ok(model) = read_shape(alloc, &value) else {
-        return String::from_str(alloc, OTHER);
-    };
-    match counts(alloc, &model) {
-        Ok((terms, valid, instructions)) => {
-            format!(in alloc; "{terms} terms, valid {valid}, {instructions} instructions")
-        }
-        Err(PutStop::BadSort) => String::from_str(alloc, "bad sort"),
-        Err(PutStop::NoMemory) => Err(AllocError),
-    }
-}
-
-fn counts(alloc: Global, model: &WrittenModel<'_>) -> Result<(u64, usize, usize), PutStop> {
-    let Ok((mut terms, mut known)) = empty_table(alloc) else {
-        return Err(PutStop::NoMemory);
-    };
-    let machine = &model.machine;
-    declare_states(alloc, &mut terms, &mut known, &machine.states)?;
-    declare_inputs(alloc, &mut terms, &mut known, &model.inputs)?;
-    let (valid, instructions) = put_machine(alloc, &mut terms, &mut known, machine, &[])?;
-    Ok((terms.len(), valid.0, instructions.len()))
+    out.add(answer);
 }

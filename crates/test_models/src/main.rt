@@ -1,26 +1,21 @@
-//! Rows of terms, of models and their files, of their steps, and of scripts that are run on them. The rows are read from standard
-//! input; what differs is printed, and how many there were.
+//! Rows of models and their files, of their steps, and of scripts that are run on them. The rows are read from standard input; what
+//! differs is printed, and how many there were.
 #![tactic(auto)]
 
-mod deep;
 mod files;
 mod models;
 mod outline;
 mod parts;
+mod rows;
 mod runs;
-mod table;
-mod terms;
-mod texts;
+mod sheet;
 
+use rows::told_of_rows;
 use std::io;
-use table::Table;
+use std::io::Read;
 
 fn main(rt: HostRuntime) -> io::Result<()> {
-    let mut table = Table::new(rt.alloc());
-    for line in rt.lines(rt.alloc()) {
-        if let Some(told) = table.take(rt.alloc(), line?.as_str())? {
-            println!(rt; "{told}")?;
-        }
-    }
-    println!(rt; "{} rows, {} differ", table.rows, table.differ)
+    let mut text = String::new(rt.alloc());
+    rt.stdin().read_to_string(&mut text)?;
+    println!(rt; "{}", told_of_rows(rt.alloc(), &text)?)
 }

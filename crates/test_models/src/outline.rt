@@ -1,104 +1,87 @@
 //! Texts of the shape of a model, by their parts: states, and instructions with their updates and child programs.
 
-use crate::models::NO_MODEL;
+use crate::sheet::Sheet;
 use ila_file::{
-    BinaryOperator, WrittenInstruction, WrittenMachine, WrittenSort, WrittenState, WrittenTerm,
-    WrittenValue, read_shape,
+    BinaryOperator, WrittenInstruction, WrittenMachine, WrittenModel, WrittenSort, WrittenState,
+    WrittenTerm, WrittenValue,
 };
-use serde_json::Value;
-use std::alloc::{AllocError, Global};
+use std::alloc::Global;
 
-/// A line of what a text of the shape of a model says: its machine, and those of its instructions' child programs.
-pub fn outline(alloc: Global, file: &str) -> Result<String, AllocError> {
-    let Ok(value) = Value::from_str(alloc, file) else {
-        return String::from_str(alloc, NO_MODEL);
-    };
-    let Ok(model) = read_shape(alloc, &value) else {
-        return String::from_str(alloc, NO_MODEL);
-    };
-    let mut text = String::from_str(alloc, model.name)?;
-    add_machine(alloc, &mut text, &model.machine)?;
+/// Adds a line of what a text of the shape of a model says: its machine, and those of its instructions' child programs.
+pub fn add_outline(model: &WrittenModel<'_>, alloc: Global, out: &mut Sheet) {
+    out.add(model.name);
+    add_machine(&model.machine, alloc, out);
     for instruction in &model.machine.instructions {
         if let Some(child) = &instruction.child {
-            let steps = child.steps;
-            let shown = format!(in alloc; " child of {steps} steps")?;
-            text.push_str(&shown)?;
-            add_machine(alloc, &mut text, &child.machine)?;
+            out.add_number(alloc, " child of ", u128::from(child.steps));
+            out.add(" steps");
+            add_machine(&child.machine, alloc, out);
         }
     }
-    Ok(text)
 }
 
-fn add_machine(
-    alloc: Global,
-    text: &mut String,
-    machine: &WrittenMachine<'_>,
-) -> Result<(), AllocError> {
-    text.push_str(" {")?;
+fn add_machine(machine: &WrittenMachine<'_>, alloc: Global, out: &mut Sheet) {
+    out.add(" {");
     for state in &machine.states {
-        add_state(alloc, text, state)?;
+        add_state(state, alloc, out);
     }
     if let Some(fetch) = &machine.fetch {
-        text.push_str(" fetch ")?;
-        add_term(alloc, text, fetch)?;
+        out.add(" fetch ");
+        add_term(fetch, alloc, out);
     }
-    text.push_str(" valid ")?;
-    add_term(alloc, text, &machine.valid)?;
+    out.add(" valid ");
+    add_term(&machine.valid, alloc, out);
     for instruction in &machine.instructions {
-        add_instruction(alloc, text, instruction)?;
+        add_instruction(instruction, alloc, out);
     }
-    text.push_str(" }")
+    out.add(" }");
 }
 
-fn add_state(alloc: Global, text: &mut String, state: &WrittenState<'_>) -> Result<(), AllocError> {
-    text.push_str(" ")?;
-    text.push_str(state.name)?;
-    let sort = match state.sort {
-        WrittenSort::Truth => String::from_str(alloc, ":bool")?,
-        WrittenSort::Word(width) => format!(in alloc; ":{width}")?,
-        WrittenSort::Memory(address, width) => format!(in alloc; ":[{address},{width}]")?,
-    };
-    text.push_str(&sort)?;
-    match state.initial {
-        Some(WrittenValue::Number(number)) => {
-            let shown = format!(in alloc; "={number}")?;
-            text.push_str(&shown)
+fn add_state(state: &WrittenState<'_>, alloc: Global, out: &mut Sheet) {
+    out.add(" ");
+    out.add(state.name);
+    match state.sort {
+        WrittenSort::Truth => out.add(":bool"),
+        WrittenSort::Word(width) => out.add_number(alloc, ":", u128::from(width)),
+        WrittenSort::Memory(address, width) => {
+            out.add_number(alloc, ":[", u128::from(address));
+            out.add_number(alloc, ",", u128::from(width));
+            out.add("]");
         }
-        Some(WrittenValue::Truth(true)) => text.push_str("=true"),
-        Some(WrittenValue::Truth(false)) => text.push_str("=false"),
-        None => Ok(()),
+    }
+    match state.initial {
+        Some(WrittenValue::Number(number)) => out.add_number(alloc, "=", number),
+        Some(WrittenValue::Truth(true)) => out.add("=true"),
+        Some(WrittenValue::Truth(false)) => out.add("=false"),
+        None => {}
     }
 }
 
-fn add_instruction(
-    alloc: Global,
-    text: &mut String,
-    instruction: &WrittenInstruction<'_>,
-) -> Result<(), AllocError> {
-    text.push_str(" ")?;
-    text.push_str(instruction.name)?;
-    text.push_str("(")?;
+fn add_instruction(instruction: &WrittenInstruction<'_>, alloc: Global, out: &mut Sheet) {
+    out.add(" ");
+    out.add(instruction.name);
+    out.add("(");
     for update in &instruction.updates {
-        text.push_str(" ")?;
-        text.push_str(update.state)?;
-        text.push_str("=")?;
-        add_term(alloc, text, &update.term)?;
+        out.add(" ");
+        out.add(update.state);
+        out.add("=");
+        add_term(&update.term, alloc, out);
     }
-    text.push_str(" )")
+    out.add(" )");
 }
 
 /// A truth value, a name and a constant as they stand; of other terms the kind.
-fn add_term(alloc: Global, text: &mut String, term: &WrittenTerm<'_>) -> Result<(), AllocError> {
+fn add_term(term: &WrittenTerm<'_>, alloc: Global, out: &mut Sheet) {
     match term {
-        WrittenTerm::Name(name) => text.push_str(name),
-        WrittenTerm::Truth(true) => text.push_str("true"),
-        WrittenTerm::Truth(false) => text.push_str("false"),
+        WrittenTerm::Name(name) => out.add(name),
+        WrittenTerm::Truth(true) => out.add("true"),
+        WrittenTerm::Truth(false) => out.add("false"),
         WrittenTerm::Const(width, number) => {
-            let shown = format!(in alloc; "{width}'{number}")?;
-            text.push_str(&shown)
+            out.add_number(alloc, "", u128::from(*width));
+            out.add_number(alloc, "'", *number);
         }
-        WrittenTerm::Binary(BinaryOperator::Load, _, _) => text.push_str("load"),
-        WrittenTerm::Binary(_, _, _) => text.push_str("two"),
-        _ => text.push_str("other"),
+        WrittenTerm::Binary(BinaryOperator::Load, _, _) => out.add("load"),
+        WrittenTerm::Binary(_, _, _) => out.add("two"),
+        _ => out.add("other"),
     }
 }

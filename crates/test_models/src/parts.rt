@@ -1,146 +1,84 @@
-//! A counter's parts, which are well sorted, and changed parts.
+//! The parts of a model, and changed parts: whether they are well sorted.
 
-use ila_model::{Child, ChildId, Instruction, Parts, SortedParts, Update};
-use std::alloc::{AllocError, Global};
-use wb_terms::{NameId, Node, PutStop, Sort, TermId, Terms, Value};
+use crate::rows::halves;
+use crate::sheet::Sheet;
+use ila_model::{Child, ChildId, IlaModel, Instruction, Parts, SortedParts, Update};
+use std::alloc::Global;
+use wb_terms::{NameId, TermId, Value};
 
-/// What a row changes of a counter whose instruction INC has a child program.
-#[derive(Clone, Copy)]
-struct Row {
-    initial: u128,
-    valid: TermId,
-    update: Update,
-    around: Option<ChildId>,
-    begins: Option<u128>,
-    steps: u32,
-    child_valid: TermId,
+/// A number of a row, or a great one.
+fn number(word: &str) -> u32 {
+    word.parse::<u32>().unwrap_or(u32::MAX)
 }
 
-/// Without a change: term 3 is valid, and name 0 is updated to term 5.
-const GOOD: Row = Row {
-    initial: 0,
-    valid: TermId(3),
-    update: Update {
-        state: NameId(0),
-        term: TermId(5),
-    },
-    around: None,
-    begins: Some(0),
-    steps: 4096,
-    child_valid: TermId(7),
-};
+fn term(word: &str) -> TermId {
+    TermId(number(word) as usize)
+}
 
-/// The store of a counter of 8 bits (name 0), with an input op of one bit (1) and a child's private state of one bit (2): eight terms.
-fn store(alloc: Global) -> Result<Terms, PutStop> {
-    let (Ok(mut terms), Ok(cnt), Ok(op), Ok(step)) = (
-        Terms::new(alloc),
-        String::from_str(alloc, "cnt"),
-        String::from_str(alloc, "op"),
-        String::from_str(alloc, "step"),
-    ) else {
-        return Err(PutStop::NoMemory);
+/// Lets one name begin at a number, or at no value where the word is none. Gives whether memory was left for it.
+fn begin(values: &mut Vec<Option<Value>>, word: &str) -> bool {
+    let value = match word.parse::<u128>() {
+        Ok(number) => Some(Value::Number(number)),
+        Err(_) => None,
     };
-    let cnt = terms.declare(cnt, Sort::Word(8))?;
-    let op = terms.declare(op, Sort::Word(1))?;
-    let step = terms.declare(step, Sort::Word(1))?;
-    terms.put(Node::Name(cnt))?;
-    terms.put(Node::Name(op))?;
-    terms.put(Node::Const(1, 1))?;
-    terms.put(Node::Eq(TermId(1), TermId(2)))?;
-    terms.put(Node::Const(8, 1))?;
-    terms.put(Node::Add(TermId(0), TermId(4)))?;
-    terms.put(Node::Name(step))?;
-    terms.put(Node::Eq(TermId(6), TermId(2)))?;
-    Ok(terms)
+    values.clear();
+    values.push(value).is_ok()
 }
 
-/// The row of a change: the field and its value, `none` for no value, `update` with a name and a term.
-fn row_of(text: &str) -> Option<Row> {
-    if text.is_empty() {
-        return Some(GOOD);
-    }
-    let (field, value) = text.split_once(" ")?;
-    if field == "update" {
-        let (state, term) = value.split_once(" ")?;
-        let state = NameId(state.parse::<usize>().ok()?);
-        let term = TermId(term.parse::<usize>().ok()?);
-        return Some(Row {
-            update: Update { state, term },
-            ..GOOD
-        });
-    }
-    if field == "begins" {
-        return Some(Row {
-            begins: value.parse::<u128>().ok(),
-            ..GOOD
-        });
-    }
-    with_number(field, value.parse::<u32>().ok()?)
+/// Lets an instruction update one name: `NAME TERM`. Gives whether memory was left for it.
+fn update(instruction: &mut Instruction, text: &str) -> bool {
+    let (state, word) = halves(text, " ");
+    let state = NameId(number(state) as usize);
+    instruction.updates.clear();
+    let update = Update {
+        state,
+        term: term(word),
+    };
+    instruction.updates.push(update).is_ok()
 }
 
-/// The row in which a field is changed into a number.
-fn with_number(field: &str, number: u32) -> Option<Row> {
-    let term = TermId(number as usize);
+/// Changes a field of a child program. Gives whether there is one, and memory was left for it.
+fn change_child(child: &mut Child, field: &str, word: &str) -> bool {
     match field {
-        "initial" => Some(Row {
-            initial: u128::from(number),
-            ..GOOD
-        }),
-        "valid" => Some(Row {
-            valid: term,
-            ..GOOD
-        }),
-        "around" => Some(Row {
-            around: Some(ChildId(number as usize)),
-            ..GOOD
-        }),
-        "steps" => Some(Row {
-            steps: number,
-            ..GOOD
-        }),
-        "child_valid" => Some(Row {
-            child_valid: term,
-            ..GOOD
-        }),
-        _ => None,
+        "around" => child.around = Some(ChildId(number(word) as usize)),
+        "begins" => return begin(&mut child.initial_values, word),
+        "steps" => child.steps = number(word),
+        "child_valid" => child.valid = term(word),
+        _ => return false,
+    }
+    true
+}
+
+/// Changes a field of parts whose first instruction has a child program. Gives whether there is one, and memory was left for it.
+fn change(parts: &mut Parts, field: &str, text: &str) -> bool {
+    match field {
+        "" => true,
+        "initial" => begin(&mut parts.initial_values, text),
+        "valid" => {
+            parts.valid = term(text);
+            true
+        }
+        "update" => match parts.instructions.first_mut() {
+            Some(instruction) => update(instruction, text),
+            None => false,
+        },
+        _ => match parts.children.first_mut() {
+            Some(child) => change_child(child, field, text),
+            None => false,
+        },
     }
 }
 
-/// Whether the parts of a row are well sorted.
-fn are_sorted(alloc: Global, terms: Terms, row: &Row) -> Result<bool, AllocError> {
-    let instruction = Instruction {
-        name: String::from_str(alloc, "INC")?,
-        decode: TermId(3),
-        updates: vec![in alloc; row.update]?,
-        child: Some(ChildId(0)),
-    };
-    let child = Child {
-        around: row.around,
-        first: NameId(2),
-        initial_values: vec![in alloc; row.begins.map(Value::Number)]?,
-        valid: row.child_valid,
-        steps: row.steps,
-        instructions: Vec::new(alloc),
-    };
-    let parts = Parts {
-        terms,
-        initial_values: vec![in alloc; Some(Value::Number(row.initial))]?,
-        inputs: 1,
-        valid: row.valid,
-        instructions: vec![in alloc; instruction]?,
-        children: vec![in alloc; child]?,
-    };
-    Ok(SortedParts::new(alloc, parts)?.is_some())
-}
-
-/// Whether the parts with this change are well sorted.
-pub fn parts(alloc: Global, text: &str) -> Result<&'static str, AllocError> {
-    let (Some(row), Ok(terms)) = (row_of(text), store(alloc)) else {
-        return Ok("are no parts");
-    };
-    if are_sorted(alloc, terms, &row)? {
-        Ok("sorted")
-    } else {
-        Ok("not sorted")
+/// Adds whether the parts of a model with a change are well sorted: `FIELD VALUE`, `update NAME TERM`, or nothing.
+pub fn add_parts(alloc: Global, model: IlaModel, text: &str, out: &mut Sheet) {
+    let (field, value) = halves(text, " ");
+    let mut parts = model.parts;
+    if !change(&mut parts, field, value) {
+        return out.add("are no parts");
+    }
+    match SortedParts::new(alloc, parts) {
+        Ok(Some(_)) => out.add("sorted"),
+        Ok(None) => out.add("not sorted"),
+        Err(_) => out.fail(),
     }
 }

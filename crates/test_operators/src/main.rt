@@ -1,23 +1,26 @@
-//! Rows of operators on two words: what the evaluator gives, and what the formula of a claim on it allows; rows of products of sums, of
-//! operators on words by themselves, and of some claims and terms. The rows are read from standard input; what differs is printed, and how many there were.
+//! Rows of operators on words, of terms and their values, of claims on them by formula and solver, and of formulas by themselves. The rows
+//! are read from standard input; what differs is printed, and how many there were.
 #![tactic(auto)]
 
 mod claims;
+mod deep;
 mod expansions;
-mod products;
+mod formulas;
+mod gates;
+mod logs;
+mod operators;
 mod rows;
-mod samples;
+mod sheet;
+mod stores;
+mod values;
 mod words;
 
-use rows::Table;
+use rows::told_of_rows;
 use std::io;
+use std::io::Read;
 
 fn main(rt: HostRuntime) -> io::Result<()> {
-    let mut table = Table::new();
-    for line in rt.lines(rt.alloc()) {
-        if let Some(told) = table.take(rt.alloc(), line?.as_str())? {
-            println!(rt; "{told}")?;
-        }
-    }
-    println!(rt; "{} rows, {} differ", table.rows, table.differ)
+    let mut text = String::new(rt.alloc());
+    rt.stdin().read_to_string(&mut text)?;
+    println!(rt; "{}", told_of_rows(rt.alloc(), &text)?)
 }

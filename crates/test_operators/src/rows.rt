@@ -1,139 +1,82 @@
-//! A table of rows, line by line: `WIDTH OPERATOR X Y VALUE`, where X and Y are words of the width and VALUE is what the operator gives,
-//! a truth value as 0 or 1; and `WIDTH product BUDGET ANSWER`, where ANSWER is what is known of x * (y + z) = x * y + x * z. Besides:
-//!
-//! | row | meaning |
-//! |---|---|
-//! | `word OPERATOR WIDTH X VALUE`, `word OPERATOR WIDTH X Y VALUE` | an operator on words by itself |
-//! | `word extract WIDTH X HIGH LOW VALUE`, `word concat WIDTH X WIDTH Y VALUE` | a cut, a join |
-//! | `claim NAME => ANSWER` | what is known of a claim: `holds`, `breaks` with the number of x, or `spent` |
-//! | `gates => ANSWER` | gates that are built twice |
-//! | `expansion NAME => ANSWER` | a term with memories, whose words become names |
-//!
-//! Empty lines and those that begin with `#` are skipped.
+//! A table of rows, line by line. The head of the table says what kinds there are. Empty lines and those that begin with `#` are skipped.
 
-use crate::claims::{Found, Row, tried};
-use crate::expansions::expansion_shown;
-use crate::products::answer;
-use crate::samples::{claim_shown, gates_shown};
-use crate::words::told_of_word;
+use crate::claims::add_claim;
+use crate::deep::add_counted;
+use crate::expansions::add_expansion;
+use crate::formulas::{add_formula, add_solved, add_truths, add_under};
+use crate::gates::add_gates;
+use crate::logs::{add_checked, add_log};
+use crate::operators::add_tried;
+use crate::sheet::Sheet;
+use crate::values::{add_stored, add_value};
+use crate::words::add_word;
 use std::alloc::{AllocError, Global};
 
-/// How many rows there were, and how many of them came out otherwise.
-#[derive(Drop)]
-pub struct Table {
-    line: u64,
-    pub rows: u64,
-    pub differ: u64,
+/// What stands before and after the first mark; nothing after it where there is none.
+pub fn halves<'t>(text: &'t str, mark: &str) -> (&'t str, &'t str) {
+    text.split_once(mark).unwrap_or((text, ""))
 }
 
-impl Table {
-    /// A table without rows.
-    pub fn new() -> Table {
-        Table {
-            line: 0,
-            rows: 0,
-            differ: 0,
-        }
-    }
-
-    /// Takes a line of the table. Gives what is to be told of it, where it is a row that came out otherwise.
-    pub fn take(&mut self, alloc: Global, line: &str) -> Result<Option<String>, AllocError> {
-        self.line = self.line.saturating_add(1);
+/// A line for each row that comes out otherwise, and how many rows there are.
+pub fn told_of_rows(alloc: Global, text: &str) -> Result<String, AllocError> {
+    let mut told = Sheet::new(alloc);
+    let mut rows: u128 = 0;
+    let mut differ: u128 = 0;
+    for line in text.lines() {
         if line.is_empty() || line.starts_with("#") {
-            return Ok(None);
+            continue;
         }
-        self.rows = self.rows.saturating_add(1);
-        let told = told_of_line(alloc, line)?;
-        if told.is_empty() {
-            return Ok(None);
+        rows = rows.saturating_add(1);
+        if !is_right(alloc, line, &mut told) {
+            differ = differ.saturating_add(1);
         }
-        self.differ = self.differ.saturating_add(1);
-        let place = self.line;
-        Ok(Some(format!(in alloc; "line {place} {told}: {line}")?))
+    }
+    told.add_number(alloc, rows);
+    told.add(" rows, ");
+    told.add_number(alloc, differ);
+    told.add(" differ");
+    told.into_text()
+}
+
+/// Whether a row comes out as it says. What is found otherwise is told.
+fn is_right(alloc: Global, line: &str, told: &mut Sheet) -> bool {
+    let (row, wanted) = halves(line, " => ");
+    let (kind, text) = halves(row, " ");
+    let mut found = Sheet::new(alloc);
+    add_found(alloc, kind, text, &mut found);
+    if found.is(wanted) {
+        return true;
+    }
+    told.add(line);
+    told.add(": ");
+    told.add(found.text());
+    told.add("\n");
+    false
+}
+
+/// Adds what is found for a row of this kind.
+fn add_found(alloc: Global, kind: &str, text: &str, out: &mut Sheet) {
+    match kind {
+        "word" => add_word(alloc, text, out),
+        "claim" => add_claim(alloc, text, out),
+        "expansion" => add_expansion(alloc, text, out),
+        "gates" => add_gates(alloc, out),
+        "term" => add_value(alloc, text, out),
+        "stored" => add_stored(alloc, text, out),
+        "long" => add_counted(alloc, text, out),
+        _ => add_of_formulas(alloc, kind, text, out),
     }
 }
 
-/// What is told of a line that is a row. Nothing where all is as it says.
-fn told_of_line(alloc: Global, line: &str) -> Result<&'static str, AllocError> {
-    if let Some(text) = line.strip_prefix("word ") {
-        return told_of_word(alloc, text);
+/// Adds what is found for a row of formulas, or of an operator.
+fn add_of_formulas(alloc: Global, kind: &str, text: &str, out: &mut Sheet) {
+    match kind {
+        "formula" => add_formula(alloc, text, out),
+        "under" => add_under(alloc, text, out),
+        "value" => add_truths(alloc, text, out),
+        "log" | "step" => add_log(alloc, kind, text, out),
+        "check" => add_checked(alloc, text, out),
+        "solve" => add_solved(alloc, text, out),
+        _ => add_tried(alloc, kind, text, out),
     }
-    if let Some((row, wanted)) = line.split_once(" => ") {
-        return told_of_sample(alloc, row, wanted);
-    }
-    let told = match (row_of(line), product_of(line)) {
-        (Some(row), _) => told_of(tried(alloc, row)),
-        (None, Some(row)) if answer(alloc, row.width, row.budget) == row.answer => "",
-        (None, Some(_)) => "is answered otherwise",
-        (None, None) => "is no row",
-    };
-    Ok(told)
-}
-
-/// What is told of a row of a sample.
-fn told_of_sample(alloc: Global, row: &str, wanted: &str) -> Result<&'static str, AllocError> {
-    let (kind, name) = row.split_once(" ").unwrap_or((row, ""));
-    let found = match kind {
-        "claim" => claim_shown(alloc, name)?,
-        "gates" => gates_shown(alloc)?,
-        "expansion" => expansion_shown(alloc, name)?,
-        _ => return Ok("is no row"),
-    };
-    if found.as_str() == wanted {
-        Ok("")
-    } else {
-        Ok("is answered otherwise")
-    }
-}
-
-/// What is told of a row. Nothing where all is as the row says.
-fn told_of(found: Found) -> &'static str {
-    match found {
-        Found::Right => "",
-        Found::NoTerm => "makes no term",
-        Found::Refuted => "is refuted",
-        Found::OtherValues => "is evaluated or read back otherwise",
-        Found::Allowed => "allows another value",
-        Found::NoMemory => "found no memory",
-    }
-}
-
-/// A row from its words.
-fn row_of(line: &str) -> Option<Row<'_>> {
-    let mut words = line.split_whitespace();
-    let width = words.next()?.parse::<u32>().ok()?;
-    let operator = words.next()?;
-    let x = words.next()?.parse::<u128>().ok()?;
-    let y = words.next()?.parse::<u128>().ok()?;
-    let value = words.next()?.parse::<u128>().ok()?;
-    Some(Row {
-        width,
-        operator,
-        x,
-        y,
-        value,
-    })
-}
-
-/// A row of a product of a sum.
-#[derive(Clone, Copy)]
-struct Product<'t> {
-    width: u32,
-    budget: u64,
-    answer: &'t str,
-}
-
-fn product_of(line: &str) -> Option<Product<'_>> {
-    let mut words = line.split_whitespace();
-    let width = words.next()?.parse::<u32>().ok()?;
-    if words.next()? != "product" {
-        return None;
-    }
-    let budget = words.next()?.parse::<u64>().ok()?;
-    let answer = words.next()?;
-    Some(Product {
-        width,
-        budget,
-        answer,
-    })
 }

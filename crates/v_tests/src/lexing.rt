@@ -1,7 +1,7 @@
 //! Texts with their tokens or the kind of their refusal.
 
 use crate::sheet::Sheet;
-use std::alloc::{AllocError, Global};
+use std::alloc::Global;
 use v_lex::{LexKind, LexRefusal};
 use v_token::token::{Token, TokenKind};
 
@@ -19,34 +19,35 @@ pub fn kind_name(kind: LexKind) -> &'static str {
     }
 }
 
-/// The tokens with `|` between them.
-pub fn joined(alloc: Global, tokens: &[Token<'_>]) -> Result<String, AllocError> {
-    let mut out = Sheet::new(alloc);
+/// Adds the tokens with a mark between them.
+pub fn add_joined(tokens: &[Token<'_>], mark: &str, out: &mut Sheet) {
     let mut before = "";
     for token in tokens {
         out.add(before);
         out.add(token.text);
-        before = "|";
+        before = mark;
     }
-    out.into_text()
 }
 
-/// The mark that a text of one token is.
-pub fn mark(alloc: Global, tokens: &[Token<'_>]) -> Result<String, AllocError> {
+/// Adds the mark that a text of one token is.
+pub fn add_mark(tokens: &[Token<'_>], alloc: Global, out: &mut Sheet) {
     match tokens {
-        [token] => match token.kind {
-            TokenKind::Mark(mark) => format!(in alloc; "{mark:?}"),
-            _ => String::from_str(alloc, "no mark"),
+        [Token {
+            kind: TokenKind::Mark(mark),
+            ..
+        }] => match format!(in alloc; "{mark:?}") {
+            Ok(text) => out.add(&text),
+            Err(_) => out.fail(),
         },
-        _ => String::from_str(alloc, "not one token"),
+        _ => out.add("is not one mark"),
     }
 }
 
-/// The file and the text of a refusal's note.
-pub fn note(alloc: Global, refusal: &LexRefusal) -> Result<String, AllocError> {
-    let file = refusal.note.file;
-    let text = String::from_utf8_lossy(alloc, refusal.note.as_bytes())?;
-    format!(in alloc; "file {file} {text}")
+/// Adds the file and the text of a refusal's note.
+pub fn add_note(alloc: Global, refusal: &LexRefusal, out: &mut Sheet) {
+    out.add_number(alloc, "file ", u128::from(refusal.note.file));
+    out.add(" ");
+    out.add_bytes(refusal.note.as_bytes());
 }
 
 /// Whether a token takes so many bytes at most.

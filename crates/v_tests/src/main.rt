@@ -1,24 +1,22 @@
-//! Rows of texts of Verilog: their tokens, and the trees that are read from them. The rows are read from standard input; what differs is
-//! printed, and how many there were.
+//! Rows of texts of Verilog: their tokens, the trees that are read from them, and what is printed of these. The rows are read from standard
+//! input; what differs is printed, and how many there were.
 #![tactic(auto)]
 
+mod files;
 mod lexing;
+mod printing;
 mod reading;
+mod rows;
 mod sheet;
 mod shown_expressions;
 mod shown_statements;
-mod table;
-mod texts;
 
+use rows::told_of_rows;
 use std::io;
-use table::Table;
+use std::io::Read;
 
 fn main(rt: HostRuntime) -> io::Result<()> {
-    let mut table = Table::new();
-    for line in rt.lines(rt.alloc()) {
-        if let Some(told) = table.take(rt.alloc(), line?.as_str())? {
-            println!(rt; "{told}")?;
-        }
-    }
-    println!(rt; "{} rows, {} differ", table.rows, table.differ)
+    let mut text = String::new(rt.alloc());
+    rt.stdin().read_to_string(&mut text)?;
+    println!(rt; "{}", told_of_rows(rt.alloc(), &text)?)
 }

@@ -1,18 +1,16 @@
 //! Texts with their trees, or how many tokens are left where the reading stops.
 
-use crate::lexing::kind_name;
 use crate::sheet::Sheet;
 use crate::shown_expressions::show as show_expression;
 use crate::shown_statements::show as show_statement;
-use std::alloc::{AllocError, Global};
+use std::alloc::Global;
 use v_body::statement::statement;
 use v_dotted::{OwnedToken, dotted_tokens, whole_expression};
 use v_expr::number::number;
 use v_expr::{ExpressionStop, expression, selects};
-use v_lex::{LexStop, tokens};
 use v_parse::{ParseStop, parse};
 use v_place::{left_at_first_wrong, left_at_first_wrong_in_expression};
-use v_syntax::tree::{Expression, Statement};
+use v_syntax::tree::Expression;
 use v_token::token::{Token, TokenKind};
 
 fn token<'s>(kind: TokenKind, text: &'s str) -> Token<'s> {
@@ -24,182 +22,161 @@ fn token<'s>(kind: TokenKind, text: &'s str) -> Token<'s> {
     }
 }
 
-/// A refusal by how many tokens are left.
-fn refused(alloc: Global, stop: ExpressionStop) -> Result<String, AllocError> {
+/// Adds a refusal by how many tokens are left, or, of a long text, that it is refused.
+fn add_refused(alloc: Global, kind: &str, stop: ExpressionStop, out: &mut Sheet) {
     match stop {
-        ExpressionStop::Refused(left) => format!(in alloc; "refused {left}"),
-        ExpressionStop::NoMemory => Err(AllocError),
+        ExpressionStop::Refused(_) if kind == "expressions" || kind == "statements" => {
+            out.add("refused")
+        }
+        ExpressionStop::Refused(left) => out.add_number(alloc, "refused ", left as u128),
+        ExpressionStop::NoMemory => out.fail(),
     }
 }
 
-/// The text, and how many tokens stand behind what was read, if any.
-fn with_rest(alloc: Global, text: String, left: usize) -> Result<String, AllocError> {
-    if left == 0 {
-        return Ok(text);
+/// Adds how many tokens stand behind what was read, if any.
+fn add_rest(alloc: Global, left: usize, out: &mut Sheet) {
+    if left > 0 {
+        out.add_number(alloc, " and ", left as u128);
+        out.add(" more");
     }
-    format!(in alloc; "{text} and {left} more")
 }
 
-fn expression_text(
-    alloc: Global,
-    tree: &Expression<'_>,
-    left: usize,
-) -> Result<String, AllocError> {
-    let mut out = Sheet::new(alloc);
-    show_expression(tree, &mut out);
-    with_rest(alloc, out.into_text()?, left)
+/// Adds whether all of a long text was read.
+fn add_whole(left: usize, out: &mut Sheet) {
+    out.add(if left == 0 { "read" } else { "refused" });
 }
 
-fn statement_text(alloc: Global, tree: &Statement<'_>, left: usize) -> Result<String, AllocError> {
-    let mut out = Sheet::new(alloc);
-    show_statement(tree, &mut out);
-    with_rest(alloc, out.into_text()?, left)
-}
-
-/// The expression that tokens begin with.
-fn expression_shown(alloc: Global, tokens: &[Token<'_>]) -> Result<String, AllocError> {
+/// Adds the expression that tokens begin with.
+fn add_expression(tokens: &[Token<'_>], alloc: Global, kind: &str, out: &mut Sheet) {
     match expression(alloc, tokens) {
-        Ok((tree, rest)) => expression_text(alloc, &tree, rest.len()),
-        Err(stop) => refused(alloc, stop),
+        Ok((tree, rest)) => {
+            if kind == "expression" {
+                show_expression(&tree, out);
+                add_rest(alloc, rest.len(), out);
+            } else {
+                add_whole(rest.len(), out);
+            }
+            drop(tree);
+        }
+        Err(stop) => add_refused(alloc, kind, stop, out),
     }
 }
 
-/// The statement that tokens begin with.
-fn statement_shown(alloc: Global, tokens: &[Token<'_>]) -> Result<String, AllocError> {
+/// Adds the statement that tokens begin with.
+fn add_statement(tokens: &[Token<'_>], alloc: Global, kind: &str, out: &mut Sheet) {
     match statement(alloc, tokens) {
-        Ok((tree, rest)) => statement_text(alloc, &tree, rest.len()),
-        Err(stop) => refused(alloc, stop),
+        Ok((tree, rest)) => {
+            if kind == "statement" {
+                show_statement(&tree, out);
+                add_rest(alloc, rest.len(), out);
+            } else {
+                add_whole(rest.len(), out);
+            }
+            drop(tree);
+        }
+        Err(stop) => add_refused(alloc, kind, stop, out),
     }
 }
 
-/// What the name of a system function, by itself, is read as.
-pub fn system(alloc: Global, text: &str) -> Result<String, AllocError> {
-    match expression(alloc, &[token(TokenKind::System, text)]) {
-        Ok(_) => String::from_str(alloc, "read"),
-        Err(stop) => refused(alloc, stop),
-    }
+/// Adds what the name of a system function, by itself, is read as.
+pub fn add_system(alloc: Global, text: &str, out: &mut Sheet) {
+    add_expression(&[token(TokenKind::System, text)], alloc, "system", out);
 }
 
-fn left_shown(alloc: Global, left: usize) -> Result<String, AllocError> {
-    format!(in alloc; "{left} left")
+fn add_left(alloc: Global, left: usize, out: &mut Sheet) {
+    out.add_number(alloc, "", left as u128);
+    out.add(" left");
 }
 
-/// How many tokens are left behind the selects that tokens begin with.
-fn selects_left(alloc: Global, tokens: &[Token<'_>]) -> Result<String, AllocError> {
+/// Adds how many tokens are left behind the selects that tokens begin with.
+fn add_selects(tokens: &[Token<'_>], alloc: Global, kind: &str, out: &mut Sheet) {
     match selects(alloc, tokens) {
-        Ok((_, rest)) => left_shown(alloc, rest.len()),
-        Err(stop) => refused(alloc, stop),
+        Ok((tree, rest)) => {
+            add_left(alloc, rest.len(), out);
+            drop(tree);
+        }
+        Err(stop) => add_refused(alloc, kind, stop, out),
     }
 }
 
-/// A number: its size, if any, and what stands from the quote on.
-pub fn number_shown(alloc: Global, text: &str) -> Result<String, AllocError> {
+/// Adds how many tokens are left at the first that is wrong, in a source or in an expression.
+fn add_wrong(tokens: &[Token<'_>], alloc: Global, kind: &str, out: &mut Sheet) {
+    let found = match kind {
+        "wrong" => left_at_first_wrong(alloc, tokens),
+        _ => left_at_first_wrong_in_expression(alloc, tokens),
+    };
+    match found {
+        Ok(left) => add_left(alloc, left, out),
+        Err(_) => out.fail(),
+    }
+}
+
+/// Adds a number: its size, if any, and what stands from the quote on.
+pub fn add_number_row(alloc: Global, text: &str, out: &mut Sheet) {
     let Some((size, _)) = text.split_once("'") else {
-        return number_of(alloc, &[token(TokenKind::Decimal, text)]);
+        return add_number_of(&[token(TokenKind::Decimal, text)], alloc, out);
     };
     let based = token(TokenKind::Based, text.strip_prefix(size).unwrap_or(text));
     if size.is_empty() {
-        number_of(alloc, &[based])
+        add_number_of(&[based], alloc, out)
     } else {
-        number_of(alloc, &[token(TokenKind::Decimal, size), based])
+        add_number_of(&[token(TokenKind::Decimal, size), based], alloc, out)
     }
 }
 
-fn number_of(alloc: Global, tokens: &[Token<'_>]) -> Result<String, AllocError> {
+fn add_number_of(tokens: &[Token<'_>], alloc: Global, out: &mut Sheet) {
     match number(tokens) {
-        Some((number, [])) => format!(in alloc; "{number:?}"),
-        _ => String::from_str(alloc, "is no number"),
+        Some((number, [])) => match format!(in alloc; "{number:?}") {
+            Ok(text) => out.add(&text),
+            Err(_) => out.fail(),
+        },
+        _ => out.add("is no number"),
     }
 }
 
-/// The value and the width of tokens with dotted names, where they are a number.
-fn dotted(alloc: Global, tokens: &[Token<'_>]) -> Result<String, AllocError> {
+/// Adds the value and the width of tokens with dotted names, where they are a number.
+fn add_dotted(tokens: &[Token<'_>], alloc: Global, out: &mut Sheet) {
     match dotted_tokens(alloc, tokens) {
-        Ok(joined) => dotted_number(alloc, &joined),
-        Err(_) => String::from_str(alloc, "no tokens"),
+        Ok(joined) => add_dotted_number(&joined, alloc, out),
+        Err(_) => out.add("no tokens"),
     }
 }
 
-fn dotted_number(alloc: Global, tokens: &[OwnedToken]) -> Result<String, AllocError> {
+fn add_dotted_number(tokens: &[OwnedToken], alloc: Global, out: &mut Sheet) {
     match whole_expression(alloc, tokens) {
-        Ok(Expression::Number(number)) => {
-            format!(in alloc; "{} in {} bits", number.value, number.width)
+        Ok(tree) => {
+            if let Expression::Number(number) = &tree {
+                out.add_number(alloc, "", number.value);
+                out.add_number(alloc, " in ", u128::from(number.width));
+                out.add(" bits");
+            }
+            drop(tree);
         }
-        _ => String::from_str(alloc, "no number"),
+        Err(_) => out.add("no expression"),
     }
 }
 
-/// Whether tokens, all of them, are an expression.
-fn expression_chain(alloc: Global, tokens: &[Token<'_>]) -> &'static str {
-    match expression(alloc, tokens) {
-        Ok((_, [])) => "read",
-        _ => "refused",
-    }
-}
-
-/// Whether tokens, all of them, are a statement.
-fn statement_chain(alloc: Global, tokens: &[Token<'_>]) -> &'static str {
-    match statement(alloc, tokens) {
-        Ok((_, [])) => "read",
-        _ => "refused",
-    }
-}
-
-/// What tokens are as this kind of row reads them.
-pub fn read_as(alloc: Global, kind: &str, tokens: &[Token<'_>]) -> Result<String, AllocError> {
-    match kind {
-        "expression" => expression_shown(alloc, tokens),
-        "statement" => statement_shown(alloc, tokens),
-        "selects" => selects_left(alloc, tokens),
-        "wrong" => left_shown(alloc, left_at_first_wrong(alloc, tokens)?),
-        "wrong_in_expression" => {
-            left_shown(alloc, left_at_first_wrong_in_expression(alloc, tokens)?)
-        }
-        "dotted" => dotted(alloc, tokens),
-        "expressions" => String::from_str(alloc, expression_chain(alloc, tokens)),
-        "statements" => String::from_str(alloc, statement_chain(alloc, tokens)),
-        _ => String::from_str(alloc, "is no row"),
-    }
-}
-
-/// The kind that refuses tokens as a source, or that they have a tree.
-fn source_kind(alloc: Global, tokens: &[Token<'_>]) -> &'static str {
+/// Adds the kind that refuses tokens as a source, or that they have a tree.
+fn add_source(tokens: &[Token<'_>], alloc: Global, out: &mut Sheet) {
     match parse(alloc, tokens) {
-        Ok(_) => "tree",
-        Err(ParseStop::Refused(_)) => "V6",
-        Err(ParseStop::NoMemory) => "no memory",
-    }
-}
-
-/// The kind that refuses files, or that they have a tree.
-pub fn file_kind(alloc: Global, files: &[Vec<u8>]) -> &'static str {
-    match tokens(alloc, files) {
-        Ok(tokens) => source_kind(alloc, &tokens),
-        Err(LexStop::Refused(refusal)) => kind_name(refusal.kind),
-        Err(LexStop::NoMemory) => "no memory",
-    }
-}
-
-fn bytes_kind(alloc: Global, bytes: &[u8]) -> Result<&'static str, AllocError> {
-    let mut files = Vec::new(alloc);
-    files.push(Vec::from_slice(alloc, bytes)?)?;
-    Ok(file_kind(alloc, &files))
-}
-
-/// What each file is answered that begins a file, is shorter and is not empty.
-pub fn cuts(alloc: Global, files: &[Vec<u8>]) -> Result<&'static str, AllocError> {
-    let [file] = files else {
-        return Ok("not one file");
-    };
-    let mut answer = "too short";
-    for end in 1..file.len() {
-        let found = bytes_kind(alloc, &file[..end])?;
-        if end == 1 {
-            answer = found;
+        Ok(tree) => {
+            out.add("tree");
+            drop(tree);
         }
-        if found != answer {
-            return Ok("several answers");
-        }
+        Err(ParseStop::Refused(_)) => out.add("V6"),
+        Err(ParseStop::NoMemory) => out.fail(),
     }
-    Ok(answer)
+}
+
+/// Adds what tokens are as this kind of row reads them.
+pub fn add_read(tokens: &[Token<'_>], alloc: Global, kind: &str, out: &mut Sheet) {
+    match kind {
+        "expression" | "expressions" => add_expression(tokens, alloc, kind, out),
+        "statement" | "statements" => add_statement(tokens, alloc, kind, out),
+        "selects" => add_selects(tokens, alloc, kind, out),
+        "wrong" | "wrong_in_expression" => add_wrong(tokens, alloc, kind, out),
+        "dotted" => add_dotted(tokens, alloc, out),
+        "file" => add_source(tokens, alloc, out),
+        _ => out.add("is no row"),
+    }
 }

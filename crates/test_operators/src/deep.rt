@@ -2,11 +2,13 @@
 
 ghost use Rattle.std.specs.Prelude.{◌≡◌, ◌<◌, [], IfOk, length};
 
-use std::alloc::{AllocError, Global};
+use crate::sheet::Sheet;
+use crate::stores::small;
+use std::alloc::Global;
 use wb_terms::{Env, Node, PutStop, Scratch, TermId, Terms, eval};
 
 /// The number 1 in 8 bits and then, so many times, one more by three terms: `(x + x) - (x - 1)`.
-fn counter(alloc: Global, times: usize) -> Result<(Terms, TermId), PutStop>
+fn counter(alloc: Global, times: u32) -> Result<(Terms, TermId), PutStop>
     ensures names { IfOk result (λ c. c.0.names ≡ []) }
     ensures last { IfOk result (λ c. c.1.0 < length c.0.nodes) }
 {
@@ -23,15 +25,18 @@ fn counter(alloc: Global, times: usize) -> Result<(Terms, TermId), PutStop>
     Ok((terms, last))
 }
 
-/// How many terms there are after so many times, and the value of the last.
-pub fn counted(alloc: Global, times: &str) -> Result<String, AllocError> {
-    let Ok((terms, last)) = counter(alloc, times.parse::<usize>().unwrap_or(0)) else {
-        return Err(AllocError);
+/// Adds how many terms there are after so many times, and the value of the last.
+pub fn add_counted(alloc: Global, times: &str, out: &mut Sheet) {
+    let Ok((terms, last)) = counter(alloc, small(times)) else {
+        return out.add("no memory");
+    };
+    let Ok(mut scratch) = Scratch::new(alloc, &terms) else {
+        return out.add("no memory");
     };
     let env = Env {
         values: Vec::new(alloc),
     };
-    let mut scratch = Scratch::new(alloc, &terms)?;
-    let (length, value) = (terms.len(), eval(&terms, &env, &mut scratch, last));
-    format!(in alloc; "{length} terms, {value}")
+    out.add_number(alloc, u128::from(terms.len()));
+    out.add(" terms, ");
+    out.add_number(alloc, eval(&terms, &env, &mut scratch, last));
 }

@@ -1,5 +1,5 @@
 use Rattle.std.proofs.Common.{◌≡◌, ◌<◌, [], length}
-use Rattle.test_models.proofs.deep.counter.Given as goal
+use Rattle.test_operators.proofs.deep.counter.Given as goal
 
 abbrev pub invariant-loop : goal.invariant-loop
 invariant-loop l = record {
