@@ -65,7 +65,7 @@ ranged-constant : (s : Scope) (signed : Bool) (r : Option Range) → is_some (ra
 ranged-constant s signed None = refl
 ranged-constant s signed (Some r) = refl
 
-object-constant : (o : Option Declaration) → is_some (object_or_undeclared (option_map (declared_object (scope_of [])) o)).constant ≡ false
+pub object-constant : (o : Option Declaration) → is_some (object_or_undeclared (option_map (declared_object (scope_of [])) o)).constant ≡ false
 object-constant None = refl
 object-constant (Some x) = ranged-constant (scope_of []) x.signed x.range
 

@@ -1,12 +1,11 @@
 -- What is declared of a name, and the direction that its port has.
 use Rattle.std.proofs.Common.{◌≡◌, ◌∙◌, refl, ap, sym, cond, Bool, true, false, List, [], ◌∷◌, ◌++◌, Option, Some, None, is_some}
 use Rattle.std.specs.Prelude.{◌||◌}
-use Rattle.std.proofs.lemmas.Bool.{true≢false, false≢true}
 use Rattle.std.proofs.lemmas.List.{append_assoc}
 use Rattle.wb_values.specs.Value.{Name, same_name, Entries, entry_of}
 use Rattle.wb_values.specs.Choice.{first_of}
 use Rattle.verilog_trees.specs.Syntax.{Expression, Range, Direction, PortDeclaration, Item, port, parameter, wires, variables, assign, always, instances, Module}
-use Rattle.verilog_meaning.specs.Hierarchy.{Declaration, each_port, port_declarations, wire_declarations, variable_declarations, item_declarations, header_ports, declarations, both_declarations, and_later, declaration_of}
+use Rattle.verilog_meaning.specs.Hierarchy.{Declaration, each_port, port_declarations, wire_declarations, variable_declarations, item_declarations, header_ports, declarations, and_later, declaration_of}
 use Rattle.verilog_meaning.specs.Settled.{is_declared_among, named_ports, declared_ports, item_ports, port_directions}
 
 abbrev pub direction_at : Option Declaration → Option Direction

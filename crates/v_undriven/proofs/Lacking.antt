@@ -1,6 +1,6 @@
 -- Spans that have something that a table lacks, and bits that are read and have no driver.
-use Rattle.std.proofs.Common.{◌≡◌, ◌∙◌, ℕ, zero, refl, ap, sym, subst, Bool, true, false, List, [], ◌∷◌, inl, inr}
-use Rattle.std.specs.Prelude.{◌||◌, ◌⊎◌, ◌↔◌, IsTrue}
+use Rattle.std.proofs.Common.{◌≡◌, ◌∙◌, ℕ, zero, refl, sym, subst, Bool, true, false, List, [], ◌∷◌, inl, inr}
+use Rattle.std.specs.Prelude.{◌||◌, ◌↔◌, IsTrue}
 use Rattle.std.specs.declared.vec.Vec.{Vec}
 use Rattle.std.specs.declared.alloc.Global.{Global}
 use Rattle.std.proofs.lemmas.Bool.{true≢false, false≢true, or_left, or_right}
@@ -14,7 +14,7 @@ use Rattle.v_flow.specs.Spans.{bits_of, bits_in}
 use Rattle.v_masks.proofs.Bits.{set-none, set-or}
 use Rattle.v_masks.proofs.Plain.{first-word}
 use Rattle.v_scopes.specs.declared.table.ModuleScope.{ModuleScope}
-use Rattle.v_drivers.specs.Tables.{Masks, span_mask, spans_mask}
+use Rattle.v_drivers.specs.Tables.{Masks, spans_mask}
 use Rattle.v_drivers.specs.Sets.{drivers}
 use Rattle.v_drivers.specs.Lists.{sets_in}
 use Rattle.v_drivers.proofs.Touching.{touched, Touches, case-on, touched-left, touched-right, touched-parts, same-self, span-touches, touches-span, name-of, mask-bits, bits-mask}
@@ -22,8 +22,8 @@ use Rattle.v_drivers.proofs.Meeting.{touched-memory, touched-other, memory-touch
 use Rattle.v_drivers.proofs.Walking.{OneTouches}
 use Rattle.v_undriven.specs.Names.{needs_driver}
 use Rattle.v_undriven.specs.Reads.{module_reads}
-use Rattle.v_undriven.specs.Tables.{drivers_mask, HasMore, OneHasMore}
-use Rattle.v_undriven.specs.Undriven.{OneHas, HasAnyAs, HasAny, HasUndrivenBit}
+use Rattle.v_undriven.specs.Tables.{drivers_mask, OneHasMore}
+use Rattle.v_undriven.specs.Undriven.{OneHas, HasAnyAs, HasUndrivenBit}
 use Rattle.v_undriven.proofs.Within.{module-within}
 
 either : {A : Type 0} (p q : Bool) → (p || q) ≡ true → (p ≡ true → A) → (q ≡ true → A) → A

@@ -1,6 +1,6 @@
 -- What the items of a module read, and what drives its bits, by lists: continuous assignments, clocked blocks, other blocks.
 use Rattle.std.proofs.Common.{◌≡◌, ◌∙◌, ℕ, refl, ap, sym, subst, cond, Bool, true, false, inl, inr, List, [], ◌∷◌, ◌++◌}
-use Rattle.std.specs.Prelude.{◌||◌, ◌&&◌, ◌⊎◌, map}
+use Rattle.std.specs.Prelude.{◌||◌, map}
 use Rattle.std.specs.List.{list_any}
 use Rattle.std.proofs.lemmas.Bool.{false≢true, or_left, or_right, and_parts, and_from}
 use Rattle.std.proofs.lemmas.List.{map-append}
@@ -11,8 +11,8 @@ use Rattle.verilog_meaning.specs.Register.{is_clocked, clocked_blocks, combinati
 use Rattle.verilog_meaning.specs.Settled.{assignments, wire_assignments, one_may_reach}
 use Rattle.verilog_designs.specs.Reads.{BitSet, reads}
 use Rattle.verilog_designs.specs.Drivers.{statement_reads, parts_of, all_parts_of}
-use Rattle.v_drivers.specs.Sets.{reached_by, assigned_by, target_drivers, assignments_drivers, blocks_drivers, drivers}
-use Rattle.v_undriven.specs.Reads.{links_read, item_reads, all_items_read}
+use Rattle.v_drivers.specs.Sets.{reached_by, target_drivers, assignments_drivers, blocks_drivers, drivers}
+use Rattle.v_undriven.specs.Reads.{links_read, all_items_read}
 use Rattle.v_undriven.specs.Undriven.{OneHas}
 
 -- ---- truth values

@@ -1,11 +1,11 @@
 -- The turns of loops over drivers and over spans.
 use Rattle.std.proofs.Common.{◌≡◌, ◌∙◌, ℕ, zero, suc, ◌+◌, ◌<◌, refl, ap, sym, subst, arith, Bool, true, false, not, List, [], ◌∷◌, length, drop, get_or, inl, inr, Bor}
-use Rattle.std.specs.Prelude.{◌||◌, ◌&&◌, ◌⊎◌, ◌==◌, IsTrue}
+use Rattle.std.specs.Prelude.{◌||◌, ◌&&◌, ◌==◌, IsTrue}
 use Rattle.std.specs.BTreeMap.{BTreeMap}
 use Rattle.std.specs.declared.vec.Vec.{Vec}
 use Rattle.std.specs.declared.alloc.Global.{Global}
 use Rattle.std.proofs.lemmas.Bool.{true≢false, false≢true, and_parts, and_from}
-use Rattle.std.proofs.lemmas.List.{drop_more}
+use Rattle.std.proofs.lemmas.Bool.Decides.{nat_tests}
 use Rattle.wb_values.specs.Value.{Name}
 use Rattle.verilog_meaning.specs.Expression.{Scope}
 use Rattle.verilog_meaning.specs.Register.{is_set}
@@ -46,7 +46,7 @@ positive (suc n) h = omega arith
 
 not-nothing : (n b : ℕ) → is_set n b ≡ true → not (n == 0) ≡ true
 not-nothing zero b h = absurd (false≢true (sym (set-none b) ∙ h))
-not-nothing (suc n) b h = refl
+not-nothing (suc n) b h = let l : 0 < suc n = omega arith in grind (arith, nat_tests, l)
 
 negated : (t : Bool) → not t ≡ true → t ≡ false
 negated false h = refl
@@ -77,11 +77,11 @@ module _ (s : Scope) (names : ModuleScope) (clock : Name) (f : Masks) where
   begun all = record { forth = λ h. h; back = λ h. h }
 
   passed : (x : Span) (rest : List Span) → (IsTrue (needs_driver names clock x.name.now) → HasMore s f x → ⊥) → OneHasMore s names clock f (x ∷ rest) → OneHasMore s names clock f rest
-  passed x rest no (inl (needs, more)) = absurd (no needs more)
-  passed x rest no (inr h) = h
+  passed x rest none (inl (needs, more)) = absurd (none needs more)
+  passed x rest none (inr h) = h
 
   onward : (all rest : List Span) (x : Span) → (IsTrue (needs_driver names clock x.name.now) → HasMore s f x → ⊥) → IsLeft all (x ∷ rest) → IsLeft all rest
-  onward all rest x no l = record { forth = λ h. passed x rest no (l.forth h); back = λ h. l.back (inr h) }
+  onward all rest x none l = record { forth = λ h. passed x rest none (l.forth h); back = λ h. l.back (inr h) }
 
   pub turn-unneeded : (all : List Span) (i : ℕ) (r : Span) → i < length all → r ≡ get_or all i r → needs_driver names clock r.name.now ≡ false
       → IsLeft all (drop i all) → IsLeft all (drop (i + 1) all)
@@ -89,7 +89,7 @@ module _ (s : Scope) (names : ModuleScope) (clock : Name) (f : Masks) where
       onward all (drop (i + 1) all) r (λ needs more. true≢false (sym needs ∙ e)) (subst (IsLeft all) (rest_is all i r h is) l)
 
   pub turn-driven : (all : List Span) (i : ℕ) (r : Span) → i < length all → r ≡ get_or all i r → (HasMore s f r → ⊥) → IsLeft all (drop i all) → IsLeft all (drop (i + 1) all)
-  turn-driven all i r h is no l = onward all (drop (i + 1) all) r (λ needs more. no more) (subst (IsLeft all) (rest_is all i r h is) l)
+  turn-driven all i r h is none l = onward all (drop (i + 1) all) r (λ needs more. none more) (subst (IsLeft all) (rest_is all i r h is) l)
 
   pub found : (all : List Span) (i : ℕ) (r : Span) → i < length all → r ≡ get_or all i r → IsTrue (needs_driver names clock r.name.now) → HasMore s f r
       → IsLeft all (drop i all) → OneHasMore s names clock f all

@@ -1,31 +1,31 @@
 -- What the answer means for a design that is one module.
-use Rattle.std.proofs.Common.{◌≡◌, ◌∙◌, ℕ, refl, ap, sym, subst, arith, Bool, true, false, not, cond, inl, inr, List, [], ◌∷◌, Contains, Option, Some, None, is_some, is_none, option_map}
-use Rattle.std.specs.Prelude.{◌||◌, ◌&&◌, ◌↔◌, IsTrue}
+use Rattle.std.proofs.Common.{◌≡◌, ◌∙◌, ℕ, refl, ap, sym, subst, arith, Bool, true, false, not, cond, List, [], ◌∷◌, Contains, Option, Some, None, is_some, is_none, option_map}
+use Rattle.std.specs.Prelude.{◌||◌, ◌&&◌, ◌↔◌}
 use Rattle.std.specs.List.{list_any}
 use Rattle.std.proofs.lemmas.Bool.{true≢false, false≢true, or_left, or_right, and_parts, and_from}
 use Rattle.std.proofs.lemmas.Slice.Eq.{bytes_eq-Decides}
 use Rattle.wb_values.specs.Value.{Name, same_name, entry_of}
-use Rattle.verilog_trees.specs.Syntax.{Expression, name, whole, Target, Statement, Direction, input, output, Module}
+use Rattle.verilog_trees.specs.Syntax.{name, whole, Direction, input, output, Module}
 use Rattle.verilog_meaning.specs.Expression.{Scope, scope_of, is_memory}
 use Rattle.verilog_meaning.specs.Register.{clocked_blocks, combinational_blocks, is_bit_of, one_may_assign}
 use Rattle.verilog_meaning.specs.Hierarchy.{Declaration, declarations, declaration_of, instance_step, Placed, placed_scope}
-use Rattle.verilog_meaning.specs.Settled.{Design, at_path, IsPlacedIn, is_declared_among, IsDeclared, Connection, assignments, port_connections, port_directions, HasPort, one_may_reach, IsDriven, IsBitOf}
+use Rattle.verilog_meaning.specs.Settled.{Design, at_path, IsPlacedIn, is_declared_among, IsDeclared, Connection, assignments, port_connections, port_directions, IsDriven}
 use Rattle.verilog_designs.specs.Reads.{reads}
-use Rattle.verilog_designs.specs.Drivers.{statement_reads, IsRead, IsDrivenAs, HasDriver, HasUndriven}
+use Rattle.verilog_designs.specs.Drivers.{IsRead, IsDrivenAs, HasDriver, HasUndriven}
 use Rattle.verilog_designs.specs.Ports.{is_input}
 use Rattle.verilog_designs.specs.Clocks.{IsClockNet}
 use Rattle.v_hier.specs.Instances.{module_has_parts, has_parts}
 use Rattle.v_scopes.specs.declared.table.ModuleScope.{ModuleScope}
-use Rattle.v_scopes.specs.Rows.{Row, row, rows, rows_of, row_named, row_and_later}
+use Rattle.v_scopes.specs.Rows.{Row, row, rows_of, row_named, row_and_later}
 use Rattle.v_scopes.specs.Scopes.{declared_in}
 use Rattle.v_scopes.specs.Ports.{alone}
 use Rattle.v_scopes.proofs.Parts.{none_some, nothing_below}
 use Rattle.v_drivers.specs.Sets.{drivers}
 use Rattle.v_assigned.specs.Names.{HasNamesOf}
-use Rattle.v_assigned.proofs.OneModule.{OneOf, one-of, any-there, object-constant, row-so, placed-top, unconnected}
-use Rattle.v_undriven.specs.Names.{is_output, is_output_row, is_no_input, needs_driver, is_output_name}
+use Rattle.v_assigned.proofs.OneModule.{one-of, any-there, object-constant, row-so, placed-top, unconnected}
+use Rattle.v_undriven.specs.Names.{is_output, is_output_row, is_no_input, is_output_name}
 use Rattle.v_undriven.specs.Reads.{all_items_read, output_reads, outputs_read, module_reads}
-use Rattle.v_undriven.specs.Undriven.{OneHas, HasAnyAs, HasAny, HasUndrivenBit}
+use Rattle.v_undriven.specs.Undriven.{OneHas, HasAnyAs, HasUndrivenBit}
 use Rattle.v_undriven.proofs.Within.{module-within}
 use Rattle.v_undriven.proofs.Listing.{either, by_link, by_block, read-lists, DrivenBy, driven-by, by-driven}
 use Rattle.v_undriven.proofs.Declaring.{direction_at, directions-agree, declared-so}
@@ -109,14 +109,14 @@ module _ (s : Scope) (names : ModuleScope) (n : Name) (k b : ℕ) where
 
   are-outputs : (rs : List Row) → is_some (row_named rs n) ≡ true → is_output_name names n ≡ true → reads s (name n whole) n k b ≡ true → outputs_read s names rs n k b ≡ true
   are-outputs [] i e h = absurd (false≢true i)
-  are-outputs (r ∷ rs) i e h = at (same_name r.of_name n) refl i
+  are-outputs (r ∷ rs) i e h = at (same_name r.of_name n) refl i (λ j. are-outputs rs j e h)
     where
       at : (t : Bool) → same_name r.of_name n ≡ t → is_some (cond t (Some (row_and_later r (row_named rs n))) (row_named rs n)) ≡ true
-          → (output_reads s names r.of_name n k b || outputs_read s names rs n k b) ≡ true
-      at true g j =
+          → (is_some (row_named rs n) ≡ true → outputs_read s names rs n k b ≡ true) → (output_reads s names r.of_name n k b || outputs_read s names rs n k b) ≡ true
+      at true g j f =
           or_left (output_reads s names r.of_name n k b) (outputs_read s names rs n k b)
           (subst (λ (z : Name). output_reads s names z n k b ≡ true) (sym (same-names r.of_name n g)) (here e h))
-      at false g j = or_right (output_reads s names r.of_name n k b) (outputs_read s names rs n k b) (are-outputs rs j e h)
+      at false g j f = or_right (output_reads s names r.of_name n k b) (outputs_read s names rs n k b) (f j)
 
 -- ---- a driver of a bit, or of some bit of a memory
 

@@ -1,6 +1,6 @@
 -- What is read are bits of names.
 use Rattle.std.proofs.Common.{◌≡◌, refl, subst, Bool, true, false, List, [], ◌∷◌, cond}
-use Rattle.std.specs.Prelude.{ℕ, ◌&&◌, ◌||◌, is_none, Option, Some, None}
+use Rattle.std.specs.Prelude.{ℕ, ◌&&◌, ◌||◌, is_none}
 use Rattle.std.proofs.lemmas.Bool.{false≢true, and_parts}
 use Rattle.std.proofs.lemmas.Slice.Eq.{bytes_eq-Decides}
 use Rattle.wb_values.specs.Value.{Name, same_name}

@@ -40,12 +40,12 @@ fn reads_of<'s>(
 /// Whether a bit that is read in a module, or a bit of its output, has no driver (1364-2005, 4.2): a continuous assignment or a block that
 /// may assign it, or the world outside for an input port. Of a memory one bit with a driver is enough. The module has no parameters and
 /// no instances, and these are its names and its clock. Answers `AllocError` where memory runs out.
-pub fn has_undriven(
+pub fn has_undriven<'s>(
     alloc: Global,
     scope: &Scope<'_>,
-    names: &ModuleScope<'_>,
+    names: &ModuleScope<'s>,
     clock: &str,
-    items: &[Item<'_>],
+    items: &[Item<'s>],
 ) -> Result<bool, AllocError>
     requires objects { HasNarrowObjects (scope_at scope.now) }
     requires targets { AreNarrowItems (scope_at scope.now) (map item_of items.now) }

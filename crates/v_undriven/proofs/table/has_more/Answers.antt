@@ -11,7 +11,7 @@ pub returns : goal.returns
 returns c =
     let s = scope_at c.args.scope.now in
     let f = mask_under c.args.table.now in
-    let x = c.args.span.entry in
+    let x = c.args.span in
     let is : (b : ℕ) → is_set c.without.result b ≡ (is_set (span_mask s x) b && not (is_set (f x.name.now) b)) =
     λ b. c.without.ensures b ∙ ap (λ m. is_set m b && not (is_set c.mask_under.result b)) c.span_mask.ensures
     ∙ ap (λ m. is_set (span_mask s x) b && not (is_set m b)) c.mask_under.ensures in
