@@ -9,7 +9,7 @@ use Rattle.refinement.specs.Obligation.{Obligation, Falsifies, IsWholeCommand, b
 use Rattle.reports.specs.Encoding.{EncodesRuns}
 use Rattle.reports.specs.Report.{IsTraceOf, IsVerdict, IsCover, AreVerdicts, AreCovers}
 use Rattle.wb_terms.specs.Graph.{Graph, HasDistinctNames}
-use Rattle.wb_terms.specs.Environment.{AreOfSorts, named}
+use Rattle.wb_terms.specs.Environment.{AreOfSorts, values_by_name}
 use Rattle.wb_first.specs.Names.{First, setting_of, bits_of_name}
 use Rattle.wb_first.specs.Accepted.{is_accepted}
 use Rattle.wb_first.specs.Decided.{is_broken_by, is_command_by}
@@ -28,7 +28,7 @@ use Rattle.first_check.proofs.Asked.{fits_names, encodes_runs}
 
 -- numbers of their sorts give each name of the store a value of its sort
 number_of_sort : (es : Entries Sort) (xs : List Value) → AreOfSorts es xs → (n : Name) (s : Sort) → Contains es (n, s)
-    → (t : Sort) × Contains es (n, t) × HasSort (valuation_of (named es xs) n) t
+    → (t : Sort) × Contains es (n, t) × HasSort (valuation_of (values_by_name es xs) n) t
 number_of_sort [] xs h n s c = absurd (let e = c.1 in omega (arith, e))
 number_of_sort (e ∷ es) [] h n s c = absurd h
 number_of_sort (e ∷ es) (x ∷ xs) h n s c = by_name (same_name e.0 n) refl (number_of_sort es xs h.1 n s)
@@ -41,8 +41,8 @@ number_of_sort (e ∷ es) (x ∷ xs) h n s c = by_name (same_name e.0 n) refl (n
     at_place (suc k) b q = inl (k, (omega (arith, b)), q)
 
     by_name : (t : Bool) → same_name e.0 n ≡ t
-        → (Contains es (n, s) → (u : Sort) × Contains es (n, u) × HasSort (valuation_of (named es xs) n) u)
-        → (u : Sort) × Contains (e ∷ es) (n, u) × HasSort (value_or_zero (cond t (Some x) (entry_of (named es xs) n))) u
+        → (Contains es (n, s) → (u : Sort) × Contains es (n, u) × HasSort (valuation_of (values_by_name es xs) n) u)
+        → (u : Sort) × Contains (e ∷ es) (n, u) × HasSort (value_or_zero (cond t (Some x) (entry_of (values_by_name es xs) n))) u
     by_name true q from = (e.1, here q, h.0)
     by_name false q from = elim (at_place c.0 c.1 c.2) [
       | inl c' ↦ (let r = from c' in (r.0, (suc r.1.0, (omega (arith, r.1.1)), r.1.2), r.2))
@@ -62,16 +62,16 @@ module _ (f : First) (accepted : is_accepted f ≡ true) (g : Graph) (id budget 
     (distinct : HasDistinctNames g.names) (ns : List BitName) (are_names : AreBitNames f g.names ns)
     (have : RunsHaveValues) (come : ValuesHaveRuns) where
   -- values that fit, from numbers
-  are_values : (numbers : List ℕ) → AreOfSorts g.names (map number numbers) → AreValues f (valuation_of (named g.names (map number numbers)))
+  are_values : (numbers : List ℕ) → AreOfSorts g.names (map number numbers) → AreValues f (valuation_of (values_by_name g.names (map number numbers)))
   are_values numbers h n source =
       let c : Contains g.names (n, word (bits_of_name f.design n)) = (sources n (word (bits_of_name f.design n))).1 (source, refl) in
       let r = number_of_sort g.names (map number numbers) h n (word (bits_of_name f.design n)) c in
       let same : r.0 ≡ word (bits_of_name f.design n) = ((sources n r.0).0 r.1).1 in
-      is_word (bits_of_name f.design n) (valuation_of (named g.names (map number numbers)) n)
-      (subst (HasSort (valuation_of (named g.names (map number numbers)) n)) same r.2)
+      is_word (bits_of_name f.design n) (valuation_of (values_by_name g.names (map number numbers)) n)
+      (subst (HasSort (valuation_of (values_by_name g.names (map number numbers)) n)) same r.2)
 
-  same_values : (numbers : List ℕ) → valuation_of (named g.names (map number numbers)) ≡ values_in ns numbers
-  same_values numbers = ap (λ es. valuation_of (named es (map number numbers))) (sym are_names.named)
+  same_values : (numbers : List ℕ) → valuation_of (values_by_name g.names (map number numbers)) ≡ values_in ns numbers
+  same_values numbers = ap (λ es. valuation_of (values_by_name es (map number numbers))) (sym are_names.named)
 
   never : (b : Bool) → truth_value (not b) ≡ truth_value false → b ≡ true
   never true e = refl
@@ -88,7 +88,7 @@ module _ (f : First) (accepted : is_accepted f ≡ true) (g : Graph) (id budget 
       holds f accepted k o is_o
       (λ x values. not_true (is_broken_by f o x) (λ e. found x (fits_names f g.names sources x values) (means.value x values ∙ e)))
   verdict one falsified holds tell k o is_o means (Breaks numbers) found =
-      let x = valuation_of (named g.names (map number numbers.items)) in
+      let x = valuation_of (values_by_name g.names (map number numbers.items)) in
       let values : AreValues f x = are_values numbers.items found.0 in
       let broken : is_broken_by f o x ≡ true = never (is_broken_by f o x) (sym (means.value x values) ∙ found.1) in
       let r = come f accepted x values in (
@@ -121,7 +121,7 @@ module _ (f : First) (accepted : is_accepted f ≡ true) (g : Graph) (id budget 
           let is_command : is_command_by f j own.0 ≡ true = (whole f accepted j i is_i run is_run own.0 own.2).0 h in
           found own.0 (fits_names f g.names sources own.0 own.1) (means.value own.0 own.1 ∙ ap (λ b. truth_value (not b)) is_command)
   cover one whole j means (Breaks numbers) found i is_i =
-      let x = valuation_of (named g.names (map number numbers.items)) in
+      let x = valuation_of (values_by_name g.names (map number numbers.items)) in
       let values : AreValues f x = are_values numbers.items found.0 in
       let is_command : is_command_by f j x ≡ true = never (is_command_by f j x) (sym (means.value x values) ∙ found.1) in
       let r = come f accepted x values in

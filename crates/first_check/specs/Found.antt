@@ -15,7 +15,7 @@ use Rattle.sat_gates.specs.Encodes.{Encodes}
 use Rattle.sat_gates.specs.Layout.{variables_of, IsNumbered}
 use Rattle.sat_settle.specs.Settled.{FitsNames}
 use Rattle.wb_terms.specs.Graph.{Graph, tree}
-use Rattle.wb_terms.specs.Environment.{AreOfSorts, named}
+use Rattle.wb_terms.specs.Environment.{AreOfSorts, values_by_name}
 use Rattle.wb_first.specs.Names.{First, setting_of}
 use Rattle.first_trace.specs.Traced.{trace_of}
 use Rattle.first_check.specs.Bits.{name_of, bits_of}
@@ -25,7 +25,7 @@ use Rattle.first_check.specs.declared.findings.Finding.TheVariants.{Holds, Break
 
 -- the values that numbers give the names
 abbrev pub values_in : List BitName → List ℕ → Valuation
-values_in names numbers = valuation_of (named (map name_of names) (map number numbers))
+values_in names numbers = valuation_of (values_by_name (map name_of names) (map number numbers))
 
 abbrev pub spent_by : List BitName → Blasted → List Lemma → encoding.Spent
 spent_by names b log = record { formula = b.cnf; bits = bits_of names b.map; log = log }
@@ -52,7 +52,7 @@ abbrev pub IsFinding : Graph → (id budget : ℕ) → Finding → Type 0
 IsFinding g id budget Holds = (v : Valuation) → FitsNames g.names v → ¬ (val (tree g id) v ≡ truth_value false)
 IsFinding g id budget (Breaks numbers) =
     AreOfSorts g.names (map number numbers.items)
-    × (val (tree g id) (valuation_of (named g.names (map number numbers.items))) ≡ truth_value false)
+    × (val (tree g id) (valuation_of (values_by_name g.names (map number numbers.items))) ≡ truth_value false)
 IsFinding g id budget (Spent b log) =
     Encodes b.cnf (variables_of g.names b.map) (tree g id) × IsNumbered g.names (names_in (tree g id)) b.map b.cnf.vars
     × IsSpent budget b.cnf log

@@ -10,8 +10,8 @@ use Rattle.model_meaning.specs.Term.{Term}
 use Rattle.model_meaning.specs.Model as pure
 use Rattle.model_meaning.specs.Model.{StateDeclaration, InputDeclaration, Model, Instruction}
 use Rattle.model_files.specs.Written.{WrittenTerm, name, constant_truth, const, unary, binary, extract, widen, ite, store, WrittenMachine, machine, WrittenInstruction, instruction, WrittenInstructions, no_instructions, and_then, no_child, child, WrittenModel, states_in}
-use Rattle.model_files.specs.Scope.{Visible, Scope, unary_term, binary_term, widened_term, term_named, term_of, declared, with_inputs, with_states, outermost, scope_within}
-use Rattle.model_files.specs.Meaning.{updates_of, with_update, instructions_of, model_of}
+use Rattle.model_files.specs.Scope.{Visible, MachineScope, unary_term, binary_term, widened_term, term_named, term_of, declared, with_inputs, with_states, outermost, scope_within}
+use Rattle.model_files.specs.Meaning.{updates_for_states, with_own_update, instructions_of, model_of}
 use Rattle.first_json.specs.ModelView.{instructions_from}
 use Rattle.first_model.specs.Profile.{is_first_input, is_first_state, is_first_term, is_childless, is_first_instruction, are_first_instructions, is_in_profile}
 use Rattle.ila_build.specs.Building.{called_in, decode_in, update_in, definitions_in, fetch_in, valid_in, own_instructions}
@@ -33,15 +33,15 @@ module _ (a b : Entries Visible) (same : (n : Name) → entry_of a n ≡ entry_o
   term_same (ite c x y) = λ i. terms.ite (term_same c i) (term_same x i) (term_same y i)
   term_same (store m k x) = λ i. terms.store (term_same m i) (term_same k i) (term_same x i)
 
-  update_same : (n : Name) (o : Option WrittenTerm) (us ws : Entries Term) → us ≡ ws → with_update a n o us ≡ with_update b n o ws
+  update_same : (n : Name) (o : Option WrittenTerm) (us ws : Entries Term) → us ≡ ws → with_own_update a n o us ≡ with_own_update b n o ws
   update_same n (Some e) us ws h = λ i. (n, term_same e i) ∷ h i
   update_same n None us ws h = h
 
-  updates_same : (ss : List StateDeclaration) (us : Entries WrittenTerm) → updates_of a ss us ≡ updates_of b ss us
+  updates_same : (ss : List StateDeclaration) (us : Entries WrittenTerm) → updates_for_states a ss us ≡ updates_for_states b ss us
   updates_same [] us = refl
-  updates_same (s ∷ ss) us = update_same s.state_name (entry_of us s.state_name) (updates_of a ss us) (updates_of b ss us) (updates_same ss us)
+  updates_same (s ∷ ss) us = update_same s.state_name (entry_of us s.state_name) (updates_for_states a ss us) (updates_for_states b ss us) (updates_same ss us)
 
-  instructions_same : (inner : Scope) (is : WrittenInstructions) → are_first_instructions is ≡ true
+  instructions_same : (inner : MachineScope) (is : WrittenInstructions) → are_first_instructions is ≡ true
       → instructions_from (instructions_by a inner.states is) ≡ instructions_of inner b is
   instructions_same inner no_instructions h = refl
   instructions_same inner (and_then (instruction n d u no_child) is) h =
@@ -95,7 +95,7 @@ model_same m names plain fetchless first is = by_machine m.top plain fetchless f
       → entry_of names ≡ declared_all (map state_entry (states_in w)) (declared_all (map input_entry m.inputs) none_declared)
       → made_model (record { model_name = m.model_name; inputs = m.inputs; top = w }) names ≡ model_of (record { model_name = m.model_name; inputs = m.inputs; top = w })
   by_machine (machine ss [] None v is) p q r e =
-      let inner : Scope = scope_within (record { names = with_inputs [] m.inputs; states = [] }) ss [] in
+      let inner : MachineScope = scope_within (record { names = with_inputs [] m.inputs; states = [] }) ss [] in
       let same : (n : Name) → entry_of names n ≡ entry_of inner.names n =
       λ n i. (e ∙ (ap (declared_all (map state_entry ss)) (inputs_declared m.inputs []) ∙ states_declared ss (with_inputs [] m.inputs))) i n in
       λ i. record {
@@ -156,7 +156,7 @@ in_pieces : (i : WrittenInstruction) → is_first_instruction i ≡ (is_childles
 in_pieces (instruction n d u program) = refl
 
 by_pieces : (names : Entries Visible) (ss : List StateDeclaration) (i : WrittenInstruction)
-    → instruction_by names ss i ≡ pure.instruction (called_in i) (term_of names (decode_in i)) (updates_of names ss (update_in i)) pure.no_child
+    → instruction_by names ss i ≡ pure.instruction (called_in i) (term_of names (decode_in i)) (updates_for_states names ss (update_in i)) pure.no_child
 by_pieces names ss (instruction n d u program) = refl
 
 childless : (i : WrittenInstruction) → has_child i ≡ false → is_childless (program_in i) ≡ true
@@ -167,7 +167,7 @@ childless i h = by_test (is_childless (program_in i)) h where
 
 pub instruction_made : (i : WrittenInstruction) (names : Entries Visible) (ss : List StateDeclaration) (n : Name) (d : Term) (us : Entries Term)
     → has_child i ≡ false → (is_first_term (decode_in i) ≡ true) × (d ≡ term_of names (decode_in i))
-    → (list_all (λ u. is_first_term u.1) (update_in i) ≡ true) × (us ≡ updates_of names ss (update_in i)) → n ≡ called_in i
+    → (list_all (λ u. is_first_term u.1) (update_in i) ≡ true) × (us ≡ updates_for_states names ss (update_in i)) → n ≡ called_in i
     → (is_first_instruction i ≡ true) × (pure.instruction n d us pure.no_child ≡ instruction_by names ss i)
 instruction_made i names ss n d us h t u q = (
   in_pieces i ∙ (λ k. childless i h k && t.0 k && u.0 k),

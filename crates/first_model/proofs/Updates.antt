@@ -7,7 +7,7 @@ use Rattle.model_meaning.specs.Term.{Term}
 use Rattle.model_meaning.specs.Model.{StateDeclaration}
 use Rattle.model_files.specs.Written.{WrittenTerm}
 use Rattle.model_files.specs.Scope.{Visible, term_of}
-use Rattle.model_files.specs.Meaning.{updates_of, with_update}
+use Rattle.model_files.specs.Meaning.{updates_for_states, with_own_update}
 use Rattle.first_model.specs.Profile.{is_first_term}
 use Rattle.first_model.specs.Making.{is_first_update}
 use Rattle.first_model.proofs.Lists.{cut}
@@ -38,25 +38,25 @@ pub unfit_update : (us : Entries WrittenTerm) (n : Name) (o : Option WrittenTerm
 unfit_update us n None is k = absurd (let c : true ≡ false = k in cc)
 unfit_update us n (Some e) is k = unfit us n e (sym is) k
 
-one_onto : (names : Entries Visible) (n : Name) (o : Option WrittenTerm) (rest : Entries Term) → with_update names n o [] ++ rest ≡ with_update names n o rest
+one_onto : (names : Entries Visible) (n : Name) (o : Option WrittenTerm) (rest : Entries Term) → with_own_update names n o [] ++ rest ≡ with_own_update names n o rest
 one_onto names n None rest = refl
 one_onto names n (Some e) rest = refl
 
 module _ {X T : Type 0} (f : T → Name × Term) (g : X → StateDeclaration) (names : Entries Visible) (us : Entries WrittenTerm) where
   pub next_updated : (xs : List X) (i : ℕ) (d : X) (kept new : List T) (n : Name) (o : Option WrittenTerm)
-      → i < length xs → n ≡ (g (get_or xs i d)).state_name → o ≡ entry_of us n → map f new ≡ map f kept ++ with_update names n o []
-      → map f kept ++ updates_of names (map g (drop i xs)) us ≡ updates_of names (map g xs) us
-      → map f new ++ updates_of names (map g (drop (i + 1) xs)) us ≡ updates_of names (map g xs) us
+      → i < length xs → n ≡ (g (get_or xs i d)).state_name → o ≡ entry_of us n → map f new ≡ map f kept ++ with_own_update names n o []
+      → map f kept ++ updates_for_states names (map g (drop i xs)) us ≡ updates_for_states names (map g xs) us
+      → map f new ++ updates_for_states names (map g (drop (i + 1) xs)) us ≡ updates_for_states names (map g xs) us
   next_updated xs i d kept new n o h called found made m =
-      let rest = updates_of names (map g (drop (i + 1) xs)) us in
+      let rest = updates_for_states names (map g (drop (i + 1) xs)) us in
       ap (λ ys. ys ++ rest) made
-      ∙ (append_assoc (map f kept) (with_update names n o []) rest
+      ∙ (append_assoc (map f kept) (with_own_update names n o []) rest
       ∙ (ap (λ ys. map f kept ++ ys) (one_onto names n o rest)
-      ∙ (ap (λ p. map f kept ++ with_update names n p rest) found
-      ∙ (ap (λ k. map f kept ++ with_update names k (entry_of us k) rest) called
-      ∙ (ap (λ ys. map f kept ++ updates_of names (map g ys) us) (sym (cut xs i d h)) ∙ m)))))
+      ∙ (ap (λ p. map f kept ++ with_own_update names n p rest) found
+      ∙ (ap (λ k. map f kept ++ with_own_update names k (entry_of us k) rest) called
+      ∙ (ap (λ ys. map f kept ++ updates_for_states names (map g ys) us) (sym (cut xs i d h)) ∙ m)))))
 
   pub all_updated : (xs : List X) (i : ℕ) (kept : List T) → length xs ≤ i
-      → map f kept ++ updates_of names (map g (drop i xs)) us ≡ updates_of names (map g xs) us → map f kept ≡ updates_of names (map g xs) us
+      → map f kept ++ updates_for_states names (map g (drop i xs)) us ≡ updates_for_states names (map g xs) us → map f kept ≡ updates_for_states names (map g xs) us
   all_updated xs i kept h m =
-      sym (append-nil (map f kept)) ∙ (ap (λ ys. map f kept ++ updates_of names (map g ys) us) (sym (drop_all i xs h)) ∙ m)
+      sym (append-nil (map f kept)) ∙ (ap (λ ys. map f kept ++ updates_for_states names (map g ys) us) (sym (drop_all i xs h)) ∙ m)

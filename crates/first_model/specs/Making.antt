@@ -5,7 +5,7 @@ use Rattle.model_meaning.specs.Model as pure
 use Rattle.model_meaning.specs.Model.{StateDeclaration, Instruction}
 use Rattle.model_files.specs.Written.{WrittenTerm, WrittenInstruction, instruction, WrittenInstructions, no_instructions, and_then}
 use Rattle.model_files.specs.Scope.{Visible, term_of}
-use Rattle.model_files.specs.Meaning.{updates_of}
+use Rattle.model_files.specs.Meaning.{updates_for_states}
 use Rattle.first_model.specs.Profile.{is_first_term}
 use Rattle.first_model.specs.declared.stop.Stop.{Stop}
 use Rattle.first_model.specs.declared.stop.Stop.TheVariants.{Memory, Outside}
@@ -28,7 +28,7 @@ is_first_update (Some e) = is_first_term e
 -- an instruction without its child
 abbrev pub instruction_by : Entries Visible → List StateDeclaration → WrittenInstruction → Instruction
 instruction_by names ss (instruction called decode update program) =
-    pure.instruction called (term_of names decode) (updates_of names ss update) pure.no_child
+    pure.instruction called (term_of names decode) (updates_for_states names ss update) pure.no_child
 
 abbrev pub instructions_by : Entries Visible → List StateDeclaration → WrittenInstructions → List Instruction
 instructions_by names ss no_instructions = []

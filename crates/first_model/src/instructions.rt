@@ -4,7 +4,7 @@ ghost use Rattle.std.specs.Prelude.{◌≡◌, ◌∷◌, ◌++◌, [], ℕ, Lis
 ghost use Rattle.std.specs.List.{list_all};
 ghost use Rattle.wb_values.specs.Value.{entry_of};
 ghost use Rattle.wb_values.specs.Choice.{first_of};
-ghost use Rattle.model_files.specs.Meaning.{updates_of, with_update};
+ghost use Rattle.model_files.specs.Meaning.{updates_for_states, with_own_update};
 ghost use Rattle.model_files.specs.Scope.{term_of};
 ghost use Rattle.ila_file.specs.View as written;
 ghost use Rattle.first_json.specs.ModelView.{update_view, instruction_view};
@@ -82,7 +82,7 @@ fn append_update<'w, 'v>(
     made: &mut Vec<FirstUpdate>,
 ) -> Result<(), Stop>
     ensures { IsMade (λ _. map update_view made.new.items) result (is_first_update (option_map (λ e. written.term_view e.now) (under_name table.now state.now)))
-        (map update_view made.old.items ++ with_update (visible_in names.now) state.now (option_map (λ e. written.term_view e.now) (under_name table.now state.now)) []) }
+        (map update_view made.old.items ++ with_own_update (visible_in names.now) state.now (option_map (λ e. written.term_view e.now) (under_name table.now state.now)) []) }
 {
     match table.get(&state.as_bytes()) {
         Some(term) => {
@@ -102,7 +102,7 @@ fn updates_of<'v>(
     updates: &[WrittenUpdate<'v>],
 ) -> Result<Vec<FirstUpdate>, Stop>
     ensures { IsMade (λ v. map update_view v.items) result (list_all (λ u. is_first_term u.1) (map written.update_view updates.now))
-        (updates_of (visible_in names.now) (map written.state_view states.now) (map written.update_view updates.now)) }
+        (updates_for_states (visible_in names.now) (map written.state_view states.now) (map written.update_view updates.now)) }
 {
     if !are_first_updates(updates) {
         return Err(Stop::Outside);

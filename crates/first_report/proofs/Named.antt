@@ -7,7 +7,7 @@ use Rattle.std.proofs.lemmas.List.{drop_all}
 use Rattle.std.proofs.lemmas.Bool.Decides.{nat_tests}
 use Rattle.std.specs.String.{string_bytes}
 use Rattle.wb_values.specs.Value.{Name, Value, number, Valuation, Entries, valuation_of, value_or_zero, entry_of, same_name}
-use Rattle.wb_terms.specs.Environment.{named}
+use Rattle.wb_terms.specs.Environment.{values_by_name}
 use Rattle.first_check.specs.Bits.{name_of}
 use Rattle.first_check.specs.Found.{values_in}
 use Rattle.first_check.specs.declared.names.BitName.{BitName}
@@ -54,7 +54,7 @@ module _ (names : List BitName) (numbers : List ℕ) (d : BitName) where
       (λ n.
       put n
       ∙ (ap (λ (u : Valuation). cond (same_name (string_bytes b.name) n) (number x) (u n)) is_w
-      ∙ first_of (same_name (string_bytes b.name) n) (number x) (entry_of (named (map name_of bs) (map number xs)) n)))
+      ∙ first_of (same_name (string_bytes b.name) n) (number x) (entry_of (values_by_name (map name_of bs) (map number xs)) n)))
       ∙ (ap (λ ys. values_in (b ∷ bs) ys) (sym (drop-cons numbers k 0 in_numbers))
       ∙ ap (λ cs. values_in cs (drop k numbers)) (sym (drop-cons names k d in_names)))
 

@@ -2,7 +2,7 @@
 use Rattle.std.proofs.Common.{◌≡◌, Bool, true, false, cond, ◌&&◌, List, [], ◌∷◌, Option, Some, None, refl, sym, ap, ◌∙◌, subst}
 use Rattle.std.specs.Prelude.{is_some}
 use Rattle.wb_values.specs.Value.{Name, same_name, Sort, truth, word, memory, Value, Valuation, Entries, entry_of}
-use Rattle.model_meaning.specs.Model.{StateDeclaration, InputDeclaration, state_named, states_of, is_input}
+use Rattle.model_meaning.specs.Model.{StateDeclaration, InputDeclaration, state_named, states_of, is_input_name}
 use Rattle.verilog_trees.specs.Syntax.{Expression}
 use Rattle.refinement.specs.Map.{mapped_value, mapped_or_zero, sort_of_state, sort_of_input}
 use Rattle.wb_first.specs.Names.{First, setting_of}
@@ -150,11 +150,11 @@ input_bits f h n s is_s = let i = input_given f h n s is_s in bits_fit f s i.e i
 
 -- ---- a name of the model at the start
 
-is_input_sort : (is : List InputDeclaration) (n : Name) → is_input is n ≡ is_some (sort_of_input is n)
+is_input_sort : (is : List InputDeclaration) (n : Name) → is_input_name is n ≡ is_some (sort_of_input is n)
 is_input_sort [] n = refl
 is_input_sort (i ∷ is) n =
     elim (same_name i.input_name n) as
-    (λ t. cond t true (is_input is n) ≡ is_some (cond t (Some i.sort) (sort_of_input is n))) [
+    (λ t. cond t true (is_input_name is n) ≡ is_some (cond t (Some i.sort) (sort_of_input is n))) [
       | true ↦ refl
       | false ↦ is_input_sort is n
     ]

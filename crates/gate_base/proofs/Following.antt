@@ -7,7 +7,7 @@ use Rattle.sat_base.specs.Formula.{variable_value, value}
 use Rattle.gate_base.specs.declared.bits.Bit.TheVariants.{Literal}
 use Rattle.gate_base.specs.declared.bits.Gate.{Gate}
 use Rattle.gate_base.specs.declared.bits.Gate.TheVariants.{And, Xor, Ite}
-use Rattle.gate_base.specs.Circuit.{Circuit, differ, gate_value, FollowsFrom, IsDetermined, Grows, Gives}
+use Rattle.gate_base.specs.Circuit.{Circuit, exactly_one, gate_value, FollowsFrom, IsDetermined, Grows, Gives}
 use Rattle.gate_base.specs.Clauses.{IsGateBelow, AreOrdered}
 
 pub first_follows : (v : ℕ) (w : List Bool) (gs hs : List Gate) → FollowsFrom v w (gs ++ hs) → FollowsFrom v w gs
@@ -33,7 +33,7 @@ same_value v w u l e b =
 
 same_gate_value : (v : ℕ) (w u : List Bool) (g : Gate) → take v w ≡ take v u → IsGateBelow v g → gate_value w g ≡ gate_value u g
 same_gate_value v w u (And x y) e b = ap (λ t. t && value w y) (same_value v w u x e b.0) ∙ ap (λ t. value u x && t) (same_value v w u y e b.1)
-same_gate_value v w u (Xor x y) e b = ap (λ t. differ t (value w y)) (same_value v w u x e b.0) ∙ ap (λ t. differ (value u x) t) (same_value v w u y e b.1)
+same_gate_value v w u (Xor x y) e b = ap (λ t. exactly_one t (value w y)) (same_value v w u x e b.0) ∙ ap (λ t. exactly_one (value u x) t) (same_value v w u y e b.1)
 same_gate_value v w u (Ite c x y) e b =
     ap (λ t. cond t (value w x) (value w y)) (same_value v w u c e b.0)
     ∙ (ap (λ t. cond (value u c) t (value w y)) (same_value v w u x e b.1) ∙ ap (λ t. cond (value u c) (value u x) t) (same_value v w u y e b.2))

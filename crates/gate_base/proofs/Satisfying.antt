@@ -11,7 +11,7 @@ use Rattle.gate_base.specs.declared.bits.Bit.{Bit}
 use Rattle.gate_base.specs.declared.bits.Bit.TheVariants.{Constant, Literal}
 use Rattle.gate_base.specs.declared.bits.Gate.{Gate}
 use Rattle.gate_base.specs.declared.bits.Gate.TheVariants.{And, Xor, Ite}
-use Rattle.gate_base.specs.Circuit.{Circuit, size, differ, gate_value, bit_value, FollowsFrom, Follows, IsBitBelow, IsFormulaOf}
+use Rattle.gate_base.specs.Circuit.{Circuit, size, exactly_one, gate_value, bit_value, FollowsFrom, FollowsCircuit, IsBitBelow, IsFormulaOf}
 use Rattle.gate_base.specs.Clauses.{clauses_for, clauses_from, clauses_of_bit, IsGateBelow, AreOrdered}
 
 -- the list of clauses as a test
@@ -69,7 +69,7 @@ and_clauses : (v x y nv nx ny : Bool) → nv ≡ not v → nx ≡ not x → ny �
 and_clauses v x y nv nx ny p q r = rw (p, q, r) (and_table v x y)
 
 xor_table : (v x y : Bool)
-    → ((not v || (x || (y || false))) && ((not v || (not x || (not y || false))) && ((v || (not x || (y || false))) && ((v || (x || (not y || false))) && true)))) ≡ same v (differ x y)
+    → ((not v || (x || (y || false))) && ((not v || (not x || (not y || false))) && ((v || (not x || (y || false))) && ((v || (x || (not y || false))) && true)))) ≡ same v (exactly_one x y)
 xor_table true true true = refl
 xor_table true true false = refl
 xor_table true false true = refl
@@ -80,7 +80,7 @@ xor_table false false true = refl
 xor_table false false false = refl
 
 xor_clauses : (v x y nv nx ny : Bool) → nv ≡ not v → nx ≡ not x → ny ≡ not y
-    → ((nv || (x || (y || false))) && ((nv || (nx || (ny || false))) && ((v || (nx || (y || false))) && ((v || (x || (ny || false))) && true)))) ≡ same v (differ x y)
+    → ((nv || (x || (y || false))) && ((nv || (nx || (ny || false))) && ((v || (nx || (y || false))) && ((v || (x || (ny || false))) && true)))) ≡ same v (exactly_one x y)
 xor_clauses v x y nv nx ny p q r = rw (p, q, r) (xor_table v x y)
 
 ite_table : (v c x y : Bool)
@@ -202,7 +202,7 @@ pub formula_of : (c : Circuit) (b : Bit) (f : Formula) (vars : ℕ) (clauses gat
     → f ≡ record { vars = vars; clauses = clauses } → vars ≡ size c → clauses ≡ gates ++ clauses_of_bit b → gates ≡ clauses_from c.inputs c.gates → IsFormulaOf c b f
 formula_of c b f vars clauses gates e v p q = record {
   vars = ap (λ (g : Formula). g.vars) e ∙ v;
-  satisfied = λ w. subst (λ cs. All (SatisfiesClause w) cs ↔ (Follows w c × (bit_value w b ≡ true)))
+  satisfied = λ w. subst (λ cs. All (SatisfiesClause w) cs ↔ (FollowsCircuit w c × (bit_value w b ≡ true)))
       (sym (ap (λ (g : Formula). g.clauses) e ∙ (p ∙ ap (λ cs. cs ++ clauses_of_bit b) q))) (satisfied w c.inputs c.gates b);
 }
 

@@ -16,13 +16,13 @@ abbrev pub size : Circuit → ℕ
 size c = c.inputs + length c.gates
 
 -- exactly one of the two
-abbrev pub differ : Bool → Bool → Bool
-differ a b = cond a (not b) b
+abbrev pub exactly_one : Bool → Bool → Bool
+exactly_one a b = cond a (not b) b
 
 -- what a gate gives under an assignment
 abbrev pub gate_value : List Bool → Gate → Bool
 gate_value w (And x y) = value w x && value w y
-gate_value w (Xor x y) = differ (value w x) (value w y)
+gate_value w (Xor x y) = exactly_one (value w x) (value w y)
 gate_value w (Ite c x y) = cond (value w c) (value w x) (value w y)
 
 -- the truth value of a bit under an assignment
@@ -36,8 +36,8 @@ FollowsFrom v w [] = ⊤
 FollowsFrom v w (g ∷ gs) = (variable_value w v ≡ gate_value w g) × FollowsFrom (suc v) w gs
 
 -- The assignment follows the circuit: the variable of each gate has what the gate gives.
-abbrev pub Follows : List Bool → Circuit → Type 0
-Follows w c = FollowsFrom c.inputs w c.gates
+abbrev pub FollowsCircuit : List Bool → Circuit → Type 0
+FollowsCircuit w c = FollowsFrom c.inputs w c.gates
 
 -- the bit is a constant or has a variable of the circuit
 abbrev pub IsBitBelow : ℕ → Bit → Type 0
@@ -51,21 +51,21 @@ IsKnown c b = IsBitBelow (size c) b
 pub record Grows (old new : Circuit) : Type 0 where
   pub inputs : new.inputs ≡ old.inputs
   pub size : size old ≤ size new
-  pub follows : (w : List Bool) → Follows w new → Follows w old
+  pub follows : (w : List Bool) → FollowsCircuit w new → FollowsCircuit w old
 
 -- The bit has a variable of the circuit, and under each assignment that follows the circuit it has this value.
 pub record Gives (c : Circuit) (b : Bit) (f : List Bool → Bool) : Type 0 where
   pub known : IsKnown c b
-  pub value : (w : List Bool) → Follows w c → bit_value w b ≡ f w
+  pub value : (w : List Bool) → FollowsCircuit w c → bit_value w b ≡ f w
 
 -- Each assignment of the inputs goes on to exactly one assignment of all variables that follows the circuit.
 pub record IsDetermined (c : Circuit) : Type 0 where
   pub some : (a : List Bool) → length a ≡ c.inputs
-      → (w : List Bool) × (length w ≡ size c) × (take c.inputs w ≡ a) × Follows w c
+      → (w : List Bool) × (length w ≡ size c) × (take c.inputs w ≡ a) × FollowsCircuit w c
   pub one : (w u : List Bool) → length w ≡ size c → length u ≡ size c → take c.inputs w ≡ take c.inputs u
-      → Follows w c → Follows u c → w ≡ u
+      → FollowsCircuit w c → FollowsCircuit u c → w ≡ u
 
 -- The formula is over the circuit's variables, and is satisfied by the assignments that follow the circuit and make the bit true.
 pub record IsFormulaOf (c : Circuit) (b : Bit) (f : Formula) : Type 0 where
   pub vars : f.vars ≡ size c
-  pub satisfied : (w : List Bool) → Satisfies w f ↔ (Follows w c × (bit_value w b ≡ true))
+  pub satisfied : (w : List Bool) → Satisfies w f ↔ (FollowsCircuit w c × (bit_value w b ≡ true))

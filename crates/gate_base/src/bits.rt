@@ -1,7 +1,7 @@
 //! Bits, which are what words are made of, and the gates that give new ones.
 
 ghost use Rattle.std.specs.Prelude.{◌≡◌, List, Bool, not, ℕ};
-ghost use Rattle.gate_base.specs.Circuit.{bit_value, differ, gate_value, IsBitBelow};
+ghost use Rattle.gate_base.specs.Circuit.{bit_value, exactly_one, gate_value, IsBitBelow};
 ghost use Rattle.gate_base.specs.Clauses.{IsGateBelow};
 
 use sat_base::Lit;
@@ -40,7 +40,7 @@ impl Bit {
 
     /// The other truth value where it is to be flipped.
     pub(crate) fn negated_if(self, flip: bool) -> Bit
-        ensures value { (w : List Bool) → bit_value w result ≡ differ flip (bit_value w self) }
+        ensures value { (w : List Bool) → bit_value w result ≡ exactly_one flip (bit_value w self) }
         ensures known { (n : ℕ) → IsBitBelow n self → IsBitBelow n result }
     {
         if flip { self.negated() } else { self }

@@ -1,7 +1,7 @@
 //! The builder of a circuit: each call gives a bit with a stated value, and adds a gate only where no constant, no operand and no earlier gate is the answer.
 
 ghost use Rattle.std.specs.Prelude.{◌≡◌, ◌+◌, ◌<◌, ◌^◌, ℕ, List, Bool, [], length, not, ◌&&◌, ◌||◌, cond, false, slice_get, Some, IfOk, IfSome, OnErr};
-ghost use Rattle.gate_base.specs.Circuit.{size, bit_value, differ, IsKnown, Grows, Gives, IsDetermined, IsFormulaOf};
+ghost use Rattle.gate_base.specs.Circuit.{size, bit_value, exactly_one, IsKnown, Grows, Gives, IsDetermined, IsFormulaOf};
 ghost use Rattle.gate_base.specs.Clauses.{IsGateBelow, clauses_from};
 ghost use Rattle.gate_base.specs.Circuit.{gate_value};
 ghost use Rattle.gate_base.specs.declared.bits.Bit.TheVariants.{Literal};
@@ -138,7 +138,7 @@ impl Builder {
     pub fn xor(&mut self, x: Bit, y: Bit) -> Result<Bit, NoMemory>
         requires x { IsKnown self.old x }
         requires y { IsKnown self.old y }
-        ensures bit { IfOk result (λ b. Gives self.new b (λ w. differ (bit_value w x) (bit_value w y))) }
+        ensures bit { IfOk result (λ b. Gives self.new b (λ w. exactly_one (bit_value w x) (bit_value w y))) }
         ensures grows { Grows self.old self.new }
         ensures err { OnErr result (self.new ≡ self.old) }
     {

@@ -3,7 +3,7 @@ use Rattle.std.proofs.Common.{◌≡◌, ◌∙◌, ℕ, ◌<◌, ◌≤◌, ◌
 use Rattle.std.proofs.lemmas.List.{drop_more, drop_all, append-nil, map_push, length_push}
 use Rattle.std.proofs.lemmas.List.Elements.{All-nil, All-push}
 use Rattle.gate_base.specs.declared.bits.Bit.{Bit}
-use Rattle.gate_base.specs.Circuit.{Circuit, IsKnown, Grows, Follows, bit_value}
+use Rattle.gate_base.specs.Circuit.{Circuit, IsKnown, Grows, FollowsCircuit, bit_value}
 use Rattle.gate_words.specs.declared.chains.Cell.{Cell}
 use Rattle.gate_words.specs.Binary.{values, AreKnown}
 use Rattle.gate_words.specs.Cells.{cell_output, outputs, last_carry, IsCell, IsChain}
@@ -16,9 +16,9 @@ pub record IsChaining (old now : Circuit) (k : Cell) (carry : Bit) (xs ys bits :
   pub count : length bits ≡ place
   pub within : place ≤ length xs
   pub known_next : IsKnown now next
-  pub so_far : (w : List Bool) → Follows w now
+  pub so_far : (w : List Bool) → FollowsCircuit w now
       → values w bits ++ outputs k (bit_value w next) (values w (drop place xs)) (values w (drop place ys)) ≡ outputs k (bit_value w carry) (values w xs) (values w ys)
-  pub handed : (w : List Bool) → Follows w now
+  pub handed : (w : List Bool) → FollowsCircuit w now
       → last_carry k (bit_value w next) (values w (drop place xs)) (values w (drop place ys)) ≡ last_carry k (bit_value w carry) (values w xs) (values w ys)
 
 pub chain_start : (c : Circuit) (k : Cell) (carry : Bit) (xs ys : List Bit) → IsKnown c carry → IsChaining c c k carry xs ys [] carry 0

@@ -8,7 +8,7 @@ use Rattle.std.proofs.Math.Nat.{pow-succ'}
 use Rattle.gate_base.specs.declared.bits.Bit.{Bit}
 use Rattle.gate_base.specs.declared.bits.Bit.TheVariants.{Constant}
 use Rattle.gate_base.specs.Circuit.{Circuit, IsKnown, bit_value}
-use Rattle.gate_words.specs.Binary.{digit, number_of, values, number_in, AreKnown}
+use Rattle.gate_words.specs.Binary.{digit, number_of, values, number_under, AreKnown}
 use Rattle.gate_words.proofs.Numbers.{number-append}
 
 -- so many bits are done, and the rest is what is left of the number
@@ -16,7 +16,7 @@ pub record IsConstant (number width place rest : ℕ) (bits : List Bit) : Type 0
   pub known_bits : (c : Circuit) → AreKnown c bits
   pub count : length bits ≡ place
   pub left : rest < 2 ^ (width - place)
-  pub so_far : (w : List Bool) → rest * 2 ^ place + number_in w bits ≡ number
+  pub so_far : (w : List Bool) → rest * 2 ^ place + number_under w bits ≡ number
 
 pub constant_start : (number width : ℕ) → number < 2 ^ width → IsConstant number width 0 number []
 constant_start number width h = record {
@@ -50,18 +50,18 @@ constant_turn number width place rest bits more i e h = record {
       let d = digit (eqb (rest % 2) 1) in
       let one : number_of (eqb (rest % 2) 1 ∷ []) ≡ rest % 2 = omega (arith, odd_digit (rest % 2) (mod_below rest 2 (omega arith))) in
       let long : length (values w bits) ≡ place = length-map bits (bit_value w) ∙ h.count in
-      let v : number_in w more ≡ (rest % 2) * 2 ^ place + number_in w bits =
-      ap (number_in w) e ∙ (ap number_of (map_push (bit_value w) bits (Constant (eqb (rest % 2) 1)))
-      ∙ (number-append (values w bits) (eqb (rest % 2) 1 ∷ []) ∙ (ap (λ n. n * 2 ^ length (values w bits) + number_in w bits) one ∙ ap (λ n. (rest % 2) * 2 ^ n + number_in w bits) long))) in
+      let v : number_under w more ≡ (rest % 2) * 2 ^ place + number_under w bits =
+      ap (number_under w) e ∙ (ap number_of (map_push (bit_value w) bits (Constant (eqb (rest % 2) 1)))
+      ∙ (number-append (values w bits) (eqb (rest % 2) 1 ∷ []) ∙ (ap (λ n. n * 2 ^ length (values w bits) + number_under w bits) one ∙ ap (λ n. (rest % 2) * 2 ^ n + number_under w bits) long))) in
       let p : 2 ^ (place + 1) ≡ 2 * 2 ^ place = (let t : place + 1 ≡ suc place = omega arith in ap (λ n. 2 ^ n) t ∙ pow-succ' 2 place) in
       ap (λ n. rest / 2 * 2 ^ (place + 1) + n) v
-      ∙ (ap (λ n. rest / 2 * n + ((rest % 2) * 2 ^ place + number_in w bits)) p
-      ∙ (carried_over (rest / 2) (rest % 2) (2 ^ place) rest (number_in w bits) (div-add-mod' rest 2) ∙ h.so_far w));
+      ∙ (ap (λ n. rest / 2 * n + ((rest % 2) * 2 ^ place + number_under w bits)) p
+      ∙ (carried_over (rest / 2) (rest % 2) (2 ^ place) rest (number_under w bits) (div-add-mod' rest 2) ∙ h.so_far w));
 }
 
 pub constant_end : (number width place rest : ℕ) (bits : List Bit) → width ≤ place → IsConstant number width place rest bits
-    → (w : List Bool) → number_in w bits ≡ number
+    → (w : List Bool) → number_under w bits ≡ number
 constant_end number width place rest bits i h w =
     let e : width - place ≡ 0 = omega (arith, i) in
     let z : rest ≡ 0 = (let b = subst (λ n. rest < 2 ^ n) e h.left in omega (arith, b)) in
-    sym (ap (λ n. n * 2 ^ place + number_in w bits) z ∙ omega arith) ∙ h.so_far w
+    sym (ap (λ n. n * 2 ^ place + number_under w bits) z ∙ omega arith) ∙ h.so_far w

@@ -11,11 +11,11 @@ use Rattle.std.proofs.lemmas.List.{length_push, length-take-le, length-drop, len
 use Rattle.std.proofs.lemmas.List.Elements.{All-append, All-replicate, All-take, All-drop}
 use Rattle.gate_base.specs.declared.bits.Bit.{Bit}
 use Rattle.gate_base.specs.declared.bits.Bit.TheVariants.{Constant}
-use Rattle.gate_base.specs.Circuit.{Circuit, IsKnown, Grows, Gives, Follows, bit_value}
+use Rattle.gate_base.specs.Circuit.{Circuit, IsKnown, Grows, Gives, FollowsCircuit, bit_value}
 use Rattle.gate_words.specs.declared.chains.Cell.TheVariants as cell
 use Rattle.gate_words.specs.declared.shifts.Direction.{Direction}
 use Rattle.gate_words.specs.declared.shifts.Direction.TheVariants.{Up, Down}
-use Rattle.gate_words.specs.Binary.{digit, number_of, number_in, values, AreKnown}
+use Rattle.gate_words.specs.Binary.{digit, number_of, number_under, values, AreKnown}
 use Rattle.gate_words.specs.Cells.{IsChain}
 use Rattle.gate_words.specs.Words.{WritesWord}
 use Rattle.gate_words.specs.Shifts.{moved_once, moved, moved_bits, IsStage, IsStaged, IsShifted}
@@ -135,7 +135,7 @@ known_bits c Up n b xs h k =
     (All-take (IsKnown c) (length xs - min n (length xs)) xs k)
 
 -- the choice between two words of one width
-pub chosen_values : (c : Circuit) (chosen last : Bit) (xs ys bits : List Bit) (w : List Bool) → length xs ≡ length ys → IsChain c cell.Choose chosen xs ys bits last → Follows w c
+pub chosen_values : (c : Circuit) (chosen last : Bit) (xs ys bits : List Bit) (w : List Bool) → length xs ≡ length ys → IsChain c cell.Choose chosen xs ys bits last → FollowsCircuit w c
     → values w bits ≡ cond (bit_value w chosen) (values w xs) (values w ys)
 chosen_values c chosen last xs ys bits w e h f =
     h.are_outputs w f ∙ choose_all (bit_value w chosen) (values w xs) (values w ys) (length-map xs (bit_value w) ∙ (e ∙ sym (length-map ys (bit_value w))))
@@ -221,7 +221,7 @@ at_end d b false xs ys gone word k e i h g m =
     zero_from n h = grind (arith, nat_tests)
 
 pub shifted_end : (c e f : Circuit) (d : Direction) (fill far last : Bit) (xs ys high gone word bits : List Bit) (k : ℕ) → Grows c e → Grows e f → IsStaged c d fill xs ys k word
-    → Gives e far (λ w. nat_lt 0 (number_in w high)) → high ≡ drop k ys → gone ≡ [] ++ replicate (length xs) fill → length xs ≤ 2 ^ k → k ≤ length xs → length xs ≡ length ys
+    → Gives e far (λ w. nat_lt 0 (number_under w high)) → high ≡ drop k ys → gone ≡ [] ++ replicate (length xs) fill → length xs ≤ 2 ^ k → k ≤ length xs → length xs ≡ length ys
     → IsChain f cell.Choose far gone word bits last → IsShifted f d fill xs ys bits
 shifted_end c e f d fill far last xs ys high gone word bits k g h s tests top copies enough within same chain =
     let l : length gone ≡ length xs = ap length copies ∙ length-replicate (length xs) fill in
@@ -294,16 +294,16 @@ some_enough width less e h =
     subst (λ k. width ≤ 2 ^ k) m (omega (arith, e, p.2))
 
 pub positive : (c : Circuit) (zs xs bits : List Bit) (last : Bit) → zs ≡ replicate (length xs) (Constant false) → IsChain c cell.Below (Constant false) zs xs bits last
-    → Gives c last (λ w. nat_lt 0 (number_in w xs))
+    → Gives c last (λ w. nat_lt 0 (number_under w xs))
 positive c zs xs bits last e h = record {
   known = h.known_last;
   value = λ w f.
       let n : length zs ≡ length xs = ap length e ∙ length-replicate (length xs) (Constant false) in
-      let z : number_in w zs ≡ 0 = ap number_of (ap (values w) e ∙ fill_values w (length xs) (Constant false)) ∙ number-zeros (length xs) in
-      let s : number_in w xs + 0 ≡ number_in w xs = omega arith in
+      let z : number_under w zs ≡ 0 = ap number_of (ap (values w) e ∙ fill_values w (length xs) (Constant false)) ∙ number-zeros (length xs) in
+      let s : number_under w xs + 0 ≡ number_under w xs = omega arith in
       h.is_last w f
       ∙ (last-below false (values w zs) (values w xs) (length-map zs (bit_value w) ∙ (n ∙ sym (length-map xs (bit_value w))))
-      ∙ (ap (λ k. ltb k (number_in w xs + 0)) z ∙ ap (ltb 0) s));
+      ∙ (ap (λ k. ltb k (number_under w xs + 0)) z ∙ ap (ltb 0) s));
 }
 
 -- what the operators give
@@ -313,8 +313,8 @@ shifted_up c xs ys bits h = record {
   width = h.width;
   number = λ w f.
       ap number_of (h.moves w f)
-      ∙ (number-up (number_in w ys) (values w xs) (number_below (values w xs))
-      ∙ ap (λ k. (number_in w xs * 2 ^ min (number_in w ys) k) % 2 ^ k) (length-map xs (bit_value w)));
+      ∙ (number-up (number_under w ys) (values w xs) (number_below (values w xs))
+      ∙ ap (λ k. (number_under w xs * 2 ^ min (number_under w ys) k) % 2 ^ k) (length-map xs (bit_value w)));
 }
 
 pub shifted_down : (c : Circuit) (xs ys bits : List Bit) → IsShifted c Down (Constant false) xs ys bits → WritesWord c word_lshr xs ys bits
@@ -322,10 +322,10 @@ shifted_down c xs ys bits h = record {
   known = h.known;
   width = h.width;
   number = λ w f.
-      let e : number_in w xs / 2 ^ min (number_in w ys) (length xs) + 0 ≡ number_in w xs / 2 ^ min (number_in w ys) (length xs) = omega arith in
+      let e : number_under w xs / 2 ^ min (number_under w ys) (length xs) + 0 ≡ number_under w xs / 2 ^ min (number_under w ys) (length xs) = omega arith in
       ap number_of (h.moves w f)
-      ∙ (number-down (number_in w ys) false (values w xs)
-      ∙ (ap (λ k. number_in w xs / 2 ^ min (number_in w ys) k + 0) (length-map xs (bit_value w)) ∙ e));
+      ∙ (number-down (number_under w ys) false (values w xs)
+      ∙ (ap (λ k. number_under w xs / 2 ^ min (number_under w ys) k + 0) (length-map xs (bit_value w)) ∙ e));
 }
 
 pub shifted_signed : (c : Circuit) (sign : Bit) (xs ys bits : List Bit) → ((w : List Bool) → bit_value w sign ≡ get_or (values w xs) (length xs - 1) false)
@@ -335,10 +335,10 @@ shifted_signed c sign xs ys bits top h = record {
   width = h.width;
   number = λ w f.
       let l : length (values w xs) ≡ length xs = length-map xs (bit_value w) in
-      let t : bit_value w sign ≡ top_bit (length xs) (number_in w xs) =
-      top w ∙ (ap (λ k. get_or (values w xs) (k - 1) false) (sym l) ∙ (sym (top_of (values w xs)) ∙ ap (λ k. top_bit k (number_in w xs)) l)) in
+      let t : bit_value w sign ≡ top_bit (length xs) (number_under w xs) =
+      top w ∙ (ap (λ k. get_or (values w xs) (k - 1) false) (sym l) ∙ (sym (top_of (values w xs)) ∙ ap (λ k. top_bit k (number_under w xs)) l)) in
       ap number_of (h.moves w f)
-      ∙ (number-down (number_in w ys) (bit_value w sign) (values w xs)
-      ∙ (ap (λ k. number_in w xs / 2 ^ min (number_in w ys) k + cond (bit_value w sign) (2 ^ k - 2 ^ (k - min (number_in w ys) k)) 0) l
-      ∙ ap (λ b. number_in w xs / 2 ^ min (number_in w ys) (length xs) + cond b (2 ^ length xs - 2 ^ (length xs - min (number_in w ys) (length xs))) 0) t));
+      ∙ (number-down (number_under w ys) (bit_value w sign) (values w xs)
+      ∙ (ap (λ k. number_under w xs / 2 ^ min (number_under w ys) k + cond (bit_value w sign) (2 ^ k - 2 ^ (k - min (number_under w ys) k)) 0) l
+      ∙ ap (λ b. number_under w xs / 2 ^ min (number_under w ys) (length xs) + cond b (2 ^ length xs - 2 ^ (length xs - min (number_under w ys) (length xs))) 0) t));
 }

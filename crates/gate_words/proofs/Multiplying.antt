@@ -7,10 +7,10 @@ use Rattle.std.proofs.lemmas.List.Elements.{All-replicate}
 use Rattle.wb_values.specs.Number.{word_mul}
 use Rattle.gate_base.specs.declared.bits.Bit.{Bit}
 use Rattle.gate_base.specs.declared.bits.Bit.TheVariants.{Constant}
-use Rattle.gate_base.specs.Circuit.{Circuit, IsKnown, Grows, Follows, bit_value}
+use Rattle.gate_base.specs.Circuit.{Circuit, IsKnown, Grows, FollowsCircuit, bit_value}
 use Rattle.gate_words.specs.declared.chains.Cell.TheVariants as cell
 use Rattle.gate_words.specs.declared.shifts.Direction.TheVariants.{Up}
-use Rattle.gate_words.specs.Binary.{digit, number_of, number_in, values, AreKnown}
+use Rattle.gate_words.specs.Binary.{digit, number_of, number_under, values, AreKnown}
 use Rattle.gate_words.specs.Cells.{outputs, IsChain}
 use Rattle.gate_words.specs.Words.{WritesWord, IsWithRow}
 use Rattle.gate_words.proofs.Numbers.{number_below, number-sum, number-zeros, length-outputs}
@@ -39,19 +39,19 @@ row_end c d sum xs moved nothing row bits chosen last carry place g n i m z h k 
       number = λ w f.
           let ls : length (values w sum) ≡ length xs = length-map sum (bit_value w) ∙ n in
           let lr : length (values w sum) ≡ length (values w row) = ls ∙ (sym (h.width ∙ lm) ∙ sym (length-map row (bit_value w))) in
-          let up : number_of (values w moved) ≡ (number_in w xs * 2 ^ place) % 2 ^ length xs =
+          let up : number_of (values w moved) ≡ (number_under w xs * 2 ^ place) % 2 ^ length xs =
           ap number_of (ap (values w) m ∙ values_up w place (Constant false) xs i)
-          ∙ (up_number place (values w xs) (number_below (values w xs)) ∙ ap (λ p. (number_in w xs * 2 ^ place) % 2 ^ p) (length-map xs (bit_value w))) in
+          ∙ (up_number place (values w xs) (number_below (values w xs)) ∙ ap (λ p. (number_under w xs * 2 ^ place) % 2 ^ p) (length-map xs (bit_value w))) in
           let none : number_of (values w nothing) ≡ 0 = ap number_of (ap (values w) z ∙ fill_values w (length xs) (Constant false)) ∙ number-zeros (length xs) in
-          let r : number_in w row ≡ cond (bit_value w chosen) ((number_in w xs * 2 ^ place) % 2 ^ length xs) 0 =
+          let r : number_under w row ≡ cond (bit_value w chosen) ((number_under w xs * 2 ^ place) % 2 ^ length xs) 0 =
           ap number_of (chosen_values c chosen last moved nothing row w (lm ∙ sym lz) h (g.follows w f)) ∙ cond_number (bit_value w chosen) (values w moved) (values w nothing) _ _ up none in
-          let e : number_in w sum + number_in w row + 0 ≡ number_in w sum + number_in w row = omega arith in
+          let e : number_under w sum + number_under w row + 0 ≡ number_under w sum + number_under w row = omega arith in
           ap number_of (k.are_outputs w f)
           ∙ (number-sum false (values w sum) (values w row) lr
           ∙ (ap (λ p. p % 2 ^ length (values w sum)) e
-          ∙ (ap (λ p. (number_in w sum + number_in w row) % 2 ^ p) ls
-          ∙ (ap (λ p. (number_in w sum + p) % 2 ^ length xs) r
-          ∙ added (bit_value w chosen) (number_in w sum) (number_in w xs * 2 ^ place) (2 ^ length xs)))));
+          ∙ (ap (λ p. (number_under w sum + number_under w row) % 2 ^ p) ls
+          ∙ (ap (λ p. (number_under w sum + p) % 2 ^ length xs) r
+          ∙ added (bit_value w chosen) (number_under w sum) (number_under w xs * 2 ^ place) (2 ^ length xs)))));
     }
 
 -- so many rows are added
@@ -59,7 +59,7 @@ pub record IsMultiplying (old now : Circuit) (xs ys sum : List Bit) (place : ℕ
   pub grows : Grows old now
   pub known : AreKnown now sum
   pub width : length sum ≡ length xs
-  pub number : (w : List Bool) → Follows w now → number_in w sum ≡ (number_in w xs * number_of (take place (values w ys))) % 2 ^ length xs
+  pub number : (w : List Bool) → FollowsCircuit w now → number_under w sum ≡ (number_under w xs * number_of (take place (values w ys))) % 2 ^ length xs
 
 pub multiplying_start : (c : Circuit) (xs ys sum : List Bit) → sum ≡ replicate (length xs) (Constant false) → IsMultiplying c c xs ys sum 0
 multiplying_start c xs ys sum e = record {
@@ -67,7 +67,7 @@ multiplying_start c xs ys sum e = record {
   known = subst (AreKnown c) (sym e) (All-replicate (IsKnown c) (length xs) (Constant false) tt);
   width = ap length e ∙ length-replicate (length xs) (Constant false);
   number = λ w f.
-      let z : 0 * 2 ^ length xs + 0 ≡ number_in w xs * 0 = omega arith in
+      let z : 0 * 2 ^ length xs + 0 ≡ number_under w xs * 0 = omega arith in
       ap number_of (ap (values w) e ∙ fill_values w (length xs) (Constant false)) ∙ (number-zeros (length xs)
       ∙ (sym (mod-mul-add 0 (2 ^ length xs) 0 (pow_pos (length xs))) ∙ ap (λ k. k % 2 ^ length xs) z));
 }
@@ -83,10 +83,10 @@ multiplying_turn old now new xs ys sum seen bits place x h g same_sum r i = reco
   width = r.width;
   number = λ w f.
       let t = number_of (take place (values w ys)) in
-      let n = number_in w xs in
+      let n = number_under w xs in
       let d = digit (bit_value w (get_or ys place x)) in
       r.number w f
-      ∙ (ap (λ k. (k + d * (n * 2 ^ place)) % 2 ^ length xs) (ap (number_in w) same_sum ∙ h.number w (g.follows w f))
+      ∙ (ap (λ k. (k + d * (n * 2 ^ place)) % 2 ^ length xs) (ap (number_under w) same_sum ∙ h.number w (g.follows w f))
       ∙ (mod-add-mod (n * t) (2 ^ length xs) (d * (n * 2 ^ place))
       ∙ (ap (λ k. k % 2 ^ length xs) (rows n t d (2 ^ place)) ∙ ap (λ k. (n * k) % 2 ^ length xs) (sym (one_value w ys place x i)))));
 }
@@ -96,5 +96,5 @@ multiplying_end old now xs ys sum place h i = record {
   known = h.known;
   width = h.width;
   number = λ w f.
-      h.number w f ∙ ap (λ zs. (number_in w xs * number_of zs) % 2 ^ length xs) (take_all place (values w ys) (omega (arith, i, length-map ys (bit_value w))));
+      h.number w f ∙ ap (λ zs. (number_under w xs * number_of zs) % 2 ^ length xs) (take_all place (values w ys) (omega (arith, i, length-map ys (bit_value w))));
 }

@@ -6,7 +6,7 @@ use Rattle.std.proofs.lemmas.Nat.{and_block, or_block, xor_block, mod-mul-add, s
 use Rattle.std.proofs.lemmas.Bool.{cases_eq, eq-eqb, ne_eqb, cases_lt, lt-ltb, le-ltb, le-leb, lt-leb}
 use Rattle.std.proofs.lemmas.List.{take-append-drop, length-take-le, drop_all, take_all, take_more, nil_from_length}
 use Rattle.wb_values.specs.Number.{top_bit}
-use Rattle.gate_base.specs.Circuit.{differ}
+use Rattle.gate_base.specs.Circuit.{exactly_one}
 use Rattle.gate_words.specs.declared.chains.Cell.{Cell}
 use Rattle.gate_words.specs.declared.chains.Cell.TheVariants.{Not, And, Or, Xor, Choose, Sum, Difference, Same, Below}
 use Rattle.gate_words.specs.Binary.{digit, number_of}
@@ -39,7 +39,7 @@ or_digits true false = refl
 or_digits false true = refl
 or_digits false false = refl
 
-xor_digits : (x y : Bool) → bit_xor (digit x) (digit y) ≡ digit (differ x y)
+xor_digits : (x y : Bool) → bit_xor (digit x) (digit y) ≡ digit (exactly_one x y)
 xor_digits true true = refl
 xor_digits true false = refl
 xor_digits false true = refl
@@ -66,7 +66,7 @@ number-xor c [] [] e = refl
 number-xor c [] (y ∷ ys) e = absurd (omega (arith, e))
 number-xor c (x ∷ xs) [] e = absurd (omega (arith, e))
 number-xor c (x ∷ xs) (y ∷ ys) e =
-    ap (λ n. n * 2 + digit (differ x y)) (number-xor c xs ys (omega (arith, e)))
+    ap (λ n. n * 2 + digit (exactly_one x y)) (number-xor c xs ys (omega (arith, e)))
     ∙ (ap (λ n. bit_xor (number_of xs) (number_of ys) * 2 + n) (sym (xor_digits x y)) ∙ sym (xor_block 1 (number_of xs) (number_of ys) (digit x) (digit y) (digit_below x) (digit_below y)))
 
 not_digit : (x : Bool) → digit (not x) + digit x ≡ 1
@@ -185,7 +185,7 @@ eqb_cases a b c d f g = elim (cases_eq a b) [
   | inr h ↦ ne_eqb a b h ∙ sym (ne_eqb c d (λ k. h (g k)))
 ]
 
-same_digits : (a b : ℕ) (x y : Bool) → (not (differ x y) && eqb a b) ≡ eqb (a * 2 + digit x) (b * 2 + digit y)
+same_digits : (a b : ℕ) (x y : Bool) → (not (exactly_one x y) && eqb a b) ≡ eqb (a * 2 + digit x) (b * 2 + digit y)
 same_digits a b true true = eqb_cases _ _ _ _ (λ h. omega (arith, h)) (λ h. omega (arith, h))
 same_digits a b true false = sym (ne_eqb _ _ (λ h. omega (arith, h)))
 same_digits a b false true = sym (ne_eqb _ _ (λ h. omega (arith, h)))
@@ -202,7 +202,7 @@ last-same c [] (y ∷ ys) e = absurd (omega (arith, e))
 last-same c (x ∷ xs) [] e = absurd (omega (arith, e))
 last-same c (x ∷ xs) (y ∷ ys) e =
     last-same (cell_carry Same x y c) xs ys (omega (arith, e))
-    ∙ (and_moved c (not (differ x y)) (eqb (number_of xs) (number_of ys)) ∙ ap (λ t. c && t) (same_digits (number_of xs) (number_of ys) x y))
+    ∙ (and_moved c (not (exactly_one x y)) (eqb (number_of xs) (number_of ys)) ∙ ap (λ t. c && t) (same_digits (number_of xs) (number_of ys) x y))
 
 -- joins and parts
 pub number-append : (xs ys : List Bool) → number_of (xs ++ ys) ≡ number_of ys * 2 ^ length xs + number_of xs

@@ -10,9 +10,9 @@ use Rattle.std.proofs.lemmas.List.Elements.{All-push, All-take, All-get_or}
 use Rattle.wb_values.specs.Number.{top_bit, signed_value, word_slt, word_sle}
 use Rattle.gate_base.specs.declared.bits.Bit.{Bit}
 use Rattle.gate_base.specs.declared.bits.Bit.TheVariants.{Constant}
-use Rattle.gate_base.specs.Circuit.{Circuit, size, IsKnown, Follows, Gives, bit_value, IsBitBelow}
+use Rattle.gate_base.specs.Circuit.{Circuit, size, IsKnown, FollowsCircuit, Gives, bit_value, IsBitBelow}
 use Rattle.gate_words.specs.declared.chains.Cell.TheVariants as cell
-use Rattle.gate_words.specs.Binary.{digit, number_of, number_in, values, AreKnown}
+use Rattle.gate_words.specs.Binary.{digit, number_of, number_under, values, AreKnown}
 use Rattle.gate_words.specs.Cells.{IsChain}
 use Rattle.gate_words.specs.Words.{IsFlipped}
 use Rattle.gate_words.proofs.Numbers.{number_below, last-below, top_written}
@@ -106,47 +106,47 @@ flipped_some xs low bits top bit d n l e value known =
           let lb : length bs ≡ top = length-map (take top xs) (bit_value w) ∙ count in
           let low_small : number_of bs < 2 ^ top = subst (λ k. number_of bs < 2 ^ k) lb (number_below bs) in
           let whole : xs ≡ take top xs ++ get_or xs top d ∷ [] = sym (take_all (top + 1) xs (omega (arith, n))) ∙ take_more xs top d i in
-          let old : number_in w xs ≡ digit t * 2 ^ top + number_of bs =
-          ap (number_in w) whole ∙ (ap number_of (map_push (bit_value w) (take top xs) (get_or xs top d)) ∙ (top_written bs t ∙ ap (λ k. digit t * 2 ^ k + number_of bs) lb)) in
-          let new : number_in w bits ≡ digit (not t) * 2 ^ top + number_of bs =
-          ap (number_in w) is ∙ (ap number_of (map_push (bit_value w) (take top xs) bit) ∙ (top_written bs (bit_value w bit)
+          let old : number_under w xs ≡ digit t * 2 ^ top + number_of bs =
+          ap (number_under w) whole ∙ (ap number_of (map_push (bit_value w) (take top xs) (get_or xs top d)) ∙ (top_written bs t ∙ ap (λ k. digit t * 2 ^ k + number_of bs) lb)) in
+          let new : number_under w bits ≡ digit (not t) * 2 ^ top + number_of bs =
+          ap (number_under w) is ∙ (ap number_of (map_push (bit_value w) (take top xs) bit) ∙ (top_written bs (bit_value w bit)
           ∙ (ap (λ k. digit (bit_value w bit) * 2 ^ k + number_of bs) lb ∙ ap (λ b. digit b * 2 ^ top + number_of bs) (value w)))) in
           let v : length xs - 1 ≡ top = omega (arith, n) in
           new
           ∙ (flip_top t (2 ^ top) (2 ^ suc top) (number_of bs) (pow-succ' 2 top) low_small
           ∙ (ap (λ k. (k + 2 ^ top) % 2 ^ suc top) (sym old)
-          ∙ (ap (λ k. (number_in w xs + 2 ^ k) % 2 ^ suc top) (sym v) ∙ ap (λ k. (number_in w xs + 2 ^ (length xs - 1)) % 2 ^ k) (sym n))));
+          ∙ (ap (λ k. (number_under w xs + 2 ^ k) % 2 ^ suc top) (sym v) ∙ ap (λ k. (number_under w xs + 2 ^ (length xs - 1)) % 2 ^ k) (sym n))));
     }
 
 pub signed_gives : (c : Circuit) (xs ys first second bits : List Bit) (last : Bit) → length xs ≡ length ys → IsFlipped xs first → IsFlipped ys second
-    → IsChain c cell.Below (Constant false) first second bits last → Gives c last (λ w. word_slt (length xs) (number_in w xs) (number_in w ys))
+    → IsChain c cell.Below (Constant false) first second bits last → Gives c last (λ w. word_slt (length xs) (number_under w xs) (number_under w ys))
 signed_gives c xs ys first second bits last n f s h = record {
   known = h.known_last;
   value = λ w follows.
       let same : length (values w first) ≡ length (values w second) =
       length-map first (bit_value w) ∙ (f.width ∙ (n ∙ (sym s.width ∙ sym (length-map second (bit_value w))))) in
-      let bound : number_in w ys < 2 ^ length xs = subst (λ k. number_in w ys < 2 ^ k) (length-map ys (bit_value w) ∙ sym n) (number_below (values w ys)) in
-      let low : number_in w xs < 2 ^ length xs = subst (λ k. number_in w xs < 2 ^ k) (length-map xs (bit_value w)) (number_below (values w xs)) in
-      let z : number_in w second + 0 ≡ number_in w second = omega arith in
+      let bound : number_under w ys < 2 ^ length xs = subst (λ k. number_under w ys < 2 ^ k) (length-map ys (bit_value w) ∙ sym n) (number_below (values w ys)) in
+      let low : number_under w xs < 2 ^ length xs = subst (λ k. number_under w xs < 2 ^ k) (length-map xs (bit_value w)) (number_below (values w xs)) in
+      let z : number_under w second + 0 ≡ number_under w second = omega arith in
       h.is_last w follows
       ∙ (last-below false (values w first) (values w second) same
-      ∙ (ap (ltb (number_in w first)) z
-      ∙ (ap (λ k. ltb k (number_in w second)) (f.number w)
-      ∙ (ap (ltb ((number_in w xs + 2 ^ (length xs - 1)) % 2 ^ length xs)) (s.number w ∙ ap (λ k. (number_in w ys + 2 ^ (k - 1)) % 2 ^ k) (sym n))
-      ∙ sym (signed_order (length xs) (number_in w xs) (number_in w ys) low bound)))));
+      ∙ (ap (ltb (number_under w first)) z
+      ∙ (ap (λ k. ltb k (number_under w second)) (f.number w)
+      ∙ (ap (ltb ((number_under w xs + 2 ^ (length xs - 1)) % 2 ^ length xs)) (s.number w ∙ ap (λ k. (number_under w ys + 2 ^ (k - 1)) % 2 ^ k) (sym n))
+      ∙ sym (signed_order (length xs) (number_under w xs) (number_under w ys) low bound)))));
 }
 
 at_most_not_above : (a b : ℤ) → int_le a b ≡ not (int_lt b a)
 at_most_not_above a b = grind (arith, ints)
 
-pub at_most : (c : Circuit) (xs ys : List Bit) (above bit : Bit) → length xs ≡ length ys → Gives c above (λ w. word_slt (length ys) (number_in w ys) (number_in w xs))
+pub at_most : (c : Circuit) (xs ys : List Bit) (above bit : Bit) → length xs ≡ length ys → Gives c above (λ w. word_slt (length ys) (number_under w ys) (number_under w xs))
     → ((w : List Bool) → bit_value w bit ≡ not (bit_value w above)) → ((n : ℕ) → IsBitBelow n above → IsBitBelow n bit)
-    → Gives c bit (λ w. word_sle (length xs) (number_in w xs) (number_in w ys))
+    → Gives c bit (λ w. word_sle (length xs) (number_under w xs) (number_under w ys))
 at_most c xs ys above bit n h value known = record {
   known = known (size c) h.known;
   value = λ w f.
       value w
       ∙ (ap not (h.value w f)
-      ∙ (ap (λ k. not (word_slt k (number_in w ys) (number_in w xs))) (sym n)
-      ∙ sym (at_most_not_above (signed_value (length xs) (number_in w xs)) (signed_value (length xs) (number_in w ys)))));
+      ∙ (ap (λ k. not (word_slt k (number_under w ys) (number_under w xs))) (sym n)
+      ∙ sym (at_most_not_above (signed_value (length xs) (number_under w xs)) (signed_value (length xs) (number_under w ys)))));
 }

@@ -19,8 +19,8 @@ abbrev pub values : List Bool → List Bit → List Bool
 values w bits = map (bit_value w) bits
 
 -- the number that bits write under an assignment
-abbrev pub number_in : List Bool → List Bit → ℕ
-number_in w bits = number_of (values w bits)
+abbrev pub number_under : List Bool → List Bit → ℕ
+number_under w bits = number_of (values w bits)
 
 -- the bits have variables of the circuit
 abbrev pub AreKnown : Circuit → List Bit → Type 0

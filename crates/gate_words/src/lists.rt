@@ -3,7 +3,7 @@
 ghost use Rattle.std.specs.Prelude.{◌≡◌, ◌+◌, ◌-◌, ◌^◌, ◌<◌, ◌≤◌, List, Bool, [], ◌∷◌, ◌++◌, length, take, drop, replicate, false, slice_index_or, IfOk, OnOk};
 ghost use Rattle.gate_base.specs.Circuit.{Circuit, bit_value, IsKnown};
 ghost use Rattle.gate_base.specs.declared.bits.Bit.TheVariants.{Constant};
-ghost use Rattle.gate_words.specs.Binary.{values, number_in, AreKnown, literals_from};
+ghost use Rattle.gate_words.specs.Binary.{values, number_under, AreKnown, literals_from};
 
 use gate_base::{Bit, Lit, NoMemory};
 use std::alloc::Global;
@@ -13,7 +13,7 @@ pub fn constant(alloc: Global, width: u32, number: u128) -> Result<Vec<Bit>, NoM
     requires { number < 2 ^ width }
     ensures known { IfOk result (λ bits. (c : Circuit) → AreKnown c bits.items) }
     ensures width { IfOk result (λ bits. length bits.items ≡ width) }
-    ensures number { IfOk result (λ bits. (w : List Bool) → number_in w bits.items ≡ number) }
+    ensures number { IfOk result (λ bits. (w : List Bool) → number_under w bits.items ≡ number) }
 {
     let mut bits = Vec::with_capacity(alloc, width as usize)?;
     let mut rest = number;

@@ -2,7 +2,7 @@
 
 ghost use Rattle.std.specs.Prelude.{◌≡◌, ◌≤◌, ◌^◌, length, IfOk, nat_lt};
 ghost use Rattle.gate_base.specs.Circuit.{IsKnown, Grows, Gives};
-ghost use Rattle.gate_words.specs.Binary.{AreKnown, number_in};
+ghost use Rattle.gate_words.specs.Binary.{AreKnown, number_under};
 ghost use Rattle.gate_words.specs.Shifts.{IsShifted, IsStaged, IsStage, moved_bits};
 
 use crate::chains::{Cell, chained};
@@ -140,7 +140,7 @@ fn moved(
 fn is_positive(alloc: Global, circuit: &mut Builder, xs: &[Bit]) -> Result<Bit, NoMemory>
     requires { AreKnown circuit.old xs.now }
     ensures grows { Grows circuit.old circuit.new }
-    ensures bit { IfOk result (λ b. Gives circuit.new b (λ w. nat_lt 0 (number_in w xs.now))) }
+    ensures bit { IfOk result (λ b. Gives circuit.new b (λ w. nat_lt 0 (number_under w xs.now))) }
 {
     let zero = zeros(alloc, xs.len())?;
     let chain = chained(

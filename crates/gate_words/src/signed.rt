@@ -3,7 +3,7 @@
 ghost use Rattle.std.specs.Prelude.{◌≡◌, length, IfOk};
 ghost use Rattle.wb_values.specs.Number.{word_slt, word_sle};
 ghost use Rattle.gate_base.specs.Circuit.{Grows, Gives};
-ghost use Rattle.gate_words.specs.Binary.{AreKnown, number_in};
+ghost use Rattle.gate_words.specs.Binary.{AreKnown, number_under};
 ghost use Rattle.gate_words.specs.Words.{IsFlipped};
 
 use crate::chains::{Cell, chained};
@@ -22,7 +22,7 @@ pub fn signed_below(
     requires ys { AreKnown circuit.old ys.now }
     requires width { length xs.now ≡ length ys.now }
     ensures grows { Grows circuit.old circuit.new }
-    ensures below { IfOk result (λ b. Gives circuit.new b (λ w. word_slt (length xs.now) (number_in w xs.now) (number_in w ys.now))) }
+    ensures below { IfOk result (λ b. Gives circuit.new b (λ w. word_slt (length xs.now) (number_under w xs.now) (number_under w ys.now))) }
 {
     let first = flipped(alloc, xs)?;
     let second = flipped(alloc, ys)?;
@@ -48,7 +48,7 @@ pub fn signed_at_most(
     requires ys { AreKnown circuit.old ys.now }
     requires width { length xs.now ≡ length ys.now }
     ensures grows { Grows circuit.old circuit.new }
-    ensures at_most { IfOk result (λ b. Gives circuit.new b (λ w. word_sle (length xs.now) (number_in w xs.now) (number_in w ys.now))) }
+    ensures at_most { IfOk result (λ b. Gives circuit.new b (λ w. word_sle (length xs.now) (number_under w xs.now) (number_under w ys.now))) }
 {
     let above = signed_below(alloc, circuit, ys, xs)?;
     Ok(above.negated())

@@ -4,7 +4,7 @@ use Rattle.std.specs.BTreeMap.{BTreeMap}
 use Rattle.model_meaning.specs.Model.{StateDeclaration}
 use Rattle.model_files.specs.Written.{WrittenInstruction, instruction, WrittenInstructions, and_then, WrittenMachine, machine, WrittenChild, no_child, child, states_in, machines_below, machines_of_child}
 use Rattle.model_files.specs.Names.{data_names, joined}
-use Rattle.model_files.specs.Scope.{Scope, with_states, with_definitions, with_fetch, terms_below}
+use Rattle.model_files.specs.Scope.{MachineScope, with_states, with_definitions, with_fetch, terms_below}
 use Rattle.wb_terms.specs.declared.nodes.TermId.{TermId}
 use Rattle.wb_terms.specs.declared.store.PutStop.{PutStop}
 use Rattle.wb_terms.specs.Graph.{Graph}
@@ -125,7 +125,7 @@ pub child_lost : (g h : Graph) (t u : BTreeMap (Bor (List ℕ)) TermId) (cs ds :
 child_lost g h t u cs ds i now rest all s cut a b c n =
     unrefused_by _ (AreBelowDue g t all) s
     (λ d.
-    let scope : Scope = record { names = d.due.names; states = d.due.states } in
+    let scope : MachineScope = record { names = d.due.names; states = d.due.states } in
     let at = a.stand scope d.due.places d.due.is_right.0 d.due.knows d.due.stand d.due.is_right.1 in
     record {
       due = record {

@@ -16,7 +16,7 @@ use Rattle.wb_values.specs.Choice.{first_of}
 use Rattle.model_files.specs.Written.{WrittenTerm}
 use Rattle.model_files.specs.Scope.{Visible, declared, of_update, placed, term_of, placed_updates}
 use Rattle.model_files.specs.Rules.{uses_unknown_name, updates_no_state}
-use Rattle.model_files.specs.Meaning.{with_update, updates_of}
+use Rattle.model_files.specs.Meaning.{with_own_update, updates_for_states}
 use Rattle.wb_terms.specs.declared.nodes.NameId.{NameId}
 use Rattle.wb_terms.specs.declared.nodes.TermId.{TermId}
 use Rattle.wb_terms.specs.Graph.{Graph, tree, HasDistinctNames}
@@ -252,23 +252,23 @@ ascending_of g from (k ∷ ks) (x ∷ ss) s = (s.0, ascending_of g (suc k) ks ss
 
 one_listed : (g h : Graph) (names : Entries Visible) (us : Entries WrittenTerm) (k : ℕ) (s : StateDeclaration) (o : Option TermId) (es : List (ℕ × TermId)) (ts : Entries Term)
     → h.names ≡ g.names → k < length g.names → entry_at g.names k ≡ (s.state_name, s.sort) → IsChosen g.names h names us [] k o → AreUpdates h es ts
-    → AreUpdates h (picked o k es) (with_update names s.state_name (entry_of us s.state_name) ts)
+    → AreUpdates h (picked o k es) (with_own_update names s.state_name (entry_of us s.state_name) ts)
 one_listed g h names us k s None es ts e w q c r =
     let gone : entry_of us s.state_name ≡ None = ap (λ (x : Name × Sort). entry_of us x.0) (sym q) ∙ c w in
-    subst (λ x. AreUpdates h es (with_update names s.state_name x ts)) (sym gone) r
+    subst (λ x. AreUpdates h es (with_own_update names s.state_name x ts)) (sym gone) r
 one_listed g h names us k s (Some id) es ts e w q c r =
     let there : entry_of us s.state_name ≡ Some c.2.0 = ap (λ (x : Name × Sort). entry_of us x.0) (sym q) ∙ c.2.1 in
     let within : k < length h.names = subst (λ (ns : Entries Sort). k < length ns) (sym e) w in
     let called : (entry_at h.names k).0 ≡ s.state_name = ap (λ ns. (entry_at ns k).0) e ∙ ap (λ (x : Name × Sort). x.0) q in
-    subst (λ x. AreUpdates h ((k, id) ∷ es) (with_update names s.state_name x ts)) (sym there) (within, c.1, called, c.2.2, r)
+    subst (λ x. AreUpdates h ((k, id) ∷ es) (with_own_update names s.state_name x ts)) (sym there) (within, c.1, called, c.2.2, r)
 
 all_listed : (g h : Graph) (names : Entries Visible) (us : Entries WrittenTerm) (at : ℕ → Option TermId) (from : ℕ) (ks : List ℕ) (ss : List StateDeclaration)
-    → h.names ≡ g.names → StandAt g from ks ss → ((k : ℕ) → IsChosen g.names h names us [] k (at k)) → AreUpdates h (picks at ks) (updates_of names ss us)
+    → h.names ≡ g.names → StandAt g from ks ss → ((k : ℕ) → IsChosen g.names h names us [] k (at k)) → AreUpdates h (picks at ks) (updates_for_states names ss us)
 all_listed g h names us at from [] [] e s c = tt
 all_listed g h names us at from [] (x ∷ ss) e s c = absurd s
 all_listed g h names us at from (k ∷ ks) [] e s c = absurd s
 all_listed g h names us at from (k ∷ ks) (x ∷ ss) e s c =
-    one_listed g h names us k x (at k) (picks at ks) (updates_of names ss us) e s.1 s.2 (c k) (all_listed g h names us at (suc k) ks ss e s.3 c)
+    one_listed g h names us k x (at k) (picks at ks) (updates_for_states names ss us) e s.1 s.2 (c k) (all_listed g h names us at (suc k) ks ss e s.3 c)
 
 member_of : (g h : Graph) (names : Entries Visible) (us : Entries WrittenTerm) (ks : List ℕ) (ss : List StateDeclaration) (k : ℕ) (id : TermId) (o : Option TermId)
     → HasDistinctNames g.names → StandAt g 0 ks ss → are_right (placed_updates names ss us) ≡ true → IsChosen g.names h names us [] k o → o ≡ Some id → IsAmong k ks
@@ -314,7 +314,7 @@ unfolding AreToChoose AreUpdated AreChosen
 choose_end g h t f m us d b o a names ks ss k s r =
     let at = (a names ks ss k s r).0 in
     let list : m.entries ≡ picks (chosen m) ks = listed (chosen m) ks m.entries 0 (ascends m.entries o) (ascending_of g 0 ks ss s) (λ j z. refl) (λ j id z e. member_of g h names us ks ss j id (chosen m j) d s r (at j) e) in
-    subst (λ es. AreUpdates h es (updates_of names ss us)) (sym list) (all_listed g h names us (chosen m) 0 ks ss b.names s at)
+    subst (λ es. AreUpdates h es (updates_for_states names ss us)) (sym list) (all_listed g h names us (chosen m) 0 ks ss b.names s at)
 
 pub one_updated : (g h : Graph) (t : BTreeMap (Bor (List ℕ)) TermId) (f : Option TermId) (m w : BTreeMap ℕ TermId) (u : Name × WrittenTerm) (i : NameId) (id : TermId)
     → HasDistinctNames g.names → IsTable g t → IsLeafOf g i (under_name t u.0) → IsPut g h (Ok id) (term_by (seen_by g t f) u.1)

@@ -6,14 +6,14 @@ use Rattle.std.proofs.lemmas.Bool.{false≢true, and_parts}
 use Rattle.wb_values.specs.Value.{Name, Sort, same_name, Entries, entry_of}
 use Rattle.model_meaning.specs.Term.{sort_of}
 use Rattle.model_files.specs.Written.{WrittenTerm}
-use Rattle.model_files.specs.Scope.{Visible, Place, of_definition, Placed, placed, defined, term_of, written_sort, placed_definitions, with_definitions}
+use Rattle.model_files.specs.Scope.{Visible, TermPlace, of_definition, PlacedTerm, placed, defined, term_of, written_sort, placed_definitions, with_definitions}
 use Rattle.model_files.specs.Rules.{uses_unknown_name, updates_no_state, takes_sort}
 use Rattle.wb_terms.specs.declared.nodes.TermId.{TermId}
 use Rattle.wb_terms.specs.declared.store.PutStop.{PutStop}
 use Rattle.wb_terms.specs.declared.store.PutStop.TheVariants.{BadSort, NoMemory}
 use Rattle.wb_terms.specs.Graph.{Graph, tree}
 use Rattle.std.proofs.lemmas.Slice.Eq.{bytes_eq-Decides}
-use Rattle.model_meaning.specs.Among.{is_among}
+use Rattle.model_meaning.specs.Among.{is_name_in}
 use Rattle.ila_build.specs.Standing.{IsFresh, IsKept, under_name, found, seen, seen_by, StandsFor, IsIn, AreIn, term_by, IsWider, IsPut}
 use Rattle.ila_build.specs.Knowing.{Knows, is_right, are_right, AreDefined, defined_names}
 use Rattle.ila_build.proofs.Growing.{wider}
@@ -82,11 +82,11 @@ pub not_true : (b : Bool) → not b ≡ true → b ≡ false
 not_true false h = refl
 not_true true h = absurd (false≢true h)
 
-no_sort : (p : Place) (s : Option Sort) → s ≡ None → takes_sort p s ≡ true → ⊥
+no_sort : (p : TermPlace) (s : Option Sort) → s ≡ None → takes_sort p s ≡ true → ⊥
 no_sort p None e h = false≢true h
 no_sort p (Some s) e h = cc
 
-pub right_put : (g h : Graph) (t : BTreeMap (Bor (List ℕ)) TermId) (f : Option TermId) (names : Entries Visible) (e : WrittenTerm) (p : Place) (r : Result TermId PutStop)
+pub right_put : (g h : Graph) (t : BTreeMap (Bor (List ℕ)) TermId) (f : Option TermId) (names : Entries Visible) (e : WrittenTerm) (p : TermPlace) (r : Result TermId PutStop)
     → Knows g t f names → is_right (placed names e p) ≡ true → IsPut g h r (term_by (seen_by g t f) e) → IsRight h names e r
 unfolding is_right
 right_put g h t f names e p r k right put =
@@ -125,11 +125,11 @@ are_in_more h t u m id i w r n = subst (IsIn h) (sym (r n)) (is_in_more h (same_
 
 -- ---- a definition
 
-pub first_right : (p : Placed) (ps : List Placed) → are_right (p ∷ ps) ≡ true → (is_right p ≡ true) × (are_right ps ≡ true)
+pub first_right : (p : PlacedTerm) (ps : List PlacedTerm) → are_right (p ∷ ps) ≡ true → (is_right p ≡ true) × (are_right ps ≡ true)
 unfolding are_right
 first_right p ps h = and_parts (is_right p) (are_right ps) h
 
-first_alone : (p : Placed) → is_right p ≡ true → are_right (p ∷ []) ≡ true
+first_alone : (p : PlacedTerm) → is_right p ≡ true → are_right (p ∷ []) ≡ true
 unfolding are_right
 first_alone p h = ap (λ b. b && true) h
 
@@ -156,19 +156,19 @@ pub one_twice : (g : Graph) (t : BTreeMap (Bor (List ℕ)) TermId) (n : Name) (e
 unfolding AreDefined
 one_twice g t n e h names k right = λ fresh. false≢true (sym (ap is_some fresh.0) ∙ h)
 
-other_name : (m n : Name) (ns : List Name) → is_among m ns ≡ false → is_among n ns ≡ true → same_name m n ≡ false
+other_name : (m n : Name) (ns : List Name) → is_name_in m ns ≡ false → is_name_in n ns ≡ true → same_name m n ≡ false
 other_name m n ns h k = by_test (same_name m n) refl where
   by_test : (b : Bool) → same_name m n ≡ b → b ≡ false
   by_test false e = refl
-  by_test true e = absurd (false≢true (sym h ∙ (ap (λ x. is_among x ns) ((bytes_eq-Decides m n).0 e) ∙ k)))
+  by_test true e = absurd (false≢true (sym h ∙ (ap (λ x. is_name_in x ns) ((bytes_eq-Decides m n).0 e) ∙ k)))
 
 abbrev pub IsAside : BTreeMap (Bor (List ℕ)) TermId → BTreeMap (Bor (List ℕ)) TermId → Name → Type 0
 IsAside t u m = (q : Name) → same_name m q ≡ false → under_name u q ≡ under_name t q
 
-fresh_from : (t u : BTreeMap (Bor (List ℕ)) TermId) (m : Name) (ns : List Name) → IsAside t u m → is_among m ns ≡ false → IsFresh t ns → IsFresh u ns
+fresh_from : (t u : BTreeMap (Bor (List ℕ)) TermId) (m : Name) (ns : List Name) → IsAside t u m → is_name_in m ns ≡ false → IsFresh t ns → IsFresh u ns
 fresh_from t u m [] a h f = tt
 fresh_from t u m (n ∷ ns) a h f =
-    let p = or_parts (same_name m n) (is_among m ns) h in
+    let p = or_parts (same_name m n) (is_name_in m ns) h in
     (a n p.0 ∙ f.0, f.1, fresh_from t u m ns a p.1 f.2)
 
 -- ---- a list of definitions: where the loop stands, the rest are still to be put in a scope that the whole leads through

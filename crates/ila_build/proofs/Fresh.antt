@@ -6,7 +6,7 @@ use Rattle.std.proofs.lemmas.Bool.{false≢true, and_parts}
 use Rattle.std.proofs.lemmas.Slice.Eq.{bytes_eq-Decides}
 use Rattle.wb_values.specs.Value.{Name, Sort, same_name, Entries}
 use Rattle.model_meaning.specs.Term.{is_sort}
-use Rattle.model_meaning.specs.Among.{is_among}
+use Rattle.model_meaning.specs.Among.{is_name_in}
 use Rattle.wb_terms.specs.declared.nodes.TermId.{TermId}
 use Rattle.wb_terms.specs.declared.store.PutStop.{PutStop}
 use Rattle.wb_terms.specs.declared.store.PutStop.TheVariants.{BadSort, NoMemory}
@@ -21,29 +21,29 @@ unrefused_by Q R NoMemory f n = tt
 
 -- ---- lists of names
 
-pub among-append : (q : Name) (ns ms : List Name) → is_among q (ns ++ ms) ≡ (is_among q ns || is_among q ms)
+pub among-append : (q : Name) (ns ms : List Name) → is_name_in q (ns ++ ms) ≡ (is_name_in q ns || is_name_in q ms)
 among-append q [] ms = refl
 among-append q (n ∷ ns) ms = by_test (same_name q n) (among-append q ns ms) where
-  by_test : (b : Bool) → is_among q (ns ++ ms) ≡ (is_among q ns || is_among q ms) → (b || is_among q (ns ++ ms)) ≡ ((b || is_among q ns) || is_among q ms)
+  by_test : (b : Bool) → is_name_in q (ns ++ ms) ≡ (is_name_in q ns || is_name_in q ms) → (b || is_name_in q (ns ++ ms)) ≡ ((b || is_name_in q ns) || is_name_in q ms)
   by_test true e = refl
   by_test false e = e
 
 pub fresh_front : (t : BTreeMap (Bor (List ℕ)) TermId) (ns ms : List Name) → IsFresh t (ns ++ ms) → IsFresh t ns
 fresh_front t [] ms f = tt
-fresh_front t (n ∷ ns) ms f = (f.0, (or_parts (is_among n ns) (is_among n ms) (sym (among-append n ns ms) ∙ f.1)).0, fresh_front t ns ms f.2)
+fresh_front t (n ∷ ns) ms f = (f.0, (or_parts (is_name_in n ns) (is_name_in n ms) (sym (among-append n ns ms) ∙ f.1)).0, fresh_front t ns ms f.2)
 
 pub fresh_rest : (t : BTreeMap (Bor (List ℕ)) TermId) (ns ms : List Name) → IsFresh t (ns ++ ms) → IsFresh t ms
 fresh_rest t [] ms f = f
 fresh_rest t (n ∷ ns) ms f = fresh_rest t ns ms f.2
 
-pub apart : (t : BTreeMap (Bor (List ℕ)) TermId) (ns ms : List Name) (q : Name) → IsFresh t (ns ++ ms) → is_among q ms ≡ true → is_among q ns ≡ false
+pub apart : (t : BTreeMap (Bor (List ℕ)) TermId) (ns ms : List Name) (q : Name) → IsFresh t (ns ++ ms) → is_name_in q ms ≡ true → is_name_in q ns ≡ false
 apart t [] ms q f h = refl
 apart t (n ∷ ns) ms q f h = by_test (same_name q n) refl (apart t ns ms q f.2 h) where
-  by_test : (b : Bool) → same_name q n ≡ b → is_among q ns ≡ false → (b || is_among q ns) ≡ false
+  by_test : (b : Bool) → same_name q n ≡ b → is_name_in q ns ≡ false → (b || is_name_in q ns) ≡ false
   by_test false e rest = rest
   by_test true e rest =
-      let out = (or_parts (is_among n ns) (is_among n ms) (sym (among-append n ns ms) ∙ f.1)).1 in
-      absurd (false≢true (sym out ∙ (ap (λ x. is_among x ms) (sym ((bytes_eq-Decides q n).0 e)) ∙ h)))
+      let out = (or_parts (is_name_in n ns) (is_name_in n ms) (sym (among-append n ns ms) ∙ f.1)).1 in
+      absurd (false≢true (sym out ∙ (ap (λ x. is_name_in x ms) (sym ((bytes_eq-Decides q n).0 e)) ∙ h)))
 
 same_self : (n : Name) → same_name n n ≡ true
 same_self n = (bytes_eq-Decides n n).1 refl
@@ -52,10 +52,10 @@ or_true : (a b : Bool) → b ≡ true → (a || b) ≡ true
 or_true true b h = refl
 or_true false b h = h
 
-pub fresh_moved : (t u : BTreeMap (Bor (List ℕ)) TermId) (ns : List Name) → IsFresh t ns → ((q : Name) → is_among q ns ≡ true → under_name u q ≡ under_name t q) → IsFresh u ns
+pub fresh_moved : (t u : BTreeMap (Bor (List ℕ)) TermId) (ns : List Name) → IsFresh t ns → ((q : Name) → is_name_in q ns ≡ true → under_name u q ≡ under_name t q) → IsFresh u ns
 fresh_moved t u [] f a = tt
 fresh_moved t u (n ∷ ns) f a =
-    (a n (ap (λ b. b || is_among n ns) (same_self n)) ∙ f.0, f.1, fresh_moved t u ns f.2 (λ q h. a q (or_true (same_name q n) (is_among q ns) h)))
+    (a n (ap (λ b. b || is_name_in n ns) (same_self n)) ∙ f.0, f.1, fresh_moved t u ns f.2 (λ q h. a q (or_true (same_name q n) (is_name_in q ns) h)))
 
 pub fresh_behind : (t u : BTreeMap (Bor (List ℕ)) TermId) (ns ms : List Name) → IsFresh t (ns ++ ms) → IsBesides t u ns → IsFresh u ms
 unfolding IsBesides
@@ -68,7 +68,7 @@ besides_same t ns q h = refl
 pub besides_onward : (t u w : BTreeMap (Bor (List ℕ)) TermId) (ns ms : List Name) → IsBesides t u ns → IsBesides u w ms → IsBesides t w (ns ++ ms)
 unfolding IsBesides
 besides_onward t u w ns ms a b q h =
-    let p = or_parts (is_among q ns) (is_among q ms) (sym (among-append q ns ms) ∙ h) in
+    let p = or_parts (is_name_in q ns) (is_name_in q ms) (sym (among-append q ns ms) ∙ h) in
     b q p.1 ∙ a q p.0
 
 other_order : (m n : Name) → same_name m n ≡ false → same_name n m ≡ false

@@ -8,7 +8,7 @@ use Rattle.wb_values.specs.Value.{Entries}
 use Rattle.model_meaning.specs.Model as pure
 use Rattle.model_meaning.specs.Model.{StateDeclaration}
 use Rattle.model_files.specs.Written.{WrittenTerm, WrittenInstruction, instruction, WrittenInstructions, no_instructions, and_then, WrittenMachine, machine, WrittenChild, no_child, child, machines_below, machines_of_child}
-use Rattle.model_files.specs.Scope.{Visible, Scope, Placed, placed, of_condition, with_states, with_definitions, with_fetch, scope_within, placed_definitions, placed_fetch, placed_updates, terms_in, terms_below, terms_of_instruction, terms_of_child}
+use Rattle.model_files.specs.Scope.{Visible, MachineScope, PlacedTerm, placed, of_condition, with_states, with_definitions, with_fetch, scope_within, placed_definitions, placed_fetch, placed_updates, terms_in, terms_below, terms_of_instruction, terms_of_child}
 use Rattle.model_files.specs.Rules.{depth_below, depth_of_child}
 use Rattle.model_files.specs.Meaning as file
 use Rattle.wb_terms.specs.declared.nodes.TermId.{TermId}
@@ -29,11 +29,11 @@ use Rattle.ila_build.proofs.ProgramLemmas.{AreLinked, machine_read, program_ther
 
 -- ---- what no rule refuses
 
-both_right : (p : Placed) (ps : List Placed) → is_right p ≡ true → are_right ps ≡ true → are_right (p ∷ ps) ≡ true
+both_right : (p : PlacedTerm) (ps : List PlacedTerm) → is_right p ≡ true → are_right ps ≡ true → are_right (p ∷ ps) ≡ true
 unfolding are_right
 both_right p ps a b = rw (a, b) refl
 
-pub right_parts : (xs ys : List Placed) → are_right (xs ++ ys) ≡ true → (are_right xs ≡ true) × (are_right ys ≡ true)
+pub right_parts : (xs ys : List PlacedTerm) → are_right (xs ++ ys) ≡ true → (are_right xs ≡ true) × (are_right ys ≡ true)
 unfolding are_right
 right_parts [] ys h = (refl, h)
 right_parts (x ∷ xs) ys h =
@@ -41,7 +41,7 @@ right_parts (x ∷ xs) ys h =
     let rest = right_parts xs ys first.1 in
     (both_right x xs first.0 rest.0, rest.1)
 
-own_right : (scope : Scope) (names : Entries Visible) (is : WrittenInstructions) → are_right (terms_below scope names is) ≡ true → AreOwnRight names scope.states is
+own_right : (scope : MachineScope) (names : Entries Visible) (is : WrittenInstructions) → are_right (terms_below scope names is) ≡ true → AreOwnRight names scope.states is
 own_right scope names no_instructions h = tt
 own_right scope names (and_then (instruction n d u p) is) h =
     let parts = right_parts (terms_of_instruction scope names (instruction n d u p)) (terms_below scope names is) h in
@@ -50,14 +50,14 @@ own_right scope names (and_then (instruction n d u p) is) h =
     (both_right (placed names d of_condition) (placed_updates names scope.states u) first.0 updates.0, own_right scope names is parts.1)
 
 -- of the first instruction's child, and of the other instructions
-pub next_right : (scope : Scope) (names : Entries Visible) (i : WrittenInstruction) (is : WrittenInstructions) → are_right (terms_below scope names (and_then i is)) ≡ true
+pub next_right : (scope : MachineScope) (names : Entries Visible) (i : WrittenInstruction) (is : WrittenInstructions) → are_right (terms_below scope names (and_then i is)) ≡ true
     → (are_right (terms_of_child scope (program_in i)) ≡ true) × (are_right (terms_below scope names is) ≡ true)
 next_right scope names (instruction n d u p) is h =
     let parts = right_parts (terms_of_instruction scope names (instruction n d u p)) (terms_below scope names is) h in
     let first = first_right (placed names d of_condition) (placed_updates names scope.states u ++ terms_of_child scope p) parts.0 in
     ((right_parts (placed_updates names scope.states u) (terms_of_child scope p) first.1).1, parts.1)
 
-pub machine_right : (around : Scope) (ss : List StateDeclaration) (ds : Entries WrittenTerm) (f : Option WrittenTerm) (v : WrittenTerm) (is : WrittenInstructions)
+pub machine_right : (around : MachineScope) (ss : List StateDeclaration) (ds : Entries WrittenTerm) (f : Option WrittenTerm) (v : WrittenTerm) (is : WrittenInstructions)
     → are_right (terms_in around (machine ss ds f v is)) ≡ true
     → IsMachineRight (with_states around.names ss) (around.states ++ ss) (machine ss ds f v is) × (are_right (terms_below (scope_within around ss ds) (with_fetch (with_definitions (with_states around.names ss) ds) f) is) ≡ true)
 machine_right around ss ds f v is h =
@@ -100,7 +100,7 @@ more_onward {cs} {ds} {es} {m} {n} a b = record {
 more_by : {cs ds : List Child} {m n : ℕ} → m ≡ n → HasMore cs m ds → HasMore cs n ds
 more_by {cs} {ds} e a = subst (λ n. HasMore cs n ds) e a
 
-pub stands_later : (g h : Graph) (cs ds : List Child) (n : ℕ) (scope : Scope) (link : Option ChildId) (p : WrittenChild) → IsWider g h → HasMore cs n ds → StandsForChild g cs scope link p → StandsForChild h ds scope link p
+pub stands_later : (g h : Graph) (cs ds : List Child) (n : ℕ) (scope : MachineScope) (link : Option ChildId) (p : WrittenChild) → IsWider g h → HasMore cs n ds → StandsForChild g cs scope link p → StandsForChild h ds scope link p
 stands_later g h cs ds n scope link p b m s k behind l wide d =
     let list : ds ++ behind ≡ cs ++ (m.more ++ behind) = ap (λ xs. xs ++ behind) m.list ∙ append_assoc cs m.more behind in
     ap (λ xs. program_of k xs l link) list ∙ s k (m.more ++ behind) l (widen b wide) d
@@ -118,7 +118,7 @@ rest_deep : (a b l : ℕ) → max a b ≤ l → b ≤ l
 rest_deep a b l h = omega (arith, h)
 
 -- the ids of the instructions' children, in front of which others may stand, are linked
-pub linked : (g h : Graph) (cs behind : List Child) (scope : Scope) (l k : ℕ) (before : List (Option ChildId)) (is : WrittenInstructions)
+pub linked : (g h : Graph) (cs behind : List Child) (scope : MachineScope) (l k : ℕ) (before : List (Option ChildId)) (is : WrittenInstructions)
     → IsWider g h → depth_below is ≤ l → StandForChildren g cs scope k is → AreLinked (program_of h (cs ++ behind) l) scope (before ++ links_from k is) (length before) is
 linked g h cs behind scope l k before no_instructions b d s = tt
 linked g h cs behind scope l k before (and_then (instruction n e u p) is) b d s =
@@ -134,7 +134,7 @@ linked g h cs behind scope l k before (and_then (instruction n e u p) is) b d s 
 -- A child whose own terms were put, and behind it the children inside it.
 program_stands : (g h m : Graph) (t r u : BTreeMap (Bor (List ℕ)) TermId) (links : List (Option ChildId)) (cs mid ds : List Child) (w : WrittenMachine) (c : Child)
     → IsChildPut g t h r links w c → mid ≡ cs ++ c ∷ [] → links ≡ links_from (suc (length cs)) (own_instructions w) → AreChildrenPut h r mid m u ds (own_instructions w)
-    → (scope : Scope) (ks : List ℕ) → Knows g t None scope.names → StandAt g 0 ks scope.states → are_right (terms_in scope w) ≡ true → StandsForChild m ds scope (Some (record { 0 = length cs })) (child c.steps w)
+    → (scope : MachineScope) (ks : List ℕ) → Knows g t None scope.names → StandAt g 0 ks scope.states → are_right (terms_in scope w) ≡ true → StandsForChild m ds scope (Some (record { 0 = length cs })) (child c.steps w)
 unfolding IsChildPut
 program_stands g h m t r u links cs mid ds w c put em el inside scope ks k s right n behind zero b d = absurd (omega (arith, d))
 program_stands g h m t r u links cs mid ds (machine ss es f v is) c put em el inside scope ks k s right n behind (suc l) b d =
@@ -188,7 +188,7 @@ pub record AreToPutInside (g : Graph) (t : BTreeMap (Bor (List ℕ)) TermId) (cs
   pub more : List Child
   pub list : ds ≡ cs ++ more
   pub count : length ds + length (machines_below rest) ≡ length cs + length (machines_below all)
-  pub stand : (scope : Scope) (ks : List ℕ) (names : Entries Visible) → Knows g t None scope.names → StandAt g 0 ks scope.states → are_right (terms_below scope names all) ≡ true
+  pub stand : (scope : MachineScope) (ks : List ℕ) (names : Entries Visible) → Knows g t None scope.names → StandAt g 0 ks scope.states → are_right (terms_below scope names all) ≡ true
       → (are_right (terms_below scope names rest) ≡ true) × ((k : Graph) (n : ℕ) (es : List Child) → IsWider h k → HasMore ds n es → StandForChildren k es scope (length ds) rest → StandForChildren k es scope (length cs) all)
 
 pub inside_start : (g : Graph) (t : BTreeMap (Bor (List ℕ)) TermId) (cs : List Child) (is : WrittenInstructions) → IsTable g t → AreToPutInside g t cs g t cs is is

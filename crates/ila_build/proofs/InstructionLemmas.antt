@@ -11,7 +11,7 @@ use Rattle.model_meaning.specs.Term.{Term}
 use Rattle.model_meaning.specs.Model.{StateDeclaration}
 use Rattle.model_files.specs.Written.{WrittenTerm, WrittenInstruction, WrittenInstructions, no_instructions, and_then}
 use Rattle.model_files.specs.Scope.{Visible, placed, of_condition, term_of, placed_updates}
-use Rattle.model_files.specs.Meaning.{updates_of}
+use Rattle.model_files.specs.Meaning.{updates_for_states}
 use Rattle.wb_terms.specs.declared.nodes.TermId.{TermId}
 use Rattle.wb_terms.specs.Graph.{Graph, tree}
 use Rattle.ila_model.specs.declared.parts.Instruction.{Instruction}
@@ -41,7 +41,7 @@ updates_wider g h (u ∷ us) (t ∷ ts) b a =
 
 pub instruction_wider : (g h : Graph) (names : Entries Visible) (ss : List StateDeclaration) (link : Option ChildId) (i : WrittenInstruction) (x : Instruction) → IsWider g h → IsInstruction g names ss link i x → IsInstruction h names ss link i x
 instruction_wider g h names ss link i x b a =
-    (a.0, omega (arith, b.longer, a.1), b.trees x.decode.0 a.1 ∙ a.2, updates_wider g h (map pair_of x.updates.items) (updates_of names ss (update_in i)) b a.3, a.4)
+    (a.0, omega (arith, b.longer, a.1), b.trees x.decode.0 a.1 ∙ a.2, updates_wider g h (map pair_of x.updates.items) (updates_for_states names ss (update_in i)) b a.3, a.4)
 
 pub instructions_wider : (g h : Graph) (names : Entries Visible) (ss : List StateDeclaration) (links : List (Option ChildId)) (k : ℕ) (is : WrittenInstructions) (xs : List Instruction) → IsWider g h → AreInstructions g names ss links k is xs → AreInstructions h names ss links k is xs
 instructions_wider g h names ss links k no_instructions [] b a = tt
@@ -60,11 +60,11 @@ instruction_put g m h t f link w d us id pairs x e1 e2 put b ups en ed eu el nam
     let us' = update_in w in
     let parts = and_parts (is_right (placed names d' of_condition)) (are_right (placed_updates names ss us')) r in
     let put' = subst (λ v. IsPut g m (Ok id) (term_by (seen_by g t f) v)) e1 put in
-    let ups' = subst (λ v. are_right (placed_updates names ss v) ≡ true → AreUpdates h pairs (updates_of names ss v)) e2 (ups names ks ss (knows_grown g m t f names (wider put.0) k) (stand_moved g m 0 ks ss put.0.names s)) in
+    let ups' = subst (λ v. are_right (placed_updates names ss v) ≡ true → AreUpdates h pairs (updates_for_states names ss v)) e2 (ups names ks ss (knows_grown g m t f names (wider put.0) k) (stand_moved g m 0 ks ss put.0.names s)) in
     let it : IsTermOf m id names d' = right_put g m t f names d' of_condition (Ok id) k parts.0 put' in
     let there : (x.decode.0 < length h.nodes) × (tree h x.decode.0 ≡ term_of names d') =
     subst (λ (i : TermId). (i.0 < length h.nodes) × (tree h i.0 ≡ term_of names d')) (sym ed) (omega (arith, it.within, b.longer), b.trees id.0 it.within ∙ it.tree) in
-    (en, there.0, there.1, subst (λ ps. AreUpdates h ps (updates_of names ss us')) (sym eu) (ups' parts.1), el)
+    (en, there.0, there.1, subst (λ ps. AreUpdates h ps (updates_for_states names ss us')) (sym eu) (ups' parts.1), el)
 
 -- ---- the loop: the instructions that are left, put into any later store, complete the list
 

@@ -8,7 +8,7 @@ use Rattle.wb_values.specs.Value.{Sort, Entries}
 use Rattle.model_meaning.specs.Model.{StateDeclaration}
 use Rattle.wb_terms.specs.declared.values.Value.{Value}
 use Rattle.model_files.specs.Written.{WrittenInstruction, instruction, WrittenInstructions, no_instructions, and_then, WrittenMachine, machine, WrittenChild, no_child, child, states_in, machines_of_instruction, machines_of_child}
-use Rattle.model_files.specs.Scope.{Visible, Scope, with_states, with_fetch, with_definitions, scope_within, terms_below}
+use Rattle.model_files.specs.Scope.{Visible, MachineScope, with_states, with_fetch, with_definitions, scope_within, terms_below}
 use Rattle.wb_terms.specs.declared.nodes.TermId.{TermId}
 use Rattle.wb_terms.specs.Environment.{as_value}
 use Rattle.wb_terms.specs.Graph.{Graph}
@@ -36,7 +36,7 @@ declared_wider g h k es b d = record {
   length_before = d.length_before;
 }
 
-laid_child_wider : (g h : Graph) (scope : Scope) (at : Option ChildId) (k steps : ℕ) (m : WrittenMachine) (c : Child) → IsWider g h → IsLaid g scope at k steps m c → IsLaid h scope at k steps m c
+laid_child_wider : (g h : Graph) (scope : MachineScope) (at : Option ChildId) (k steps : ℕ) (m : WrittenMachine) (c : Child) → IsWider g h → IsLaid g scope at k steps m c → IsLaid h scope at k steps m c
 laid_child_wider g h scope at k steps m c b l = record {
   around = l.around;
   limit = l.limit;
@@ -48,18 +48,18 @@ laid_child_wider g h scope at k steps m c b l = record {
 }
 
 mutual
-  pub laid_wider : (g h : Graph) (scope : Scope) (at : Option ChildId) (k : ℕ) (is : WrittenInstructions) (xs : List Child) → IsWider g h → AreLaid g scope at k is xs → AreLaid h scope at k is xs
+  pub laid_wider : (g h : Graph) (scope : MachineScope) (at : Option ChildId) (k : ℕ) (is : WrittenInstructions) (xs : List Child) → IsWider g h → AreLaid g scope at k is xs → AreLaid h scope at k is xs
   laid_wider g h scope at k no_instructions xs b l = l
   laid_wider g h scope at k (and_then i is) xs b l = (l.0, l.1, l.2, laid_of_wider g h scope at k i l.0 b l.3, laid_wider g h scope at (k + length (machines_of_instruction i)) is l.1 b l.4)
 
-  laid_of_wider : (g h : Graph) (scope : Scope) (at : Option ChildId) (k : ℕ) (i : WrittenInstruction) (xs : List Child) → IsWider g h → IsLaidOf g scope at k i xs → IsLaidOf h scope at k i xs
+  laid_of_wider : (g h : Graph) (scope : MachineScope) (at : Option ChildId) (k : ℕ) (i : WrittenInstruction) (xs : List Child) → IsWider g h → IsLaidOf g scope at k i xs → IsLaidOf h scope at k i xs
   laid_of_wider g h scope at k (instruction n d u p) xs b l = laid_one_wider g h scope at k p xs b l
 
-  pub laid_one_wider : (g h : Graph) (scope : Scope) (at : Option ChildId) (k : ℕ) (p : WrittenChild) (xs : List Child) → IsWider g h → IsLaidChild g scope at k p xs → IsLaidChild h scope at k p xs
+  pub laid_one_wider : (g h : Graph) (scope : MachineScope) (at : Option ChildId) (k : ℕ) (p : WrittenChild) (xs : List Child) → IsWider g h → IsLaidChild g scope at k p xs → IsLaidChild h scope at k p xs
   laid_one_wider g h scope at k no_child xs b l = l
   laid_one_wider g h scope at k (child steps m) xs b l = (l.0, l.1, l.2, laid_child_wider g h scope at k steps m l.0 b l.3, laid_in_wider g h scope k m l.1 b l.4)
 
-  laid_in_wider : (g h : Graph) (scope : Scope) (k : ℕ) (m : WrittenMachine) (xs : List Child) → IsWider g h → AreLaidIn g scope k m xs → AreLaidIn h scope k m xs
+  laid_in_wider : (g h : Graph) (scope : MachineScope) (k : ℕ) (m : WrittenMachine) (xs : List Child) → IsWider g h → AreLaidIn g scope k m xs → AreLaidIn h scope k m xs
   laid_in_wider g h scope k (machine ss ds f v is) xs b l = laid_wider g h (scope_within scope ss ds) (Some (record { 0 = k })) (suc k) is xs b l
 
 -- ---- places of private states
@@ -122,13 +122,13 @@ pub record AreToLay (g : Graph) (t : BTreeMap (Bor (List ℕ)) TermId) (cs : Lis
   pub more : List Child
   pub list : ds ≡ cs ++ more
   pub placed : are_placed (length g.names) (length h.names) more ≡ true
-  pub laid : (scope : Scope) (ks : List ℕ) (names : Entries Visible) → Knows g t None scope.names → StandAt g 0 ks scope.states → are_right (terms_below scope names all) ≡ true
+  pub laid : (scope : MachineScope) (ks : List ℕ) (names : Entries Visible) → Knows g t None scope.names → StandAt g 0 ks scope.states → are_right (terms_below scope names all) ≡ true
       → (k : Graph) (ys : List Child) → IsWider h k → AreLaid k scope at (length ds) rest ys → AreLaid k scope at (length cs) all (more ++ ys)
 
 pub lay_start : (g : Graph) (t : BTreeMap (Bor (List ℕ)) TermId) (cs : List Child) (at : Option ChildId) (all : WrittenInstructions) → AreToLay g t cs g cs at all all
 lay_start g t cs at all = record { more = []; list = sym (append-nil cs); placed = placed_none (length g.names); laid = λ scope ks names k s right m ys b x. x }
 
-laid_of : (g : Graph) (scope : Scope) (at : Option ChildId) (k : ℕ) (i : WrittenInstruction) (xs : List Child) → IsLaidChild g scope at k (program_in i) xs → IsLaidOf g scope at k i xs
+laid_of : (g : Graph) (scope : MachineScope) (at : Option ChildId) (k : ℕ) (i : WrittenInstruction) (xs : List Child) → IsLaidChild g scope at k (program_in i) xs → IsLaidOf g scope at k i xs
 laid_of g scope at k (instruction n d u p) xs l = l
 
 pub lay_turn : (g h k : Graph) (t u v : BTreeMap (Bor (List ℕ)) TermId) (cs ds es : List Child) (at : Option ChildId) (i : WrittenInstruction) (now rest all : WrittenInstructions)

@@ -9,7 +9,7 @@ use Rattle.std.specs.Map.{lookup}
 use Rattle.wb_values.specs.Value.{Name, Sort, Entries, same_name}
 use Rattle.model_meaning.specs.Term.{Term}
 use Rattle.model_meaning.specs.Model.{StateDeclaration}
-use Rattle.model_meaning.specs.Among.{is_among}
+use Rattle.model_meaning.specs.Among.{is_name_in}
 use Rattle.model_files.specs.Names.{data_names}
 use Rattle.model_files.specs.Written.{WrittenTerm, name, constant_truth, const, unary, binary, extract, widen, ite, store, WrittenInstruction, instruction, WrittenInstructions, and_then, WrittenMachine, machine, child, states_in, machines_below, machines_of_child}
 use Rattle.wb_terms.specs.declared.nodes.TermId.{TermId}
@@ -81,7 +81,7 @@ left_onward f g h t u v ns ms n m a b = record {
 
 pub besides_more : (t u : BTreeMap (Bor (List ℕ)) TermId) (ns ms : List Name) → IsBesides t u ns → IsBesides t u (ns ++ ms)
 unfolding IsBesides
-besides_more t u ns ms b q h = b q (or_parts (is_among q ns) (is_among q ms) (sym (among-append q ns ms) ∙ h)).0
+besides_more t u ns ms b q h = b q (or_parts (is_name_in q ns) (is_name_in q ms) (sym (among-append q ns ms) ∙ h)).0
 
 pub left_more : (g h : Graph) (t u : BTreeMap (Bor (List ℕ)) TermId) (ns ms : List Name) (n m : ℕ) → IsLeft g t h u ns n → IsLeft g t h u (ns ++ ms) (n + m)
 left_more g h t u ns ms n m a = record {

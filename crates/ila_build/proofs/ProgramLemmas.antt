@@ -6,7 +6,7 @@ use Rattle.model_meaning.specs.Term.{Term}
 use Rattle.model_meaning.specs.Model as pure
 use Rattle.model_meaning.specs.Model.{StateDeclaration}
 use Rattle.model_files.specs.Written.{WrittenInstruction, instruction, WrittenInstructions, no_instructions, and_then, WrittenMachine, machine, states_in}
-use Rattle.model_files.specs.Scope.{Visible, Scope, term_of, with_states, with_fetch, scope_within}
+use Rattle.model_files.specs.Scope.{Visible, MachineScope, term_of, with_states, with_fetch, scope_within}
 use Rattle.model_files.specs.Meaning as file
 use Rattle.wb_terms.specs.Graph.{Graph, tree}
 use Rattle.ila_model.specs.declared.parts.Update.{Update}
@@ -28,11 +28,11 @@ updates_read g (u ∷ us) [] a = absurd a
 updates_read g (u ∷ us) (t ∷ ts) a = ap (λ x. x ∷ map (update_of g) us) (pair_is a.2 a.3) ∙ ap (λ r. t ∷ r) (updates_read g us ts a.4)
 
 -- What the ids of children stand for, by a meaning of the ids, is what the written children stand for.
-abbrev pub AreLinked : (Option ChildId → pure.Child) → Scope → List (Option ChildId) → ℕ → WrittenInstructions → Type 0
+abbrev pub AreLinked : (Option ChildId → pure.Child) → MachineScope → List (Option ChildId) → ℕ → WrittenInstructions → Type 0
 AreLinked inner scope links k no_instructions = ⊤
 AreLinked inner scope links k (and_then (instruction n d u p) is) = (inner (link_at links k) ≡ file.child_of scope p) × AreLinked inner scope links (suc k) is
 
-pub instruction_read : (g : Graph) (inner : Option ChildId → pure.Child) (scope : Scope) (names : Entries Visible) (link : Option ChildId) (i : WrittenInstruction) (p : pure.Child) (x : Instruction)
+pub instruction_read : (g : Graph) (inner : Option ChildId → pure.Child) (scope : MachineScope) (names : Entries Visible) (link : Option ChildId) (i : WrittenInstruction) (p : pure.Child) (x : Instruction)
     → IsInstruction g names scope.states link i x → inner link ≡ p → instruction_of g inner x ≡ pure.instruction (called_in i) (term_of names (decode_in i)) (file.updates_of names scope.states (update_in i)) p
 instruction_read g inner scope names link i p x a e =
     ap (λ n. pure.instruction n (tree g x.decode.0) (map (update_of g) x.updates.items) (inner x.child)) a.0
@@ -41,7 +41,7 @@ instruction_read g inner scope names link i p x a e =
     ∙ ap (pure.instruction (called_in i) (term_of names (decode_in i)) (file.updates_of names scope.states (update_in i))) (ap inner a.4 ∙ e)))
 
 -- Instructions with their children are those of the file.
-pub instructions_read : (g : Graph) (inner : Option ChildId → pure.Child) (scope : Scope) (names : Entries Visible) (links : List (Option ChildId)) (k : ℕ) (is : WrittenInstructions) (xs : List Instruction)
+pub instructions_read : (g : Graph) (inner : Option ChildId → pure.Child) (scope : MachineScope) (names : Entries Visible) (links : List (Option ChildId)) (k : ℕ) (is : WrittenInstructions) (xs : List Instruction)
     → AreInstructions g names scope.states links k is xs → AreLinked inner scope links k is → instructions_of g inner xs ≡ file.instructions_of scope names is
 instructions_read g inner scope names links k no_instructions [] a l = refl
 instructions_read g inner scope names links k no_instructions (x ∷ xs) a l = absurd a
@@ -56,7 +56,7 @@ program_there g inner [] c behind = refl
 program_there g inner (b ∷ before) c behind = program_there g inner before c behind
 
 -- A machine's private states, valid condition and instructions together.
-pub machine_read : (g : Graph) (inner : Option ChildId → pure.Child) (scope : Scope) (links : List (Option ChildId)) (m : WrittenMachine) (c : Child)
+pub machine_read : (g : Graph) (inner : Option ChildId → pure.Child) (scope : MachineScope) (links : List (Option ChildId)) (m : WrittenMachine) (c : Child)
     → privates_of g c ≡ states_in m → IsMachine g (with_states scope.names (states_in m)) (scope.states ++ states_in m) links m c.valid c.instructions.items
     → AreLinked inner (scope_within scope (states_in m) (definitions_in m)) links 0 (own_instructions m) → machine_of g inner c ≡ file.machine_of scope m
 machine_read g inner scope links (machine ss ds f v is) c e a l =

@@ -6,7 +6,7 @@ use Rattle.std.proofs.lemmas.Bool.{false≢true, and_parts}
 use Rattle.wb_values.specs.Value.{Name, Sort, Entries}
 use Rattle.model_meaning.specs.Model.{StateDeclaration, state_named}
 use Rattle.model_files.specs.Written.{WrittenTerm, WrittenInstruction, WrittenInstructions, and_then, WrittenMachine}
-use Rattle.model_files.specs.Scope.{Visible, Place, of_condition, of_update, placed, declared, with_definitions, with_fetch, placed_definitions, placed_fetch, placed_updates}
+use Rattle.model_files.specs.Scope.{Visible, TermPlace, of_condition, of_update, placed, declared, with_definitions, with_fetch, placed_definitions, placed_fetch, placed_updates}
 use Rattle.model_files.specs.Rules.{uses_unknown_name, updates_no_state}
 use Rattle.wb_terms.specs.declared.nodes.TermId.{TermId}
 use Rattle.wb_terms.specs.declared.store.PutStop.{PutStop}
@@ -38,7 +38,7 @@ due_grown g h t f R S b to d = record {
 }
 
 -- a term that is right is not refused
-pub term_lost : (g h : Graph) (t : BTreeMap (Bor (List ℕ)) TermId) (f : Option TermId) (e : WrittenTerm) (p : List StateDeclaration → Place) (R : Entries Visible → List StateDeclaration → Type 0) (s : PutStop)
+pub term_lost : (g h : Graph) (t : BTreeMap (Bor (List ℕ)) TermId) (f : Option TermId) (e : WrittenTerm) (p : List StateDeclaration → TermPlace) (R : Entries Visible → List StateDeclaration → Type 0) (s : PutStop)
     → ((names : Entries Visible) (ss : List StateDeclaration) → R names ss → is_right (placed names e (p ss)) ≡ true) → IsPut g h (Err s) (term_by (seen_by g t f) e) → IsNoRefusal s (IsDue g t f R)
 term_lost g h t f e p R BadSort pick put = λ d. right_put g h t f d.names e (p d.states) (Err BadSort) d.knows (pick d.names d.states d.is_right) put
 term_lost g h t f e p R NoMemory pick put = tt

@@ -6,8 +6,8 @@ use Rattle.std.specs.String.{string_bytes}
 use Rattle.wb_values.specs.Value.{Name, Entries}
 use Rattle.model_meaning.specs.Model.{StateDeclaration}
 use Rattle.model_files.specs.Written.{WrittenTerm, WrittenInstruction, instruction, WrittenInstructions, no_instructions, and_then, WrittenMachine, machine, states_in}
-use Rattle.model_files.specs.Scope.{Visible, Placed, placed, of_condition, term_of, with_states, with_definitions, with_fetch, placed_definitions, placed_fetch, placed_updates}
-use Rattle.model_files.specs.Meaning.{updates_of}
+use Rattle.model_files.specs.Scope.{Visible, PlacedTerm, placed, of_condition, term_of, with_states, with_definitions, with_fetch, placed_definitions, placed_fetch, placed_updates}
+use Rattle.model_files.specs.Meaning.{updates_for_states}
 use Rattle.wb_terms.specs.declared.nodes.TermId.{TermId}
 use Rattle.wb_terms.specs.Graph.{Graph, tree}
 use Rattle.ila_model.specs.declared.parts.Update.{Update}
@@ -37,7 +37,7 @@ abbrev pub link_at : List (Option ChildId) → ℕ → Option ChildId
 link_at ls k = slice_index_or ls k None
 
 -- the terms of an instruction itself, with where they stand
-abbrev pub own_terms : Entries Visible → List StateDeclaration → WrittenInstruction → List Placed
+abbrev pub own_terms : Entries Visible → List StateDeclaration → WrittenInstruction → List PlacedTerm
 own_terms names ss i = placed names (decode_in i) of_condition ∷ placed_updates names ss (update_in i)
 
 -- No rule refuses the instructions' own terms.
@@ -49,7 +49,7 @@ AreOwnRight names ss (and_then i is) = (are_right (own_terms names ss i) ≡ tru
 abbrev pub IsInstruction : Graph → Entries Visible → List StateDeclaration → Option ChildId → WrittenInstruction → Instruction → Type 0
 IsInstruction g names ss link i x =
     (string_bytes x.name ≡ called_in i) × (x.decode.0 < length g.nodes) × (tree g x.decode.0 ≡ term_of names (decode_in i))
-    × AreUpdates g (map pair_of x.updates.items) (updates_of names ss (update_in i)) × (x.child ≡ link)
+    × AreUpdates g (map pair_of x.updates.items) (updates_for_states names ss (update_in i)) × (x.child ≡ link)
 
 abbrev pub AreInstructions : Graph → Entries Visible → List StateDeclaration → List (Option ChildId) → (from : ℕ) → WrittenInstructions → List Instruction → Type 0
 AreInstructions g names ss links k no_instructions [] = ⊤

@@ -4,7 +4,7 @@ use Rattle.std.specs.Borrow.{Bor}
 use Rattle.std.specs.BTreeMap.{BTreeMap}
 use Rattle.wb_values.specs.Value.{Entries}
 use Rattle.model_files.specs.Written.{WrittenInstruction, instruction, WrittenInstructions, no_instructions, and_then, WrittenChild, no_child, child, machines_below, machines_of_instruction, machines_of_child}
-use Rattle.model_files.specs.Scope.{Visible, Scope, terms_below, terms_of_child}
+use Rattle.model_files.specs.Scope.{Visible, MachineScope, terms_below, terms_of_child}
 use Rattle.model_files.specs.Rules.{depth_of_child}
 use Rattle.model_files.specs.Meaning.{child_of}
 use Rattle.wb_terms.specs.declared.nodes.TermId.{TermId}
@@ -36,11 +36,11 @@ pub record HasMore (cs : List Child) (n : ℕ) (ds : List Child) : Type 0 where
   pub count : length ds ≡ length cs + n
 
 -- In any wider store and with any further children, the id stands for the written child, down to as many levels as that has.
-abbrev pub StandsForChild : Graph → List Child → Scope → Option ChildId → WrittenChild → Type 0
+abbrev pub StandsForChild : Graph → List Child → MachineScope → Option ChildId → WrittenChild → Type 0
 StandsForChild g cs scope link p = (h : Graph) (behind : List Child) (l : ℕ) → IsWider g h → depth_of_child p ≤ l → program_of h (cs ++ behind) l link ≡ child_of scope p
 
 -- the same for the instructions' children, which stand from a place on
-abbrev pub StandForChildren : Graph → List Child → Scope → ℕ → WrittenInstructions → Type 0
+abbrev pub StandForChildren : Graph → List Child → MachineScope → ℕ → WrittenInstructions → Type 0
 StandForChildren g cs scope k no_instructions = ⊤
 StandForChildren g cs scope k (and_then i is) = StandsForChild g cs scope (link_from k (program_in i)) (program_in i) × StandForChildren g cs scope (k + length (machines_of_instruction i)) is
 
@@ -50,7 +50,7 @@ pub record IsProgramPut (g : Graph) (t : BTreeMap (Bor (List ℕ)) TermId) (cs :
   pub kept : IsKept t u
   pub table : IsTable h u
   pub longer : HasMore cs (length (machines_of_child p)) ds
-  pub stands : (scope : Scope) (ks : List ℕ) → Knows g t None scope.names → StandAt g 0 ks scope.states → are_right (terms_of_child scope p) ≡ true → StandsForChild h ds scope (link_from (length cs) p) p
+  pub stands : (scope : MachineScope) (ks : List ℕ) → Knows g t None scope.names → StandAt g 0 ks scope.states → are_right (terms_of_child scope p) ≡ true → StandsForChild h ds scope (link_from (length cs) p) p
 
 -- The instructions' children and those inside them were put: where no rule refuses their terms, their ids stand for them.
 pub record AreChildrenPut (g : Graph) (t : BTreeMap (Bor (List ℕ)) TermId) (cs : List Child) (h : Graph) (u : BTreeMap (Bor (List ℕ)) TermId) (ds : List Child) (is : WrittenInstructions) : Type 0 where
@@ -58,4 +58,4 @@ pub record AreChildrenPut (g : Graph) (t : BTreeMap (Bor (List ℕ)) TermId) (cs
   pub kept : IsKept t u
   pub table : IsTable h u
   pub longer : HasMore cs (length (machines_below is)) ds
-  pub stand : (scope : Scope) (ks : List ℕ) (names : Entries Visible) → Knows g t None scope.names → StandAt g 0 ks scope.states → are_right (terms_below scope names is) ≡ true → StandForChildren h ds scope (length cs) is
+  pub stand : (scope : MachineScope) (ks : List ℕ) (names : Entries Visible) → Knows g t None scope.names → StandAt g 0 ks scope.states → are_right (terms_below scope names is) ≡ true → StandForChildren h ds scope (length cs) is

@@ -9,7 +9,7 @@ use Rattle.model_meaning.specs.Model.{StateDeclaration}
 use Rattle.model_files.specs.Written.{WrittenInstruction, instruction, WrittenInstructions, no_instructions, and_then, WrittenMachine, machine, WrittenChild, no_child, child, states_in, machines_below, machines_of_child}
 use Rattle.model_files.specs.Names.{data_names, joined}
 use Rattle.model_files.specs.Scope.{Visible, with_states, terms_below, terms_of_child}
-use Rattle.model_meaning.specs.Among.{is_among}
+use Rattle.model_meaning.specs.Among.{is_name_in}
 use Rattle.wb_terms.specs.declared.nodes.TermId.{TermId}
 use Rattle.wb_terms.specs.declared.store.PutStop.{PutStop}
 use Rattle.wb_terms.specs.declared.store.PutStop.TheVariants.{BadSort, NoMemory}
@@ -31,7 +31,7 @@ IsUnrefused (Err s) Q = IsNoRefusal s Q
 
 -- Names besides those of the list stand for what they stood for before.
 unfoldable pub IsBesides : BTreeMap (Bor (List ℕ)) TermId → BTreeMap (Bor (List ℕ)) TermId → List Name → Type 0
-IsBesides t u ns = (q : Name) → is_among q ns ≡ false → under_name u q ≡ under_name t q
+IsBesides t u ns = (q : Name) → is_name_in q ns ≡ false → under_name u q ≡ under_name t q
 
 -- the names and the sorts of declarations
 abbrev pub entry_names : Entries Sort → List Name

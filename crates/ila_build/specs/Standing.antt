@@ -8,7 +8,7 @@ use Rattle.wb_values.specs.Value.{Name, Sort, Entries, same_name}
 use Rattle.model_meaning.specs.Term as terms
 use Rattle.model_meaning.specs.Term.{Term, sort_of}
 use Rattle.model_files.specs.Written.{WrittenTerm, name, constant_truth, const, unary, binary, extract, widen, ite, store}
-use Rattle.model_meaning.specs.Among.{is_among}
+use Rattle.model_meaning.specs.Among.{is_name_in}
 use Rattle.model_files.specs.Scope.{Visible, declared, unary_term, binary_term, widened_term}
 use Rattle.wb_terms.specs.declared.nodes.TermId.{TermId}
 use Rattle.wb_terms.specs.declared.store.PutStop.{PutStop}
@@ -83,7 +83,7 @@ IsKept t u = (n : Name) (id : TermId) → under_name t n ≡ Some id → under_n
 -- No name of the list stands in the table, and none stands twice in the list.
 abbrev pub IsFresh : BTreeMap (Bor (List ℕ)) TermId → List Name → Type 0
 IsFresh t [] = ⊤
-IsFresh t (n ∷ ns) = (under_name t n ≡ None) × (is_among n ns ≡ false) × IsFresh t ns
+IsFresh t (n ∷ ns) = (under_name t n ≡ None) × (is_name_in n ns ≡ false) × IsFresh t ns
 
 -- Each name of the list stands for itself.
 abbrev pub StandAll : Graph → BTreeMap (Bor (List ℕ)) TermId → Entries Sort → Type 0

@@ -8,7 +8,7 @@ use Rattle.model_meaning.specs.Term.{Term}
 use Rattle.model_meaning.specs.Model.{StateDeclaration, state_named}
 use Rattle.model_files.specs.Written.{WrittenTerm}
 use Rattle.model_files.specs.Scope.{Visible, of_update, placed, term_of, placed_updates}
-use Rattle.model_files.specs.Meaning.{updates_of}
+use Rattle.model_files.specs.Meaning.{updates_for_states}
 use Rattle.wb_terms.specs.declared.nodes.NameId.{NameId}
 use Rattle.wb_terms.specs.declared.nodes.TermId.{TermId}
 use Rattle.wb_terms.specs.Graph.{Graph, tree, leaf_at}
@@ -58,4 +58,4 @@ ChoosesOne g t f h m w u = (names : Entries Visible) (ks : List ℕ) (ss : List 
 -- Where no rule refuses the updates, the list has those of the states in their order.
 unfoldable pub AreUpdated : Graph → BTreeMap (Bor (List ℕ)) TermId → Option TermId → Graph → List (ℕ × TermId) → Entries WrittenTerm → Type 0
 AreUpdated g t f h es us = (names : Entries Visible) (ks : List ℕ) (ss : List StateDeclaration)
-    → Knows g t f names → StandAt g 0 ks ss → are_right (placed_updates names ss us) ≡ true → AreUpdates h es (updates_of names ss us)
+    → Knows g t f names → StandAt g 0 ks ss → are_right (placed_updates names ss us) ≡ true → AreUpdates h es (updates_for_states names ss us)

@@ -7,10 +7,10 @@ use Rattle.std.proofs.Math.ListN.{length-set}
 use Rattle.wb_values.specs.Value as meaning
 use Rattle.wb_values.specs.Value.{Name, same_name, Sort, truth, number, Entries, entry_of, value_or_zero, Valuation, valuation_of}
 use Rattle.model_meaning.specs.Term.{Term}
-use Rattle.model_meaning.specs.Model.{StateDeclaration, InputDeclaration, is_input, state_named}
+use Rattle.model_meaning.specs.Model.{StateDeclaration, InputDeclaration, is_input_name, state_named}
 use Rattle.wb_terms.specs.declared.values.Value.{Value}
 use Rattle.wb_terms.specs.Graph.{Graph, tree}
-use Rattle.wb_terms.specs.Environment.{as_value, named}
+use Rattle.wb_terms.specs.Environment.{as_value, values_by_name}
 use Rattle.ila_model.specs.declared.parts.Update.{Update}
 use Rattle.ila_model.specs.declared.parts.Child.{Child}
 use Rattle.ila_model.specs.declared.parts.Parts.{Parts}
@@ -75,21 +75,21 @@ distinct-take (suc f) (m ∷ ns) d =
     and_from _ _ (ap is_none e) (distinct-take f ns (others_apart m ns d))
 
 -- values under names
-pub valuation-at : (ns : Entries Sort) (xs : List meaning.Value) (k : ℕ) → are_distinct ns ≡ true → length xs ≡ length ns → k < length ns → valuation_of (named ns xs) (name_at ns k) ≡ value_at xs k
+pub valuation-at : (ns : Entries Sort) (xs : List meaning.Value) (k : ℕ) → are_distinct ns ≡ true → length xs ≡ length ns → k < length ns → valuation_of (values_by_name ns xs) (name_at ns k) ≡ value_at xs k
 valuation-at [] xs k d l h = absurd (omega arith)
 valuation-at (m ∷ ns) [] k d l h = absurd (omega arith)
-valuation-at (m ∷ ns) (x ∷ xs) zero d l h = ap (λ t. value_or_zero (cond t (Some x) (entry_of (named ns xs) m.0))) (same-refl m.0)
+valuation-at (m ∷ ns) (x ∷ xs) zero d l h = ap (λ t. value_or_zero (cond t (Some x) (entry_of (values_by_name ns xs) m.0))) (same-refl m.0)
 valuation-at (m ∷ ns) (x ∷ xs) (suc k) d l h =
     let apart = same-sym m.0 (name_at ns k) ∙ none_at ns m.0 k (first_is_apart m ns d) (omega arith) in
-    ap (λ t. value_or_zero (cond t (Some x) (entry_of (named ns xs) (name_at ns k)))) apart
+    ap (λ t. value_or_zero (cond t (Some x) (entry_of (values_by_name ns xs) (name_at ns k)))) apart
     ∙ valuation-at ns xs k (others_apart m ns d) (omega arith) (omega arith)
 
-pub valuation-lacking : (ns : Entries Sort) (xs : List meaning.Value) (n : Name) → entry_of ns n ≡ None → valuation_of (named ns xs) n ≡ number 0
+pub valuation-lacking : (ns : Entries Sort) (xs : List meaning.Value) (n : Name) → entry_of ns n ≡ None → valuation_of (values_by_name ns xs) n ≡ number 0
 valuation-lacking [] xs n e = refl
 valuation-lacking (m ∷ ns) [] n e = refl
 valuation-lacking (m ∷ ns) (x ∷ xs) n e =
     let l = lacks (same_name m.0 n) m.1 (entry_of ns n) e in
-    ap (λ t. value_or_zero (cond t (Some x) (entry_of (named ns xs) n))) l.0 ∙ valuation-lacking ns xs n l.1
+    ap (λ t. value_or_zero (cond t (Some x) (entry_of (values_by_name ns xs) n))) l.0 ∙ valuation-lacking ns xs n l.1
 
 -- scopes under names
 scoped-lacking : (ns : Entries Sort) (ss : List Scope) (n : Name) → entry_of ns n ≡ None → scope_or_any (entry_of (scoped ns ss) n) ≡ Anywhere
@@ -303,40 +303,40 @@ named_behind f ns first is k e a l =
     subst P (entry_drop ns first k (omega arith)) (named_past f (drop first ns) is (k - first) (distinct-drop first ns e) (omega arith) (omega (arith, length-drop first ns)))
 
 -- inputs
-pub input_lacking : (m : ℕ) (ns : Entries Sort) (n : Name) → entry_of ns n ≡ None → is_input (declared_inputs m ns) n ≡ false
+pub input_lacking : (m : ℕ) (ns : Entries Sort) (n : Name) → entry_of ns n ≡ None → is_input_name (declared_inputs m ns) n ≡ false
 input_lacking zero ns n e = refl
 input_lacking (suc m) [] n e = refl
 input_lacking (suc m) (x ∷ ns) n e =
     let l = lacks (same_name x.0 n) x.1 (entry_of ns n) e in
-    ap (λ t. cond t true (is_input (declared_inputs m ns) n)) l.0 ∙ input_lacking m ns n l.1
+    ap (λ t. cond t true (is_input_name (declared_inputs m ns) n)) l.0 ∙ input_lacking m ns n l.1
 
-input_there : (m : ℕ) (ns : Entries Sort) (j : ℕ) → are_distinct ns ≡ true → j < m → j < length ns → is_input (declared_inputs m ns) (name_at ns j) ≡ true
+input_there : (m : ℕ) (ns : Entries Sort) (j : ℕ) → are_distinct ns ≡ true → j < m → j < length ns → is_input_name (declared_inputs m ns) (name_at ns j) ≡ true
 input_there zero ns j e h l = absurd (omega arith)
 input_there (suc m) [] j e h l = absurd (omega arith)
-input_there (suc m) (x ∷ ns) zero e h l = ap (λ t. cond t true (is_input (declared_inputs m ns) x.0)) (same-refl x.0)
+input_there (suc m) (x ∷ ns) zero e h l = ap (λ t. cond t true (is_input_name (declared_inputs m ns) x.0)) (same-refl x.0)
 input_there (suc m) (x ∷ ns) (suc j) e h l =
     let apart = same-sym x.0 (name_at ns j) ∙ none_at ns x.0 j (first_is_apart x ns e) (omega arith) in
-    ap (λ t. cond t true (is_input (declared_inputs m ns) (name_at ns j))) apart ∙ input_there m ns j (others_apart x ns e) (omega arith) (omega arith)
+    ap (λ t. cond t true (is_input_name (declared_inputs m ns) (name_at ns j))) apart ∙ input_there m ns j (others_apart x ns e) (omega arith) (omega arith)
 
-input_past : (m : ℕ) (ns : Entries Sort) (j : ℕ) → are_distinct ns ≡ true → m ≤ j → j < length ns → is_input (declared_inputs m ns) (name_at ns j) ≡ false
+input_past : (m : ℕ) (ns : Entries Sort) (j : ℕ) → are_distinct ns ≡ true → m ≤ j → j < length ns → is_input_name (declared_inputs m ns) (name_at ns j) ≡ false
 input_past zero ns j e h l = refl
 input_past (suc m) [] j e h l = refl
 input_past (suc m) (x ∷ ns) zero e h l = absurd (omega arith)
 input_past (suc m) (x ∷ ns) (suc j) e h l =
     let apart = same-sym x.0 (name_at ns j) ∙ none_at ns x.0 j (first_is_apart x ns e) (omega arith) in
-    ap (λ t. cond t true (is_input (declared_inputs m ns) (name_at ns j))) apart ∙ input_past m ns j (others_apart x ns e) (omega arith) (omega arith)
+    ap (λ t. cond t true (is_input_name (declared_inputs m ns) (name_at ns j))) apart ∙ input_past m ns j (others_apart x ns e) (omega arith) (omega arith)
 
-pub input_in : (m s : ℕ) (ns : Entries Sort) (k : ℕ) → are_distinct ns ≡ true → s ≤ k → k < s + m → k < length ns → is_input (declared_inputs m (drop s ns)) (name_at ns k) ≡ true
+pub input_in : (m s : ℕ) (ns : Entries Sort) (k : ℕ) → are_distinct ns ≡ true → s ≤ k → k < s + m → k < length ns → is_input_name (declared_inputs m (drop s ns)) (name_at ns k) ≡ true
 input_in m s ns k e a b l =
-    subst (λ (x : List ℕ × Sort). is_input (declared_inputs m (drop s ns)) x.0 ≡ true) (entry_drop ns s k a)
+    subst (λ (x : List ℕ × Sort). is_input_name (declared_inputs m (drop s ns)) x.0 ≡ true) (entry_drop ns s k a)
     (input_there m (drop s ns) (k - s) (distinct-drop s ns e) (omega arith) (omega (arith, length-drop s ns)))
 
-pub input_before : (m s : ℕ) (ns : Entries Sort) (k : ℕ) → are_distinct ns ≡ true → k < s → k < length ns → is_input (declared_inputs m (drop s ns)) (name_at ns k) ≡ false
+pub input_before : (m s : ℕ) (ns : Entries Sort) (k : ℕ) → are_distinct ns ≡ true → k < s → k < length ns → is_input_name (declared_inputs m (drop s ns)) (name_at ns k) ≡ false
 input_before m s ns k e a l = input_lacking m (drop s ns) (name_at ns k) (before_drop s ns k e a l)
 
-pub input_behind : (m s : ℕ) (ns : Entries Sort) (k : ℕ) → are_distinct ns ≡ true → s + m ≤ k → k < length ns → is_input (declared_inputs m (drop s ns)) (name_at ns k) ≡ false
+pub input_behind : (m s : ℕ) (ns : Entries Sort) (k : ℕ) → are_distinct ns ≡ true → s + m ≤ k → k < length ns → is_input_name (declared_inputs m (drop s ns)) (name_at ns k) ≡ false
 input_behind m s ns k e a l =
-    subst (λ (x : List ℕ × Sort). is_input (declared_inputs m (drop s ns)) x.0 ≡ false) (entry_drop ns s k (omega arith))
+    subst (λ (x : List ℕ × Sort). is_input_name (declared_inputs m (drop s ns)) x.0 ≡ false) (entry_drop ns s k (omega arith))
     (input_past m (drop s ns) (k - s) (distinct-drop s ns e) (omega arith) (omega (arith, length-drop s ns)))
 
 nat_eq-suc : (i k : ℕ) → nat_eq (suc i) (suc k) ≡ nat_eq i k

@@ -9,7 +9,7 @@ use Rattle.model_meaning.specs.Term.{Term, val}
 use Rattle.model_meaning.specs.Model.{StateDeclaration, updated, updated_value, entered, left_behind, initial_value, state_named}
 use Rattle.wb_terms.specs.declared.values.Value.{Value}
 use Rattle.wb_terms.specs.Graph.{Graph, tree}
-use Rattle.wb_terms.specs.Environment.{named}
+use Rattle.wb_terms.specs.Environment.{values_by_name}
 use Rattle.ila_model.specs.declared.parts.Update.{Update}
 use Rattle.ila_model.specs.declared.parts.Child.{Child}
 use Rattle.ila_model.specs.declared.parts.Parts.{Parts}
@@ -48,14 +48,14 @@ lacking_point p at xs n e =
     let b = may_read p.children.items at (home p n) in
     ap (λ x. cond b x (number 0)) (valuation-lacking p.terms.names xs n e) ∙ same_both b (number 0)
 
-pub readable_point : (p : Parts) (at : Option ℕ) (xs : List meaning.Value) (n : Name) → may_read p.children.items at (home p n) ≡ true → valuation_of (named p.terms.names xs) n ≡ point_at p at xs n
+pub readable_point : (p : Parts) (at : Option ℕ) (xs : List meaning.Value) (n : Name) → may_read p.children.items at (home p n) ≡ true → valuation_of (values_by_name p.terms.names xs) n ≡ point_at p at xs n
 unfolding point_at
-readable_point p at xs n h = sym (ap (λ b. cond b (valuation_of (named p.terms.names xs) n) (number 0)) h)
+readable_point p at xs n h = sym (ap (λ b. cond b (valuation_of (values_by_name p.terms.names xs) n) (number 0)) h)
 
 -- a term that may be read has one value in the environment and at the point
-pub term_at_point : (p : Parts) (at : Option ℕ) (d : ℕ) (xs : List meaning.Value) (s : Sort) (k : ℕ) → HasDepth p.children.items d at → d ≤ nesting → is_read_at p at s k ≡ true → val (tree p.terms k) (valuation_of (named p.terms.names xs)) ≡ val (tree p.terms k) (point_at p at xs)
+pub term_at_point : (p : Parts) (at : Option ℕ) (d : ℕ) (xs : List meaning.Value) (s : Sort) (k : ℕ) → HasDepth p.children.items d at → d ≤ nesting → is_read_at p at s k ≡ true → val (tree p.terms k) (valuation_of (values_by_name p.terms.names xs)) ≡ val (tree p.terms k) (point_at p at xs)
 term_at_point p at d xs s k deep low h =
-    val_read p.children.items (home p) at d deep low (valuation_of (named p.terms.names xs)) (point_at p at xs) (readable_point p at xs) (tree p.terms k) (and_parts (is_term_of p.terms s k) _ h).1
+    val_read p.children.items (home p) at d deep low (valuation_of (values_by_name p.terms.names xs)) (point_at p at xs) (readable_point p at xs) (tree p.terms k) (and_parts (is_term_of p.terms s k) _ h).1
 
 -- updates
 
@@ -63,13 +63,13 @@ chosen : (b : Bool) (t : Term) (o : Option Term) (v w : Valuation) (x : meaning.
 chosen true t o v w x e r = e
 chosen false t o v w x e r = r
 
-terms_same : (p : Parts) (at : Option ℕ) (d from : ℕ) (us : List Update) (k : ℕ) (xs : List meaning.Value) (x : meaning.Value) → HasDepth p.children.items d at → d ≤ nesting → are_updates p at from us ≡ true → updated_value (update_at p.terms us k) (point_at p at xs) x ≡ updated_value (update_at p.terms us k) (valuation_of (named p.terms.names xs)) x
+terms_same : (p : Parts) (at : Option ℕ) (d from : ℕ) (us : List Update) (k : ℕ) (xs : List meaning.Value) (x : meaning.Value) → HasDepth p.children.items d at → d ≤ nesting → are_updates p at from us ≡ true → updated_value (update_at p.terms us k) (point_at p at xs) x ≡ updated_value (update_at p.terms us k) (valuation_of (values_by_name p.terms.names xs)) x
 terms_same p at d from [] k xs x deep low h = refl
 terms_same p at d from (u ∷ us) k xs x deep low h =
     let a = and_parts (nat_le from u.state.0) _ h in
     let b = and_parts (is_state_at p at u.state.0) _ a.1 in
     let c = and_parts (is_read_at p at (sort_at p.terms.names u.state.0) u.term.0) _ b.1 in
-    chosen (u.state.0 == k) (tree p.terms u.term.0) (update_at p.terms us k) (point_at p at xs) (valuation_of (named p.terms.names xs)) x
+    chosen (u.state.0 == k) (tree p.terms u.term.0) (update_at p.terms us k) (point_at p at xs) (valuation_of (values_by_name p.terms.names xs)) x
     (sym (term_at_point p at d xs (sort_at p.terms.names u.state.0) u.term.0 deep low c.0))
     (terms_same p at d (suc u.state.0) us k xs x deep low c.1)
 
@@ -89,11 +89,11 @@ updates_guarded p at from (u ∷ us) k v x z h =
     (λ e. subst (λ j. may_read p.children.items at (home p (name_at p.terms.names j)) ≡ true) (eqb-true u.state.0 k e) readable)
     (updates_guarded p at (suc u.state.0) us k v x z c.1)
 
-pub updated_point : (p : Parts) (s : AreSorted p) (at : Option ℕ) (d : ℕ) (us : List Update) (xs : List meaning.Value) → HasDepth p.children.items d at → d ≤ nesting → are_updates p at 0 us ≡ true → length xs ≡ length p.terms.names → updated (map (update_of p.terms) us) (point_at p at xs) ≡ point_at p at (with_updates p.terms (valuation_of (named p.terms.names xs)) us xs)
+pub updated_point : (p : Parts) (s : AreSorted p) (at : Option ℕ) (d : ℕ) (us : List Update) (xs : List meaning.Value) → HasDepth p.children.items d at → d ≤ nesting → are_updates p at 0 us ≡ true → length xs ≡ length p.terms.names → updated (map (update_of p.terms) us) (point_at p at xs) ≡ point_at p at (with_updates p.terms (valuation_of (values_by_name p.terms.names xs)) us xs)
 updated_point p s at d us xs deep low h l =
     let g = p.terms in
     let ns = g.names in
-    let v = valuation_of (named ns xs) in
+    let v = valuation_of (values_by_name ns xs) in
     let w = point_at p at xs in
     let ys = with_updates g v us xs in
     let of = are_updates-of p at 0 us h in

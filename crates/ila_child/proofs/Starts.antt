@@ -6,11 +6,11 @@ use Rattle.std.proofs.lemmas.List.{get_or-take, get_or-drop, length-append, leng
 use Rattle.wb_values.specs.Value as meaning
 use Rattle.wb_values.specs.Value.{Name, Sort, truth, number, Entries, entry_of, Valuation, valuation_of, HasSort}
 use Rattle.model_meaning.specs.Model as pure
-use Rattle.model_meaning.specs.Model.{StateDeclaration, InputDeclaration, is_input, state_named, point_of, states_of}
+use Rattle.model_meaning.specs.Model.{StateDeclaration, InputDeclaration, is_input_name, state_named, point_of, states_of}
 use Rattle.model_meaning.specs.Instruction.{own_states}
 use Rattle.wb_terms.specs.declared.values.Value.{Value}
 use Rattle.wb_terms.specs.declared.values.Env.{Env}
-use Rattle.wb_terms.specs.Environment.{AreOfSorts, named, values_of, Fits}
+use Rattle.wb_terms.specs.Environment.{AreOfSorts, values_by_name, values_of, Fits}
 use Rattle.ila_model.specs.declared.parts.Child.{Child}
 use Rattle.ila_model.specs.declared.parts.Parts.{Parts}
 use Rattle.ila_model.specs.declared.scopes.Scope.{Scope}
@@ -110,16 +110,16 @@ second_part (x ∷ xs) ys (suc k) h =
     second_part xs ys k (omega arith) ∙ ap (value_at ys) e
 
 -- values under the names of a part of the table
-front_value : (n : ℕ) (ns : Entries Sort) (xs : List meaning.Value) (k : ℕ) → are_distinct ns ≡ true → n ≤ length ns → length xs ≡ n → k < n → valuation_of (named (take n ns) xs) (name_at ns k) ≡ value_at xs k
+front_value : (n : ℕ) (ns : Entries Sort) (xs : List meaning.Value) (k : ℕ) → are_distinct ns ≡ true → n ≤ length ns → length xs ≡ n → k < n → valuation_of (values_by_name (take n ns) xs) (name_at ns k) ≡ value_at xs k
 front_value n ns xs k d w l h =
-    subst (λ (x : List ℕ × Sort). valuation_of (named (take n ns) xs) x.0 ≡ value_at xs k) (get_or-take n ns k ([], truth) h)
+    subst (λ (x : List ℕ × Sort). valuation_of (values_by_name (take n ns) xs) x.0 ≡ value_at xs k) (get_or-take n ns k ([], truth) h)
     (valuation-at (take n ns) xs k (distinct-take n ns d) (omega (arith, l, length-take n ns)) (omega (arith, length-take n ns)))
 
-middle_value : (n m : ℕ) (ns : Entries Sort) (xs : List meaning.Value) (k : ℕ) → are_distinct ns ≡ true → n + m ≤ length ns → length xs ≡ m → n ≤ k → k < n + m → valuation_of (named (take m (drop n ns)) xs) (name_at ns k) ≡ value_at xs (k - n)
+middle_value : (n m : ℕ) (ns : Entries Sort) (xs : List meaning.Value) (k : ℕ) → are_distinct ns ≡ true → n + m ≤ length ns → length xs ≡ m → n ≤ k → k < n + m → valuation_of (values_by_name (take m (drop n ns)) xs) (name_at ns k) ≡ value_at xs (k - n)
 middle_value n m ns xs k d w l lo hi =
     let e : n + (k - n) ≡ k = omega arith in
     let there = get_or-drop n ns (k - n) ([], truth) ∙ ap (λ j. get_or ns j ([], truth)) e in
-    subst (λ (x : List ℕ × Sort). valuation_of (named (take m (drop n ns)) xs) x.0 ≡ value_at xs (k - n)) there
+    subst (λ (x : List ℕ × Sort). valuation_of (values_by_name (take m (drop n ns)) xs) x.0 ≡ value_at xs (k - n)) there
     (front_value m (drop n ns) xs (k - n) (distinct-drop n ns d) (omega (arith, length-drop n ns)) l (omega arith))
 
 -- the private states are not known in the top
@@ -174,8 +174,8 @@ start_point p s name q w e a i =
     let within = s.declared.within in
     let l = AreOfSorts-length ns xs (environment_fits p q w e a i) in
     let zs = zeros_of (drop (length (q ++ w)) ns) in
-    let sv_is : (x : Name) → sv x ≡ valuation_of (named (take n ns) q) x = λ x. ap (λ t. valuation_of (named t q) x) (states_table ns p.initial_values.items) in
-    let iv_is : (x : Name) → iv x ≡ valuation_of (named (take m (drop n ns)) w) x = λ x. ap (λ t. valuation_of (named t w) x) (inputs_table m (drop n ns)) in
+    let sv_is : (x : Name) → sv x ≡ valuation_of (values_by_name (take n ns) q) x = λ x. ap (λ t. valuation_of (values_by_name t q) x) (states_table ns p.initial_values.items) in
+    let iv_is : (x : Name) → iv x ≡ valuation_of (values_by_name (take m (drop n ns)) w) x = λ x. ap (λ t. valuation_of (values_by_name t w) x) (inputs_table m (drop n ns)) in
     by_places ns (seen p None e) (point_of mo sv iv)
     (λ k b.
     let x = name_at ns k in
@@ -220,7 +220,7 @@ state_led p s name xs after h =
     let n = length is in
     let mo = model_from name p in
     let within = s.declared.states_within in
-    let sv_is : (x : Name) → state_valuation mo xs x ≡ valuation_of (named (take n ns) xs) x = λ x. ap (λ t. valuation_of (named t xs) x) (states_table ns is) in
+    let sv_is : (x : Name) → state_valuation mo xs x ≡ valuation_of (values_by_name (take n ns) xs) x = λ x. ap (λ t. valuation_of (values_by_name t xs) x) (states_table ns is) in
     let by : (x : Name) → is_some (state_named (declared_states ns is) x) ≡ is_some (state_named (states_by stated_only ns is) x) = λ x. ap (λ ss. is_some (state_named ss x)) (declared-by ns is) in
     by_places ns (state_valuation mo xs) (own_states mo after)
     (λ k b.

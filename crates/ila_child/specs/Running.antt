@@ -8,7 +8,7 @@ use Rattle.model_meaning.specs.Instruction as instruction
 use Rattle.model_meaning.specs.Instruction.{DoesChild, DoesOne, ChildTrouble, OneTrouble}
 use Rattle.wb_terms.specs.declared.values.Env.{Env}
 use Rattle.wb_terms.specs.Graph.{tree}
-use Rattle.wb_terms.specs.Environment.{named, values_of}
+use Rattle.wb_terms.specs.Environment.{values_by_name, values_of}
 use Rattle.ila_model.specs.declared.parts.ChildId.{ChildId}
 use Rattle.ila_model.specs.declared.parts.Child.{Child}
 use Rattle.ila_model.specs.declared.parts.Instruction.{Instruction}
@@ -24,7 +24,7 @@ use Rattle.ila_child.specs.declared.running.Taken.TheVariants.{Stuck as StuckThe
 -- The point that a machine sees, by the values of all names: those that may be read at its place have their values, and the
 -- private states of other children, which are not there, are 0.
 unfoldable pub point_at : Parts → Option ℕ → List meaning.Value → Valuation
-point_at p at xs n = cond (may_read p.children.items at (home p n)) (valuation_of (named p.terms.names xs) n) (number 0)
+point_at p at xs n = cond (may_read p.children.items at (home p n)) (valuation_of (values_by_name p.terms.names xs) n) (number 0)
 
 abbrev pub seen : Parts → Option ℕ → Env → Valuation
 seen p at e = point_at p at (values_of e)

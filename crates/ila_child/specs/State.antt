@@ -2,7 +2,7 @@
 use Rattle.std.specs.Prelude.{List, map}
 use Rattle.wb_values.specs.Value.{Sort, Value, Entries, Valuation, valuation_of}
 use Rattle.model_meaning.specs.Model.{StateDeclaration, InputDeclaration, Model, states_of, value_or}
-use Rattle.wb_terms.specs.Environment.{AreOfSorts, named}
+use Rattle.wb_terms.specs.Environment.{AreOfSorts, values_by_name}
 use Rattle.ila_model.specs.Meaning.{zero_of}
 
 abbrev pub sorts_of_states : List StateDeclaration → Entries Sort
@@ -21,11 +21,11 @@ AreInputsOf m xs = AreOfSorts (sorts_of_inputs m.inputs) xs
 
 -- Each state has its value; every other name is 0.
 abbrev pub state_valuation : Model → List Value → Valuation
-state_valuation m xs = valuation_of (named (sorts_of_states (states_of m.top)) xs)
+state_valuation m xs = valuation_of (values_by_name (sorts_of_states (states_of m.top)) xs)
 
 -- Each input has its value; every other name is 0.
 abbrev pub input_valuation : Model → List Value → Valuation
-input_valuation m xs = valuation_of (named (sorts_of_inputs m.inputs) xs)
+input_valuation m xs = valuation_of (values_by_name (sorts_of_inputs m.inputs) xs)
 
 -- The values with which states begin: the stated initial value, else the zero of the sort.
 abbrev pub initial_values : List StateDeclaration → List Value

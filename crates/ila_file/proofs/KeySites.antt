@@ -3,7 +3,7 @@ use Rattle.std.proofs.Common.{◌≡◌, ℕ, suc, ◌+◌, ◌<◌, ◌≤◌, 
 use Rattle.std.specs.Prelude.{codes}
 use Rattle.wb_values.specs.Value.{Name, same_name}
 use Rattle.wb_values.specs.Choice.{first_of}
-use Rattle.model_meaning.specs.Among.{is_among}
+use Rattle.model_meaning.specs.Among.{is_name_in}
 use Rattle.model_files.specs.Keys.{has_other_key, some_item, some_item_of, some_item_under, state_keys, state_has_other_key, input_has_other_key, input_keys, instruction_keys, child_keys, model_keys, instruction_has_unknown_key, child_under_has_unknown_key, child_has_unknown_key, instructions_under_have_unknown_key, instructions_have_unknown_key, some_instruction_has_unknown_key, model_has_unknown_key}
 use Rattle.model_places.specs.Sites.{Way, into, Spot, Site, site_at, key_spot, item_spot, part_spot}
 use Rattle.model_places.specs.KeyPlaces.{Keyed, keyed, key_of_item, state_objects, input_objects, objects_of, objects_under, instruction_objects, child_objects_under, child_objects, instruction_objects_under, instruction_list_objects, all_instruction_objects, objects_in, first_other_key, other_key_site, first_key_site}
@@ -38,7 +38,7 @@ some_mapped f (Some x) = refl
 
 some_key : (ks : List Name) (ms : Members) → is_some (first_other_key ks ms) ≡ has_other_key ks ms
 some_key ks no_members = refl
-some_key ks (member k d ms) = shown (is_among k ks) (some_key ks ms) where
+some_key ks (member k d ms) = shown (is_name_in k ks) (some_key ks ms) where
   shown : (b : Bool) → is_some (first_other_key ks ms) ≡ has_other_key ks ms → is_some (cond b (first_other_key ks ms) (Some k)) ≡ (not b || has_other_key ks ms)
   shown true h = h
   shown false h = refl

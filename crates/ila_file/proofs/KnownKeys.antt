@@ -2,7 +2,7 @@
 use Rattle.std.proofs.Common.{◌≡◌, Bool, true, false, cond, ◌||◌, Option, Some, option_and_then, is_some, refl, ap, ◌∙◌}
 use Rattle.std.specs.Prelude.{codes}
 use Rattle.wb_values.specs.Value.{Name, same_name}
-use Rattle.model_files.specs.Keys.{has_other_key, some_item, some_item_of, some_item_under, is_list, is_memory_state, state_has_other_key, instruction_keys, child_keys, instruction_has_unknown_key, child_under_has_unknown_key, child_has_unknown_key, instructions_under_have_unknown_key, instructions_have_unknown_key, some_instruction_has_unknown_key}
+use Rattle.model_files.specs.Keys.{has_other_key, some_item, some_item_of, some_item_under, is_list, is_written_memory, state_has_other_key, instruction_keys, child_keys, instruction_has_unknown_key, child_under_has_unknown_key, child_has_unknown_key, instructions_under_have_unknown_key, instructions_have_unknown_key, some_instruction_has_unknown_key}
 use Rattle.serde_json.specs.Data.{Data, null, boolean, number, string, array, object, Items, no_items, item, Members, no_members, member}
 use Rattle.serde_json.specs.Find.{get_member, as_array, as_object}
 use Rattle.ila_file.specs.KeyParts.{is_list_found, memory_keys, valued_keys, state_key_parts, some_listed, child_key_parts, child_key_found, instruction_key_parts}
@@ -20,7 +20,7 @@ list_found_if : (b : Bool) (d : Data) (o : Option Data) (r : Bool) → is_list_f
 list_found_if true d o r h = listed d
 list_found_if false d o r h = h
 
-pub memory_found : (ms : Members) → is_list_found (get_member (codes "sort") ms) ≡ is_memory_state ms
+pub memory_found : (ms : Members) → is_list_found (get_member (codes "sort") ms) ≡ is_written_memory ms
 memory_found no_members = refl
 memory_found (member k d ms) =
     ap is_list_found (found (codes "sort") k (Some d) (get_member (codes "sort") ms)) ∙ list_found_if (same_name k (codes "sort")) d _ _ (memory_found ms)

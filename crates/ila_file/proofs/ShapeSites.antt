@@ -5,7 +5,7 @@ use Rattle.wb_values.specs.Value.{Name, same_name}
 use Rattle.wb_values.specs.Choice.{first_of}
 use Rattle.model_files.specs.Shape.{unsigned_in, sort_in, term_in, private_state_in, state_declared_in, input_in, definition_in, instruction_in}
 use Rattle.model_places.specs.Sites.{Way, into, Spot, Site, site_at, key_spot, part_spot, member_spot}
-use Rattle.model_places.specs.ShapePlaces.{Judged, judged, under, has, fits_if_there, may_have, named_spot, in_list, list_places, optional_list_places, private_sort_in, state_places, input_places, definition_spot, definition_places, update_places, in_object, own_places, machine_places, instruction_places, child_places_under, child_places, instruction_places_under, instruction_list_places, all_instruction_places, shape_places, first_misfit}
+use Rattle.model_places.specs.ShapePlaces.{Judged, fitted, under, has, fits_if_there, may_have, named_spot, in_list, list_places, optional_list_places, private_sort_in, state_places, input_places, definition_spot, definition_places, update_places, in_object, own_places, machine_places, instruction_places, child_places_under, child_places, instruction_places_under, instruction_list_places, all_instruction_places, shape_places, first_misfit}
 use Rattle.model_places.proofs.Fitting.{instruction_fits}
 use Rattle.serde_json.specs.Data.{Data, null, boolean, number, string, array, object, Items, no_items, item, Members, no_members, member}
 use Rattle.serde_json.specs.Find.{get_member, get, as_str, as_array, as_object}
@@ -15,7 +15,7 @@ use Rattle.ila_file.specs.ShapeSpots.{unless, in_required, in_optional, state_fa
 use Rattle.ila_file.proofs.Shapes.{found}
 use Rattle.ila_file.proofs.KeySites.{first_then, mapped_first, stays_first}
 
-misfit_one : (w : Way) (s : Spot) (b : Bool) (ps : List Judged) → first_misfit (judged w s b ∷ ps) ≡ first_of (option_map (site_at w) (unless b s)) (first_misfit ps)
+misfit_one : (w : Way) (s : Spot) (b : Bool) (ps : List Judged) → first_misfit (fitted w s b ∷ ps) ≡ first_of (option_map (site_at w) (unless b s)) (first_misfit ps)
 misfit_one w s true ps = refl
 misfit_one w s false ps = refl
 
@@ -40,7 +40,7 @@ spots_both w a b x y h g = (λ i. first_of (h i) (g i)) ∙ sym (mapped_first (s
 
 -- one place, and others behind it
 one_then : (w : Way) (s : Spot) (t : Bool) (b : Option Spot) (ps : List Judged) (r : Option Site) → first_misfit ps ≡ first_of (option_map (site_at w) b) r
-    → first_misfit (judged w s t ∷ ps) ≡ first_of (option_map (site_at w) (first_of (unless t s) b)) r
+    → first_misfit (fitted w s t ∷ ps) ≡ first_of (option_map (site_at w) (first_of (unless t s) b)) r
 one_then w s t b ps r h = misfit_one w s t ps ∙ spots_then w (unless t s) b (option_map (site_at w) (unless t s)) (first_misfit ps) r refl h
 
 -- some places, and others behind them
@@ -51,17 +51,17 @@ some_then w a b xs ys r h g = misfit_then xs ys ∙ spots_then w a b (first_misf
 -- ---- lists
 
 required_first : (w : Way) (f : Items → List Judged) (g : Items → Option Spot) (k : Name) → ((ds : Items) → first_misfit (f ds) ≡ option_map (site_at w) (g ds)) → (o : Option Items)
-    → first_misfit (judged w (key_spot k) (is_some o) ∷ in_list f o) ≡ option_map (site_at w) (in_required k g o)
+    → first_misfit (fitted w (key_spot k) (is_some o) ∷ in_list f o) ≡ option_map (site_at w) (in_required k g o)
 required_first w f g k h None = refl
 required_first w f g k h (Some ds) = h ds
 
 optional_first : (w : Way) (f : Items → List Judged) (g : Items → Option Spot) (k : Name) → ((ds : Items) → first_misfit (f ds) ≡ option_map (site_at w) (g ds)) → (o : Option Data)
-    → first_misfit (judged w (key_spot k) (fits_if_there as_array o) ∷ in_list f (option_and_then as_array o)) ≡ option_map (site_at w) (in_optional k g o)
+    → first_misfit (fitted w (key_spot k) (fits_if_there as_array o) ∷ in_list f (option_and_then as_array o)) ≡ option_map (site_at w) (in_optional k g o)
 optional_first w f g k h None = refl
 optional_first w f g k h (Some d) = required_first w f g k h (as_array d)
 
 three : (w : Way) (s : Spot) (x y z : Bool) (ps : List Judged)
-    → first_misfit (judged w (part_spot s (codes "name")) x ∷ judged w (part_spot s (codes "sort")) y ∷ judged w (part_spot s (codes "init")) z ∷ ps)
+    → first_misfit (fitted w (part_spot s (codes "name")) x ∷ fitted w (part_spot s (codes "sort")) y ∷ fitted w (part_spot s (codes "init")) z ∷ ps)
     ≡ first_of (option_map (site_at w) (option_map (part_spot s) (cond x (cond y (cond z None (Some (codes "init"))) (Some (codes "sort"))) (Some (codes "name"))))) (first_misfit ps)
 three w s true true true ps = refl
 three w s true true false ps = refl
@@ -129,8 +129,8 @@ machine_first : (p : Bool) (w : Way) (ms : Members) → first_misfit (machine_pl
 machine_first p w ms =
     let d : Data = object ms in
     let is : List Judged = instruction_places_under w ms in
-    let valid : List Judged = judged w (key_spot (codes "valid")) (has term_in (codes "valid") d) ∷ is in
-    let fetch : List Judged = judged w (key_spot (codes "fetch")) (may_have term_in (codes "fetch") d) ∷ valid in
+    let valid : List Judged = fitted w (key_spot (codes "valid")) (has term_in (codes "valid") d) ∷ is in
+    let fetch : List Judged = fitted w (key_spot (codes "fetch")) (may_have term_in (codes "fetch") d) ∷ valid in
     let define : List Judged = optional_list_places (definition_places w 0) w (codes "define") d in
     let states : List Judged = list_places (state_places (sort_of p) (state_of p) w 0) w (codes "states") d in
     let no_list : Option Spot = unless (has as_array (codes "instructions") d) (key_spot (codes "instructions")) in
@@ -145,7 +145,7 @@ machine_first p w ms =
 
 -- a child: the steps first
 child_first : (w : Way) (ms : Members)
-    → first_misfit (judged w (key_spot (codes "steps")) (has unsigned_in (codes "steps") (object ms)) ∷ machine_places private_sort_in private_state_in w (object ms) (instruction_places_under w ms))
+    → first_misfit (fitted w (key_spot (codes "steps")) (has unsigned_in (codes "steps") (object ms)) ∷ machine_places private_sort_in private_state_in w (object ms) (instruction_places_under w ms))
     ≡ first_of (option_map (site_at w) (machine_misfit true (object ms))) (misfit_below w (object ms))
 child_first w ms =
     one_then w (key_spot (codes "steps")) (has unsigned_in (codes "steps") (object ms))
@@ -181,7 +181,7 @@ updates_first w u (member n d ms) = shown (is_some (term_in d)) (updates_first w
   shown true h = h
   shown false h = refl
 
-update_first : (w : Way) (u : Spot) (o : Option Members) → first_misfit (judged w u (is_some o) ∷ in_object (update_places w u) o) ≡ option_map (site_at w) (update_misfit u o)
+update_first : (w : Way) (u : Spot) (o : Option Members) → first_misfit (fitted w u (is_some o) ∷ in_object (update_places w u) o) ≡ option_map (site_at w) (update_misfit u o)
 update_first w u None = refl
 update_first w u (Some ms) = updates_first w u ms
 
@@ -192,10 +192,10 @@ own_first : (w : Way) (s : Spot) (d : Data) (a : Option Spot) (r : Option Site) 
     (first_of (unless (has term_in (codes "decode") d) (part_spot s (codes "decode"))) (first_of (update_misfit (part_spot s (codes "update")) (under as_object (codes "update") d)) a)))) r
 own_first w s d a r rest h =
     let u : Spot = part_spot s (codes "update") in
-    let update : List Judged = judged w u (has as_object (codes "update") d) ∷ in_object (update_places w u) (under as_object (codes "update") d) in
+    let update : List Judged = fitted w u (has as_object (codes "update") d) ∷ in_object (update_places w u) (under as_object (codes "update") d) in
     let no_update : Option Spot = first_of (update_misfit u (under as_object (codes "update") d)) a in
     let no_decode : Option Spot = first_of (unless (has term_in (codes "decode") d) (part_spot s (codes "decode"))) no_update in
-    one_then w (part_spot s (codes "name")) (has as_str (codes "name") d) no_decode (judged w (part_spot s (codes "decode")) (has term_in (codes "decode") d) ∷ (update ++ rest)) r
+    one_then w (part_spot s (codes "name")) (has as_str (codes "name") d) no_decode (fitted w (part_spot s (codes "decode")) (has term_in (codes "decode") d) ∷ (update ++ rest)) r
     (one_then w (part_spot s (codes "decode")) (has term_in (codes "decode") d) no_update (update ++ rest) r
     (some_then w (update_misfit u (under as_object (codes "update") d)) a update rest r (update_first w u (under as_object (codes "update") d)) h))
 

@@ -3,7 +3,7 @@
 ghost use Rattle.std.specs.Prelude.{◌≡◌, IfOk, is_some, codes, map, option_map};
 ghost use Rattle.serde_json.specs.Find.{get, as_array, as_object};
 ghost use Rattle.serde_json.specs.View.{view, items_view, members_view};
-ghost use Rattle.model_meaning.specs.Among.{is_among};
+ghost use Rattle.model_meaning.specs.Among.{is_name_in};
 ghost use Rattle.model_files.specs.Keys.{has_other_key, some_item, state_has_other_key, instruction_has_unknown_key, model_has_unknown_key};
 ghost use Rattle.model_places.specs.KeyPlaces.{first_other_key, unknown_key_note};
 ghost use Rattle.model_places.specs.ShapePlaces.{under};
@@ -78,7 +78,7 @@ fn other_key<'v>(members: &'v Map<String, Value>, keys: &[&str]) -> Option<&'v s
 }
 
 fn is_among(name: &str, keys: &[&str]) -> bool
-    ensures { result ≡ is_among name.now (map (λ k. k.now) keys.now) }
+    ensures { result ≡ is_name_in name.now (map (λ k. k.now) keys.now) }
 {
     for key in keys {
         if name == *key {

@@ -8,7 +8,7 @@ use Rattle.model_places.specs.First.{breaks, first_among, first_note}
 use Rattle.model_places.specs.KeyPlaces.{unknown_key_note}
 use Rattle.model_places.specs.ShapePlaces.{shape_note}
 use Rattle.model_places.specs.Notes.{site_note}
-use Rattle.model_places.specs.Parts.{Thing, Part, parts_of}
+use Rattle.model_places.specs.Parts.{Thing, ModelPart, parts_of}
 use Rattle.model_files.specs.Meaning.{ModelReading, stands_for, refused_by, ModelRule, BadJson, BadShape, UnknownKey, BadName, DuplicateName, UnknownName, BadWidth, BadSort, BadNumber, MemoryCopy, TooDeepChild, BadSteps, model_of, broken_rule, judged_by, with_known_keys}
 use Rattle.ila_json.specs.Reading.{refusal_in, IsNoteBy, IsNoteOf}
 
@@ -28,7 +28,7 @@ none_found d m h = by_test (model_has_unknown_key d) (broken_rule m) h where
 -- ---- notes
 
 -- what no part of a written model breaks has no note
-no_part : (is_broken : List Thing → Thing → Bool) → ((before : List Thing) (t : Thing) → is_broken before t ≡ false) → (before : List Thing) (ps : List Part) → first_among is_broken before ps ≡ None
+no_part : (is_broken : List Thing → Thing → Bool) → ((before : List Thing) (t : Thing) → is_broken before t ≡ false) → (before : List Thing) (ps : List ModelPart) → first_among is_broken before ps ≡ None
 no_part is_broken h before [] = refl
 no_part is_broken h before (p ∷ ps) =
     ap (λ b. cond b (Some p.site) (first_among is_broken (p.thing ∷ before) ps)) (h before p.thing) ∙ no_part is_broken h (p.thing ∷ before) ps

@@ -5,13 +5,13 @@ use Rattle.wb_values.specs.Choice.{first_of, some_if}
 use Rattle.model_meaning.specs.Term.{is_sort}
 use Rattle.model_meaning.specs.Model.{StateDeclaration, InputDeclaration, state_named}
 use Rattle.model_files.specs.Written.{WrittenTerm, WrittenMachine, machine, WrittenInstruction, instruction, WrittenInstructions, no_instructions, and_then, WrittenChild, no_child, child, WrittenModel}
-use Rattle.model_files.specs.Scope.{Visible, Scope, Place, of_definition, of_fetch, of_condition, of_update, placed, defined, with_states, with_fetch, scope_within, outermost}
+use Rattle.model_files.specs.Scope.{Visible, MachineScope, TermPlace, of_definition, of_fetch, of_condition, of_update, placed, defined, with_states, with_fetch, scope_within, outermost}
 use Rattle.model_files.specs.Rules.{uses_unknown_name, has_widths, takes_sort, has_fitting_constants, fits_sort}
 use Rattle.model_files.specs.Meaning.{UnknownName, BadWidth, BadSort, BadNumber, MemoryCopy}
 use Rattle.model_places.specs.Sites.{Way, into, Spot, Site, key_spot, item_spot, part_spot, instruction_spot, update_spot}
 use Rattle.model_places.specs.Notes.{site_note, note_at}
-use Rattle.model_places.specs.Parts.{Thing, data_name, instruction_name, declaration, term, program, step_limit, Part, part_at, declared_parts, input_parts, state_parts, definition_parts, fetch_parts, update_parts, machine_parts, instructions_parts, instruction_parts, child_parts, parts_of}
-use Rattle.model_places.specs.First.{is_unknown, has_bad_width, has_bad_sort, has_bad_number, is_memory_copy, breaks, first_among, first_note}
+use Rattle.model_places.specs.Parts.{Thing, data_name, instruction_name, declaration, term, program, step_limit, ModelPart, part_at, declared_parts, input_parts, state_parts, definition_parts, fetch_parts, update_parts, machine_parts, instructions_parts, instruction_parts, child_parts, parts_of}
+use Rattle.model_places.specs.First.{is_unknown, is_bad_width, is_bad_sort, is_bad_number, is_memory_copy, breaks, first_among, first_note}
 use Rattle.ila_rules.specs.Seen.{LookUp, States, sort_at, definition, condition, update, updates_none}
 use Rattle.ila_rules.specs.Flaws.{Flaws, no_flaws, kept_first, on_way, entered, left, with_term, with_declared, input_flaws, state_flaws, definition_flaws, fetch_flaws, update_flaws, look_states, look_fetch, look_within, states_within, head_flaws, machine_flaws, instructions_flaws, instruction_flaws, child_flaws, model_flaws}
 use Rattle.ila_file.proofs.Ways.{last_left}
@@ -19,29 +19,29 @@ use Rattle.ila_rules.proofs.Briefs.{briefs, unknown_same, sort_same, definition_
 use Rattle.ila_rules.proofs.Judged.{role_of, none_updated, role_sort, role_copies, sorts_within, within_same}
 
 -- the flaws with those of one part more
-abbrev pub with_part : Part → Flaws → Flaws
+abbrev pub with_part : ModelPart → Flaws → Flaws
 with_part p f = record {
   way = f.way;
   unknown_name = kept_first f.unknown_name (is_unknown p.thing) (site_note p.site);
-  bad_width = kept_first f.bad_width (has_bad_width p.thing) (site_note p.site);
-  bad_sort = kept_first f.bad_sort (has_bad_sort p.thing) (site_note p.site);
-  bad_number = kept_first f.bad_number (has_bad_number p.thing) (site_note p.site);
+  bad_width = kept_first f.bad_width (is_bad_width p.thing) (site_note p.site);
+  bad_sort = kept_first f.bad_sort (is_bad_sort p.thing) (site_note p.site);
+  bad_number = kept_first f.bad_number (is_bad_number p.thing) (site_note p.site);
   memory_copy = kept_first f.memory_copy (is_memory_copy p.thing) (site_note p.site);
 }
 
-abbrev pub gathered : List Part → Flaws → Flaws
+abbrev pub gathered : List ModelPart → Flaws → Flaws
 gathered [] f = f
 gathered (p ∷ ps) f = gathered ps (with_part p f)
 
-both : (ps qs : List Part) (f : Flaws) → gathered qs (gathered ps f) ≡ gathered (ps ++ qs) f
+both : (ps qs : List ModelPart) (f : Flaws) → gathered qs (gathered ps f) ≡ gathered (ps ++ qs) f
 both [] qs f = refl
 both (p ∷ ps) qs f = both ps qs (with_part p f)
 
-same_way : (ps : List Part) (f : Flaws) → (gathered ps f).way ≡ f.way
+same_way : (ps : List ModelPart) (f : Flaws) → (gathered ps f).way ≡ f.way
 same_way [] f = refl
 same_way (p ∷ ps) f = same_way ps (with_part p f)
 
-way_aside : (ps : List Part) (w : Way) (f : Flaws) → gathered ps (on_way w f) ≡ on_way w (gathered ps f)
+way_aside : (ps : List ModelPart) (w : Way) (f : Flaws) → gathered ps (on_way w f) ≡ on_way w (gathered ps f)
 way_aside [] w f = refl
 way_aside (p ∷ ps) w f = way_aside ps w (with_part p f)
 
@@ -52,14 +52,14 @@ kept_if None b x h = ap (λ c. some_if c x) h
 kept_if (Some y) b x h = refl
 
 skipped : (w : Way) (s : Spot) (t : Thing) (f : Flaws)
-    → is_unknown t ≡ false → has_bad_width t ≡ false → has_bad_sort t ≡ false → has_bad_number t ≡ false → is_memory_copy t ≡ false
+    → is_unknown t ≡ false → is_bad_width t ≡ false → is_bad_sort t ≡ false → is_bad_number t ≡ false → is_memory_copy t ≡ false
     → with_part (part_at w s t) f ≡ f
 skipped w s t f a b c d e = λ i. record {
   way = f.way;
   unknown_name = kept_if f.unknown_name (is_unknown t) (note_at w s) a i;
-  bad_width = kept_if f.bad_width (has_bad_width t) (note_at w s) b i;
-  bad_sort = kept_if f.bad_sort (has_bad_sort t) (note_at w s) c i;
-  bad_number = kept_if f.bad_number (has_bad_number t) (note_at w s) d i;
+  bad_width = kept_if f.bad_width (is_bad_width t) (note_at w s) b i;
+  bad_sort = kept_if f.bad_sort (is_bad_sort t) (note_at w s) c i;
+  bad_number = kept_if f.bad_number (is_bad_number t) (note_at w s) d i;
   memory_copy = kept_if f.memory_copy (is_memory_copy t) (note_at w s) e i;
 }
 
@@ -79,7 +79,7 @@ declared_gathered spot n s x f =
     })
     ∙ ap (λ (g : Flaws). with_part (part_at f.way spot (declaration s x)) g) (sym (skipped f.way spot (data_name n) f refl refl refl refl refl))
 
-term_gathered : (names : Entries Visible) (e : WrittenTerm) (p : Place) (spot : Spot) (f : Flaws)
+term_gathered : (names : Entries Visible) (e : WrittenTerm) (p : TermPlace) (spot : Spot) (f : Flaws)
     → with_term (briefs names) (role_of p) spot e f ≡ with_part (part_at f.way spot (term (placed names e p))) f
 unfolding with_term
 term_gathered names e p spot f = λ i. record {
@@ -137,18 +137,18 @@ updates_gathered names states k n (u ∷ us) f =
 -- ---- machines
 
 -- one list of parts after another, both of one way
-then : (parts : Way → List Part) (ps : List Part) (f g : Flaws) → g ≡ gathered ps f → gathered (parts g.way) g ≡ gathered (ps ++ parts f.way) f
+then : (parts : Way → List ModelPart) (ps : List ModelPart) (f g : Flaws) → g ≡ gathered ps f → gathered (parts g.way) g ≡ gathered (ps ++ parts f.way) f
 then parts ps f g same =
     ap (λ (x : Flaws). gathered (parts x.way) x) same
     ∙ (ap (λ w. gathered (parts w) (gathered ps f)) (same_way ps f) ∙ both ps (parts f.way) f)
 
 -- what is gathered within a child, on the way there
-within_child : (ps : List Part) (k : ℕ) (f : Flaws) → left (gathered ps (entered k f)) ≡ gathered ps f
+within_child : (ps : List ModelPart) (k : ℕ) (f : Flaws) → left (gathered ps (entered k f)) ≡ gathered ps f
 within_child ps k f =
     ap left (way_aside ps (into f.way k) f)
     ∙ (ap (λ w. on_way w (gathered ps f)) (last_left f.way k) ∙ ap (λ w. on_way w (gathered ps f)) (sym (same_way ps f)))
 
-head_gathered : (around : Scope) (ss : List StateDeclaration) (ds : Entries WrittenTerm) (g : Option WrittenTerm) (v : WrittenTerm) (f : Flaws)
+head_gathered : (around : MachineScope) (ss : List StateDeclaration) (ds : Entries WrittenTerm) (g : Option WrittenTerm) (v : WrittenTerm) (f : Flaws)
     → head_flaws (briefs around.names) ss ds g v f
     ≡ gathered (state_parts f.way 0 ss ++ (definition_parts f.way (with_states around.names ss) 0 ds ++ (fetch_parts f.way (scope_within around ss ds).names g
     ++ part_at f.way (key_spot (codes "valid")) (term (placed (with_fetch (scope_within around ss ds).names g) v of_condition)) ∷ []))) f
@@ -175,13 +175,13 @@ append_assoc : {A : Type 0} (xs ys zs : List A) → (xs ++ ys) ++ zs ≡ xs ++ (
 append_assoc [] ys zs = refl
 append_assoc (x ∷ xs) ys zs = ap (λ rs. x ∷ rs) (append_assoc xs ys zs)
 
-four_lists : (a b c : List Part) (p : Part) (d : List Part) → (a ++ (b ++ (c ++ p ∷ []))) ++ d ≡ a ++ (b ++ (c ++ p ∷ d))
+four_lists : (a b c : List ModelPart) (p : ModelPart) (d : List ModelPart) → (a ++ (b ++ (c ++ p ∷ []))) ++ d ≡ a ++ (b ++ (c ++ p ∷ d))
 four_lists a b c p d =
     append_assoc a (b ++ (c ++ p ∷ [])) d
     ∙ ap (λ x. a ++ x) (append_assoc b (c ++ p ∷ []) d ∙ ap (λ x. b ++ x) (append_assoc c (p ∷ []) d))
 
 mutual
-  machine_gathered : (around : Scope) (m : WrittenMachine) (f : Flaws)
+  machine_gathered : (around : MachineScope) (m : WrittenMachine) (f : Flaws)
       → machine_flaws (briefs around.names) (sorts_of around.states) m f ≡ gathered (machine_parts f.way around m) f
   machine_gathered around (machine ss ds g v is) f =
       let inner = scope_within around ss ds in
@@ -200,7 +200,7 @@ mutual
       ∙ ap (λ ps. gathered ps f)
       (four_lists (state_parts f.way 0 ss) (definition_parts f.way (with_states around.names ss) 0 ds) (fetch_parts f.way inner.names g) valid (instructions_parts f.way inner seen 0 is))))))
 
-  instructions_gathered : (inner : Scope) (names : Entries Visible) (k : ℕ) (is : WrittenInstructions) (f : Flaws)
+  instructions_gathered : (inner : MachineScope) (names : Entries Visible) (k : ℕ) (is : WrittenInstructions) (f : Flaws)
       → instructions_flaws (briefs inner.names) (briefs names) (sorts_of inner.states) k is f ≡ gathered (instructions_parts f.way inner names k is) f
   instructions_gathered inner names k no_instructions f = refl
   instructions_gathered inner names k (and_then i is) f =
@@ -208,7 +208,7 @@ mutual
       instructions_gathered inner names (k + 1) is first
       ∙ then (λ w. instructions_parts w inner names (k + 1) is) (instruction_parts f.way inner names k i) f first (instruction_gathered inner names k i f)
 
-  instruction_gathered : (inner : Scope) (names : Entries Visible) (k : ℕ) (i : WrittenInstruction) (f : Flaws)
+  instruction_gathered : (inner : MachineScope) (names : Entries Visible) (k : ℕ) (i : WrittenInstruction) (f : Flaws)
       → instruction_flaws (briefs inner.names) (briefs names) (sorts_of inner.states) k i f ≡ gathered (instruction_parts f.way inner names k i) f
   instruction_gathered inner names k (instruction called decode us held) f =
       let spot = part_spot (instruction_spot k called) (codes "decode") in
@@ -222,7 +222,7 @@ mutual
       ∙ (then (λ w. child_parts w inner k called held) (update_parts decoded.way names inner.states k called us) decoded own (updates_gathered names inner.states k called us decoded)
       ∙ then (λ w. update_parts w names inner.states k called us ++ child_parts w inner k called held) (name ∷ condition_part ∷ []) f decoded first)
 
-  child_gathered : (inner : Scope) (k : ℕ) (n : Name) (c : WrittenChild) (f : Flaws)
+  child_gathered : (inner : MachineScope) (k : ℕ) (n : Name) (c : WrittenChild) (f : Flaws)
       → child_flaws (briefs inner.names) (sorts_of inner.states) k c f ≡ gathered (child_parts f.way inner k n c) f
   child_gathered inner k n no_child f = refl
   child_gathered inner k n (child steps below) f =
@@ -255,31 +255,31 @@ pub none_next : (o : Option (List ℕ)) → o ≡ first_of o None
 none_next None = refl
 none_next (Some x) = refl
 
-unknown_first : (ps : List Part) (before : List Thing) (f : Flaws)
+unknown_first : (ps : List ModelPart) (before : List Thing) (f : Flaws)
     → (gathered ps f).unknown_name ≡ first_of f.unknown_name (option_map site_note (first_among (breaks UnknownName) before ps))
 unknown_first [] before f = none_next f.unknown_name
 unknown_first (p ∷ ps) before f =
     unknown_first ps (p.thing ∷ before) (with_part p f) ∙ next f.unknown_name (is_unknown p.thing) p.site (first_among (breaks UnknownName) (p.thing ∷ before) ps)
 
-width_first : (ps : List Part) (before : List Thing) (f : Flaws)
+width_first : (ps : List ModelPart) (before : List Thing) (f : Flaws)
     → (gathered ps f).bad_width ≡ first_of f.bad_width (option_map site_note (first_among (breaks BadWidth) before ps))
 width_first [] before f = none_next f.bad_width
 width_first (p ∷ ps) before f =
-    width_first ps (p.thing ∷ before) (with_part p f) ∙ next f.bad_width (has_bad_width p.thing) p.site (first_among (breaks BadWidth) (p.thing ∷ before) ps)
+    width_first ps (p.thing ∷ before) (with_part p f) ∙ next f.bad_width (is_bad_width p.thing) p.site (first_among (breaks BadWidth) (p.thing ∷ before) ps)
 
-sort_first : (ps : List Part) (before : List Thing) (f : Flaws)
+sort_first : (ps : List ModelPart) (before : List Thing) (f : Flaws)
     → (gathered ps f).bad_sort ≡ first_of f.bad_sort (option_map site_note (first_among (breaks BadSort) before ps))
 sort_first [] before f = none_next f.bad_sort
 sort_first (p ∷ ps) before f =
-    sort_first ps (p.thing ∷ before) (with_part p f) ∙ next f.bad_sort (has_bad_sort p.thing) p.site (first_among (breaks BadSort) (p.thing ∷ before) ps)
+    sort_first ps (p.thing ∷ before) (with_part p f) ∙ next f.bad_sort (is_bad_sort p.thing) p.site (first_among (breaks BadSort) (p.thing ∷ before) ps)
 
-number_first : (ps : List Part) (before : List Thing) (f : Flaws)
+number_first : (ps : List ModelPart) (before : List Thing) (f : Flaws)
     → (gathered ps f).bad_number ≡ first_of f.bad_number (option_map site_note (first_among (breaks BadNumber) before ps))
 number_first [] before f = none_next f.bad_number
 number_first (p ∷ ps) before f =
-    number_first ps (p.thing ∷ before) (with_part p f) ∙ next f.bad_number (has_bad_number p.thing) p.site (first_among (breaks BadNumber) (p.thing ∷ before) ps)
+    number_first ps (p.thing ∷ before) (with_part p f) ∙ next f.bad_number (is_bad_number p.thing) p.site (first_among (breaks BadNumber) (p.thing ∷ before) ps)
 
-copy_first : (ps : List Part) (before : List Thing) (f : Flaws)
+copy_first : (ps : List ModelPart) (before : List Thing) (f : Flaws)
     → (gathered ps f).memory_copy ≡ first_of f.memory_copy (option_map site_note (first_among (breaks MemoryCopy) before ps))
 copy_first [] before f = none_next f.memory_copy
 copy_first (p ∷ ps) before f =

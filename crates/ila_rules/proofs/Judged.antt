@@ -8,7 +8,7 @@ use Rattle.model_meaning.specs.Term.{is_sort}
 use Rattle.model_meaning.specs.Model.{StateDeclaration, InputDeclaration, state_named}
 use Rattle.wb_values.specs.Choice.{first_of}
 use Rattle.model_files.specs.Written.{WrittenTerm, WrittenMachine, machine, WrittenInstruction, instruction, WrittenInstructions, no_instructions, and_then, WrittenChild, no_child, child, WrittenModel, states_in, machines_in, machines_below, machines_of_instruction, machines_of_child}
-use Rattle.model_files.specs.Scope.{Visible, Scope, Place, of_definition, of_fetch, of_condition, of_update, Placed, placed, term_of, written_sort, defined, with_states, with_fetch, placed_definitions, placed_fetch, placed_updates, scope_within, terms_in, terms_below, terms_of_instruction, terms_of_child, outermost, all_terms}
+use Rattle.model_files.specs.Scope.{Visible, MachineScope, TermPlace, of_definition, of_fetch, of_condition, of_update, PlacedTerm, placed, term_of, written_sort, defined, with_states, with_fetch, placed_definitions, placed_fetch, placed_updates, scope_within, terms_in, terms_below, terms_of_instruction, terms_of_child, outermost, all_terms}
 use Rattle.model_meaning.specs.Term.{is_memory_sort}
 use Rattle.model_files.specs.Rules.{is_unknown_at, uses_unknown_name, updates_no_state, has_widths, has_state_widths, takes, takes_sort, has_fitting_constants, fits_sort, has_fitting_initial_values, copies_memory, has_unknown_name, has_bad_width, has_bad_sort, has_bad_number, has_memory_copy}
 use Rattle.ila_rules.specs.Seen.{LookUp, States, sort_at, memory_at, Role, definition, fetch, condition, update, updates_none, has_role_sort, fits_role, copies_at, is_memory_called}
@@ -16,14 +16,14 @@ use Rattle.ila_rules.specs.Flaws.{look_within, look_states, look_definitions, lo
 use Rattle.ila_rules.proofs.Flags.{Flags, no_flags, term_flags, declared_flags, input_flags, state_flags, definition_flags, fetch_flags, update_flags, head_flags, own_flags, machine_flags, instructions_flags, instruction_flags, child_flags, model_flags}
 use Rattle.ila_rules.proofs.Briefs.{briefs, unknown_same, sort_same, memory_same, called_same, definition_more, inputs_same, states_same, definitions_same, fetch_same, sorts_of}
 
-abbrev sort_fits : Placed → Bool
+abbrev sort_fits : PlacedTerm → Bool
 sort_fits p = takes_sort p.place (written_sort p.names p.written)
 
-abbrev copies : Placed → Bool
+abbrev copies : PlacedTerm → Bool
 copies p = copies_memory p.place (term_of p.names p.written)
 
 -- the flags so far, and those of machines' states and of terms
-abbrev flags_after : List WrittenMachine → List Placed → Flags → Flags
+abbrev flags_after : List WrittenMachine → List PlacedTerm → Flags → Flags
 flags_after ms ps f = record {
   unknown_name = f.unknown_name || list_any is_unknown_at ps;
   bad_width = f.bad_width || not (list_all has_state_widths ms && list_all (λ p. has_widths p.written) ps);
@@ -56,7 +56,7 @@ four false true false true e = refl
 four false true false false e = refl
 four false false c d e = refl
 
-after_after : (ms ns : List WrittenMachine) (ps qs : List Placed) (f : Flags)
+after_after : (ms ns : List WrittenMachine) (ps qs : List PlacedTerm) (f : Flags)
     → flags_after ns qs (flags_after ms ps f) ≡ flags_after (ms ++ ns) (ps ++ qs) f
 after_after ms ns ps qs f = λ i. record {
   unknown_name = (or_or f.unknown_name (list_any is_unknown_at ps) (list_any is_unknown_at qs)
@@ -84,20 +84,20 @@ nothing_after f = λ i. record {
 
 -- ---- one term
 
-abbrev pub role_of : Place → Role
+abbrev pub role_of : TermPlace → Role
 role_of of_definition = definition
 role_of of_fetch = fetch
 role_of of_condition = condition
 role_of (of_update n s) = update n (option_map (λ d. d.sort) s)
 
-pub none_updated : (p : Place) → updates_none (role_of p) ≡ updates_no_state p
+pub none_updated : (p : TermPlace) → updates_none (role_of p) ≡ updates_no_state p
 none_updated of_definition = refl
 none_updated of_fetch = refl
 none_updated of_condition = refl
 none_updated (of_update n None) = refl
 none_updated (of_update n (Some d)) = refl
 
-pub role_fits : (p : Place) (s : Sort) → fits_role (role_of p) s ≡ takes p s
+pub role_fits : (p : TermPlace) (s : Sort) → fits_role (role_of p) s ≡ takes p s
 role_fits of_definition s = refl
 role_fits of_fetch s = fetch_fits s where
   fetch_fits : (s : Sort) → fits_role fetch s ≡ takes of_fetch s
@@ -108,11 +108,11 @@ role_fits of_condition s = refl
 role_fits (of_update n None) s = refl
 role_fits (of_update n (Some d)) s = refl
 
-pub role_sort : (p : Place) (o : Option Sort) → has_role_sort (role_of p) o ≡ takes_sort p o
+pub role_sort : (p : TermPlace) (o : Option Sort) → has_role_sort (role_of p) o ≡ takes_sort p o
 role_sort p None = refl
 role_sort p (Some s) = role_fits p s
 
-pub role_copies : (names : Entries Visible) (e : WrittenTerm) (p : Place) → copies_at (role_of p) (memory_at (briefs names) e) ≡ copies_memory p (term_of names e)
+pub role_copies : (names : Entries Visible) (e : WrittenTerm) (p : TermPlace) → copies_at (role_of p) (memory_at (briefs names) e) ≡ copies_memory p (term_of names e)
 role_copies names e of_definition = refl
 role_copies names e of_fetch = refl
 role_copies names e of_condition = refl
@@ -120,7 +120,7 @@ role_copies names e (of_update n None) = refl
 role_copies names e (of_update n (Some d)) =
     ap (λ b. is_memory_sort d.sort && not b) (ap (is_memory_called n) (memory_same names e) ∙ called_same n (term_of names e))
 
-term_judged : (names : Entries Visible) (e : WrittenTerm) (p : Place) (f : Flags)
+term_judged : (names : Entries Visible) (e : WrittenTerm) (p : TermPlace) (f : Flags)
     → term_flags (briefs names) (role_of p) e f ≡ flags_after [] (placed names e p ∷ []) f
 unfolding term_flags
 term_judged names e p f = λ i. record {
@@ -223,11 +223,11 @@ sorts_within xs (s ∷ ss) =
 
 -- ---- machines
 
-pub within_same : (around : Scope) (ss : List StateDeclaration) (ds : Entries WrittenTerm)
+pub within_same : (around : MachineScope) (ss : List StateDeclaration) (ds : Entries WrittenTerm)
     → look_within (briefs around.names) ss ds ≡ briefs (scope_within around ss ds).names
 within_same around ss ds = ap (λ (l : LookUp). look_definitions l ds) (states_same around.names ss) ∙ definitions_same (with_states around.names ss) ds
 
-head_judged : (around : Scope) (ss : List StateDeclaration) (ds : Entries WrittenTerm) (g : Option WrittenTerm) (v : WrittenTerm) (f : Flags)
+head_judged : (around : MachineScope) (ss : List StateDeclaration) (ds : Entries WrittenTerm) (g : Option WrittenTerm) (v : WrittenTerm) (f : Flags)
     → head_flags (briefs around.names) ss ds g v f
     ≡ flags_after [] (placed (with_fetch (scope_within around ss ds).names g) v of_condition ∷ [])
     (flags_after [] (placed_fetch (scope_within around ss ds).names g) (flags_after [] (placed_definitions (with_states around.names ss) ds) (state_flags ss f)))
@@ -246,7 +246,7 @@ head_judged around ss ds g v f =
     ∙ term_judged seen v of_condition (flags_after [] (placed_fetch inner g) (flags_after [] (placed_definitions (with_states around.names ss) ds) states))))))
 
 mutual
-  machine_judged : (around : Scope) (m : WrittenMachine) (f : Flags)
+  machine_judged : (around : MachineScope) (m : WrittenMachine) (f : Flags)
       → machine_flags (briefs around.names) (sorts_of around.states) m f ≡ flags_after (machines_in m) (terms_in around m) f
   machine_judged around (machine ss ds g v is) f =
       let m = machine ss ds g v is in
@@ -271,7 +271,7 @@ mutual
       ∙ (ap (flags_after (machines_below is) (placed_definitions outer ds ++ (placed_fetch inner.names g ++ (placed seen v of_condition ∷ terms_below inner seen is)))) (machine_states m f)
       ∙ after_after (m ∷ []) (machines_below is) [] (placed_definitions outer ds ++ (placed_fetch inner.names g ++ (placed seen v of_condition ∷ terms_below inner seen is))) f))))))))
 
-  instructions_judged : (inner : Scope) (names : Entries Visible) (is : WrittenInstructions) (f : Flags)
+  instructions_judged : (inner : MachineScope) (names : Entries Visible) (is : WrittenInstructions) (f : Flags)
       → instructions_flags (briefs inner.names) (briefs names) (sorts_of inner.states) is f ≡ flags_after (machines_below is) (terms_below inner names is) f
   instructions_judged inner names no_instructions f = nothing_after f
   instructions_judged inner names (and_then i is) f =
@@ -279,7 +279,7 @@ mutual
       ∙ (ap (flags_after (machines_below is) (terms_below inner names is)) (instruction_judged inner names i f)
       ∙ after_after (machines_of_instruction i) (machines_below is) (terms_of_instruction inner names i) (terms_below inner names is) f)
 
-  instruction_judged : (inner : Scope) (names : Entries Visible) (i : WrittenInstruction) (f : Flags)
+  instruction_judged : (inner : MachineScope) (names : Entries Visible) (i : WrittenInstruction) (f : Flags)
       → instruction_flags (briefs inner.names) (briefs names) (sorts_of inner.states) i f ≡ flags_after (machines_of_instruction i) (terms_of_instruction inner names i) f
   instruction_judged inner names (instruction called decode us program) f =
       let decoded = flags_after [] (placed names decode of_condition ∷ []) f in
@@ -289,7 +289,7 @@ mutual
       ∙ (after_after [] (machines_of_child program) (placed_updates names inner.states us) (terms_of_child inner program) decoded
       ∙ after_after [] (machines_of_child program) (placed names decode of_condition ∷ []) (placed_updates names inner.states us ++ terms_of_child inner program) f))
 
-  child_judged : (inner : Scope) (c : WrittenChild) (f : Flags)
+  child_judged : (inner : MachineScope) (c : WrittenChild) (f : Flags)
       → child_flags (briefs inner.names) (sorts_of inner.states) c f ≡ flags_after (machines_of_child c) (terms_of_child inner c) f
   child_judged inner no_child f = nothing_after f
   child_judged inner (child steps program) f = machine_judged inner program f

@@ -6,26 +6,26 @@ use Rattle.wb_values.specs.Value.{Name, Sort, Value, Entries}
 use Rattle.wb_values.specs.Choice.{first_of}
 use Rattle.model_meaning.specs.Model.{StateDeclaration, InputDeclaration, state_named}
 use Rattle.model_files.specs.Written.{WrittenTerm, WrittenMachine, machine, WrittenInstruction, instruction, WrittenInstructions, no_instructions, and_then, WrittenChild, no_child, child, WrittenModel}
-use Rattle.model_files.specs.Scope.{Visible, Scope, Placed, of_definition, of_fetch, of_condition, of_update, placed, defined, with_states, with_fetch, scope_within, outermost}
+use Rattle.model_files.specs.Scope.{Visible, MachineScope, PlacedTerm, of_definition, of_fetch, of_condition, of_update, placed, defined, with_states, with_fetch, scope_within, outermost}
 use Rattle.model_files.specs.Rules.{depth_of, depth_below, depth_of_instruction, depth_of_child, has_step_limits, have_step_limits, instruction_has_step_limits, child_has_step_limits}
 use Rattle.model_files.specs.Meaning.{TooDeepChild, BadSteps}
 use Rattle.model_places.specs.Sites.{Way, into, Spot, Site, site_at, key_spot, item_spot, part_spot, instruction_spot, update_spot}
 use Rattle.model_places.specs.Notes.{site_note, note_at}
-use Rattle.model_places.specs.Parts.{Thing, data_name, instruction_name, declaration, term, step_limit, Part, part_at, input_parts, state_parts, definition_parts, fetch_parts, update_parts, machine_parts, instructions_parts, instruction_parts, child_parts, parts_of}
-use Rattle.model_places.specs.First.{is_too_deep, is_bad_limit, breaks, first_among, first_note}
+use Rattle.model_places.specs.Parts.{Thing, data_name, instruction_name, declaration, term, step_limit, ModelPart, part_at, input_parts, state_parts, definition_parts, fetch_parts, update_parts, machine_parts, instructions_parts, instruction_parts, child_parts, parts_of}
+use Rattle.model_places.specs.First.{is_deep_child, is_bad_limit, breaks, first_among, first_note}
 use Rattle.ila_rules.specs.Limits.{deeper_note, first_deeper, instruction_deeper, child_deeper, limit_note, first_limit, instruction_limit, child_limit}
 
 -- ---- the first part of which something is so
 
-abbrev first_at : (Thing → Bool) → List Part → Option Site
+abbrev first_at : (Thing → Bool) → List ModelPart → Option Site
 first_at q [] = None
 first_at q (p ∷ ps) = cond (q p.thing) (Some p.site) (first_at q ps)
 
-deep_at : (before : List Thing) (ps : List Part) → first_among (breaks TooDeepChild) before ps ≡ first_at is_too_deep ps
+deep_at : (before : List Thing) (ps : List ModelPart) → first_among (breaks TooDeepChild) before ps ≡ first_at is_deep_child ps
 deep_at before [] = refl
-deep_at before (p ∷ ps) = ap (λ r. cond (is_too_deep p.thing) (Some p.site) r) (deep_at (p.thing ∷ before) ps)
+deep_at before (p ∷ ps) = ap (λ r. cond (is_deep_child p.thing) (Some p.site) r) (deep_at (p.thing ∷ before) ps)
 
-bad_at : (before : List Thing) (ps : List Part) → first_among (breaks BadSteps) before ps ≡ first_at is_bad_limit ps
+bad_at : (before : List Thing) (ps : List ModelPart) → first_among (breaks BadSteps) before ps ≡ first_at is_bad_limit ps
 bad_at before [] = refl
 bad_at before (p ∷ ps) = ap (λ r. cond (is_bad_limit p.thing) (Some p.site) r) (bad_at (p.thing ∷ before) ps)
 
@@ -33,7 +33,7 @@ or_next : (b : Bool) (s : Site) (o r : Option Site) → cond b (Some s) (first_o
 or_next true s o r = refl
 or_next false s o r = refl
 
-first_in_both : (q : Thing → Bool) (ps qs : List Part) → first_at q (ps ++ qs) ≡ first_of (first_at q ps) (first_at q qs)
+first_in_both : (q : Thing → Bool) (ps qs : List ModelPart) → first_at q (ps ++ qs) ≡ first_of (first_at q ps) (first_at q qs)
 first_in_both q [] qs = refl
 first_in_both q (p ∷ ps) qs =
     ap (λ r. cond (q p.thing) (Some p.site) r) (first_in_both q ps qs) ∙ or_next (q p.thing) p.site (first_at q ps) (first_at q qs)
@@ -51,17 +51,17 @@ record OfChildren (q : Test) : Type 0 where
   data_names : (n : Name) → q (data_name n) ≡ false
   instruction_names : (n : Name) → q (instruction_name n) ≡ false
   declarations : (s : Sort) (x : Option Value) → q (declaration s x) ≡ false
-  terms : (p : Placed) → q (term p) ≡ false
+  terms : (p : PlacedTerm) → q (term p) ≡ false
 
-passed : (q : Test) (w : Way) (s : Spot) (t : Thing) (ps : List Part) → q t ≡ false → first_at q (part_at w s t ∷ ps) ≡ first_at q ps
+passed : (q : Test) (w : Way) (s : Spot) (t : Thing) (ps : List ModelPart) → q t ≡ false → first_at q (part_at w s t ∷ ps) ≡ first_at q ps
 passed q w s t ps h = ap (λ c. cond c (Some (site_at w s)) (first_at q ps)) h
 
 -- two things at one spot
-passed_both : (q : Test) (w : Way) (s : Spot) (t u : Thing) (ps : List Part) → q t ≡ false → q u ≡ false
+passed_both : (q : Test) (w : Way) (s : Spot) (t u : Thing) (ps : List ModelPart) → q t ≡ false → q u ≡ false
     → first_at q (part_at w s t ∷ part_at w s u ∷ ps) ≡ first_at q ps
 passed_both q w s t u ps h g = passed q w s t (part_at w s u ∷ ps) h ∙ passed q w s u ps g
 
-after_none : (q : Test) (ps qs : List Part) → first_at q ps ≡ None → first_at q (ps ++ qs) ≡ first_at q qs
+after_none : (q : Test) (ps qs : List ModelPart) → first_at q ps ≡ None → first_at q (ps ++ qs) ≡ first_at q qs
 after_none q ps qs h = first_in_both q ps qs ∙ ap (λ o. first_of o (first_at q qs)) h
 
 no_inputs : (q : Test) → OfChildren q → (k : ℕ) (is : List InputDeclaration) → first_at q (input_parts k is) ≡ None
@@ -94,10 +94,10 @@ no_updates : (q : Test) → OfChildren q → (w : Way) (names : Entries Visible)
     → first_at q (update_parts w names states k n us) ≡ None
 no_updates q c w names states k n [] = refl
 no_updates q c w names states k n (u ∷ us) =
-    let stands : Placed = placed names u.1 (of_update u.0 (state_named states u.0)) in
+    let stands : PlacedTerm = placed names u.1 (of_update u.0 (state_named states u.0)) in
     passed q w (update_spot k n u.0) (term stands) (update_parts w names states k n us) (c.terms stands) ∙ no_updates q c w names states k n us
 
-machine_rest : (q : Test) → OfChildren q → (w : Way) (around : Scope) (ss : List StateDeclaration) (ds : Entries WrittenTerm) (g : Option WrittenTerm) (v : WrittenTerm) (is : WrittenInstructions)
+machine_rest : (q : Test) → OfChildren q → (w : Way) (around : MachineScope) (ss : List StateDeclaration) (ds : Entries WrittenTerm) (g : Option WrittenTerm) (v : WrittenTerm) (is : WrittenInstructions)
     → first_at q (machine_parts w around (machine ss ds g v is))
     ≡ first_at q (instructions_parts w (scope_within around ss ds) (with_fetch (scope_within around ss ds).names g) 0 is)
 machine_rest q c w around ss ds g v is =
@@ -112,7 +112,7 @@ machine_rest q c w around ss ds g v is =
     ∙ (after_none q fetch (valid ∷ below) (no_fetch q c w inner.names g)
     ∙ passed q w (key_spot (codes "valid")) (term (placed seen v of_condition)) below (c.terms (placed seen v of_condition))))
 
-instruction_rest : (q : Test) → OfChildren q → (w : Way) (inner : Scope) (names : Entries Visible) (k : ℕ) (called : Name) (decode : WrittenTerm) (us : Entries WrittenTerm) (p : WrittenChild)
+instruction_rest : (q : Test) → OfChildren q → (w : Way) (inner : MachineScope) (names : Entries Visible) (k : ℕ) (called : Name) (decode : WrittenTerm) (us : Entries WrittenTerm) (p : WrittenChild)
     → first_at q (instruction_parts w inner names k (instruction called decode us p)) ≡ first_at q (child_parts w inner k called p)
 instruction_rest q c w inner names k called decode us p =
     let spot = part_spot (instruction_spot k called) (codes "decode") in
@@ -123,7 +123,7 @@ instruction_rest q c w inner names k called decode us p =
     ∙ (passed q w spot decoded (updates ++ below) (c.terms (placed names decode of_condition))
     ∙ after_none q updates below (no_updates q c w names inner.states k called us))
 
-deep_test : OfChildren is_too_deep
+deep_test : OfChildren is_deep_child
 deep_test = record { data_names = λ n. refl; instruction_names = λ n. refl; declarations = λ s x. refl; terms = λ p. refl }
 
 limit_test : OfChildren is_bad_limit
@@ -142,37 +142,37 @@ one_more : (n m left : ℕ) → n + left ≡ 3 → (left == 0) ≡ false → m �
 one_more n m left h some e = grind (arith, nat_tests)
 
 mutual
-  deep_machine : (w : Way) (left : ℕ) (around : Scope) (m : WrittenMachine) → length w + left ≡ 3
-      → deeper_note w left m ≡ option_map site_note (first_at is_too_deep (machine_parts w around m))
+  deep_machine : (w : Way) (left : ℕ) (around : MachineScope) (m : WrittenMachine) → length w + left ≡ 3
+      → deeper_note w left m ≡ option_map site_note (first_at is_deep_child (machine_parts w around m))
   deep_machine w left around (machine ss ds g v is) h =
       let inner = scope_within around ss ds in
-      deep_below w left inner (with_fetch inner.names g) 0 is h ∙ ap (option_map site_note) (sym (machine_rest is_too_deep deep_test w around ss ds g v is))
+      deep_below w left inner (with_fetch inner.names g) 0 is h ∙ ap (option_map site_note) (sym (machine_rest is_deep_child deep_test w around ss ds g v is))
 
-  deep_below : (w : Way) (left : ℕ) (inner : Scope) (names : Entries Visible) (k : ℕ) (is : WrittenInstructions) → length w + left ≡ 3
-      → first_deeper w left k is ≡ option_map site_note (first_at is_too_deep (instructions_parts w inner names k is))
+  deep_below : (w : Way) (left : ℕ) (inner : MachineScope) (names : Entries Visible) (k : ℕ) (is : WrittenInstructions) → length w + left ≡ 3
+      → first_deeper w left k is ≡ option_map site_note (first_at is_deep_child (instructions_parts w inner names k is))
   deep_below w left inner names k no_instructions h = refl
   deep_below w left inner names k (and_then i is) h =
       let here = instruction_parts w inner names k i in
       let rest = instructions_parts w inner names (k + 1) is in
       ap (λ o. first_of o (first_deeper w left (k + 1) is)) (deep_instruction w left inner names k i h)
-      ∙ (ap (λ o. first_of (option_map site_note (first_at is_too_deep here)) o) (deep_below w left inner names (k + 1) is h)
-      ∙ sym (ap (option_map site_note) (first_in_both is_too_deep here rest) ∙ noted_both (first_at is_too_deep here) (first_at is_too_deep rest)))
+      ∙ (ap (λ o. first_of (option_map site_note (first_at is_deep_child here)) o) (deep_below w left inner names (k + 1) is h)
+      ∙ sym (ap (option_map site_note) (first_in_both is_deep_child here rest) ∙ noted_both (first_at is_deep_child here) (first_at is_deep_child rest)))
 
-  deep_instruction : (w : Way) (left : ℕ) (inner : Scope) (names : Entries Visible) (k : ℕ) (i : WrittenInstruction) → length w + left ≡ 3
-      → instruction_deeper w left k i ≡ option_map site_note (first_at is_too_deep (instruction_parts w inner names k i))
+  deep_instruction : (w : Way) (left : ℕ) (inner : MachineScope) (names : Entries Visible) (k : ℕ) (i : WrittenInstruction) → length w + left ≡ 3
+      → instruction_deeper w left k i ≡ option_map site_note (first_at is_deep_child (instruction_parts w inner names k i))
   deep_instruction w left inner names k (instruction called decode us p) h =
-      deep_child w left inner k called p h ∙ ap (option_map site_note) (sym (instruction_rest is_too_deep deep_test w inner names k called decode us p))
+      deep_child w left inner k called p h ∙ ap (option_map site_note) (sym (instruction_rest is_deep_child deep_test w inner names k called decode us p))
 
-  deep_child : (w : Way) (left : ℕ) (inner : Scope) (k : ℕ) (n : Name) (c : WrittenChild) → length w + left ≡ 3
-      → child_deeper w left k n c ≡ option_map site_note (first_at is_too_deep (child_parts w inner k n c))
+  deep_child : (w : Way) (left : ℕ) (inner : MachineScope) (k : ℕ) (n : Name) (c : WrittenChild) → length w + left ≡ 3
+      → child_deeper w left k n c ≡ option_map site_note (first_at is_deep_child (child_parts w inner k n c))
   deep_child w left inner k n no_child h = refl
   deep_child w left inner k n (child steps below) h =
       by_test (left == 0) (nat_lt 3 (suc (length w))) (none_left (length w) left h)
       (λ some. deep_machine (into w k) (left - 1) inner below (one_more (length w) (length (into w k)) left h some (longer w k))) where
         by_test : (b d : Bool) → b ≡ d
-            → (b ≡ false → deeper_note (into w k) (left - 1) below ≡ option_map site_note (first_at is_too_deep (machine_parts (into w k) inner below)))
+            → (b ≡ false → deeper_note (into w k) (left - 1) below ≡ option_map site_note (first_at is_deep_child (machine_parts (into w k) inner below)))
             → cond b (Some (note_at w (part_spot (instruction_spot k n) (codes "child")))) (deeper_note (into w k) (left - 1) below)
-            ≡ option_map site_note (cond d (Some (site_at w (part_spot (instruction_spot k n) (codes "child")))) (first_at is_too_deep (machine_parts (into w k) inner below)))
+            ≡ option_map site_note (cond d (Some (site_at w (part_spot (instruction_spot k n) (codes "child")))) (first_at is_deep_child (machine_parts (into w k) inner below)))
         by_test true true e f = refl
         by_test false false e f = f refl
         by_test true false e f = cc
@@ -186,12 +186,12 @@ noted_if true s o r e = refl
 noted_if false s o r e = e
 
 mutual
-  limit_machine : (w : Way) (around : Scope) (m : WrittenMachine) → limit_note w m ≡ option_map site_note (first_at is_bad_limit (machine_parts w around m))
+  limit_machine : (w : Way) (around : MachineScope) (m : WrittenMachine) → limit_note w m ≡ option_map site_note (first_at is_bad_limit (machine_parts w around m))
   limit_machine w around (machine ss ds g v is) =
       let inner = scope_within around ss ds in
       limit_below w inner (with_fetch inner.names g) 0 is ∙ ap (option_map site_note) (sym (machine_rest is_bad_limit limit_test w around ss ds g v is))
 
-  limit_below : (w : Way) (inner : Scope) (names : Entries Visible) (k : ℕ) (is : WrittenInstructions)
+  limit_below : (w : Way) (inner : MachineScope) (names : Entries Visible) (k : ℕ) (is : WrittenInstructions)
       → first_limit w k is ≡ option_map site_note (first_at is_bad_limit (instructions_parts w inner names k is))
   limit_below w inner names k no_instructions = refl
   limit_below w inner names k (and_then i is) =
@@ -201,12 +201,12 @@ mutual
       ∙ (ap (λ o. first_of (option_map site_note (first_at is_bad_limit here)) o) (limit_below w inner names (k + 1) is)
       ∙ sym (ap (option_map site_note) (first_in_both is_bad_limit here rest) ∙ noted_both (first_at is_bad_limit here) (first_at is_bad_limit rest)))
 
-  limit_instruction : (w : Way) (inner : Scope) (names : Entries Visible) (k : ℕ) (i : WrittenInstruction)
+  limit_instruction : (w : Way) (inner : MachineScope) (names : Entries Visible) (k : ℕ) (i : WrittenInstruction)
       → instruction_limit w k i ≡ option_map site_note (first_at is_bad_limit (instruction_parts w inner names k i))
   limit_instruction w inner names k (instruction called decode us p) =
       limit_child w inner k called p ∙ ap (option_map site_note) (sym (instruction_rest is_bad_limit limit_test w inner names k called decode us p))
 
-  limit_child : (w : Way) (inner : Scope) (k : ℕ) (n : Name) (c : WrittenChild)
+  limit_child : (w : Way) (inner : MachineScope) (k : ℕ) (n : Name) (c : WrittenChild)
       → child_limit w k c ≡ option_map site_note (first_at is_bad_limit (child_parts w inner k n c))
   limit_child w inner k n no_child = refl
   limit_child w inner k n (child steps below) =
@@ -215,13 +215,13 @@ mutual
 
 -- ---- the whole file
 
-abbrev top_parts : WrittenModel → List Part
+abbrev top_parts : WrittenModel → List ModelPart
 top_parts m = machine_parts [] (outermost m) m.top
 
 pub first_deep : (m : WrittenModel) → deeper_note [] 3 m.top ≡ first_note TooDeepChild m
 first_deep m =
     deep_machine [] 3 (outermost m) m.top refl
-    ∙ ap (option_map site_note) (sym (deep_at [] (parts_of m) ∙ after_none is_too_deep (input_parts 0 m.inputs) (top_parts m) (no_inputs is_too_deep deep_test 0 m.inputs)))
+    ∙ ap (option_map site_note) (sym (deep_at [] (parts_of m) ∙ after_none is_deep_child (input_parts 0 m.inputs) (top_parts m) (no_inputs is_deep_child deep_test 0 m.inputs)))
 
 pub first_bad_limit : (m : WrittenModel) → limit_note [] m.top ≡ first_note BadSteps m
 first_bad_limit m =

@@ -8,7 +8,7 @@ use Rattle.std.proofs.lemmas.List.Sums.{sum_by-cons}
 use Rattle.std.proofs.lemmas.Slice.Eq.{bytes_eq-Decides}
 use Rattle.wb_values.specs.Value.{Name, same_name}
 use Rattle.model_files.specs.Written.{WrittenMachine, machine, WrittenInstruction, instruction, WrittenInstructions, no_instructions, and_then, WrittenChild, no_child, child, WrittenModel, machines_in, machines_below, machines_of_instruction, machines_of_child}
-use Rattle.model_meaning.specs.Among.{is_among, has_twice}
+use Rattle.model_meaning.specs.Among.{is_name_in, has_twice}
 use Rattle.wb_values.specs.Names.{is_model_name}
 use Rattle.model_files.specs.Names.{data_names, instruction_names, instruction_names_in, joined, all_data_names, all_instruction_names}
 use Rattle.model_files.specs.Rules.{has_bad_name, has_duplicate_name}
@@ -30,10 +30,10 @@ one_more false true true r = refl
 one_more false true false r = refl
 one_more false false d r = refl
 
-any_member : (x : Name) (set : NameSet) (zs : List Name) → list_any (with_member x set) zs ≡ (is_among x zs || list_any set zs)
+any_member : (x : Name) (set : NameSet) (zs : List Name) → list_any (with_member x set) zs ≡ (is_name_in x zs || list_any set zs)
 any_member x set [] = refl
 any_member x set (z ∷ zs) =
-    ap (λ b. cond (same_name x z) true (set z) || b) (any_member x set zs) ∙ one_more (same_name x z) (is_among x zs) (set z) (list_any set zs)
+    ap (λ b. cond (same_name x z) true (set z) || b) (any_member x set zs) ∙ one_more (same_name x z) (is_name_in x zs) (set z) (list_any set zs)
 
 turned : (d r a t : Bool) → ((d || r) || (a || t)) ≡ (d || ((a || r) || t))
 turned true r a t = refl
@@ -44,7 +44,7 @@ turned false false false t = refl
 
 clash_step : (set : NameSet) (x : Name) (zs : List Name) → clash set (x ∷ zs) ≡ (set x || clash (with_member x set) zs)
 clash_step set x zs =
-    turned (set x) (list_any set zs) (is_among x zs) (has_twice zs) ∙ ap (λ b. set x || (b || has_twice zs)) (sym (any_member x set zs))
+    turned (set x) (list_any set zs) (is_name_in x zs) (has_twice zs) ∙ ap (λ b. set x || (b || has_twice zs)) (sym (any_member x set zs))
 
 or_or : (a b c : Bool) → ((a || b) || c) ≡ (a || (b || c))
 or_or true b c = refl
@@ -251,19 +251,19 @@ unfolding count
 counted n [] = refl
 counted n (k ∷ ks) = ap (λ c. one_if n k + c) (counted n ks) ∙ sym (sum_by-cons (one_if n) k ks)
 
-among_counted : (n : Name) (ks : List Name) → is_among n ks ≡ true → 1 ≤ count n ks
+among_counted : (n : Name) (ks : List Name) → is_name_in n ks ≡ true → 1 ≤ count n ks
 unfolding count
 among_counted n [] h = cc
 among_counted n (k ∷ ks) h = by_value (same_name n k) h (among_counted n ks) where
-  by_value : (b : Bool) → (b || is_among n ks) ≡ true → (is_among n ks ≡ true → 1 ≤ count n ks) → 1 ≤ cond b 1 0 + count n ks
+  by_value : (b : Bool) → (b || is_name_in n ks) ≡ true → (is_name_in n ks ≡ true → 1 ≤ count n ks) → 1 ≤ cond b 1 0 + count n ks
   by_value true h f = omega arith
   by_value false h f = let g = f h in omega arith
 
-counted_among : (n : Name) (ks : List Name) → 1 ≤ count n ks → is_among n ks ≡ true
+counted_among : (n : Name) (ks : List Name) → 1 ≤ count n ks → is_name_in n ks ≡ true
 unfolding count
 counted_among n [] h = absurd (omega arith)
 counted_among n (k ∷ ks) h = by_value (same_name n k) h (counted_among n ks) where
-  by_value : (b : Bool) → 1 ≤ cond b 1 0 + count n ks → (1 ≤ count n ks → is_among n ks ≡ true) → (b || is_among n ks) ≡ true
+  by_value : (b : Bool) → 1 ≤ cond b 1 0 + count n ks → (1 ≤ count n ks → is_name_in n ks ≡ true) → (b || is_name_in n ks) ≡ true
   by_value true h f = refl
   by_value false h f = f (omega arith)
 
@@ -279,7 +279,7 @@ one_and c h = omega arith
 twice_counted : (ns : List Name) → has_twice ns ≡ true → (n : Name) × (2 ≤ count n ns)
 unfolding count
 twice_counted [] h = cc
-twice_counted (k ∷ ks) h = by_value (is_among k ks) (among_counted k ks) h (twice_counted ks) where
+twice_counted (k ∷ ks) h = by_value (is_name_in k ks) (among_counted k ks) h (twice_counted ks) where
   by_value : (b : Bool) → (b ≡ true → 1 ≤ count k ks) → (b || has_twice ks) ≡ true → (has_twice ks ≡ true → (n : Name) × (2 ≤ count n ks)) → (n : Name) × (2 ≤ one_if n k + count n ks)
   by_value true e h f = (k, subst (λ b. 2 ≤ cond b 1 0 + count k ks) (sym (same_refl k)) (one_and (count k ks) (e refl)))
   by_value false e h f = let p = f h in (p.0, more_of (one_if p.0 k) (count p.0 ks) p.1)
@@ -302,9 +302,9 @@ counted_twice : (n : Name) (ks : List Name) → 2 ≤ count n ks → has_twice k
 unfolding count
 counted_twice n [] h = absurd (omega arith)
 counted_twice n (k ∷ ks) h = by_value (same_name n k) (λ e. (bytes_eq-Decides n k).0 e) h (counted_twice n ks) where
-  by_value : (b : Bool) → (b ≡ true → n ≡ k) → 2 ≤ cond b 1 0 + count n ks → (2 ≤ count n ks → has_twice ks ≡ true) → (is_among k ks || has_twice ks) ≡ true
-  by_value true e h f = or_first (is_among k ks) (has_twice ks) (subst (λ m. is_among m ks ≡ true) (e refl) (counted_among n ks (at_least (count n ks) h)))
-  by_value false e h f = or_true (is_among k ks) (has_twice ks) (f (zero_more (count n ks) h))
+  by_value : (b : Bool) → (b ≡ true → n ≡ k) → 2 ≤ cond b 1 0 + count n ks → (2 ≤ count n ks → has_twice ks ≡ true) → (is_name_in k ks || has_twice ks) ≡ true
+  by_value true e h f = or_first (is_name_in k ks) (has_twice ks) (subst (λ m. is_name_in m ks ≡ true) (e refl) (counted_among n ks (at_least (count n ks) h)))
+  by_value false e h f = or_true (is_name_in k ks) (has_twice ks) (f (zero_more (count n ks) h))
 
 equal_if : (a b : Bool) → (a ≡ true → b ≡ true) → (b ≡ true → a ≡ true) → a ≡ b
 equal_if true b f g = sym (f refl)

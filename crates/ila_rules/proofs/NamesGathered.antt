@@ -4,12 +4,12 @@ use Rattle.wb_values.specs.Value.{Name, same_name, Entries}
 use Rattle.wb_values.specs.Choice.{first_of}
 use Rattle.model_meaning.specs.Model.{StateDeclaration, InputDeclaration}
 use Rattle.model_files.specs.Written.{WrittenTerm, WrittenMachine, machine, WrittenInstruction, instruction, WrittenInstructions, no_instructions, and_then, WrittenChild, no_child, child, WrittenModel}
-use Rattle.model_files.specs.Scope.{Visible, Scope, of_definition, of_condition, of_fetch, of_update, placed, defined, with_states, with_fetch, scope_within, outermost}
+use Rattle.model_files.specs.Scope.{Visible, MachineScope, of_definition, of_condition, of_fetch, of_update, placed, defined, with_states, with_fetch, scope_within, outermost}
 use Rattle.model_meaning.specs.Model.{state_named}
 use Rattle.model_files.specs.Meaning.{BadName, DuplicateName}
 use Rattle.model_places.specs.Sites.{Way, into, Spot, key_spot, item_spot, part_spot, instruction_spot, update_spot}
 use Rattle.model_places.specs.Notes.{site_note, note_at}
-use Rattle.model_places.specs.Parts.{Thing, model_name, data_name, instruction_name, declaration, term, program, step_limit, Part, part_at, input_parts, state_parts, definition_parts, fetch_parts, update_parts, machine_parts, instructions_parts, instruction_parts, child_parts, parts_of}
+use Rattle.model_places.specs.Parts.{Thing, model_name, data_name, instruction_name, declaration, term, program, step_limit, ModelPart, part_at, input_parts, state_parts, definition_parts, fetch_parts, update_parts, machine_parts, instructions_parts, instruction_parts, child_parts, parts_of}
 use Rattle.model_places.specs.First.{is_bad_name, has_data_name, has_instruction_name, stands_again, breaks, first_among, first_note}
 use Rattle.ila_rules.specs.Flaws.{kept_first}
 use Rattle.ila_rules.specs.NameFlaws.{NameSet, no_members, with_member, NameFlaws, names_on_way, names_entered, names_left, with_data, with_instruction, with_all_data, names_in, names_below, names_of_instruction, names_of_child, with_model_name, names_in_model}
@@ -44,7 +44,7 @@ instructions_more (program d) set = set
 instructions_more (step_limit n) set = set
 
 -- what was found of names, with one part more
-abbrev with_named : Part → NameFlaws → NameFlaws
+abbrev with_named : ModelPart → NameFlaws → NameFlaws
 with_named p s = record {
   way = s.way;
   bad = kept_first s.bad (is_bad_name p.thing) (site_note p.site);
@@ -53,29 +53,29 @@ with_named p s = record {
   instruction_set = instructions_more p.thing s.instruction_set;
 }
 
-abbrev gathered : List Part → NameFlaws → NameFlaws
+abbrev gathered : List ModelPart → NameFlaws → NameFlaws
 gathered [] s = s
 gathered (p ∷ ps) s = gathered ps (with_named p s)
 
-both : (ps qs : List Part) (s : NameFlaws) → gathered qs (gathered ps s) ≡ gathered (ps ++ qs) s
+both : (ps qs : List ModelPart) (s : NameFlaws) → gathered qs (gathered ps s) ≡ gathered (ps ++ qs) s
 both [] qs s = refl
 both (p ∷ ps) qs s = both ps qs (with_named p s)
 
-same_way : (ps : List Part) (s : NameFlaws) → (gathered ps s).way ≡ s.way
+same_way : (ps : List ModelPart) (s : NameFlaws) → (gathered ps s).way ≡ s.way
 same_way [] s = refl
 same_way (p ∷ ps) s = same_way ps (with_named p s)
 
-way_aside : (ps : List Part) (w : Way) (s : NameFlaws) → gathered ps (names_on_way w s) ≡ names_on_way w (gathered ps s)
+way_aside : (ps : List ModelPart) (w : Way) (s : NameFlaws) → gathered ps (names_on_way w s) ≡ names_on_way w (gathered ps s)
 way_aside [] w s = refl
 way_aside (p ∷ ps) w s = way_aside ps w (with_named p s)
 
 -- one list of parts after another, both of one way
-then : (parts : Way → List Part) (ps : List Part) (s t : NameFlaws) → t ≡ gathered ps s → gathered (parts t.way) t ≡ gathered (ps ++ parts s.way) s
+then : (parts : Way → List ModelPart) (ps : List ModelPart) (s t : NameFlaws) → t ≡ gathered ps s → gathered (parts t.way) t ≡ gathered (ps ++ parts s.way) s
 then parts ps s t same =
     ap (λ (x : NameFlaws). gathered (parts x.way) x) same
     ∙ (ap (λ w. gathered (parts w) (gathered ps s)) (same_way ps s) ∙ both ps (parts s.way) s)
 
-within_child : (ps : List Part) (k : ℕ) (s : NameFlaws) → names_left (gathered ps (names_entered k s)) ≡ gathered ps s
+within_child : (ps : List ModelPart) (k : ℕ) (s : NameFlaws) → names_left (gathered ps (names_entered k s)) ≡ gathered ps s
 within_child ps k s =
     ap names_left (way_aside ps (into s.way k) s)
     ∙ (ap (λ w. names_on_way w (gathered ps s)) (last_left s.way k) ∙ ap (λ w. names_on_way w (gathered ps s)) (sym (same_way ps s)))
@@ -93,7 +93,7 @@ skipped w p t s a b c d = λ i. record {
   instruction_set = d i;
 }
 
-without : (w : Way) (p : Spot) (t : Thing) (ps : List Part) (s : NameFlaws) → with_named (part_at w p t) s ≡ s → gathered ps s ≡ gathered (part_at w p t ∷ ps) s
+without : (w : Way) (p : Spot) (t : Thing) (ps : List ModelPart) (s : NameFlaws) → with_named (part_at w p t) s ≡ s → gathered ps s ≡ gathered (part_at w p t ∷ ps) s
 without w p t ps s e = ap (λ (x : NameFlaws). gathered ps x) (sym e)
 
 data_named : (spot : Spot) (n : Name) (s : NameFlaws) → with_data spot n s ≡ with_named (part_at s.way spot (data_name n)) s
@@ -155,7 +155,7 @@ updates_named names states k n (u ∷ us) w s =
 -- ---- machines
 
 mutual
-  machine_named : (around : Scope) (m : WrittenMachine) (s : NameFlaws) → names_in m s ≡ gathered (machine_parts s.way around m) s
+  machine_named : (around : MachineScope) (m : WrittenMachine) (s : NameFlaws) → names_in m s ≡ gathered (machine_parts s.way around m) s
   machine_named around (machine ss ds g v is) s =
       let inner = scope_within around ss ds in
       let seen = with_fetch inner.names g in
@@ -163,34 +163,34 @@ mutual
       let valid : Thing = term (placed seen v of_condition) in
       let states = with_all_data (codes "states") 0 (map (λ d. d.state_name) ss) s in
       let defs = with_all_data (codes "define") 0 (map (λ d. d.0) ds) states in
-      let rest : Way → List Part = λ w. part_at w (key_spot (codes "valid")) valid ∷ instructions_parts w inner seen 0 is in
+      let rest : Way → List ModelPart = λ w. part_at w (key_spot (codes "valid")) valid ∷ instructions_parts w inner seen 0 is in
       below_named inner seen 0 is defs
       ∙ (without defs.way (key_spot (codes "valid")) valid (instructions_parts defs.way inner seen 0 is) defs (skipped defs.way (key_spot (codes "valid")) valid defs refl refl refl refl)
       ∙ (then rest (fetch_parts defs.way inner.names g) defs defs (fetch_named inner.names g defs.way defs)
       ∙ (then (λ w. fetch_parts w inner.names g ++ rest w) (definition_parts states.way outer 0 ds) states defs (definitions_named outer 0 ds states)
       ∙ then (λ w. definition_parts w outer 0 ds ++ (fetch_parts w inner.names g ++ rest w)) (state_parts s.way 0 ss) s states (states_named 0 ss s))))
 
-  below_named : (inner : Scope) (names : Entries Visible) (k : ℕ) (is : WrittenInstructions) (s : NameFlaws)
+  below_named : (inner : MachineScope) (names : Entries Visible) (k : ℕ) (is : WrittenInstructions) (s : NameFlaws)
       → names_below k is s ≡ gathered (instructions_parts s.way inner names k is) s
   below_named inner names k no_instructions s = refl
   below_named inner names k (and_then i is) s =
       below_named inner names (k + 1) is (names_of_instruction k i s)
       ∙ then (λ w. instructions_parts w inner names (k + 1) is) (instruction_parts s.way inner names k i) s (names_of_instruction k i s) (of_instruction_named inner names k i s)
 
-  of_instruction_named : (inner : Scope) (names : Entries Visible) (k : ℕ) (i : WrittenInstruction) (s : NameFlaws)
+  of_instruction_named : (inner : MachineScope) (names : Entries Visible) (k : ℕ) (i : WrittenInstruction) (s : NameFlaws)
       → names_of_instruction k i s ≡ gathered (instruction_parts s.way inner names k i) s
   of_instruction_named inner names k (instruction called decode us held) s =
       let spot = instruction_spot k called in
       let decoded : Thing = term (placed names decode of_condition) in
       let name = part_at s.way spot (instruction_name called) in
       let one : NameFlaws = with_instruction spot called s in
-      let rest : Way → List Part = λ w. update_parts w names inner.states k called us ++ child_parts w inner k called held in
+      let rest : Way → List ModelPart = λ w. update_parts w names inner.states k called us ++ child_parts w inner k called held in
       child_named inner k called held one
       ∙ (then (λ w. child_parts w inner k called held) (update_parts one.way names inner.states k called us) one one (updates_named names inner.states k called us one.way one)
       ∙ (without one.way (part_spot spot (codes "decode")) decoded (rest one.way) one (skipped one.way (part_spot spot (codes "decode")) decoded one refl refl refl refl)
       ∙ then (λ w. part_at w (part_spot spot (codes "decode")) decoded ∷ rest w) (name ∷ []) s one (instruction_named spot called s)))
 
-  child_named : (inner : Scope) (k : ℕ) (n : Name) (c : WrittenChild) (s : NameFlaws) → names_of_child k c s ≡ gathered (child_parts s.way inner k n c) s
+  child_named : (inner : MachineScope) (k : ℕ) (n : Name) (c : WrittenChild) (s : NameFlaws) → names_of_child k c s ≡ gathered (child_parts s.way inner k n c) s
   child_named inner k n no_child s = refl
   child_named inner k n (child steps below) s =
       let ps = machine_parts (into s.way k) inner below in
@@ -215,7 +215,7 @@ model_named m =
 
 -- ---- the first part of all
 
-bad_first : (ps : List Part) (before : List Thing) (s : NameFlaws)
+bad_first : (ps : List ModelPart) (before : List Thing) (s : NameFlaws)
     → (gathered ps s).bad ≡ first_of s.bad (option_map site_note (first_among (breaks BadName) before ps))
 bad_first [] before s = none_next s.bad
 bad_first (p ∷ ps) before s =
@@ -259,7 +259,7 @@ again_on (term p) s before d e = refl
 again_on (program n) s before d e = refl
 again_on (step_limit n) s before d e = refl
 
-twice_first : (ps : List Part) (before : List Thing) (s : NameFlaws) → s.data_set ≡ data_in before → s.instruction_set ≡ instructions_in before
+twice_first : (ps : List ModelPart) (before : List Thing) (s : NameFlaws) → s.data_set ≡ data_in before → s.instruction_set ≡ instructions_in before
     → (gathered ps s).twice ≡ first_of s.twice (option_map site_note (first_among (breaks DuplicateName) before ps))
 twice_first [] before s d e = none_next s.twice
 twice_first (p ∷ ps) before s d e =

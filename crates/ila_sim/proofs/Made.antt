@@ -8,7 +8,7 @@ use Rattle.wb_values.specs.Value.{Name, same_name, Sort, truth, word, memory, Va
 use Rattle.model_meaning.specs.Model.{StateDeclaration, InputDeclaration, Model, states_of, state_named, value_or}
 use Rattle.scripts.specs.Script.{Settable, settable, settables_of, zero_value, with_word, with_sets, initial_or_zero, first_value, initial_state, zero_input, inputs_of}
 use Rattle.wb_terms.specs.declared.values.Value as code
-use Rattle.wb_terms.specs.Environment.{as_value, AreOfSorts, named}
+use Rattle.wb_terms.specs.Environment.{as_value, AreOfSorts, values_by_name}
 use Rattle.ila_model.specs.Meaning.{zero_of}
 use Rattle.ila_child.specs.State.{sorts_of_states, sorts_of_inputs, IsStateOf, AreInputsOf, state_valuation, input_valuation, initial_values}
 use Rattle.ila_child.proofs.Initial.{zero_has_sort}
@@ -81,17 +81,17 @@ suits_inside (t ∷ ss) zero s h = omega arith
 suits_inside (t ∷ ss) (suc k) s h = omega (arith, suits_inside ss k s h)
 
 meant_set : (ns : Entries Sort) (xs : List Value) (k : ℕ) (y : Value) (q : Name) → are_apart (settables_by ns) ≡ true → AreOfSorts ns xs → k < length (settables_by ns)
-    → valuation_of (named ns (set xs k y)) q ≡ with_value (valuation_of (named ns xs)) (called_at (settables_by ns) k) y q
+    → valuation_of (values_by_name ns (set xs k y)) q ≡ with_value (valuation_of (values_by_name ns xs)) (called_at (settables_by ns) k) y q
 meant_set [] xs k y q a w h = absurd (omega arith)
 meant_set (n ∷ ns) [] k y q a w h = absurd w
 meant_set (n ∷ ns) (x ∷ xs) zero y q a w h =
-    here_set (same_name n.0 q) x y (entry_of (named ns xs) q)
-    ∙ ap (λ m. cond (same_name m q) y (value_or_zero (cond (same_name n.0 q) (Some x) (entry_of (named ns xs) q)))) (sym (named_as n.0 n.1))
+    here_set (same_name n.0 q) x y (entry_of (values_by_name ns xs) q)
+    ∙ ap (λ m. cond (same_name m q) y (value_or_zero (cond (same_name n.0 q) (Some x) (entry_of (values_by_name ns xs) q)))) (sym (named_as n.0 n.1))
 meant_set (n ∷ ns) (x ∷ xs) (suc k) y q a w h =
     let c = called_at (settables_by ns) k in
     let differs : same_name n.0 c ≡ false =
     ap (λ m. same_name m c) (sym (named_as n.0 n.1)) ∙ first_apart (settable n.0 n.1) (settables_by ns) k a (omega arith) in
-    there_set (same_name n.0 q) (same_name c q) x y (entry_of (named ns (set xs k y)) q) (entry_of (named ns xs) q) (not_same n.0 c q differs)
+    there_set (same_name n.0 q) (same_name c q) x y (entry_of (values_by_name ns (set xs k y)) q) (entry_of (values_by_name ns xs) q) (not_same n.0 c q differs)
     (meant_set ns xs k y q (right_part _ _ a) w.1 (omega arith))
 
 found_value : (t : Bool) (x : Value) (o : Option Value) → t ≡ true → value_or_zero (cond t (Some x) o) ≡ x
@@ -104,7 +104,7 @@ other_value false x o h = refl
 
 -- the value under the name at a place
 pub meant_at : (ns : Entries Sort) (xs : List Value) (k : ℕ) → are_apart (settables_by ns) ≡ true → k < length (settables_by ns)
-    → valuation_of (named ns xs) (called_at (settables_by ns) k) ≡ get_or xs k (number 0)
+    → valuation_of (values_by_name ns xs) (called_at (settables_by ns) k) ≡ get_or xs k (number 0)
 meant_at [] xs k a h = absurd (omega arith)
 meant_at (n ∷ ns) [] k a h = refl
 meant_at (n ∷ ns) (x ∷ xs) zero a h =
@@ -116,17 +116,17 @@ meant_at (n ∷ ns) (x ∷ xs) (suc k) a h =
     other_value _ x _ differs ∙ meant_at ns xs k (right_part _ _ a) (omega arith)
 
 one_meant : (ns : Entries Sort) (xs : List Value) (s : Set) → are_apart (settables_by ns) ≡ true → AreOfSorts ns xs → is_right (settables_by ns) s ≡ true
-    → valuation_of (named ns (with_set xs s)) ≡ with_value (valuation_of (named ns xs)) (called_at (settables_by ns) s.place) (with_word (valuation_of (named ns xs) (called_at (settables_by ns) s.place)) s.word s.value)
+    → valuation_of (values_by_name ns (with_set xs s)) ≡ with_value (valuation_of (values_by_name ns xs)) (called_at (settables_by ns) s.place) (with_word (valuation_of (values_by_name ns xs) (called_at (settables_by ns) s.place)) s.word s.value)
 one_meant ns xs s a w h =
-    let v = valuation_of (named ns xs) in
+    let v = valuation_of (values_by_name ns xs) in
     let c = called_at (settables_by ns) s.place in
     let inside = suits_inside (settables_by ns) s.place s h in
-    let made : valuation_of (named ns (with_set xs s)) ≡ with_value v c (with_word (get_or xs s.place (number 0)) s.word s.value) =
+    let made : valuation_of (values_by_name ns (with_set xs s)) ≡ with_value v c (with_word (get_or xs s.place (number 0)) s.word s.value) =
     fun_ext (λ q. meant_set ns xs s.place (with_word (get_or xs s.place (number 0)) s.word s.value) q a w inside) in
     made ∙ ap (λ x. with_value v c (with_word x s.word s.value)) (sym (meant_at ns xs s.place a inside))
 
 all_meant : (ns : Entries Sort) (xs : List Value) (sets : List Set) → are_apart (settables_by ns) ≡ true → AreOfSorts ns xs → are_right (settables_by ns) sets ≡ true
-    → valuation_of (named ns (with_all xs sets)) ≡ with_sets (valuation_of (named ns xs)) (sets_view (settables_by ns) sets)
+    → valuation_of (values_by_name ns (with_all xs sets)) ≡ with_sets (valuation_of (values_by_name ns xs)) (sets_view (settables_by ns) sets)
 all_meant ns xs [] a w h = refl
 all_meant ns xs (s ∷ sets) a w h =
     let here = left_part (is_right (settables_by ns) s) (are_right (settables_by ns) sets) h in
@@ -145,19 +145,19 @@ begun_same : (s : Sort) (i : Option Value) → value_or i (zero_of s) ≡ initia
 begun_same s None = zero_same s
 begun_same s (Some x) = refl
 
-initial_at : (ss : List StateDeclaration) (n : Name) → valuation_of (named (sorts_of_states ss) (initial_values ss)) n ≡ first_value (state_named ss n)
+initial_at : (ss : List StateDeclaration) (n : Name) → valuation_of (values_by_name (sorts_of_states ss) (initial_values ss)) n ≡ first_value (state_named ss n)
 initial_at [] n = refl
 initial_at (s ∷ ss) n = shown (same_name s.state_name n) (initial_at ss n) where
-  shown : (t : Bool) → value_or_zero (entry_of (named (sorts_of_states ss) (initial_values ss)) n) ≡ first_value (state_named ss n)
-      → value_or_zero (cond t (Some (value_or s.init (zero_of s.sort))) (entry_of (named (sorts_of_states ss) (initial_values ss)) n)) ≡ first_value (cond t (Some s) (state_named ss n))
+  shown : (t : Bool) → value_or_zero (entry_of (values_by_name (sorts_of_states ss) (initial_values ss)) n) ≡ first_value (state_named ss n)
+      → value_or_zero (cond t (Some (value_or s.init (zero_of s.sort))) (entry_of (values_by_name (sorts_of_states ss) (initial_values ss)) n)) ≡ first_value (cond t (Some s) (state_named ss n))
   shown true h = begun_same s.sort s.init
   shown false h = h
 
-zero_at : (is : List InputDeclaration) (n : Name) → valuation_of (named (sorts_of_inputs is) (zero_values is)) n ≡ zero_input is n
+zero_at : (is : List InputDeclaration) (n : Name) → valuation_of (values_by_name (sorts_of_inputs is) (zero_values is)) n ≡ zero_input is n
 zero_at [] n = refl
 zero_at (i ∷ is) n = shown (same_name i.input_name n) (zero_at is n) where
-  shown : (t : Bool) → value_or_zero (entry_of (named (sorts_of_inputs is) (zero_values is)) n) ≡ zero_input is n
-      → value_or_zero (cond t (Some (zero_value i.sort)) (entry_of (named (sorts_of_inputs is) (zero_values is)) n)) ≡ cond t (zero_value i.sort) (zero_input is n)
+  shown : (t : Bool) → value_or_zero (entry_of (values_by_name (sorts_of_inputs is) (zero_values is)) n) ≡ zero_input is n
+      → value_or_zero (cond t (Some (zero_value i.sort)) (entry_of (values_by_name (sorts_of_inputs is) (zero_values is)) n)) ≡ cond t (zero_value i.sort) (zero_input is n)
   shown true h = refl
   shown false h = h
 
@@ -183,8 +183,8 @@ pub state_meant : (m : Model) (xs : List Value) (sets : List Set) → are_apart 
 state_meant m xs sets a e w h =
     let ns = sorts_of_states (states_of m.top) in
     let by = states_by (states_of m.top) in
-    let begun : valuation_of (named ns xs) ≡ initial_state m =
-    ap (λ ys. valuation_of (named ns ys)) e ∙ fun_ext (λ n. initial_at (states_of m.top) n) in
+    let begun : valuation_of (values_by_name ns xs) ≡ initial_state m =
+    ap (λ ys. valuation_of (values_by_name ns ys)) e ∙ fun_ext (λ n. initial_at (states_of m.top) n) in
     all_meant ns xs sets (subst (λ ss. are_apart ss ≡ true) by a) w (subst (λ ss. are_right ss sets ≡ true) by h)
     ∙ (ap (λ v. with_sets v (sets_view (settables_by ns) sets)) begun
     ∙ ap (λ ss. with_sets (initial_state m) (sets_view ss sets)) (sym by))
@@ -198,7 +198,7 @@ pub inputs_meant : (m : Model) (sets : List Set) → are_apart (settables_of m).
 inputs_meant m sets a h =
     let ns = sorts_of_inputs m.inputs in
     let by = inputs_by m.inputs in
-    let begun : valuation_of (named ns (zero_values m.inputs)) ≡ zero_input m.inputs = fun_ext (λ n. zero_at m.inputs n) in
+    let begun : valuation_of (values_by_name ns (zero_values m.inputs)) ≡ zero_input m.inputs = fun_ext (λ n. zero_at m.inputs n) in
     all_meant ns (zero_values m.inputs) sets (subst (λ ss. are_apart ss ≡ true) by a) (zeros_sorted m.inputs) (subst (λ ss. are_right ss sets ≡ true) by h)
     ∙ (ap (λ v. with_sets v (sets_view (settables_by ns) sets)) begun
     ∙ ap (λ ss. with_sets (zero_input m.inputs) (sets_view ss sets)) (sym by))

@@ -4,7 +4,7 @@ use Rattle.std.proofs.lemmas.Bool.{false≢true}
 use Rattle.std.proofs.lemmas.Bool.Decides.{nat_tests}
 use Rattle.std.specs.Prelude.{◌==◌}
 use Rattle.std.proofs.lemmas.List.{take_all, length-drop}
-use Rattle.scripts.specs.Script.{is_space_or_tab, is_return, is_line_feed, words_of, lines_of, without_returns, pieces_at, with_byte, without_empty}
+use Rattle.scripts.specs.Script.{is_space_or_tab, is_return, is_line_end, words_of, lines_of, without_returns, pieces_at, with_byte, without_empty}
 use Rattle.ila_sim.specs.Cuts.{length_before, after_blanks, without_last_return}
 
 words_front : (b : ℕ) (bs : List ℕ) (t : Bool) → is_space_or_tab b ≡ t → words_of bs ≡ words_of (after_blanks bs) → words_of (b ∷ bs) ≡ words_of (cond t (after_blanks bs) (b ∷ bs))
@@ -98,59 +98,59 @@ before_within p (b ∷ bs) = shown (p b) (before_within p bs) where
 
 -- ---- lines
 
-is_feed-return : (b : ℕ) → is_line_feed b ≡ true → is_return b ≡ false
+is_feed-return : (b : ℕ) → is_line_end b ≡ true → is_return b ≡ false
 is_feed-return b e = grind (arith, nat_tests)
 
-feed_first : (b : ℕ) (rest : List ℕ) → is_line_feed b ≡ true → without_returns (b ∷ rest) ≡ b ∷ without_returns rest
+feed_first : (b : ℕ) (rest : List ℕ) → is_line_end b ≡ true → without_returns (b ∷ rest) ≡ b ∷ without_returns rest
 feed_first b [] e = refl
 feed_first b (c ∷ cs) e = rw (is_feed-return b e) refl
 
-kept_first : (a b : ℕ) (rest : List ℕ) → is_line_feed b ≡ false → without_returns (a ∷ b ∷ rest) ≡ a ∷ without_returns (b ∷ rest)
+kept_first : (a b : ℕ) (rest : List ℕ) → is_line_end b ≡ false → without_returns (a ∷ b ∷ rest) ≡ a ∷ without_returns (b ∷ rest)
 kept_first a b rest e = shown (is_return a) where
-  shown : (t : Bool) → cond (t && is_line_feed b) (without_returns (b ∷ rest)) (a ∷ without_returns (b ∷ rest)) ≡ a ∷ without_returns (b ∷ rest)
+  shown : (t : Bool) → cond (t && is_line_end b) (without_returns (b ∷ rest)) (a ∷ without_returns (b ∷ rest)) ≡ a ∷ without_returns (b ∷ rest)
   shown true = rw e refl
   shown false = refl
 
 -- a text with no further line
-pub one_line : (text : List ℕ) → length_before is_line_feed text ≡ length text → lines_of text ≡ text ∷ []
+pub one_line : (text : List ℕ) → length_before is_line_end text ≡ length text → lines_of text ≡ text ∷ []
 unfolding length_before
 one_line [] e = refl
-one_line (a ∷ []) e = shown (is_line_feed a) refl e where
-  shown : (t : Bool) → is_line_feed a ≡ t → ◌≡◌ {A = ℕ} (cond t 0 1) 1 → lines_of (a ∷ []) ≡ (a ∷ []) ∷ []
+one_line (a ∷ []) e = shown (is_line_end a) refl e where
+  shown : (t : Bool) → is_line_end a ≡ t → ◌≡◌ {A = ℕ} (cond t 0 1) 1 → lines_of (a ∷ []) ≡ (a ∷ []) ∷ []
   shown true k h = absurd (omega (arith, h))
   shown false k h = rw k refl
-one_line (a ∷ b ∷ rest) e = shown (is_line_feed a) (is_line_feed b) refl refl e (one_line (b ∷ rest)) where
-  shown : (t u : Bool) → is_line_feed a ≡ t → is_line_feed b ≡ u → cond t 0 (suc (cond u 0 (suc (length_before is_line_feed rest)))) ≡ suc (suc (length rest))
-      → (cond u 0 (suc (length_before is_line_feed rest)) ≡ suc (length rest) → lines_of (b ∷ rest) ≡ (b ∷ rest) ∷ []) → lines_of (a ∷ b ∷ rest) ≡ (a ∷ b ∷ rest) ∷ []
+one_line (a ∷ b ∷ rest) e = shown (is_line_end a) (is_line_end b) refl refl e (one_line (b ∷ rest)) where
+  shown : (t u : Bool) → is_line_end a ≡ t → is_line_end b ≡ u → cond t 0 (suc (cond u 0 (suc (length_before is_line_end rest)))) ≡ suc (suc (length rest))
+      → (cond u 0 (suc (length_before is_line_end rest)) ≡ suc (length rest) → lines_of (b ∷ rest) ≡ (b ∷ rest) ∷ []) → lines_of (a ∷ b ∷ rest) ≡ (a ∷ b ∷ rest) ∷ []
   shown true u j k h f = absurd (omega (arith, h))
   shown false true j k h f = absurd (omega (arith, h))
   shown false false j k h f =
-      ap (pieces_at is_line_feed) (kept_first a b rest k)
+      ap (pieces_at is_line_end) (kept_first a b rest k)
       ∙ (ap (λ t. cond t ([] ∷ lines_of (b ∷ rest)) (with_byte a (lines_of (b ∷ rest)))) j
       ∙ ap (with_byte a) (f (omega (arith, h))))
 
 -- the first line of a text that has a further one
-pub further_line : (text : List ℕ) (n : ℕ) → n ≡ length_before is_line_feed text → n < length text
+pub further_line : (text : List ℕ) (n : ℕ) → n ≡ length_before is_line_end text → n < length text
     → lines_of text ≡ without_last_return (take n text) ∷ lines_of (drop (suc n) text)
 unfolding length_before without_last_return
 further_line [] n e h = absurd (omega (arith, h))
-further_line (a ∷ []) n e h = shown (is_line_feed a) refl e where
-  shown : (t : Bool) → is_line_feed a ≡ t → ◌≡◌ {A = ℕ} n (cond t 0 1) → lines_of (a ∷ []) ≡ without_last_return (take n (a ∷ [])) ∷ lines_of (drop (suc n) (a ∷ []))
+further_line (a ∷ []) n e h = shown (is_line_end a) refl e where
+  shown : (t : Bool) → is_line_end a ≡ t → ◌≡◌ {A = ℕ} n (cond t 0 1) → lines_of (a ∷ []) ≡ without_last_return (take n (a ∷ [])) ∷ lines_of (drop (suc n) (a ∷ []))
   shown true k g = rw (g, k) refl
   shown false k g = absurd (omega (arith, g, h))
-further_line (a ∷ b ∷ rest) n e h = shown (is_line_feed a) (is_line_feed b) refl refl e (further_line (b ∷ rest)) where
-  shown : (t u : Bool) → is_line_feed a ≡ t → is_line_feed b ≡ u → n ≡ cond t 0 (suc (cond u 0 (suc (length_before is_line_feed rest))))
-      → ((k : ℕ) → k ≡ cond u 0 (suc (length_before is_line_feed rest)) → k < suc (length rest) → lines_of (b ∷ rest) ≡ without_last_return (take k (b ∷ rest)) ∷ lines_of (drop (suc k) (b ∷ rest)))
+further_line (a ∷ b ∷ rest) n e h = shown (is_line_end a) (is_line_end b) refl refl e (further_line (b ∷ rest)) where
+  shown : (t u : Bool) → is_line_end a ≡ t → is_line_end b ≡ u → n ≡ cond t 0 (suc (cond u 0 (suc (length_before is_line_end rest))))
+      → ((k : ℕ) → k ≡ cond u 0 (suc (length_before is_line_end rest)) → k < suc (length rest) → lines_of (b ∷ rest) ≡ without_last_return (take k (b ∷ rest)) ∷ lines_of (drop (suc k) (b ∷ rest)))
       → lines_of (a ∷ b ∷ rest) ≡ without_last_return (take n (a ∷ b ∷ rest)) ∷ lines_of (drop (suc n) (a ∷ b ∷ rest))
-  shown true u j k g f = rw (g, ap (pieces_at is_line_feed) (feed_first a (b ∷ rest) j), j) refl
+  shown true u j k g f = rw (g, ap (pieces_at is_line_end) (feed_first a (b ∷ rest) j), j) refl
   shown false true j k g f = rw g (ends (is_return a) refl) where
     ends : (r : Bool) → is_return a ≡ r → lines_of (a ∷ b ∷ rest) ≡ cond (is_return a) [] (a ∷ []) ∷ lines_of rest
-    ends true m = rw (m, k, ap (pieces_at is_line_feed) (feed_first b rest k), k) refl
-    ends false m = rw (m, j, ap (pieces_at is_line_feed) (feed_first b rest k), k) refl
+    ends true m = rw (m, k, ap (pieces_at is_line_end) (feed_first b rest k), k) refl
+    ends false m = rw (m, j, ap (pieces_at is_line_end) (feed_first b rest k), k) refl
   shown false false j k g f =
-      let m : ℕ = length_before is_line_feed rest in
+      let m : ℕ = length_before is_line_end rest in
       let l : n ≡ suc (suc m) = g in
-      rw l (ap (pieces_at is_line_feed) (kept_first a b rest k)
+      rw l (ap (pieces_at is_line_end) (kept_first a b rest k)
       ∙ (ap (λ t. cond t ([] ∷ lines_of (b ∷ rest)) (with_byte a (lines_of (b ∷ rest)))) j
       ∙ ap (with_byte a) (f (suc m) refl (omega (arith, h, l)))))
 

@@ -1,7 +1,7 @@
 //! Lines and words of a text, and its parts before and behind a byte.
 
 ghost use Rattle.std.specs.Prelude.{◌≡◌, ◌<◌, ◌≤◌, ◌∷◌, [], length, option_map, IfSome};
-ghost use Rattle.scripts.specs.Script.{is_space_or_tab, is_line_feed, is_return, words_of, lines_of, is_skipped, at_last, without_skipped};
+ghost use Rattle.scripts.specs.Script.{is_space_or_tab, is_line_end, is_return, words_of, lines_of, is_skipped, at_last, without_skipped};
 ghost use Rattle.std.specs.List.{list_any};
 ghost use Rattle.ila_sim.specs.Cuts.{length_before, after_blanks, cut_at, lines_left, room_left, without_last_return, IsNextWord, IsNextKept};
 
@@ -38,7 +38,7 @@ fn word_length(text: &[u8]) -> usize
 
 #[tactic(auto, unfolding(crate::specs::Cuts::length_before))]
 fn line_length(text: &[u8]) -> usize
-    ensures length { result ≡ length_before is_line_feed text.now }
+    ensures length { result ≡ length_before is_line_end text.now }
     ensures within { result ≤ length text.now }
 {
     for (i, byte) in text.iter().enumerate() {

@@ -2,7 +2,7 @@
 
 ghost use Rattle.std.specs.Prelude.{◌≡◌, ◌^◌, ◌*◌, ◌+◌, ◌∷◌, [], Some};
 ghost use Rattle.std.specs.List.{list_all};
-ghost use Rattle.scripts.specs.Script.{is_decimal_digit, is_either_hexadecimal_digit, either_digit_value, with_decimal_digits, with_either_digits, decimal_in, hexadecimal_in, numeral_in};
+ghost use Rattle.scripts.specs.Script.{is_script_digit, is_either_hexadecimal_digit, either_digit_value, with_decimal_digits, with_either_digits, decimal_in, hexadecimal_in, numeral_in};
 ghost use Rattle.ila_sim.specs.Cuts.{below};
 
 /// A decimal number, or a hexadecimal one behind `0x`, where it is below 2^128.
@@ -51,7 +51,7 @@ fn hexadecimal_in(text: &[u8]) -> Option<u128>
 }
 
 fn is_decimal_digit(byte: u8) -> bool
-    ensures { result ≡ is_decimal_digit byte }
+    ensures { result ≡ is_script_digit byte }
 {
     48 <= byte && byte <= 57
 }
@@ -63,7 +63,7 @@ fn is_hexadecimal_digit(byte: u8) -> bool
 }
 
 fn are_decimal_digits(text: &[u8]) -> bool
-    ensures { result ≡ list_all is_decimal_digit text.now }
+    ensures { result ≡ list_all is_script_digit text.now }
 {
     text.iter().all(|byte| is_decimal_digit(*byte))
 }

@@ -7,7 +7,7 @@ use Rattle.wb_values.specs.Value as meaning
 use Rattle.wb_values.specs.Value.{Name, Sort, truth, word, memory, Entries, is_of_sort}
 use Rattle.model_meaning.specs.Model.{StateDeclaration}
 use Rattle.model_files.specs.Written.{WrittenInstruction, instruction, WrittenInstructions, no_instructions, and_then, WrittenMachine, machine, WrittenChild, no_child, child, machines_below, machines_of_child}
-use Rattle.model_files.specs.Scope.{Visible, Scope, with_states, with_definitions, with_fetch, scope_within, terms_below, terms_of_child}
+use Rattle.model_files.specs.Scope.{Visible, MachineScope, with_states, with_definitions, with_fetch, scope_within, terms_below, terms_of_child}
 use Rattle.model_meaning.specs.Term.{is_memory_sort}
 use Rattle.model_files.specs.Rules.{has_state_widths, has_fitting_initial_values, fits_sort, depth_below, depth_of_child, have_step_limits, child_has_step_limits}
 use Rattle.wb_terms.specs.declared.values.Value.{Value}
@@ -154,14 +154,14 @@ around_there [] c ys = refl
 around_there (x ∷ xs) c ys = around_there xs c ys
 
 mutual
-  laid_length : (g : Graph) (scope : Scope) (at : Option ChildId) (k : ℕ) (is : WrittenInstructions) (xs : List Child) → AreLaid g scope at k is xs → length xs ≡ length (machines_below is)
+  laid_length : (g : Graph) (scope : MachineScope) (at : Option ChildId) (k : ℕ) (is : WrittenInstructions) (xs : List Child) → AreLaid g scope at k is xs → length xs ≡ length (machines_below is)
   laid_length g scope at k no_instructions xs l = ap length l
   laid_length g scope at k (and_then (instruction n d u p) is) xs l =
       let a = child_length g scope at k p l.0 l.3 in
       let b = laid_length g scope at (k + length (machines_of_child p)) is l.1 l.4 in
       omega (arith, a, b, ap length l.2, length-append l.0 l.1, length-append (machines_of_child p) (machines_below is))
 
-  child_length : (g : Graph) (scope : Scope) (at : Option ChildId) (k : ℕ) (p : WrittenChild) (xs : List Child) → IsLaidChild g scope at k p xs → length xs ≡ length (machines_of_child p)
+  child_length : (g : Graph) (scope : MachineScope) (at : Option ChildId) (k : ℕ) (p : WrittenChild) (xs : List Child) → IsLaidChild g scope at k p xs → length xs ≡ length (machines_of_child p)
   child_length g scope at k no_child xs l = ap length l
   child_length g scope at k (child steps (machine ss ds f v is)) xs l =
       let a = laid_length g (scope_within scope ss ds) (Some (record { 0 = k })) (suc k) is l.1 l.4 in
@@ -175,7 +175,7 @@ abbrev pub place_of : Option ChildId → Option ℕ
 place_of o = option_map (λ (i : ChildId). i.0) o
 
 -- the links of the instructions
-pub linked_at : (g : Graph) (scope : Scope) (at : Option ChildId) (k : ℕ) (is : WrittenInstructions) (before xs behind cs : List Child) → cs ≡ before ++ (xs ++ behind) → length before ≡ k → AreLaid g scope at k is xs → AreLinkedAt cs (place_of at) k is
+pub linked_at : (g : Graph) (scope : MachineScope) (at : Option ChildId) (k : ℕ) (is : WrittenInstructions) (before xs behind cs : List Child) → cs ≡ before ++ (xs ++ behind) → length before ≡ k → AreLaid g scope at k is xs → AreLinkedAt cs (place_of at) k is
 linked_at g scope at k no_instructions before xs behind cs e l a = tt
 linked_at g scope at k (and_then (instruction n d u p) is) before xs behind cs e l a =
     let ys = a.0 in
@@ -233,7 +233,7 @@ nested_child cs l k b h = nested_to cs l 3 (Some k) b h
 
 mutual
   -- the children of a machine that stands at a place, within so many levels
-  pub children_at : (p : Parts) (scope : Scope) (at : Option ChildId) (level k : ℕ) (is : WrittenInstructions) (names : Entries Visible) (before xs behind : List Child)
+  pub children_at : (p : Parts) (scope : MachineScope) (at : Option ChildId) (level k : ℕ) (is : WrittenInstructions) (names : Entries Visible) (before xs behind : List Child)
       → IsTabled p → p.children.items ≡ before ++ (xs ++ behind) → length before ≡ k → AreLaid p.terms scope at k is xs → AreGood is
       → AreKnownAt p (place_of at) scope.names → AreStatesAt p (place_of at) scope.states → is_nested p.children.items level (place_of at) ≡ true → level + depth_below is ≤ 3
       → are_right (terms_below scope names is) ≡ true → are_children p k xs ≡ true
@@ -249,7 +249,7 @@ mutual
       let rest = children_at p scope at level (k + length (machines_of_child c)) is names (before ++ ys) zs behind t (cut ∙ sym (append_assoc before ys (zs ++ behind))) next a.4 g.1 known states nest (rest_deep (depth_of_child c) (depth_below is) level deep) parts.1 in
       ap (are_children p k) a.2 ∙ children_append p k ys zs own (subst (λ j. are_children p (k + j) zs ≡ true) (sym many) rest)
 
-  child_at : (p : Parts) (scope : Scope) (at : Option ChildId) (level k : ℕ) (w : WrittenChild) (before xs behind : List Child)
+  child_at : (p : Parts) (scope : MachineScope) (at : Option ChildId) (level k : ℕ) (w : WrittenChild) (before xs behind : List Child)
       → IsTabled p → p.children.items ≡ before ++ (xs ++ behind) → length before ≡ k → IsLaidChild p.terms scope at k w xs → IsGoodChild w
       → AreKnownAt p (place_of at) scope.names → AreStatesAt p (place_of at) scope.states → is_nested p.children.items level (place_of at) ≡ true → level + depth_of_child w ≤ 3
       → are_right (terms_of_child scope w) ≡ true → are_children p k xs ≡ true

@@ -4,7 +4,7 @@ use Rattle.std.specs.BTreeMap.{BTreeMap}
 use Rattle.std.proofs.lemmas.Bool.{false≢true}
 use Rattle.wb_values.specs.Value.{Name}
 use Rattle.model_files.specs.Written.{WrittenModel, states_in}
-use Rattle.model_meaning.specs.Among.{is_among, has_twice}
+use Rattle.model_meaning.specs.Among.{is_name_in, has_twice}
 use Rattle.model_files.specs.Names.{all_data_names}
 use Rattle.wb_terms.specs.declared.nodes.TermId.{TermId}
 use Rattle.ila_build.specs.Standing.{IsFresh, under_name}
@@ -19,7 +19,7 @@ use Rattle.ila_whole.proofs.Sound.{file_names}
 fresh_of : (t : BTreeMap (Bor (List ℕ)) TermId) (ns : List Name) → ((q : Name) → under_name t q ≡ None) → has_twice ns ≡ false → IsFresh t ns
 fresh_of t [] e h = tt
 fresh_of t (n ∷ ns) e h =
-    let parts = or_parts (is_among n ns) (has_twice ns) h in
+    let parts = or_parts (is_name_in n ns) (has_twice ns) h in
     (e n, parts.0, fresh_of t ns e parts.1)
 
 or_true : (a b : Bool) → a ≡ true → (a || b) ≡ true
@@ -31,11 +31,11 @@ or_second true b h = refl
 or_second false b h = h
 
 -- the front of what stands behind is apart from what stands before
-apart_front : (t : BTreeMap (Bor (List ℕ)) TermId) (is ss rest : List Name) (q : Name) → IsFresh t (is ++ (ss ++ rest)) → is_among q is ≡ true → is_among q ss ≡ false
-apart_front t is ss rest q f h = by_test (is_among q ss) refl where
-  by_test : (b : Bool) → is_among q ss ≡ b → b ≡ false
+apart_front : (t : BTreeMap (Bor (List ℕ)) TermId) (is ss rest : List Name) (q : Name) → IsFresh t (is ++ (ss ++ rest)) → is_name_in q is ≡ true → is_name_in q ss ≡ false
+apart_front t is ss rest q f h = by_test (is_name_in q ss) refl where
+  by_test : (b : Bool) → is_name_in q ss ≡ b → b ≡ false
   by_test false e = refl
-  by_test true e = absurd (false≢true (sym (apart t is (ss ++ rest) q f (among-append q ss rest ∙ or_true (is_among q ss) (is_among q rest) e)) ∙ h))
+  by_test true e = absurd (false≢true (sym (apart t is (ss ++ rest) q f (among-append q ss rest ∙ or_true (is_name_in q ss) (is_name_in q rest) e)) ∙ h))
 
 pub file_fresh : (t : BTreeMap (Bor (List ℕ)) TermId) (m : WrittenModel) → ((q : Name) → under_name t q ≡ None) → has_twice (all_data_names m) ≡ false
     → IsFresh t (entry_names (map input_entry m.inputs) ++ (entry_names (map state_entry (states_in m.top)) ++ (defined_names (definitions_in m.top) ++ names_below (own_instructions m.top))))
@@ -54,4 +54,4 @@ pub rest_fresh : (t u v : BTreeMap (Bor (List ℕ)) TermId) (is ss rest : List N
 unfolding IsBesides
 rest_fresh t u v is ss rest f b c =
     fresh_moved u v rest (fresh_behind t u ss rest (fresh_rest t is (ss ++ rest) f) b)
-    (λ q h. c q (apart t is (ss ++ rest) q f (among-append q ss rest ∙ or_second (is_among q ss) (is_among q rest) h)))
+    (λ q h. c q (apart t is (ss ++ rest) q f (among-append q ss rest ∙ or_second (is_name_in q ss) (is_name_in q rest) h)))

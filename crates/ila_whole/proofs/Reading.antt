@@ -6,7 +6,7 @@ use Rattle.wb_values.specs.Value.{Name, Sort, Entries}
 use Rattle.model_meaning.specs.Model as pure
 use Rattle.model_meaning.specs.Model.{StateDeclaration, InputDeclaration, Model, Machine}
 use Rattle.model_files.specs.Written.{WrittenMachine, machine, WrittenModel, states_in}
-use Rattle.model_files.specs.Scope.{Visible, Scope, declared, term_of, with_inputs, with_states, with_fetch, scope_within, terms_in}
+use Rattle.model_files.specs.Scope.{Visible, MachineScope, declared, term_of, with_inputs, with_states, with_fetch, scope_within, terms_in}
 use Rattle.model_files.specs.Rules.{depth_of}
 use Rattle.model_files.specs.Meaning as file
 use Rattle.model_files.specs.Meaning.{broken_rule}
@@ -91,8 +91,8 @@ top_read : (g h k : Graph) (t u v : BTreeMap (Bor (List ℕ)) TermId) (links : L
     → pure.machine (declared_states k.names values) (tree k valid.0) (instructions_of k (program_of k cs nesting) xs) ≡ file.machine_of (record { names = with_inputs [] ins; states = [] }) w
 unfolding IsMachinePut nesting
 top_read g h k t u v links cs ins (machine ss es f e is) valid xs values more right deep table names grown put el inside inits all =
-    let outer : Scope = record { names = with_inputs [] ins; states = [] } in
-    let inner : Scope = scope_within outer ss es in
+    let outer : MachineScope = record { names = with_inputs [] ins; states = [] } in
+    let inner : MachineScope = scope_within outer ss es in
     let parts = machine_right outer ss es f e is right in
     let places = places_from 0 ss in
     let at : StandAt g 0 places ss = stand_top g ss (map input_entry ins) names in

@@ -5,7 +5,7 @@ use Rattle.model_meaning.specs.Model.{StateDeclaration, InputDeclaration}
 use Rattle.model_files.specs.Written.{WrittenMachine, machine, WrittenModel, states_in}
 use Rattle.model_meaning.specs.Among.{has_twice}
 use Rattle.model_files.specs.Names.{all_data_names}
-use Rattle.model_files.specs.Scope.{Scope, with_inputs, with_states, with_definitions, with_fetch, terms_in}
+use Rattle.model_files.specs.Scope.{MachineScope, with_inputs, with_states, with_definitions, with_fetch, terms_in}
 use Rattle.wb_terms.specs.declared.nodes.TermId.{TermId}
 use Rattle.wb_terms.specs.declared.store.PutStop.{PutStop}
 use Rattle.wb_terms.specs.Graph.{Graph}
@@ -72,7 +72,7 @@ below_due : (g h : Graph) (t u : BTreeMap (Bor (List ℕ)) TermId) (links : List
     → IsSound ins w → IsTable g t → g.names ≡ map state_entry (states_in w) ++ map input_entry ins → IsGrown g h → IsMachinePut g t h u links w valid xs → IsFresh u (names_below (own_instructions w)) → AreBelowDue h u (own_instructions w)
 unfolding IsMachinePut
 below_due g h t u links ins (machine ss ds f v is) valid xs sound table names grown put fresh =
-    let outer : Scope = record { names = with_inputs [] ins; states = [] } in
+    let outer : MachineScope = record { names = with_inputs [] ins; states = [] } in
     let parts = machine_right outer ss ds f v is sound.right in
     let at = stand_top g ss (map input_entry ins) names in
     let own = put (with_states outer.names ss) (places_from 0 ss) ss (knows_top g t ss ins table names) at parts.0 in

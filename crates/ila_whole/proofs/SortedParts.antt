@@ -5,7 +5,7 @@ use Rattle.std.proofs.lemmas.Bool.{false≢true}
 use Rattle.std.specs.BTreeMap.{BTreeMap}
 use Rattle.model_meaning.specs.Model.{InputDeclaration}
 use Rattle.model_files.specs.Written.{WrittenMachine, machine, WrittenModel, states_in}
-use Rattle.model_files.specs.Scope.{Scope, with_inputs, with_states, with_definitions, with_fetch, scope_within}
+use Rattle.model_files.specs.Scope.{MachineScope, with_inputs, with_states, with_definitions, with_fetch, scope_within}
 use Rattle.wb_terms.specs.declared.nodes.TermId.{TermId}
 use Rattle.wb_terms.specs.Environment.{as_value}
 use Rattle.wb_terms.specs.Graph.{Graph, HasDistinctNames}
@@ -34,7 +34,7 @@ sorted_from : (g h : Graph) (t u v : BTreeMap (Bor (List ℕ)) TermId) (links : 
 unfolding IsMachinePut
 sorted_from g h t u v links ins (machine ss ds f e is) p sound table names grown put el inside laid count inits distinct =
     let w = machine ss ds f e is in
-    let outer : Scope = record { names = with_inputs [] ins; states = [] } in
+    let outer : MachineScope = record { names = with_inputs [] ins; states = [] } in
     let parts = machine_right outer ss ds f e is sound.right in
     let at = stand_top g ss (map input_entry ins) names in
     let at' = stand_moved g h 0 (places_from 0 ss) ss grown.names at in

@@ -8,7 +8,7 @@ use Rattle.model_meaning.specs.Model.{StateDeclaration, InputDeclaration}
 use Rattle.model_files.specs.Written.{instruction, WrittenInstructions, no_instructions, and_then, WrittenMachine, machine, WrittenChild, no_child, child, WrittenModel, states_in, machines_in}
 use Rattle.model_meaning.specs.Among.{has_twice}
 use Rattle.model_files.specs.Names.{data_names, joined, all_data_names, all_instruction_names}
-use Rattle.model_files.specs.Scope.{Placed, all_terms}
+use Rattle.model_files.specs.Scope.{PlacedTerm, all_terms}
 use Rattle.model_meaning.specs.Term.{is_memory_sort}
 use Rattle.model_files.specs.Rules.{has_state_widths, has_fitting_initial_values, has_fitting_constants}
 use Rattle.model_files.specs.Meaning.{broken_rule}
@@ -28,7 +28,7 @@ sound m h shape =
     let u = unbroken m h in
     let widths = and_parts (list_all (λ (i : InputDeclaration). is_sort i.sort) m.inputs) _ (not_false _ u.widths) in
     let machines = and_parts (list_all has_state_widths (machines_in m.top)) _ widths.1 in
-    let fitting = and_parts (list_all has_fitting_initial_values (machines_in m.top)) (list_all (λ (p : Placed). has_fitting_constants p.written) (all_terms m)) (not_false _ u.fitting) in
+    let fitting = and_parts (list_all has_fitting_initial_values (machines_in m.top)) (list_all (λ (p : PlacedTerm). has_fitting_constants p.written) (all_terms m)) (not_false _ u.fitting) in
     let a = and_parts (list_all is_plain_input m.inputs) _ shape in
     let b = and_parts (list_all is_top_state (states_in m.top)) (list_all has_private_states (machines_inside m.top)) a.1 in
     record {

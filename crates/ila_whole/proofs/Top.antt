@@ -8,7 +8,7 @@ use Rattle.wb_values.specs.Value as meaning
 use Rattle.wb_values.specs.Value.{Sort, truth, word, memory, Entries}
 use Rattle.model_meaning.specs.Model.{StateDeclaration, InputDeclaration}
 use Rattle.model_files.specs.Written.{WrittenMachine, machine, states_in, machines_in}
-use Rattle.model_files.specs.Scope.{Scope, with_inputs, with_states, with_definitions, with_fetch, scope_within, terms_in}
+use Rattle.model_files.specs.Scope.{MachineScope, with_inputs, with_states, with_definitions, with_fetch, scope_within, terms_in}
 use Rattle.model_meaning.specs.Term.{is_memory_sort}
 use Rattle.model_files.specs.Rules.{has_state_widths, has_fitting_initial_values, fits_sort, depth_of, depth_below, has_step_limits}
 use Rattle.wb_terms.specs.declared.values.Value.{Value}
@@ -106,7 +106,7 @@ pub record IsWhole (p : Parts) (ins : List InputDeclaration) (m : WrittenMachine
   pub distinct : HasDistinctNames p.terms.names
   pub placed : are_placed (length (map state_entry (states_in m) ++ map input_entry ins)) (length p.terms.names) p.children.items ≡ true
 
-abbrev pub inner_of : List InputDeclaration → WrittenMachine → Scope
+abbrev pub inner_of : List InputDeclaration → WrittenMachine → MachineScope
 inner_of ins (machine ss ds f v is) = scope_within (record { names = with_inputs [] ins; states = [] }) ss ds
 
 -- what the rules and the shape say of it
@@ -138,7 +138,7 @@ well_sorted p ins (machine ss ds f v is) w s laid =
     let own_homed = homed_front p Anywhere 0 (tops p) (map state_entry ss) (map input_entry ins) homed in
     let any : places.Scope = Anywhere in
     let cut = top_cut p (length (map state_entry ss)) (length (map input_entry ins)) (omega (arith, many, inputs_many, w.inputs)) in
-    let outer : Scope = record { names = with_inputs [] ins; states = [] } in
+    let outer : MachineScope = record { names = with_inputs [] ins; states = [] } in
     let parts = machine_right outer ss ds f v is s.right in
     let known = known_states p None Anywhere 0 (tops p) outer.names ss refl own_homed (known_inputs p None Anywhere 0 (tops p) [] ins refl (homed_rest p Anywhere 0 (tops p) (map state_entry ss) (map input_entry ins) homed) (none_known p None)) in
     let inside = known_definitions p None (with_states outer.names ss) ds known parts.0.definitions in

@@ -3,7 +3,7 @@ use Rattle.std.proofs.Common.{◌≡◌, ◌≤◌, Bool, true, false, cond, not
 use Rattle.std.specs.List.{list_all, list_any}
 use Rattle.std.proofs.lemmas.Bool.{false≢true, and_parts, ltb-false}
 use Rattle.model_files.specs.Written.{WrittenModel}
-use Rattle.model_files.specs.Scope.{Placed, written_sort, all_terms}
+use Rattle.model_files.specs.Scope.{PlacedTerm, written_sort, all_terms}
 use Rattle.model_files.specs.Rules.{has_bad_name, has_duplicate_name, has_unknown_name, has_bad_width, has_bad_sort, has_bad_number, has_memory_copy, has_too_deep_child, has_bad_steps, has_fitting_constants, is_unknown_at, takes_sort, depth_of}
 use Rattle.model_files.specs.Meaning.{ModelRule, BadName, DuplicateName, UnknownName, BadWidth, BadSort, BadNumber, MemoryCopy, TooDeepChild, BadSteps, broken_rule}
 use Rattle.ila_build.specs.Knowing.{is_right, are_right}
@@ -52,7 +52,7 @@ both : (a b : Bool) → a ≡ true → b ≡ true → (a && b) ≡ true
 both false b p q = absurd (false≢true p)
 both true b p q = q
 
-right_all : (ps : List Placed) → list_any is_unknown_at ps ≡ false → list_all (λ p. takes_sort p.place (written_sort p.names p.written)) ps ≡ true → list_all (λ p. has_fitting_constants p.written) ps ≡ true → are_right ps ≡ true
+right_all : (ps : List PlacedTerm) → list_any is_unknown_at ps ≡ false → list_all (λ p. takes_sort p.place (written_sort p.names p.written)) ps ≡ true → list_all (λ p. has_fitting_constants p.written) ps ≡ true → are_right ps ≡ true
 unfolding is_right are_right
 right_all [] u s f = refl
 right_all (p ∷ ps) u s f =
@@ -65,7 +65,7 @@ right_all (p ∷ ps) u s f =
 pub all_right : (m : WrittenModel) → broken_rule m ≡ None → are_right (all_terms m) ≡ true
 all_right m h =
     let u = unbroken m h in
-    right_all (all_terms m) u.known (not_false _ u.sorted) (and_parts _ (list_all (λ (p : Placed). has_fitting_constants p.written) (all_terms m)) (not_false _ u.fitting)).1
+    right_all (all_terms m) u.known (not_false _ u.sorted) (and_parts _ (list_all (λ (p : PlacedTerm). has_fitting_constants p.written) (all_terms m)) (not_false _ u.fitting)).1
 
 -- Children nest at most three deep.
 pub not_too_deep : (m : WrittenModel) → broken_rule m ≡ None → depth_of m.top ≤ 3

@@ -9,9 +9,9 @@ use Rattle.wb_values.specs.Value.{Name, same_name, Sort, truth, word, memory, En
 use Rattle.model_meaning.specs.Term.{same_sort, sort_of}
 use Rattle.model_meaning.specs.Model.{StateDeclaration, InputDeclaration, state_named}
 use Rattle.model_files.specs.Written.{WrittenTerm, WrittenInstruction, instruction, WrittenInstructions, no_instructions, and_then, WrittenMachine, machine, WrittenChild, no_child, child, machines_of_instruction}
-use Rattle.model_files.specs.Scope.{Visible, Place, of_definition, of_fetch, of_condition, of_update, placed, declared, defined, term_of, written_sort, with_inputs, with_states, with_definitions, with_fetch, placed_definitions, placed_fetch, placed_updates}
+use Rattle.model_files.specs.Scope.{Visible, TermPlace, of_definition, of_fetch, of_condition, of_update, placed, declared, defined, term_of, written_sort, with_inputs, with_states, with_definitions, with_fetch, placed_definitions, placed_fetch, placed_updates}
 use Rattle.model_files.specs.Rules.{uses_unknown_name, updates_no_state, takes_sort}
-use Rattle.model_files.specs.Meaning.{with_update, updates_of}
+use Rattle.model_files.specs.Meaning.{with_own_update, updates_for_states}
 use Rattle.wb_terms.specs.declared.nodes.TermId.{TermId}
 use Rattle.wb_terms.specs.Graph.{Graph, tree, HasDistinctNames}
 use Rattle.ila_model.specs.declared.parts.Update.{Update}
@@ -65,7 +65,7 @@ known_inputs p at s low high names (x ∷ is) r h k =
     known_inputs p at s low high ((x.input_name, declared x.input_name x.sort) ∷ names) is r h.2 (known_more p at names x.input_name (declared x.input_name x.sort) k (ap (may_read p.children.items at) h.0 ∙ r) refl)
 
 -- a term that no rule refuses has its written sort, which its place takes
-pub right_sort : (p : Parts) (at : Option ℕ) (names : Entries Visible) (e : WrittenTerm) (w : Place) → AreKnownAt p at names → is_right (placed names e w) ≡ true → (sort_of (term_of names e) ≡ written_sort names e) × (takes_sort w (sort_of (term_of names e)) ≡ true)
+pub right_sort : (p : Parts) (at : Option ℕ) (names : Entries Visible) (e : WrittenTerm) (w : TermPlace) → AreKnownAt p at names → is_right (placed names e w) ≡ true → (sort_of (term_of names e) ≡ written_sort names e) × (takes_sort w (sort_of (term_of names e)) ≡ true)
 unfolding is_right
 right_sort p at names e w k right =
     let a = and_parts (not (uses_unknown_name names e || updates_no_state w)) _ right in
@@ -74,7 +74,7 @@ right_sort p at names e w k right =
     let same : sort_of (term_of names e) ≡ written_sort names e = sort_is names e k.sorted u.0 b.1 in
     (same, ap (takes_sort w) same ∙ b.0)
 
-known_defined : (p : Parts) (at : Option ℕ) (names : Entries Visible) (n : Name) (e : WrittenTerm) (w : Place) → AreKnownAt p at names → is_right (placed names e w) ≡ true → AreKnownAt p at ((n, defined names e) ∷ names)
+known_defined : (p : Parts) (at : Option ℕ) (names : Entries Visible) (n : Name) (e : WrittenTerm) (w : TermPlace) → AreKnownAt p at names → is_right (placed names e w) ≡ true → AreKnownAt p at ((n, defined names e) ∷ names)
 known_defined p at names n e w k right =
     known_more p at names n (defined names e) k (read_term p.children.items (home p) at names e k.read) (right_sort p at names e w k right).0
 
@@ -174,13 +174,13 @@ known_state names e n (Some d) h = (d, refl)
 
 pub updates_at : (p : Parts) (at : Option ℕ) (names : Entries Visible) (states : List StateDeclaration) (places : List ℕ) (us : Entries WrittenTerm) (from : ℕ) (ks : List ℕ) (ss : List StateDeclaration) (xs : List Update)
     → HasDistinctNames p.terms.names → AreKnownAt p at names → StandAt p.terms 0 places states → are_right (placed_updates names states us) ≡ true
-    → StandAt p.terms from ks ss → AreStatesAt p at ss → AreUpdates p.terms (map pair_of xs) (updates_of names ss us) → are_updates p at from xs ≡ true
+    → StandAt p.terms from ks ss → AreStatesAt p at ss → AreUpdates p.terms (map pair_of xs) (updates_for_states names ss us) → are_updates p at from xs ≡ true
 updates_at p at names states places us from [] [] [] z k all right s a u = refl
 updates_at p at names states places us from [] [] (x ∷ xs) z k all right s a u = absurd u
 updates_at p at names states places us from [] (d ∷ ss) xs z k all right s a u = absurd s
 updates_at p at names states places us from (j ∷ js) [] xs z k all right s a u = absurd s
 updates_at p at names states places us from (j ∷ js) (d ∷ ss) xs z k all right s a u = by_update (entry_of us d.state_name) refl xs u (λ ys v. updates_at p at names states places us (suc j) js ss ys z k all right s.3 a.1 v) where
-  by_update : (o : Option WrittenTerm) → entry_of us d.state_name ≡ o → (xs : List Update) → AreUpdates p.terms (map pair_of xs) (with_update names d.state_name o (updates_of names ss us)) → ((ys : List Update) → AreUpdates p.terms (map pair_of ys) (updates_of names ss us) → are_updates p at (suc j) ys ≡ true) → are_updates p at from xs ≡ true
+  by_update : (o : Option WrittenTerm) → entry_of us d.state_name ≡ o → (xs : List Update) → AreUpdates p.terms (map pair_of xs) (with_own_update names d.state_name o (updates_for_states names ss us)) → ((ys : List Update) → AreUpdates p.terms (map pair_of ys) (updates_for_states names ss us) → are_updates p at (suc j) ys ≡ true) → are_updates p at from xs ≡ true
   by_update None e xs u rest = updates_from p at from (suc j) xs (omega (arith, s.0)) (rest xs u)
   by_update (Some t) e [] u rest = absurd u
   by_update (Some t) e (x ∷ xs) u rest =

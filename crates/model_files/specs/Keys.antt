@@ -1,13 +1,13 @@
 -- Keys that a model file's objects do not have. What stands under such a key is not looked at.
 use Rattle.std.specs.Prelude.{Bool, true, false, cond, not, ◌||◌, List, [], ◌∷◌, codes}
 use Rattle.wb_values.specs.Value.{Name, same_name}
-use Rattle.model_meaning.specs.Among.{is_among}
+use Rattle.model_meaning.specs.Among.{is_name_in}
 use Rattle.serde_json.specs.Data.{Data, array, object, Items, no_items, item, Members, no_members, member}
 
 -- some key of the object is none of these
 abbrev pub has_other_key : List Name → Members → Bool
 has_other_key ks no_members = false
-has_other_key ks (member k d ms) = not (is_among k ks) || has_other_key ks ms
+has_other_key ks (member k d ms) = not (is_name_in k ks) || has_other_key ks ms
 
 -- some item of the list that stands under the key is so
 abbrev pub some_item : (Data → Bool) → Items → Bool
@@ -39,13 +39,13 @@ is_list (array ds) = true
 is_list _ = false
 
 -- the object's sort is written as a memory's, as a list
-abbrev pub is_memory_state : Members → Bool
-is_memory_state no_members = false
-is_memory_state (member k d ms) = cond (same_name k (codes "sort")) (is_list d) (is_memory_state ms)
+abbrev pub is_written_memory : Members → Bool
+is_written_memory no_members = false
+is_written_memory (member k d ms) = cond (same_name k (codes "sort")) (is_list d) (is_written_memory ms)
 
 -- A memory states no initial value.
 abbrev pub state_keys : Members → List Name
-state_keys ms = cond (is_memory_state ms) (codes "name" ∷ codes "sort" ∷ []) (codes "name" ∷ codes "sort" ∷ codes "init" ∷ [])
+state_keys ms = cond (is_written_memory ms) (codes "name" ∷ codes "sort" ∷ []) (codes "name" ∷ codes "sort" ∷ codes "init" ∷ [])
 
 abbrev pub state_has_other_key : Data → Bool
 state_has_other_key (object ms) = has_other_key (state_keys ms) ms

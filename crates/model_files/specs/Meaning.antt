@@ -8,34 +8,34 @@ use Rattle.serde_json.specs.Data.{Data}
 use Rattle.model_files.specs.Written.{WrittenTerm, WrittenMachine, machine, WrittenInstruction, instruction, WrittenInstructions, no_instructions, and_then, WrittenChild, no_child, child, WrittenModel}
 use Rattle.model_files.specs.Shape.{document, model_in}
 use Rattle.model_files.specs.Keys.{model_has_unknown_key}
-use Rattle.model_files.specs.Scope.{Visible, Scope, term_of, with_fetch, scope_within, outermost}
+use Rattle.model_files.specs.Scope.{Visible, MachineScope, term_of, with_fetch, scope_within, outermost}
 use Rattle.model_files.specs.Rules.{has_bad_name, has_duplicate_name, has_unknown_name, has_bad_width, has_bad_sort, has_bad_number, has_memory_copy, has_too_deep_child, has_bad_steps}
 
-abbrev pub with_update : Entries Visible → Name → Option WrittenTerm → Entries Term → Entries Term
-with_update names n (Some e) us = (n, term_of names e) ∷ us
-with_update names n None us = us
+abbrev pub with_own_update : Entries Visible → Name → Option WrittenTerm → Entries Term → Entries Term
+with_own_update names n (Some e) us = (n, term_of names e) ∷ us
+with_own_update names n None us = us
 
 -- the updates of visible states, in the order in which these are declared, the outermost first
-abbrev pub updates_of : Entries Visible → List StateDeclaration → Entries WrittenTerm → Entries Term
-updates_of names [] us = []
-updates_of names (s ∷ ss) us = with_update names s.state_name (entry_of us s.state_name) (updates_of names ss us)
+abbrev pub updates_for_states : Entries Visible → List StateDeclaration → Entries WrittenTerm → Entries Term
+updates_for_states names [] us = []
+updates_for_states names (s ∷ ss) us = with_own_update names s.state_name (entry_of us s.state_name) (updates_for_states names ss us)
 
 abbrev mutual
   -- A machine of the file in its scope, with definitions and fetch put in.
-  pub machine_of : Scope → WrittenMachine → Machine
+  pub machine_of : MachineScope → WrittenMachine → Machine
   machine_of around (machine ss ds fetch valid is) =
-      let inner : Scope = scope_within around ss ds in
+      let inner : MachineScope = scope_within around ss ds in
       pure.machine ss (term_of (with_fetch inner.names fetch) valid) (instructions_of inner (with_fetch inner.names fetch) is)
 
-  pub instructions_of : Scope → Entries Visible → WrittenInstructions → Instructions
+  pub instructions_of : MachineScope → Entries Visible → WrittenInstructions → Instructions
   instructions_of inner names no_instructions = pure.no_instructions
   instructions_of inner names (and_then i is) = pure.and_then (instruction_of inner names i) (instructions_of inner names is)
 
-  pub instruction_of : Scope → Entries Visible → WrittenInstruction → Instruction
+  pub instruction_of : MachineScope → Entries Visible → WrittenInstruction → Instruction
   instruction_of inner names (instruction called decode update program) =
-      pure.instruction called (term_of names decode) (updates_of names inner.states update) (child_of inner program)
+      pure.instruction called (term_of names decode) (updates_for_states names inner.states update) (child_of inner program)
 
-  pub child_of : Scope → WrittenChild → Child
+  pub child_of : MachineScope → WrittenChild → Child
   child_of inner no_child = pure.no_child
   child_of inner (child steps program) = pure.child steps (machine_of inner program)
 

@@ -8,7 +8,7 @@ use Rattle.model_meaning.specs.Invariant.{is_memory_with_stores}
 use Rattle.model_files.specs.Written.{WrittenTerm, name, constant_truth, const, unary, binary, extract, widen, ite, store, WrittenMachine, machine, WrittenInstruction, instruction, WrittenInstructions, no_instructions, and_then, WrittenChild, no_child, child, WrittenModel, states_in, machines_in}
 use Rattle.wb_values.specs.Names.{is_model_name}
 use Rattle.model_files.specs.Names.{all_data_names, all_instruction_names}
-use Rattle.model_files.specs.Scope.{Visible, Place, of_definition, of_fetch, of_condition, of_update, Placed, term_of, written_sort, all_terms}
+use Rattle.model_files.specs.Scope.{Visible, TermPlace, of_definition, of_fetch, of_condition, of_update, PlacedTerm, term_of, written_sort, all_terms}
 
 -- BadName: the model's name or a declared one is not legal.
 abbrev pub has_bad_name : WrittenModel → Bool
@@ -31,20 +31,20 @@ uses_unknown_name names (widen z n x) = uses_unknown_name names x
 uses_unknown_name names (ite c x y) = uses_unknown_name names c || (uses_unknown_name names x || uses_unknown_name names y)
 uses_unknown_name names (store m i x) = uses_unknown_name names m || (uses_unknown_name names i || uses_unknown_name names x)
 
-abbrev pub updates_no_state : Place → Bool
+abbrev pub updates_no_state : TermPlace → Bool
 updates_no_state (of_update n s) = is_none s
 updates_no_state _ = false
 
 -- UnknownName: a term uses a name that is not visible there, or an update names no state.
-abbrev pub is_unknown_at : Placed → Bool
+abbrev pub is_unknown_at : PlacedTerm → Bool
 is_unknown_at p = uses_unknown_name p.names p.written || updates_no_state p.place
 
 abbrev pub has_unknown_name : WrittenModel → Bool
 has_unknown_name m = list_any is_unknown_at (all_terms m)
 
 -- an index is 0 to 127
-abbrev pub is_index : ℕ → Bool
-is_index k = nat_le k 127
+abbrev pub is_bit_index : ℕ → Bool
+is_bit_index k = nat_le k 127
 
 -- every width and index that the term states is in range
 abbrev pub has_widths : WrittenTerm → Bool
@@ -53,7 +53,7 @@ has_widths (constant_truth b) = true
 has_widths (const w x) = is_width w
 has_widths (unary op x) = has_widths x
 has_widths (binary op x y) = has_widths x && has_widths y
-has_widths (extract h l x) = is_index h && (is_index l && has_widths x)
+has_widths (extract h l x) = is_bit_index h && (is_bit_index l && has_widths x)
 has_widths (widen z n x) = is_width n && has_widths x
 has_widths (ite c x y) = has_widths c && (has_widths x && has_widths y)
 has_widths (store m i x) = has_widths m && (has_widths i && has_widths x)
@@ -68,7 +68,7 @@ has_bad_width m =
     && (list_all has_state_widths (machines_in m.top) && list_all (λ p. has_widths p.written) (all_terms m)))
 
 -- a place takes a term of this sort
-abbrev pub takes : Place → Sort → Bool
+abbrev pub takes : TermPlace → Sort → Bool
 takes of_definition s = true
 takes of_fetch truth = true
 takes of_fetch (word w) = true
@@ -77,7 +77,7 @@ takes of_condition s = same_sort truth s
 takes (of_update n (Some d)) s = same_sort d.sort s
 takes (of_update n None) s = true
 
-abbrev pub takes_sort : Place → Option Sort → Bool
+abbrev pub takes_sort : TermPlace → Option Sort → Bool
 takes_sort p (Some s) = takes p s
 takes_sort p None = false
 
@@ -109,7 +109,7 @@ abbrev pub has_bad_number : WrittenModel → Bool
 has_bad_number m =
     truth_not (list_all has_fitting_initial_values (machines_in m.top) && list_all (λ p. has_fitting_constants p.written) (all_terms m))
 
-abbrev pub copies_memory : Place → Term → Bool
+abbrev pub copies_memory : TermPlace → Term → Bool
 copies_memory (of_update n (Some d)) e = is_memory_sort d.sort && truth_not (is_memory_with_stores n e)
 copies_memory _ e = false
 

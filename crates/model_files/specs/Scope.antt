@@ -96,7 +96,7 @@ abbrev pub defined : Entries Visible → WrittenTerm → Visible
 defined names e = record { term = term_of names e; sort = written_sort names e }
 
 -- What stands around a machine: the visible names, and the states that an update may set, the outermost first.
-pub record Scope : Type 0 where
+pub record MachineScope : Type 0 where
   pub names : Entries Visible
   pub states : List StateDeclaration
 
@@ -119,62 +119,62 @@ with_fetch names (Some e) = (codes "fetch", defined names e) ∷ names
 
 -- Where a term stands, and so which sort it must have: a definition any; fetch a truth value or a word; valid and decode
 -- conditions a truth value; an update that of its state, if it names one.
-pub data Place : Type 0 where
-  of_definition : Place
-  of_fetch : Place
-  of_condition : Place
-  of_update : (called : Name) → (state : Option StateDeclaration) → Place
+pub data TermPlace : Type 0 where
+  of_definition : TermPlace
+  of_fetch : TermPlace
+  of_condition : TermPlace
+  of_update : (called : Name) → (state : Option StateDeclaration) → TermPlace
 
 -- A term of the file with what is visible there.
-pub record Placed : Type 0 where
+pub record PlacedTerm : Type 0 where
   pub names : Entries Visible
   pub written : WrittenTerm
-  pub place : Place
+  pub place : TermPlace
 
-abbrev pub placed : Entries Visible → WrittenTerm → Place → Placed
+abbrev pub placed : Entries Visible → WrittenTerm → TermPlace → PlacedTerm
 placed ns e p = record { names = ns; written = e; place = p }
 
-abbrev pub placed_definitions : Entries Visible → Entries WrittenTerm → List Placed
+abbrev pub placed_definitions : Entries Visible → Entries WrittenTerm → List PlacedTerm
 placed_definitions names [] = []
 placed_definitions names (d ∷ ds) = placed names d.1 of_definition ∷ placed_definitions ((d.0, defined names d.1) ∷ names) ds
 
-abbrev pub placed_fetch : Entries Visible → Option WrittenTerm → List Placed
+abbrev pub placed_fetch : Entries Visible → Option WrittenTerm → List PlacedTerm
 placed_fetch names None = []
 placed_fetch names (Some e) = placed names e of_fetch ∷ []
 
-abbrev pub placed_updates : Entries Visible → List StateDeclaration → Entries WrittenTerm → List Placed
+abbrev pub placed_updates : Entries Visible → List StateDeclaration → Entries WrittenTerm → List PlacedTerm
 placed_updates names states [] = []
 placed_updates names states (u ∷ us) = placed names u.1 (of_update u.0 (state_named states u.0)) ∷ placed_updates names states us
 
 -- What a child program of a machine stands in: the machine's scope with its states and definitions, without its fetch.
-abbrev pub scope_within : Scope → List StateDeclaration → Entries WrittenTerm → Scope
+abbrev pub scope_within : MachineScope → List StateDeclaration → Entries WrittenTerm → MachineScope
 scope_within around ss ds = record { names = with_definitions (with_states around.names ss) ds; states = around.states ++ ss }
 
 abbrev mutual
   -- The terms of a machine and of the child programs in it, in the order of the file. Its valid and decode conditions and its
   -- updates see its fetch besides.
-  pub terms_in : Scope → WrittenMachine → List Placed
+  pub terms_in : MachineScope → WrittenMachine → List PlacedTerm
   terms_in around (machine ss ds fetch valid is) =
-      let inner : Scope = scope_within around ss ds in
+      let inner : MachineScope = scope_within around ss ds in
       placed_definitions (with_states around.names ss) ds ++ (placed_fetch inner.names fetch
       ++ (placed (with_fetch inner.names fetch) valid of_condition ∷ terms_below inner (with_fetch inner.names fetch) is))
 
-  pub terms_below : Scope → Entries Visible → WrittenInstructions → List Placed
+  pub terms_below : MachineScope → Entries Visible → WrittenInstructions → List PlacedTerm
   terms_below inner names no_instructions = []
   terms_below inner names (and_then i is) = terms_of_instruction inner names i ++ terms_below inner names is
 
-  pub terms_of_instruction : Scope → Entries Visible → WrittenInstruction → List Placed
+  pub terms_of_instruction : MachineScope → Entries Visible → WrittenInstruction → List PlacedTerm
   terms_of_instruction inner names (instruction called decode update program) =
       placed names decode of_condition ∷ (placed_updates names inner.states update ++ terms_of_child inner program)
 
-  pub terms_of_child : Scope → WrittenChild → List Placed
+  pub terms_of_child : MachineScope → WrittenChild → List PlacedTerm
   terms_of_child inner no_child = []
   terms_of_child inner (child steps program) = terms_in inner program
 
 -- what stands around the top: the inputs
-abbrev pub outermost : WrittenModel → Scope
+abbrev pub outermost : WrittenModel → MachineScope
 outermost m = record { names = with_inputs [] m.inputs; states = [] }
 
 -- every term of a file
-abbrev pub all_terms : WrittenModel → List Placed
+abbrev pub all_terms : WrittenModel → List PlacedTerm
 all_terms m = terms_in (outermost m) m.top

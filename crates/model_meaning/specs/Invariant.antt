@@ -46,8 +46,8 @@ abbrev pub own_instruction_names : Machine → List Name
 own_instruction_names m = map instruction_name (instructions_in m)
 
 -- the names of inputs, states and private states: those that stand for values
-abbrev pub value_names : Model → List Name
-value_names m = map (λ i. i.input_name) m.inputs ++ gathered state_names (all_machines m.top)
+abbrev pub valued_names : Model → List Name
+valued_names m = map (λ i. i.input_name) m.inputs ++ gathered state_names (all_machines m.top)
 
 -- the names of all instructions, those of child programs too
 abbrev pub instruction_names_of : Model → List Name
@@ -98,8 +98,8 @@ pub record IsModel (m : Model) : Type 0 where
   -- the model's own name may be the name of a model
   pub legal_name : IsTrue (is_model_name m.model_name)
   -- each input, state and private state has a legal name, and no two of the whole model share one
-  pub legal_names : IsTrue (list_all is_model_name (value_names m))
-  pub distinct_names : IsFalse (has_twice (value_names m))
+  pub legal_names : IsTrue (list_all is_model_name (valued_names m))
+  pub distinct_names : IsFalse (has_twice (valued_names m))
   -- so have instructions, which may share names with states
   pub legal_instruction_names : IsTrue (list_all is_model_name (instruction_names_of m))
   pub distinct_instruction_names : IsFalse (has_twice (instruction_names_of m))

@@ -66,13 +66,13 @@ child_program (instruction called decode update program) = program
 -- A state of a machine gives a value to each state of it and of the machines around it. Terms are read at a point: a state and
 -- the inputs together. Within an instruction the inputs stay as they were at its start.
 
-abbrev pub is_input : List InputDeclaration → Name → Bool
-is_input [] n = false
-is_input (i ∷ is) n = cond (same_name i.input_name n) true (is_input is n)
+abbrev pub is_input_name : List InputDeclaration → Name → Bool
+is_input_name [] n = false
+is_input_name (i ∷ is) n = cond (same_name i.input_name n) true (is_input_name is n)
 
 -- the point of a state and inputs: the inputs' names have the inputs' values
 abbrev pub point_of : Model → Valuation → Valuation → Valuation
-point_of m q w n = cond (is_input m.inputs n) (w n) (q n)
+point_of m q w n = cond (is_input_name m.inputs n) (w n) (q n)
 
 -- a condition holds at a point
 abbrev pub holds : Term → Valuation → Bool

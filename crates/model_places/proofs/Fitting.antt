@@ -9,13 +9,13 @@ use Rattle.model_files.specs.Written.{WrittenTerm, WrittenMachine, WrittenInstru
 use Rattle.model_files.specs.Shape.{required, optional, if_there, with_first, all_in, list_in, unsigned_in, sort_in, term_in, initial_in, private_initial_in, state_from, state_declared_in, private_state_in, input_in, definition_in, entry_named, entries_in, update_in, instruction_from, with_instruction, machine_from, machine_in, child_from, instruction_in, child_under, child_in, instructions_under, written_instructions_in, all_instructions, model_from, model_in}
 use Rattle.model_places.specs.Sites.{Way, into, Spot, key_spot, part_spot, member_spot}
 use Rattle.model_places.specs.Notes.{site_note}
-use Rattle.model_places.specs.ShapePlaces.{Judged, judged, under, has, fits_if_there, may_have, named_spot, in_list, list_places, optional_list_places, no_memory, private_sort_in, state_places, input_places, definition_spot, definition_places, update_places, in_object, own_places, machine_places, instruction_places, child_places_under, child_places, instruction_places_under, instruction_list_places, all_instruction_places, shape_places, first_misfit, shape_note}
+use Rattle.model_places.specs.ShapePlaces.{Judged, fitted, under, has, fits_if_there, may_have, named_spot, in_list, list_places, optional_list_places, no_memory, private_sort_in, state_places, input_places, definition_spot, definition_places, update_places, in_object, own_places, machine_places, instruction_places, child_places_under, child_places, instruction_places_under, instruction_list_places, all_instruction_places, shape_places, first_misfit, shape_note}
 
 -- nothing of another kind stands at these
 abbrev pub fit : List Judged → Bool
 fit ps = is_none (first_misfit ps)
 
-fit_one : (w : Way) (s : Spot) (b : Bool) (ps : List Judged) → fit (judged w s b ∷ ps) ≡ (b && fit ps)
+fit_one : (w : Way) (s : Spot) (b : Bool) (ps : List Judged) → fit (fitted w s b ∷ ps) ≡ (b && fit ps)
 fit_one w s true ps = refl
 fit_one w s false ps = refl
 
@@ -27,7 +27,7 @@ fit_both (p ∷ xs) ys = shown p.fits (fit_both xs ys) where
   shown false h = refl
 
 -- one place, and others behind it
-fit_then : (w : Way) (s : Spot) (b c : Bool) (ps : List Judged) → fit ps ≡ c → fit (judged w s b ∷ ps) ≡ (b && c)
+fit_then : (w : Way) (s : Spot) (b c : Bool) (ps : List Judged) → fit ps ≡ c → fit (fitted w s b ∷ ps) ≡ (b && c)
 fit_then w s b c ps h = fit_one w s b ps ∙ ap (λ t. b && t) h
 
 -- some places, and others behind them
@@ -96,7 +96,7 @@ there f (Some d) = sym (some_mapped Some (f d))
 list_fits : {A : Type 0} (f : Items → List Judged) (read : Data → Option A) (w : Way) (k : Name) (d : Data) → ((ds : Items) → fit (f ds) ≡ is_some (all_in read ds))
     → fit (list_places f w k d) ≡ is_some (under (list_in read) k d)
 list_fits f read w k d h = shown (get k d) where
-  shown : (o : Option Data) → fit (judged w (key_spot k) (is_some (option_and_then as_array o)) ∷ in_list f (option_and_then as_array o)) ≡ is_some (option_and_then (list_in read) o)
+  shown : (o : Option Data) → fit (fitted w (key_spot k) (is_some (option_and_then as_array o)) ∷ in_list f (option_and_then as_array o)) ≡ is_some (option_and_then (list_in read) o)
   shown None = refl
   shown (Some null) = refl
   shown (Some (boolean b)) = refl
@@ -109,7 +109,7 @@ list_fits f read w k d h = shown (get k d) where
 optional_list_fits : {A : Type 0} (f : Items → List Judged) (read : Data → Option A) (w : Way) (k : Name) (d : Data) → ((ds : Items) → fit (f ds) ≡ is_some (all_in read ds))
     → fit (optional_list_places f w k d) ≡ is_some (if_there (list_in read) (get k d))
 optional_list_fits f read w k d h = shown (get k d) where
-  shown : (o : Option Data) → fit (judged w (key_spot k) (fits_if_there as_array o) ∷ in_list f (option_and_then as_array o)) ≡ is_some (if_there (list_in read) o)
+  shown : (o : Option Data) → fit (fitted w (key_spot k) (fits_if_there as_array o) ∷ in_list f (option_and_then as_array o)) ≡ is_some (if_there (list_in read) o)
   shown None = refl
   shown (Some null) = refl
   shown (Some (boolean b)) = refl
@@ -161,7 +161,7 @@ private_whole (object ms) =
     ap (λ o. is_some (required as_str (codes "name") ms) && (is_some o && is_some (private_state_in (object ms)))) (private_sort (get_member (codes "sort") ms))
     ∙ stated (required as_str (codes "name") ms) (required sort_in (codes "sort") ms) (get_member (codes "init") ms)
 
-fit_three : (w : Way) (s t u : Spot) (a b c r : Bool) (ps : List Judged) → fit ps ≡ r → fit (judged w s a ∷ judged w t b ∷ judged w u c ∷ ps) ≡ ((a && (b && c)) && r)
+fit_three : (w : Way) (s t u : Spot) (a b c r : Bool) (ps : List Judged) → fit ps ≡ r → fit (fitted w s a ∷ fitted w t b ∷ fitted w u c ∷ ps) ≡ ((a && (b && c)) && r)
 fit_three w s t u true true c r ps h = fit_then w u c r ps h
 fit_three w s t u true false c r ps h = refl
 fit_three w s t u false b c r ps h = refl
@@ -195,9 +195,9 @@ entries_fit w u (member n d ms) =
     ∙ (ap (λ t. t && is_some (entries_in ms)) (sym (some_entry n (term_in d))) ∙ sym (some_first (entry_named n (term_in d)) (entries_in ms)))
 
 updates_fit : (w : Way) (s u : Spot) (d : Data)
-    → fit (judged w s (has as_object (codes "update") d) ∷ in_object (update_places w u) (under as_object (codes "update") d)) ≡ is_some (under update_in (codes "update") d)
+    → fit (fitted w s (has as_object (codes "update") d) ∷ in_object (update_places w u) (under as_object (codes "update") d)) ≡ is_some (under update_in (codes "update") d)
 updates_fit w s u d = shown (get (codes "update") d) where
-  shown : (o : Option Data) → fit (judged w s (is_some (option_and_then as_object o)) ∷ in_object (update_places w u) (option_and_then as_object o)) ≡ is_some (option_and_then update_in o)
+  shown : (o : Option Data) → fit (fitted w s (is_some (option_and_then as_object o)) ∷ in_object (update_places w u) (option_and_then as_object o)) ≡ is_some (option_and_then update_in o)
   shown None = refl
   shown (Some null) = refl
   shown (Some (boolean b)) = refl
@@ -209,8 +209,8 @@ updates_fit w s u d = shown (get (codes "update") d) where
 own_fits : (w : Way) (s : Spot) (d : Data)
     → fit (own_places w s d) ≡ (has as_str (codes "name") d && (has term_in (codes "decode") d && is_some (under update_in (codes "update") d)))
 own_fits w s d =
-    let update : List Judged = judged w (part_spot s (codes "update")) (has as_object (codes "update") d) ∷ in_object (update_places w (part_spot s (codes "update"))) (under as_object (codes "update") d) in
-    let decode : List Judged = judged w (part_spot s (codes "decode")) (has term_in (codes "decode") d) ∷ update in
+    let update : List Judged = fitted w (part_spot s (codes "update")) (has as_object (codes "update") d) ∷ in_object (update_places w (part_spot s (codes "update"))) (under as_object (codes "update") d) in
+    let decode : List Judged = fitted w (part_spot s (codes "decode")) (has term_in (codes "decode") d) ∷ update in
     fit_then w (part_spot s (codes "name")) (has as_str (codes "name") d) (has term_in (codes "decode") d && is_some (under update_in (codes "update") d)) decode
     (fit_then w (part_spot s (codes "decode")) (has term_in (codes "decode") d) (is_some (under update_in (codes "update") d)) update (updates_fit w (part_spot s (codes "update")) (part_spot s (codes "update")) d))
 
@@ -219,8 +219,8 @@ machine_fits : (sort : Data → Option Sort) (state : Data → Option StateDecla
 machine_fits sort state h w ms is r g =
     let states : List Judged = list_places (state_places sort state w 0) w (codes "states") (object ms) in
     let define : List Judged = optional_list_places (definition_places w 0) w (codes "define") (object ms) in
-    let valid : List Judged = judged w (key_spot (codes "valid")) (has term_in (codes "valid") (object ms)) ∷ is in
-    let fetch : List Judged = judged w (key_spot (codes "fetch")) (may_have term_in (codes "fetch") (object ms)) ∷ valid in
+    let valid : List Judged = fitted w (key_spot (codes "valid")) (has term_in (codes "valid") (object ms)) ∷ is in
+    let fetch : List Judged = fitted w (key_spot (codes "fetch")) (may_have term_in (codes "fetch") (object ms)) ∷ valid in
     fit_joined states (define ++ fetch) _ _ (list_fits (state_places sort state w 0) state w (codes "states") (object ms) (states_fit sort state h w 0))
     (fit_joined define fetch _ _ (optional_list_fits (definition_places w 0) definition_in w (codes "define") (object ms) (definitions_fit w 0))
     (fit_then w (key_spot (codes "fetch")) (may_have term_in (codes "fetch") (object ms)) (has term_in (codes "valid") (object ms) && is_some r) valid

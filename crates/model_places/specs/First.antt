@@ -9,7 +9,7 @@ use Rattle.model_files.specs.Rules.{is_unknown_at, has_widths, takes_sort, has_f
 use Rattle.model_files.specs.Meaning.{ModelRule, BadJson, BadShape, UnknownKey, BadName, DuplicateName, UnknownName, BadWidth, BadSort, BadNumber, MemoryCopy, TooDeepChild, BadSteps}
 use Rattle.model_places.specs.Sites.{Site}
 use Rattle.model_places.specs.Notes.{site_note}
-use Rattle.model_places.specs.Parts.{Thing, model_name, data_name, instruction_name, declaration, term, program, step_limit, Part, parts_of}
+use Rattle.model_places.specs.Parts.{Thing, model_name, data_name, instruction_name, declaration, term, program, step_limit, ModelPart, parts_of}
 
 abbrev pub is_bad_name : Thing → Bool
 is_bad_name (model_name n) = not (is_model_name n)
@@ -39,28 +39,28 @@ abbrev pub is_unknown : Thing → Bool
 is_unknown (term p) = is_unknown_at p
 is_unknown _ = false
 
-abbrev pub has_bad_width : Thing → Bool
-has_bad_width (declaration s x) = not (is_sort s)
-has_bad_width (term p) = not (has_widths p.written)
-has_bad_width _ = false
+abbrev pub is_bad_width : Thing → Bool
+is_bad_width (declaration s x) = not (is_sort s)
+is_bad_width (term p) = not (has_widths p.written)
+is_bad_width _ = false
 
-abbrev pub has_bad_sort : Thing → Bool
-has_bad_sort (term p) = not (takes_sort p.place (written_sort p.names p.written))
-has_bad_sort _ = false
+abbrev pub is_bad_sort : Thing → Bool
+is_bad_sort (term p) = not (takes_sort p.place (written_sort p.names p.written))
+is_bad_sort _ = false
 
-abbrev pub has_bad_number : Thing → Bool
-has_bad_number (declaration s x) = not (fits_sort s x)
-has_bad_number (term p) = not (has_fitting_constants p.written)
-has_bad_number _ = false
+abbrev pub is_bad_number : Thing → Bool
+is_bad_number (declaration s x) = not (fits_sort s x)
+is_bad_number (term p) = not (has_fitting_constants p.written)
+is_bad_number _ = false
 
 abbrev pub is_memory_copy : Thing → Bool
 is_memory_copy (term p) = copies_memory p.place (term_of p.names p.written)
 is_memory_copy _ = false
 
 -- children nest 3 deep at most
-abbrev pub is_too_deep : Thing → Bool
-is_too_deep (program depth) = nat_lt 3 depth
-is_too_deep _ = false
+abbrev pub is_deep_child : Thing → Bool
+is_deep_child (program depth) = nat_lt 3 depth
+is_deep_child _ = false
 
 abbrev pub is_bad_limit : Thing → Bool
 is_bad_limit (step_limit n) = not (nat_le 1 n && nat_le n 4096)
@@ -74,15 +74,15 @@ breaks UnknownKey before t = false
 breaks BadName before t = is_bad_name t
 breaks DuplicateName before t = stands_again before t
 breaks UnknownName before t = is_unknown t
-breaks BadWidth before t = has_bad_width t
-breaks BadSort before t = has_bad_sort t
-breaks BadNumber before t = has_bad_number t
+breaks BadWidth before t = is_bad_width t
+breaks BadSort before t = is_bad_sort t
+breaks BadNumber before t = is_bad_number t
 breaks MemoryCopy before t = is_memory_copy t
-breaks TooDeepChild before t = is_too_deep t
+breaks TooDeepChild before t = is_deep_child t
 breaks BadSteps before t = is_bad_limit t
 
 -- the place of the first part that breaks a rule, where these stand before the parts
-abbrev pub first_among : ((before : List Thing) → Thing → Bool) → (before : List Thing) → List Part → Option Site
+abbrev pub first_among : ((before : List Thing) → Thing → Bool) → (before : List Thing) → List ModelPart → Option Site
 first_among is_broken before [] = None
 first_among is_broken before (p ∷ ps) = cond (is_broken before p.thing) (Some p.site) (first_among is_broken (p.thing ∷ before) ps)
 

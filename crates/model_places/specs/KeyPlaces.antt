@@ -3,7 +3,7 @@
 use Rattle.std.specs.Prelude.{ℕ, ◌+◌, cond, List, [], ◌∷◌, ◌++◌, Option, Some, None, option_map, codes}
 use Rattle.wb_values.specs.Value.{Name, same_name}
 use Rattle.wb_values.specs.Choice.{first_of}
-use Rattle.model_meaning.specs.Among.{is_among}
+use Rattle.model_meaning.specs.Among.{is_name_in}
 use Rattle.serde_json.specs.Data.{Data, array, object, Items, no_items, item, Members, no_members, member}
 use Rattle.serde_json.specs.Find.{as_str}
 use Rattle.model_files.specs.Shape.{required}
@@ -86,7 +86,7 @@ objects_in _ = []
 -- the first key of an object, by the bytes of the keys, that is none of these
 abbrev pub first_other_key : List Name → Members → Option Name
 first_other_key ks no_members = None
-first_other_key ks (member k d ms) = cond (is_among k ks) (first_other_key ks ms) (Some k)
+first_other_key ks (member k d ms) = cond (is_name_in k ks) (first_other_key ks ms) (Some k)
 
 abbrev pub other_key_site : Keyed → Option Site
 other_key_site o = option_map (λ key. site_at o.way (o.spot key)) (first_other_key o.keys o.members)

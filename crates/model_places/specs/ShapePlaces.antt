@@ -14,8 +14,8 @@ pub record Judged : Type 0 where
   pub site : Site
   pub fits : Bool
 
-abbrev pub judged : Way → Spot → Bool → Judged
-judged way spot b = record { site = site_at way spot; fits = b }
+abbrev pub fitted : Way → Spot → Bool → Judged
+fitted way spot b = record { site = site_at way spot; fits = b }
 
 -- ---- what stands under a key
 
@@ -48,11 +48,11 @@ in_list f (Some ds) = f ds
 
 -- a list that must be there, and its items
 abbrev pub list_places : (Items → List Judged) → Way → Name → Data → List Judged
-list_places f way k d = judged way (key_spot k) (has as_array k d) ∷ in_list f (under as_array k d)
+list_places f way k d = fitted way (key_spot k) (has as_array k d) ∷ in_list f (under as_array k d)
 
 -- a list that may be absent, and its items
 abbrev pub optional_list_places : (Items → List Judged) → Way → Name → Data → List Judged
-optional_list_places f way k d = judged way (key_spot k) (may_have as_array k d) ∷ in_list f (under as_array k d)
+optional_list_places f way k d = fitted way (key_spot k) (may_have as_array k d) ∷ in_list f (under as_array k d)
 
 -- the sort of a private state, which is no memory
 abbrev pub no_memory : Option Sort → Option Sort
@@ -69,14 +69,14 @@ private_sort_in d = no_memory (sort_in d)
 abbrev pub state_places : (sort : Data → Option Sort) → (state : Data → Option StateDeclaration) → Way → ℕ → Items → List Judged
 state_places sort state way k no_items = []
 state_places sort state way k (item d ds) =
-    judged way (part_spot (named_spot (codes "states") k d) (codes "name")) (has as_str (codes "name") d)
-    ∷ judged way (part_spot (named_spot (codes "states") k d) (codes "sort")) (has sort (codes "sort") d)
-    ∷ judged way (part_spot (named_spot (codes "states") k d) (codes "init")) (is_some (state d))
+    fitted way (part_spot (named_spot (codes "states") k d) (codes "name")) (has as_str (codes "name") d)
+    ∷ fitted way (part_spot (named_spot (codes "states") k d) (codes "sort")) (has sort (codes "sort") d)
+    ∷ fitted way (part_spot (named_spot (codes "states") k d) (codes "init")) (is_some (state d))
     ∷ state_places sort state way (k + 1) ds
 
 abbrev pub input_places : ℕ → Items → List Judged
 input_places k no_items = []
-input_places k (item d ds) = judged [] (named_spot (codes "inputs") k d) (is_some (input_in d)) ∷ input_places (k + 1) ds
+input_places k (item d ds) = fitted [] (named_spot (codes "inputs") k d) (is_some (input_in d)) ∷ input_places (k + 1) ds
 
 -- the name of a definition, which stands first in its list
 abbrev pub definition_spot : (index : ℕ) → Data → Spot
@@ -84,14 +84,14 @@ definition_spot k d = item_spot (codes "define") k (option_and_then as_str (at 0
 
 abbrev pub definition_places : Way → ℕ → Items → List Judged
 definition_places way k no_items = []
-definition_places way k (item d ds) = judged way (definition_spot k d) (is_some (definition_in d)) ∷ definition_places way (k + 1) ds
+definition_places way k (item d ds) = fitted way (definition_spot k d) (is_some (definition_in d)) ∷ definition_places way (k + 1) ds
 
 -- ---- instructions and machines
 
 -- the updates of an instruction, each by its state
 abbrev pub update_places : Way → (update : Spot) → Members → List Judged
 update_places way update no_members = []
-update_places way update (member n d ms) = judged way (member_spot update n) (is_some (term_in d)) ∷ update_places way update ms
+update_places way update (member n d ms) = fitted way (member_spot update n) (is_some (term_in d)) ∷ update_places way update ms
 
 abbrev pub in_object : (Members → List Judged) → Option Members → List Judged
 in_object f None = []
@@ -100,9 +100,9 @@ in_object f (Some ms) = f ms
 -- an instruction at a spot, its child aside
 abbrev pub own_places : Way → Spot → Data → List Judged
 own_places way spot d =
-    judged way (part_spot spot (codes "name")) (has as_str (codes "name") d)
-    ∷ judged way (part_spot spot (codes "decode")) (has term_in (codes "decode") d)
-    ∷ judged way (part_spot spot (codes "update")) (has as_object (codes "update") d)
+    fitted way (part_spot spot (codes "name")) (has as_str (codes "name") d)
+    ∷ fitted way (part_spot spot (codes "decode")) (has term_in (codes "decode") d)
+    ∷ fitted way (part_spot spot (codes "update")) (has as_object (codes "update") d)
     ∷ in_object (update_places way (part_spot spot (codes "update"))) (under as_object (codes "update") d)
 
 -- a machine, by how its states are read and by the places of its instructions
@@ -110,8 +110,8 @@ abbrev pub machine_places : (sort : Data → Option Sort) → (state : Data → 
 machine_places sort state way d is =
     list_places (state_places sort state way 0) way (codes "states") d
     ++ (optional_list_places (definition_places way 0) way (codes "define") d
-    ++ (judged way (key_spot (codes "fetch")) (may_have term_in (codes "fetch") d)
-    ∷ judged way (key_spot (codes "valid")) (has term_in (codes "valid") d) ∷ is))
+    ++ (fitted way (key_spot (codes "fetch")) (may_have term_in (codes "fetch") d)
+    ∷ fitted way (key_spot (codes "valid")) (has term_in (codes "valid") d) ∷ is))
 
 abbrev mutual
   -- an instruction by its number, with its child
@@ -119,7 +119,7 @@ abbrev mutual
   instruction_places way k (object ms) =
       own_places way (named_spot (codes "instructions") k (object ms)) (object ms)
       ++ child_places_under way k (part_spot (named_spot (codes "instructions") k (object ms)) (codes "child")) ms
-  instruction_places way k _ = judged way (part_spot (item_spot (codes "instructions") k None) (codes "name")) false ∷ []
+  instruction_places way k _ = fitted way (part_spot (item_spot (codes "instructions") k None) (codes "name")) false ∷ []
 
   -- what stands under the key child of instruction k, which may be absent; the spot is that of the key
   pub child_places_under : Way → ℕ → Spot → Members → List Judged
@@ -128,20 +128,20 @@ abbrev mutual
 
   pub child_places : Way → ℕ → Spot → Data → List Judged
   child_places way k spot (object ms) =
-      judged way spot true
-      ∷ judged (into way k) (key_spot (codes "steps")) (has unsigned_in (codes "steps") (object ms))
+      fitted way spot true
+      ∷ fitted (into way k) (key_spot (codes "steps")) (has unsigned_in (codes "steps") (object ms))
       ∷ machine_places private_sort_in private_state_in (into way k) (object ms) (instruction_places_under (into way k) ms)
-  child_places way k spot _ = judged way spot false ∷ []
+  child_places way k spot _ = fitted way spot false ∷ []
 
   -- what stands under the key instructions, which must be there
   pub instruction_places_under : Way → Members → List Judged
-  instruction_places_under way no_members = judged way (key_spot (codes "instructions")) false ∷ []
+  instruction_places_under way no_members = fitted way (key_spot (codes "instructions")) false ∷ []
   instruction_places_under way (member n d ms) =
       cond (same_name n (codes "instructions")) (instruction_list_places way d) (instruction_places_under way ms)
 
   pub instruction_list_places : Way → Data → List Judged
-  instruction_list_places way (array ds) = judged way (key_spot (codes "instructions")) true ∷ all_instruction_places way 0 ds
-  instruction_list_places way _ = judged way (key_spot (codes "instructions")) false ∷ []
+  instruction_list_places way (array ds) = fitted way (key_spot (codes "instructions")) true ∷ all_instruction_places way 0 ds
+  instruction_list_places way _ = fitted way (key_spot (codes "instructions")) false ∷ []
 
   pub all_instruction_places : Way → ℕ → Items → List Judged
   all_instruction_places way k no_items = []
@@ -150,10 +150,10 @@ abbrev mutual
 -- The places of a model file's data. Data that is no object has one place, the model.
 abbrev pub shape_places : Data → List Judged
 shape_places (object ms) =
-    judged [] (key_spot (codes "name")) (has as_str (codes "name") (object ms))
+    fitted [] (key_spot (codes "name")) (has as_str (codes "name") (object ms))
     ∷ (list_places (input_places 0) [] (codes "inputs") (object ms)
     ++ machine_places sort_in state_declared_in [] (object ms) (instruction_places_under [] ms))
-shape_places _ = judged [] (key_spot (codes "model")) false ∷ []
+shape_places _ = fitted [] (key_spot (codes "model")) false ∷ []
 
 -- ---- notes
 

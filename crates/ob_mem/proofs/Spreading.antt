@@ -6,7 +6,7 @@ use Rattle.std.proofs.lemmas.Bool.{cases_lt, false≢true}
 use Rattle.std.proofs.lemmas.Bool.Decides.{nat_tests}
 use Rattle.wb_values.specs.Value.{Name, Sort, truth, word, memory, Value, truth_value, number, words, as_words, as_number, all_below, Valuation, valuation_of, Entries, HasSort}
 use Rattle.wb_terms.specs.Graph.{HasDistinctNames}
-use Rattle.wb_terms.specs.Environment.{AreOfSorts, named}
+use Rattle.wb_terms.specs.Environment.{AreOfSorts, values_by_name}
 use Rattle.wb_terms.proofs.EnvironmentLemmas.{value_at, memory_word}
 use Rattle.wb_terms.proofs.HeldLemmas.{both_from, test_of}
 use Rattle.ob_mem.specs.declared.words.MemoryWord.{MemoryWord}
@@ -114,14 +114,14 @@ spread es new rs v h i u s =
     ) in
     let sorted = spread_sorted h.marks es new rs v h.names i s in
     let fits = of_sorts_by new xs count sorted in
-    let value : (k : ℕ) → k < length new → valuation_of (named new xs) (entry_at new k).0 ≡ get_or xs k (number 0) = λ k b. value_at new xs k ([], truth) (number 0) u fits b in (
-      valuation_of (named new xs),
+    let value : (k : ℕ) → k < length new → valuation_of (values_by_name new xs) (entry_at new k).0 ≡ get_or xs k (number 0) = λ k b. value_at new xs k ([], truth) (number 0) u fits b in (
+      valuation_of (values_by_name new xs),
       record {
         sorts = s;
         kept = λ k b.
             let same : entry_at new k ≡ entry_at es k = ap (λ ys. entry_at ys k) h.names ∙ get_or_append_left es (map f rs) ([], truth) k b in
-            keeps (entry_at es k).1 (v (entry_at es k).0) (valuation_of (named new xs) (entry_at es k).0)
-            (ap (λ (x : Name × Sort). valuation_of (named new xs) x.0) (sym same)
+            keeps (entry_at es k).1 (v (entry_at es k).0) (valuation_of (values_by_name new xs) (entry_at es k).0)
+            (ap (λ (x : Name × Sort). valuation_of (values_by_name new xs) x.0) (sym same)
             ∙ (value k (omega (arith, b, ap length h.names, length-append es (map f rs))) ∙ old_value es rs v k (number 0) b));
         words = λ r c.
             let n = word_named h.marks es new rs r h.names i c in
@@ -199,7 +199,7 @@ gathered es new rs w h i u s =
     let at : (j : ℕ) → j < length es → get_or ys j (number 0) ≡ value_of_place es new w j = λ j b. get_or-listed (value_of_place es new w) (length es) j (number 0) b in
     let fits = of_sorts_by es ys (length-listed (value_of_place es new w) (length es))
     (λ j b. subst (λ x. HasSort x (entry_at es j).1) (sym (at j b)) (place_sorted h.marks es new rs w h.names i s j b)) in
-    let v = valuation_of (named es ys) in
+    let v = valuation_of (values_by_name es ys) in
     let value : (j : ℕ) → j < length es → v (entry_at es j).0 ≡ value_of_place es new w j = λ j b. value_at es ys j ([], truth) (number 0) u fits b ∙ at j b in (
       v,
       record {

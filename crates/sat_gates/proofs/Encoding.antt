@@ -9,7 +9,7 @@ use Rattle.sat_gates.proofs.Using.{of_one, of_two, of_none}
 use Rattle.wb_terms.specs.Graph.{Graph, HasDistinctNames, tree}
 use Rattle.sat_base.specs.Formula.{Formula, variable_value}
 use Rattle.gate_base.specs.declared.bits.Bit.{Bit}
-use Rattle.gate_base.specs.Circuit.{Circuit, size, bit_value, Follows, IsDetermined, IsFormulaOf}
+use Rattle.gate_base.specs.Circuit.{Circuit, size, bit_value, FollowsCircuit, IsDetermined, IsFormulaOf}
 use Rattle.sat_gates.specs.Names.{names_in, is_blastable}
 use Rattle.sat_gates.specs.Encodes.{Writes, GivesSorts, RestrictsTo, Encodes}
 use Rattle.sat_gates.specs.Layout.{bit_count, variables_from, variables_of, firsts_of, end_of, IsLaidOut, IsNumbered}
@@ -104,7 +104,7 @@ pub record IsBlastedTo (g : Graph) (root : ℕ) (used : List Bool) (firsts : Lis
 
 -- an assignment that follows the circuit and restricts to a valuation gives the bit the term's value
 the_bit : (g : Graph) (root : ℕ) (used : List Bool) (firsts : List (Option ℕ)) (c : Circuit) (bit wanted : Bit) (f : Formula) → IsBlastedTo g root used firsts c bit wanted f
-    → (a : List Bool) (v : Valuation) → Follows a c → RestrictsTo (variables_of g.names firsts) a v (tree g root) → val (tree g root) v ≡ truth_value (bit_value a bit)
+    → (a : List Bool) (v : Valuation) → FollowsCircuit a c → RestrictsTo (variables_of g.names firsts) a v (tree g root) → val (tree g root) v ≡ truth_value (bit_value a bit)
 the_bit g root used firsts c bit wanted f h a v follows r =
     let w = subst (λ o. WritesOf o (val (tree g root) v) (bit_value a bit ∷ [])) h.truth_sort (h.bits.value a v follows r) in
     let p = truth_written (val (tree g root) v) (bit_value a bit ∷ []) w in

@@ -14,7 +14,7 @@ use Rattle.gate_base.specs.declared.bits.Bit.{Bit}
 use Rattle.gate_base.specs.declared.bits.Bit.TheVariants.{Constant}
 use Rattle.gate_base.specs.Circuit.{Circuit, bit_value, IsKnown, Grows, Gives}
 use Rattle.gate_words.specs.declared.chains.Cell.TheVariants as cell
-use Rattle.gate_words.specs.Binary.{values, number_in, AreKnown}
+use Rattle.gate_words.specs.Binary.{values, number_under, AreKnown}
 use Rattle.gate_words.specs.Cells.{outputs, IsChain}
 use Rattle.gate_words.specs.Words.{applied, WritesWord}
 use Rattle.gate_words.proofs.Growing.{all_known}
@@ -38,9 +38,9 @@ ChainGives t m c ts (Last k b x y) u = (xs ys bits : List Bit) (last : Bit) → 
 ChainGives t m c ts (Word k x y) u = (xs ys bits : List Bit) → AreBitsOf t m c (tree_at ts x.0) xs → AreBitsOf t m c (tree_at ts y.0) ys
     → WritesWord c (applied k) xs ys bits → AreBitsOf t m c u bits
 ChainGives t m c ts (SignedBelow x y) u = (xs ys : List Bit) (bit : Bit) → AreBitsOf t m c (tree_at ts x.0) xs → AreBitsOf t m c (tree_at ts y.0) ys
-    → Gives c bit (λ w. word_slt (length xs) (number_in w xs) (number_in w ys)) → AreBitsOf t m c u (bit ∷ [])
+    → Gives c bit (λ w. word_slt (length xs) (number_under w xs) (number_under w ys)) → AreBitsOf t m c u (bit ∷ [])
 ChainGives t m c ts (SignedAtMost x y) u = (xs ys : List Bit) (bit : Bit) → AreBitsOf t m c (tree_at ts x.0) xs → AreBitsOf t m c (tree_at ts y.0) ys
-    → Gives c bit (λ w. word_sle (length xs) (number_in w xs) (number_in w ys)) → AreBitsOf t m c u (bit ∷ [])
+    → Gives c bit (λ w. word_sle (length xs) (number_under w xs) (number_under w ys)) → AreBitsOf t m c u (bit ∷ [])
 ChainGives t m c ts Other u = ⊤
 
 width_words : (a b r : Option Sort) (n : ℕ) → AreWords a b r → n ≡ bit_count_of a → n ≡ bit_count_of r
@@ -78,12 +78,12 @@ operated f t m c x y u xs ys bits s sort value hx hy h = record {
       subst (λ o. WritesOf o (val u v) (values a bits)) (sym sort)
       (subst (λ z. WritesOf (same_word_sort (sort_of x) (sort_of y)) z (values a bits)) (sym (value v))
       (writes_word f (sort_of x) (sort_of y) (val x v) (val y v) (values a xs) (values a ys) (values a bits) s (hx.value a v w r) (hy.value a v w r)
-      (length-map bits (bit_value a) ∙ (h.width ∙ lx)) (h.number a w ∙ ap (λ k. f k (number_in a xs) (number_in a ys)) lx)));
+      (length-map bits (bit_value a) ∙ (h.width ∙ lx)) (h.number a w ∙ ap (λ k. f k (number_under a xs) (number_under a ys)) lx)));
 }
 
 signed : (f : ℕ → ℕ → ℕ → Bool) (t : Term) (m : Variables) (c : Circuit) (x y u : Term) (xs ys : List Bit) (bit : Bit) → IsSome (compared (same_word_sort (sort_of x) (sort_of y)))
     → sort_of u ≡ compared (same_word_sort (sort_of x) (sort_of y)) → ((v : Valuation) → val u v ≡ truth_value (f (width_of_sort (sort_of x)) (as_number (val x v)) (as_number (val y v))))
-    → AreBitsOf t m c x xs → AreBitsOf t m c y ys → Gives c bit (λ w. f (length xs) (number_in w xs) (number_in w ys)) → AreBitsOf t m c u (bit ∷ [])
+    → AreBitsOf t m c x xs → AreBitsOf t m c y ys → Gives c bit (λ w. f (length xs) (number_under w xs) (number_under w ys)) → AreBitsOf t m c u (bit ∷ [])
 signed f t m c x y u xs ys bit s sort value hx hy h = record {
   known = one_known c bit h.known;
   width = sym (ap bit_count_of (sort ∙ compared_truth (same_word_sort (sort_of x) (sort_of y)) s));
@@ -91,7 +91,7 @@ signed f t m c x y u xs ys bit s sort value hx hy h = record {
       subst (λ o. WritesOf o (val u v) (bit_value a bit ∷ [])) (sym sort)
       (subst (λ z. WritesOf (compared (same_word_sort (sort_of x) (sort_of y))) z (bit_value a bit ∷ [])) (sym (value v))
       (writes_signed f (sort_of x) (sort_of y) (val x v) (val y v) (values a xs) (values a ys) (bit_value a bit) s (hx.value a v w r) (hy.value a v w r)
-      (h.value a w ∙ ap (λ k. f k (number_in a xs) (number_in a ys)) (sym (length-map xs (bit_value a))))));
+      (h.value a w ∙ ap (λ k. f k (number_under a xs) (number_under a ys)) (sym (length-map xs (bit_value a))))));
 }
 
 pub chain_gives : (t : Term) (m : Variables) (c : Circuit) (ns : Entries Sort) (ts : List Term) (n : Node) → IsSome (sort_of (tree_of ns ts n)) → ChainGives t m c ts (form_of n) (tree_of ns ts n)

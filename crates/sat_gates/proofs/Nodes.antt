@@ -9,7 +9,7 @@ use Rattle.wb_values.specs.Value.{Sort, truth, word, memory, Value, truth_value,
 use Rattle.wb_values.specs.Choice.{some_if}
 use Rattle.model_meaning.specs.Term.{bits_sort, same_bits_sort, same_word_sort, compared, concat_sort, extract_sort, extended_sort, ite_sort, same_sort, width_of_sort, complement, conjunction, disjunction, exclusive_or, is_equal}
 use Rattle.wb_values.specs.Number.{word_add, word_sub, word_ult, word_ule, word_concat, word_extract, word_zext, word_sext, top_bit}
-use Rattle.gate_base.specs.Circuit.{differ}
+use Rattle.gate_base.specs.Circuit.{exactly_one}
 use Rattle.gate_words.specs.declared.chains.Cell.{Cell}
 use Rattle.gate_words.specs.declared.chains.Cell.TheVariants as cell
 use Rattle.gate_words.specs.Binary.{digit, number_of}
@@ -140,7 +140,7 @@ writes_or = both_bits disjunction cell.Or (λ p q. p || q) _ (λ p q. refl) (λ 
 
 pub writes_xor : (a b : Option Sort) (x y : Value) (xs ys out : List Bool) → IsSome (same_bits_sort a b) → WritesOf a x xs → WritesOf b y ys
     → out ≡ outputs cell.Xor false xs ys → WritesOf (same_bits_sort a b) (exclusive_or x y) out
-writes_xor = both_bits exclusive_or cell.Xor differ _ (λ p q. refl) (λ m n. refl) (λ p q. refl) (number-xor false)
+writes_xor = both_bits exclusive_or cell.Xor exactly_one _ (λ p q. refl) (λ m n. refl) (λ p q. refl) (number-xor false)
 
 -- complement
 pub not_bits : (o : Option Sort) → IsSome (bits_sort o) → (o ≡ Some truth) ⊎ ((u : ℕ) × (o ≡ Some (word u)))

@@ -15,7 +15,7 @@ use Rattle.gate_base.specs.declared.bits.Bit.{Bit}
 use Rattle.gate_base.specs.declared.bits.Bit.TheVariants.{Constant, Literal}
 use Rattle.gate_base.specs.Circuit.{Circuit, size, IsKnown, bit_value}
 use Rattle.gate_words.specs.declared.chains.Cell.TheVariants as cell
-use Rattle.gate_words.specs.Binary.{number_of, number_in, values, AreKnown, literals_from}
+use Rattle.gate_words.specs.Binary.{number_of, number_under, values, AreKnown, literals_from}
 use Rattle.gate_words.specs.Cells.{IsChain}
 use Rattle.gate_words.proofs.Numbers.{number-difference, number-zeros}
 use Rattle.sat_gates.specs.Encodes.{Variables, Writes}
@@ -64,7 +64,7 @@ name_bits g root firsts c j first count s bits (f, inside, at, fits, vars, stand
         value_of None = 0
 
 pub const_bits : (t : Term) (m : Variables) (c : Circuit) (w x : ℕ) (bits : List Bit) → IsSome (sort_of (const w x)) → ((d : Circuit) → AreKnown d bits) → length bits ≡ w
-    → ((a : List Bool) → number_in a bits ≡ x) → AreBitsOf t m c (const w x) bits
+    → ((a : List Bool) → number_under a bits ≡ x) → AreBitsOf t m c (const w x) bits
 const_bits t m c w x bits some known wide value =
     let whole : sort_of (const w x) ≡ Some (word w) = some_is _ (word w) some in
     record {
@@ -85,11 +85,11 @@ negative_word c zs xs bits last z h =
       width = h.width ∙ n;
       value = λ a f.
           let l : length (values a zs) ≡ length (values a xs) = length-map zs (bit_value a) ∙ (n ∙ sym (length-map xs (bit_value a))) in
-          let nothing : number_of (values a zs) ≡ 0 = ap (number_in a) z ∙ (ap number_of (zero_values a (length xs)) ∙ number-zeros (length xs)) in
+          let nothing : number_of (values a zs) ≡ 0 = ap (number_under a) z ∙ (ap number_of (zero_values a (length xs)) ∙ number-zeros (length xs)) in
           let wide : length (values a zs) ≡ length xs = length-map zs (bit_value a) ∙ n in
           ap number_of (h.are_outputs a f) ∙ (number-difference (values a zs) (values a xs) l
-          ∙ (ap (λ k. (k + (2 ^ length (values a zs) - number_in a xs)) % 2 ^ length (values a zs)) nothing
-          ∙ (ap (λ k. (0 + (2 ^ k - number_in a xs)) % 2 ^ k) wide ∙ ap (λ k. k % 2 ^ length xs) (let e : 0 + (2 ^ length xs - number_in a xs) ≡ 2 ^ length xs - number_in a xs = omega arith in e))));
+          ∙ (ap (λ k. (k + (2 ^ length (values a zs) - number_under a xs)) % 2 ^ length (values a zs)) nothing
+          ∙ (ap (λ k. (0 + (2 ^ k - number_under a xs)) % 2 ^ k) wide ∙ ap (λ k. k % 2 ^ length xs) (let e : 0 + (2 ^ length xs - number_under a xs) ≡ 2 ^ length xs - number_under a xs = omega arith in e))));
     }
 
 word_of : (o : Option Sort) → IsSome (word_sort o) → (u : ℕ) × (o ≡ Some (word u)) × (word_sort o ≡ Some (word u))

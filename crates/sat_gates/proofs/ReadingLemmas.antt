@@ -17,7 +17,7 @@ use Rattle.sat_gates.specs.Layout.{variables_from, variables_of_sort, variables_
 use Rattle.sat_gates.proofs.Encoding.{bit_names}
 use Rattle.sat_gates.proofs.Layouts.{IsBitSort, absent, same_itself, not_same, laid_count, look, variables_count}
 use Rattle.wb_terms.specs.declared.values.Value.{Value}
-use Rattle.wb_terms.specs.Environment.{as_value, named, AreOfSorts}
+use Rattle.wb_terms.specs.Environment.{as_value, values_by_name, AreOfSorts}
 use Rattle.sat_gates.specs.Used.{entry_at}
 use Rattle.sat_gates.specs.Reading.{IsRead, zero_of, IsZeroElsewhere}
 
@@ -64,12 +64,12 @@ are_of_sorts (e ∷ es) [] n h = absurd (omega (arith, n))
 are_of_sorts (e ∷ es) (x ∷ vs) n h = (h 0 x (omega arith), are_of_sorts es vs (omega (arith, n)) (λ k d i. h (suc k) d (omega (arith, i))))
 
 pub value_at : (es : Entries Sort) (vs : List Value) (j : ℕ) (d : Value) → HasDistinctNames es → j < length es → length vs ≡ length es
-    → valuation_of (named es (map as_value vs)) (entry_at es j).0 ≡ as_value (get_or vs j d)
+    → valuation_of (values_by_name es (map as_value vs)) (entry_at es j).0 ≡ as_value (get_or vs j d)
 value_at [] vs j d s i n = absurd (omega (arith, i))
 value_at (e ∷ es) [] j d s i n = absurd (omega (arith, n))
-value_at (e ∷ es) (x ∷ vs) zero d s i n = ap (λ b. value_or_zero (cond b (Some (as_value x)) (entry_of (named es (map as_value vs)) e.0))) (same_itself e.0)
+value_at (e ∷ es) (x ∷ vs) zero d s i n = ap (λ b. value_or_zero (cond b (Some (as_value x)) (entry_of (values_by_name es (map as_value vs)) e.0))) (same_itself e.0)
 value_at (e ∷ es) (x ∷ vs) (suc j) d s i n =
-    ap (λ b. value_or_zero (cond b (Some (as_value x)) (entry_of (named es (map as_value vs)) (entry_at es j).0))) (not_same (entry_at es j).0 e.0 (absent es e.0 j (omega (arith, i)) s.0))
+    ap (λ b. value_or_zero (cond b (Some (as_value x)) (entry_of (values_by_name es (map as_value vs)) (entry_at es j).0))) (not_same (entry_at es j).0 e.0 (absent es e.0 j (omega (arith, i)) s.0))
     ∙ value_at es vs j d s.1 (omega (arith, i)) (omega (arith, n))
 
 -- bits read of a word or a truth value write it
@@ -82,7 +82,7 @@ bits_read a (Some f) (memory c e) x t b r = absurd b
 -- the assignment restricts to the values that are read
 pub restricted : (g : Graph) (root : ℕ) (fs : List (Option ℕ)) (vars : ℕ) (a : List Bool) (vs : List Value) (d : Value) → HasDistinctNames g.names → is_blastable (tree g root) ≡ true
     → IsNumbered g.names (names_in (tree g root)) fs vars → AreRead g.names fs a (length g.names) vs
-    → RestrictsTo (variables_of g.names fs) a (valuation_of (named g.names (map as_value vs))) (tree g root)
+    → RestrictsTo (variables_of g.names fs) a (valuation_of (values_by_name g.names (map as_value vs))) (tree g root)
 restricted g root fs vars a vs d distinct blastable numbered h n s stands =
     let u = numbered.declared n s stands in
     let j = u.0 in
@@ -92,21 +92,21 @@ restricted g root fs vars a vs d distinct blastable numbered h n s stands =
     let bit : IsBitSort e.1 = bit_names (tree g root) blastable e.0 e.1 here in
     let read = bits_read a (get_or fs j None) e.1 (as_value (get_or vs j d)) some bit (h.read j d u.1) in
     let variables = look g.names fs j distinct u.1 (laid_count 0 g.names fs numbered.end numbered.laid_out) in
-    subst (λ (x : Name × Sort). Writes x.1 (valuation_of (named g.names (map as_value vs)) x.0) (map (variable_value a) (variables_of g.names fs x.0))) u.2
+    subst (λ (x : Name × Sort). Writes x.1 (valuation_of (values_by_name g.names (map as_value vs)) x.0) (map (variable_value a) (variables_of g.names fs x.0))) u.2
     (subst (λ y. Writes e.1 y (map (variable_value a) (variables_of g.names fs e.0))) (sym (value_at g.names vs j d distinct u.1 h.count))
     (subst (λ xs. Writes e.1 (as_value (get_or vs j d)) (map (variable_value a) xs)) (sym variables) read))
 
 pub falsified : (g : Graph) (root : ℕ) (fs : List (Option ℕ)) (f : Formula) (a : List Bool) (vs : List Value) (d : Value) → HasDistinctNames g.names → is_blastable (tree g root) ≡ true
     → Encodes f (variables_of g.names fs) (tree g root) → IsNumbered g.names (names_in (tree g root)) fs f.vars → length a ≡ f.vars → Satisfies a f
-    → AreRead g.names fs a (length g.names) vs → val (tree g root) (valuation_of (named g.names (map as_value vs))) ≡ truth_value false
+    → AreRead g.names fs a (length g.names) vs → val (tree g root) (valuation_of (values_by_name g.names (map as_value vs))) ≡ truth_value false
 falsified g root fs f a vs d distinct blastable encodes numbered whole satisfies h =
-    let v = valuation_of (named g.names (map as_value vs)) in
+    let v = valuation_of (values_by_name g.names (map as_value vs)) in
     (encodes.some v sorts).1 (a, record { whole = whole; satisfies = satisfies; restricts = restricted g root fs f.vars a vs d distinct blastable numbered h })
   where
-    sorts : GivesSorts (valuation_of (named g.names (map as_value vs))) (tree g root)
+    sorts : GivesSorts (valuation_of (values_by_name g.names (map as_value vs))) (tree g root)
     sorts n s stands =
         let u = numbered.declared n s stands in
-        subst (λ (x : Name × Sort). HasSort (valuation_of (named g.names (map as_value vs)) x.0) x.1) u.2
+        subst (λ (x : Name × Sort). HasSort (valuation_of (values_by_name g.names (map as_value vs)) x.0) x.1) u.2
         (subst (λ y. HasSort y (entry_at g.names u.0).1) (sym (value_at g.names vs u.0 d distinct u.1 h.count)) (h.of_sort u.0 d u.1))
 
 -- a name without variables is read as zero
@@ -116,7 +116,7 @@ unread a (Some first) s x none r = absurd (none refl)
 
 pub zero_elsewhere : (g : Graph) (root : ℕ) (fs : List (Option ℕ)) (vars : ℕ) (a : List Bool) (vs : List Value) (d : Value) → HasDistinctNames g.names
     → IsNumbered g.names (names_in (tree g root)) fs vars → AreRead g.names fs a (length g.names) vs
-    → IsZeroElsewhere g.names (names_in (tree g root)) (valuation_of (named g.names (map as_value vs)))
+    → IsZeroElsewhere g.names (names_in (tree g root)) (valuation_of (values_by_name g.names (map as_value vs)))
 zero_elsewhere g root fs vars a vs d distinct numbered h j i away =
     value_at g.names vs j d distinct i h.count
     ∙ unread a (get_or fs j None) (entry_at g.names j).1 (as_value (get_or vs j d)) (λ some. away ((numbered.stands j i).0 some)) (h.read j d i)

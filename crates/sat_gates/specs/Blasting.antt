@@ -4,8 +4,8 @@ use Rattle.std.specs.Global.{Global}
 use Rattle.wb_values.specs.Value.{Sort, Value, Valuation}
 use Rattle.model_meaning.specs.Term.{Term, sort_of, val}
 use Rattle.gate_base.specs.declared.bits.Bit.{Bit}
-use Rattle.gate_base.specs.Circuit.{Circuit, Follows}
-use Rattle.gate_words.specs.Binary.{values, number_in, AreKnown}
+use Rattle.gate_base.specs.Circuit.{Circuit, FollowsCircuit}
+use Rattle.gate_words.specs.Binary.{values, number_under, AreKnown}
 use Rattle.wb_values.specs.Number.{word_neg}
 use Rattle.sat_gates.specs.Encodes.{Writes, Variables, RestrictsTo}
 use Rattle.wb_terms.specs.Graph.{Graph, tree}
@@ -22,7 +22,7 @@ WritesOf None x bits = ⊥
 pub record AreBitsOf (t : Term) (m : Variables) (c : Circuit) (u : Term) (bits : List Bit) : Type 0 where
   pub known : AreKnown c bits
   pub width : length bits ≡ bit_count_of (sort_of u)
-  pub value : (a : List Bool) (v : Valuation) → Follows a c → RestrictsTo m a v t → WritesOf (sort_of u) (val u v) (values a bits)
+  pub value : (a : List Bool) (v : Valuation) → FollowsCircuit a c → RestrictsTo m a v t → WritesOf (sort_of u) (val u v) (values a bits)
 
 -- the bits that are there, if any are
 abbrev pub bits_at : Option (Vec Bit Global) → List Bit
@@ -54,4 +54,4 @@ AllHaveVariables g root firsts inputs = (j : ℕ) → j < length g.names → Con
 pub record IsNegative (c : Circuit) (xs bits : List Bit) : Type 0 where
   pub known : AreKnown c bits
   pub width : length bits ≡ length xs
-  pub value : (a : List Bool) → Follows a c → number_in a bits ≡ word_neg (length xs) (number_in a xs)
+  pub value : (a : List Bool) → FollowsCircuit a c → number_under a bits ≡ word_neg (length xs) (number_under a xs)

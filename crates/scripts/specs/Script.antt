@@ -43,8 +43,8 @@ abbrev pub pieces_at : (ℕ → Bool) → List ℕ → List (List ℕ)
 pieces_at p [] = [] ∷ []
 pieces_at p (b ∷ bs) = cond (p b) ([] ∷ pieces_at p bs) (with_byte b (pieces_at p bs))
 
-abbrev pub is_line_feed : ℕ → Bool
-is_line_feed b = b == 10
+abbrev pub is_line_end : ℕ → Bool
+is_line_end b = b == 10
 
 abbrev pub is_return : ℕ → Bool
 is_return b = b == 13
@@ -57,10 +57,10 @@ is_space_or_tab b = b == 32 || b == 9
 abbrev pub without_returns : List ℕ → List ℕ
 without_returns [] = []
 without_returns (a ∷ []) = a ∷ []
-without_returns (a ∷ b ∷ rest) = cond (is_return a && is_line_feed b) (without_returns (b ∷ rest)) (a ∷ without_returns (b ∷ rest))
+without_returns (a ∷ b ∷ rest) = cond (is_return a && is_line_end b) (without_returns (b ∷ rest)) (a ∷ without_returns (b ∷ rest))
 
 abbrev pub lines_of : List ℕ → List (List ℕ)
-lines_of text = pieces_at is_line_feed (without_returns text)
+lines_of text = pieces_at is_line_end (without_returns text)
 
 abbrev pub without_empty : List (List ℕ) → List (List ℕ)
 without_empty [] = []
@@ -82,8 +82,8 @@ without_skipped (line ∷ lines) = cond (is_skipped line) (without_skipped lines
 
 -- ---- numbers
 
-abbrev pub is_decimal_digit : ℕ → Bool
-is_decimal_digit b = nat_le 48 b && nat_le b 57
+abbrev pub is_script_digit : ℕ → Bool
+is_script_digit b = nat_le 48 b && nat_le b 57
 
 abbrev pub with_decimal_digits : ℕ → List ℕ → ℕ
 with_decimal_digits n [] = n
@@ -92,12 +92,12 @@ with_decimal_digits n (b ∷ bs) = with_decimal_digits (n * 10 + (b - 48)) bs
 -- decimal digits, the first of them no 0 where there are more
 abbrev pub decimal_in : List ℕ → Option ℕ
 decimal_in [] = None
-decimal_in (b ∷ []) = some_if (is_decimal_digit b) (b - 48)
-decimal_in (b ∷ c ∷ bs) = some_if (not (b == 48) && list_all is_decimal_digit (b ∷ c ∷ bs)) (with_decimal_digits 0 (b ∷ c ∷ bs))
+decimal_in (b ∷ []) = some_if (is_script_digit b) (b - 48)
+decimal_in (b ∷ c ∷ bs) = some_if (not (b == 48) && list_all is_script_digit (b ∷ c ∷ bs)) (with_decimal_digits 0 (b ∷ c ∷ bs))
 
 -- a digit of either case
 abbrev pub is_either_hexadecimal_digit : ℕ → Bool
-is_either_hexadecimal_digit b = is_decimal_digit b || nat_le 97 b && nat_le b 102 || nat_le 65 b && nat_le b 70
+is_either_hexadecimal_digit b = is_script_digit b || nat_le 97 b && nat_le b 102 || nat_le 65 b && nat_le b 70
 
 abbrev pub either_digit_value : ℕ → ℕ
 either_digit_value b = cond (nat_le 97 b) (b - 87) (cond (nat_le 65 b) (b - 55) (b - 48))

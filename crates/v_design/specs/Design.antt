@@ -3,7 +3,7 @@ use Rattle.std.specs.Prelude.{◌≡◌, ◌≢◌, ℕ, Bool, true, false, cond
 use Rattle.wb_values.specs.Value.{Name, Sort, truth, word, memory, Value, Entries, Valuation, valuation_of, entry_of}
 use Rattle.model_meaning.specs.Term.{sort_of}
 use Rattle.wb_terms.specs.Graph.{HasDistinctNames, tree}
-use Rattle.wb_terms.specs.Environment.{AreOfSorts, named}
+use Rattle.wb_terms.specs.Environment.{AreOfSorts, values_by_name}
 use Rattle.verilog_trees.specs.Syntax.{Direction, input, output, Module}
 use Rattle.verilog_meaning.specs.Expression.{Object, object_width, is_memory}
 use Rattle.verilog_meaning.specs.Register.{word_count, value_bit}
@@ -62,7 +62,7 @@ worth e registers inputs id = value_in e (values_under (registers_of e) register
 -- the registers after the edge, by their names
 abbrev pub after_cycle : Parts → (registers inputs : Valuation) → Valuation
 after_cycle e registers inputs =
-    valuation_of (named (registers_of e) (registers_after e (values_under (registers_of e) registers) (values_under (inputs_of e) inputs)))
+    valuation_of (values_by_name (registers_of e) (registers_after e (values_under (registers_of e) registers) (values_under (inputs_of e) inputs)))
 
 -- The term is of the sort of a net's or variable's values.
 pub record IsTermOfObject (e : Parts) (o : Object) (id : ℕ) : Type 0 where

@@ -3,7 +3,7 @@ use Rattle.std.specs.Prelude.{ℕ, Bool, true, false, ◌&&◌, nat_lt, ◌++◌
 use Rattle.wb_values.specs.Value.{Name, Sort, truth, word, memory, Value, Entries, Valuation, valuation_of}
 use Rattle.model_meaning.specs.Term.{val, sort_of, same_sort}
 use Rattle.wb_terms.specs.Graph.{Graph, tree}
-use Rattle.wb_terms.specs.Environment.{named}
+use Rattle.wb_terms.specs.Environment.{values_by_name}
 
 -- A store of terms whose names are the design's registers and then the inputs of its top; the term of each register's value after the
 -- clock's edge, in the order of the registers; the term of what each net and variable settles to, by its dotted name; and the
@@ -58,7 +58,7 @@ are_words (n ∷ ns) = is_word n.1 && are_words ns
 
 -- What stands for the names of the store, where the registers and the inputs have these values in their order.
 abbrev pub at_cycle : Parts → (registers inputs : List Value) → Valuation
-at_cycle d rs is = valuation_of (named d.graph.names (rs ++ is))
+at_cycle d rs is = valuation_of (values_by_name d.graph.names (rs ++ is))
 
 -- the value of a term there
 abbrev pub value_in : Parts → (registers inputs : List Value) → ℕ → Value

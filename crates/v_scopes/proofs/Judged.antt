@@ -7,7 +7,7 @@ use Rattle.verilog_meaning.specs.Hierarchy.{Placed, module_named}
 use Rattle.verilog_meaning.specs.Settled.{Design}
 use Rattle.verilog_designs.specs.Known.{known_at}
 use Rattle.verilog_designs.specs.Names.{has_undeclared, has_duplicate, has_duplicate_module}
-use Rattle.verilog_designs.specs.Accepted.{Kind, kinds, no_top, undeclared, duplicate_name, bad_hierarchy, has_xz, bad_port, bad_constant, width_over_128, bad_select, memory_use, clock_as_data, bad_event_list, blocking_in_clocked, nonblocking_in_comb, latch, bad_driver, undriven, comb_loop, HasNoTop, has_no_clock, HasUndeclared, HasDuplicateName, StandsIn, Breaks, IsRefusedBy}
+use Rattle.verilog_designs.specs.Accepted.{DesignKind, kinds, no_top, undeclared, duplicate_name, bad_hierarchy, has_xz, bad_port, bad_constant, width_over_128, bad_select, memory_use, clock_as_data, bad_event_list, blocking_in_clocked, nonblocking_in_comb, latch, bad_driver, undriven, comb_loop, HasNoTop, has_no_clock, HasUndeclared, HasDuplicateName, StandsIn, Breaks, IsRefusedBy}
 use Rattle.v_hier.specs.Instances.{has_parts}
 use Rattle.v_scopes.specs.declared.refusal.ScopesKind.TheVariants.{NotYet, NoTop, Undeclared, DuplicateName}
 use Rattle.v_scopes.specs.Ports.{alone, lacks_clock}
@@ -16,42 +16,42 @@ use Rattle.v_scopes.proofs.Parts.{or_left, or_right, some_is, none_some, top_alo
 
 -- ---- the order of the kinds
 
-abbrev is_no_top : Kind → Bool
+abbrev is_no_top : DesignKind → Bool
 is_no_top no_top = true
 is_no_top _ = false
 
-abbrev is_undeclared : Kind → Bool
+abbrev is_undeclared : DesignKind → Bool
 is_undeclared undeclared = true
 is_undeclared _ = false
 
-abbrev is_duplicate : Kind → Bool
+abbrev is_duplicate : DesignKind → Bool
 is_duplicate duplicate_name = true
 is_duplicate _ = false
 
-at_no_place : (p : Kind → Bool) (ks : List Kind) (i : ℕ) (k : Kind) → list_any p ks ≡ false → slice_get ks i ≡ Some k → p k ≡ false
+at_no_place : (p : DesignKind → Bool) (ks : List DesignKind) (i : ℕ) (k : DesignKind) → list_any p ks ≡ false → slice_get ks i ≡ Some k → p k ≡ false
 at_no_place p [] i k h e = absurd (none_some k e)
 at_no_place p (x ∷ ks) zero k h e = subst (λ y. p y ≡ false) (some_is x k e) (or_left (p x) (list_any p ks) h)
 at_no_place p (x ∷ ks) (suc i) k h e = at_no_place p ks i k (or_right (p x) (list_any p ks) h) e
 
-abbrev after_third : List Kind
+abbrev after_third : List DesignKind
 after_third =
     bad_hierarchy ∷ has_xz ∷ bad_port ∷ bad_constant ∷ width_over_128 ∷ bad_select ∷ memory_use
     ∷ clock_as_data ∷ bad_event_list ∷ blocking_in_clocked ∷ nonblocking_in_comb ∷ latch ∷ bad_driver ∷ undriven ∷ comb_loop ∷ []
 
-abbrev after_second : List Kind
+abbrev after_second : List DesignKind
 after_second = duplicate_name ∷ after_third
 
-abbrev after_first : List Kind
+abbrev after_first : List DesignKind
 after_first = undeclared ∷ after_second
 
-before_first : (d : Design) (i j : ℕ) (k : Kind) → slice_get kinds i ≡ Some k → slice_get kinds j ≡ Some no_top → i < j → ¬ Breaks d k
+before_first : (d : Design) (i j : ℕ) (k : DesignKind) → slice_get kinds i ≡ Some k → slice_get kinds j ≡ Some no_top → i < j → ¬ Breaks d k
 before_first d i zero k e f l = absurd (omega (arith, l))
 before_first d i (suc j) k e f l = absurd (true≢false (at_no_place is_no_top after_first j no_top refl f))
 
 refused_first : (d : Design) → Breaks d no_top → IsRefusedBy d no_top
 refused_first d b = record { breaks = b; first = before_first d }
 
-before_second : (d : Design) → ¬ Breaks d no_top → (i j : ℕ) (k : Kind) → slice_get kinds i ≡ Some k → slice_get kinds j ≡ Some undeclared → i < j → ¬ Breaks d k
+before_second : (d : Design) → ¬ Breaks d no_top → (i j : ℕ) (k : DesignKind) → slice_get kinds i ≡ Some k → slice_get kinds j ≡ Some undeclared → i < j → ¬ Breaks d k
 before_second d n zero j k e f l = subst (λ y. ¬ Breaks d y) (some_is no_top k e) n
 before_second d n (suc i) zero k e f l = absurd (omega (arith, l))
 before_second d n (suc i) (suc zero) k e f l = absurd (omega (arith, l))
@@ -60,7 +60,7 @@ before_second d n (suc i) (suc (suc j)) k e f l = absurd (true≢false (at_no_pl
 refused_second : (d : Design) → Breaks d undeclared → ¬ Breaks d no_top → IsRefusedBy d undeclared
 refused_second d b n = record { breaks = b; first = before_second d n }
 
-before_third : (d : Design) → ¬ Breaks d no_top → ¬ Breaks d undeclared → (i j : ℕ) (k : Kind) → slice_get kinds i ≡ Some k → slice_get kinds j ≡ Some duplicate_name → i < j → ¬ Breaks d k
+before_third : (d : Design) → ¬ Breaks d no_top → ¬ Breaks d undeclared → (i j : ℕ) (k : DesignKind) → slice_get kinds i ≡ Some k → slice_get kinds j ≡ Some duplicate_name → i < j → ¬ Breaks d k
 before_third d n u zero j k e f l = subst (λ y. ¬ Breaks d y) (some_is no_top k e) n
 before_third d n u (suc zero) j k e f l = subst (λ y. ¬ Breaks d y) (some_is undeclared k e) u
 before_third d n u (suc (suc i)) zero k e f l = absurd (omega (arith, l))

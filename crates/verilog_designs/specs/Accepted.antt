@@ -15,12 +15,12 @@ use Rattle.verilog_designs.specs.Paths.{HasBadEventList, HasBlockingInClocked, H
 use Rattle.verilog_designs.specs.Drivers.{HasBadDriver, HasUndriven}
 use Rattle.verilog_designs.specs.Dependence.{HasLoop}
 
-pub data Kind : Type 0 where
-  no_top undeclared duplicate_name bad_hierarchy has_xz bad_port bad_constant width_over_128 bad_select memory_use : Kind
-  clock_as_data bad_event_list blocking_in_clocked nonblocking_in_comb latch bad_driver undriven comb_loop : Kind
+pub data DesignKind : Type 0 where
+  no_top undeclared duplicate_name bad_hierarchy has_xz bad_port bad_constant width_over_128 bad_select memory_use : DesignKind
+  clock_as_data bad_event_list blocking_in_clocked nonblocking_in_comb latch bad_driver undriven comb_loop : DesignKind
 
 -- in the order in which they are answered
-abbrev pub kinds : List Kind
+abbrev pub kinds : List DesignKind
 kinds =
     no_top ∷ undeclared ∷ duplicate_name ∷ bad_hierarchy ∷ has_xz ∷ bad_port ∷ bad_constant ∷ width_over_128 ∷ bad_select ∷ memory_use
     ∷ clock_as_data ∷ bad_event_list ∷ blocking_in_clocked ∷ nonblocking_in_comb ∷ latch ∷ bad_driver ∷ undriven ∷ comb_loop ∷ []
@@ -131,7 +131,7 @@ pub data HasBadHierarchy (d : Design) : Type 0 where
 -- ---- all kinds
 
 -- The design breaks the rule of this kind. From ClockAsData on each constant has its value: else a kind before it is broken.
-abbrev pub Breaks : Design → Kind → Type 0
+abbrev pub Breaks : Design → DesignKind → Type 0
 Breaks d no_top = HasNoTop d
 Breaks d undeclared = HasUndeclared d
 Breaks d duplicate_name = HasDuplicateName d
@@ -152,10 +152,10 @@ Breaks d undriven = HasUndriven d
 Breaks d comb_loop = HasLoop d
 
 -- It is refused by the first kind that it breaks.
-pub record IsRefusedBy (d : Design) (kind : Kind) : Type 0 where
+pub record IsRefusedBy (d : Design) (kind : DesignKind) : Type 0 where
   pub breaks : Breaks d kind
-  pub first : (i j : ℕ) (before : Kind) → slice_get kinds i ≡ Some before → slice_get kinds j ≡ Some kind → i < j → ¬ Breaks d before
+  pub first : (i j : ℕ) (before : DesignKind) → slice_get kinds i ≡ Some before → slice_get kinds j ≡ Some kind → i < j → ¬ Breaks d before
 
 -- A design is accepted where it breaks none. (Its tree is that of a text: numbers fit their widths, and parts have bits.)
 abbrev pub IsAccepted : Design → Type 0
-IsAccepted d = (kind : Kind) → ¬ Breaks d kind
+IsAccepted d = (kind : DesignKind) → ¬ Breaks d kind

@@ -1,7 +1,7 @@
 -- Designs that break no rule, but perhaps that on loops.
 use Rattle.std.specs.Prelude.{◌≢◌}
 use Rattle.verilog_meaning.specs.Settled.{Design}
-use Rattle.verilog_designs.specs.Accepted.{Kind, comb_loop, Breaks}
+use Rattle.verilog_designs.specs.Accepted.{DesignKind, comb_loop, Breaks}
 
 abbrev pub IsAcceptedButForLoops : Design → Type 0
-IsAcceptedButForLoops d = (kind : Kind) → kind ≢ comb_loop → ¬ Breaks d kind
+IsAcceptedButForLoops d = (kind : DesignKind) → kind ≢ comb_loop → ¬ Breaks d kind

@@ -9,7 +9,7 @@ use Rattle.model_meaning.specs.Term as terms
 use Rattle.model_meaning.specs.Term.{Term, is_sort, is_width, sort_of, bits_sort, same_bits_sort, word_sort, same_word_sort, compared, concat_sort, extract_sort, extended_sort, ite_sort, load_sort, store_sort}
 use Rattle.model_meaning.specs.Model.{StateDeclaration, InputDeclaration}
 use Rattle.model_files.specs.Written.{UnaryForm, not, neg, BinaryForm, and, or, xor, add, sub, mul, shl, lshr, ashr, eq, ult, ule, slt, sle, concat, load, Widening, zext, sext, WrittenTerm, name, constant_truth, const, unary, binary, extract, widen, ite, store, WrittenMachine, machine, WrittenInstruction, instruction, WrittenInstructions, no_instructions, and_then, WrittenChild, no_child, child, WrittenModel}
-use Rattle.model_files.specs.Scope.{Visible, unary_term, binary_term, widened_term, unary_sort, binary_sort, term_named, term_of, written_sort, declared, defined, Scope, with_inputs, with_states, with_definitions, with_fetch, scope_within, of_definition, of_fetch, of_condition, of_update, Placed, placed, placed_definitions, placed_fetch, placed_updates, terms_in, terms_below, terms_of_instruction, terms_of_child, outermost, all_terms}
+use Rattle.model_files.specs.Scope.{Visible, unary_term, binary_term, widened_term, unary_sort, binary_sort, term_named, term_of, written_sort, declared, defined, MachineScope, with_inputs, with_states, with_definitions, with_fetch, scope_within, of_definition, of_fetch, of_condition, of_update, PlacedTerm, placed, placed_definitions, placed_fetch, placed_updates, terms_in, terms_below, terms_of_instruction, terms_of_child, outermost, all_terms}
 use Rattle.model_files.specs.Rules.{uses_unknown_name, is_unknown_at, has_unknown_name, has_fitting_constants}
 use Rattle.wb_laws.specs.Written.{meant, IsTermOf, TermsSortIsTheWritten, SortsAreTheSame}
 
@@ -244,18 +244,18 @@ record Way : Type 1 where
   pub term : (names : Entries Visible) (e : WrittenTerm) → AgreeOn Agree names → fine names e ≡ true → Agree (written_sort names e) (sort_of (term_of names e))
   pub declaration : (n : Name) (s : Sort) → Agree (some_if (is_sort s) s) (sort_of (terms.name n s))
 
-abbrev AllFine : Way → List Placed → Type 0
+abbrev AllFine : Way → List PlacedTerm → Type 0
 AllFine w ps = list_all (λ p. w.fine p.names p.written) ps ≡ true
 
-abbrev AllAgree : Way → List Placed → Type 0
+abbrev AllAgree : Way → List PlacedTerm → Type 0
 AllAgree w [] = ⊤
 AllAgree w (p ∷ ps) = w.Agree (written_sort p.names p.written) (sort_of (meant p)) × AllAgree w ps
 
-both_agree : (w : Way) (ps qs : List Placed) → AllAgree w ps → AllAgree w qs → AllAgree w (ps ++ qs)
+both_agree : (w : Way) (ps qs : List PlacedTerm) → AllAgree w ps → AllAgree w qs → AllAgree w (ps ++ qs)
 both_agree w [] qs a b = b
 both_agree w (p ∷ ps) qs a b = (a.0, both_agree w ps qs a.1 b)
 
-both_fine : (w : Way) (ps qs : List Placed) → AllFine w (ps ++ qs) → AllFine w ps × AllFine w qs
+both_fine : (w : Way) (ps qs : List PlacedTerm) → AllFine w (ps ++ qs) → AllFine w ps × AllFine w qs
 both_fine w [] qs h = (refl, h)
 both_fine w (p ∷ ps) qs h =
     let parts = and_parts (w.fine p.names p.written) _ h in
@@ -301,9 +301,9 @@ updates_agree w names states (u ∷ us) a h =
     (w.term names u.1 a parts.0, updates_agree w names states us a parts.1)
 
 mutual
-  machine_agrees : (w : Way) (around : Scope) (m : WrittenMachine) → AgreeOn w.Agree around.names → AllFine w (terms_in around m) → AllAgree w (terms_in around m)
+  machine_agrees : (w : Way) (around : MachineScope) (m : WrittenMachine) → AgreeOn w.Agree around.names → AllFine w (terms_in around m) → AllAgree w (terms_in around m)
   machine_agrees w around (machine ss ds f v is) a h =
-      let inner : Scope = scope_within around ss ds in
+      let inner : MachineScope = scope_within around ss ds in
       let names = with_fetch inner.names f in
       let first = both_fine w (placed_definitions (with_states around.names ss) ds) _ h in
       let second = both_fine w (placed_fetch inner.names f) (placed names v of_condition ∷ terms_below inner names is) first.1 in
@@ -314,7 +314,7 @@ mutual
       (both_agree w (placed_fetch inner.names f) (placed names v of_condition ∷ terms_below inner names is) fetch.0
       (w.term names v fetch.1 third.0, instructions_agree w inner names is definitions.1 fetch.1 third.1))
 
-  instructions_agree : (w : Way) (inner : Scope) (names : Entries Visible) (is : WrittenInstructions) → AgreeOn w.Agree inner.names → AgreeOn w.Agree names
+  instructions_agree : (w : Way) (inner : MachineScope) (names : Entries Visible) (is : WrittenInstructions) → AgreeOn w.Agree inner.names → AgreeOn w.Agree names
       → AllFine w (terms_below inner names is) → AllAgree w (terms_below inner names is)
   instructions_agree w inner names no_instructions a b h = tt
   instructions_agree w inner names (and_then (instruction n d u p) is) a b h =
@@ -325,7 +325,7 @@ mutual
       (w.term names d b own.0, both_agree w (placed_updates names inner.states u) (terms_of_child inner p) (updates_agree w names inner.states u b rest.0) (child_agrees w inner p a rest.1))
       (instructions_agree w inner names is a b parts.1)
 
-  child_agrees : (w : Way) (inner : Scope) (p : WrittenChild) → AgreeOn w.Agree inner.names → AllFine w (terms_of_child inner p) → AllAgree w (terms_of_child inner p)
+  child_agrees : (w : Way) (inner : MachineScope) (p : WrittenChild) → AgreeOn w.Agree inner.names → AllFine w (terms_of_child inner p) → AllAgree w (terms_of_child inner p)
   child_agrees w inner no_child a h = tt
   child_agrees w inner (child steps m) a h = machine_agrees w inner m a h
 
@@ -335,14 +335,14 @@ none_visible w n v h = cc
 all_agree : (w : Way) (m : WrittenModel) → AllFine w (all_terms m) → AllAgree w (all_terms m)
 all_agree w m h = machine_agrees w (outermost m) m.top (inputs_agree w [] m.inputs (none_visible w)) h
 
-agree_at : (w : Way) (ps : List Placed) (k : ℕ) (p : Placed) → AllAgree w ps → slice_get ps k ≡ Some p → w.Agree (written_sort p.names p.written) (sort_of (meant p))
+agree_at : (w : Way) (ps : List PlacedTerm) (k : ℕ) (p : PlacedTerm) → AllAgree w ps → slice_get ps k ≡ Some p → w.Agree (written_sort p.names p.written) (sort_of (meant p))
 agree_at w [] k p a h = cc
 agree_at w (q ∷ ps) zero p a h = let here : q ≡ p = cc in subst (λ x. w.Agree (written_sort x.names x.written) (sort_of (meant x))) here a.0
 agree_at w (q ∷ ps) (suc k) p a h = agree_at w ps k p a.1 h
 
 -- ---- the laws
 
-not_unknown : (ps : List Placed) → list_any is_unknown_at ps ≡ false → list_all (λ p. truth_not (uses_unknown_name p.names p.written)) ps ≡ true
+not_unknown : (ps : List PlacedTerm) → list_any is_unknown_at ps ≡ false → list_all (λ p. truth_not (uses_unknown_name p.names p.written)) ps ≡ true
 not_unknown [] h = refl
 not_unknown (p ∷ ps) h =
     let parts = or_parts (is_unknown_at p) (list_any is_unknown_at ps) h in
@@ -371,7 +371,7 @@ both_ways = record {
   declaration = λ n s. refl;
 }
 
-fine_both : (ps : List Placed) → list_all (λ p. truth_not (uses_unknown_name p.names p.written)) ps ≡ true → list_all (λ p. has_fitting_constants p.written) ps ≡ true → AllFine both_ways ps
+fine_both : (ps : List PlacedTerm) → list_all (λ p. truth_not (uses_unknown_name p.names p.written)) ps ≡ true → list_all (λ p. has_fitting_constants p.written) ps ≡ true → AllFine both_ways ps
 fine_both [] a b = refl
 fine_both (p ∷ ps) a b =
     let x = and_parts (truth_not (uses_unknown_name p.names p.written)) _ a in

@@ -15,7 +15,7 @@ use Rattle.wb_terms.specs.declared.nodes.Node.{Node}
 use Rattle.wb_terms.specs.declared.nodes.Node.TheVariants.{Name as NameNode}
 use Rattle.wb_terms.specs.Sort.{as_sort}
 use Rattle.wb_terms.specs.Graph.{Graph, tree, tree_of_node, leaf_at, HasDistinctNames}
-use Rattle.wb_terms.specs.Environment.{as_value, values_of, AreOfSorts, named, Fits, valuation, value_of}
+use Rattle.wb_terms.specs.Environment.{as_value, values_of, AreOfSorts, values_by_name, Fits, valuation, value_of}
 
 pub length-AreOfSorts : (ns : Entries Sort) (xs : List Value) → AreOfSorts ns xs → length xs ≡ length ns
 length-AreOfSorts [] [] h = refl
@@ -39,16 +39,16 @@ absent_at (n ∷ ns) c zero d h b = (differs (same_name n.0 c) n.1 (entry_of ns 
 absent_at (n ∷ ns) c (suc k) d h b = absent_at ns c k d (differs (same_name n.0 c) n.1 (entry_of ns c) h).1 (omega arith)
 
 -- the name at a place stands for the value at that place
-pub value_at : (ns : Entries Sort) (xs : List Value) (k : ℕ) (d : Name × Sort) (e : Value) → HasDistinctNames ns → AreOfSorts ns xs → k < length ns → valuation_of (named ns xs) (get_or ns k d).0 ≡ get_or xs k e
+pub value_at : (ns : Entries Sort) (xs : List Value) (k : ℕ) (d : Name × Sort) (e : Value) → HasDistinctNames ns → AreOfSorts ns xs → k < length ns → valuation_of (values_by_name ns xs) (get_or ns k d).0 ≡ get_or xs k e
 value_at [] xs k d e u h b = absurd (omega arith)
 value_at (n ∷ ns) [] k d e u h b = absurd h
 value_at (n ∷ ns) (x ∷ xs) zero d e u h b =
     let t : same_name n.0 n.0 ≡ true = nat_list_eq_equiv.refl n.0 in
-    ap (λ p. value_or_zero (cond p (Some x) (entry_of (named ns xs) n.0))) t
+    ap (λ p. value_or_zero (cond p (Some x) (entry_of (values_by_name ns xs) n.0))) t
 value_at (n ∷ ns) (x ∷ xs) (suc k) d e u h b =
     let c = (get_or ns k d).0 in
     let f : same_name n.0 c ≡ false = nat_list_eq_equiv.symm n.0 c ∙ absent_at ns n.0 k d u.0 (omega arith) in
-    ap (λ p. value_or_zero (cond p (Some x) (entry_of (named ns xs) c))) f ∙ value_at ns xs k d e u.1 h.1 (omega arith)
+    ap (λ p. value_or_zero (cond p (Some x) (entry_of (values_by_name ns xs) c))) f ∙ value_at ns xs k d e u.1 h.1 (omega arith)
 
 pub name_has_value : (g : Graph) (e : Env) (k : ℕ) → Fits g e → k < length g.names → k < vec_len e.values
 name_has_value g e k f b = omega (arith, length-AreOfSorts g.names (values_of e) f, length-map e.values.items as_value, e.values.ok.0)

@@ -25,10 +25,10 @@ AreOfSorts (n ∷ ns) [] = ⊥
 AreOfSorts (n ∷ ns) (x ∷ xs) = HasSort x n.1 × AreOfSorts ns xs
 
 -- the values under their names
-abbrev pub named : Entries Sort → List meaning.Value → Entries meaning.Value
-named [] xs = []
-named (n ∷ ns) [] = []
-named (n ∷ ns) (x ∷ xs) = (n.0, x) ∷ named ns xs
+abbrev pub values_by_name : Entries Sort → List meaning.Value → Entries meaning.Value
+values_by_name [] xs = []
+values_by_name (n ∷ ns) [] = []
+values_by_name (n ∷ ns) (x ∷ xs) = (n.0, x) ∷ values_by_name ns xs
 
 -- The environment has a value for each name of the store, of its sort.
 abbrev pub Fits : Graph → Env → Type 0
@@ -36,7 +36,7 @@ Fits g e = AreOfSorts g.names (values_of e)
 
 -- what the names stand for under the environment
 abbrev pub valuation : Graph → Env → Valuation
-valuation g e = valuation_of (named g.names (values_of e))
+valuation g e = valuation_of (values_by_name g.names (values_of e))
 
 -- the value of a term of the store under the environment
 abbrev pub value_of : Graph → Env → ℕ → meaning.Value

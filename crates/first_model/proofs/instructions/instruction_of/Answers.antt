@@ -2,7 +2,7 @@ use Rattle.std.proofs.Common.{◌≡◌, true, map, ap, sym, ◌∙◌, subst}
 use Rattle.std.specs.List.{list_all}
 use Rattle.std.proofs.lemmas.Result.{err_from_is_err_and}
 use Rattle.model_files.specs.Scope.{term_of}
-use Rattle.model_files.specs.Meaning.{updates_of}
+use Rattle.model_files.specs.Meaning.{updates_for_states}
 use Rattle.ila_file.specs.View as written
 use Rattle.first_json.specs.ModelView.{term_view, update_view}
 use Rattle.first_model.specs.Profile.{is_first_term}
@@ -35,6 +35,6 @@ returns c =
     let ss = map written.state_view c.args.states.now in
     instruction_made (written.instruction_view c.args.instruction.now) names ss _ _ _ (sym c.has_child.ensures ∙ c.if-has_child.false)
     (subst (λ e. (is_first_term e ≡ true) × (term_view c.in_ok-decode.decode ≡ term_of names e)) c.decode_in.ensures c.in_ok-decode.ensures)
-    (subst (λ us. (list_all (λ u. is_first_term u.1) us ≡ true) × (map update_view c.in_ok-updates.updates.items ≡ updates_of names ss us)) c.update_in.ensures
+    (subst (λ us. (list_all (λ u. is_first_term u.1) us ≡ true) × (map update_view c.in_ok-updates.updates.items ≡ updates_for_states names ss us)) c.update_in.ensures
     c.in_ok-updates.ensures)
     (c.in_ok-name.ensures.ok ∙ c.called_in.ensures)

@@ -3,7 +3,7 @@ use Rattle.std.proofs.Common.{◌∙◌, ◌++◌, length, map, take, sym, ap, a
 use Rattle.wb_values.specs.Value.{number, valuation_of}
 use Rattle.model_meaning.specs.Term.{val}
 use Rattle.wb_terms.specs.Graph.{tree}
-use Rattle.wb_terms.specs.Environment.{AreOfSorts, as_value, named}
+use Rattle.wb_terms.specs.Environment.{AreOfSorts, as_value, values_by_name}
 use Rattle.v_design.specs.Parts.{value_in}
 use Rattle.v_design.specs.Seen.{parts_of, register_values, input_values}
 use Rattle.v_cycle.specs.Setting.{AreOfTerms}
@@ -88,6 +88,6 @@ returns-clause-registers c =
     let h = subst (λ ids. AreOfTerms g ids (map as_value xs)) c.deref-2.ensures.value c.set_next.ensures.sorted in
     ap (map as_value) (new_items g d.register_count s.env.values s.registers.values is r.made.registers r.inputs r.made.names vs rs vs-are rs-are d.counted d.next.items d.sorted xs h)
     ∙ c.set_next.ensures.values
-    ∙ ap₂ (λ ids ws. map (λ id. val (tree g id.0) (valuation_of (named g.names ws))) ids) c.deref-2.ensures.value
+    ∙ ap₂ (λ ids ws. map (λ id. val (tree g id.0) (valuation_of (values_by_name g.names ws))) ids) c.deref-2.ensures.value
     (names_at g d.register_count s.env.values s.registers.values is r.made.registers r.inputs r.made.names vs rs vs-are rs-are d.counted)
     ∙ sym (map-map (value_in (parts_of d) (register_values s.registers) (input_values c.args.inputs.now)) (λ id. id.0) d.next.items)
