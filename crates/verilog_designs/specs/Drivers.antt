@@ -173,7 +173,7 @@ HasDriver d p n k b = driven (is_memory (placed_scope p n))
   where
     driven : Bool → Type 0
     driven false = IsDriven d p n k b
-    driven true = (l : ℕ) × (c : ℕ) × IsDriven d p n l c
+    driven true = (l : ℕ) × (c : ℕ) × IsBitOf p n l c × IsDriven d p n l c
 
 -- Undriven: a bit or memory that is read, or an output of the top, has no driver.
 pub record HasUndriven (d : Design) : Type 0 where
