@@ -167,13 +167,13 @@ pub data IsRead (d : Design) (p : Placed) (n : Name) (k b : ℕ) : Type 0 where
       → IsConnectedTo d around c p n output → IsBitOf p n k b → IsRead d p n k b
   as_output_of_top : p.path ≡ [] → HasPort p.of_module n output → IsBitOf p n k b → IsRead d p n k b
 
--- a bit of what is no memory has a driver; a memory has one for some bit of it
+-- the bit has a driver; of a memory some bit that it has
+abbrev pub IsDrivenAs : (of_memory : Bool) → Design → Placed → Name → (word bit : ℕ) → Type 0
+IsDrivenAs false d p n k b = IsDriven d p n k b
+IsDrivenAs true d p n k b = (l : ℕ) × (c : ℕ) × IsBitOf p n l c × IsDriven d p n l c
+
 abbrev pub HasDriver : Design → Placed → Name → (word bit : ℕ) → Type 0
-HasDriver d p n k b = driven (is_memory (placed_scope p n))
-  where
-    driven : Bool → Type 0
-    driven false = IsDriven d p n k b
-    driven true = (l : ℕ) × (c : ℕ) × IsBitOf p n l c × IsDriven d p n l c
+HasDriver d p n k b = IsDrivenAs (is_memory (placed_scope p n)) d p n k b
 
 -- Undriven: a bit or memory that is read, or an output of the top, has no driver.
 pub record HasUndriven (d : Design) : Type 0 where
