@@ -1,9 +1,13 @@
 //! Texts of modules with the rules that they break, of those on digits, ports, constants, widths, selects and memories, on clocks as
-//! data and on kinds of assignments: prints each row that differs, and how many rows there are.
+//! data, on kinds of assignments and on drivers: prints each row that differs, and how many rows there are.
 #![tactic(auto)]
 
+mod drivers;
+
+use crate::drivers::two_drivers;
 use std::alloc::{AllocError, Global};
 use std::{fs, io};
+use v_assigned::has_bad_name;
 use v_blocks::{first_blocking_in_clocked, first_nonblocking_in_combinational};
 use v_hier::{has_clock_as_data, top_of};
 use v_lex::tokens;
@@ -11,7 +15,7 @@ use v_modules::{first_rule, module_rule};
 use v_parse::parse;
 use v_ports::has_bad_port;
 use v_scopes::module_scope;
-use v_size::{Broken, Kind};
+use v_size::Kind;
 use v_syntax::module::{Module, Tree};
 use v_token::token::Token;
 
@@ -59,62 +63,40 @@ fn answer_of_tree(alloc: Global, tree: &Tree<'_>) -> Result<String, AllocError> 
 
 /// The kinds, in their order, and the first of those on digits, constants, widths, selects and memories.
 fn kinds_of(alloc: Global, within: &Module<'_>) -> Result<String, AllocError> {
-    let broken = module_rule(alloc, within)?;
-    let mut text = String::from_str(alloc, "ok")?;
-    add_if(&mut text, broken.has_xz, " V11")?;
-    add_if(&mut text, breaks_ports(alloc, within)?, " V12")?;
-    add_rules(&mut text, broken)?;
-    add_uses(alloc, &mut text, within)?;
-    add_first(&mut text, broken)?;
-    Ok(text)
-}
-
-/// Whether the module breaks a rule on ports.
-fn breaks_ports(alloc: Global, within: &Module<'_>) -> Result<bool, AllocError> {
     let names = module_scope(alloc, within)?;
-    has_bad_port(alloc, &names, within)
+    let broken = module_rule(alloc, within)?;
+    let kinds = [
+        (broken.has_xz, " V11"),
+        (has_bad_port(alloc, &names, within)?, " V12"),
+        (broken.bad_constant, " V13"),
+        (broken.width_over_128, " V14"),
+        (broken.bad_select, " V15"),
+        (broken.memory_use, " V16"),
+        (has_clock_as_data(alloc, within, "c")?, " V17"),
+        (first_blocking_in_clocked(&within.items).is_some(), " V19"),
+        (
+            first_nonblocking_in_combinational(&within.items).is_some(),
+            " V20",
+        ),
+        (has_bad_name(&names, &within.items), " V22 name"),
+        (two_drivers(alloc, &within.items, &names)?, " V22 two"),
+    ];
+    told(alloc, &kinds, first_rule(broken))
 }
 
-/// Adds a kind, where its rule is broken.
-fn add_if(text: &mut String, broken: bool, kind: &str) -> Result<(), AllocError> {
-    if broken {
-        text.push_str(kind)?;
-    }
-    Ok(())
-}
-
-/// Adds the kinds on constants, widths, selects and memories.
-fn add_rules(text: &mut String, broken: Broken) -> Result<(), AllocError> {
-    add_if(text, broken.bad_constant, " V13")?;
-    add_if(text, broken.width_over_128, " V14")?;
-    add_if(text, broken.bad_select, " V15")?;
-    add_if(text, broken.memory_use, " V16")
-}
-
-/// Adds the kinds on clocks as data and on assignments.
-fn add_uses(alloc: Global, text: &mut String, within: &Module<'_>) -> Result<(), AllocError> {
-    add_if(text, has_clock_as_data(alloc, within, "c")?, " V17")?;
-    add_if(
-        text,
-        first_blocking_in_clocked(&within.items).is_some(),
-        " V19",
-    )?;
-    add_if(
-        text,
-        first_nonblocking_in_combinational(&within.items).is_some(),
-        " V20",
-    )
-}
-
-/// Adds the kind of the first rule, if there is one.
-fn add_first(text: &mut String, broken: Broken) -> Result<(), AllocError> {
-    match first_rule(broken) {
-        Some(kind) => {
-            text.push_str(", first ")?;
-            text.push_str(word_of(kind))
+/// The kinds whose rules are broken, and the first of some of them.
+fn told(alloc: Global, kinds: &[(bool, &str)], first: Option<Kind>) -> Result<String, AllocError> {
+    let mut text = String::from_str(alloc, "ok")?;
+    for (is_broken, kind) in kinds {
+        if *is_broken {
+            text.push_str(kind)?;
         }
-        None => Ok(()),
     }
+    if let Some(kind) = first {
+        text.push_str(", first ")?;
+        text.push_str(word_of(kind))?;
+    }
+    Ok(text)
 }
 
 fn word_of(kind: Kind) -> &'static str {
