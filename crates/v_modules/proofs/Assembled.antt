@@ -1,5 +1,5 @@
 -- What a module breaks, from what its declared names and its text break.
-use Rattle.std.proofs.Common.{◌≡◌, ◌∙◌, refl, sym, ap, subst, Bool, true, false, not, ◌&&◌, ◌||◌, List, [], ◌∷◌, ◌++◌}
+use Rattle.std.proofs.Common.{◌≡◌, ◌∙◌, refl, sym, ap, Bool, true, false, not, ◌&&◌, ◌||◌, List, [], ◌∷◌, ◌++◌}
 use mathlib.Core.Path.{fun_ext}
 use Rattle.std.proofs.lemmas.Bool.{false≢true}
 use Rattle.std.specs.List.{list_any}
@@ -17,8 +17,8 @@ use Rattle.v_scopes.specs.Rows.{Row, objects_by}
 use Rattle.v_size.specs.declared.rule.Broken.{Broken}
 use Rattle.v_size.specs.Rule.{coded, both}
 use Rattle.v_rules.specs.Judging.{none}
-use Rattle.v_modules.specs.Found.{kinds, IsFound}
-use Rattle.v_modules.specs.Combined.{names_from, one_unvalued, shape, text, shape_aside, combined}
+use Rattle.v_modules.specs.Kinds.{kinds}
+use Rattle.v_modules.specs.Combined.{names_from, one_unvalued, shape, text, kinds_alone, combined}
 use Rattle.v_sound.specs.Alike.{IsNet, five}
 use Rattle.v_sound.proofs.Constants.{neither}
 use Rattle.v_sound.proofs.Widths.{ports-five, items-five}
@@ -133,10 +133,10 @@ module _ (source : Source) (m : Module) (alone : module_has_parts m ≡ false) w
   abbrev apart : (net w memory : Bool) → Broken
   apart net w memory = both (coded (constant_if net)) (both (coded own) (coded (of_names w memory)))
 
-  -- with narrow names the same kinds are found; and nothing is misshapen, if nothing is
-  same-kinds : (w memory net : Bool) → (w ≡ false → own ≡ shaped) → kinds (combined (coded (of_names w memory)) (coded shaped) net) ≡ kinds (apart net w memory)
-  same-kinds false memory net whole = sym (ap (λ (x : Rules). kinds (both (coded (constant_if net)) (both (coded x) (coded (of_names false memory))))) (whole refl))
-  same-kinds true memory net whole = sym (λ i. record (kinds (both (coded (constant_if net)) (both (coded (text-five i)) (coded (of_names true memory))))) {
+  -- with narrow names the same kinds are found
+  same-kinds : (w memory net : Bool) → (w ≡ false → own ≡ shaped) → combined (coded (of_names w memory)) (coded shaped) net ≡ kinds_alone (apart net w memory)
+  same-kinds false memory net whole = sym (ap (λ (x : Rules). kinds_alone (both (coded (constant_if net)) (both (coded x) (coded (of_names false memory))))) (whole refl))
+  same-kinds true memory net whole = sym (λ i. record (kinds_alone (both (coded (constant_if net)) (both (coded (text-five i)) (coded (of_names true memory))))) {
     width_over_128 = wide-anyway own.width_over_128 shaped.width_over_128 i;
   })
     where
@@ -147,13 +147,9 @@ module _ (source : Source) (m : Module) (alone : module_has_parts m ≡ false) w
       wide-anyway : (x y : Bool) → x || true ≡ y || true
       wide-anyway x y = or-yes x ∙ sym (or-yes y)
 
-  same-shape : (w memory net : Bool) → (w ≡ false → own ≡ shaped) → (apart net w memory).misshapen ≡ false → (combined (coded (of_names w memory)) (coded shaped) net).misshapen ≡ false
-  same-shape false memory net whole h = sym (ap (λ (x : Rules). x.misshapen || false) (whole refl)) ∙ h
-  same-shape true memory net whole h = refl
-
   -- a net stands where a constant must, or the text breaks a rule on constants anyway
   net-moved : (n : Bool) → (shaped.bad_constant || n) ≡ (shaped.bad_constant || has_net_as_constant source m) → (d : Broken) → combined d (coded shaped) (has_net_as_constant source m) ≡ combined d (coded shaped) n
-  net-moved n h d = ap (shape_aside d.width_over_128) (λ i. record (both (coded (constant_if n)) (both (coded shaped) d)) { bad_constant = turned i })
+  net-moved n h d = λ i. record (combined d (coded shaped) n) { bad_constant = turned i }
     where
       front : (a b c : Bool) → a || (b || c) ≡ (b || a) || c
       front true true c = refl
@@ -166,17 +162,13 @@ module _ (source : Source) (m : Module) (alone : module_has_parts m ≡ false) w
           front (has_net_as_constant source m) shaped.bad_constant d.bad_constant ∙ ap (λ b. b || d.bad_constant) (sym h) ∙ sym (front n shaped.bad_constant d.bad_constant)
 
   module-is : (n : Bool) → (shaped.bad_constant || n) ≡ (shaped.bad_constant || has_net_as_constant source m)
-      → IsFound (combined (coded (of_names (any_wide (known m) (declarations m)) (any_port (known m) (is_port_of m) (declarations m)))) (coded shaped) n) module_rules
+      → combined (coded (of_names (any_wide (known m) (declarations m)) (any_port (known m) (is_port_of m) (declarations m)))) (coded shaped) n ≡ coded (kinds module_rules)
   module-is n h =
       let w : Bool = any_wide (known m) (declarations m) in
       let o : Bool = any_port (known m) (is_port_of m) (declarations m) in
       let net : Bool = has_net_as_constant source m in
       let e : coded module_rules ≡ apart net w o = ap coded module-joined ∙ ordered net w o in
-      let moved = net-moved n h (coded (of_names w o)) in
-      record {
-        same = ap kinds (sym moved) ∙ same-kinds w o net text-whole ∙ ap kinds (sym e);
-        shapely = λ well. ap (λ (b : Broken). b.misshapen) (sym moved) ∙ same-shape w o net text-whole (sym (ap (λ (b : Broken). b.misshapen) e) ∙ well);
-      }
+      sym (net-moved n h (coded (of_names w o))) ∙ same-kinds w o net text-whole ∙ ap kinds_alone (sym e)
 
   -- rs are the rows and s the scope of the module, d what its declared names break, and x what its text breaks with narrow names
   module _ (rs : List Row) (is_rs : rs ≡ all_rows m) (s : Scope) (is_s : s ≡ known m) (d x : Broken) (is_d : d ≡ names_from s none rs)
@@ -195,15 +187,16 @@ module _ (source : Source) (m : Module) (alone : module_has_parts m ≡ false) w
     placed : record { path = p.path; of_module = m; constants = [] } ≡ p
     placed = λ i. record { path = p.path; of_module = sym of_m i; constants = sym no_constants i }
 
-    finished : (n : Bool) → (shaped.bad_constant || n) ≡ (shaped.bad_constant || has_net_as_constant source m) → IsFound (combined d x n) (broken_module source p)
+    whole-module : coded (kinds module_rules) ≡ coded (kinds (broken_module source p))
+    whole-module = ap (λ z. coded (kinds (broken_module source z))) placed
+
+    finished : (n : Bool) → (shaped.bad_constant || n) ≡ (shaped.bad_constant || has_net_as_constant source m) → combined d x n ≡ coded (kinds (broken_module source p))
     finished n h =
-        subst (λ z. IsFound (combined z x n) (broken_module source p)) (sym names-are)
-        (subst (λ z. IsFound (combined (coded (of_names (any_wide (known m) (declarations m)) (any_port (known m) (is_port_of m) (declarations m)))) z n) (broken_module source p)) (sym text-is)
-        (subst (λ z. IsFound (combined (coded (of_names (any_wide (known m) (declarations m)) (any_port (known m) (is_port_of m) (declarations m)))) (coded shaped) n) (broken_module source z)) placed
-        (module-is n h)))
+        ap (λ z. combined z x n) names-are ∙ ap (λ z. combined (coded (of_names (any_wide (known m) (declarations m)) (any_port (known m) (is_port_of m) (declarations m)))) z n) text-is
+        ∙ module-is n h ∙ whole-module
 
     -- all names have values
-    pub with-values : (u : Bool) → u ≡ one_unvalued s rs → u ≡ false → IsFound (combined d x false) (broken_module source p)
+    pub with-values : (u : Bool) → u ≡ one_unvalued s rs → u ≡ false → combined d x false ≡ coded (kinds (broken_module source p))
     with-values u is_u h =
         let k : one_unvalued (known m) (all_rows m) ≡ false = sym (is_u ∙ ap (λ z. one_unvalued z rs) is_s ∙ ap (one_unvalued (known m)) is_rs) ∙ h in
         finished false (sym (twice shaped.bad_constant) ∙ told-text (narrow m) (λ n g. refl) (narrow-there m k))
@@ -213,7 +206,7 @@ module _ (source : Source) (m : Module) (alone : module_has_parts m ≡ false) w
         twice false = refl
 
     -- y is what the text breaks where all nets are declared
-    pub without-values : (y : Broken) → y ≡ coded (text source (scope_of (objects_by (λ n. shape true (s n)) rs)) m) → IsFound (combined d x y.bad_constant) (broken_module source p)
+    pub without-values : (y : Broken) → y ≡ coded (text source (scope_of (objects_by (λ n. shape true (s n)) rs)) m) → combined d x y.bad_constant ≡ coded (kinds (broken_module source p))
     without-values y is_y =
         let k : y ≡ coded (text source (nets m) m) = is_y ∙ ap (λ z. coded (text source z m)) (shaped-at true) in
         finished y.bad_constant (ap (λ (b : Broken). shaped.bad_constant || b.bad_constant) k ∙ told-text (nets m) (nets-same m) (nets-there m))

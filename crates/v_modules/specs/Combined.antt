@@ -8,7 +8,6 @@ use Rattle.verilog_designs.specs.Expressions as designs
 use Rattle.v_scopes.specs.Rows.{Row}
 use Rattle.v_size.specs.declared.rule.Broken.{Broken}
 use Rattle.v_size.specs.Rule.{coded, both}
-use Rattle.v_modules.specs.Found.{kinds}
 
 -- ---- declared names
 
@@ -45,10 +44,10 @@ shape nets o = cond nets (as_net (narrowed o)) (narrowed o)
 abbrev pub text : Source → Scope → Module → rules.Broken
 text source s m = rules.also (designs.broken_ports s (header_ports m.ports)) (designs.broken_module_items source s m.items)
 
--- Where a name is wide, nothing is said of shapes, since the text was judged with other widths.
-abbrev pub shape_aside : (wide : Bool) → Broken → Broken
-shape_aside wide b = cond wide (kinds b) b
+-- without what is no kind
+abbrev pub kinds_alone : Broken → Broken
+kinds_alone b = record b { misshapen = false }
 
 -- what declared names and the text break together
 abbrev pub combined : (declared text : Broken) (net : Bool) → Broken
-combined d t n = shape_aside d.width_over_128 (both (coded (rules.constant_if n)) (both t d))
+combined d t n = kinds_alone (both (coded (rules.constant_if n)) (both t d))

@@ -12,7 +12,7 @@ ghost use Rattle.v_scopes.specs.Rows.{rows_of, objects_by};
 ghost use Rattle.v_scopes.specs.Scopes.{scope_in};
 ghost use Rattle.v_size.specs.Rule.{coded};
 ghost use Rattle.v_modules.specs.Combined.{shape, text, combined};
-ghost use Rattle.v_modules.specs.Found.{IsFound};
+ghost use Rattle.v_modules.specs.Kinds.{kinds};
 
 use crate::name::{broken_names, has_unvalued};
 use crate::object::shape;
@@ -77,26 +77,22 @@ fn broken_shaped(
     Ok(text)
 }
 
-/// The rules that declared names and the text break together, where `net` says whether a net stands where a constant must.
+/// The kinds that declared names and the text break together, where `net` says whether a net stands where a constant must.
 fn combined(declared: Broken, text: Broken, net: bool) -> Broken
     ensures { result ≡ combined declared text net }
 {
     let all = also(constant_if(net), also(text, declared));
-    if declared.width_over_128 {
-        return Broken {
-            misshapen: false,
-            ..all
-        };
+    Broken {
+        misshapen: false,
+        ..all
     }
-    all
 }
 
 /// All rules on expressions, targets, statements and declarations that a module breaks which has no parameters and no instances, each
-/// judged by itself. What is no kind (`misshapen`) is left aside; it is false where it is for the module, as it is for each module of a
-/// text that is read. Which of the rules is answered first is told by `first_rule`.
+/// judged by itself. `misshapen`, which is no kind, is false. Which of the rules is answered first is told by `first_rule`.
 pub fn module_rule(alloc: Global, within: &Module<'_>) -> Result<Broken, AllocError>
     ensures { IfOk result (λ b. (source : Source) (p : Placed) → p.of_module ≡ module_of within.now → p.constants ≡ [] → module_has_parts (module_of within.now) ≡ false
-        → IsFound b (broken_module source p)) }
+        → b ≡ coded (kinds (broken_module source p))) }
 {
     let names = module_scope(alloc, within)?;
     let declared = broken_names(&names, names.declarations());
