@@ -1,10 +1,11 @@
 //! Texts of modules with the rules that they break, of those on digits, ports, constants, widths, selects and memories, on clocks as
-//! data, on kinds of assignments and on drivers: prints each row that differs, and how many rows there are.
+//! data, on kinds of assignments and on drivers; texts of modules with bits that have no driver. Prints each row that differs, and how
+//! many rows there are.
 #![tactic(auto)]
 
 mod drivers;
 
-use crate::drivers::two_drivers;
+use crate::drivers::{two_drivers, undriven};
 use std::alloc::{AllocError, Global};
 use std::{fs, io};
 use v_assigned::has_bad_name;
@@ -57,8 +58,18 @@ fn answer_of_tokens(alloc: Global, tokens: &[Token<'_>]) -> Result<String, Alloc
 fn answer_of_tree(alloc: Global, tree: &Tree<'_>) -> Result<String, AllocError> {
     match top_of(tree, "t") {
         Some(within) => kinds_of(alloc, within),
-        None => String::from_str(alloc, "no top"),
+        None => drivers_of(alloc, tree),
     }
+}
+
+/// Whether the text's module `u` reads a bit that has no driver.
+fn drivers_of(alloc: Global, tree: &Tree<'_>) -> Result<String, AllocError> {
+    let Some(within) = top_of(tree, "u") else {
+        return String::from_str(alloc, "no top");
+    };
+    let names = module_scope(alloc, within)?;
+    let kinds = [(undriven(alloc, &within.items, &names)?, " V23")];
+    told(alloc, &kinds, None)
 }
 
 /// The kinds, in their order, and the first of those on digits, constants, widths, selects and memories.
