@@ -1,0 +1,14 @@
+pub mod Tables
+pub mod Within
+pub mod Surely
+pub mod Plain
+pub mod Walked
+pub mod Forms
+pub mod Labels
+pub mod Turns
+pub mod Found
+pub mod Covered
+pub mod Listed
+pub mod Items
+pub mod Alone
+pub mod Named
