@@ -1,14 +1,14 @@
-pub mod Tables
-pub mod Within
-pub mod Surely
-pub mod Plain
-pub mod Walked
-pub mod Forms
-pub mod Labels
-pub mod Turns
-pub mod Found
-pub mod Covered
-pub mod Listed
-pub mod Items
-pub mod Alone
-pub mod Named
+mod Tables
+mod Within
+mod Surely
+mod Plain
+mod Walked
+mod Forms
+mod Labels
+mod Turns
+mod Found
+mod Covered
+mod Listed
+mod Items
+mod Alone
+mod Named
