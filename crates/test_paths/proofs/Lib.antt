@@ -1,3 +1,3 @@
 -- Lemmas on what is narrow.
-pub mod Whole
-pub mod Parts
+mod Whole
+mod Parts

@@ -1,8 +1,9 @@
 -- Narrow parts of targets, names that are no memories, and blocks of a module.
-use Rattle.std.proofs.Common.{◌≡◌, ◌≢◌, ◌∙◌, ℕ, zero, ◌<◌, ◌≤◌, refl, ap, sym, subst, arith, Bool, true, false, cond, List, [], ◌∷◌, map, Option, Some, None, is_some}
+use Rattle.std.proofs.Common.{◌≡◌, ◌∙◌, ℕ, ◌+◌, ◌<◌, ◌≤◌, ap, sym, subst, arith, Bool, true, false, cond, List, ◌∷◌, length, drop, get_or, Option, Some, is_some}
 use Rattle.std.specs.declared.boxed.Box.{Box}
 use Rattle.std.specs.declared.alloc.Global.{Global}
 use Rattle.std.proofs.lemmas.Bool.{true≢false}
+use Rattle.std.proofs.lemmas.List.{drop_more}
 use Rattle.wb_values.specs.Value.{Name, same_name, entry_of}
 use Rattle.wb_values.specs.Choice.{some_if}
 use Rattle.verilog_trees.specs.Syntax as pure
@@ -15,12 +16,12 @@ use Rattle.v_syntax.specs.declared.module.Item.{Item}
 use Rattle.v_syntax.specs.declared.module.Item.TheVariants.{Always}
 use Rattle.v_syntax.specs.declared.module.Events.{Events}
 use Rattle.v_syntax.specs.Tree.{tree_of, select_of, selects_of, statement_of}
-use Rattle.v_syntax.specs.Source.{item_of, events_of}
+use Rattle.v_syntax.specs.Source.{item_of}
 use Rattle.v_value.specs.declared.scope.Declaration.{Declaration}
 use Rattle.v_value.specs.Scope.{object_of, objects_of}
 use Rattle.v_value.specs.Narrow.{IsNarrow, HasNarrowObjects, IsSelectNarrow, AreSelectsNarrow}
 use Rattle.v_flow.specs.Narrow.{IsNarrowFlow}
-use Rattle.v_paths.specs.Modules.{IsFitItem, AreFitItems}
+use Rattle.v_paths.specs.Modules.{IsFitItem}
 
 -- ---- names
 
@@ -31,8 +32,13 @@ by-name : (o : Object) (r : Option Object) (t : Bool) → is_memory o ≡ false 
 by-name o r true h k = h
 by-name o r false h k = k
 
-pub one-more : (d : Declaration) (ds : List Declaration) → is_some d.object.addresses ≡ false → AreNoMemories ds → AreNoMemories (d ∷ ds)
+one-more : (d : Declaration) (ds : List Declaration) → is_some d.object.addresses ≡ false → AreNoMemories ds → AreNoMemories (d ∷ ds)
 one-more d ds e h = λ n. by-name (object_of d.object) (entry_of (objects_of ds) n) (same_name d.name.now n) e (h n)
+
+-- a turn of the loop over declarations, one of which is no memory
+pub memory-turn : (ds : List Declaration) (i : ℕ) (d : Declaration) (b : Bool) → i < length ds → b ≡ is_some (get_or ds i d).object.addresses → b ≡ false
+    → AreNoMemories (drop (i + 1) ds) → AreNoMemories (drop i ds)
+memory-turn ds i d b h e f g = subst AreNoMemories (sym (drop_more ds i d h)) (one-more (get_or ds i d) (drop (i + 1) ds) (sym e ∙ f) g)
 
 -- ---- parts of targets
 

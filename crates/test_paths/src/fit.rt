@@ -117,7 +117,7 @@ pub fn labels_fit(names: Names<'_, '_>, item: &CaseItem<'_>) -> bool
 
 /// Whether an item of a module is no block, or one whose parts are narrow.
 fn item_fits(names: Names<'_, '_>, item: &Item<'_>) -> bool
-    requires { (n : Name) → is_memory (scope_at names.entry.scope.now n) ≡ false }
+    requires { (n : Name) → is_memory (scope_at names.scope.now n) ≡ false }
     ensures { IsTrue result → IsFitItem (scope_at names.entry.scope.now) (item_of item.now) }
 {
     match item {
@@ -133,7 +133,7 @@ fn item_fits(names: Names<'_, '_>, item: &Item<'_>) -> bool
 
 /// Whether the parts of all blocks are narrow.
 pub fn items_fit(names: Names<'_, '_>, items: &[Item<'_>]) -> bool
-    requires { (n : Name) → is_memory (scope_at names.entry.scope.now n) ≡ false }
+    requires { (n : Name) → is_memory (scope_at names.scope.now n) ≡ false }
     ensures { IsTrue result → AreFitItems (scope_at names.entry.scope.now) (map item_of items.now) }
 {
     for item in items {

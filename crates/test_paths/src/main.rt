@@ -37,7 +37,7 @@ fn main(rt: HostRuntime) -> io::Result<()> {
         let (wanted, _) = rest.split_once("\t").unwrap_or((rest, ""));
         let found = answer(alloc, text)?;
         rows = rows.saturating_add(1);
-        if found != wanted {
+        if found.as_str() != wanted {
             differing = differing.saturating_add(1);
             println!(rt; "{text}\n  {found}")?;
         }
@@ -46,65 +46,65 @@ fn main(rt: HostRuntime) -> io::Result<()> {
 }
 
 /// The kinds that the text's module `t` breaks, where its clock is `c`.
-fn answer(alloc: Global, text: &str) -> Result<&'static str, AllocError> {
+fn answer(alloc: Global, text: &str) -> Result<String, AllocError> {
     let files = vec![in alloc; Vec::from_slice(alloc, text.as_bytes())?]?;
     match tokens(alloc, &files) {
         Ok(tokens) => answer_of_tokens(alloc, &tokens),
-        Err(_) => Ok("unread"),
+        Err(_) => String::from_str(alloc, "unread"),
     }
 }
 
-fn answer_of_tokens(alloc: Global, tokens: &[Token<'_>]) -> Result<&'static str, AllocError> {
+fn answer_of_tokens(alloc: Global, tokens: &[Token<'_>]) -> Result<String, AllocError> {
     match parse(alloc, tokens) {
         Ok(tree) => answer_of_tree(alloc, &tree),
-        Err(_) => Ok("unread"),
+        Err(_) => String::from_str(alloc, "unread"),
     }
 }
 
-fn answer_of_tree(alloc: Global, tree: &Tree<'_>) -> Result<&'static str, AllocError> {
+fn answer_of_tree(alloc: Global, tree: &Tree<'_>) -> Result<String, AllocError> {
     match top_of(tree, "t") {
         Some(within) => answer_of_module(alloc, within),
-        None => Ok("no top"),
+        None => String::from_str(alloc, "no top"),
     }
 }
 
-fn answer_of_module(alloc: Global, within: &Module<'_>) -> Result<&'static str, AllocError> {
+fn answer_of_module(alloc: Global, within: &Module<'_>) -> Result<String, AllocError> {
     let declared = module_scope(alloc, within)?;
     let scope = declared.to_scope(alloc)?;
     answer_in(alloc, &scope, &within.items)
 }
 
-fn answer_in(
-    alloc: Global,
-    scope: &Scope<'_>,
-    items: &[Item<'_>],
-) -> Result<&'static str, AllocError> {
+fn answer_in(alloc: Global, scope: &Scope<'_>, items: &[Item<'_>]) -> Result<String, AllocError> {
     if !are_objects_narrow(scope) {
-        return Ok("wide");
+        return String::from_str(alloc, "wide");
     }
     if !are_no_memories(&scope.declarations) {
-        return Ok("memory");
+        return String::from_str(alloc, "memory");
     }
     let names = Names { scope };
     if !items_fit(names, items) {
-        return Ok("unfit");
+        return String::from_str(alloc, "unfit");
     }
     kinds(alloc, scope, items)
 }
 
 /// Whether one of the items is a block with a bad list of events, or one with a latch.
-fn kinds(alloc: Global, scope: &Scope<'_>, items: &[Item<'_>]) -> Result<&'static str, AllocError>
+fn kinds(alloc: Global, scope: &Scope<'_>, items: &[Item<'_>]) -> Result<String, AllocError>
     requires objects { HasNarrowObjects (scope_at scope.now) }
     requires fit { AreFitItems (scope_at scope.now) (map item_of items.now) }
 {
     let bad = has_bad_event_list(alloc, scope, "c", items)?;
     let latched = has_latch(alloc, scope, items)?;
-    Ok(words_of(bad, latched))
+    words_of(alloc, bad, latched)
 }
 
-fn words_of(bad: bool, latched: bool) -> &'static str {
-    if !bad {
-        return if latched { "V21" } else { "ok" };
-    }
-    if latched { "V18 V21" } else { "V18" }
+/// The kinds, in their order.
+fn words_of(alloc: Global, bad: bool, latched: bool) -> Result<String, AllocError> {
+    let words = match (bad, latched) {
+        (false, false) => "ok",
+        (false, true) => "V21",
+        (true, false) => "V18",
+        (true, true) => "V18 V21",
+    };
+    String::from_str(alloc, words)
 }

@@ -1,4 +1,4 @@
-use Rattle.std.proofs.Common.{drop, map, subst, sym, arith}
+use Rattle.std.proofs.Common.{map, subst, sym, arith}
 use Rattle.std.proofs.lemmas.Bool.{false≢true}
 use Rattle.std.proofs.lemmas.List.{drop_all}
 use Rattle.v_syntax.specs.Source.{item_of}

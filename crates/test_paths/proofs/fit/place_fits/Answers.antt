@@ -5,8 +5,8 @@ use Rattle.v_value.specs.Scope.{object_of, scope_at}
 use Rattle.test_paths.proofs.Parts.{narrow-place}
 use Rattle.test_paths.proofs.fit.place_fits.Goals as goal
 
-pub returns-else : goal.returns-else
-returns-else c = λ t. absurd (false≢true t)
+pub returns-in_default : goal.returns-in_default
+returns-in_default c = λ t. absurd (false≢true t)
 
 pub returns-then-width-eq0 : goal.returns-then-width-eq0
 returns-then-width-eq0 c = λ t. absurd (false≢true t)

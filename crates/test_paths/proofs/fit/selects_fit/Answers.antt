@@ -12,7 +12,7 @@ returns-in-One c = λ t. parts.selects-One (scope_at c.args.names.scope.now) c.a
 pub returns-then-not-select_fits : goal.returns-then-not-select_fits
 returns-then-not-select_fits c = λ t. absurd (false≢true t)
 
-pub returns-in-Two : goal.returns-in-Two
-returns-in-Two c = λ t.
+pub returns-else-not-select_fits : goal.returns-else-not-select_fits
+returns-else-not-select_fits c = λ t.
     parts.selects-Two (scope_at c.args.names.scope.now) c.args.selects.now c.in-Two.first c.in-Two.second c.in-Two.is
     (c.select_fits-in-Two.ensures c.if-not-select_fits.false) (c.select_fits-in-Two-2.ensures t)

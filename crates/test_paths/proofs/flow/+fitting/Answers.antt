@@ -1,4 +1,4 @@
-use Rattle.std.proofs.Common.{drop, subst, sym, arith, refl}
+use Rattle.std.proofs.Common.{subst, sym, arith, refl}
 use Rattle.std.proofs.lemmas.Bool.{false≢true}
 use Rattle.std.proofs.lemmas.List.{drop_all}
 use Rattle.v_value.specs.Scope.{scope_at}
@@ -21,8 +21,8 @@ statement_fits-returns-in-Nonblocking d c = λ t.
 pub statement_fits-returns-then-not-statement_fits : goal.statement_fits-returns-then-not-statement_fits
 statement_fits-returns-then-not-statement_fits d c = λ t. absurd (false≢true t)
 
-pub statement_fits-returns-in-Some : goal.statement_fits-returns-in-Some
-statement_fits-returns-in-Some d c = λ t.
+pub statement_fits-returns-else-not-statement_fits : goal.statement_fits-returns-else-not-statement_fits
+statement_fits-returns-else-not-statement_fits d c = λ t.
     whole.whole-else (scope_at c.args.names.scope.now) c.args.statement.now c.in-If.arms c.in-If.last c.in-Some.other c.in-If.is c.in-Some.is c.deref-in-Some.result.now c.deref-in-Some.ensures.value
     c.deref.result.now c.deref.ensures (c.statement_fits.ensures c.if-not-statement_fits.false) (c.arms_fit.ensures t)
 
@@ -34,8 +34,8 @@ statement_fits-returns-in-None d c = λ t.
 pub statement_fits-returns-then-not-is_narrow : goal.statement_fits-returns-then-not-is_narrow
 statement_fits-returns-then-not-is_narrow d c = λ t. absurd (false≢true t)
 
-pub statement_fits-returns-in-Case : goal.statement_fits-returns-in-Case
-statement_fits-returns-in-Case d c = λ t.
+pub statement_fits-returns-else-not-is_narrow : goal.statement_fits-returns-else-not-is_narrow
+statement_fits-returns-else-not-is_narrow d c = λ t.
     whole.whole-Case (scope_at c.args.names.scope.now) c.args.statement.now c.in-Case.field-0 c.in-Case.value c.in-Case.items c.in-Case.is c.deref-in-Case.result.now c.deref-in-Case.ensures.value
     (c.is_narrow.ensures.narrow c.if-not-is_narrow.false) (c.items_fit.ensures t)
 
