@@ -18,7 +18,7 @@ fits k h =
 
 -- those whose bits may come into the value
 mutual
-  pub fitting : (e : Expression) → IsPrintable e → values.NumbersFit e
+  pub fitting : (e : Expression) → IsPrintable e → values.HasNumbersThatFit e
   fitting (tree.number k) h = fits k h
   fitting (tree.name n x) h = tt
   fitting (tree.concatenation es) h = all_fitting es h.1
@@ -34,7 +34,7 @@ mutual
   fitting (tree.logical op x y) h = tt
   fitting (tree.conditional c x y) h = (fitting x h.1, fitting y h.2)
 
-  all_fitting : (es : Expressions) → ArePrintable es → values.AllLeavesAre AnyName es
+  all_fitting : (es : Expressions) → ArePrintable es → values.AllNamesAre AnyName es
   all_fitting no_expressions h = tt
   all_fitting (expression e es) h = (fitting e h.0, all_fitting es h.1)
 

@@ -10,7 +10,7 @@ use Rattle.verilog_meaning.specs.Register.{combinational_blocks, is_clocked}
 use Rattle.verilog_meaning.specs.Hierarchy.{all_parameters, body_parameters, Instance, instance_named, instance_among, connected, in_order, joined_option, module_named}
 use Rattle.verilog_meaning.specs.Settled.{assignments, wire_assignment, wire_assignments, Connection, port_connections, connections_of_each, instance_connections, named_connections, ordered_connections, connection_if_any, PortPlace, port_named, port_numbered}
 use Rattle.v_print.specs.Printable.{IsPrintable, Each, EachOfSome, IsPrintableOptional, IsPrintableSetting, IsPrintableParameter, IsPrintableWire, ArePrintableConnections, ArePrintableOverrides, IsPrintableInstance, IsPrintableAssignment, IsPrintableItem, IsPrintableHeader, IsPrintableModule, IsPrintableSource, IsPrintableStatement}
-use Rattle.wb_laws.specs.Settled.{HasFittingNumbers, ValuesFit, ParametersFit, NumbersFit}
+use Rattle.wb_laws.specs.Settled.{HasFittingNumbers, ValuesFit, ParametersFit, HasNumbersThatFit}
 use Rattle.verilog_settled.specs.Locality.{LeavesAre, StatementIs}
 use Rattle.verilog_unique.specs.Unique.{AnyName, NumbersFitIn, NumbersFit as NumbersFitAll}
 use Rattle.verilog_unique.proofs.Descent.{IsAmong, among_contains}

@@ -7,7 +7,7 @@ use Rattle.wb_values.specs.Value.{Name, Sort, same_name, Entries, entry_of}
 use Rattle.model_meaning.specs.Term.{sort_of}
 use Rattle.model_files.specs.Written.{WrittenTerm}
 use Rattle.model_files.specs.Scope.{Visible, TermPlace, of_definition, PlacedTerm, placed, defined, term_of, written_sort, placed_definitions, with_definitions}
-use Rattle.model_files.specs.Rules.{uses_unknown_name, updates_no_state, takes_sort}
+use Rattle.model_files.specs.Rules.{uses_unknown_name, updates_no_state, accepts_sort}
 use Rattle.wb_terms.specs.declared.nodes.TermId.{TermId}
 use Rattle.wb_terms.specs.declared.store.PutStop.{PutStop}
 use Rattle.wb_terms.specs.declared.store.PutStop.TheVariants.{BadSort, NoMemory}
@@ -82,7 +82,7 @@ pub not_true : (b : Bool) → not b ≡ true → b ≡ false
 not_true false h = refl
 not_true true h = absurd (false≢true h)
 
-no_sort : (p : TermPlace) (s : Option Sort) → s ≡ None → takes_sort p s ≡ true → ⊥
+no_sort : (p : TermPlace) (s : Option Sort) → s ≡ None → accepts_sort p s ≡ true → ⊥
 no_sort p None e h = false≢true h
 no_sort p (Some s) e h = cc
 
@@ -92,11 +92,11 @@ unfolding is_right
 right_put g h t f names e p r k right put =
     let a = and_parts (not (uses_unknown_name names e || updates_no_state p)) _ right in
     let u = or_parts (uses_unknown_name names e) (updates_no_state p) (not_true _ a.0) in
-    let b = and_parts (takes_sort p (written_sort names e)) _ a.1 in
+    let b = and_parts (accepts_sort p (written_sort names e)) _ a.1 in
     let same_term : term_by (seen_by g t f) e ≡ term_of names e = term_is (seen_by g t f) names e (seen_names g t f names k) u.0 in
     let same_sort : sort_of (term_of names e) ≡ written_sort names e = sort_is names e (sorted_of g t f names k) u.0 b.1 in
     by_result r put same_term same_sort b.0 where
-      by_result : (r : Result TermId PutStop) → IsPut g h r (term_by (seen_by g t f) e) → term_by (seen_by g t f) e ≡ term_of names e → sort_of (term_of names e) ≡ written_sort names e → takes_sort p (written_sort names e) ≡ true → IsRight h names e r
+      by_result : (r : Result TermId PutStop) → IsPut g h r (term_by (seen_by g t f) e) → term_by (seen_by g t f) e ≡ term_of names e → sort_of (term_of names e) ≡ written_sort names e → accepts_sort p (written_sort names e) ≡ true → IsRight h names e r
       by_result (Ok id) put a s b = record { within = put.1; tree = put.2 ∙ a; sort = s }
       by_result (Err BadSort) put a s b = no_sort p (written_sort names e) (sym s ∙ (ap sort_of (sym a) ∙ put.1)) b
       by_result (Err NoMemory) put a s b = tt

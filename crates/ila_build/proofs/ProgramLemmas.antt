@@ -33,12 +33,12 @@ AreLinked inner scope links k no_instructions = ⊤
 AreLinked inner scope links k (and_then (instruction n d u p) is) = (inner (link_at links k) ≡ file.child_of scope p) × AreLinked inner scope links (suc k) is
 
 pub instruction_read : (g : Graph) (inner : Option ChildId → pure.Child) (scope : MachineScope) (names : Entries Visible) (link : Option ChildId) (i : WrittenInstruction) (p : pure.Child) (x : Instruction)
-    → IsInstruction g names scope.states link i x → inner link ≡ p → instruction_of g inner x ≡ pure.instruction (called_in i) (term_of names (decode_in i)) (file.updates_of names scope.states (update_in i)) p
+    → IsInstruction g names scope.states link i x → inner link ≡ p → instruction_of g inner x ≡ pure.instruction (called_in i) (term_of names (decode_in i)) (file.updates_for_states names scope.states (update_in i)) p
 instruction_read g inner scope names link i p x a e =
     ap (λ n. pure.instruction n (tree g x.decode.0) (map (update_of g) x.updates.items) (inner x.child)) a.0
     ∙ (ap (λ t. pure.instruction (called_in i) t (map (update_of g) x.updates.items) (inner x.child)) a.2
     ∙ (ap (λ us. pure.instruction (called_in i) (term_of names (decode_in i)) us (inner x.child)) (updates_read g x.updates.items _ a.3)
-    ∙ ap (pure.instruction (called_in i) (term_of names (decode_in i)) (file.updates_of names scope.states (update_in i))) (ap inner a.4 ∙ e)))
+    ∙ ap (pure.instruction (called_in i) (term_of names (decode_in i)) (file.updates_for_states names scope.states (update_in i))) (ap inner a.4 ∙ e)))
 
 -- Instructions with their children are those of the file.
 pub instructions_read : (g : Graph) (inner : Option ChildId → pure.Child) (scope : MachineScope) (names : Entries Visible) (links : List (Option ChildId)) (k : ℕ) (is : WrittenInstructions) (xs : List Instruction)

@@ -6,7 +6,7 @@ use Rattle.std.specs.List.{list_all}
 use Rattle.wb_values.specs.Value.{Name, Entries, entry_of}
 use Rattle.model_files.specs.Written.{WrittenTerm}
 use Rattle.model_files.specs.Scope.{Visible, PlacedTerm, written_sort, placed_definitions, with_definitions}
-use Rattle.model_files.specs.Rules.{is_unknown_at, takes_sort, has_fitting_constants}
+use Rattle.model_files.specs.Rules.{is_unknown_at, accepts_sort, has_fitting_constants}
 use Rattle.wb_terms.specs.declared.nodes.TermId.{TermId}
 use Rattle.wb_terms.specs.declared.store.PutStop.{PutStop}
 use Rattle.wb_terms.specs.declared.store.PutStop.TheVariants.{BadSort, NoMemory}
@@ -19,7 +19,7 @@ Knows g t f names = (n : Name) (v : Visible) → entry_of names n ≡ Some v →
 
 -- A term of a file uses visible names, has a sort that its place takes, and its constants fit.
 unfoldable pub is_right : PlacedTerm → Bool
-is_right p = not (is_unknown_at p) && (takes_sort p.place (written_sort p.names p.written) && has_fitting_constants p.written)
+is_right p = not (is_unknown_at p) && (accepts_sort p.place (written_sort p.names p.written) && has_fitting_constants p.written)
 
 unfoldable pub are_right : List PlacedTerm → Bool
 are_right ps = list_all is_right ps

@@ -8,7 +8,7 @@ use Rattle.model_places.specs.First.{breaks, first_among, first_note}
 use Rattle.model_places.specs.KeyPlaces.{unknown_key_note}
 use Rattle.model_places.specs.ShapePlaces.{shape_note}
 use Rattle.model_places.specs.Notes.{site_note}
-use Rattle.model_places.specs.Parts.{Thing, ModelPart, parts_of}
+use Rattle.model_places.specs.Parts.{Thing, ModelPart, parts_of_model}
 use Rattle.model_files.specs.Meaning.{ModelReading, stands_for, refused_by, ModelRule, BadJson, BadShape, UnknownKey, BadName, DuplicateName, UnknownName, BadWidth, BadSort, BadNumber, MemoryCopy, TooDeepChild, BadSteps, model_of, broken_rule, judged_by, with_known_keys}
 use Rattle.ila_json.specs.Reading.{refusal_in, IsNoteBy, IsNoteOf}
 
@@ -34,7 +34,7 @@ no_part is_broken h before (p ∷ ps) =
     ap (λ b. cond b (Some p.site) (first_among is_broken (p.thing ∷ before) ps)) (h before p.thing) ∙ no_part is_broken h (p.thing ∷ before) ps
 
 no_note : (rule : ModelRule) (m : WrittenModel) (text : List ℕ) → ((before : List Thing) (t : Thing) → breaks rule before t ≡ false) → first_note rule m ≡ Some text → ⊥
-no_note rule m text none h = clash (first_note rule m) (ap (option_map site_note) (no_part (breaks rule) none [] (parts_of m))) h where
+no_note rule m text none h = clash (first_note rule m) (ap (option_map site_note) (no_part (breaks rule) none [] (parts_of_model m))) h where
   clash : (o : Option (List ℕ)) → o ≡ None → o ≡ Some text → ⊥
   clash None e g = cc
   clash (Some t) e g = cc

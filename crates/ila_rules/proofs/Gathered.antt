@@ -6,11 +6,11 @@ use Rattle.model_meaning.specs.Term.{is_sort}
 use Rattle.model_meaning.specs.Model.{StateDeclaration, InputDeclaration, state_named}
 use Rattle.model_files.specs.Written.{WrittenTerm, WrittenMachine, machine, WrittenInstruction, instruction, WrittenInstructions, no_instructions, and_then, WrittenChild, no_child, child, WrittenModel}
 use Rattle.model_files.specs.Scope.{Visible, MachineScope, TermPlace, of_definition, of_fetch, of_condition, of_update, placed, defined, with_states, with_fetch, scope_within, outermost}
-use Rattle.model_files.specs.Rules.{uses_unknown_name, has_widths, takes_sort, has_fitting_constants, fits_sort}
+use Rattle.model_files.specs.Rules.{uses_unknown_name, has_widths, accepts_sort, has_fitting_constants, fits_sort}
 use Rattle.model_files.specs.Meaning.{UnknownName, BadWidth, BadSort, BadNumber, MemoryCopy}
 use Rattle.model_places.specs.Sites.{Way, into, Spot, Site, key_spot, item_spot, part_spot, instruction_spot, update_spot}
 use Rattle.model_places.specs.Notes.{site_note, note_at}
-use Rattle.model_places.specs.Parts.{Thing, data_name, instruction_name, declaration, term, program, step_limit, ModelPart, part_at, declared_parts, input_parts, state_parts, definition_parts, fetch_parts, update_parts, machine_parts, instructions_parts, instruction_parts, child_parts, parts_of}
+use Rattle.model_places.specs.Parts.{Thing, data_name, instruction_name, declaration, term, program, step_limit, ModelPart, part_at, declared_parts, input_parts, state_parts, definition_parts, fetch_parts, update_parts, machine_parts, instructions_parts, instruction_parts, child_parts, parts_of_model}
 use Rattle.model_places.specs.First.{is_unknown, is_bad_width, is_bad_sort, is_bad_number, is_memory_copy, breaks, first_among, first_note}
 use Rattle.ila_rules.specs.Seen.{LookUp, States, sort_at, definition, condition, update, updates_none}
 use Rattle.ila_rules.specs.Flaws.{Flaws, no_flaws, kept_first, on_way, entered, left, with_term, with_declared, input_flaws, state_flaws, definition_flaws, fetch_flaws, update_flaws, look_states, look_fetch, look_within, states_within, head_flaws, machine_flaws, instructions_flaws, instruction_flaws, child_flaws, model_flaws}
@@ -87,7 +87,7 @@ term_gathered names e p spot f = λ i. record {
   unknown_name = (ap (λ b. kept_first f.unknown_name (b || updates_none (role_of p)) (note_at f.way spot)) (unknown_same names e)
       ∙ ap (λ b. kept_first f.unknown_name (uses_unknown_name names e || b) (note_at f.way spot)) (none_updated p)) i;
   bad_width = kept_first f.bad_width (not (has_widths e)) (note_at f.way spot);
-  bad_sort = ap (λ b. kept_first f.bad_sort (not b) (note_at f.way spot)) (role_sort p (sort_at (briefs names) e) ∙ ap (takes_sort p) (sort_same names e)) i;
+  bad_sort = ap (λ b. kept_first f.bad_sort (not b) (note_at f.way spot)) (role_sort p (sort_at (briefs names) e) ∙ ap (accepts_sort p) (sort_same names e)) i;
   bad_number = kept_first f.bad_number (not (has_fitting_constants e)) (note_at f.way spot);
   memory_copy = ap (λ b. kept_first f.memory_copy b (note_at f.way spot)) (role_copies names e p) i;
 }
@@ -235,7 +235,7 @@ mutual
       ∙ (ap (λ (g : Flaws). gathered ps g) (sym (skipped (into f.way k) (key_spot (codes "steps")) limit f refl refl refl refl refl))
       ∙ ap (λ (g : Flaws). gathered ps (with_part (part_at (into f.way k) (key_spot (codes "steps")) limit) g)) (sym (skipped f.way spot nested f refl refl refl refl refl))))
 
-model_gathered : (m : WrittenModel) → model_flaws m ≡ gathered (parts_of m) no_flaws
+model_gathered : (m : WrittenModel) → model_flaws m ≡ gathered (parts_of_model m) no_flaws
 model_gathered m =
     let f : Flaws = input_flaws 0 m.inputs no_flaws in
     let first : f ≡ gathered (input_parts 0 m.inputs) no_flaws = inputs_gathered 0 m.inputs no_flaws refl in
@@ -294,10 +294,10 @@ pub first_flaws : (m : WrittenModel) → model_flaws m ≡ record {
   memory_copy = first_note MemoryCopy m;
 }
 first_flaws m = model_gathered m ∙ (λ i. record {
-  way = same_way (parts_of m) no_flaws i;
-  unknown_name = unknown_first (parts_of m) [] no_flaws i;
-  bad_width = width_first (parts_of m) [] no_flaws i;
-  bad_sort = sort_first (parts_of m) [] no_flaws i;
-  bad_number = number_first (parts_of m) [] no_flaws i;
-  memory_copy = copy_first (parts_of m) [] no_flaws i;
+  way = same_way (parts_of_model m) no_flaws i;
+  unknown_name = unknown_first (parts_of_model m) [] no_flaws i;
+  bad_width = width_first (parts_of_model m) [] no_flaws i;
+  bad_sort = sort_first (parts_of_model m) [] no_flaws i;
+  bad_number = number_first (parts_of_model m) [] no_flaws i;
+  memory_copy = copy_first (parts_of_model m) [] no_flaws i;
 })

@@ -10,14 +10,14 @@ use Rattle.wb_values.specs.Choice.{first_of}
 use Rattle.model_files.specs.Written.{WrittenTerm, WrittenMachine, machine, WrittenInstruction, instruction, WrittenInstructions, no_instructions, and_then, WrittenChild, no_child, child, WrittenModel, states_in, machines_in, machines_below, machines_of_instruction, machines_of_child}
 use Rattle.model_files.specs.Scope.{Visible, MachineScope, TermPlace, of_definition, of_fetch, of_condition, of_update, PlacedTerm, placed, term_of, written_sort, defined, with_states, with_fetch, placed_definitions, placed_fetch, placed_updates, scope_within, terms_in, terms_below, terms_of_instruction, terms_of_child, outermost, all_terms}
 use Rattle.model_meaning.specs.Term.{is_memory_sort}
-use Rattle.model_files.specs.Rules.{is_unknown_at, uses_unknown_name, updates_no_state, has_widths, has_state_widths, takes, takes_sort, has_fitting_constants, fits_sort, has_fitting_initial_values, copies_memory, has_unknown_name, has_bad_width, has_bad_sort, has_bad_number, has_memory_copy}
+use Rattle.model_files.specs.Rules.{is_unknown_at, uses_unknown_name, updates_no_state, has_widths, has_state_widths, accepts, accepts_sort, has_fitting_constants, fits_sort, has_fitting_initial_values, copies_memory, has_unknown_name, has_bad_width, has_bad_sort, has_bad_number, has_memory_copy}
 use Rattle.ila_rules.specs.Seen.{LookUp, States, sort_at, memory_at, Role, definition, fetch, condition, update, updates_none, has_role_sort, fits_role, copies_at, is_memory_called}
 use Rattle.ila_rules.specs.Flaws.{look_within, look_states, look_definitions, look_fetch, states_within}
 use Rattle.ila_rules.proofs.Flags.{Flags, no_flags, term_flags, declared_flags, input_flags, state_flags, definition_flags, fetch_flags, update_flags, head_flags, own_flags, machine_flags, instructions_flags, instruction_flags, child_flags, model_flags}
 use Rattle.ila_rules.proofs.Briefs.{briefs, unknown_same, sort_same, memory_same, called_same, definition_more, inputs_same, states_same, definitions_same, fetch_same, sorts_of}
 
 abbrev sort_fits : PlacedTerm → Bool
-sort_fits p = takes_sort p.place (written_sort p.names p.written)
+sort_fits p = accepts_sort p.place (written_sort p.names p.written)
 
 abbrev copies : PlacedTerm → Bool
 copies p = copies_memory p.place (term_of p.names p.written)
@@ -97,10 +97,10 @@ none_updated of_condition = refl
 none_updated (of_update n None) = refl
 none_updated (of_update n (Some d)) = refl
 
-pub role_fits : (p : TermPlace) (s : Sort) → fits_role (role_of p) s ≡ takes p s
+pub role_fits : (p : TermPlace) (s : Sort) → fits_role (role_of p) s ≡ accepts p s
 role_fits of_definition s = refl
 role_fits of_fetch s = fetch_fits s where
-  fetch_fits : (s : Sort) → fits_role fetch s ≡ takes of_fetch s
+  fetch_fits : (s : Sort) → fits_role fetch s ≡ accepts of_fetch s
   fetch_fits truth = refl
   fetch_fits (word w) = refl
   fetch_fits (memory a d) = refl
@@ -108,7 +108,7 @@ role_fits of_condition s = refl
 role_fits (of_update n None) s = refl
 role_fits (of_update n (Some d)) s = refl
 
-pub role_sort : (p : TermPlace) (o : Option Sort) → has_role_sort (role_of p) o ≡ takes_sort p o
+pub role_sort : (p : TermPlace) (o : Option Sort) → has_role_sort (role_of p) o ≡ accepts_sort p o
 role_sort p None = refl
 role_sort p (Some s) = role_fits p s
 
@@ -128,7 +128,7 @@ term_judged names e p f = λ i. record {
       ∙ (ap (λ b. f.unknown_name || (uses_unknown_name names e || b)) (none_updated p)
       ∙ ap (λ b. f.unknown_name || b) (or_false (uses_unknown_name names e || updates_no_state p)))) i;
   bad_width = (ap (λ b. f.bad_width || not b) (and_true (has_widths e))) i;
-  bad_sort = (ap (λ b. f.bad_sort || not b) (role_sort p (sort_at (briefs names) e) ∙ (ap (takes_sort p) (sort_same names e) ∙ and_true (takes_sort p (written_sort names e))))) i;
+  bad_sort = (ap (λ b. f.bad_sort || not b) (role_sort p (sort_at (briefs names) e) ∙ (ap (accepts_sort p) (sort_same names e) ∙ and_true (accepts_sort p (written_sort names e))))) i;
   bad_number = (ap (λ b. f.bad_number || not b) (and_true (has_fitting_constants e))) i;
   memory_copy = (ap (λ b. f.memory_copy || b) (role_copies names e p ∙ or_false (copies_memory p (term_of names e)))) i;
 }

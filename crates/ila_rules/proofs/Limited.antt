@@ -11,7 +11,7 @@ use Rattle.model_files.specs.Rules.{depth_of, depth_below, depth_of_instruction,
 use Rattle.model_files.specs.Meaning.{TooDeepChild, BadSteps}
 use Rattle.model_places.specs.Sites.{Way, into, Spot, Site, site_at, key_spot, item_spot, part_spot, instruction_spot, update_spot}
 use Rattle.model_places.specs.Notes.{site_note, note_at}
-use Rattle.model_places.specs.Parts.{Thing, data_name, instruction_name, declaration, term, step_limit, ModelPart, part_at, input_parts, state_parts, definition_parts, fetch_parts, update_parts, machine_parts, instructions_parts, instruction_parts, child_parts, parts_of}
+use Rattle.model_places.specs.Parts.{Thing, data_name, instruction_name, declaration, term, step_limit, ModelPart, part_at, input_parts, state_parts, definition_parts, fetch_parts, update_parts, machine_parts, instructions_parts, instruction_parts, child_parts, parts_of_model}
 use Rattle.model_places.specs.First.{is_deep_child, is_bad_limit, breaks, first_among, first_note}
 use Rattle.ila_rules.specs.Limits.{deeper_note, first_deeper, instruction_deeper, child_deeper, limit_note, first_limit, instruction_limit, child_limit}
 
@@ -221,12 +221,12 @@ top_parts m = machine_parts [] (outermost m) m.top
 pub first_deep : (m : WrittenModel) → deeper_note [] 3 m.top ≡ first_note TooDeepChild m
 first_deep m =
     deep_machine [] 3 (outermost m) m.top refl
-    ∙ ap (option_map site_note) (sym (deep_at [] (parts_of m) ∙ after_none is_deep_child (input_parts 0 m.inputs) (top_parts m) (no_inputs is_deep_child deep_test 0 m.inputs)))
+    ∙ ap (option_map site_note) (sym (deep_at [] (parts_of_model m) ∙ after_none is_deep_child (input_parts 0 m.inputs) (top_parts m) (no_inputs is_deep_child deep_test 0 m.inputs)))
 
 pub first_bad_limit : (m : WrittenModel) → limit_note [] m.top ≡ first_note BadSteps m
 first_bad_limit m =
     limit_machine [] (outermost m) m.top
-    ∙ ap (option_map site_note) (sym (bad_at [] (parts_of m) ∙ after_none is_bad_limit (input_parts 0 m.inputs) (top_parts m) (no_inputs is_bad_limit limit_test 0 m.inputs)))
+    ∙ ap (option_map site_note) (sym (bad_at [] (parts_of_model m) ∙ after_none is_bad_limit (input_parts 0 m.inputs) (top_parts m) (no_inputs is_bad_limit limit_test 0 m.inputs)))
 
 -- ---- whether there is one
 

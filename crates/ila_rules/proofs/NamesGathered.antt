@@ -9,7 +9,7 @@ use Rattle.model_meaning.specs.Model.{state_named}
 use Rattle.model_files.specs.Meaning.{BadName, DuplicateName}
 use Rattle.model_places.specs.Sites.{Way, into, Spot, key_spot, item_spot, part_spot, instruction_spot, update_spot}
 use Rattle.model_places.specs.Notes.{site_note, note_at}
-use Rattle.model_places.specs.Parts.{Thing, model_name, data_name, instruction_name, declaration, term, program, step_limit, ModelPart, part_at, input_parts, state_parts, definition_parts, fetch_parts, update_parts, machine_parts, instructions_parts, instruction_parts, child_parts, parts_of}
+use Rattle.model_places.specs.Parts.{Thing, model_name, data_name, instruction_name, declaration, term, program, step_limit, ModelPart, part_at, input_parts, state_parts, definition_parts, fetch_parts, update_parts, machine_parts, instructions_parts, instruction_parts, child_parts, parts_of_model}
 use Rattle.model_places.specs.First.{is_bad_name, has_data_name, has_instruction_name, stands_again, breaks, first_among, first_note}
 use Rattle.ila_rules.specs.Flaws.{kept_first}
 use Rattle.ila_rules.specs.NameFlaws.{NameSet, no_members, with_member, NameFlaws, names_on_way, names_entered, names_left, with_data, with_instruction, with_all_data, names_in, names_below, names_of_instruction, names_of_child, with_model_name, names_in_model}
@@ -206,7 +206,7 @@ mutual
 abbrev no_names : NameFlaws
 no_names = record { way = []; bad = None; twice = None; data_set = no_members; instruction_set = no_members }
 
-model_named : (m : WrittenModel) → names_in_model m ≡ gathered (parts_of m) no_names
+model_named : (m : WrittenModel) → names_in_model m ≡ gathered (parts_of_model m) no_names
 model_named m =
     let named = with_model_name m.model_name in
     let s = with_all_data (codes "inputs") 0 (map (λ i. i.input_name) m.inputs) named in
@@ -268,7 +268,7 @@ twice_first (p ∷ ps) before s d e =
     ∙ next s.twice (stands_again before p.thing) p.site (first_among (breaks DuplicateName) (p.thing ∷ before) ps))
 
 pub first_bad : (m : WrittenModel) → (names_in_model m).bad ≡ first_note BadName m
-first_bad m = ap (λ (s : NameFlaws). s.bad) (model_named m) ∙ bad_first (parts_of m) [] no_names
+first_bad m = ap (λ (s : NameFlaws). s.bad) (model_named m) ∙ bad_first (parts_of_model m) [] no_names
 
 pub first_twice : (m : WrittenModel) → (names_in_model m).twice ≡ first_note DuplicateName m
-first_twice m = ap (λ (s : NameFlaws). s.twice) (model_named m) ∙ twice_first (parts_of m) [] no_names refl refl
+first_twice m = ap (λ (s : NameFlaws). s.twice) (model_named m) ∙ twice_first (parts_of_model m) [] no_names refl refl

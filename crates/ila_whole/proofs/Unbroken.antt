@@ -4,7 +4,7 @@ use Rattle.std.specs.List.{list_all, list_any}
 use Rattle.std.proofs.lemmas.Bool.{false≢true, and_parts, ltb-false}
 use Rattle.model_files.specs.Written.{WrittenModel}
 use Rattle.model_files.specs.Scope.{PlacedTerm, written_sort, all_terms}
-use Rattle.model_files.specs.Rules.{has_bad_name, has_duplicate_name, has_unknown_name, has_bad_width, has_bad_sort, has_bad_number, has_memory_copy, has_too_deep_child, has_bad_steps, has_fitting_constants, is_unknown_at, takes_sort, depth_of}
+use Rattle.model_files.specs.Rules.{has_bad_name, has_duplicate_name, has_unknown_name, has_bad_width, has_bad_sort, has_bad_number, has_memory_copy, has_too_deep_child, has_bad_steps, has_fitting_constants, is_unknown_at, accepts_sort, depth_of}
 use Rattle.model_files.specs.Meaning.{ModelRule, BadName, DuplicateName, UnknownName, BadWidth, BadSort, BadNumber, MemoryCopy, TooDeepChild, BadSteps, broken_rule}
 use Rattle.ila_build.specs.Knowing.{is_right, are_right}
 use Rattle.ila_build.proofs.Sorting.{or_parts}
@@ -52,12 +52,12 @@ both : (a b : Bool) → a ≡ true → b ≡ true → (a && b) ≡ true
 both false b p q = absurd (false≢true p)
 both true b p q = q
 
-right_all : (ps : List PlacedTerm) → list_any is_unknown_at ps ≡ false → list_all (λ p. takes_sort p.place (written_sort p.names p.written)) ps ≡ true → list_all (λ p. has_fitting_constants p.written) ps ≡ true → are_right ps ≡ true
+right_all : (ps : List PlacedTerm) → list_any is_unknown_at ps ≡ false → list_all (λ p. accepts_sort p.place (written_sort p.names p.written)) ps ≡ true → list_all (λ p. has_fitting_constants p.written) ps ≡ true → are_right ps ≡ true
 unfolding is_right are_right
 right_all [] u s f = refl
 right_all (p ∷ ps) u s f =
     let us = or_parts (is_unknown_at p) (list_any is_unknown_at ps) u in
-    let ss = and_parts (takes_sort p.place (written_sort p.names p.written)) _ s in
+    let ss = and_parts (accepts_sort p.place (written_sort p.names p.written)) _ s in
     let fs = and_parts (has_fitting_constants p.written) _ f in
     both (is_right p) (are_right ps) (three _ _ _ us.0 ss.0 fs.0) (right_all ps us.1 ss.1 fs.1)
 

@@ -10,7 +10,7 @@ use Rattle.model_meaning.specs.Term.{same_sort, sort_of}
 use Rattle.model_meaning.specs.Model.{StateDeclaration, InputDeclaration, state_named}
 use Rattle.model_files.specs.Written.{WrittenTerm, WrittenInstruction, instruction, WrittenInstructions, no_instructions, and_then, WrittenMachine, machine, WrittenChild, no_child, child, machines_of_instruction}
 use Rattle.model_files.specs.Scope.{Visible, TermPlace, of_definition, of_fetch, of_condition, of_update, placed, declared, defined, term_of, written_sort, with_inputs, with_states, with_definitions, with_fetch, placed_definitions, placed_fetch, placed_updates}
-use Rattle.model_files.specs.Rules.{uses_unknown_name, updates_no_state, takes_sort}
+use Rattle.model_files.specs.Rules.{uses_unknown_name, updates_no_state, accepts_sort}
 use Rattle.model_files.specs.Meaning.{with_own_update, updates_for_states}
 use Rattle.wb_terms.specs.declared.nodes.TermId.{TermId}
 use Rattle.wb_terms.specs.Graph.{Graph, tree, HasDistinctNames}
@@ -65,14 +65,14 @@ known_inputs p at s low high names (x ∷ is) r h k =
     known_inputs p at s low high ((x.input_name, declared x.input_name x.sort) ∷ names) is r h.2 (known_more p at names x.input_name (declared x.input_name x.sort) k (ap (may_read p.children.items at) h.0 ∙ r) refl)
 
 -- a term that no rule refuses has its written sort, which its place takes
-pub right_sort : (p : Parts) (at : Option ℕ) (names : Entries Visible) (e : WrittenTerm) (w : TermPlace) → AreKnownAt p at names → is_right (placed names e w) ≡ true → (sort_of (term_of names e) ≡ written_sort names e) × (takes_sort w (sort_of (term_of names e)) ≡ true)
+pub right_sort : (p : Parts) (at : Option ℕ) (names : Entries Visible) (e : WrittenTerm) (w : TermPlace) → AreKnownAt p at names → is_right (placed names e w) ≡ true → (sort_of (term_of names e) ≡ written_sort names e) × (accepts_sort w (sort_of (term_of names e)) ≡ true)
 unfolding is_right
 right_sort p at names e w k right =
     let a = and_parts (not (uses_unknown_name names e || updates_no_state w)) _ right in
     let u = or_parts (uses_unknown_name names e) (updates_no_state w) (not_true _ a.0) in
-    let b = and_parts (takes_sort w (written_sort names e)) _ a.1 in
+    let b = and_parts (accepts_sort w (written_sort names e)) _ a.1 in
     let same : sort_of (term_of names e) ≡ written_sort names e = sort_is names e k.sorted u.0 b.1 in
-    (same, ap (takes_sort w) same ∙ b.0)
+    (same, ap (accepts_sort w) same ∙ b.0)
 
 known_defined : (p : Parts) (at : Option ℕ) (names : Entries Visible) (n : Name) (e : WrittenTerm) (w : TermPlace) → AreKnownAt p at names → is_right (placed names e w) ≡ true → AreKnownAt p at ((n, defined names e) ∷ names)
 known_defined p at names n e w k right =
@@ -113,11 +113,11 @@ sorts_sym (memory a d) (memory b e) h =
     and_from (b == a) (e == d) (eqb_sym a b parts.0) (eqb_sym d e parts.1)
 sorts_sym _ _ h = absurd (false≢true h)
 
-condition_sort : (o : Option Sort) → takes_sort of_condition o ≡ true → has_sort o truth ≡ true
+condition_sort : (o : Option Sort) → accepts_sort of_condition o ≡ true → has_sort o truth ≡ true
 condition_sort None h = absurd (false≢true h)
 condition_sort (Some s) h = sorts_sym truth s h
 
-update_sort : (n : Name) (d : StateDeclaration) (o : Option Sort) → takes_sort (of_update n (Some d)) o ≡ true → has_sort o d.sort ≡ true
+update_sort : (n : Name) (d : StateDeclaration) (o : Option Sort) → accepts_sort (of_update n (Some d)) o ≡ true → has_sort o d.sort ≡ true
 update_sort n d None h = absurd (false≢true h)
 update_sort n d (Some s) h = sorts_sym d.sort s h
 

@@ -67,23 +67,23 @@ has_bad_width m =
     truth_not (list_all (λ i. is_sort i.sort) m.inputs
     && (list_all has_state_widths (machines_in m.top) && list_all (λ p. has_widths p.written) (all_terms m)))
 
--- a place takes a term of this sort
-abbrev pub takes : TermPlace → Sort → Bool
-takes of_definition s = true
-takes of_fetch truth = true
-takes of_fetch (word w) = true
-takes of_fetch (memory a d) = false
-takes of_condition s = same_sort truth s
-takes (of_update n (Some d)) s = same_sort d.sort s
-takes (of_update n None) s = true
+-- a place accepts a term of this sort
+abbrev pub accepts : TermPlace → Sort → Bool
+accepts of_definition s = true
+accepts of_fetch truth = true
+accepts of_fetch (word w) = true
+accepts of_fetch (memory a d) = false
+accepts of_condition s = same_sort truth s
+accepts (of_update n (Some d)) s = same_sort d.sort s
+accepts (of_update n None) s = true
 
-abbrev pub takes_sort : TermPlace → Option Sort → Bool
-takes_sort p (Some s) = takes p s
-takes_sort p None = false
+abbrev pub accepts_sort : TermPlace → Option Sort → Bool
+accepts_sort p (Some s) = accepts p s
+accepts_sort p None = false
 
 -- BadSort: a term has no sort, or its place wants another sort.
 abbrev pub has_bad_sort : WrittenModel → Bool
-has_bad_sort m = truth_not (list_all (λ p. takes_sort p.place (written_sort p.names p.written)) (all_terms m))
+has_bad_sort m = truth_not (list_all (λ p. accepts_sort p.place (written_sort p.names p.written)) (all_terms m))
 
 -- every constant of the term fits its width
 abbrev pub has_fitting_constants : WrittenTerm → Bool

@@ -5,11 +5,11 @@ use Rattle.wb_values.specs.Names.{is_model_name}
 use Rattle.model_meaning.specs.Term.{is_sort}
 use Rattle.model_files.specs.Written.{WrittenModel}
 use Rattle.model_files.specs.Scope.{term_of, written_sort}
-use Rattle.model_files.specs.Rules.{is_unknown_at, has_widths, takes_sort, has_fitting_constants, fits_sort, copies_memory}
+use Rattle.model_files.specs.Rules.{is_unknown_at, has_widths, accepts_sort, has_fitting_constants, fits_sort, copies_memory}
 use Rattle.model_files.specs.Meaning.{ModelRule, BadJson, BadShape, UnknownKey, BadName, DuplicateName, UnknownName, BadWidth, BadSort, BadNumber, MemoryCopy, TooDeepChild, BadSteps}
 use Rattle.model_places.specs.Sites.{Site}
 use Rattle.model_places.specs.Notes.{site_note}
-use Rattle.model_places.specs.Parts.{Thing, model_name, data_name, instruction_name, declaration, term, program, step_limit, ModelPart, parts_of}
+use Rattle.model_places.specs.Parts.{Thing, model_name, data_name, instruction_name, declaration, term, program, step_limit, ModelPart, parts_of_model}
 
 abbrev pub is_bad_name : Thing → Bool
 is_bad_name (model_name n) = not (is_model_name n)
@@ -45,7 +45,7 @@ is_bad_width (term p) = not (has_widths p.written)
 is_bad_width _ = false
 
 abbrev pub is_bad_sort : Thing → Bool
-is_bad_sort (term p) = not (takes_sort p.place (written_sort p.names p.written))
+is_bad_sort (term p) = not (accepts_sort p.place (written_sort p.names p.written))
 is_bad_sort _ = false
 
 abbrev pub is_bad_number : Thing → Bool
@@ -88,7 +88,7 @@ first_among is_broken before (p ∷ ps) = cond (is_broken before p.thing) (Some 
 
 -- The first place at which the rule is broken, and the note that leads there.
 abbrev pub first_site : ModelRule → WrittenModel → Option Site
-first_site rule m = first_among (breaks rule) [] (parts_of m)
+first_site rule m = first_among (breaks rule) [] (parts_of_model m)
 
 abbrev pub first_note : ModelRule → WrittenModel → Option (List ℕ)
 first_note rule m = option_map site_note (first_site rule m)

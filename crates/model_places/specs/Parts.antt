@@ -85,5 +85,5 @@ abbrev mutual
       ∷ machine_parts (into way k) inner below
 
 -- The parts of a model file, in that order.
-abbrev pub parts_of : WrittenModel → List ModelPart
-parts_of m = part_at [] (key_spot (codes "name")) (model_name m.model_name) ∷ (input_parts 0 m.inputs ++ machine_parts [] (outermost m) m.top)
+abbrev pub parts_of_model : WrittenModel → List ModelPart
+parts_of_model m = part_at [] (key_spot (codes "name")) (model_name m.model_name) ∷ (input_parts 0 m.inputs ++ machine_parts [] (outermost m) m.top)

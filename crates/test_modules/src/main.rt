@@ -1,15 +1,22 @@
-//! Texts of modules with the rules that they break, of those on ports, on clocks as data and on kinds of assignments: prints each row
-//! that differs, and how many rows there are.
+//! Texts of modules with the rules that they break, of those on digits, ports, constants, widths, selects and memories, on clocks as
+//! data, on kinds of assignments and on drivers; texts of modules with bits that have no driver. Prints each row that differs, and how
+//! many rows there are.
 #![tactic(auto)]
 
+mod drivers;
+
+use crate::drivers::{two_drivers, undriven};
 use std::alloc::{AllocError, Global};
 use std::{fs, io};
+use v_assigned::has_bad_name;
 use v_blocks::{first_blocking_in_clocked, first_nonblocking_in_combinational};
 use v_hier::{has_clock_as_data, top_of};
 use v_lex::tokens;
+use v_modules::{first_rule, module_rule};
 use v_parse::parse;
 use v_ports::has_bad_port;
 use v_scopes::module_scope;
+use v_size::Kind;
 use v_syntax::module::{Module, Tree};
 use v_token::token::Token;
 
@@ -51,25 +58,65 @@ fn answer_of_tokens(alloc: Global, tokens: &[Token<'_>]) -> Result<String, Alloc
 fn answer_of_tree(alloc: Global, tree: &Tree<'_>) -> Result<String, AllocError> {
     match top_of(tree, "t") {
         Some(within) => kinds_of(alloc, within),
-        None => String::from_str(alloc, "no top"),
+        None => drivers_of(alloc, tree),
     }
 }
 
-/// The kinds, in their order.
+/// Whether the text's module `u` reads a bit that has no driver.
+fn drivers_of(alloc: Global, tree: &Tree<'_>) -> Result<String, AllocError> {
+    let Some(within) = top_of(tree, "u") else {
+        return String::from_str(alloc, "no top");
+    };
+    let names = module_scope(alloc, within)?;
+    let kinds = [(undriven(alloc, &within.items, &names)?, " V23")];
+    told(alloc, &kinds, None)
+}
+
+/// The kinds, in their order, and the first of those on digits, constants, widths, selects and memories.
 fn kinds_of(alloc: Global, within: &Module<'_>) -> Result<String, AllocError> {
     let names = module_scope(alloc, within)?;
+    let broken = module_rule(alloc, within)?;
+    let kinds = [
+        (broken.has_xz, " V11"),
+        (has_bad_port(alloc, &names, within)?, " V12"),
+        (broken.bad_constant, " V13"),
+        (broken.width_over_128, " V14"),
+        (broken.bad_select, " V15"),
+        (broken.memory_use, " V16"),
+        (has_clock_as_data(alloc, within, "c")?, " V17"),
+        (first_blocking_in_clocked(&within.items).is_some(), " V19"),
+        (
+            first_nonblocking_in_combinational(&within.items).is_some(),
+            " V20",
+        ),
+        (has_bad_name(&names, &within.items), " V22 name"),
+        (two_drivers(alloc, &within.items, &names)?, " V22 two"),
+    ];
+    told(alloc, &kinds, first_rule(broken))
+}
+
+/// The kinds whose rules are broken, and the first of some of them.
+fn told(alloc: Global, kinds: &[(bool, &str)], first: Option<Kind>) -> Result<String, AllocError> {
     let mut text = String::from_str(alloc, "ok")?;
-    if has_bad_port(alloc, &names, within)? {
-        text.push_str(" V12")?;
+    for (is_broken, kind) in kinds {
+        if *is_broken {
+            text.push_str(kind)?;
+        }
     }
-    if has_clock_as_data(alloc, within, "c")? {
-        text.push_str(" V17")?;
-    }
-    if first_blocking_in_clocked(&within.items).is_some() {
-        text.push_str(" V19")?;
-    }
-    if first_nonblocking_in_combinational(&within.items).is_some() {
-        text.push_str(" V20")?;
+    if let Some(kind) = first {
+        text.push_str(", first ")?;
+        text.push_str(word_of(kind))?;
     }
     Ok(text)
+}
+
+fn word_of(kind: Kind) -> &'static str {
+    match kind {
+        Kind::Undeclared => "V8",
+        Kind::HasXz => "V11",
+        Kind::BadConstant => "V13",
+        Kind::WidthOver128 => "V14",
+        Kind::BadSelect => "V15",
+        Kind::MemoryUse => "V16",
+    }
 }

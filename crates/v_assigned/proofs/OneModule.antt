@@ -25,27 +25,27 @@ use Rattle.v_assigned.proofs.Parts.{or_false}
 
 -- ---- one of a list
 
-either : {A : Type 0} (p q : Bool) → (p || q) ≡ true → (p ≡ true → A) → (q ≡ true → A) → A
+pub either : {A : Type 0} (p q : Bool) → (p || q) ≡ true → (p ≡ true → A) → (q ≡ true → A) → A
 either true q h f g = f refl
 either false q h f g = g h
 
-true-where-not-false : (b : Bool) → (b ≡ false → ⊥) → b ≡ true
+pub true-where-not-false : (b : Bool) → (b ≡ false → ⊥) → b ≡ true
 true-where-not-false true h = refl
 true-where-not-false false h = absurd (h refl)
 
-any-there : {X : Type 0} (p : X → Bool) (xs : List X) (x : X) → Contains xs x → p x ≡ true → list_any p xs ≡ true
+pub any-there : {X : Type 0} (p : X → Bool) (xs : List X) (x : X) → Contains xs x → p x ≡ true → list_any p xs ≡ true
 any-there p xs x c h = true-where-not-false (list_any p xs) (λ e. true≢false (sym h ∙ not_contained p xs x e c))
 
 later : {X : Type 0} (y : X) (xs : List X) (x : X) → Contains xs x → Contains (y ∷ xs) x
 later y xs x (k, l, e) = (suc k, omega (arith, l), e)
 
 -- an element of which the test is true
-record OneOf {X : Type 0} (p : X → Bool) (xs : List X) : Type 0 where
+pub record OneOf {X : Type 0} (p : X → Bool) (xs : List X) : Type 0 where
   pub element : X
   pub stands : Contains xs element
   pub so : p element ≡ true
 
-one-of : {X : Type 0} (p : X → Bool) (xs : List X) → list_any p xs ≡ true → OneOf p xs
+pub one-of : {X : Type 0} (p : X → Bool) (xs : List X) → list_any p xs ≡ true → OneOf p xs
 one-of p [] h = absurd (false≢true h)
 one-of p (x ∷ xs) h =
     either (p x) (list_any p xs) h (λ e. record { element = x; stands = (0, omega arith, refl); so = e })
@@ -65,7 +65,7 @@ ranged-constant : (s : Scope) (signed : Bool) (r : Option Range) → is_some (ra
 ranged-constant s signed None = refl
 ranged-constant s signed (Some r) = refl
 
-object-constant : (o : Option Declaration) → is_some (object_or_undeclared (option_map (declared_object (scope_of [])) o)).constant ≡ false
+pub object-constant : (o : Option Declaration) → is_some (object_or_undeclared (option_map (declared_object (scope_of [])) o)).constant ≡ false
 object-constant None = refl
 object-constant (Some x) = ranged-constant (scope_of []) x.signed x.range
 
@@ -77,7 +77,7 @@ input-so : (o : Option Declaration) → is_input_row (option_map (row (scope_of 
 input-so None = refl
 input-so (Some x) = refl
 
-no-connections : (items : List Item) → list_any is_part items ≡ false → port_connections items ≡ []
+pub no-connections : (items : List Item) → list_any is_part items ≡ false → port_connections items ≡ []
 no-connections [] h = refl
 no-connections (port d ∷ items) h = no-connections items h
 no-connections (parameter d ∷ items) h = absurd (true≢false h)
@@ -87,7 +87,7 @@ no-connections (assign ts ∷ items) h = no-connections items h
 no-connections (always es x ∷ items) h = no-connections items h
 no-connections (instances k given is ∷ items) h = absurd (true≢false h)
 
-second : (a b : Bool) → (a || b) ≡ false → b ≡ false
+pub second : (a b : Bool) → (a || b) ≡ false → b ≡ false
 second true b h = absurd (true≢false h)
 second false b h = h
 
@@ -98,7 +98,7 @@ module _ (d : Design) (m : Module) (names : ModuleScope) (whole : has_parts d.so
   abbrev found : Name → Option Declaration
   found n = declaration_of (declarations m) n
 
-  row-so : (n : Name) → declared_in names n ≡ option_map (row (scope_of [])) (found n)
+  pub row-so : (n : Name) → declared_in names n ≡ option_map (row (scope_of [])) (found n)
   row-so n = ap (λ (rs : List Row). row_named rs n) known ∙ sym (named_so (scope_of []) (declarations m) n)
 
   fixed-so : (n : Name) → is_fixed (alone m) n ≡ is_input_row (declared_in names n)
@@ -115,11 +115,11 @@ module _ (d : Design) (m : Module) (names : ModuleScope) (whole : has_parts d.so
   in-link : (n : Name) → (is_variable (alone m) n || is_fixed (alone m) n) ≡ is_wrong names false n
   in-link n = ap (λ b. b || is_fixed (alone m) n) (declared-so n) ∙ ap (λ b. is_variable_row (declared_in names n) || b) (fixed-so n)
 
-  placed-top : (q : Placed) (path : List PathStep) → at_path d path ≡ Some q → q ≡ alone m
+  pub placed-top : (q : Placed) (path : List PathStep) → at_path d path ≡ Some q → q ≡ alone m
   placed-top q [] e = some_is q (alone m) (sym e ∙ top)
   placed-top q (u ∷ path) e = absurd (none_some q (sym (nothing_below d.source d.top whole u path) ∙ e))
 
-  unconnected : port_connections m.items ≡ []
+  pub unconnected : port_connections m.items ≡ []
   unconnected = no-connections m.items (second (is_any m.parameters) (list_any is_part m.items) own)
 
   abbrev Bad : Type 0
@@ -147,7 +147,7 @@ module _ (d : Design) (m : Module) (names : ModuleScope) (whole : has_parts d.so
       ∙ any-there (λ (b : Target × Expression). list_any (is_wrong names false) (target_names b.0)) (assignments m.items) a c
       (any-there (is_wrong names false) (target_names a.0) n k (sym (in-link n) ∙ h))
 
-  no-output : (c : Connection) → Contains (port_connections m.items) c → ⊥
+  pub no-output : (c : Connection) → Contains (port_connections m.items) c → ⊥
   no-output c h = at (subst (λ (xs : List Connection). Contains xs c) unconnected h)
     where
       at : Contains [] c → ⊥

@@ -22,11 +22,11 @@ use Rattle.v_drivers.specs.Lists.{sets_in}
 use Rattle.v_drivers.specs.Tables.{span_mask, spans_mask}
 use Rattle.v_masks.proofs.Bits.{set-none, set-or}
 
-or_false : (a : Bool) → a || false ≡ a
+pub or_false : (a : Bool) → a || false ≡ a
 or_false true = refl
 or_false false = refl
 
-or_assoc : (a b c : Bool) → (a || b) || c ≡ a || (b || c)
+pub or_assoc : (a b c : Bool) → (a || b) || c ≡ a || (b || c)
 or_assoc true b c = refl
 or_assoc false b c = refl
 

@@ -19,7 +19,8 @@ use Rattle.v_statement.specs.Statements.{target_list}
 use Rattle.v_statement.proofs.Targets.{target_of-Joined}
 use Rattle.v_flow.specs.declared.span.Span.{Span}
 use Rattle.v_flow.specs.Spans.{bits_in}
-use Rattle.v_drivers.specs.Sets.{reached_by, target_drivers, targets_drivers, assignments_drivers, blocks_drivers, drivers, AreOfBits}
+use Rattle.v_drivers.specs.Sets.{reached_by, target_drivers, targets_drivers, assignments_drivers, blocks_drivers, drivers}
+use Rattle.v_drivers.specs.Bits.{AreOfBits}
 use Rattle.v_drivers.specs.Premises.{HaveNarrowTargets, AreNarrowBlocks}
 use Rattle.v_drivers.specs.Lists.{sets_in}
 

@@ -7,7 +7,8 @@ use Rattle.verilog_meaning.specs.Expression.{Object, Scope, is_memory}
 use Rattle.verilog_designs.specs.Reads.{BitSet}
 use Rattle.verilog_designs.specs.Drivers.{IsSameDriven}
 use Rattle.v_masks.proofs.Plain.{first-word}
-use Rattle.v_drivers.specs.Sets.{IsOfBits, Meet}
+use Rattle.v_drivers.specs.Sets.{Meet}
+use Rattle.v_drivers.specs.Bits.{IsOfBits}
 use Rattle.v_drivers.proofs.Touching.{touched, Touches, case-on}
 
 -- ---- two sets
@@ -27,19 +28,19 @@ outside-same : (o : Object) (a : Option (ℕ × ℕ)) (k b l c : ℕ) → is_som
 outside-same o None k b l c e h = h.1
 outside-same o (Some a) k b l c e h = absurd (true≢false e)
 
-touched-memory : (m : Bool) (p : BitSet) (n : Name) (b : ℕ) → m ≡ true → touched m p n b → (b ≡ 0) × (k : ℕ) × (c : ℕ) × (p n k c ≡ true)
+pub touched-memory : (m : Bool) (p : BitSet) (n : Name) (b : ℕ) → m ≡ true → touched m p n b → (b ≡ 0) × (k : ℕ) × (c : ℕ) × (p n k c ≡ true)
 touched-memory true p n b e h = h
 touched-memory false p n b e h = absurd (false≢true e)
 
-touched-other : (m : Bool) (p : BitSet) (n : Name) (b : ℕ) → m ≡ false → touched m p n b → p n zero b ≡ true
+pub touched-other : (m : Bool) (p : BitSet) (n : Name) (b : ℕ) → m ≡ false → touched m p n b → p n zero b ≡ true
 touched-other true p n b e h = absurd (true≢false e)
 touched-other false p n b e h = h
 
-memory-touched : (m : Bool) (p : BitSet) (n : Name) (k c : ℕ) → m ≡ true → p n k c ≡ true → touched m p n 0
+pub memory-touched : (m : Bool) (p : BitSet) (n : Name) (k c : ℕ) → m ≡ true → p n k c ≡ true → touched m p n 0
 memory-touched true p n k c e h = (refl, k, c, h)
 memory-touched false p n k c e h = absurd (false≢true e)
 
-other-touched : (m : Bool) (p : BitSet) (n : Name) (b : ℕ) → m ≡ false → p n zero b ≡ true → touched m p n b
+pub other-touched : (m : Bool) (p : BitSet) (n : Name) (b : ℕ) → m ≡ false → p n zero b ≡ true → touched m p n b
 other-touched true p n b e h = absurd (true≢false e)
 other-touched false p n b e h = h
 

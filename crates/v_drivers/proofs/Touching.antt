@@ -51,7 +51,7 @@ bits-positive : (x b : ℕ) → is_set x b ≡ true → 0 < x
 bits-positive zero b h = absurd (false≢true (sym (set-none b) ∙ h))
 bits-positive (suc x) b h = omega arith
 
-same-self : (n : Name) → same_name n n ≡ true
+pub same-self : (n : Name) → same_name n n ≡ true
 same-self n = (bytes_eq-Decides n n).1 refl
 
 abbrev has : Span → Bool
@@ -90,13 +90,13 @@ touches-mask true x n b (e, k, c, h) =
     let some = and_from (nat_lt x.from_word x.to_word) (nat_lt 0 x.bits) (lt-ltb x.from_word x.to_word words) (lt-ltb 0 x.bits (bits-positive x.bits c q.1)) in
     (p.0, choice-in (has x) 1 b some (subst (λ z. is_set 1 z ≡ true) (sym e) refl))
 
-name-of : (x : Span) (n : Name) → same_name x.name.now n ≡ true → x.name.now ≡ n
+pub name-of : (x : Span) (n : Name) → same_name x.name.now n ≡ true → x.name.now ≡ n
 name-of x n h = (bytes_eq-Decides x.name.now n).0 h
 
-span-touches : (s : Scope) (x : Span) (n : Name) (b : ℕ) → same_name x.name.now n ≡ true → is_set (span_mask s x) b ≡ true → Touches s (bits_of x) n b
+pub span-touches : (s : Scope) (x : Span) (n : Name) (b : ℕ) → same_name x.name.now n ≡ true → is_set (span_mask s x) b ≡ true → Touches s (bits_of x) n b
 span-touches s x n b e h = subst (λ m. Touches s (bits_of x) m b) (name-of x n e) (mask-touches (is_memory (s x.name.now)) x b h)
 
-touches-span : (s : Scope) (x : Span) (n : Name) (b : ℕ) → Touches s (bits_of x) n b → (same_name x.name.now n ≡ true) × (is_set (span_mask s x) b ≡ true)
+pub touches-span : (s : Scope) (x : Span) (n : Name) (b : ℕ) → Touches s (bits_of x) n b → (same_name x.name.now n ≡ true) × (is_set (span_mask s x) b ≡ true)
 touches-span s x n b h =
     let same = (touches-mask (is_memory (s n)) x n b h).0 in
     (same, subst (λ m. is_set (mask_as (is_memory (s m)) x) b ≡ true) (sym (name-of x n same)) (touches-mask (is_memory (s n)) x n b h).1)

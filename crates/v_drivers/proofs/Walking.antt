@@ -10,7 +10,8 @@ use Rattle.verilog_designs.specs.Reads.{BitSet}
 use Rattle.v_flow.specs.declared.span.Span.{Span}
 use Rattle.v_flow.specs.Spans.{bits_in}
 use Rattle.v_masks.proofs.Bits.{set-none}
-use Rattle.v_drivers.specs.Sets.{IsOfBits, AreOfBits, Meet, OneMeets, TwoMeet}
+use Rattle.v_drivers.specs.Sets.{Meet, OneMeets, TwoMeet}
+use Rattle.v_drivers.specs.Bits.{IsOfBits, AreOfBits}
 use Rattle.v_drivers.specs.Tables.{Masks, spans_mask, span_meets}
 use Rattle.v_drivers.proofs.Touching.{Touches, mask-bits, bits-mask, meets-both, both-meets}
 use Rattle.v_drivers.proofs.Meeting.{touching-meet, meet-touching}

@@ -1,4 +1,5 @@
 pub mod Sets
+pub mod Bits
 pub mod Lists
 pub mod Tables
 pub mod Premises

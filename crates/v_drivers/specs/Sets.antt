@@ -1,5 +1,5 @@
 -- What drives the bits of a module that stands by itself, driver by driver, as sets of bits; and when two of them drive one bit.
-use Rattle.std.specs.Prelude.{ℕ, List, [], ◌∷◌, ◌++◌, map, ◌≡◌, true, ◌⊎◌, IsTrue}
+use Rattle.std.specs.Prelude.{ℕ, List, [], ◌∷◌, ◌++◌, map, ◌⊎◌, IsTrue}
 use Rattle.wb_values.specs.Value.{Name}
 use Rattle.verilog_trees.specs.Syntax.{Expression, Target, Targets, Statement, Item}
 use Rattle.verilog_meaning.specs.Expression.{Scope}
@@ -40,14 +40,6 @@ drivers s items =
     ++ (blocks_drivers s (clocked_blocks items) ++ blocks_drivers s (combinational_blocks items))
 
 -- ---- two drivers
-
--- each bit is one of its name
-abbrev pub IsOfBits : Scope → BitSet → Type 0
-IsOfBits s p = (n : Name) (k b : ℕ) → p n k b ≡ true → is_bit_of (s n) k b ≡ true
-
-abbrev pub AreOfBits : Scope → List BitSet → Type 0
-AreOfBits s [] = Unit {0}
-AreOfBits s (p ∷ ps) = IsOfBits s p × AreOfBits s ps
 
 -- Two sets meet: in a bit of a net or variable, or both somewhere in one memory.
 pub record Meet (s : Scope) (p q : BitSet) : Type 0 where

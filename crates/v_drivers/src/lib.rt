@@ -7,4 +7,5 @@ mod link;
 mod module;
 mod table;
 
-pub use module::has_two_drivers;
+pub use module::{drivers_of, has_two_drivers};
+pub use table::{add_masks, span_mask};

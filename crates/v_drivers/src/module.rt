@@ -16,8 +16,9 @@ use v_flow::span::Span;
 use v_syntax::module::Item;
 use v_value::scope::Scope;
 
-/// The drivers of a module.
-fn drivers_of<'s>(
+/// The drivers of a module without instances: what each may drive, as spans (1364-2005, 6.1, 9.2). First each part of each continuous
+/// assignment's target, then the clocked blocks, then the others, each kind in the order of the text.
+pub fn drivers_of<'s>(
     alloc: Global,
     scope: &Scope<'_>,
     items: &[Item<'s>],

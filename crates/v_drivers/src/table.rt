@@ -9,7 +9,8 @@ ghost use Rattle.v_flow.specs.Spans.{is_between};
 ghost use Rattle.v_masks.specs.Masks.{mask_under};
 ghost use Rattle.v_drivers.specs.Tables.{span_mask, spans_mask, span_meets};
 ghost use Rattle.v_drivers.specs.Lists.{sets_in};
-ghost use Rattle.v_drivers.specs.Sets.{AreOfBits, TwoMeet};
+ghost use Rattle.v_drivers.specs.Sets.{TwoMeet};
+ghost use Rattle.v_drivers.specs.Bits.{AreOfBits};
 
 use std::alloc::{AllocError, Global};
 use std::collections::BTreeMap;
@@ -40,7 +41,7 @@ fn something(span: Span<'_>) -> u128
 }
 
 /// What a span has of its name, as a mask: of a memory the bit 0 where it has something.
-fn span_mask(scope: &Scope<'_>, span: Span<'_>) -> u128
+pub fn span_mask(scope: &Scope<'_>, span: Span<'_>) -> u128
     ensures { result ≡ span_mask (scope_at scope.now) span.entry }
 {
     if scope.object(span.name).addresses.is_none() {
@@ -82,8 +83,8 @@ fn add_mask<'s>(
     Ok(())
 }
 
-/// Adds what spans have.
-fn add_masks<'s>(
+/// Adds what spans have to a table: of a net or variable its bits, of a memory the bit 0.
+pub fn add_masks<'s>(
     scope: &Scope<'_>,
     table: &mut BTreeMap<&'s str, u128>,
     spans: &[Span<'s>],

@@ -71,9 +71,13 @@ pub data IsAssignment (sign : Mark) : (Target × Expression) → (text rest : Li
 
 -- The last part of the statement is an if without else, which an else behind it would belong to (9.4).
 abbrev pub has_open_if : Statement → Bool
+has_open_if tree.empty = false
+has_open_if (tree.blocking t e) = false
+has_open_if (tree.nonblocking t e) = false
 has_open_if (tree.if_then c s) = true
 has_open_if (tree.if_else c s t) = has_open_if t
-has_open_if _ = false
+has_open_if (tree.case k e items) = false
+has_open_if (tree.block n ss) = false
 
 abbrev pub case_word : CaseKind → Name
 case_word exact_case = codes "case"

@@ -157,11 +157,11 @@ input_fits f (x ∷ es) h n e is_e =
       | false ↦ λ t some. input_fits f es (and_right _ _ h) n e some
     ]) refl is_e
 
-input_known : (is : List InputDeclaration) (n : Name) → models.is_input is n ≡ is_some (sort_of_input is n)
+input_known : (is : List InputDeclaration) (n : Name) → models.is_input_name is n ≡ is_some (sort_of_input is n)
 input_known [] n = refl
 input_known (i ∷ is) n =
     elim (same_name i.input_name n) as
-    (λ b. cond b true (models.is_input is n) ≡ is_some (cond b (Some i.sort) (sort_of_input is n))) [
+    (λ b. cond b true (models.is_input_name is n) ≡ is_some (cond b (Some i.sort) (sort_of_input is n))) [
       | true ↦ refl
       | false ↦ input_known is n
     ]

@@ -10,13 +10,13 @@ use Rattle.verilog_meaning.specs.Expression.{Object, Scope, undeclared, object_o
 use Rattle.verilog_meaning.specs.Hierarchy.{ranged_object, constant_object, parameter_object, overridden_object, Overrides, one_parameter, override_of, with_values, with_parameters, all_parameters, constants_of, declarations, declaration_of, Declaration, declared_object, module_scope, PathStep, Placed, placed_scope, module_named, Instance, instance_named, instance_reached, connected, overridable, overrides_of, placed_instance, placed_below, no_overrides, placed_at}
 use Rattle.verilog_meaning.specs.Settled.{inside, IsDeclared, IsValueOf}
 use Rattle.wb_laws.specs.Widths.{ReadFits, LeavesFit, AllLeavesFit}
-use Rattle.wb_laws.specs.Settled.{LeavesAre, AllLeavesAre, NumbersFit, ValuesFit, ParametersFit, HasFittingNumbers, SourceHasFittingNumbers, IsKnown, SettledValueFitsItsWidth}
+use Rattle.wb_laws.specs.Settled.{NamesAre, AllNamesAre, HasNumbersThatFit, ValuesFit, ParametersFit, HasFittingNumbers, SourceHasFittingNumbers, IsKnown, SettledValueFitsItsWidth}
 use Rattle.wb_laws.proofs.Widths.{value_fits}
 
 -- where what is read of each name of the kind fits, so do the leaves
 mutual
   leaves_fit : (s : Scope) (v : Valuation) (IsOfKind : Name → Type 0) → ((n : Name) (x : Selects) → IsOfKind n → ReadFits (s n) (v n) x)
-      → (e : Expression) → LeavesAre IsOfKind e → LeavesFit s v e
+      → (e : Expression) → NamesAre IsOfKind e → LeavesFit s v e
   leaves_fit s v kind r (number k) h = h
   leaves_fit s v kind r (name n x) h = r n x h
   leaves_fit s v kind r (concatenation es) h = all_leaves_fit s v kind r es h
@@ -33,7 +33,7 @@ mutual
   leaves_fit s v kind r (conditional c x y) h = (leaves_fit s v kind r x h.0, leaves_fit s v kind r y h.1)
 
   all_leaves_fit : (s : Scope) (v : Valuation) (IsOfKind : Name → Type 0) → ((n : Name) (x : Selects) → IsOfKind n → ReadFits (s n) (v n) x)
-      → (es : Expressions) → AllLeavesAre IsOfKind es → AllLeavesFit s v es
+      → (es : Expressions) → AllNamesAre IsOfKind es → AllLeavesFit s v es
   all_leaves_fit s v kind r no_expressions h = tt
   all_leaves_fit s v kind r (expression e es) h = (leaves_fit s v kind r e h.0, all_leaves_fit s v kind r es h.1)
 
@@ -91,7 +91,7 @@ entry_is (x ∷ es) n o h e = chosen (same_name x.0 n) x.1 (entry_of es n) o h.0
 abbrev HasFittingConstants : Scope → Type 0
 HasFittingConstants s = (n : Name) (i : Selects) → ReadFits (s n) (a_number 0) i
 
-constants_fit : (s : Scope) (e : Expression) → HasFittingConstants s → NumbersFit e → self_value s no_values e < 2 ^ width_of s e
+constants_fit : (s : Scope) (e : Expression) → HasFittingConstants s → HasNumbersThatFit e → self_value s no_values e < 2 ^ width_of s e
 constants_fit s e h f = value_fits s no_values e (leaves_fit s no_values (λ n. Unit {0}) (λ n i _. h n i) e f)
 
 of_entries : (es : Entries Object) → AreParameters es → HasFittingConstants (scope_of es)
@@ -123,7 +123,7 @@ plain_width signed w x h =
     let p : 2 ^ w ≤ 2 ^ object_width (constant_object signed w x) = pow_mono l in
     omega (arith, p, h)
 
-of_value : (s : Scope) (signed : Bool) (r : Option Range) (e : Expression) → HasFittingConstants s → NumbersFit e → IsParameter (parameter_object s signed r e)
+of_value : (s : Scope) (signed : Bool) (r : Option Range) (e : Expression) → HasFittingConstants s → HasNumbersThatFit e → IsParameter (parameter_object s signed r e)
 of_value s signed None e h f =
     record {
       number = self_value s no_values e;
@@ -140,7 +140,7 @@ of_override s signed (Some r) given h = record { number = _; is_number = refl; f
 abbrev OverridesFit : Overrides → Type 0
 OverridesFit given = (n : Name) (o : Object) → given n ≡ Some o → IsParameter o
 
-of_either : (s : Scope) (signed : Bool) (r : Option Range) (e : Expression) (given : Option Object) → HasFittingConstants s → NumbersFit e
+of_either : (s : Scope) (signed : Bool) (r : Option Range) (e : Expression) (given : Option Object) → HasFittingConstants s → HasNumbersThatFit e
     → ((o : Object) → given ≡ Some o → IsParameter o) → IsParameter (one_parameter s signed r e given)
 of_either s signed r e None h f k = of_value s signed r e h f
 of_either s signed r e (Some o) h f k = of_override s signed r o (k o refl)
@@ -176,17 +176,17 @@ record IsPlaced (p : Placed) : Type 0 where
   constants : AreParameters p.constants
 
 given_fit : (s : Scope) (i : Instance) (m : Module) → HasFittingConstants s
-    → ((names : List Name) (n : Name) (e : Expression) → connected i.parameters names n ≡ Some e → NumbersFit e)
+    → ((names : List Name) (n : Name) (e : Expression) → connected i.parameters names n ≡ Some e → HasNumbersThatFit e)
     → OverridesFit (overrides_of s i.parameters m)
 given_fit s i m h f n o e = found (connected i.parameters (overridable (all_parameters m)) n) (f (overridable (all_parameters m)) n) e
   where
-    found : (x : Option Expression) → ((y : Expression) → x ≡ Some y → NumbersFit y)
+    found : (x : Option Expression) → ((y : Expression) → x ≡ Some y → HasNumbersThatFit y)
         → option_map (λ y. parameter_object s false None y) x ≡ Some o → IsParameter o
     found None k e' = cc
     found (Some y) k e' = let same : parameter_object s false None y ≡ o = cc in subst IsParameter same (of_value s false None y h (k y refl))
 
 instance_is : (source : Source) (path : List PathStep) (s : Scope) (i : Instance) (p : Placed) → SourceHasFittingNumbers source → HasFittingConstants s
-    → ((names : List Name) (n : Name) (e : Expression) → connected i.parameters names n ≡ Some e → NumbersFit e)
+    → ((names : List Name) (n : Name) (e : Expression) → connected i.parameters names n ≡ Some e → HasNumbersThatFit e)
     → placed_instance source path s i ≡ Some p → IsPlaced p
 instance_is source path s i p f h k e = found (module_named source i.of_module) (f i.of_module) e
   where

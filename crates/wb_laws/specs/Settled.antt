@@ -8,33 +8,33 @@ use Rattle.verilog_meaning.specs.Settled.{Design, IsPlacedIn, inside, IsDeclared
 
 abbrev mutual
   -- The numbers whose bits may come into the expression's value fit their widths, and its names are all of a kind.
-  pub LeavesAre : (Name → Type 0) → Expression → Type 0
-  LeavesAre IsOfKind (number k) = k.value < 2 ^ k.width
-  LeavesAre IsOfKind (name n x) = IsOfKind n
-  LeavesAre IsOfKind (concatenation es) = AllLeavesAre IsOfKind es
-  LeavesAre IsOfKind (replication k es) = AllLeavesAre IsOfKind es
-  LeavesAre IsOfKind (as_signed x) = LeavesAre IsOfKind x
-  LeavesAre IsOfKind (as_unsigned x) = LeavesAre IsOfKind x
-  LeavesAre IsOfKind (unary op x) = LeavesAre IsOfKind x
-  LeavesAre IsOfKind (reduction op x) = ⊤
-  LeavesAre IsOfKind (binary op x y) = LeavesAre IsOfKind x × LeavesAre IsOfKind y
-  LeavesAre IsOfKind (shift op x n) = LeavesAre IsOfKind x
-  LeavesAre IsOfKind (power x n) = ⊤
-  LeavesAre IsOfKind (comparison op x y) = ⊤
-  LeavesAre IsOfKind (logical op x y) = ⊤
-  LeavesAre IsOfKind (conditional c x y) = LeavesAre IsOfKind x × LeavesAre IsOfKind y
+  pub NamesAre : (Name → Type 0) → Expression → Type 0
+  NamesAre IsOfKind (number k) = k.value < 2 ^ k.width
+  NamesAre IsOfKind (name n x) = IsOfKind n
+  NamesAre IsOfKind (concatenation es) = AllNamesAre IsOfKind es
+  NamesAre IsOfKind (replication k es) = AllNamesAre IsOfKind es
+  NamesAre IsOfKind (as_signed x) = NamesAre IsOfKind x
+  NamesAre IsOfKind (as_unsigned x) = NamesAre IsOfKind x
+  NamesAre IsOfKind (unary op x) = NamesAre IsOfKind x
+  NamesAre IsOfKind (reduction op x) = ⊤
+  NamesAre IsOfKind (binary op x y) = NamesAre IsOfKind x × NamesAre IsOfKind y
+  NamesAre IsOfKind (shift op x n) = NamesAre IsOfKind x
+  NamesAre IsOfKind (power x n) = ⊤
+  NamesAre IsOfKind (comparison op x y) = ⊤
+  NamesAre IsOfKind (logical op x y) = ⊤
+  NamesAre IsOfKind (conditional c x y) = NamesAre IsOfKind x × NamesAre IsOfKind y
 
-  pub AllLeavesAre : (Name → Type 0) → Expressions → Type 0
-  AllLeavesAre IsOfKind no_expressions = ⊤
-  AllLeavesAre IsOfKind (expression e es) = LeavesAre IsOfKind e × AllLeavesAre IsOfKind es
+  pub AllNamesAre : (Name → Type 0) → Expressions → Type 0
+  AllNamesAre IsOfKind no_expressions = ⊤
+  AllNamesAre IsOfKind (expression e es) = NamesAre IsOfKind e × AllNamesAre IsOfKind es
 
 -- The numbers of an expression fit, whatever its names are.
-abbrev pub NumbersFit : Expression → Type 0
-NumbersFit e = LeavesAre (λ n. ⊤) e
+abbrev pub HasNumbersThatFit : Expression → Type 0
+HasNumbersThatFit e = NamesAre (λ n. ⊤) e
 
 abbrev pub ValuesFit : List (Name × Expression) → Type 0
 ValuesFit [] = ⊤
-ValuesFit (v ∷ vs) = NumbersFit v.1 × ValuesFit vs
+ValuesFit (v ∷ vs) = HasNumbersThatFit v.1 × ValuesFit vs
 
 abbrev pub ParametersFit : List ParameterDeclaration → Type 0
 ParametersFit [] = ⊤
@@ -44,7 +44,7 @@ ParametersFit (d ∷ ds) = ValuesFit d.values × ParametersFit ds
 pub record HasFittingNumbers (m : Module) : Type 0 where
   pub parameters : ParametersFit (all_parameters m)
   pub overrides : (u : Name) (i : Instance) (names : List Name) (n : Name) (e : Expression) → instance_named m.items u ≡ Some i
-      → connected i.parameters names n ≡ Some e → NumbersFit e
+      → connected i.parameters names n ≡ Some e → HasNumbersThatFit e
 
 abbrev pub SourceHasFittingNumbers : Source → Type 0
 SourceHasFittingNumbers source = (n : Name) (m : Module) → module_named source n ≡ Some m → HasFittingNumbers m
@@ -58,5 +58,5 @@ IsKnown p n = IsTrue (is_some (entry_of p.constants n)) ⊎ IsDeclared p n
 abbrev pub SettledValueFitsItsWidth : Type 0
 SettledValueFitsItsWidth =
     (d : Design) (registers inputs v : Valuation) (p : Placed) (e : Expression)
-    → SourceHasFittingNumbers d.source → IsSettled d registers inputs v → IsPlacedIn d p → LeavesAre (IsKnown p) e
+    → SourceHasFittingNumbers d.source → IsSettled d registers inputs v → IsPlacedIn d p → NamesAre (IsKnown p) e
     → self_value (placed_scope p) (inside v p) e < 2 ^ width_of (placed_scope p) e

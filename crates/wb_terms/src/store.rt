@@ -1,6 +1,6 @@
 //! The store of terms: names are declared, terms are put on earlier ones, and each keeps its sort.
 
-ghost use Rattle.std.specs.Prelude.{◌≡◌, ◌<◌, ◌↔◌, [], ◌∷◌, ◌++◌, false, length, take, IfOk, OnOk, OnErr, IsSome, IsTrue, option_map, string_bytes, slice_get, slice_index_or};
+ghost use Rattle.std.specs.Prelude.{◌≡◌, ◌<◌, ◌↔◌, [], ◌∷◌, ◌++◌, false, length, take, IfOk, OnOk, OnErr, IsSome, IsTrue, option_map, string_bytes, slice_get, slice_index_or, is_some};
 ghost use Rattle.wb_values.specs.Value.{truth, entry_of};
 ghost use Rattle.model_meaning.specs.Term.{is_sort, sort_of};
 ghost use Rattle.wb_terms.specs.Sort.{as_sort};
@@ -72,7 +72,19 @@ impl Terms {
         })
     }
 
-    /// Declares a name behind the earlier ones. It must not have been declared: the store does not look for it.
+    /// Whether a name is declared. It looks through all names.
+    pub fn is_declared(&self, name: &str) -> bool
+        ensures { result ≡ is_some (entry_of self.now.names name.now) }
+    {
+        for each in &self.names {
+            if each.name.as_str() == name {
+                return true;
+            }
+        }
+        false
+    }
+
+    /// Declares a name after the earlier ones. It must not have been declared (`is_declared`): the store does not look for it.
     pub fn declare(&mut self, name: String, sort: Sort) -> Result<NameId, PutStop>
         requires { entry_of self.old.names (string_bytes name) ≡ None }
         ensures id { IfOk result (λ id. id.0 ≡ length self.old.names) }

@@ -2,7 +2,7 @@ use Rattle.std.proofs.Common.{◌∙◌, ap, sym, subst}
 use Rattle.std.specs.Prelude.{map}
 use Rattle.v_value.specs.Scope.{scope_at}
 use Rattle.v_syntax.specs.Source.{item_of}
-use Rattle.v_drivers.specs.Sets.{AreOfBits}
+use Rattle.v_drivers.specs.Bits.{AreOfBits}
 use Rattle.v_drivers.specs.Lists.{sets_in}
 use Rattle.v_drivers.proofs.Driving.{drivers-bits}
 use Rattle.v_drivers.proofs.module.has_two_drivers.Goals as goal

@@ -1,0 +1,16 @@
+use Rattle.std.proofs.Common.{◌∙◌, sym, ap, map, []}
+use Rattle.v_value.specs.Scope.{scope_at}
+use Rattle.v_syntax.specs.Source.{item_of}
+use Rattle.v_size.specs.Rule.{unbroken}
+use Rattle.test_modules.proofs.Fitting.{items-narrow, reads-narrow}
+use Rattle.test_modules.proofs.drivers.lacks_driver.Goals as goal
+
+pub has_undriven-requires-clause-targets : goal.has_undriven-requires-clause-targets
+has_undriven-requires-clause-targets c =
+    items-narrow [] (scope_at c.args.names.scope.now) c.args.names.narrow (map item_of c.args.items.now)
+    (sym (ap unbroken (c.items_rules-broken.ensures [] c.requires.alone)) ∙ sym c.is_unbroken.ensures ∙ c.if-not-is_unbroken.false)
+
+pub has_undriven-requires-clause-values : goal.has_undriven-requires-clause-values
+has_undriven-requires-clause-values c =
+    reads-narrow [] (scope_at c.args.names.scope.now) c.args.names.narrow (map item_of c.args.items.now)
+    (sym (ap unbroken (c.items_rules-broken.ensures [] c.requires.alone)) ∙ sym c.is_unbroken.ensures ∙ c.if-not-is_unbroken.false)

@@ -1,0 +1,4 @@
+use Rattle.test_modules.proofs.drivers.two_drivers.Goals as goal
+
+pub invariant_of-narrow : goal.invariant_of-narrow
+invariant_of-narrow c = record { narrow = c.are_objects_narrow.ensures.objects c.if-not-are_objects_narrow.false }

@@ -1,0 +1,3 @@
+-- Lemmas on what is narrow.
+mod Whole
+mod Parts

@@ -1,0 +1,4 @@
+pub mod Shapes
+pub mod Memories
+pub mod Named
+pub mod Assembled

@@ -1,0 +1,14 @@
+mod Tables
+mod Within
+mod Surely
+mod Plain
+mod Walked
+mod Forms
+mod Labels
+mod Turns
+mod Found
+mod Covered
+mod Listed
+mod Items
+mod Alone
+mod Named

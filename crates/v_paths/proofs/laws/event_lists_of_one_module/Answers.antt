@@ -1,0 +1,5 @@
+use Rattle.v_paths.proofs.Alone.{event-lists}
+use Rattle.v_paths.proofs.laws.event_lists_of_one_module.Goals as goal
+
+pub returns : goal.returns
+returns c = λ d m x es h e. event-lists d m h e x es

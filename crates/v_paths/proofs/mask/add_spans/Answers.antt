@@ -1,0 +1,13 @@
+use Rattle.std.proofs.Common.{arith}
+use Rattle.std.proofs.lemmas.List.{at_drop_all}
+use Rattle.v_flow.specs.Spans.{bits_in}
+use Rattle.v_flow.proofs.Sets.{end}
+use Rattle.v_masks.specs.Masks.{spread}
+use Rattle.v_paths.proofs.Tables.{spans-turn}
+use Rattle.v_paths.proofs.mask.add_spans.Goals as goal
+
+pub loop-span-preserved : goal.loop-span-preserved
+loop-span-preserved c = spans-turn c.args.spans.now c.loop-span.span-index _ _ _ _ (omega arith) c.in_ok-add_span.ensures c.loop-span.invariant
+
+pub returns : goal.returns
+returns c = end _ _ _ c.loop-span.invariant (at_drop_all (λ ys. spread (bits_in ys)) c.args.spans.now c.loop-span.span-index c.loop-span-test.false)

@@ -1,0 +1,118 @@
+//! Latches and lists of events in the blocks of a module (1364-2005, 9.2, 9.7).
+
+ghost use Rattle.std.specs.Prelude.{◌≡◌, ◌↔◌, map, IsTrue, IfOk};
+ghost use Rattle.v_syntax.specs.Source.{item_of};
+ghost use Rattle.v_value.specs.Scope.{scope_at};
+ghost use Rattle.v_value.specs.Narrow.{HasNarrowObjects};
+ghost use Rattle.v_paths.specs.Modules.{IsFitItem, AreFitItems, HasLatchIn, HasBadEventListIn, IsLatchedItem, IsBadItem, OneIs};
+
+use crate::event::has_event_list;
+use crate::latch::is_latched;
+use std::alloc::{AllocError, Global};
+use v_statement::register::is_clocked;
+use v_syntax::module::Item;
+use v_value::scope::Scope;
+
+/// Whether an item is a combinational block with a latch.
+fn is_latched_item(alloc: Global, scope: &Scope<'_>, item: &Item<'_>) -> Result<bool, AllocError>
+    requires objects { HasNarrowObjects (scope_at scope.now) }
+    requires fit { IsFitItem (scope_at scope.now) (item_of item.now) }
+    ensures { IfOk result (λ r. IsTrue r ↔ IsLatchedItem (scope_at scope.now) (item_of item.now)) }
+{
+    match item {
+        Item::Always(events, block) => {
+            if is_clocked(events) {
+                return Ok(false);
+            }
+            let latched = is_latched(alloc, scope, block)?;
+            Ok(latched)
+        }
+        Item::Port(_)
+        | Item::Parameter(_)
+        | Item::Wires(_, _, _)
+        | Item::Variables(_, _, _)
+        | Item::Assign(_)
+        | Item::Instances(_, _, _) => Ok(false),
+    }
+}
+
+fn one_is_latched(alloc: Global, scope: &Scope<'_>, items: &[Item<'_>]) -> Result<bool, AllocError>
+    requires objects { HasNarrowObjects (scope_at scope.now) }
+    requires fit { AreFitItems (scope_at scope.now) (map item_of items.now) }
+    ensures { IfOk result (λ r. IsTrue r ↔ OneIs (IsLatchedItem (scope_at scope.now)) (map item_of items.now)) }
+{
+    for item in items {
+        if is_latched_item(alloc, scope, item)? {
+            return Ok(true);
+        }
+    }
+    Ok(false)
+}
+
+/// Whether some combinational block among the items of a module has a latch. No such block assigns a memory.
+pub fn has_latch(alloc: Global, scope: &Scope<'_>, items: &[Item<'_>]) -> Result<bool, AllocError>
+    requires objects { HasNarrowObjects (scope_at scope.now) }
+    requires fit { AreFitItems (scope_at scope.now) (map item_of items.now) }
+    ensures { IfOk result (λ r. IsTrue r ↔ HasLatchIn (scope_at scope.now) (map item_of items.now)) }
+{
+    let found = one_is_latched(alloc, scope, items)?;
+    Ok(found)
+}
+
+/// Whether an item is a block with a list of events that it may not have.
+fn is_bad_item(
+    alloc: Global,
+    scope: &Scope<'_>,
+    clock: &str,
+    item: &Item<'_>,
+) -> Result<bool, AllocError>
+    requires objects { HasNarrowObjects (scope_at scope.now) }
+    requires fit { IsFitItem (scope_at scope.now) (item_of item.now) }
+    ensures { IfOk result (λ r. IsTrue r ↔ IsBadItem (scope_at scope.now) clock.now (item_of item.now)) }
+{
+    match item {
+        Item::Always(events, block) => {
+            let may = has_event_list(alloc, scope, clock, events, block)?;
+            Ok(!may)
+        }
+        Item::Port(_)
+        | Item::Parameter(_)
+        | Item::Wires(_, _, _)
+        | Item::Variables(_, _, _)
+        | Item::Assign(_)
+        | Item::Instances(_, _, _) => Ok(false),
+    }
+}
+
+fn one_is_bad(
+    alloc: Global,
+    scope: &Scope<'_>,
+    clock: &str,
+    items: &[Item<'_>],
+) -> Result<bool, AllocError>
+    requires objects { HasNarrowObjects (scope_at scope.now) }
+    requires fit { AreFitItems (scope_at scope.now) (map item_of items.now) }
+    ensures { IfOk result (λ r. IsTrue r ↔ OneIs (IsBadItem (scope_at scope.now) clock.now) (map item_of items.now)) }
+{
+    for item in items {
+        if is_bad_item(alloc, scope, clock, item)? {
+            return Ok(true);
+        }
+    }
+    Ok(false)
+}
+
+/// Whether some block among the items of a module has a list of events that it may not have. No combinational block assigns a memory.
+pub fn has_bad_event_list(
+    alloc: Global,
+    scope: &Scope<'_>,
+    clock: &str,
+    items: &[Item<'_>],
+) -> Result<bool, AllocError>
+    requires objects { HasNarrowObjects (scope_at scope.now) }
+    requires fit { AreFitItems (scope_at scope.now) (map item_of items.now) }
+    ensures { IfOk result (λ r. IsTrue r ↔ HasBadEventListIn (scope_at scope.now) clock.now (map item_of items.now)) }
+{
+    let found = one_is_bad(alloc, scope, clock, items)?;
+    Ok(found)
+}
