@@ -149,6 +149,8 @@ fn add_dotted_number(tokens: &[OwnedToken], alloc: Global, out: &mut Sheet) {
                 out.add_number(alloc, "", number.value);
                 out.add_number(alloc, " in ", u128::from(number.width));
                 out.add(" bits");
+            } else {
+                out.add("no number");
             }
             drop(tree);
         }
