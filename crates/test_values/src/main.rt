@@ -2,8 +2,6 @@
 //! and how many there were.
 #![tactic(auto)]
 
-mod byte;
-mod grouping;
 mod ladder;
 mod objects;
 mod runs;
@@ -20,7 +18,7 @@ fn main(rt: HostRuntime) -> io::Result<()> {
     let mut table = Table::new(alloc);
     for line in text.as_str().lines() {
         if let Some(told) = table.take(alloc, line)? {
-            println!(rt; "{told}")?;
+            println!(rt; "{line}\n  {told}")?;
         }
     }
     println!(rt; "{} rows, {} differ", table.rows, table.differ)
