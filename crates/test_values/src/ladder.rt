@@ -33,8 +33,8 @@ fn assignment<'s>(name: &'s str) -> Statement<'s>
 }
 
 /// `if (0) ; else if (0) ; .. else if (1) q = 1;` with so many arms before the last one.
-fn ladder(alloc: Global, before: usize) -> Result<Statement<'static>, AllocError>
-    ensures { IfOk result IsSmallStatement }
+fn ladder(alloc: Global, before: usize) -> Result<Box<Statement<'static>>, AllocError>
+    ensures { IfOk result (λ x. IsSmallStatement x.value) }
 {
     let mut arms = Vec::new(alloc);
     for _ in 0..before {
@@ -47,7 +47,8 @@ fn ladder(alloc: Global, before: usize) -> Result<Statement<'static>, AllocError
         condition: number(1),
         statement: assignment("q"),
     })?;
-    Ok(Statement::If(arms, None))
+    let whole = Box::new(alloc, Statement::If(arms, None))?;
+    Ok(whole)
 }
 
 /// The value that was assigned last, with how many values there are, and how many updates wait.
@@ -62,11 +63,10 @@ fn told(alloc: Global, values: &Values<'_>, waiting: usize) -> Result<String, Al
     format!(in alloc; "{count} value, {name} {number}, {waiting} updates")
 }
 
-/// What values and updates there are after a ladder of so many arms before the last one.
-pub fn ladder_run(alloc: Global, before: &str) -> Result<String, AllocError> {
-    let Ok(before) = before.parse::<usize>() else {
-        return String::from_str(alloc, "is no row");
-    };
+/// What values and updates there are after a statement that is run where there are no names.
+fn run_told(statement: &Statement<'_>, alloc: Global) -> Result<String, AllocError>
+    requires { IsSmallStatement statement.now }
+{
     let scope = Scope {
         declarations: Vec::new(alloc),
     };
@@ -74,7 +74,17 @@ pub fn ladder_run(alloc: Global, before: &str) -> Result<String, AllocError> {
         entries: Vec::new(alloc),
     };
     let mut updates = Vec::new(alloc);
-    let statement = ladder(alloc, before)?;
-    run(alloc, &scope, &statement, &mut values, &mut updates)?;
+    run(alloc, &scope, statement, &mut values, &mut updates)?;
     told(alloc, &values, updates.len())
+}
+
+/// What values and updates there are after a ladder of so many arms before the last one.
+pub fn ladder_run(alloc: Global, before: &str) -> Result<String, AllocError> {
+    let Ok(before) = before.parse::<usize>() else {
+        return String::from_str(alloc, "is no row");
+    };
+    match ladder(alloc, before) {
+        Ok(statement) => run_told(&statement, alloc),
+        Err(stop) => Err(stop),
+    }
 }

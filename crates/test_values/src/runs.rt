@@ -66,17 +66,18 @@ fn assignment(
     first: u8,
     second: u8,
     number: u8,
-) -> Result<Statement<'static>, AllocError>
+) -> Result<Box<Statement<'static>>, AllocError>
     requires first_small { first < 128 }
     requires second_small { second < 128 }
-    ensures { IfOk result (λ x. (s : PureScope) → HasNarrowObjects s → IsNarrowStatement s (statement_of x)) }
+    ensures { IfOk result (λ x. (s : PureScope) → HasNarrowObjects s → IsNarrowStatement s (statement_of x.value)) }
 {
     let selects = Selects::One(part(alloc, form, first, second)?);
     let mut statements = Vec::new(alloc);
     let whole = Target::Place("q", Selects::Whole);
     statements.push(Statement::Blocking(whole, byte(0x55)))?;
     statements.push(Statement::Blocking(Target::Place("q", selects), byte(number)))?;
-    Ok(Statement::Block(None, statements))
+    let whole = Box::new(alloc, Statement::Block(None, statements))?;
+    Ok(whole)
 }
 
 /// `reg [left:right] q;`
@@ -112,6 +113,25 @@ fn last_number(values: &Values<'_>) -> Option<u128> {
     }
 }
 
+/// The values after a statement that is run where `q` has these bounds.
+fn run_where(
+    statement: &Statement<'static>,
+    alloc: Global,
+    bounds: (u32, u32),
+) -> Result<Values<'static>, AllocError>
+    requires left_small { bounds.0 < 128 }
+    requires right_small { bounds.1 < 128 }
+    requires narrow { (s : PureScope) → HasNarrowObjects s → IsNarrowStatement s (statement_of statement.now) }
+{
+    let scope = declared(alloc, bounds.0, bounds.1)?;
+    let mut values = Values {
+        entries: Vec::new(alloc),
+    };
+    let mut updates = Vec::new(alloc);
+    run(alloc, &scope, statement, &mut values, &mut updates)?;
+    Ok(values)
+}
+
 /// The values after the assignment to a `q` with these bounds.
 fn assigned(
     alloc: Global,
@@ -126,14 +146,10 @@ fn assigned(
     requires first_small { first < 128 }
     requires second_small { second < 128 }
 {
-    let scope = declared(alloc, bounds.0, bounds.1)?;
-    let statement = assignment(alloc, form, first, second, number)?;
-    let mut values = Values {
-        entries: Vec::new(alloc),
-    };
-    let mut updates = Vec::new(alloc);
-    run(alloc, &scope, &statement, &mut values, &mut updates)?;
-    Ok(values)
+    match assignment(alloc, form, first, second, number) {
+        Ok(statement) => run_where(&statement, alloc, bounds),
+        Err(stop) => Err(stop),
+    }
 }
 
 /// The form that stands between the bounds or the base and the width.

@@ -1,6 +1,7 @@
 use Rattle.std.proofs.Common.{sym, subst, None}
 use Rattle.v_syntax.specs.declared.tree.Arm.{Arm}
 use Rattle.v_syntax.specs.declared.tree.Statement.{Empty}
+use Rattle.v_syntax.specs.Tree.{statement_of}
 use Rattle.v_statement.specs.Statements.{IsNarrowStatement}
 use Rattle.v_statement.proofs.Runs.{statement_of-If}
 use Rattle.test_values.proofs.Ladders.{AreSmallArms, one_more_arm}
@@ -15,4 +16,5 @@ pub returns : goal.returns
 returns c = λ s o.
     let last : Arm = record { condition = c.number-2.result; statement = c.assignment.result } in
     let arms = subst AreSmallArms (sym c.in_ok-push-2.ensures.items) (one_more_arm c.loop.arms.items last c.loop.invariant c.number-2.ensures c.assignment.ensures) in
-    subst (IsNarrowStatement s) (sym (statement_of-If c.push-2.new.self None)) (arms s None o tt)
+    let whole = subst (IsNarrowStatement s) (sym (statement_of-If c.push-2.new.self None)) (arms s None o tt) in
+    subst (λ x. IsNarrowStatement s (statement_of x)) (sym c.in_ok-whole.ensures.ok) whole
