@@ -41,6 +41,11 @@ note_of files file start =
 abbrev pub last_of : List (List ℕ) → ℕ
 last_of files = min (length files - 1) 4294967295
 
+-- the number of the file of a token, or of the last file
+abbrev pub file_of_token : List (List ℕ) → Option Token → ℕ
+file_of_token files (Some t) = t.file
+file_of_token files None = last_of files
+
 -- what a note says of a token, or of the end of the last file
 abbrev pub note_of_token : List (List ℕ) → Option Token → List ℕ
 note_of_token files (Some t) = note_of files t.file t.start

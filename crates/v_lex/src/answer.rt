@@ -7,7 +7,7 @@ ghost use Rattle.verilog_text.specs.Text.{tokens_in};
 ghost use Rattle.v_lex.specs.Walk.{judged, walked};
 ghost use Rattle.v_lex.specs.Reading.{reading_of, IsRead};
 ghost use Rattle.v_lex.specs.Answer.{IsAnswer, IsOfKind};
-ghost use Rattle.v_lex.specs.Notes.{position_from, bytes_at, place_text, word_in, note_of, last_of, note_of_token};
+ghost use Rattle.v_lex.specs.Notes.{position_from, bytes_at, place_text, word_in, note_of, last_of, note_of_token, file_of_token};
 ghost use Rattle.v_lex.specs.Sites.{walked_spots};
 ghost use Rattle.v_lex.specs.Spots.{spots_in};
 ghost use Rattle.v_lex.specs.Sited.{spot_of};
@@ -168,7 +168,8 @@ fn end_of(files: &[Vec<u8>]) -> Place
 
 /// The note where memory suffices.
 fn if_made(note: Result<Note, NoMemory>) -> Option<Note>
-    ensures { (w : List ℕ) → IfOk note (λ n. n.text.items ≡ w) → IfSome result (λ n. n.text.items ≡ w) }
+    ensures text { (w : List ℕ) → IfOk note (λ n. n.text.items ≡ w) → IfSome result (λ n. n.text.items ≡ w) }
+    ensures file { (f : ℕ) → IfOk note (λ n. n.file ≡ f) → IfSome result (λ n. n.file ≡ f) }
 {
     match note {
         Ok(note) => Some(note),
@@ -179,7 +180,8 @@ fn if_made(note: Result<Note, NoMemory>) -> Option<Note>
 /// A note that leads to a token of the files, or to the end of the last file where no token is left:
 /// `line 3 column 7: ` and the word there, and beside it the number of the file. None where memory runs out.
 pub fn note_at(alloc: Global, files: &[Vec<u8>], token: Option<Token<'_>>) -> Option<Note>
-    ensures { IfSome result (λ n. n.text.items ≡ note_of_token (map (λ f. f.items) files.now) token.entry) }
+    ensures text { IfSome result (λ n. n.text.items ≡ note_of_token (map (λ f. f.items) files.now) token.entry) }
+    ensures file { IfSome result (λ n. n.file ≡ file_of_token (map (λ f. f.items) files.now) token.entry) }
 {
     match token {
         Some(token) => {
