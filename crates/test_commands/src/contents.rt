@@ -119,7 +119,9 @@ fn add_named(alloc: Global, row: Row<'_>, name: &str, files: &mut Vec<(String, V
         return;
     };
     if let Ok(text) = String::from_str(alloc, name) {
-        let _kept = files.push((text, content_of(alloc, row, name, lines))).is_ok();
+        let _kept = files
+            .push((text, content_of(alloc, row, name, lines)))
+            .is_ok();
     }
 }
 

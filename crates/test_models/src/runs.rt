@@ -8,7 +8,9 @@ use crate::rows::halves;
 use crate::sheet::Sheet;
 use ila_child::{Inputs, State, Stepped, initial_state, step};
 use ila_model::IlaModel;
-use ila_sim::{ScriptStop, Simulation, names_of, read_script, simulate, simulated, simulation_text};
+use ila_sim::{
+    ScriptStop, Simulation, names_of, read_script, simulate, simulated, simulation_text,
+};
 use std::alloc::Global;
 use wb_terms::Value;
 

@@ -45,7 +45,9 @@ fn clauses(alloc: Global, text: &str) -> Option<Vec<Clause>> {
     let mut clause = Clause::new(alloc);
     for word in text.split_whitespace() {
         let is_taken = if word == "0" {
-            clauses.push(mem::replace(&mut clause, Clause::new(alloc))).is_ok()
+            clauses
+                .push(mem::replace(&mut clause, Clause::new(alloc)))
+                .is_ok()
         } else {
             is_added(&mut clause, word)
         };

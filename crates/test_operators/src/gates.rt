@@ -24,7 +24,11 @@ pub fn add_gates(alloc: Global, out: &mut Sheet) {
     let (Ok(both), Ok(again)) = (circuit.and(x, y), circuit.and(y, x)) else {
         return out.add("no memory");
     };
-    out.add(if again == both { "one gate, " } else { "two gates, " });
+    out.add(if again == both {
+        "one gate, "
+    } else {
+        "two gates, "
+    });
     match circuit.into_cnf(alloc, again) {
         Ok(cnf) => out.add_number(alloc, u128::from(cnf.vars())),
         Err(_) => out.add("no memory"),

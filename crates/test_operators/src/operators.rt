@@ -105,7 +105,12 @@ pub fn add_tried(alloc: Global, width: &str, text: &str, out: &mut Sheet) {
     let mut found = Sheet::new(alloc);
     add_known(alloc, BUDGET, store(alloc, row, value).text(), &mut found);
     found.add("; ");
-    add_known(alloc, BUDGET, store(alloc, row, value ^ 1).text(), &mut found);
+    add_known(
+        alloc,
+        BUDGET,
+        store(alloc, row, value ^ 1).text(),
+        &mut found,
+    );
     if !found.is(wanted(row, alloc).text()) {
         out.add(found.text());
     }

@@ -12,7 +12,8 @@ use std::alloc::{AllocError, Global};
 use wb_terms::{Env, Node, Scratch, Sort, TermId, Terms, Value, eval, eval_at};
 
 /// The terms of the sample after its names.
-const SAMPLE: &str = "const 8 200; const 8 13; const 8 3; truth true; truth false; const 2 3; const 128 200";
+const SAMPLE: &str =
+    "const 8 200; const 8 13; const 8 3; truth true; truth false; const 2 3; const 128 200";
 
 /// How many terms the sample has.
 const COUNT: u64 = 10;
@@ -116,12 +117,20 @@ fn add_read(alloc: Global, terms: &Terms, env: &Env, out: &mut Sheet)
         return out.add("no terms");
     }
     let chosen = TermId((count - 2) as usize);
-    let (Sort::Memory(2, 8), Node::Store(_, _, _)) =
-        (terms.sort(chosen), terms.node(TermId((count - 3) as usize)))
-    else {
+    let (Sort::Memory(2, 8), Node::Store(_, _, _)) = (
+        terms.sort(chosen),
+        terms.node(TermId((count - 3) as usize)),
+    ) else {
         return out.add("no memories");
     };
-    add_number_of(alloc, terms, env, &mut scratch, TermId((count - 1) as usize), out);
+    add_number_of(
+        alloc,
+        terms,
+        env,
+        &mut scratch,
+        TermId((count - 1) as usize),
+        out,
+    );
     add_word_of(alloc, terms, env, &mut scratch, chosen, 3, out);
     add_word_of(alloc, terms, env, &mut scratch, chosen, 1, out);
     out.add(" ");

@@ -145,7 +145,10 @@ fn wider(
     let signed = sign_of(&names.scope, expression);
     let number = value_of(&names.scope, &names.values, expression, width + 1, signed);
     let truth = is_true(&names.scope, &names.values, expression);
-    let (sign, truth) = (said(signed, "signed", "unsigned"), said(truth, "true", "false"));
+    let (sign, truth) = (
+        said(signed, "signed", "unsigned"),
+        said(truth, "true", "false"),
+    );
     format!(in alloc; "{sign}, {number} {truth}")
 }
 

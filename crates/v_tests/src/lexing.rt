@@ -32,10 +32,12 @@ pub fn add_joined(tokens: &[Token<'_>], mark: &str, out: &mut Sheet) {
 /// Adds the mark that a text of one token is.
 pub fn add_mark(tokens: &[Token<'_>], alloc: Global, out: &mut Sheet) {
     match tokens {
-        [Token {
-            kind: TokenKind::Mark(mark),
-            ..
-        }] => match format!(in alloc; "{mark:?}") {
+        [
+            Token {
+                kind: TokenKind::Mark(mark),
+                ..
+            },
+        ] => match format!(in alloc; "{mark:?}") {
             Ok(text) => out.add(&text),
             Err(_) => out.fail(),
         },
