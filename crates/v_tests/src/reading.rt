@@ -10,7 +10,7 @@ use v_expr::number::number;
 use v_expr::{ExpressionStop, expression, selects};
 use v_parse::{ParseStop, parse};
 use v_place::{left_at_first_wrong, left_at_first_wrong_in_expression};
-use v_syntax::tree::Expression;
+use v_syntax::tree::{Expression, Statement};
 use v_token::token::{Token, TokenKind};
 
 fn token<'s>(kind: TokenKind, text: &'s str) -> Token<'s> {
@@ -46,17 +46,33 @@ fn add_whole(left: usize, out: &mut Sheet) {
     out.add(if left == 0 { "read" } else { "refused" });
 }
 
+/// Adds an expression.
+fn add_shown_expression(tree: Expression<'_>, alloc: Global, out: &mut Sheet) {
+    match Box::new(alloc, tree) {
+        Ok(tree) => show_expression(&tree, out),
+        Err(_) => out.fail(),
+    }
+}
+
+/// Adds a statement.
+fn add_shown_statement(tree: Statement<'_>, alloc: Global, out: &mut Sheet) {
+    match Box::new(alloc, tree) {
+        Ok(tree) => show_statement(&tree, out),
+        Err(_) => out.fail(),
+    }
+}
+
 /// Adds the expression that tokens begin with.
 fn add_expression(tokens: &[Token<'_>], alloc: Global, kind: &str, out: &mut Sheet) {
     match expression(alloc, tokens) {
         Ok((tree, rest)) => {
             if kind == "expression" {
-                show_expression(&tree, out);
+                add_shown_expression(tree, alloc, out);
                 add_rest(alloc, rest.len(), out);
             } else {
+                drop(tree);
                 add_whole(rest.len(), out);
             }
-            drop(tree);
         }
         Err(stop) => add_refused(alloc, kind, stop, out),
     }
@@ -67,12 +83,12 @@ fn add_statement(tokens: &[Token<'_>], alloc: Global, kind: &str, out: &mut Shee
     match statement(alloc, tokens) {
         Ok((tree, rest)) => {
             if kind == "statement" {
-                show_statement(&tree, out);
+                add_shown_statement(tree, alloc, out);
                 add_rest(alloc, rest.len(), out);
             } else {
+                drop(tree);
                 add_whole(rest.len(), out);
             }
-            drop(tree);
         }
         Err(stop) => add_refused(alloc, kind, stop, out),
     }
@@ -144,15 +160,14 @@ fn add_dotted(tokens: &[Token<'_>], alloc: Global, out: &mut Sheet) {
 
 fn add_dotted_number(tokens: &[OwnedToken], alloc: Global, out: &mut Sheet) {
     match whole_expression(alloc, tokens) {
+        Ok(Expression::Number(number)) => {
+            out.add_number(alloc, "", number.value);
+            out.add_number(alloc, " in ", u128::from(number.width));
+            out.add(" bits");
+        }
         Ok(tree) => {
-            if let Expression::Number(number) = &tree {
-                out.add_number(alloc, "", number.value);
-                out.add_number(alloc, " in ", u128::from(number.width));
-                out.add(" bits");
-            } else {
-                out.add("no number");
-            }
             drop(tree);
+            out.add("no number");
         }
         Err(_) => out.add("no expression"),
     }
