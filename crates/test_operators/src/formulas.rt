@@ -152,9 +152,13 @@ fn add_answer(alloc: Global, formula: &Cnf, budget: u64, out: &mut Sheet)
 /// Adds the solver's answer to a formula with a budget of lemmas: `VARS BUDGET FORMULA`.
 pub fn add_solved(alloc: Global, text: &str, out: &mut Sheet) {
     let (vars, rest) = halves(text, " ");
-    let (budget, rest) = halves(rest, " ");
+    let (digits, rest) = halves(rest, " ");
+    let budget = count(digits);
+    if budget == 0 {
+        return out.add("no budget");
+    }
     match formula(alloc, vars, rest) {
-        Some(formula) if count(budget) > 0 => add_answer(alloc, &formula, count(budget), out),
-        _ => out.add("no formula"),
+        Some(formula) => add_answer(alloc, &formula, budget, out),
+        None => out.add("no formula"),
     }
 }
