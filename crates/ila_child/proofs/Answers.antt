@@ -112,7 +112,7 @@ answered name p s q w k (Next j r) v f b =
     let does = subst (λ x. DoesInstruction (started p x) (point_of (model_from name p) q w) after) here led.3 in
     let same : k ≡ j = sym b.0 in (
       (
-        (v, subst (IsOnlyDecoded (model_from name p) q w) same (only_decoded name p q w k i f)),
+        record { valid = v; alone = subst (IsOnlyDecoded (model_from name p) q w) same (only_decoded name p q w k i f) },
         (after, (v, does_one p.terms (inner_of p) (point_of (model_from name p) q w) after is k i f does), state_led p s name r after led.4),
       ),
       state_sorted p s name r after led.4,
@@ -126,7 +126,7 @@ answered name p s q w k (ChildStuck d n) v f b =
       record {
         j = k;
         i = started p i;
-        started = (v, only_decoded name p q w k i f);
+        started = record { valid = v; alone = only_decoded name p q w k i f };
         is_j = subst (λ x. slice_get (instruction_list (instructions_of p.terms (inner_of p) p.instructions.items)) k ≡ Some (started p x)) (sym here) (number_of p.terms (inner_of p) p.instructions.items k i f.0);
         has_trouble = b.2;
       },
@@ -138,7 +138,7 @@ answered name p s q w k (ChildTooLong d) v f b =
       record {
         j = k;
         i = started p i;
-        started = (v, only_decoded name p q w k i f);
+        started = record { valid = v; alone = only_decoded name p q w k i f };
         is_j = subst (λ x. slice_get (instruction_list (instructions_of p.terms (inner_of p) p.instructions.items)) k ≡ Some (started p x)) (sym here) (number_of p.terms (inner_of p) p.instructions.items k i f.0);
         has_trouble = b.2;
       },

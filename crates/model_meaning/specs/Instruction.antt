@@ -78,8 +78,9 @@ pub record IsOnlyDecoded (m : Model) (q w : Valuation) (j : ℕ) : Type 0 where
   pub no_other : (k : ℕ) (other : Instruction) → IsInstruction m k other → k ≢ j → ¬ DecodesAt m q w other
 
 -- The instruction that starts at q under w: the valid condition holds, and it alone decodes.
-abbrev pub IsStarted : Model → (q w : Valuation) → ℕ → Type 0
-IsStarted m q w j = IsValidAt m q w × IsOnlyDecoded m q w j
+pub record IsStarted (m : Model) (q w : Valuation) (j : ℕ) : Type 0 where
+  pub valid : IsValidAt m q w
+  pub alone : IsOnlyDecoded m q w j
 
 -- No instruction decodes.
 abbrev pub NoneDecodesAt : Model → (q w : Valuation) → Type 0

@@ -53,7 +53,7 @@ one_command m q w j k a b =
     let cases : (j ≡ k) ⊎ (k ≢ j) = grind arith in
     elim cases [
       | inl e ↦ e
-      | inr n ↦ absurd (a.1.no_other k b.1.i b.1.is_j n b.1.decoded)
+      | inr n ↦ absurd (a.alone.no_other k b.alone.i b.alone.is_j n b.alone.decoded)
     ]
 
 -- without a child an instruction always leads somewhere
@@ -147,7 +147,7 @@ module _ (s : Setting) (complete : IsComplete s) (all : AllHold s (obligations s
       → IsCommandOf s run t j → MeansAll s (shifted t run) (started_by s.map j)
   given_started_by t j inv past low starts is_j =
       MeansAll-append s (shifted t run) (start_hypotheses s.map) (decoded j ∷ []) (given_start t inv past low starts)
-      ((is_j.1.i, is_j.1.is_j, is_j.1.decoded), tt)
+      ((is_j.alone.i, is_j.alone.is_j, is_j.alone.decoded), tt)
 
   -- behind a start there is no start as long as its command has not ended
   quiet_behind : (k t : ℕ) → IsIdle s run n k t → StartsAt s run t → (j : ℕ) → IsCommandOf s run t j → (u : ℕ) → t < u → u < n
@@ -281,12 +281,12 @@ module _ (s : Setting) (complete : IsComplete s) (all : AllHold s (obligations s
       → StartsAt s run t → (j : ℕ) → IsCommandOf s run t j → (d : ℕ) → EndsAt s run j t (later t d) → later t d < n
       → Steps s.model q (inputs_at s run t) x → Known (suc (later t d)) x
   known_behind_commit k t q x idle past low known starts j is_j d end inside does =
-      let i = is_j.1.i in
+      let i = is_j.alone.i in
       let text : Name = codes "commit." ++ instruction_name i ++ codes "." ++ decimal d in
       let inside_bound : d < bound_named s.map (instruction_name i) =
-      (let h = ends_within k t idle past low known.0 starts j i is_j.1.is_j is_j (later t d) end inside in omega (arith, later_sum t d)) in
+      (let h = ends_within k t idle past low known.0 starts j i is_j.alone.is_j is_j (later t d) end inside in omega (arith, later_sum t d)) in
       let hold : AllHold s (commit_obligations s.model s.map j (instruction_name i) d) =
-      commit_holds s complete all j i is_j.1.is_j d inside_bound in
+      commit_holds s complete all j i is_j.alone.is_j d inside_bound in
       let facts : MeansAll s (shifted t run) (ended_at s.map j d) = given_end k t idle past known.0 starts j is_j d end inside in
       let is_run : IsRun s (shifted t run) (suc d) = IsRun-shifted s run n r t (suc d) (omega (arith, later_sum t d)) in
       let invariants = invariant_obligations s.map (text ++ codes ".inv.") (suc d) (ended_at s.map j d) (suc d) in
@@ -297,12 +297,12 @@ module _ (s : Setting) (complete : IsComplete s) (all : AllHold s (obligations s
       let is_x : x ≡ own_states s.model after = steps.2 in
       let done : Does s.model i (state_at s run t) (inputs_at s run t) x = (
         after,
-        step_by_decoded s.model.top (point_of s.model (state_at s run t) (inputs_at s run t)) after steps.1 j i is_j.1.is_j is_j.1.decoded,
+        step_by_decoded s.model.top (point_of s.model (state_at s run t) (inputs_at s run t)) after steps.1 j i is_j.alone.is_j is_j.alone.decoded,
         is_x,
       ) in
       let alike : SameStates s.model (state_at s run (suc (later t d))) x =
       λ m is_state. states_given s (text ++ codes ".state.") (suc d) (ended_at s.map j d) (λ p. result_of j p (suc d)) (states_of s.model.top)
-      (AllHold-right s invariants results hold) (shifted t run) is_run facts m is_state i x is_j.1.is_j done in (
+      (AllHold-right s invariants results hold) (shifted t run) is_run facts m is_state i x is_j.alone.is_j done in (
         invariants_given s (text ++ codes ".inv.") (suc d) (ended_at s.map j d) (suc d) (AllHold-left s invariants results hold)
             (shifted t run) is_run facts,
         is_x ∙ state_same s (run.valuations (suc (later t d))) after
@@ -339,18 +339,18 @@ module _ (s : Setting) (complete : IsComplete s) (all : AllHold s (obligations s
         started_one,
         subst (λ p. (x : Valuation) × Steps s.model p (inputs_at s run t) x) (sym known'.1)
             (next_state is_run j is_j (given_started_by t j known'.0 past low starts is_j)
-            (child_holds s complete all j is_j.1.i is_j.1.is_j)),
+            (child_holds s complete all j is_j.alone.i is_j.alone.is_j)),
       )
     where
       stepped : (j : ℕ) (is_j : IsCommandOf s run t j) (after : Valuation)
-          → DoesInstruction is_j.1.i (point_of s.model (state_at s run t) (inputs_at s run t)) after
+          → DoesInstruction is_j.alone.i (point_of s.model (state_at s run t) (inputs_at s run t)) after
           → (x : Valuation) × Steps s.model (state_at s run t) (inputs_at s run t) x
       stepped j is_j after does = (
         own_states s.model after,
         (
           after,
-          step_done s.model.top (point_of s.model (state_at s run t) (inputs_at s run t)) after j is_j.1.i is_j.1.is_j is_j.0 is_j.1.decoded
-              is_j.1.no_other does,
+          step_done s.model.top (point_of s.model (state_at s run t) (inputs_at s run t)) after j is_j.alone.i is_j.alone.is_j is_j.valid is_j.alone.decoded
+              is_j.alone.no_other does,
           refl,
         ),
       )
@@ -359,20 +359,20 @@ module _ (s : Setting) (complete : IsComplete s) (all : AllHold s (obligations s
       same_instruction j i o is_i is_o = let both : Some o ≡ Some i = sym is_o ∙ is_i in cc
 
       next_state : IsRun s (shifted t run) 1 → (j : ℕ) (is_j : IsCommandOf s run t j) → MeansAll s (shifted t run) (started_by s.map j)
-          → AllHold s (child_obligations s.map j (instruction_name is_j.1.i) (child_program is_j.1.i))
+          → AllHold s (child_obligations s.map j (instruction_name is_j.alone.i) (child_program is_j.alone.i))
           → (x : Valuation) × Steps s.model (state_at s run t) (inputs_at s run t) x
       next_state is_run j is_j facts hold =
-          (elim (child_program is_j.1.i) as
-          (λ c. child_program is_j.1.i ≡ c → AllHold s (child_obligations s.map j (instruction_name is_j.1.i) c)
+          (elim (child_program is_j.alone.i) as
+          (λ c. child_program is_j.alone.i ≡ c → AllHold s (child_obligations s.map j (instruction_name is_j.alone.i) c)
           → (x : Valuation) × Steps s.model (state_at s run t) (inputs_at s run t) x) [
             | no_child ↦ λ e h.
-                let done = done_without_child is_j.1.i (point_of s.model (state_at s run t) (inputs_at s run t)) e in
+                let done = done_without_child is_j.alone.i (point_of s.model (state_at s run t) (inputs_at s run t)) e in
                 stepped j is_j done.0 done.1
             | child steps program ↦ λ e h.
                 let end = h.0 (shifted t run) is_run facts in
-                let does : Does s.model is_j.1.i (state_at s run t) (inputs_at s run t) end.2 =
+                let does : Does s.model is_j.alone.i (state_at s run t) (inputs_at s run t) end.2 =
                 subst (λ o. Does s.model o (state_at s run t) (inputs_at s run t) end.2)
-                (same_instruction j is_j.1.i end.0 is_j.1.is_j end.1) end.3 in
+                (same_instruction j is_j.alone.i end.0 is_j.alone.is_j end.1) end.3 in
                 stepped j is_j does.0 does.1
           ]) refl hold
 

@@ -223,7 +223,7 @@ fn has_default(items: &[CaseItem<'_>]) -> bool
 }
 
 /// Whether a case is full: it has a default, or the constant items of a `case` have all values.
-pub(crate) fn is_full(
+pub fn is_full(
     alloc: Global,
     scope: &Scope<'_>,
     kind: CaseKind,

@@ -8,9 +8,10 @@ mod item;
 mod label;
 mod latch;
 pub mod laws;
-mod mask;
+pub mod mask;
 mod path;
 
 pub use event::{covers_reads, has_event_list};
+pub use full::is_full;
 pub use item::{has_bad_event_list, has_latch};
 pub use latch::is_latched;

@@ -20,7 +20,7 @@ fn has_first_word(span: Span<'_>) -> bool
 }
 
 /// The bits of a span in the word 0.
-pub(crate) fn first_word(span: Span<'_>) -> u128
+pub fn first_word(span: Span<'_>) -> u128
     ensures { (b : ℕ) → is_set result b ≡ (is_between span.entry.from_word span.entry.to_word 0 && is_set span.entry.bits b) }
 {
     if has_first_word(span) { span.bits } else { 0 }
@@ -37,7 +37,7 @@ fn add_span<'s>(table: &mut BTreeMap<&'s str, u128>, span: Span<'s>) -> Result<(
 }
 
 /// Adds the bits of spans.
-pub(crate) fn add_spans<'s>(
+pub fn add_spans<'s>(
     table: &mut BTreeMap<&'s str, u128>,
     spans: &[Span<'s>],
 ) -> Result<(), AllocError>
@@ -50,7 +50,7 @@ pub(crate) fn add_spans<'s>(
 }
 
 /// The table of spans.
-pub(crate) fn masks_of<'s>(
+pub fn masks_of<'s>(
     alloc: Global,
     spans: &[Span<'s>],
 ) -> Result<BTreeMap<&'s str, u128>, AllocError>
@@ -62,7 +62,7 @@ pub(crate) fn masks_of<'s>(
 }
 
 /// A span with other bits.
-pub(crate) fn with_bits<'s>(span: Span<'s>, bits: u128) -> Span<'s>
+pub fn with_bits<'s>(span: Span<'s>, bits: u128) -> Span<'s>
     ensures name { result.name.now ≡ span.entry.name.now }
     ensures from { result.from_word ≡ span.entry.from_word }
     ensures to { result.to_word ≡ span.entry.to_word }
@@ -84,7 +84,7 @@ fn kept<'s>(table: &BTreeMap<&'s str, u128>, span: Span<'s>) -> Span<'s>
 }
 
 /// The bits of spans that are in the table too.
-pub(crate) fn kept_in<'s>(
+pub fn kept_in<'s>(
     alloc: Global,
     table: &BTreeMap<&'s str, u128>,
     spans: &[Span<'s>],
@@ -99,7 +99,7 @@ pub(crate) fn kept_in<'s>(
 }
 
 /// The bits of spans that are in both lists, as spans of the second.
-pub(crate) fn met<'s>(
+pub fn met<'s>(
     alloc: Global,
     first: &[Span<'s>],
     second: &[Span<'s>],
@@ -112,7 +112,7 @@ pub(crate) fn met<'s>(
 }
 
 /// The bits of the first that the second has not.
-pub(crate) fn without(bits: u128, mask: u128) -> u128
+pub fn without(bits: u128, mask: u128) -> u128
     ensures { (b : ℕ) → is_set result b ≡ (is_set bits b && not (is_set mask b)) }
 {
     bits & !mask
@@ -126,7 +126,7 @@ fn left<'s>(table: &BTreeMap<&'s str, u128>, span: Span<'s>) -> Span<'s>
 }
 
 /// Adds the bits of spans that are not in the table.
-pub(crate) fn add_left<'s>(
+pub fn add_left<'s>(
     table: &BTreeMap<&'s str, u128>,
     spans: &[Span<'s>],
     found: &mut Vec<Span<'s>>,

@@ -2,7 +2,7 @@
 -- stands in it: operands, parts, counts, indexes and bounds. What has no value breaks no rule but the one that refuses it.
 use Rattle.std.specs.Prelude.{ℕ, ◌+◌, ◌*◌, ◌^◌, max, Bool, true, false, not, cond, ◌&&◌, ◌||◌, ◌==◌, nat_le, nat_lt, Option, Some, None, is_none, ℤ, pos, ◌-ℤ◌, int_lt, int_le}
 use Rattle.wb_values.specs.Choice.{some_if}
-use Rattle.verilog_trees.specs.Syntax.{Number, UnaryOperator, ReductionOperator, BinaryOperator, divide, modulo, ShiftOperator, ComparisonOperator, LogicalOperator, Expression, number, name, concatenation, replication, as_signed, as_unsigned, unary, reduction, binary, shift, power, comparison, logical, conditional, Expressions, no_expressions, expression, Select, index, part, part_up, part_down, Selects, whole, one, two}
+use Rattle.verilog_trees.specs.Syntax.{Number, UnaryOperator, ReductionOperator, BinaryOperator, add, subtract, multiply, divide, modulo, bitwise_and, bitwise_or, bitwise_xor, bitwise_xnor, ShiftOperator, ComparisonOperator, LogicalOperator, Expression, number, name, concatenation, replication, as_signed, as_unsigned, unary, reduction, binary, shift, power, comparison, logical, conditional, Expressions, no_expressions, expression, Select, index, part, part_up, part_down, Selects, whole, one, two}
 use Rattle.verilog_meaning.specs.Expression.{Object, Scope, distance, object_width, is_memory, no_values, natural_of, sign_of, width_of, widths_of, value_of, integer_of}
 
 -- The kinds of refusal, in the order in which they are answered.
@@ -96,7 +96,9 @@ by_number k =
 
 abbrev pub is_index : Select → Bool
 is_index (index i) = true
-is_index _ = false
+is_index (part h l) = false
+is_index (part_up from n) = false
+is_index (part_down from n) = false
 
 -- BadSelect: a select of a name without a range (a parameter always has one), and a second select of what is no memory.
 abbrev pub has_bad_select : Object → Selects → Bool
@@ -173,12 +175,30 @@ by_bounds o h l = also (select_if (o.is_declared && runs_against o h l)) (width_
 -- BadConstant: an unsized number as a part of a concatenation or replication.
 abbrev pub is_unsized : Expression → Bool
 is_unsized (number k) = not k.sized
-is_unsized _ = false
+is_unsized (name n x) = false
+is_unsized (concatenation es) = false
+is_unsized (replication k es) = false
+is_unsized (as_signed x) = false
+is_unsized (as_unsigned x) = false
+is_unsized (unary op x) = false
+is_unsized (reduction op x) = false
+is_unsized (binary op x y) = false
+is_unsized (shift op x n) = false
+is_unsized (power x n) = false
+is_unsized (comparison op x y) = false
+is_unsized (logical op x y) = false
+is_unsized (conditional c x y) = false
 
 abbrev pub divides : BinaryOperator → Bool
+divides add = false
+divides subtract = false
+divides multiply = false
 divides divide = true
 divides modulo = true
-divides _ = false
+divides bitwise_and = false
+divides bitwise_or = false
+divides bitwise_xor = false
+divides bitwise_xnor = false
 
 -- BadConstant: / or % where no constant is wanted; and else a divisor that is 0 in its context, where it has a value there. (A
 -- context is no narrower than what stands in it.)

@@ -139,7 +139,17 @@ abbrev mutual
   has_bare_memory s (name n x) = is_memory (s n) && lacks_index x
   has_bare_memory s (concatenation es) = some_bare_memory s es
   has_bare_memory s (replication k es) = some_bare_memory s es
-  has_bare_memory s _ = false
+  has_bare_memory s (number k) = false
+  has_bare_memory s (as_signed x) = false
+  has_bare_memory s (as_unsigned x) = false
+  has_bare_memory s (unary op x) = false
+  has_bare_memory s (reduction op x) = false
+  has_bare_memory s (binary op x y) = false
+  has_bare_memory s (shift op x n) = false
+  has_bare_memory s (power x n) = false
+  has_bare_memory s (comparison op x y) = false
+  has_bare_memory s (logical op x y) = false
+  has_bare_memory s (conditional c x y) = false
 
   pub some_bare_memory : Scope → Expressions → Bool
   some_bare_memory s no_expressions = false

@@ -167,8 +167,8 @@ module _ (f : First) (k : Keeps f) (run : Run) (is_run : IsRun (setting_of f) ru
 
   met_decode : Means s run one_decodes → is_met f V W one_decodes ≡ true
   met_decode m =
-      let valid : holds (valid_of f.model.top) (start_point f V) ≡ true = ap (holds (valid_of f.model.top)) (sym (point_first f k run is_run)) ∙ m.1.0 in
-      let one = m.1.1 in
+      let valid : holds (valid_of f.model.top) (start_point f V) ≡ true = ap (holds (valid_of f.model.top)) (sym (point_first f k run is_run)) ∙ m.1.valid in
+      let one = m.1.alone in
       let count : decode_count (instructions_in f.model.top) (start_point f V) ≡ 1 =
       one_is_counted (instructions_in f.model.top) (start_point f V) m.0 one.i one.is_j
       (ap (holds (decode_of one.i)) (sym (point_first f k run is_run)) ∙ one.decoded)

@@ -172,15 +172,15 @@ module _ (f : First) (k : Keeps f) (run : Run) (is_run : IsRun (setting_of f) ru
       (let c = and_right _ _ h in counted _ c) in
       let one : OnlyOne (instructions_in f.model.top) (start_point f V) = one_counted (instructions_in f.model.top) (start_point f V) count in (
         one.j,
-        (
-          ap (holds (valid_of f.model.top)) point_first ∙ valid,
-          record {
+        record {
+          valid = ap (holds (valid_of f.model.top)) point_first ∙ valid;
+          alone = record {
             i = one.i;
             is_j = one.is_j;
             decoded = ap (holds (decode_of one.i)) point_first ∙ one.decoded_j;
             no_other = λ j o is_o n d. one.no_other j o is_o n (ap (holds (decode_of o)) (sym point_first) ∙ d);
-          },
-        ),
+          };
+        },
       )
     where
       counted : (c : ℕ) → (c == 1) ≡ true → c ≡ 1

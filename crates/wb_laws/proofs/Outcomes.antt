@@ -31,14 +31,14 @@ below_both j k l a b = omega (arith, a, b)
 one_started : (m : Model) (q w : Valuation) (j k : ℕ) → IsStarted m q w j → IsStarted m q w k → j ≡ k
 one_started m q w j k a b = elim (equal_or_not j k) [
   | inl e ↦ e
-  | inr n ↦ absurd (a.1.no_other k b.1.i b.1.is_j n b.1.decoded)
+  | inr n ↦ absurd (a.alone.no_other k b.alone.i b.alone.is_j n b.alone.decoded)
 ]
 
 -- where one alone decodes there are no two
 not_two : (m : Model) (q w : Valuation) (j a b : ℕ) → IsStarted m q w j → AreFirstTwoDecoded m q w a b → ⊥
 not_two m q w j a b started two = elim (equal_or_not j a) [
-  | inl e ↦ started.1.no_other b two.second two.is_k (subst (λ x. b ≢ x) (sym e) (above_is_other b a two.j_first)) two.second_decoded
-  | inr n ↦ started.1.no_other a two.first two.is_j n two.first_decoded
+  | inl e ↦ started.alone.no_other b two.second two.is_k (subst (λ x. b ≢ x) (sym e) (above_is_other b a two.j_first)) two.second_decoded
+  | inr n ↦ started.alone.no_other a two.first two.is_j n two.first_decoded
 ]
 
 same_first : (m : Model) (q w : Valuation) (a b c d : ℕ) → AreFirstTwoDecoded m q w a b → AreFirstTwoDecoded m q w c d → a ≡ c
@@ -74,7 +74,7 @@ same_trouble m q w s t a b =
 -- a step has no trouble
 no_trouble : (m : Model) (q w r : Valuation) (t : Trouble) → Steps m q w r → IsOutcome m q w (trouble t) → ⊥
 no_trouble m q w r t steps h =
-    let only = h.started.1 in
+    let only = h.started.alone in
     let same : only.i ≡ h.i = same_item only.i h.i (sym only.is_j ∙ h.is_j) in
     let decoded = subst (λ i. IsTrue (holds (decode_of i) (point_of m q w))) same only.decoded in
     no_instruction_trouble h.i (point_of m q w) steps.0 1 t (step_by_decoded m.top (point_of m q w) steps.0 steps.1 h.j h.i h.is_j decoded) h.has_trouble
@@ -84,20 +84,20 @@ one_outcome m q w (next j r) (next k s) x y =
     let same : j ≡ k = one_started m q w j k x.0 y.0 in
     let behind : r ≡ s = one_next_state m q w r s x.1 y.1 in
     λ i. next (same i) (behind i)
-one_outcome m q w (next j r) not_valid x y = absurd (y x.0.0)
-one_outcome m q w (next j r) no_instruction x y = absurd (y.1 j x.0.1.i x.0.1.is_j x.0.1.decoded)
+one_outcome m q w (next j r) not_valid x y = absurd (y x.0.valid)
+one_outcome m q w (next j r) no_instruction x y = absurd (y.1 j x.0.alone.i x.0.alone.is_j x.0.alone.decoded)
 one_outcome m q w (next j r) (several a b) x y = absurd (not_two m q w j a b x.0 y.1)
 one_outcome m q w (next j r) (trouble t) x y = absurd (no_trouble m q w r t x.1 y)
-one_outcome m q w not_valid (next k s) x y = absurd (x y.0.0)
+one_outcome m q w not_valid (next k s) x y = absurd (x y.0.valid)
 one_outcome m q w not_valid not_valid x y = refl
 one_outcome m q w not_valid no_instruction x y = absurd (x y.0)
 one_outcome m q w not_valid (several a b) x y = absurd (x y.0)
-one_outcome m q w not_valid (trouble t) x y = absurd (x y.started.0)
-one_outcome m q w no_instruction (next k s) x y = absurd (x.1 k y.0.1.i y.0.1.is_j y.0.1.decoded)
+one_outcome m q w not_valid (trouble t) x y = absurd (x y.started.valid)
+one_outcome m q w no_instruction (next k s) x y = absurd (x.1 k y.0.alone.i y.0.alone.is_j y.0.alone.decoded)
 one_outcome m q w no_instruction not_valid x y = absurd (y x.0)
 one_outcome m q w no_instruction no_instruction x y = refl
 one_outcome m q w no_instruction (several a b) x y = absurd (x.1 a y.1.first y.1.is_j y.1.first_decoded)
-one_outcome m q w no_instruction (trouble t) x y = absurd (x.1 y.j y.started.1.i y.started.1.is_j y.started.1.decoded)
+one_outcome m q w no_instruction (trouble t) x y = absurd (x.1 y.j y.started.alone.i y.started.alone.is_j y.started.alone.decoded)
 one_outcome m q w (several a b) (next k s) x y = absurd (not_two m q w k a b y.0 x.1)
 one_outcome m q w (several a b) not_valid x y = absurd (y x.0)
 one_outcome m q w (several a b) no_instruction x y = absurd (y.1 a x.1.first x.1.is_j x.1.first_decoded)
@@ -107,8 +107,8 @@ one_outcome m q w (several a b) (several c d) x y =
     λ i. several (first i) (second i)
 one_outcome m q w (several a b) (trouble t) x y = absurd (not_two m q w y.j a b y.started x.1)
 one_outcome m q w (trouble t) (next k s) x y = absurd (no_trouble m q w s t y.1 x)
-one_outcome m q w (trouble t) not_valid x y = absurd (y x.started.0)
-one_outcome m q w (trouble t) no_instruction x y = absurd (y.1 x.j x.started.1.i x.started.1.is_j x.started.1.decoded)
+one_outcome m q w (trouble t) not_valid x y = absurd (y x.started.valid)
+one_outcome m q w (trouble t) no_instruction x y = absurd (y.1 x.j x.started.alone.i x.started.alone.is_j x.started.alone.decoded)
 one_outcome m q w (trouble t) (several a b) x y = absurd (not_two m q w x.j a b x.started y.1)
 one_outcome m q w (trouble s) (trouble t) x y = ap trouble (same_trouble m q w s t x y)
 

@@ -56,7 +56,7 @@ one_command m q w j k a b =
     let cases : (j ≡ k) ⊎ (k ≢ j) = grind arith in
     elim cases [
       | inl e ↦ e
-      | inr n ↦ absurd (a.1.no_other k b.1.i b.1.is_j n b.1.decoded)
+      | inr n ↦ absurd (a.alone.no_other k b.alone.i b.alone.is_j n b.alone.decoded)
     ]
 
 -- a command ends at one cycle

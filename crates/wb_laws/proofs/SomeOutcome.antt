@@ -169,13 +169,13 @@ valid_outcome m q w v (Decoded.alone j i at d h) = elim (instruction_ends i (poi
   | inl does ↦ (
     next j (own_states m does.0),
     (
-      (v, record { i = i; is_j = at; decoded = d; no_other = h }),
+      record { valid = v; alone = record { i = i; is_j = at; decoded = d; no_other = h } },
       (does.0, step_done m.top (point_of m q w) does.0 j i at v d h does.1, refl),
     ),
   )
   | inr fails ↦ (
     trouble fails.0,
-    record { j = j; i = i; started = (v, record { i = i; is_j = at; decoded = d; no_other = h }); is_j = at; has_trouble = fails.1 },
+    record { j = j; i = i; started = record { valid = v; alone = record { i = i; is_j = at; decoded = d; no_other = h } }; is_j = at; has_trouble = fails.1 },
   )
 ]
 
