@@ -1,0 +1,4 @@
+pub mod Resting
+pub mod Left
+pub mod Copying
+pub mod Tables

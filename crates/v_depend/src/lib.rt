@@ -1,0 +1,14 @@
+//! Which bits rest on bits that are not settled yet, through expressions, assignments and combinational blocks.
+#![tactic(auto)]
+
+mod assignment;
+mod change;
+mod constant;
+mod copy;
+mod part;
+mod plain;
+mod read;
+
+pub use assignment::{take, value_bits};
+pub use copy::copied_bits;
+pub use read::{meets, rests};
