@@ -10,7 +10,8 @@ use Rattle.verilog_meaning.specs.Register.{may_reach}
 use Rattle.verilog_designs.specs.Reads.{BitSet, reads, surely_reaches, one_surely_reaches}
 use Rattle.verilog_designs.specs.Dependence.{Bit, is_in, is_plain, copied, takes, one_takes, index_reads, one_index_reads, IsGivenBy, copied_to, computed, AfterAssignment, kept, given, indexed}
 use Rattle.verilog_settled.proofs.Assigned.{takes_reach}
-use Rattle.v_depend.specs.Resting.{IsThere, OneIsUnsettled, RestsAt, copies, computes, at_first, RestsAfterAssignment}
+use Rattle.v_depend.specs.Resting.{IsThere, OneIsUnsettled, CopiesUnsettled, RestsAt, copies, computes, at_first, RestsAfterAssignment}
+use Rattle.v_depend.specs.Copying.{plain_at}
 use Rattle.v_depend.specs.Left.{IsLeft, stays, takes_place, by_index}
 use Rattle.v_depend.proofs.Targets.{HasBits, takes-below, reach-takes, takes-first, takes-rest}
 
@@ -111,3 +112,23 @@ module _ (p : BitSet) (s : Scope) (t : Target) (e : Expression) (u : Bit) (w : H
   -- What is left of the value's places and of what was before is what rests after the assignment.
   pub left-after : IsLeft p s (RestsAt p s e) (IsTrue (is_in p u)) t u ↔ RestsAfterAssignment p s t e u
   left-after = (left-rests, rests-left)
+
+-- ---- the places of a value that rest
+
+pub plain-rests : (p : BitSet) (s : Scope) (e : Expression) (j : ℕ) (b t : Bool) → t ≡ plain_at s e → t ≡ true → IsTrue b ↔ CopiesUnsettled p s e j
+    → IsTrue b ↔ RestsAt p s e j
+unfolding plain_at
+plain-rests p s e j b t is h g = ((λ k. copies (sym is ∙ h) (g.0 k)), back)
+  where
+    back : RestsAt p s e j → IsTrue b
+    back (copies q r) = g.1 r
+    back (computes q r) = absurd (false≢true (sym (ap not (sym is ∙ h)) ∙ q))
+
+pub other-rests : (p : BitSet) (s : Scope) (e : Expression) (j : ℕ) (b r t : Bool) → t ≡ plain_at s e → t ≡ false → b ≡ r → IsTrue r ↔ OneIsUnsettled p (reads s e)
+    → IsTrue b ↔ RestsAt p s e j
+unfolding plain_at
+other-rests p s e j b r t is h f g = ((λ k. computes (ap not (sym is ∙ h)) (g.0 (sym f ∙ k))), back)
+  where
+    back : RestsAt p s e j → IsTrue b
+    back (copies q k) = absurd (false≢true (sym (sym is ∙ h) ∙ q))
+    back (computes q k) = f ∙ g.1 k

@@ -6,3 +6,4 @@ mod Shifts
 mod Copied
 mod Forms
 mod Meeting
+mod Changes

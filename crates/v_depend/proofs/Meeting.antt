@@ -79,3 +79,7 @@ module _ (t : BTreeMap (Bor (List ℕ)) ℕ) where
 -- of other bits that are the same
 pub same-bits : (p : BitSet) (q r : BitSet) (b : Bool) → q ≡ r → IsTrue b ↔ OneIsUnsettled p q → IsTrue b ↔ OneIsUnsettled p r
 same-bits p q r b e h = subst (λ (z : BitSet). IsTrue b ↔ OneIsUnsettled p z) e h
+
+-- what is added to no spans
+pub begun : (xs : List Span) (q r : BitSet) → xs ≡ [] → q ≡ or_in (bits_in xs) r → q ≡ r
+begun xs q r e h = h ∙ ap (λ ys. or_in (bits_in ys) r) e ∙ (λ i n k b. r n k b)

@@ -98,3 +98,6 @@ bit-wanted x p j b e h = with-bit x p j h ∙ ap (λ t. is_set x j || t) (sym (a
     and_one : (t : Bool) → t && true ≡ t
     and_one true = refl
     and_one false = refl
+
+pub all-set : (n j : ℕ) → j < n → is_set (2 ^ n - 1) j ≡ true
+all-set n j l = ones-bit n j ∙ lt-ltb j n l
