@@ -7,3 +7,5 @@ mod Copied
 mod Forms
 mod Meeting
 mod Changes
+mod Placing
+mod Parting

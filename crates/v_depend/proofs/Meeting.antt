@@ -13,7 +13,7 @@ use Rattle.verilog_designs.specs.Reads.{BitSet, or_in}
 use Rattle.verilog_designs.specs.Dependence.{Bit, is_in}
 use Rattle.v_flow.specs.declared.span.Span.{Span}
 use Rattle.v_flow.specs.Spans.{is_between, bits_of, bits_in}
-use Rattle.v_masks.specs.Masks.{mask_under, masked}
+use Rattle.v_masks.specs.Masks.{mask_under, masked, spread}
 use Rattle.v_masks.proofs.Bits.{set-none, set-and, some-bit}
 use Rattle.v_depend.specs.Resting.{OneIsUnsettled}
 use Rattle.v_depend.specs.Tables.{span_meets}
@@ -83,3 +83,9 @@ same-bits p q r b e h = subst (λ (z : BitSet). IsTrue b ↔ OneIsUnsettled p z)
 -- what is added to no spans
 pub begun : (xs : List Span) (q r : BitSet) → xs ≡ [] → q ≡ or_in (bits_in xs) r → q ≡ r
 begun xs q r e h = h ∙ ap (λ ys. or_in (bits_in ys) r) e ∙ (λ i n k b. r n k b)
+
+-- the mask of a name in the table of spans
+pub mask-of : (t : BTreeMap (Bor (List ℕ)) ℕ) (n : Name) (m b : ℕ) (ys zs : List Span) (p : BitSet) → m ≡ mask_under t n → masked t ≡ spread (bits_in zs) → zs ≡ ys
+    → bits_in ys ≡ p → is_set m b ≡ p n zero b
+mask-of t n m b ys zs p e h i f =
+    ap (λ z. is_set z b) e ∙ (λ i. h i n zero b) ∙ ap (λ ws. bits_in ws n zero b) i ∙ (λ i. f i n zero b)
