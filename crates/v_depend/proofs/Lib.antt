@@ -9,3 +9,4 @@ mod Meeting
 mod Changes
 mod Placing
 mod Parting
+mod Walk
