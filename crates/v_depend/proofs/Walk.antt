@@ -1,5 +1,5 @@
 -- A walk over the parts of a target, the last first.
-use Rattle.std.proofs.Common.{◌≡◌, ◌∙◌, ℕ, zero, suc, ◌+◌, ◌-◌, ◌<◌, ◌≤◌, refl, ap, sym, subst, Bool, true, false, List, [], ◌∷◌, ◌++◌, length, drop, get_or, arith, drop-cons}
+use Rattle.std.proofs.Common.{◌≡◌, ◌∙◌, ℕ, zero, suc, ◌+◌, ◌-◌, ◌<◌, ◌≤◌, refl, ap, sym, subst, Bool, true, false, List, [], ◌∷◌, ◌++◌, length, drop, get_or, arith, drop-cons, ltb-true}
 use Rattle.std.specs.Prelude.{◌&&◌, ◌||◌, ◌↔◌, nat_lt, IsTrue}
 use Rattle.std.specs.declared.vec.Vec.{Vec}
 use Rattle.std.specs.declared.alloc.Global.{Global}
@@ -19,11 +19,11 @@ use Rattle.v_statement.proofs.Targets.{target_of-Joined}
 use Rattle.v_flow.specs.Spans.{existing}
 use Rattle.v_flow.specs.Narrow.{HasNarrowParts, HaveNarrowParts}
 use Rattle.v_paths.specs.Premises.{HasNoMemory}
-use Rattle.v_depend.specs.Resting.{IsThere}
+use Rattle.v_depend.specs.Resting.{IsThere, RestsAt, RestsAfterAssignment}
 use Rattle.v_depend.specs.Left.{IsLeft, set_in, Assigns}
 use Rattle.v_depend.specs.Tables.{changed, all_changed}
 use Rattle.v_depend.specs.declared.change.Change.{Change}
-use Rattle.v_depend.proofs.Lefts.{left-two, left-same}
+use Rattle.v_depend.proofs.Lefts.{left-two, left-same, left-after}
 use Rattle.v_depend.proofs.Targets.{HasBits, HaveBits}
 use Rattle.v_depend.proofs.Changes.{pushed}
 
@@ -137,3 +137,16 @@ mutual
   all-have-bits : (s : Scope) (ts : Targets) → HaveNarrowParts s ts → HaveBits s ts
   all-have-bits s no_targets h = tt
   all-have-bits s (target t ts) h = (have-bits s t h.0, all-have-bits s ts h.1)
+
+-- ---- the whole assignment
+
+pub assignment-rests : (w new : BitSet) (s : Scope) (t : pure.Target) (e : pure.Expression) (v : ℕ) (xs ys zs : List Change) → HasNarrowParts s t → target_width s t ≤ 128
+    → ((j : ℕ) → j < 128 → IsTrue (is_set v j) ↔ RestsAt w s e j) → xs ≡ [] → ((p : BitSet) → Assigns w s t v (all_changed xs p) (all_changed ys p))
+    → zs ≡ ys → new ≡ all_changed zs w → (u : Bit) → IsThere s u → IsTrue (is_in new u) ↔ RestsAfterAssignment w s t e u
+assignment-rests w new s t e v xs ys zs narrow width value none made same is u there =
+    let begun = subst (λ cs. IsTrue (is_in (all_changed ys w) u) ↔ IsLeft w s (set_in v) (IsTrue (is_in (all_changed cs w) u)) t u) none (made w u there) in
+    let f = left-same w s (set_in v) (RestsAt w s e) (IsTrue (is_in w u)) (IsTrue (is_in w u)) t u
+      (λ j l. value j (let b = ltb-true j (target_width s t) l in omega (arith, b, width))) ((λ k. k), (λ k. k)) in
+    let g = left-after w s t e u (have-bits s t narrow) there in
+    subst (λ (q : BitSet). IsTrue (is_in q u) ↔ RestsAfterAssignment w s t e u) (sym (is ∙ ap (λ cs. all_changed cs w) same))
+    ((λ k. g.0 (f.0 (begun.0 k))), (λ k. begun.1 (f.1 (g.1 k))))
