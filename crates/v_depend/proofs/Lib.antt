@@ -10,3 +10,5 @@ mod Changes
 mod Placing
 mod Parting
 mod Walk
+mod Uniting
+mod Choices

@@ -8,6 +8,7 @@ mod copy;
 mod part;
 mod plain;
 mod read;
+mod table;
 
 pub use assignment::{take, value_bits};
 pub use copy::copied_bits;
