@@ -23,7 +23,7 @@ use Rattle.v_masks.specs.Masks.{spread}
 use Rattle.v_paths.specs.Premises.{HasNoMemory, AssignsNoMemory}
 use Rattle.v_depend.specs.Resting.{IsThere, OneIsUnsettled, at_first, RestsAfter}
 use Rattle.v_depend.specs.Running.{IsFit, Tells, Adds, AddsArms}
-use Rattle.v_depend.proofs.After.{Carries, carry, carry-all, as-before, still-before, arms-as-before}
+use Rattle.v_depend.proofs.Following.{Carries, carry, carry-all, as-before, still-before, arms-as-before}
 use Rattle.v_depend.proofs.Parting.{same-word}
 
 -- ---- a case without an item is not full

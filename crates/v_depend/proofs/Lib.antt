@@ -1,5 +1,5 @@
 mod Within
-mod After
+mod Following
 mod Targets
 mod Lefts
 mod Shifts

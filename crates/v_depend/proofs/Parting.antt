@@ -24,7 +24,7 @@ use Rattle.v_depend.specs.Copying.{at_place}
 use Rattle.v_depend.specs.declared.change.Change.{Change}
 use Rattle.v_depend.specs.Tables.{changed}
 use Rattle.v_depend.proofs.Placing.{set-not}
-use Rattle.v_depend.proofs.After.{sure-reach, index-reach}
+use Rattle.v_depend.proofs.Following.{sure-reach, index-reach}
 use Rattle.v_depend.proofs.Targets.{place-of, place-is, takes-constant, takes-variable, taken-constant, taken-variable, below-constant, place-within, part-count}
 
 -- ---- words

@@ -16,7 +16,7 @@ use Rattle.verilog_settled.proofs.Bits.{offset, is_offset, offset_below}
 use Rattle.verilog_settled.proofs.Assigned.{takes_reach}
 use Rattle.v_depend.specs.Resting.{IsThere, OneIsUnsettled, RestsAt, copies, computes, at_first, RestsAfterAssignment}
 use Rattle.v_depend.specs.Left.{IsLeft, stays, takes_place, by_index}
-use Rattle.v_depend.proofs.After.{sure-reach}
+use Rattle.v_depend.proofs.Following.{sure-reach}
 
 -- ---- the place of a part with constant selects
 

@@ -6,12 +6,12 @@ use Rattle.verilog_trees.specs.Syntax.{Expression, Statement, empty, blocking, n
 use Rattle.verilog_meaning.specs.Expression.{Scope}
 use Rattle.verilog_meaning.specs.Statement.{target_width}
 use Rattle.verilog_meaning.specs.Register.{may_assign, may_assign_in_case}
-use Rattle.verilog_designs.specs.Reads.{BitSet, no_bits, or_in}
+use Rattle.verilog_designs.specs.Reads.{BitSet, no_bits, or_in, reads_in_all}
 use Rattle.verilog_designs.specs.Dependence.{Bit, is_in, After, AfterAll, AfterArms}
 use Rattle.v_syntax.specs.declared.tree.Arm.{Arm}
-use Rattle.v_syntax.specs.declared.tree.CaseItem.{CaseItem}
+use Rattle.v_syntax.specs.declared.tree.CaseItem.{CaseItem, Values, Default}
 use Rattle.v_syntax.specs.declared.tree.Statement.{Statement as CodeStatement}
-use Rattle.v_syntax.specs.Tree.{tree_of, statement_of}
+use Rattle.v_syntax.specs.Tree.{tree_of, statement_of, expressions_of}
 use Rattle.v_statement.specs.Effects.{item_statement}
 use Rattle.v_value.specs.Narrow.{IsNarrow}
 use Rattle.v_flow.specs.Narrow.{IsNarrowFlow}
@@ -85,3 +85,8 @@ pub record Adds (unsettled : BitSet) (s : Scope) (x : Statement) (assigned left 
 pub record AddsArms (unsettled : BitSet) (s : Scope) (items : CaseItems) (assigned left more_assigned more_left : BitSet) : Type 0 where
   pub assigned_is : (u : Bit) → IsThere s u → is_in more_assigned u ≡ (is_in assigned u || may_assign_in_case s items u.of_name u.word u.place)
   pub left_is : (u : Bit) → IsThere s u → IsTrue (is_in more_left u) ↔ IsTrue (is_in left u) ⊎ AfterArms s (at_first unsettled) items u u
+
+-- what the values of an item read
+abbrev pub label_bits : Scope → CaseItem → BitSet
+label_bits s (Values es x) = reads_in_all s (expressions_of es.items)
+label_bits s (Default x) = no_bits

@@ -5,11 +5,14 @@ mod assignment;
 mod change;
 mod constant;
 mod copy;
+pub mod laws;
 mod part;
 mod plain;
 mod read;
+mod run;
 mod table;
 
 pub use assignment::{take, value_bits};
 pub use copy::copied_bits;
 pub use read::{meets, rests};
+pub use run::after;
