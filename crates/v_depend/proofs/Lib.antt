@@ -12,3 +12,4 @@ mod Parting
 mod Walk
 mod Uniting
 mod Choices
+mod Runs

@@ -5,7 +5,7 @@ ghost use Rattle.verilog_trees.specs.Syntax as pure;
 ghost use Rattle.verilog_meaning.specs.Register.{may_assign};
 ghost use Rattle.verilog_designs.specs.Reads.{BitSet, no_bits, or_in, reads, reads_in_all, items_read};
 ghost use Rattle.verilog_designs.specs.Dependence.{Bit, is_in, AfterAll};
-ghost use Rattle.v_syntax.specs.Tree.{tree_of, statement_of, expressions_of, arm_before, or_empty, case_kind_of};
+ghost use Rattle.v_syntax.specs.Tree.{tree_of, statement_of, expressions_of, arm_before, or_empty};
 ghost use Rattle.v_statement.specs.Statements.{statement_list, arm_list};
 ghost use Rattle.v_statement.specs.Effects.{item_list, item_statement};
 ghost use Rattle.v_value.specs.Scope.{scope_at};
@@ -27,7 +27,7 @@ use v_flow::span::Span;
 use v_flow::{add_assigned, add_reads};
 use v_paths::is_full;
 use v_paths::mask::add_spans;
-use v_syntax::tree::{Arm, CaseItem, CaseKind, Expression, Statement};
+use v_syntax::tree::{Arm, CaseItem, Expression, Statement};
 use v_value::scope::Scope;
 
 // ---- what is read and assigned
@@ -191,7 +191,12 @@ fn run<'s>(
             }
         },
         Statement::Case(kind, value, items) => {
-            let left = chosen(alloc, *kind, value, items, scope, unsettled)?;
+            let full = is_full(alloc, scope, *kind, value, items)?;
+            let rests = choice_rests(alloc, value, items, scope, unsettled)?;
+            let mut left = unmatched(alloc, full, unsettled)?;
+            let mut assigned = BTreeMap::new(alloc);
+            bodies(alloc, items, scope, unsettled, &mut assigned, &mut left)?;
+            choose(alloc, rests, &assigned, &mut left)?;
             *unsettled = left;
             Ok(())
         }
@@ -337,33 +342,6 @@ fn body<'s>(
             Ok(())
         }
     }
-}
-
-/// What a case leaves.
-#[cycle(running)]
-fn chosen<'s>(
-    alloc: Global,
-    kind: CaseKind,
-    value: &Expression<'s>,
-    items: &[CaseItem<'s>],
-    scope: &Scope<'_>,
-    unsettled: &BTreeMap<&'s str, u128>,
-) -> Result<BTreeMap<&'s str, u128>, AllocError>
-    requires objects { HasNarrowObjects (scope_at scope.now) }
-    requires value { IsNarrow (scope_at scope.now) (tree_of value.now) }
-    requires narrow { AreNarrowItems (scope_at scope.now) items.now }
-    requires fit { AreFitItems (scope_at scope.now) items.now }
-    requires variables { HasNoMemory (scope_at scope.now) (existing (scope_at scope.now) (masked unsettled.now)) }
-    ensures { IfOk result (λ t. (u : Bit) → IsThere (scope_at scope.now) u
-        → IsTrue (is_in (masked t) u) ↔ RestsAfter (masked unsettled.now) (scope_at scope.now) (pure.case (case_kind_of kind) (tree_of value.now) (item_list items.now)) u) }
-{
-    let full = is_full(alloc, scope, kind, value, items)?;
-    let rests = choice_rests(alloc, value, items, scope, unsettled)?;
-    let mut left = unmatched(alloc, full, unsettled)?;
-    let mut assigned = BTreeMap::new(alloc);
-    bodies(alloc, items, scope, unsettled, &mut assigned, &mut left)?;
-    choose(alloc, rests, &assigned, &mut left)?;
-    Ok(left)
 }
 
 /// Leaves in the table the bits that rest on its bits after a run of a statement of a combinational block. Where memory is wanted, nothing is
