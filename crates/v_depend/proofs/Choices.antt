@@ -106,7 +106,7 @@ module _ (w : BitSet) (s : Scope) (x y : Statement) (C : Type 0) (u : Bit) where
 
   pub choice-law : (c : Bool) → IsTrue c ↔ C
       → (IsTrue c × IsTrue (may_assign s x u.of_name u.word u.place || may_assign s y u.of_name u.word u.place) ⊎ (RestsAfter w s x u ⊎ RestsAfter w s y u))
-        ↔ AfterChoice (may_assign s x u.of_name u.word u.place || may_assign s y u.of_name u.word u.place) C (RestsAfter w s x u ⊎ RestsAfter w s y u) (IsTrue (is_in w u))
+      ↔ AfterChoice (may_assign s x u.of_name u.word u.place || may_assign s y u.of_name u.word u.place) C (RestsAfter w s x u ⊎ RestsAfter w s y u) (IsTrue (is_in w u))
   unfolding first second
   choice-law c i = (chosen c i, from-chosen c i)
 
@@ -117,8 +117,8 @@ no-other false = refl
 -- an arm before what stands behind its else, if anything does
 arm-law : (w : BitSet) (s : Scope) (e : Expression) (x : Statement) (o : Option Statement) (u : Bit)
     → AfterChoice (may_assign s x u.of_name u.word u.place || may_assign s (or_empty o) u.of_name u.word u.place) (ThroughReads (at_first w) (reads s e) u)
-      (RestsAfter w s x u ⊎ RestsAfter w s (or_empty o) u) (IsTrue (is_in w u))
-      ≡ RestsAfter w s (arm_before e x o) u
+    (RestsAfter w s x u ⊎ RestsAfter w s (or_empty o) u) (IsTrue (is_in w u))
+    ≡ RestsAfter w s (arm_before e x o) u
 arm-law w s e x None u =
     ap (λ t. AfterChoice t (ThroughReads (at_first w) (reads s e) u) (RestsAfter w s x u ⊎ IsTrue (is_in w u)) (IsTrue (is_in w u))) (no-other (may_assign s x u.of_name u.word u.place))
 arm-law w s e x (Some y) u = refl
@@ -148,9 +148,9 @@ module _ (L X Y : Type 0) (m a k l c any : Bool) (whole : m ≡ (a || k)) (all :
   taken-apart h =
       elim (or_cases a k (sym whole ∙ h)) [
         | inl g ↦ elim (branch.0 g) [
-            | inl b ↦ inr (inr (behind.0 b))
-            | inr x ↦ inr (inl x)
-          ]
+          | inl b ↦ inr (inr (behind.0 b))
+          | inr x ↦ inr (inl x)
+        ]
         | inr g ↦ inl (both-true c any (sym all ∙ g))
       ]
 
@@ -193,9 +193,10 @@ arm-told w s e x o c assigned left more_assigned added more_left tells adds rest
         let a = is_in added u in
         let z = is_in (cond c more_assigned no_bits) u in
         let l = is_in left u in
-        subst (λ P. IsTrue (is_in more_left u) ↔ P) (arm-law w s e x o u)
-        ((λ h. law.0 (taken-apart X X Y m a z l c some whole k (adds.left_is u t) (tells.left_is u t) h)),
-        (λ h. put-together X X Y m a z l c some whole k (adds.left_is u t) (tells.left_is u t) (law.1 h)))
+        subst (λ P. IsTrue (is_in more_left u) ↔ P) (arm-law w s e x o u) (
+          (λ h. law.0 (taken-apart X X Y m a z l c some whole k (adds.left_is u t) (tells.left_is u t) h)),
+          (λ h. put-together X X Y m a z l c some whole k (adds.left_is u t) (tells.left_is u t) (law.1 h)),
+        )
 
 -- nothing behind the arms
 pub nothing-told : (w : BitSet) (s : Scope) (assigned left : BitSet) → assigned ≡ no_bits → left ≡ w → Tells w s empty assigned left
@@ -242,7 +243,7 @@ or-right false b c = refl
 
 item-assigns : (s : Scope) (i : CaseItem) (items : List CaseItem) (u : Bit)
     → may_assign_in_case s (item_list (i ∷ items)) u.of_name u.word u.place
-      ≡ (may_assign s (item_statement i) u.of_name u.word u.place || may_assign_in_case s (item_list items) u.of_name u.word u.place)
+    ≡ (may_assign s (item_statement i) u.of_name u.word u.place || may_assign_in_case s (item_list items) u.of_name u.word u.place)
 item-assigns s (Values es x) items u = refl
 item-assigns s (Default x) items u = refl
 
@@ -360,9 +361,10 @@ same-rests w s x z a b k r = carry s (at_first w) (at_first w) a b (λ y l q. q)
 -- another account of what was before, for bits that there are
 pub turn-carried : (w v : BitSet) (s : Scope) (x : Statement) (xs : Statements) (u : Bit) → IsThere s u
     → ((z : Bit) → IsThere s z → IsTrue (is_in v z) ↔ RestsAfter w s x z) → AfterAll s (at_first w) (statement x xs) u u ↔ AfterAll s (at_first v) xs u u
-turn-carried w v s x xs u t h =
-    ((λ g. carry-all s (After s (at_first w) x) (at_first v) u u (λ z k r. (h z k).1 (same-rests w s x z u z k r)) xs u t g),
-    (λ g. carry-all s (at_first v) (After s (at_first w) x) u u (λ z k r. same-rests w s x z z u k ((h z k).0 r)) xs u t g))
+turn-carried w v s x xs u t h = (
+  (λ g. carry-all s (After s (at_first w) x) (at_first v) u u (λ z k r. (h z k).1 (same-rests w s x z u z k r)) xs u t g),
+  (λ g. carry-all s (at_first v) (After s (at_first w) x) u u (λ z k r. same-rests w s x z z u k ((h z k).0 r)) xs u t g),
+)
 
 -- ---- a full case has an item, and each leaves what was before where it is not assigned
 

@@ -67,8 +67,12 @@ module _ (p : BitSet) (s : Scope) (rests : ℕ → Type 0) (before : Type 0) (t 
   rest-first n (stays m b) = stays (from-neither (is_in (surely_reaches s t) u) (is_in (one_surely_reaches s ts) u) n m) b
   rest-first n (takes_place j l k r) = takes_place j (low-below (targets_width s ts) j (target_width s t) l) (takes-rest s t ts u j n k) r
   rest-first n (by_index r) =
-      by_index (r.0, or_right (is_in (index_reads s t u) r.0) (not (is_in (surely_reaches s t) u) && is_in (one_index_reads s ts u) r.0)
-      (and_from (not (is_in (surely_reaches s t) u)) (is_in (one_index_reads s ts u) r.0) n r.1), r.2)
+      by_index (
+        r.0,
+        or_right (is_in (index_reads s t u) r.0) (not (is_in (surely_reaches s t) u) && is_in (one_index_reads s ts u) r.0)
+            (and_from (not (is_in (surely_reaches s t) u)) (is_in (one_index_reads s ts u) r.0) n r.1),
+        r.2,
+      )
 
   together : IsLeft p s (λ j. rests (j + targets_width s ts)) (IsLeft p s rests before (joined ts) u) t u → IsLeft p s rests before (joined (target t ts)) u
   together (stays n b) = rest-first n b

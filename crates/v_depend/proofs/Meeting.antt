@@ -38,10 +38,12 @@ module _ (t : BTreeMap (Bor (List ℕ)) ℕ) where
   span-met x h =
       let g = and_parts (nat_lt x.from_word x.to_word) (not (bit_and x.bits (mask_under t x.name.now) == 0)) h in
       let b = some-bit (bit_and x.bits (mask_under t x.name.now)) (bit_and x.bits (mask_under t x.name.now)) (at-least (bit_and x.bits (mask_under t x.name.now))) (some-number (bit_and x.bits (mask_under t x.name.now)) g.1) in
-      let both = and_parts (is_set x.bits b.0) (is_set (mask_under t x.name.now) b.0) (sym (set-and x.bits (mask_under t x.name.now) b.0) ∙ b.1) in
-      (record { of_name = x.name.now; word = x.from_word; place = b.0 },
-      and_from (same_name x.name.now x.name.now) _ ((bytes_eq-Decides x.name.now x.name.now).1 refl)
-      (and_from (is_between x.from_word x.to_word x.from_word) (is_set x.bits b.0) (from-inside x.from_word x.to_word g.0) both.0), both.1)
+      let both = and_parts (is_set x.bits b.0) (is_set (mask_under t x.name.now) b.0) (sym (set-and x.bits (mask_under t x.name.now) b.0) ∙ b.1) in (
+        record { of_name = x.name.now; word = x.from_word; place = b.0 },
+        and_from (same_name x.name.now x.name.now) _ ((bytes_eq-Decides x.name.now x.name.now).1 refl)
+            (and_from (is_between x.from_word x.to_word x.from_word) (is_set x.bits b.0) (from-inside x.from_word x.to_word g.0) both.0),
+        both.1,
+      )
 
   met-span : (x : Span) → OneIsUnsettled (masked t) (bits_of x) → span_meets (mask_under t) x ≡ true
   met-span x r =

@@ -46,8 +46,8 @@ same-word s q n k b free t = at (cases_Bool (is_memory (s n)))
 pub sure-free : (s : Scope) (t : Target) → HasNoMemory s (existing s (may_reach s t)) → HasNoMemory s (existing s (surely_reaches s t))
 sure-free s t free n k b m =
     false_from_ne_true (existing s (surely_reaches s t) n k b) (λ h.
-      let g = and_parts (is_bit_of (s n) k b) (surely_reaches s t n k b) h in
-      false≢true (sym (free n k b m) ∙ and_from (is_bit_of (s n) k b) (may_reach s t n k b) g.0 (sure-reach s t (record { of_name = n; word = k; place = b }) g.1)))
+    let g = and_parts (is_bit_of (s n) k b) (surely_reaches s t n k b) h in
+    false≢true (sym (free n k b m) ∙ and_from (is_bit_of (s n) k b) (may_reach s t n k b) g.0 (sure-reach s t (record { of_name = n; word = k; place = b }) g.1)))
 
 pub width-below : (s : Scope) (n : Name) (k b : ℕ) → object_width (s n) ≤ 128 → is_bit_of (s n) k b ≡ true → b < 128
 width-below s n k b w h =
@@ -62,7 +62,7 @@ part-bits s n (one i) = at (is_memory (s n))
   where
     at : (q : Bool) → cond q (all_bits (s n)) (select_bits s no_values (s n) i)
         ≡ (cond {A = Place} q (record { of_name = n; cell = indexed_cell (s n) (select_index s no_values i); bits = all_bits (s n) })
-          (record { of_name = n; cell = variable_cell; bits = select_bits s no_values (s n) i })).bits
+        (record { of_name = n; cell = variable_cell; bits = select_bits s no_values (s n) i })).bits
     at true = refl
     at false = refl
 part-bits s n (two i j) = refl
@@ -182,13 +182,13 @@ module _ (p : BitSet) (s : Scope) (n : Name) (x : Selects) (v : ℕ) (u : Bit) (
       elim (or_cases (P && not sure) ((sure && at-its-place) || (reach && (I || (not sure && somewhere)))) h) [
         | inl e ↦ let g = and_parts P (not sure) e in stays g.1 g.0
         | inr e ↦ elim (or_cases (sure && at-its-place) (reach && (I || (not sure && somewhere))) e) [
-            | inl f ↦ let g = and_parts sure at-its-place f in from-place g.0 g.1
-            | inr f ↦ let g = and_parts reach (I || (not sure && somewhere)) f in
-                elim (or_cases I (not sure && somewhere) g.1) [
-                  | inl k ↦ from-index g.0 k
-                  | inr k ↦ let m = and_parts (not sure) somewhere k in from-anywhere g.0 m.0 m.1
-                ]
-          ]
+          | inl f ↦ let g = and_parts sure at-its-place f in from-place g.0 g.1
+          | inr f ↦ let g = and_parts reach (I || (not sure && somewhere)) f in
+              elim (or_cases I (not sure && somewhere) g.1) [
+                | inl k ↦ from-index g.0 k
+                | inr k ↦ let m = and_parts (not sure) somewhere k in from-anywhere g.0 m.0 m.1
+              ]
+        ]
       ]
 
   second : (a b : Bool) → b ≡ true → a || b ≡ true
@@ -220,8 +220,8 @@ module _ (p : BitSet) (s : Scope) (n : Name) (x : Selects) (v : ℕ) (u : Bit) (
 
   pub left-here : (b : Bool) → b ≡ ((P && not (is_in (surely_reaches s (place n x)) u))
       || ((is_in (surely_reaches s (place n x)) u && at_place v (natural_in (pos u.place -ℤ (named_place s no_values n x).bits.low)))
-        || (may_reach s (place n x) u.of_name u.word u.place
-          && (I || (not (is_in (surely_reaches s (place n x)) u) && is_nonzero (v % 2 ^ selects_width s (s n) x))))))
+      || (may_reach s (place n x) u.of_name u.word u.place
+      && (I || (not (is_in (surely_reaches s (place n x)) u) && is_nonzero (v % 2 ^ selects_width s (s n) x))))))
       → IsTrue b ↔ IsLeft p s (set_in v) (IsTrue P) (place n x) u
   unfolding left IsLeftHere sure reach at-its-place somewhere
   left-here b e = ((λ h. there-is (sym e ∙ h)), (λ l. e ∙ here-is l))
@@ -231,7 +231,7 @@ module _ (p : BitSet) (s : Scope) (n : Name) (x : Selects) (v : ℕ) (u : Bit) (
 module _ (w : BitSet) (s : Scope) (n : Name) (x : Selects) (v : ℕ) (c : Change) (name : c.name.now ≡ n) (narrow : object_width (s n) ≤ 128) (reached sure : ℕ) (I : Bool)
     (k : c.kept ≡ bit_not w128 sure) (fits : sure < 2 ^ 128) (bits : Bits) (is : bits ≡ part_bits s (s n) x)
     (set : (b : ℕ) → b < 128 → is_set c.set b ≡ ((is_set sure b && at_place v (natural_in (pos b -ℤ bits.low)))
-        || (is_set reached b && (I || (not (is_set sure b) && is_nonzero (v % 2 ^ bits.count)))))) where
+    || (is_set reached b && (I || (not (is_set sure b) && is_nonzero (v % 2 ^ bits.count)))))) where
   -- what the code finds of the target, and what its change then does
   abbrev Claim : Target → Type 0
   Claim t =

@@ -66,13 +66,16 @@ nothing-plain true = refl
 nothing-plain false = refl
 
 fit-before : (s : Scope) (c : pure.Expression) (x : PureStatement) (o : Option PureStatement) → IsFit s (arm_before c x o) → IsNarrow s c × IsFit s x × IsFit s (or_empty o)
-fit-before s c x None f =
-    (f.narrow.0, record { narrow = f.narrow.1; targets = f.targets; plain = f.plain },
-    record { narrow = tt; targets = tt; plain = λ n k b m. nothing-plain (is_bit_of (s n) k b) })
-fit-before s c x (Some y) f =
-    (f.narrow.0,
-    record { narrow = f.narrow.1; targets = f.targets.0; plain = first-plain s (may_assign s x) (may_assign s y) (may_assign s (if_else c x y)) (λ n k b. refl) f.plain },
-    record { narrow = f.narrow.2; targets = f.targets.1; plain = rest-plain s (may_assign s x) (may_assign s y) (may_assign s (if_else c x y)) (λ n k b. refl) f.plain })
+fit-before s c x None f = (
+  f.narrow.0,
+  record { narrow = f.narrow.1; targets = f.targets; plain = f.plain },
+  record { narrow = tt; targets = tt; plain = λ n k b m. nothing-plain (is_bit_of (s n) k b) },
+)
+fit-before s c x (Some y) f = (
+  f.narrow.0,
+  record { narrow = f.narrow.1; targets = f.targets.0; plain = first-plain s (may_assign s x) (may_assign s y) (may_assign s (if_else c x y)) (λ n k b. refl) f.plain },
+  record { narrow = f.narrow.2; targets = f.targets.1; plain = rest-plain s (may_assign s x) (may_assign s y) (may_assign s (if_else c x y)) (λ n k b. refl) f.plain },
+)
 
 fit-ladder : (s : Scope) (arms : List Arm) (y : Option PureStatement) → IsFit s (or_empty (arm_list arms y)) → AreFitArms s arms × IsFit s (or_empty y)
 fit-ladder s [] y f = (tt, f)
@@ -86,24 +89,27 @@ fit-all s m [] f = tt
 fit-all s m (x ∷ xs) f =
     let r = may_assign s (block m (statement_list (x ∷ xs))) in
     let p = may_assign s (statement_of x) in
-    let q = may_assign_in_all s (statement_list xs) in
-    (record { narrow = f.narrow.0; targets = f.targets.0; plain = first-plain s p q r (λ n k b. refl) f.plain },
-    fit-all s m xs (record { narrow = f.narrow.1; targets = f.targets.1; plain = rest-plain s p q r (λ n k b. refl) f.plain }))
+    let q = may_assign_in_all s (statement_list xs) in (
+      record { narrow = f.narrow.0; targets = f.targets.0; plain = first-plain s p q r (λ n k b. refl) f.plain },
+      fit-all s m xs (record { narrow = f.narrow.1; targets = f.targets.1; plain = rest-plain s p q r (λ n k b. refl) f.plain }),
+    )
 
 fit-items : (s : Scope) (kind : pure.CaseKind) (e : pure.Expression) (items : List CaseItem) → IsFit s (case kind e (item_list items)) → AreFitItems s items
 fit-items s kind e [] f = tt
 fit-items s kind e (Values es x ∷ items) f =
     let r = may_assign_in_case s (item_list (Values es x ∷ items)) in
     let p = may_assign s (statement_of x) in
-    let q = may_assign_in_case s (item_list items) in
-    (record { narrow = f.narrow.1.1; targets = f.targets.0; plain = first-plain s p q r (λ n k b. refl) f.plain },
-    fit-items s kind e items (record { narrow = (f.narrow.0, f.narrow.1.2); targets = f.targets.1; plain = rest-plain s p q r (λ n k b. refl) f.plain }))
+    let q = may_assign_in_case s (item_list items) in (
+      record { narrow = f.narrow.1.1; targets = f.targets.0; plain = first-plain s p q r (λ n k b. refl) f.plain },
+      fit-items s kind e items (record { narrow = (f.narrow.0, f.narrow.1.2); targets = f.targets.1; plain = rest-plain s p q r (λ n k b. refl) f.plain }),
+    )
 fit-items s kind e (Default x ∷ items) f =
     let r = may_assign_in_case s (item_list (Default x ∷ items)) in
     let p = may_assign s (statement_of x) in
-    let q = may_assign_in_case s (item_list items) in
-    (record { narrow = f.narrow.1.0; targets = f.targets.0; plain = first-plain s p q r (λ n k b. refl) f.plain },
-    fit-items s kind e items (record { narrow = (f.narrow.0, f.narrow.1.1); targets = f.targets.1; plain = rest-plain s p q r (λ n k b. refl) f.plain }))
+    let q = may_assign_in_case s (item_list items) in (
+      record { narrow = f.narrow.1.0; targets = f.targets.0; plain = first-plain s p q r (λ n k b. refl) f.plain },
+      fit-items s kind e items (record { narrow = (f.narrow.0, f.narrow.1.1); targets = f.targets.1; plain = rest-plain s p q r (λ n k b. refl) f.plain }),
+    )
 
 -- ---- arms by their number
 
@@ -121,12 +127,12 @@ pub still-variables : (w v : BitSet) (s : Scope) (x : PureStatement) → IsFit s
     → ((u : Bit) → IsThere s u → IsTrue (is_in v u) ↔ RestsAfter w s x u) → HasNoMemory s (existing s v)
 still-variables w v s x fit free h n k b m =
     false_from_ne_true (existing s v n k b) (λ t.
-      let p = and_parts (is_bit_of (s n) k b) (v n k b) t in
-      let u : Bit = record { of_name = n; word = k; place = b } in
-      let not-assigned : may_assign s x n k b ≡ false =
-      false_from_ne_true (may_assign s x n k b) (λ g. false≢true (sym (fit.plain n k b m) ∙ and_from (is_bit_of (s n) k b) (may_assign s x n k b) p.0 g)) in
-      let before = as-before s (at_first w) x u u not-assigned ((h u p.0).0 p.1) in
-      false≢true (sym (free n k b m) ∙ and_from (is_bit_of (s n) k b) (w n k b) p.0 before))
+    let p = and_parts (is_bit_of (s n) k b) (v n k b) t in
+    let u : Bit = record { of_name = n; word = k; place = b } in
+    let not-assigned : may_assign s x n k b ≡ false =
+    false_from_ne_true (may_assign s x n k b) (λ g. false≢true (sym (fit.plain n k b m) ∙ and_from (is_bit_of (s n) k b) (may_assign s x n k b) p.0 g)) in
+    let before = as-before s (at_first w) x u u not-assigned ((h u p.0).0 p.1) in
+    false≢true (sym (free n k b m) ∙ and_from (is_bit_of (s n) k b) (w n k b) p.0 before))
 
 pub same-variables : (w v : BitSet) (s : Scope) → v ≡ w → HasNoMemory s (existing s w) → HasNoMemory s (existing s v)
 same-variables w v s e h = subst (λ (p : BitSet). HasNoMemory s (existing s p)) (sym e) h
@@ -164,9 +170,9 @@ module _ (w v : BitSet) (s : Scope) (x : Statement) where
       let all = item_list items.items in
       as-tree (case (case_kind_of kind) (tree_of e) all) (ap statement_of i ∙ statement_of-Case kind e items)
       (λ u t. case-rests w s (case_kind_of kind) (tree_of e) all full c none left assigned added v
-        (f ∙ ap (λ zs. is_full s (case_kind_of kind) (tree_of e) (item_list zs)) p) l n (subst (λ zs. AddsArms w s (item_list zs) none left assigned added) r a)
-        (subst (λ zs. IsTrue c ↔ OneIsUnsettled w (or_in (reads s (tree_of e)) (items_read s (item_list zs)))) q h) g
-        (full-stays w s (case_kind_of kind) (tree_of e) all) u t)
+      (f ∙ ap (λ zs. is_full s (case_kind_of kind) (tree_of e) (item_list zs)) p) l n (subst (λ zs. AddsArms w s (item_list zs) none left assigned added) r a)
+      (subst (λ zs. IsTrue c ↔ OneIsUnsettled w (or_in (reads s (tree_of e)) (items_read s (item_list zs)))) q h) g
+      (full-stays w s (case_kind_of kind) (tree_of e) all) u t)
 
 module _ (w : BitSet) (s : Scope) (x : Statement) where
   pub rests-Empty : x ≡ Empty → Rests w w s (statement_of x)
@@ -205,3 +211,33 @@ last-some l b i y j = ap last_statement i ∙ ap (λ z. Some (statement_of z)) (
 
 pub last-none : (l : Option (Box Statement Global)) → l ≡ None → last_statement l ≡ None
 last-none l i = ap last_statement i
+
+-- ---- turns
+
+pub onward : (w v n : BitSet) (s : Scope) (all left : List Statement) (r : Statement) (rest : List Statement) (u : Bit) → IsThere s u → left ≡ r ∷ rest
+    → AfterAll s (at_first w) (statement_list all) u u ↔ AfterAll s (at_first v) (statement_list left) u u → Rests v n s (statement_of r)
+    → AfterAll s (at_first w) (statement_list all) u u ↔ AfterAll s (at_first n) (statement_list rest) u u
+onward w v n s all left r rest u t e h k =
+    let f = subst (λ xs. AfterAll s (at_first w) (statement_list all) u u ↔ AfterAll s (at_first v) (statement_list xs) u u) e h in
+    let g = turn-carried v n s (statement_of r) (statement_list rest) u t k in
+    ((λ x. g.0 (f.0 x)), (λ x. f.1 (g.1 x)))
+
+pub turns-ended : (w v : BitSet) (s : Scope) (all left : List Statement) (u : Bit) → left ≡ []
+    → AfterAll s (at_first w) (statement_list all) u u ↔ AfterAll s (at_first v) (statement_list left) u u
+    → IsTrue (is_in v u) ↔ AfterAll s (at_first w) (statement_list all) u u
+turns-ended w v s all left u e h =
+    let f = subst (λ xs. AfterAll s (at_first w) (statement_list all) u u ↔ AfterAll s (at_first v) (statement_list xs) u u) e h in (f.1, f.0)
+
+pub arms-turn : (w : BitSet) (s : Scope) (arms : List Arm) (i : ℕ) (r : Arm) → drop (i - 1) arms ≡ r ∷ drop i arms → (y : Option PureStatement) (assigned left : BitSet)
+    → Tells w s (arm_before (tree_of r.condition) (statement_of r.statement) (arm_list (drop i arms) y)) assigned left
+    → Tells w s (or_empty (arm_list (drop (i - 1) arms) y)) assigned left
+arms-turn w s arms i r e y assigned left h = subst (λ xs. Tells w s (or_empty (arm_list xs y)) assigned left) (sym e) h
+
+pub arms-ended : (w : BitSet) (s : Scope) (arms : List Arm) (i : ℕ) (y : Option PureStatement) (assigned left : BitSet) → i ≡ 0
+    → Tells w s (or_empty (arm_list (drop i arms) y)) assigned left → Tells w s (or_empty (arm_list arms y)) assigned left
+arms-ended w s arms i y assigned left e h = subst (λ k. Tells w s (or_empty (arm_list (drop k arms) y)) assigned left) e h
+
+pub items-at : (w : BitSet) (s : Scope) (all : CaseItems) (left next : List CaseItem) → left ≡ next → (a l b m : BitSet)
+    → ((d o : BitSet) → AddsArms w s (item_list left) b m d o → AddsArms w s all a l d o)
+    → (d o : BitSet) → AddsArms w s (item_list next) b m d o → AddsArms w s all a l d o
+items-at w s all left next e a l b m h d o k = h d o (subst (λ xs. AddsArms w s (item_list xs) b m d o) (sym e) k)

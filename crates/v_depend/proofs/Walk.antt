@@ -44,9 +44,10 @@ either false a b h = (refl, refl)
 
 pub free-parts : (s : Scope) (t : pure.Target) (ts : Targets) → HasNoMemory s (existing s (may_reach s (joined (target t ts))))
     → HasNoMemory s (existing s (may_reach s t)) × HasNoMemory s (existing s (may_reach s (joined ts)))
-free-parts s t ts h =
-    ((λ n k b m. (either (is_bit_of (s n) k b) (may_reach s t n k b) (may_reach_one s ts n k b) (h n k b m)).0),
-    (λ n k b m. (either (is_bit_of (s n) k b) (may_reach s t n k b) (may_reach_one s ts n k b) (h n k b m)).1))
+free-parts s t ts h = (
+  (λ n k b m. (either (is_bit_of (s n) k b) (may_reach s t n k b) (may_reach_one s ts n k b) (h n k b m)).0),
+  (λ n k b m. (either (is_bit_of (s n) k b) (may_reach s t n k b) (may_reach_one s ts n k b) (h n k b m)).1),
+)
 
 -- what holds of parts holds of the later ones
 later : (P : List Target → Type 0) → ((x : Target) (xs : List Target) → P (x ∷ xs) → P xs) → (k : ℕ) (xs : List Target) → P xs → P (drop k xs)
@@ -86,7 +87,7 @@ module _ (w : BitSet) (s : Scope) (xs : List Target) (i : ℕ) (r : Target) (e :
       let ts = target_list (drop i xs) in
       let t = target_of r in
       let f = left-same w s (set_in a) (λ j. set_in v (j + targets_width s ts)) P (IsLeft w s (set_in v) before (joined ts) u) t u
-        (λ j l. ((λ k. sym (rest j) ∙ k), (λ k. rest j ∙ k))) h in
+      (λ j l. ((λ k. sym (rest j) ∙ k), (λ k. rest j ∙ k))) h in
       let g = left-two w s (set_in v) before t ts u there in
       subst (λ ys. IsLeft w s (set_in a) P t u ↔ IsLeft w s (set_in v) before (joined (target_list ys)) u) (sym e) ((λ k. g.1 (f.0 k)), (λ k. f.1 (g.0 k)))
 
@@ -146,7 +147,7 @@ pub assignment-rests : (w new : BitSet) (s : Scope) (t : pure.Target) (e : pure.
 assignment-rests w new s t e v xs ys zs narrow width value none made same is u there =
     let begun = subst (λ cs. IsTrue (is_in (all_changed ys w) u) ↔ IsLeft w s (set_in v) (IsTrue (is_in (all_changed cs w) u)) t u) none (made w u there) in
     let f = left-same w s (set_in v) (RestsAt w s e) (IsTrue (is_in w u)) (IsTrue (is_in w u)) t u
-      (λ j l. value j (let b = ltb-true j (target_width s t) l in omega (arith, b, width))) ((λ k. k), (λ k. k)) in
+    (λ j l. value j (let b = ltb-true j (target_width s t) l in omega (arith, b, width))) ((λ k. k), (λ k. k)) in
     let g = left-after w s t e u (have-bits s t narrow) there in
     subst (λ (q : BitSet). IsTrue (is_in q u) ↔ RestsAfterAssignment w s t e u) (sym (is ∙ ap (λ cs. all_changed cs w) same))
     ((λ k. g.0 (f.0 (begun.0 k))), (λ k. begun.1 (f.1 (g.1 k))))

@@ -17,7 +17,10 @@ pub struct Change<'s> {
 }
 
 /// Makes a change.
-fn make_change<'s>(change: Change<'s>, table: &mut BTreeMap<&'s str, u128>) -> Result<(), AllocError>
+fn make_change<'s>(
+    change: Change<'s>,
+    table: &mut BTreeMap<&'s str, u128>,
+) -> Result<(), AllocError>
     ensures { OnOk result (masked table.new ≡ changed change.entry (masked table.old)) }
 {
     let mask = mask_under(table, change.name) & change.kept | change.set;

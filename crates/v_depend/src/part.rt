@@ -89,7 +89,7 @@ fn set_bits(value: u128, span: Span, reached: u128, sure: u128, by_index: bool) 
     requires { span.count ≤ 128 }
     ensures { (b : ℕ) → b < 128 → is_set result b
         ≡ ((is_set sure b && at_place value (natural_in (pos b -ℤ (span_of span).low)))
-            || (is_set reached b && (by_index || (not (is_set sure b) && is_nonzero (value % 2 ^ span.count))))) }
+        || (is_set reached b && (by_index || (not (is_set sure b) && is_nonzero (value % 2 ^ span.count))))) }
 {
     let by_place = placed(value, span) & sure;
     if by_index {

@@ -229,7 +229,7 @@ fn in_turn<'s>(
 
 /// Adds to what is left what a branch leaves that is run on a copy, and to what is assigned what it may assign.
 #[cycle(running)]
-fn branch<'s>(
+fn add_branch<'s>(
     alloc: Global,
     statement: &Statement<'s>,
     scope: &Scope<'_>,
@@ -267,7 +267,7 @@ fn arm<'s>(
     ensures { OnOk result ((y : Option pure.Statement) → Tells (masked unsettled.now) (scope_at scope.now) (or_empty y) (masked assigned.old) (masked left.old)
         → Tells (masked unsettled.now) (scope_at scope.now) (arm_before (tree_of arm.now.condition) (statement_of arm.now.statement) y) (masked assigned.new) (masked left.new)) }
 {
-    branch(alloc, &arm.statement, scope, unsettled, assigned, left)?;
+    add_branch(alloc, &arm.statement, scope, unsettled, assigned, left)?;
     let rests = rests(alloc, &arm.condition, scope, unsettled)?;
     choose(alloc, rests, assigned, left)?;
     Ok(())
@@ -334,11 +334,11 @@ fn body<'s>(
 {
     match item {
         CaseItem::Values(_, statement) => {
-            branch(alloc, statement, scope, unsettled, assigned, left)?;
+            add_branch(alloc, statement, scope, unsettled, assigned, left)?;
             Ok(())
         }
         CaseItem::Default(statement) => {
-            branch(alloc, statement, scope, unsettled, assigned, left)?;
+            add_branch(alloc, statement, scope, unsettled, assigned, left)?;
             Ok(())
         }
     }

@@ -13,7 +13,7 @@ abbrev pub invariant-parts_copied-loop-part : goal.invariant-parts_copied-loop-p
 invariant-parts_copied-loop-part l = record {
   bits : (j : ℕ) → j < 128 → parts_copy (masked l.unsettled) (scope_at l.scope) (expressions_of l.parts) j
       ≡ cond (nat_lt j (widths_of (scope_at l.scope) (expressions_of (drop l.part-index l.parts))))
-        (parts_copy (masked l.unsettled) (scope_at l.scope) (expressions_of (drop l.part-index l.parts)) j)
-        (is_set l.mask (j - widths_of (scope_at l.scope) (expressions_of (drop l.part-index l.parts))));
+      (parts_copy (masked l.unsettled) (scope_at l.scope) (expressions_of (drop l.part-index l.parts)) j)
+      (is_set l.mask (j - widths_of (scope_at l.scope) (expressions_of (drop l.part-index l.parts))));
   narrow : AreNarrow (scope_at l.scope) (expressions_of (drop l.part-index l.parts));
 }
