@@ -1,29 +1,24 @@
 -- What choices leave resting, from branch to branch.
-use Rattle.std.proofs.Common.{◌≡◌, ◌∙◌, ℕ, zero, ◌+◌, ◌<◌, ◌≤◌, ◌^◌, max, suc, arith, refl, ap, sym, subst, Bool, true, false, cond, not, inl, inr, List, [], ◌∷◌, drop}
+use Rattle.std.proofs.Common.{◌≡◌, ◌∙◌, ℕ, zero, ◌<◌, ◌^◌, max, suc, arith, refl, ap, sym, subst, Bool, true, false, cond, inl, inr, List, ◌∷◌}
 use Rattle.std.specs.Prelude.{◌&&◌, ◌||◌, ◌⊎◌, ◌↔◌, Option, Some, None, IsTrue}
-use Rattle.std.proofs.lemmas.Bool.{false≢true, or_cases, or_left, or_right, or_parts, cases_Bool}
-use Rattle.verilog_trees.specs.Syntax as pure
-use Rattle.verilog_trees.specs.Syntax.{Expression, CaseKind, exact_case, wild_case, Statement, empty, if_then, if_else, case, block, Statements, no_statements, statement, CaseItems, no_items, arm, default_arm}
+use Rattle.std.proofs.lemmas.Bool.{false≢true, or_cases, or_left, or_right, or_parts}
+use Rattle.verilog_trees.specs.Syntax.{Expression, CaseKind, exact_case, wild_case, Statement, empty, case, Statements, statement, CaseItems, no_items, arm, default_arm}
 use Rattle.std.specs.Prelude.{nat_le}
 use Rattle.std.proofs.lemmas.Nat.{pow_pos}
 use Rattle.std.proofs.lemmas.Bool.{and_parts}
 use Rattle.verilog_meaning.specs.Expression.{Scope, width_of, sign_of}
 use Rattle.verilog_meaning.specs.Statement.{items_width, items_signed}
-use Rattle.verilog_meaning.specs.Register.{is_bit_of, may_assign, may_assign_in_case}
+use Rattle.verilog_meaning.specs.Register.{may_assign, may_assign_in_case}
 use Rattle.verilog_designs.specs.Reads.{BitSet, no_bits, or_in, reads, items_read, items_have_all, is_full}
 use Rattle.verilog_designs.specs.Dependence.{Bit, is_in, ThroughReads, AfterChoice, NoArm, After, AfterAll, AfterArms}
-use Rattle.v_syntax.specs.declared.tree.Arm.{Arm}
 use Rattle.v_syntax.specs.declared.tree.CaseItem.{CaseItem, Values, Default}
-use Rattle.v_syntax.specs.declared.tree.Statement.{Statement as CodeStatement}
-use Rattle.v_syntax.specs.Tree.{tree_of, statement_of, expressions_of, arm_before, or_empty}
-use Rattle.v_statement.specs.Statements.{statement_list, arm_list}
+use Rattle.v_syntax.specs.Tree.{arm_before, or_empty}
 use Rattle.v_statement.specs.Effects.{item_list, item_statement}
 use Rattle.v_flow.specs.Spans.{existing}
 use Rattle.v_masks.specs.Masks.{spread}
-use Rattle.v_paths.specs.Premises.{HasNoMemory, AssignsNoMemory}
 use Rattle.v_depend.specs.Resting.{IsThere, OneIsUnsettled, at_first, RestsAfter}
 use Rattle.v_depend.specs.Running.{IsFit, Tells, Adds, AddsArms}
-use Rattle.v_depend.proofs.Following.{Carries, carry, carry-all, as-before, still-before, arms-as-before}
+use Rattle.v_depend.proofs.Following.{carry, carry-all, as-before, still-before, arms-as-before}
 use Rattle.v_depend.proofs.Parting.{same-word}
 
 -- ---- a case without an item is not full

@@ -1,22 +1,21 @@
 -- The bits that names with constant selects, concatenations and replications copy.
-use Rattle.std.proofs.Common.{◌≡◌, ◌∙◌, ℕ, zero, suc, ◌+◌, ◌-◌, ◌*◌, ◌/◌, ◌%◌, ◌^◌, ◌<◌, ◌≤◌, ◌≢◌, refl, ap, sym, subst, Bool, true, false, cond, inl, inr, arith, lt-ltb, ltb-true, ltb-false, le-ltb, pow_pos, mod-lt}
-use Rattle.std.specs.Prelude.{◌&&◌, ◌||◌, ◌⊎◌, ◌↔◌, ◌==◌, not, nat_lt, is_none, is_some, option_and_then, Option, Some, None, ℤ, pos, negsuc, ◌+ℤ◌, IsTrue}
-use Rattle.std.specs.Int.{bit_at as bit_of_number}
-use Rattle.std.proofs.lemmas.Bool.{false≢true, and_parts, cases_Bool, cases_lt, cases_eq}
+use Rattle.std.proofs.Common.{◌≡◌, ◌∙◌, ℕ, suc, ◌+◌, ◌-◌, ◌*◌, ◌/◌, ◌%◌, ◌^◌, ◌<◌, ◌≤◌, ◌≢◌, refl, ap, sym, subst, Bool, true, false, cond, inl, inr, arith, lt-ltb, le-ltb}
+use Rattle.std.specs.Prelude.{◌&&◌, ◌||◌, ◌⊎◌, ◌↔◌, ◌==◌, nat_lt, is_none, is_some, option_and_then, Option, Some, None, ℤ, pos, negsuc, ◌+ℤ◌}
+use Rattle.std.proofs.lemmas.Bool.{false≢true, cases_Bool, cases_lt, cases_eq}
 use Rattle.std.proofs.lemmas.Bool.Decides.{nat_tests}
 use Rattle.std.proofs.lemmas.Int.{ints}
-use Rattle.wb_values.specs.Value.{Name, same_name}
+use Rattle.wb_values.specs.Value.{Name}
 use Rattle.wb_values.specs.Choice.{some_if}
 use Rattle.wb_values.specs.Number.{word_sext, top_bit}
 use Rattle.verilog_trees.specs.Syntax as pure
 use Rattle.verilog_trees.specs.Syntax.{name, replication, Expressions, no_expressions, expression, Select, Selects, whole, one, two}
 use Rattle.verilog_meaning.specs.Expression.{Object, Scope, distance, object_width, is_memory, Bits, bits_from, bits_taken, no_values, sign_of, width_of, widths_of, selects_sign, selects_width, select_bits, select_index, word_number}
-use Rattle.verilog_meaning.specs.Statement.{cell_at, indexed_cell, named_place, variable_cell, word_cell, no_cell, all_bits, Place}
-use Rattle.verilog_meaning.specs.Register.{is_set, words_between, word_count, is_bit_of}
+use Rattle.verilog_meaning.specs.Statement.{cell_at, indexed_cell, named_place, variable_cell, all_bits, Place}
+use Rattle.verilog_meaning.specs.Register.{is_set, words_between, is_bit_of}
 use Rattle.verilog_designs.specs.Reads.{BitSet}
-use Rattle.verilog_designs.specs.Dependence.{Bit, is_in, word_of_cell, natural_in, bit_in, bit_at, widened_bit, copied, copied_in}
+use Rattle.verilog_designs.specs.Dependence.{Bit, is_in, word_of_cell, natural_in, bit_in, bit_at, copied, copied_in}
 use Rattle.verilog_settled.proofs.Bits.{set_from_bit, bit_of_cut, bit_past_cut, bit_of_part, bit_before_part, bit_within_part, unset_from_bit}
-use Rattle.verilog_settled.proofs.Widened.{top_is, past, widened_low, signed_bit, top_past}
+use Rattle.verilog_settled.proofs.Widened.{top_is, widened_low, signed_bit, top_past}
 use Rattle.v_value.specs.Narrow.{IsWidth, IsNarrow}
 use Rattle.v_depend.specs.Resting.{CopiesUnsettled}
 use Rattle.v_depend.specs.Copying.{holds, IsOfName, at_place, copies_at, parts_copy}

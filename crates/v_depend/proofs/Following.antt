@@ -7,7 +7,7 @@ use Rattle.verilog_meaning.specs.Expression.{Scope}
 use Rattle.verilog_meaning.specs.Register.{selects_are_constant, may_mean, may_reach, may_reach_one, may_assign, may_assign_in_all, may_assign_in_case}
 use Rattle.wb_values.specs.Value.{same_name}
 use Rattle.verilog_designs.specs.Reads.{BitSet, or_in, reads, items_read, surely_reaches, one_surely_reaches, is_full}
-use Rattle.verilog_designs.specs.Dependence.{Bit, is_in, index_reads, one_index_reads, IsGivenBy, copied_to, computed, Dependences, at_start, ThroughReads, AfterAssignment, kept, given, indexed, AfterChoice, NoArm, After, AfterAll, AfterArms}
+use Rattle.verilog_designs.specs.Dependence.{Bit, is_in, index_reads, one_index_reads, copied_to, computed, Dependences, at_start, ThroughReads, AfterAssignment, kept, given, indexed, AfterChoice, NoArm, After, AfterAll, AfterArms}
 use Rattle.verilog_settled.proofs.Assigned.{takes_reach}
 use Rattle.v_depend.specs.Resting.{IsThere, at_first, RestsAfter}
 use Rattle.v_depend.proofs.Within.{read-there, chosen-there, index-there, given-there}

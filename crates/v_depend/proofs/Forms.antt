@@ -8,10 +8,10 @@ use Rattle.std.specs.declared.alloc.Global.{Global}
 use Rattle.std.specs.Borrow.{Bor}
 use Rattle.verilog_trees.specs.Syntax as pure
 use Rattle.verilog_trees.specs.Syntax.{replication}
-use Rattle.verilog_meaning.specs.Expression.{Scope, natural_of, integer_of, no_values, sign_of, width_of, widths_of}
-use Rattle.verilog_meaning.specs.Register.{selects_are_constant, is_set}
+use Rattle.verilog_meaning.specs.Expression.{Scope, natural_of, integer_of, no_values, width_of, widths_of}
+use Rattle.verilog_meaning.specs.Register.{is_set}
 use Rattle.verilog_designs.specs.Reads.{BitSet}
-use Rattle.verilog_designs.specs.Dependence.{is_plain, are_plain, copied}
+use Rattle.verilog_designs.specs.Dependence.{is_plain, are_plain}
 use Rattle.v_syntax.specs.declared.tree.Number.{Number as CodeNumber}
 use Rattle.v_syntax.specs.declared.tree.PrefixOperator.{PrefixOperator}
 use Rattle.v_syntax.specs.declared.tree.PrefixOperator.TheVariants.{Plus}
@@ -27,9 +27,9 @@ use Rattle.v_syntax.specs.declared.tree.Selects.{Selects}
 use Rattle.v_syntax.specs.Tree.{tree_of, selects_of, expressions_of, prefixed, all_prefixed, combined, tested}
 use Rattle.v_syntax.specs.Chain.{linked, test_linked, chosen}
 use Rattle.v_syntax.proofs.Trees.{tree_of-Concatenation, tree_of-Replication, tree_of-Binary, tree_of-Test, tree_of-Conditional}
-use Rattle.v_value.specs.Narrow.{IsNarrow, AreNarrow, IsWidth}
+use Rattle.v_value.specs.Narrow.{IsNarrow}
 use Rattle.v_flow.specs.Flow.{selects_constant_at}
-use Rattle.v_depend.specs.Copying.{holds, copies_at, parts_copy, plain_at, parts_plain, has_none}
+use Rattle.v_depend.specs.Copying.{copies_at, parts_copy, plain_at, parts_plain, has_none}
 use Rattle.v_depend.proofs.Copied.{replication-copies, concatenation-copies}
 
 -- ---- chains

@@ -1,16 +1,15 @@
 -- What an assignment leaves of a bit, put together from its parts, and what that says of what the bit rests on.
 use Rattle.std.proofs.Common.{◌≡◌, ◌∙◌, ℕ, ◌+◌, ◌-◌, refl, ap, sym, subst, Bool, true, false, inl, inr, arith}
-use Rattle.std.specs.Prelude.{◌&&◌, ◌||◌, ◌⊎◌, ◌↔◌, not, nat_lt, Some, IsTrue}
-use Rattle.std.proofs.lemmas.Bool.{false≢true, and_parts, and_from, or_cases, or_left, or_right, or_parts, cases_Bool, not_from_false, false_from_ne_true}
+use Rattle.std.specs.Prelude.{◌&&◌, ◌||◌, ◌↔◌, not, nat_lt, IsTrue}
+use Rattle.std.proofs.lemmas.Bool.{false≢true, and_parts, and_from, or_cases, or_left, or_right}
 use Rattle.std.proofs.lemmas.Bool.Decides.{nat_tests}
 use Rattle.verilog_trees.specs.Syntax.{Expression, Target, joined, Targets, no_targets, target}
-use Rattle.verilog_meaning.specs.Expression.{Scope, sign_of}
+use Rattle.verilog_meaning.specs.Expression.{Scope}
 use Rattle.verilog_meaning.specs.Statement.{target_width, targets_width}
-use Rattle.verilog_meaning.specs.Register.{may_reach}
 use Rattle.verilog_designs.specs.Reads.{BitSet, reads, surely_reaches, one_surely_reaches}
-use Rattle.verilog_designs.specs.Dependence.{Bit, is_in, is_plain, copied, takes, one_takes, index_reads, one_index_reads, IsGivenBy, copied_to, computed, AfterAssignment, kept, given, indexed}
+use Rattle.verilog_designs.specs.Dependence.{Bit, is_in, takes, one_takes, index_reads, one_index_reads, copied_to, computed, kept, given, indexed}
 use Rattle.verilog_settled.proofs.Assigned.{takes_reach}
-use Rattle.v_depend.specs.Resting.{IsThere, OneIsUnsettled, CopiesUnsettled, RestsAt, copies, computes, at_first, RestsAfterAssignment}
+use Rattle.v_depend.specs.Resting.{IsThere, OneIsUnsettled, CopiesUnsettled, RestsAt, copies, computes, RestsAfterAssignment}
 use Rattle.v_depend.specs.Copying.{plain_at}
 use Rattle.v_depend.specs.Left.{IsLeft, stays, takes_place, by_index}
 use Rattle.v_depend.proofs.Targets.{HasBits, takes-below, reach-takes, takes-first, takes-rest}

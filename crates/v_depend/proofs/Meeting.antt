@@ -1,16 +1,16 @@
 -- Spans that have a bit of a table.
-use Rattle.std.proofs.Common.{◌≡◌, ◌∙◌, ℕ, zero, suc, ◌<◌, ◌≤◌, refl, ap, sym, subst, Bool, true, false, not, List, [], ◌∷◌, bit_and, inl, inr, arith, lt-ltb, ltb-true}
-use Rattle.std.specs.Prelude.{◌&&◌, ◌||◌, ◌==◌, ◌⊎◌, ◌↔◌, nat_lt, nat_le, IsTrue}
+use Rattle.std.proofs.Common.{◌≡◌, ◌∙◌, ℕ, zero, ◌<◌, ◌≤◌, refl, ap, sym, subst, Bool, true, false, not, List, [], ◌∷◌, bit_and, inl, inr, arith}
+use Rattle.std.specs.Prelude.{◌&&◌, ◌==◌, ◌⊎◌, ◌↔◌, nat_lt, IsTrue}
 use Rattle.std.specs.List.{list_any}
 use Rattle.std.specs.BTreeMap.{BTreeMap}
 use Rattle.std.specs.Borrow.{Bor}
-use Rattle.std.proofs.lemmas.Bool.{false≢true, and_parts, and_from, or_cases, or_left, or_right, not_from_false, cases_Bool}
+use Rattle.std.proofs.lemmas.Bool.{false≢true, and_parts, and_from, or_cases, or_left, or_right, cases_Bool}
 use Rattle.std.proofs.lemmas.Bool.Decides.{nat_tests}
 use Rattle.std.proofs.lemmas.Slice.Eq.{bytes_eq-Decides}
 use Rattle.wb_values.specs.Value.{Name, same_name}
 use Rattle.verilog_meaning.specs.Register.{is_set}
 use Rattle.verilog_designs.specs.Reads.{BitSet, or_in}
-use Rattle.verilog_designs.specs.Dependence.{Bit, is_in}
+use Rattle.verilog_designs.specs.Dependence.{is_in}
 use Rattle.v_flow.specs.declared.span.Span.{Span}
 use Rattle.v_flow.specs.Spans.{is_between, bits_of, bits_in}
 use Rattle.v_masks.specs.Masks.{mask_under, masked, spread}

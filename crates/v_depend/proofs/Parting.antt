@@ -1,17 +1,16 @@
 -- What an assignment to one part leaves of each bit.
-use Rattle.std.proofs.Common.{◌≡◌, ◌∙◌, ℕ, zero, suc, ◌+◌, ◌-◌, ◌%◌, ◌^◌, ◌<◌, ◌≤◌, refl, ap, sym, subst, Bool, true, false, cond, not, inl, inr, arith, lt-ltb, ltb-true, le-ltb, List}
-use Rattle.std.specs.Prelude.{◌&&◌, ◌||◌, ◌⊎◌, ◌↔◌, ◌==◌, nat_lt, Some, pos, ◌-ℤ◌, IsTrue}
+use Rattle.std.proofs.Common.{◌≡◌, ◌∙◌, ℕ, zero, ◌%◌, ◌^◌, ◌<◌, ◌≤◌, refl, ap, sym, subst, Bool, true, false, cond, not, inl, inr, arith, lt-ltb, ltb-true}
+use Rattle.std.specs.Prelude.{◌&&◌, ◌||◌, ◌⊎◌, ◌↔◌, nat_lt, pos, ◌-ℤ◌, IsTrue}
 use Rattle.std.proofs.lemmas.Bool.{false≢true, and_parts, and_from, or_cases, or_left, or_right, cases_Bool, cases_lt, not_from_false, false_from_ne_true}
-use Rattle.std.proofs.lemmas.Bool.Decides.{nat_tests}
 use Rattle.std.proofs.lemmas.Slice.Eq.{bytes_eq-Decides}
 use Rattle.std.specs.Int.{bit_not, w128}
 use Rattle.wb_values.specs.Value.{Name, same_name}
-use Rattle.verilog_trees.specs.Syntax.{Selects, whole, one, two, Target, place, joined}
-use Rattle.verilog_meaning.specs.Expression.{Object, Scope, no_values, object_width, is_memory, is_nonzero, Bits, selects_width, select_index, select_bits}
-use Rattle.verilog_meaning.specs.Statement.{Place, variable_cell, indexed_cell, all_bits, named_place, target_width}
+use Rattle.verilog_trees.specs.Syntax.{Selects, whole, one, two, Target, place}
+use Rattle.verilog_meaning.specs.Expression.{Scope, no_values, object_width, is_memory, is_nonzero, Bits, selects_width, select_index, select_bits}
+use Rattle.verilog_meaning.specs.Statement.{Place, variable_cell, indexed_cell, all_bits, named_place}
 use Rattle.verilog_meaning.specs.Register.{is_set, selects_are_constant, may_mean, may_reach, word_count, is_bit_of}
 use Rattle.verilog_designs.specs.Reads.{BitSet, surely_reaches, target_reads, selects_read}
-use Rattle.verilog_designs.specs.Dependence.{Bit, is_in, natural_in, takes, index_reads}
+use Rattle.verilog_designs.specs.Dependence.{Bit, is_in, natural_in}
 use Rattle.verilog_settled.proofs.Assigned.{takes_reach}
 use Rattle.verilog_settled.proofs.Bits.{set_from_bit, bit_of_cut, bit_past_cut, unset_from_bit}
 use Rattle.v_flow.specs.Spans.{existing}
@@ -19,13 +18,13 @@ use Rattle.v_masks.proofs.Bits.{set-none, some-bit}
 use Rattle.v_masks.proofs.Plain.{first-word}
 use Rattle.v_paths.specs.Premises.{HasNoMemory}
 use Rattle.v_depend.specs.Resting.{IsThere, OneIsUnsettled}
-use Rattle.v_depend.specs.Left.{IsLeft, stays, takes_place, by_index, set_in, part_bits, Assigns, IsPart}
+use Rattle.v_depend.specs.Left.{IsLeft, stays, takes_place, by_index, set_in, part_bits, Assigns}
 use Rattle.v_depend.specs.Copying.{at_place}
 use Rattle.v_depend.specs.declared.change.Change.{Change}
 use Rattle.v_depend.specs.Tables.{changed}
 use Rattle.v_depend.proofs.Placing.{set-not}
 use Rattle.v_depend.proofs.Following.{sure-reach, index-reach}
-use Rattle.v_depend.proofs.Targets.{place-of, place-is, takes-constant, takes-variable, taken-constant, taken-variable, below-constant, place-within, part-count}
+use Rattle.v_depend.proofs.Targets.{place-of, place-is, takes-constant, takes-variable, taken-constant, below-constant, place-within, part-count}
 
 -- ---- words
 

@@ -1,6 +1,6 @@
 -- Values at the places of parts, and the bits of a name that an assignment sets.
-use Rattle.std.proofs.Common.{◌≡◌, ◌∙◌, ℕ, zero, suc, ◌+◌, ◌-◌, ◌*◌, ◌/◌, ◌%◌, ◌^◌, ◌<◌, ◌≤◌, refl, ap, sym, subst, Bool, true, false, cond, not, inl, inr, arith, lt-ltb, le-ltb, bit_and, bit_or}
-use Rattle.std.specs.Prelude.{◌&&◌, ◌||◌, ◌⊎◌, ◌==◌, nat_lt, nat_eq, Option, Some, None, ℤ, pos, negsuc, ◌-ℤ◌}
+use Rattle.std.proofs.Common.{◌≡◌, ◌∙◌, ℕ, ◌+◌, ◌-◌, ◌%◌, ◌^◌, ◌<◌, ◌≤◌, refl, ap, sym, Bool, true, false, cond, not, inl, inr, arith, lt-ltb, le-ltb, bit_and, bit_or}
+use Rattle.std.specs.Prelude.{◌&&◌, ◌||◌, ◌⊎◌, ◌==◌, nat_lt, nat_eq, pos, negsuc, ◌-ℤ◌}
 use Rattle.std.specs.Int.{bit_at, bit_not, w128}
 use Rattle.std.proofs.lemmas.Nat.{and_mask}
 use Rattle.std.proofs.lemmas.Nat.Bits.{bit_at-lt, bit_at_not}
@@ -10,8 +10,7 @@ use Rattle.std.proofs.lemmas.Bool.Decides.{nat_tests}
 use Rattle.verilog_meaning.specs.Expression.{is_nonzero}
 use Rattle.verilog_meaning.specs.Register.{is_set}
 use Rattle.verilog_designs.specs.Dependence.{natural_in}
-use Rattle.verilog_settled.proofs.Bits.{unset_from_bit}
-use Rattle.v_masks.proofs.Bits.{set-none, set-or, set-and, set-without}
+use Rattle.v_masks.proofs.Bits.{set-or, set-and, set-without}
 use Rattle.v_depend.specs.Copying.{at_place}
 use Rattle.v_depend.proofs.Shifts.{far-lowered}
 

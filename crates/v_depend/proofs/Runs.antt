@@ -1,5 +1,5 @@
 -- Statements of blocks and their parts, as the code has them.
-use Rattle.std.proofs.Common.{◌≡◌, ◌∙◌, ℕ, zero, suc, ◌+◌, ◌-◌, ◌<◌, ◌≤◌, refl, ap, sym, subst, Bool, true, false, cond, List, [], ◌∷◌, length, drop}
+use Rattle.std.proofs.Common.{◌≡◌, ◌∙◌, ℕ, zero, suc, ◌-◌, refl, ap, sym, subst, Bool, true, false, cond, List, [], ◌∷◌, drop}
 use Rattle.std.specs.Prelude.{◌&&◌, ◌||◌, ◌↔◌, Option, Some, None, IsTrue}
 use Rattle.std.proofs.lemmas.Bool.{false≢true, and_from, false_from_ne_true, and_parts}
 use Rattle.std.specs.declared.boxed.Box.{Box}
@@ -9,7 +9,7 @@ use Rattle.std.specs.Borrow.{Bor}
 use Rattle.wb_values.specs.Value.{Name}
 use Rattle.verilog_trees.specs.Syntax as pure
 use Rattle.verilog_trees.specs.Syntax.{Statement as PureStatement, empty, blocking, nonblocking, if_then, if_else, case, block, Statements, no_statements, statement, CaseItems, no_items, arm, default_arm}
-use Rattle.verilog_meaning.specs.Expression.{Scope, is_memory}
+use Rattle.verilog_meaning.specs.Expression.{Scope}
 use Rattle.verilog_meaning.specs.Register.{is_bit_of, may_assign, may_assign_in_all, may_assign_in_case}
 use Rattle.verilog_designs.specs.Reads.{BitSet, no_bits, or_in, reads, reads_in_all, items_read, is_full}
 use Rattle.verilog_designs.specs.Dependence.{Bit, is_in, AfterAll}
@@ -21,19 +21,16 @@ use Rattle.v_syntax.specs.declared.tree.CaseKind.{CaseKind as CodeKind}
 use Rattle.v_syntax.specs.declared.tree.Statement.{Statement, Empty, Blocking, Nonblocking, If, Case, Block}
 use Rattle.v_syntax.specs.Tree.{tree_of, target_of, statement_of, expressions_of, arm_before, or_empty, case_kind_of, name_of_option}
 use Rattle.v_statement.specs.Statements.{statement_list, arm_list}
-use Rattle.v_statement.specs.Effects.{item_list, item_statement}
+use Rattle.v_statement.specs.Effects.{item_list}
 use Rattle.v_statement.proofs.Runs.{last_statement, statement_of-If, statement_of-Case, statement_of-Block}
-use Rattle.v_value.specs.Narrow.{IsNarrow, AreNarrow}
+use Rattle.v_value.specs.Narrow.{IsNarrow}
 use Rattle.v_flow.specs.Spans.{existing}
-use Rattle.v_flow.specs.Narrow.{HasNarrowParts, IsNarrowFlow}
-use Rattle.v_flow.specs.Flow.{IsNarrowLabel, AreNarrowItems}
-use Rattle.v_flow.proofs.Flows as flow
-use Rattle.v_paths.specs.Premises.{HasNoMemory, AssignsNoMemory}
+use Rattle.v_paths.specs.Premises.{HasNoMemory}
 use Rattle.v_paths.specs.Cases.{full_at}
 use Rattle.v_depend.specs.Resting.{IsThere, OneIsUnsettled, at_first, RestsAfter}
-use Rattle.v_depend.specs.Running.{HasNarrowTargets, IsFit, AreFit, AreFitArms, AreFitItems, Tells, Adds, AddsArms, label_bits}
+use Rattle.v_depend.specs.Running.{IsFit, AreFit, AreFitArms, AreFitItems, Tells, AddsArms, label_bits}
 use Rattle.v_depend.proofs.Following.{as-before}
-use Rattle.v_depend.proofs.Choices.{case-rests, full-stays, turn-carried, items-turn, items-ended, arm-told, last-told, nothing-told}
+use Rattle.v_depend.proofs.Choices.{case-rests, full-stays, turn-carried}
 
 -- ---- what labels read
 

@@ -1,21 +1,19 @@
 -- What an assignment to a target leaves, from part to part.
-use Rattle.std.proofs.Common.{◌≡◌, ◌∙◌, ℕ, ◌+◌, ◌-◌, ◌<◌, ◌≤◌, refl, ap, sym, subst, Bool, true, false, cond, inl, inr, arith, lt-ltb, ltb-true, ltb-false, le-ltb}
-use Rattle.std.specs.Prelude.{◌&&◌, ◌||◌, ◌⊎◌, ◌↔◌, not, nat_lt, is_some, Option, Some, None, ℤ, pos, negsuc, ◌-ℤ◌, ◌+ℤ◌, int_le, int_lt, IsTrue}
-use Rattle.std.proofs.lemmas.Bool.{false≢true, and_parts, and_from, or_cases, or_left, or_right, or_parts, cases_Bool, not_from_false, false_from_ne_true, cases_lt}
+use Rattle.std.proofs.Common.{◌≡◌, ◌∙◌, ℕ, ◌+◌, ◌-◌, ◌<◌, ◌≤◌, refl, ap, sym, subst, Bool, true, false, cond, inl, inr, arith, lt-ltb, ltb-true}
+use Rattle.std.specs.Prelude.{◌&&◌, ◌||◌, ◌⊎◌, not, nat_lt, Some, pos, ◌-ℤ◌, ◌+ℤ◌, int_le, int_lt, IsTrue}
+use Rattle.std.proofs.lemmas.Bool.{false≢true, and_parts, and_from, or_cases, or_left, or_right, cases_Bool, not_from_false, false_from_ne_true}
 use Rattle.std.proofs.lemmas.Bool.Decides.{nat_tests}
 use Rattle.std.proofs.lemmas.Int.{ints}
 use Rattle.std.proofs.lemmas.Slice.Eq.{bytes_eq-Decides}
 use Rattle.wb_values.specs.Value.{Name, same_name}
-use Rattle.verilog_trees.specs.Syntax.{Expression, Select, Selects, whole, one, two, Target, place, joined, Targets, no_targets, target}
-use Rattle.verilog_meaning.specs.Expression.{Object, Scope, no_values, object_width, is_memory, Bits, selects_width, select_index, select_bits, sign_of}
+use Rattle.verilog_trees.specs.Syntax.{Select, Selects, whole, one, two, Target, place, joined, Targets, no_targets, target}
+use Rattle.verilog_meaning.specs.Expression.{Scope, no_values, object_width, is_memory, selects_width, select_index, select_bits}
 use Rattle.verilog_meaning.specs.Statement.{variable_cell, Place, all_bits, indexed_cell, named_place, target_width, targets_width}
 use Rattle.verilog_meaning.specs.Register.{select_is_constant, selects_are_constant, is_within, may_mean, may_mean_bit, may_mean_word, may_reach, may_reach_one, word_count, is_bit_of}
-use Rattle.verilog_designs.specs.Reads.{BitSet, reads, surely_reaches, one_surely_reaches}
-use Rattle.verilog_designs.specs.Dependence.{Bit, is_in, is_plain, copied, natural_in, is_same_cell, part_takes, takes, one_takes, index_reads, one_index_reads, IsGivenBy, copied_to, computed, AfterAssignment, kept, given, indexed}
+use Rattle.verilog_designs.specs.Reads.{surely_reaches}
+use Rattle.verilog_designs.specs.Dependence.{Bit, is_in, natural_in, is_same_cell, takes, one_takes}
 use Rattle.verilog_settled.proofs.Bits.{offset, is_offset, offset_below}
-use Rattle.verilog_settled.proofs.Assigned.{takes_reach}
-use Rattle.v_depend.specs.Resting.{IsThere, OneIsUnsettled, RestsAt, copies, computes, at_first, RestsAfterAssignment}
-use Rattle.v_depend.specs.Left.{IsLeft, stays, takes_place, by_index}
+use Rattle.v_depend.specs.Resting.{IsThere}
 use Rattle.v_depend.proofs.Following.{sure-reach}
 
 -- ---- the place of a part with constant selects

@@ -1,14 +1,14 @@
 -- The bits that are read or copied are bits of names of the module.
-use Rattle.std.proofs.Common.{◌≡◌, ◌∙◌, refl, sym, subst, Bool, true, false, cond}
+use Rattle.std.proofs.Common.{◌≡◌, refl, subst, Bool, true, false, cond}
 use Rattle.std.specs.Prelude.{ℕ, ◌&&◌, ◌||◌, ◌-◌, ◌%◌, nat_lt, is_none, Option, Some, None, IsTrue}
 use Rattle.std.proofs.lemmas.Bool.{false≢true, and_parts}
 use Rattle.std.proofs.lemmas.Slice.Eq.{bytes_eq-Decides}
 use Rattle.wb_values.specs.Value.{Name, same_name}
 use Rattle.wb_values.specs.Choice.{some_if}
 use Rattle.verilog_trees.specs.Syntax.{Expression, number, name, concatenation, replication, as_signed, as_unsigned, unary, reduction, binary, shift, power, comparison, logical, conditional, Expressions, no_expressions, expression, Select, index, part, part_up, part_down, Selects, whole, one, two, Target, place, joined, Targets, no_targets, target, CaseItems, no_items, arm, default_arm}
-use Rattle.verilog_meaning.specs.Expression.{Object, Scope, sign_of, width_of, widths_of, selects_width}
+use Rattle.verilog_meaning.specs.Expression.{Scope, sign_of, width_of, widths_of, selects_width}
 use Rattle.verilog_meaning.specs.Register.{is_bit_of, may_reach}
-use Rattle.verilog_designs.specs.Reads.{BitSet, or_in, name_reads, reads, reads_in_all, select_reads, selects_read, items_read, surely_reaches}
+use Rattle.verilog_designs.specs.Reads.{or_in, name_reads, reads, reads_in_all, select_reads, selects_read, items_read}
 use Rattle.verilog_designs.specs.Dependence.{Bit, is_in, bit_in, bit_at, widened_bit, copied, copied_in, index_reads, one_index_reads, IsGivenBy, copied_to, computed}
 use Rattle.v_depend.specs.Resting.{IsThere}
 

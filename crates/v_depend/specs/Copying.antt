@@ -8,7 +8,7 @@ use Rattle.verilog_meaning.specs.Register.{is_set}
 use Rattle.verilog_designs.specs.Reads.{BitSet}
 use Rattle.verilog_designs.specs.Dependence.{Bit, is_in, is_plain, copied, copied_in}
 use Rattle.v_syntax.specs.declared.tree.Expression.{Expression}
-use Rattle.v_syntax.specs.Tree.{tree_of, expressions_of}
+use Rattle.v_syntax.specs.Tree.{tree_of}
 
 -- a bit that is there is in the set
 abbrev pub holds : BitSet → Option Bit → Bool

@@ -1,13 +1,13 @@
 -- What tables tell of the bits that a statement of a combinational block leaves resting.
-use Rattle.std.specs.Prelude.{◌≡◌, ◌↔◌, ◌⊎◌, ◌≤◌, ℕ, ◌&&◌, ◌||◌, Bool, List, [], ◌∷◌, Option, IsTrue}
+use Rattle.std.specs.Prelude.{◌≡◌, ◌↔◌, ◌⊎◌, ◌≤◌, ℕ, ◌&&◌, ◌||◌, List, [], ◌∷◌, IsTrue}
 use Rattle.std.specs.Borrow.{Bor}
 use Rattle.wb_values.specs.Value.{Name, same_name}
-use Rattle.verilog_trees.specs.Syntax.{Expression, Statement, empty, blocking, nonblocking, if_then, if_else, case, block, Statements, no_statements, statement, CaseItems, no_items, arm, default_arm}
+use Rattle.verilog_trees.specs.Syntax.{Statement, empty, blocking, nonblocking, if_then, if_else, case, block, Statements, no_statements, statement, CaseItems, no_items, arm, default_arm}
 use Rattle.verilog_meaning.specs.Expression.{Scope}
 use Rattle.verilog_meaning.specs.Statement.{target_width}
 use Rattle.verilog_meaning.specs.Register.{may_assign, may_assign_in_case}
 use Rattle.verilog_designs.specs.Reads.{BitSet, no_bits, or_in, reads_in_all}
-use Rattle.verilog_designs.specs.Dependence.{Bit, is_in, After, AfterAll, AfterArms}
+use Rattle.verilog_designs.specs.Dependence.{Bit, is_in, AfterArms}
 use Rattle.v_syntax.specs.declared.tree.Arm.{Arm}
 use Rattle.v_syntax.specs.declared.tree.CaseItem.{CaseItem, Values, Default}
 use Rattle.v_syntax.specs.declared.tree.Statement.{Statement as CodeStatement}
@@ -15,8 +15,7 @@ use Rattle.v_syntax.specs.Tree.{tree_of, statement_of, expressions_of}
 use Rattle.v_statement.specs.Effects.{item_statement}
 use Rattle.v_value.specs.Narrow.{IsNarrow}
 use Rattle.v_flow.specs.Narrow.{IsNarrowFlow}
-use Rattle.v_flow.specs.Spans.{existing}
-use Rattle.v_paths.specs.Premises.{HasNoMemory, AssignsNoMemory}
+use Rattle.v_paths.specs.Premises.{AssignsNoMemory}
 use Rattle.v_depend.specs.Resting.{IsThere, at_first, RestsAfter}
 
 -- ---- what statements are asked for

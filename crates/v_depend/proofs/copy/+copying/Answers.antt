@@ -1,4 +1,4 @@
-use Rattle.std.proofs.Common.{◌∙◌, ◌+◌, ◌<◌, ◌≤◌, ap, sym, subst, rules, arith, drop}
+use Rattle.std.proofs.Common.{◌+◌, ◌≤◌, ap, sym, subst, rules, arith, drop}
 use Rattle.std.proofs.lemmas.List.{at_drop_all}
 use Rattle.v_value.specs.Scope.{scope_at}
 use Rattle.v_value.specs.Narrow.{AreNarrow}

@@ -1,4 +1,3 @@
-use Rattle.std.proofs.Common.{◌∙◌, ◌%◌, ap}
 use Rattle.v_depend.proofs.Copied.{copied-turn}
 use Rattle.v_depend.proofs.copy.repeated.Goals as goal
 

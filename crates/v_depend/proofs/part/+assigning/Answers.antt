@@ -1,5 +1,4 @@
-use Rattle.std.proofs.Common.{◌∙◌, rules, arith}
-use Rattle.verilog_trees.specs.Syntax.{joined}
+use Rattle.std.proofs.Common.{rules, arith}
 use Rattle.v_value.specs.Scope.{scope_at}
 use Rattle.v_syntax.specs.Tree.{target_of}
 use Rattle.v_syntax.specs.declared.tree.Target.{the_lemmas}

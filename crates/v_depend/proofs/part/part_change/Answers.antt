@@ -1,4 +1,4 @@
-use Rattle.std.proofs.Common.{refl, rules, ◌∙◌, ap, sym}
+use Rattle.std.proofs.Common.{refl, rules}
 use Rattle.std.specs.Int.{bit_not, w128}
 use Rattle.v_syntax.specs.Tree.{target_of}
 use Rattle.v_value.specs.Scope.{scope_at}

@@ -1,19 +1,18 @@
-use Rattle.std.proofs.Common.{◌≡◌, ◌∷◌, ◌∙◌, ◌+◌, ◌-◌, ap, sym, subst, refl, rules, arith, drop}
-use Rattle.std.specs.Prelude.{Option, Some, None}
+use Rattle.std.proofs.Common.{◌≡◌, ◌∷◌, ◌∙◌, ◌+◌, sym, subst, rules, arith, drop}
+use Rattle.std.specs.Prelude.{Some, None}
 use Rattle.std.proofs.lemmas.List.{at_drop_all}
-use Rattle.verilog_trees.specs.Syntax as pure
 use Rattle.verilog_meaning.specs.Register.{may_assign}
-use Rattle.verilog_designs.specs.Reads.{BitSet, no_bits, or_in}
-use Rattle.v_syntax.specs.Tree.{tree_of, target_of, statement_of, or_empty}
+use Rattle.verilog_designs.specs.Reads.{or_in}
+use Rattle.v_syntax.specs.Tree.{tree_of, statement_of}
 use Rattle.v_syntax.specs.declared.tree.Statement.{the_lemmas}
-use Rattle.v_statement.specs.Statements.{statement_list, arm_list}
-use Rattle.v_statement.specs.Effects.{item_list, item_statement}
-use Rattle.v_statement.proofs.Runs.{rest_is, last_statement}
+use Rattle.v_statement.specs.Statements.{arm_list}
+use Rattle.v_statement.specs.Effects.{item_list}
+use Rattle.v_statement.proofs.Runs.{rest_is}
 use Rattle.v_value.specs.Scope.{scope_at}
 use Rattle.v_flow.specs.Spans.{existing}
 use Rattle.v_flow.proofs.Flows as flow
 use Rattle.v_masks.specs.Masks.{masked, spread}
-use Rattle.v_depend.specs.Running.{IsFit, AreFit, AreFitItems, Tells, Adds, AddsArms}
+use Rattle.v_depend.specs.Running.{IsFit, AreFit, AreFitItems, Adds}
 use Rattle.v_depend.proofs.Uniting.{none-masked}
 use Rattle.v_depend.proofs.Choices as choice
 use Rattle.v_depend.proofs.Walk.{drop-before}

@@ -1,4 +1,4 @@
-use Rattle.std.proofs.Common.{◌≡◌, drop}
+use Rattle.std.proofs.Common.{drop}
 use Rattle.std.specs.Prelude.{◌↔◌, Option}
 use Rattle.verilog_trees.specs.Syntax as pure
 use Rattle.verilog_designs.specs.Reads.{BitSet}
