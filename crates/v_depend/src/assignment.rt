@@ -1,6 +1,6 @@
 //! What of a target rests on bits that are not settled yet after an assignment.
 
-ghost use Rattle.std.specs.Prelude.{◌≡◌, ◌↔◌, ◌≤◌, ◌<◌, ℕ, cond, true, IsTrue, IfOk, OnOk};
+ghost use Rattle.std.specs.Prelude.{◌≡◌, ◌↔◌, ◌≤◌, ◌<◌, ℕ, IsTrue, IfOk, OnOk};
 ghost use Rattle.verilog_meaning.specs.Statement.{target_width};
 ghost use Rattle.verilog_meaning.specs.Register.{is_set, may_reach};
 ghost use Rattle.verilog_designs.specs.Dependence.{Bit, is_in};

@@ -1,13 +1,13 @@
 //! What an assignment of a value to a target does to a table of bits, part by part.
 
-ghost use Rattle.std.specs.Prelude.{◌≡◌, ℕ, ◌+◌, ◌-◌, ◌<◌, ◌≤◌, ◌%◌, ◌^◌, ◌&&◌, ◌||◌, not, nat_lt, zero, pos, ◌-ℤ◌, IsTrue, IfOk, OnOk};
+ghost use Rattle.std.specs.Prelude.{◌≡◌, ℕ, ◌+◌, ◌-◌, ◌<◌, ◌≤◌, ◌%◌, ◌^◌, ◌&&◌, ◌||◌, not, nat_lt, zero, pos, ◌-ℤ◌, IfOk, OnOk};
 ghost use Rattle.verilog_trees.specs.Syntax.{name as named, joined};
-ghost use Rattle.verilog_meaning.specs.Expression.{object_width, is_nonzero, selects_width};
+ghost use Rattle.verilog_meaning.specs.Expression.{object_width, is_nonzero};
 ghost use Rattle.verilog_meaning.specs.Statement.{all_bits, target_width, targets_width};
 ghost use Rattle.verilog_meaning.specs.Register.{is_set, may_reach};
 ghost use Rattle.verilog_designs.specs.Reads.{BitSet, surely_reaches};
 ghost use Rattle.verilog_designs.specs.Dependence.{natural_in};
-ghost use Rattle.v_syntax.specs.Tree.{select_of, selects_of, target_of};
+ghost use Rattle.v_syntax.specs.Tree.{selects_of, target_of};
 ghost use Rattle.v_value.specs.Scope.{object_of, scope_at};
 ghost use Rattle.v_value.specs.Index.{span_of};
 ghost use Rattle.v_value.specs.Narrow.{IsNarrow, HasNarrowObjects};
@@ -27,7 +27,7 @@ use std::collections::BTreeMap;
 use v_flow::{add_reached, add_surely_reached};
 use v_masks::mask_under;
 use v_paths::mask::masks_of;
-use v_syntax::tree::{Select, Selects, Target};
+use v_syntax::tree::{Selects, Target};
 use v_value::scope::{Object, Scope};
 use v_value::select::{Integer, Span};
 use v_value::taken::select_bits;

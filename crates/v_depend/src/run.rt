@@ -3,7 +3,7 @@
 ghost use Rattle.std.specs.Prelude.{◌≡◌, ◌↔◌, cond, Option, IsTrue, IfOk, OnOk};
 ghost use Rattle.verilog_trees.specs.Syntax as pure;
 ghost use Rattle.verilog_meaning.specs.Register.{may_assign};
-ghost use Rattle.verilog_designs.specs.Reads.{BitSet, no_bits, or_in, reads, reads_in_all, items_read};
+ghost use Rattle.verilog_designs.specs.Reads.{no_bits, or_in, reads, reads_in_all, items_read};
 ghost use Rattle.verilog_designs.specs.Dependence.{Bit, is_in, AfterAll};
 ghost use Rattle.v_syntax.specs.Tree.{tree_of, statement_of, expressions_of, arm_before, or_empty};
 ghost use Rattle.v_statement.specs.Statements.{statement_list, arm_list};
