@@ -1,0 +1,15 @@
+mod Within
+mod Following
+mod Targets
+mod Lefts
+mod Shifts
+mod Copied
+mod Forms
+mod Meeting
+mod Changes
+mod Placing
+mod Parting
+mod Walk
+mod Uniting
+mod Choices
+mod Runs

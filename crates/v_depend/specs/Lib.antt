@@ -1,0 +1,5 @@
+pub mod Resting
+pub mod Left
+pub mod Copying
+pub mod Tables
+pub mod Running
