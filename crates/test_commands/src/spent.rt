@@ -27,7 +27,7 @@ enum Open {
 }
 
 /// What is not false of a clause, where these literals are.
-fn open(clause: &[Lit], false_ones: &[Lit]) -> Open {
+fn left_open(clause: &[Lit], false_ones: &[Lit]) -> Open {
     let mut found = Open::Nothing;
     for literal in clause {
         if false_ones.contains(literal) {
@@ -53,7 +53,7 @@ fn follows(alloc: Global, formula: &Cnf, log: &Log, step: usize, lemma: &Lemma) 
         let Some(clause) = earlier(formula, log, step, *hint) else {
             return false;
         };
-        match open(clause, &false_ones) {
+        match left_open(clause, &false_ones) {
             Open::Nothing => return hints_left == 0,
             Open::One(last) => {
                 let negated = last.negated();
@@ -80,7 +80,7 @@ fn is_open_after(
         let Some(clause) = earlier(formula, log, step, number as u64) else {
             return false;
         };
-        match open(clause, false_ones) {
+        match left_open(clause, false_ones) {
             Open::Nothing => return false,
             Open::One(last) => {
                 let negated = last.negated();
