@@ -67,16 +67,22 @@ fn changed_once(alloc: Global, text: &str, old: &str, new: &str) -> Sheet {
     whole
 }
 
+/// What the line before this place says is changed.
+fn old_before<'l>(lines: &[&'l str], place: usize) -> &'l str {
+    match lines.get(place.saturating_sub(1)) {
+        Some(line) => line.strip_prefix("-").unwrap_or(""),
+        None => "",
+    }
+}
+
 /// The text with the changes of lines made, one after the other, up to the first line after the head that is none.
 fn changed(alloc: Global, text: Sheet, lines: &[&str]) -> Sheet {
     let mut whole = text;
-    let mut old = "";
-    for line in lines {
-        if let Some(text) = line.strip_prefix("-") {
-            old = text;
-        } else if let Some(new) = line.strip_prefix("+") {
-            whole = changed_once(alloc, whole.text(), old, new);
-        } else if !line.starts_with("in ") {
+    for place in 0..lines.len() {
+        let line = lines[place];
+        if let Some(new) = line.strip_prefix("+") {
+            whole = changed_once(alloc, whole.text(), old_before(lines, place), new);
+        } else if !line.starts_with("-") && !line.starts_with("in ") {
             return whole;
         }
     }

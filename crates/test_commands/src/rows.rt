@@ -52,6 +52,22 @@ pub struct Row<'l> {
     pub spent: &'l str,
 }
 
+/// What is known before the first line.
+fn before_all<'l>(lines: &'l [&'l str]) -> Row<'l> {
+    Row {
+        before: &lines[..0],
+        words: "",
+        is_wordless: true,
+        changed: "",
+        changes: &lines[..0],
+        expected: &lines[..0],
+        failing: "",
+        kept: "",
+        asked: "",
+        spent: "",
+    }
+}
+
 /// What kind of line one is.
 #[derive(Clone, Copy)]
 enum Line {
@@ -143,18 +159,7 @@ pub fn told_of_rows(alloc: Global, text: &str) -> Result<String, AllocError> {
 fn add_told<'l>(alloc: Global, lines: &'l [&'l str], told: &mut Sheet) {
     let mut rows: u128 = 0;
     let mut differ: u128 = 0;
-    let mut row = Row {
-        before: &[],
-        words: "",
-        is_wordless: true,
-        changed: "",
-        changes: &[],
-        expected: &[],
-        failing: "",
-        kept: "",
-        asked: "",
-        spent: "",
-    };
+    let mut row = before_all(lines);
     for place in 0..lines.len() {
         let line = lines[place];
         match kind_of(line) {

@@ -31,17 +31,15 @@ pub fn add_joined(tokens: &[Token<'_>], mark: &str, out: &mut Sheet) {
 
 /// Adds the mark that a text of one token is.
 pub fn add_mark(tokens: &[Token<'_>], alloc: Global, out: &mut Sheet) {
-    match tokens {
-        [
-            Token {
-                kind: TokenKind::Mark(mark),
-                ..
-            },
-        ] => match format!(in alloc; "{mark:?}") {
-            Ok(text) => out.add(&text),
-            Err(_) => out.fail(),
-        },
-        _ => out.add("is not one mark"),
+    let [token] = tokens else {
+        return out.add("is not one token");
+    };
+    let TokenKind::Mark(mark) = token.kind else {
+        return out.add("is no mark");
+    };
+    match format!(in alloc; "{mark:?}") {
+        Ok(text) => out.add(&text),
+        Err(_) => out.fail(),
     }
 }
 
