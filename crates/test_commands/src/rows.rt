@@ -124,6 +124,11 @@ fn with_demand<'l>(row: Row<'l>, line: &'l str, lines: &'l [&'l str]) -> Row<'l>
     }
 }
 
+/// What is known where a row stands behind these lines.
+fn behind<'l>(row: Row<'l>, before: &'l [&'l str]) -> Row<'l> {
+    Row { before, ..row }
+}
+
 /// What is known after a row.
 fn after_row(row: Row<'_>) -> Row<'_> {
     Row {
@@ -166,9 +171,8 @@ fn add_told<'l>(alloc: Global, lines: &'l [&'l str], told: &mut Sheet) {
             Line::Skipped => {}
             Line::Demand => row = with_demand(row, line, &lines[place..]),
             Line::Row => {
-                row.before = &lines[..place];
                 rows = rows.saturating_add(1);
-                if !is_right(alloc, row, line, told) {
+                if !is_right(alloc, behind(row, &lines[..place]), line, told) {
                     differ = differ.saturating_add(1);
                 }
                 row = after_row(row);
