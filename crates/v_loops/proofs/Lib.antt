@@ -1,0 +1,4 @@
+mod Steps
+mod Stages
+mod Covered
+mod OneModule
