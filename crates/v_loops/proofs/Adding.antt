@@ -1,13 +1,13 @@
 -- Bits that are added, driver by driver.
-use Rattle.std.proofs.Common.{◌≡◌, ◌∙◌, ℕ, suc, ◌+◌, ◌<◌, refl, ap, sym, subst, Bool, true, false, cond, List, [], ◌∷◌, ◌++◌, length, drop, get_or, ◌⊎◌, inl, inr, Option, Some, None}
-use Rattle.std.specs.Prelude.{IsTrue, ◌↔◌, ◌&&◌, ◌||◌, not, map}
+use Rattle.std.proofs.Common.{◌≡◌, ◌∙◌, ℕ, suc, ◌+◌, ◌<◌, refl, ap, sym, subst, arith, Bool, true, false, cond, List, [], ◌∷◌, ◌++◌, length, drop, get_or, ◌⊎◌, inl, inr}
+use Rattle.std.specs.Prelude.{IsTrue, ◌↔◌, ◌&&◌, not}
 use Rattle.std.proofs.lemmas.Bool.{false≢true, and_parts, and_from, or_cases, or_left, or_right}
-use Rattle.std.proofs.lemmas.List.{drop_more, append-nil, append_assoc}
+use Rattle.std.proofs.lemmas.List.{drop_more, append-nil}
 use Rattle.wb_values.specs.Value.{Name}
 use Rattle.verilog_trees.specs.Syntax as pure
 use Rattle.verilog_meaning.specs.Expression.{Scope}
-use Rattle.verilog_meaning.specs.Register.{is_bit_of, may_assign, is_clocked, combinational_blocks}
-use Rattle.verilog_meaning.specs.Settled.{assignments, wire_assignment, wire_assignments}
+use Rattle.verilog_meaning.specs.Register.{is_bit_of, may_assign, combinational_blocks}
+use Rattle.verilog_meaning.specs.Settled.{assignments}
 use Rattle.verilog_designs.specs.Reads.{BitSet, no_bits, or_in, and_in, but_not_in}
 use Rattle.verilog_designs.specs.Dependence.{Bit, is_in}
 use Rattle.v_flow.specs.declared.span.Span.{Span}
@@ -191,8 +191,12 @@ pub all-there : (p q m left start : BitSet) (r : Bool) → m ≡ spread p → st
     → not r ≡ true → (n : Name) (b : ℕ) → q n 0 b ≡ true → p n 0 b ≡ true
 all-there p q m left start r e none is f h n b k =
     left-out (q n 0 b) (p n 0 b) k
-    (λ g. both-so r h (f.1 (n, b, subst (λ (z : BitSet). z n 0 b ≡ true) (sym (is ∙ ap (λ (z : BitSet). or_in z (but_not_in q m)) none))
-    (subst (λ (z : BitSet). (q n 0 b && not (z n 0 b)) ≡ true) (sym e) g))))
+    (λ g. both-so r h (f.1 (
+      n,
+      b,
+      subst (λ (z : BitSet). z n 0 b ≡ true) (sym (is ∙ ap (λ (z : BitSet). or_in z (but_not_in q m)) none))
+          (subst (λ (z : BitSet). (q n 0 b && not (z n 0 b)) ≡ true) (sym e) g),
+    )))
   where
     both-so : (t : Bool) → not t ≡ true → t ≡ true → ⊥
     both-so true a c = false≢true a
@@ -229,3 +233,16 @@ module _ (s : Scope) (items : List pure.Item) where
   pub ended-turns : (i n : ℕ) (before now : BitSet) → i ≡ n → ((k : ℕ) → IsStage s items k before → IsStage s items (i + k) now)
       → (k : ℕ) → IsStage s items k before → IsStage s items (n + k) now
   ended-turns i n before now e f k h = subst (λ (j : ℕ). IsStage s items (j + k) now) e (f k h)
+
+  pub start-turns : (before : BitSet) (k : ℕ) → IsStage s items k before → IsStage s items (0 + k) before
+  start-turns before k h = let e : k ≡ 0 + k = omega arith in subst (λ (j : ℕ). IsStage s items j before) e h
+
+  -- over the lists that calls see
+  pub next-of : (xs ys : List Span) (after : BitSet) → xs ≡ ys → ((k : ℕ) → IsStage s items k (bits_in xs) → IsStage s items (suc k) after)
+      → (k : ℕ) → IsStage s items k (bits_in ys) → IsStage s items (suc k) after
+  next-of xs ys after e f = subst (λ (zs : List Span). (k : ℕ) → IsStage s items k (bits_in zs) → IsStage s items (suc k) after) e f
+
+pub all-of : (xs ys others more : List Span) → xs ≡ ys → others ≡ more → ((n : Name) (b : ℕ) → bits_in others n 0 b ≡ true → bits_in xs n 0 b ≡ true)
+    → (n : Name) (b : ℕ) → bits_in more n 0 b ≡ true → bits_in ys n 0 b ≡ true
+all-of xs ys others more e g f n b h =
+    subst (λ (zs : List Span). bits_in zs n 0 b ≡ true) e (f n b (subst (λ (zs : List Span). bits_in zs n 0 b ≡ true) (sym g) h))

@@ -1,5 +1,5 @@
 -- What is left at the end tells whether there is a loop.
-use Rattle.std.proofs.Common.{◌≡◌, ◌∙◌, ℕ, suc, ◌+◌, ◌*◌, ◌≤◌, refl, sym, subst, arith, Bool, true, false, List, length}
+use Rattle.std.proofs.Common.{◌≡◌, ℕ, ◌+◌, ◌*◌, ◌≤◌, sym, subst, arith, Bool, true, false, List, length}
 use Rattle.std.specs.Prelude.{IsTrue, ◌↔◌}
 use Rattle.std.proofs.lemmas.Bool.{false≢true}
 use Rattle.verilog_trees.specs.Syntax.{Item}

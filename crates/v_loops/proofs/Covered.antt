@@ -1,18 +1,18 @@
 -- The bits of spans as a list.
-use Rattle.std.proofs.Common.{◌≡◌, ◌∙◌, ℕ, zero, suc, ◌+◌, ◌*◌, ◌<◌, ◌≤◌, refl, ap, sym, subst, arith, Bool, true, false, List, [], ◌∷◌, ◌++◌, length, ◌⊎◌, inl, inr}
-use Rattle.std.specs.Prelude.{IsTrue, ◌&&◌, ◌||◌, nat_lt}
+use Rattle.std.proofs.Common.{◌≡◌, ℕ, zero, suc, ◌+◌, ◌*◌, ◌<◌, ◌≤◌, refl, ap, sym, subst, arith, true, false, List, [], ◌∷◌, ◌++◌, length, ◌⊎◌, inl, inr}
+use Rattle.std.specs.Prelude.{nat_lt}
 use Rattle.std.proofs.lemmas.Bool.{false≢true, and_parts, or_cases, cases_Bool}
 use Rattle.std.proofs.lemmas.Bool.Decides.{nat_tests}
 use Rattle.std.proofs.lemmas.Slice.Eq.{bytes_eq-Decides}
 use Rattle.wb_values.specs.Value.{Name, same_name}
 use Rattle.verilog_trees.specs.Syntax.{Item}
 use Rattle.verilog_meaning.specs.Expression.{Scope, object_width}
-use Rattle.verilog_meaning.specs.Register.{is_set, is_bit_of, words_between, word_count}
-use Rattle.verilog_designs.specs.Dependence.{Bit, is_in}
+use Rattle.verilog_meaning.specs.Register.{word_count}
+use Rattle.verilog_designs.specs.Dependence.{Bit}
 use Rattle.verilog_unique.proofs.Descent.{IsAmong, among_left, among_right}
 use Rattle.v_value.specs.Narrow.{HasNarrowObjects}
 use Rattle.v_flow.specs.declared.span.Span.{Span}
-use Rattle.v_flow.specs.Spans.{is_between, bits_of, bits_in}
+use Rattle.v_flow.specs.Spans.{bits_of, bits_in}
 use Rattle.v_paths.specs.Premises.{HasNoMemory}
 use Rattle.v_loops.specs.Turns.{Stage, IsStage}
 use Rattle.v_loops.proofs.Steps.{stage-there, stage-driven, in-first}

@@ -1,6 +1,6 @@
 -- What the answer means for a design that is one module.
-use Rattle.std.proofs.Common.{◌≡◌, ◌∙◌, refl, ap, sym, subst, arith, Bool, true, false, List, [], ◌∷◌, Contains, Option, Some, None, inl, inr}
-use Rattle.std.specs.Prelude.{◌||◌, ◌↔◌, IsTrue}
+use Rattle.std.proofs.Common.{◌≡◌, ◌∙◌, ap, sym, subst, arith, false, List, [], ◌∷◌, Contains, Some}
+use Rattle.std.specs.Prelude.{◌↔◌, IsTrue}
 use Rattle.std.specs.List.{list_any}
 use Rattle.verilog_trees.specs.Syntax.{Module}
 use Rattle.verilog_meaning.specs.Expression.{Scope}
@@ -52,7 +52,7 @@ module _ (d : Design) (m : Module) (clear : has_parts d.source ≡ false) (own :
       record { from = u; to = y; from_is = moved p at u; to_is = moved p at y; depends = DependsIn.by_assignment a u y r.0 r.1 r.2 }
   step-inside _ _ (Depends.by_block p x u y at c h k g) =
       let r = to-top (λ (q : Placed). Contains (combinational_blocks q.of_module.items) x × IsBitIn q u × IsTrue (may_assign (placed_scope q) x u.of_name u.word u.place)
-          × After (placed_scope q) at_start x u y) p at (c, h, k, g) in
+      × After (placed_scope q) at_start x u y) p at (c, h, k, g) in
       record { from = u; to = y; from_is = moved p at u; to_is = moved p at y; depends = DependsIn.by_block x u y r.0 r.1 r.2 r.3 }
   step-inside _ _ (Depends.by_input p below c n u y at stands to h g) =
       no-connection (IsStep (bit_of below u) (bit_of p y)) c (to-top (λ (q : Placed). Contains (port_connections q.of_module.items) c) p at stands)

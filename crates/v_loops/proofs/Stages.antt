@@ -1,10 +1,10 @@
 -- Stages that do not end, and bits that depend on themselves.
-use Rattle.std.proofs.Common.{◌≡◌, ◌∙◌, ℕ, zero, suc, ◌+◌, ◌<◌, ◌≤◌, refl, sym, subst, arith, List, [], ◌∷◌, length, ◌⊎◌, inl, inr}
+use Rattle.std.proofs.Common.{◌≡◌, ℕ, zero, suc, ◌≤◌, refl, sym, subst, arith, List, [], ◌∷◌, length, ◌⊎◌, inl, inr}
 use Rattle.std.specs.Prelude.{IsTrue, ◌↔◌}
 use Rattle.verilog_trees.specs.Syntax.{Item}
 use Rattle.verilog_meaning.specs.Expression.{Scope}
 use Rattle.verilog_designs.specs.Reads.{BitSet}
-use Rattle.verilog_designs.specs.Dependence.{Bit, is_in}
+use Rattle.verilog_designs.specs.Dependence.{Bit}
 use Rattle.verilog_unique.proofs.Descent.{IsAmong, without, length_without, split}
 use Rattle.v_paths.specs.Premises.{HasNoMemory}
 use Rattle.v_loops.specs.OneModule.{DependsIn, DependsFarIn, HasLoopIn}

@@ -32,7 +32,15 @@ fn add_assignments<'s>(
     ensures { OnOk result (Adds all (bits_in unsettled.now) (scope_at scope.now) (as_statements (links_of assignments.now)) (bits_in found.old.items) (bits_in found.new.items)) }
 {
     for assignment in assignments {
-        add_link(alloc, &assignment.target, &assignment.value, scope, all, unsettled, found)?;
+        add_link(
+            alloc,
+            &assignment.target,
+            &assignment.value,
+            scope,
+            all,
+            unsettled,
+            found,
+        )?;
     }
     Ok(())
 }

@@ -15,11 +15,7 @@ use v_value::scope::Scope;
 
 /// Whether a bit of a module depends on itself through its continuous assignments and combinational blocks. The module has no parameters and
 /// no instances. Answers `AllocError` where memory runs out.
-pub fn has_loop(
-    alloc: Global,
-    items: &[Item<'_>],
-    scope: &Scope<'_>,
-) -> Result<bool, AllocError>
+pub fn has_loop(alloc: Global, items: &[Item<'_>], scope: &Scope<'_>) -> Result<bool, AllocError>
     requires objects { HasNarrowObjects (scope_at scope.now) }
     requires fit { IsRunnable (scope_at scope.now) (map item_of items.now) }
     ensures { IfOk result (λ r. IsTrue r ↔ HasLoopIn (scope_at scope.now) (map item_of items.now)) }

@@ -88,7 +88,7 @@ pub(crate) fn turns<'s>(
         → IsLater lasts (scope_at scope.now) (map item_of items.now) 128 k (bits_in unsettled.new.items)) }
     ensures variables { OnOk result (HasNoMemory (scope_at scope.now) (bits_in unsettled.new.items)) }
 {
-    for _ in 0..128 {
+    for _ in 0..128_usize {
         let rests = next(alloc, items, scope, unsettled)?;
         let lasts = has_all(alloc, &rests, unsettled)?;
         *unsettled = rests;

@@ -4,7 +4,7 @@ use Rattle.verilog_meaning.specs.Register.{combinational_blocks}
 use Rattle.v_syntax.specs.Source.{item_of}
 use Rattle.v_value.specs.Scope.{scope_at}
 use Rattle.v_flow.specs.Spans.{bits_in}
-use Rattle.v_loops.specs.Turns.{as_statements, AreFitToRun}
+use Rattle.v_loops.specs.Turns.{AreFitToRun}
 use Rattle.v_loops.proofs.Adding.{IsLeftToAdd}
 use Rattle.v_loops.proofs.block.add_blocks.Given as goal
 

@@ -1,4 +1,4 @@
-use Rattle.std.proofs.Common.{◌∙◌, ◌+◌, [], ◌∷◌, drop, ap, arith}
+use Rattle.std.proofs.Common.{◌+◌, [], ◌∷◌, drop, ap, arith}
 use Rattle.std.proofs.lemmas.List.{at_drop_all}
 use Rattle.verilog_trees.specs.Syntax.{blocking}
 use Rattle.v_syntax.specs.Tree.{tree_of, target_of}
@@ -7,7 +7,7 @@ use Rattle.v_value.specs.Scope.{scope_at}
 use Rattle.v_statement.proofs.Runs.{rest_is}
 use Rattle.v_flow.specs.Spans.{bits_in}
 use Rattle.v_loops.specs.Turns.{as_statements}
-use Rattle.v_loops.proofs.Adding.{adds-turn, adds-end, fit-turn, statements-front, statements-both}
+use Rattle.v_loops.proofs.Adding.{adds-turn, adds-end, fit-turn}
 use Rattle.v_loops.proofs.link.add_assignments.Goals as goal
 
 pub add_link-requires-clause-fit : goal.add_link-requires-clause-fit

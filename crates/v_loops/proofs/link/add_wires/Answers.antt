@@ -7,7 +7,7 @@ use Rattle.v_value.specs.Scope.{scope_at}
 use Rattle.v_statement.proofs.Runs.{rest_is}
 use Rattle.v_flow.specs.Spans.{bits_in}
 use Rattle.v_loops.specs.Turns.{as_statements}
-use Rattle.v_loops.proofs.Adding.{adds-turn, adds-end, fit-turn, statements-front, statements-both}
+use Rattle.v_loops.proofs.Adding.{adds-turn, adds-end, fit-turn, statements-front}
 use Rattle.v_loops.proofs.link.add_wires.Goals as goal
 
 pub add_wire-requires-clause-fit : goal.add_wire-requires-clause-fit

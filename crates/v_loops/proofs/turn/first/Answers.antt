@@ -1,9 +1,8 @@
-use Rattle.std.proofs.Common.{subst, sym, true}
+use Rattle.std.proofs.Common.{true}
 use Rattle.std.specs.Prelude.{map}
 use Rattle.v_syntax.specs.Source.{item_of}
 use Rattle.v_value.specs.Scope.{scope_at}
 use Rattle.v_flow.specs.Spans.{bits_in}
-use Rattle.v_paths.specs.Premises.{HasNoMemory}
 use Rattle.v_loops.proofs.Steps.{turn-free, first-stage}
 use Rattle.v_loops.proofs.Adding.{none-free}
 use Rattle.v_loops.proofs.turn.first.Goals as goal

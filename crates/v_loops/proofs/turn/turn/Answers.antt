@@ -1,4 +1,3 @@
-use Rattle.std.proofs.Common.{◌∙◌, ap}
 use Rattle.std.specs.Prelude.{map}
 use Rattle.v_syntax.specs.Source.{item_of}
 use Rattle.v_value.specs.Scope.{scope_at}
