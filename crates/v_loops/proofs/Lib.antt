@@ -1,0 +1,6 @@
+mod Steps
+mod Stages
+mod Covered
+mod Adding
+mod Answering
+mod OneModule

@@ -1,0 +1,2 @@
+pub mod OneModule
+pub mod Turns

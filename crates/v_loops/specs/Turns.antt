@@ -1,0 +1,82 @@
+-- What turns over the drivers of a module leave unsettled.
+use Rattle.std.specs.Prelude.{◌↔◌, ◌⊎◌, ℕ, zero, suc, ◌+◌, Bool, true, false, List, [], ◌∷◌, IsTrue}
+use Rattle.wb_values.specs.Value.{Name}
+use Rattle.verilog_trees.specs.Syntax.{Expression, Target, Statement, blocking, Item}
+use Rattle.verilog_meaning.specs.Expression.{Scope}
+use Rattle.verilog_meaning.specs.Register.{may_assign, combinational_blocks}
+use Rattle.verilog_meaning.specs.Settled.{assignments}
+use Rattle.verilog_settled.specs.Locality.{has_constant_selects}
+use Rattle.verilog_designs.specs.Reads.{BitSet, no_bits}
+use Rattle.verilog_designs.specs.Dependence.{Bit, is_in}
+use Rattle.v_masks.specs.Masks.{spread}
+use Rattle.v_depend.specs.Resting.{IsThere, RestsAfter}
+use Rattle.v_depend.specs.Running.{IsFit}
+use Rattle.v_loops.specs.OneModule.{DependsIn}
+
+-- continuous assignments as statements
+abbrev pub as_statements : List (Target × Expression) → List Statement
+as_statements [] = []
+as_statements (a ∷ links) = blocking a.0 a.1 ∷ as_statements links
+
+-- Each of the statements has values that fit words, and assigns no memory.
+abbrev pub AreFitToRun : Scope → List Statement → Type 0
+AreFitToRun s [] = Unit {0}
+AreFitToRun s (x ∷ xs) = IsFit s x × AreFitToRun s xs
+
+-- Each target of a continuous assignment has constant selects.
+abbrev pub HaveConstantSelects : Scope → List (Target × Expression) → Type 0
+HaveConstantSelects s [] = Unit {0}
+HaveConstantSelects s (a ∷ links) = IsTrue (has_constant_selects s a.0) × HaveConstantSelects s links
+
+-- The drivers of the module have values that fit words, they assign no memory, and continuous assignments have constant selects.
+pub record IsRunnable (s : Scope) (items : List Item) : Type 0 where
+  pub links : AreFitToRun s (as_statements (assignments items))
+  pub blocks : AreFitToRun s (combinational_blocks items)
+  pub constant : HaveConstantSelects s (assignments items)
+
+-- a bit of a word 0
+abbrev pub HasFirst : BitSet → Type 0
+HasFirst p = (n : Name) × (b : ℕ) × IsTrue (p n 0 b)
+
+-- ---- one turn
+
+-- any bit, or those that are so
+abbrev pub AllOr : (all : Bool) → Type 0 → Type 0
+AllOr true IsSo = Unit {0}
+AllOr false IsSo = IsSo
+
+-- A bit that the statement may assign: all of these, or those that rest on an unsettled bit after it.
+abbrev pub RestsBy : (all : Bool) → (unsettled : BitSet) → Scope → Statement → Bit → Type 0
+RestsBy all p s x u = IsThere s u × IsTrue (may_assign s x u.of_name u.word u.place) × AllOr all (RestsAfter (spread p) s x u)
+
+-- by one of the statements
+abbrev pub OneRests : (all : Bool) → (unsettled : BitSet) → Scope → List Statement → Bit → Type 0
+OneRests all p s [] u = ⊥
+OneRests all p s (x ∷ xs) u = RestsBy all p s x u ⊎ OneRests all p s xs u
+
+-- The bits after are those before, and those that rest by one of the statements.
+abbrev pub Adds : (all : Bool) → (unsettled : BitSet) → Scope → List Statement → (before after : BitSet) → Type 0
+Adds all p s xs before after = (u : Bit) → IsTrue (is_in after u) ↔ IsTrue (is_in before u) ⊎ OneRests all p s xs u
+
+-- by one of the module's continuous assignments or combinational blocks
+abbrev pub RestsInTurn : (all : Bool) → (unsettled : BitSet) → Scope → List Item → Bit → Type 0
+RestsInTurn all p s items u = OneRests all p s (as_statements (assignments items)) u ⊎ OneRests all p s (combinational_blocks items) u
+
+-- ---- turn after turn
+
+-- At first all bits that are driven are unsettled, and then those that depend on an unsettled one: from which a chain of so many bits leads on.
+abbrev pub Stage : Scope → List Item → ℕ → Bit → Type 0
+Stage s items zero u = RestsInTurn true no_bits s items u
+Stage s items (suc k) u = (y : Bit) × DependsIn s items u y × Stage s items k y
+
+abbrev pub IsStage : Scope → List Item → ℕ → BitSet → Type 0
+IsStage s items k p = (u : Bit) → IsTrue (is_in p u) ↔ Stage s items k u
+
+-- Nothing is settled by a further turn.
+abbrev pub IsLasting : Scope → List Item → ℕ → Type 0
+IsLasting s items k = (u : Bit) → Stage s items k u → Stage s items (suc k) u
+
+-- a stage that lasts, or that after so many turns more
+abbrev pub IsLater : (lasts : Bool) → Scope → List Item → (turns k : ℕ) → BitSet → Type 0
+IsLater true s items turns k p = (j : ℕ) × IsStage s items j p × IsLasting s items j
+IsLater false s items turns k p = IsStage s items (turns + k) p

@@ -1,0 +1,34 @@
+//! Whether a module has a combinational loop.
+
+ghost use Rattle.std.specs.Prelude.{◌↔◌, map, IsTrue, IfOk};
+ghost use Rattle.v_syntax.specs.Source.{item_of};
+ghost use Rattle.v_value.specs.Scope.{scope_at};
+ghost use Rattle.v_value.specs.Narrow.{HasNarrowObjects};
+ghost use Rattle.v_loops.specs.OneModule.{HasLoopIn};
+ghost use Rattle.v_loops.specs.Turns.{IsRunnable};
+
+use crate::span::has_bits;
+use crate::turn::{first, turns};
+use std::alloc::{AllocError, Global};
+use v_syntax::module::Item;
+use v_value::scope::Scope;
+
+/// Whether a bit of a module depends on itself through its continuous assignments and combinational blocks. The module has no parameters and
+/// no instances. Answers `AllocError` where memory runs out.
+pub fn has_loop(alloc: Global, items: &[Item<'_>], scope: &Scope<'_>) -> Result<bool, AllocError>
+    requires objects { HasNarrowObjects (scope_at scope.now) }
+    requires fit { IsRunnable (scope_at scope.now) (map item_of items.now) }
+    ensures { IfOk result (λ r. IsTrue r ↔ HasLoopIn (scope_at scope.now) (map item_of items.now)) }
+{
+    let mut unsettled = first(alloc, items, scope)?;
+    let count = unsettled.len();
+    for _ in 0..count {
+        let lasts = turns(alloc, items, scope, &mut unsettled)?;
+        if lasts {
+            let left = has_bits(alloc, &unsettled)?;
+            return Ok(left);
+        }
+    }
+    let left = has_bits(alloc, &unsettled)?;
+    Ok(left)
+}
