@@ -76,6 +76,23 @@ IsPut g h (Ok id) t = IsGrown g h × (id.0 < length h.nodes) × (tree h id.0 ≡
 IsPut g h (Err BadSort) t = IsGrown g h × (sort_of t ≡ None)
 IsPut g h (Err NoMemory) t = IsGrown g h
 
+-- what a written term is found to stand for as it is: a name's term
+abbrev pub found_alone : (Name → Option TermId) → WrittenTerm → Option TermId
+found_alone at (name n) = at n
+found_alone at (constant_truth b) = None
+found_alone at (const w x) = None
+found_alone at (unary op x) = None
+found_alone at (binary op x y) = None
+found_alone at (extract h l x) = None
+found_alone at (widen z n x) = None
+found_alone at (ite c x y) = None
+found_alone at (store m i x) = None
+
+-- A term that is found is the answer, and the store is as it was: nothing is copied.
+abbrev pub IsShared : Graph → Graph → Result TermId PutStop → Option TermId → Type 0
+IsShared g h r None = ⊤
+IsShared g h r (Some id) = (r ≡ Ok id) × (h ≡ g)
+
 -- What stands in the first table stands in the second: no name was given another meaning.
 unfoldable pub IsKept : BTreeMap (Bor (List ℕ)) TermId → BTreeMap (Bor (List ℕ)) TermId → Type 0
 IsKept t u = (n : Name) (id : TermId) → under_name t n ≡ Some id → under_name u n ≡ Some id

@@ -4,7 +4,7 @@ ghost use Rattle.std.specs.Prelude.{◌≡◌, ◌≤◌, ◌+◌, length};
 ghost use Rattle.wb_terms.specs.Graph.{tree};
 ghost use Rattle.ila_file.specs.View.{term_view};
 ghost use Rattle.ila_build.specs.Sizes.{terms_for, terms_of_name};
-ghost use Rattle.ila_build.specs.Standing.{AreIn, IsIn, IsPut, found, seen, seen_by, term_by, under_name};
+ghost use Rattle.ila_build.specs.Standing.{AreIn, IsIn, IsPut, IsShared, found, found_alone, seen, seen_by, term_by, under_name};
 
 use crate::nodes::{put_binary, put_const, put_extract, put_node, put_unary, put_widened};
 use ila_file::WrittenTerm;
@@ -42,6 +42,7 @@ fn found<'v>(
 fn put_name(terms: &mut Terms, standing: Option<TermId>) -> Result<TermId, PutStop>
     requires { IsIn terms.old standing }
     ensures put { IsPut terms.old terms.new result (seen terms.old standing) }
+    ensures shared { IsShared terms.old terms.new result standing }
     ensures added { length terms.new.nodes ≤ length terms.old.nodes + terms_of_name standing }
 {
     match standing {
@@ -60,6 +61,7 @@ pub fn put_term<'v>(
 ) -> Result<TermId, PutStop>
     requires { AreIn terms.old known.now fetch }
     ensures put { IsPut terms.old terms.new result (term_by (seen_by terms.old known.now fetch) (term_view term.now)) }
+    ensures shared { IsShared terms.old terms.new result (found_alone (found known.now fetch) (term_view term.now)) }
     ensures added { length terms.new.nodes ≤ length terms.old.nodes + terms_for (found known.now fetch) (term_view term.now) }
 {
     match term {

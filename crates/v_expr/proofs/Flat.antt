@@ -1,6 +1,6 @@
 -- Flat trees from flat parts.
 use Rattle.std.proofs.Common.{◌≡◌, ◌∙◌, ◌==◌, ℕ, Bool, true, false, List, [], ◌∷◌, ◌++◌, length, refl, ap, sym, subst, arith}
-use Rattle.std.proofs.lemmas.Bool.{eqb-true, eqb-false}
+use Rattle.std.proofs.lemmas.Bool.{eqb-false}
 use Rattle.std.specs.declared.boxed.Box.{Box}
 use Rattle.std.specs.declared.vec.Vec.{Vec}
 use Rattle.std.specs.declared.alloc.Global.{Global}
@@ -12,7 +12,9 @@ use Rattle.v_syntax.specs.declared.tree.Expression.{Expression, Concatenation, R
 use Rattle.v_syntax.specs.declared.tree.Expression.TheBlock.{hidden-the_row-Expression-0, hidden-the_row-BinaryLink-1, hidden-the_row-TestLink-2, hidden-the_row-Choice-3}
 use Rattle.verilog_trees.specs.Syntax as pure
 use Rattle.v_syntax.specs.Tree.{tree_of, prefixed, all_prefixed}
-use Rattle.v_expr.specs.Flat.{IsNoPrefix, IsNoBinary, IsNoTest, IsNotEmpty, HasLinks, HasTests, HasChoices, IsFlat, IsFlatRow, AreFlatLinks, AreFlatTests, AreFlatChoices, AreFlat, IsFlatChoice, HasFlatChoices, IsOneNode, Each}
+use Rattle.v_syntax.specs.Chain.{chosen}
+use Rattle.v_syntax.proofs.Trees.{tree_of-Conditional}
+use Rattle.v_expr.specs.Flat.{IsNoPrefix, IsNoBinary, IsNoTest, IsNoConditional, IsNotEmpty, HasLinks, HasTests, HasChoices, IsFlat, IsFlatRow, AreFlatLinks, AreFlatTests, AreFlatChoices, AreFlat, IsFlatChoice, HasFlatChoices, Each}
 use mathlib.Core.Former as Former
 
 pub not_empty : {A : Type 0} (xs : List A) (x : A) → IsNotEmpty (xs ++ x ∷ [])
@@ -137,12 +139,25 @@ pub choices-push : (cs : List Choice) (c : Choice) → HasFlatChoices cs → IsF
 choices-push [] c h f = (f, tt)
 choices-push (b ∷ bs) c h f = (h.0, choices-push bs c h.1 f)
 
-pub flat-Conditional : (v : Vec Choice Global) (b : Box Expression Global) (y : Expression) → IsNotEmpty v.items → b.value ≡ y → HasFlatChoices v.items → IsFlat y → IsFlat (Conditional v b)
-flat-Conditional v b y some is choices last = (
+row-choices : (n : Former.Count) (k : Row_of-Choice n) → AreFlatChoices k → HasFlatChoices (items-the_row-Choice n k)
+row-choices n end_of-Choice h = tt
+row-choices n (more_of-Choice c x k) h = ((h.0, h.1), row-choices _ k h.2)
+
+choices-append : (cs ds : List Choice) → HasFlatChoices cs → HasFlatChoices ds → HasFlatChoices (cs ++ ds)
+choices-append [] ds h k = k
+choices-append (c ∷ cs) ds h k = (h.0, choices-append cs ds h.1 k)
+
+conditional-node : (v : Vec Choice Global) (b : Box Expression Global) → IsNotEmpty v.items → HasFlatChoices v.items → IsNoConditional b.value → IsFlat b.value → IsFlat (Conditional v b)
+conditional-node v b some choices none last = (
   some-choices _ (hidden-the_row-Choice-3 v) (subst IsNotEmpty (sym (items_hidden-the_row-Choice-3 v)) some),
-  subst IsFlat (sym is) last,
+  none,
+  last,
   choices-row _ (hidden-the_row-Choice-3 v) (subst HasFlatChoices (sym (items_hidden-the_row-Choice-3 v)) choices),
 )
+
+chosen-append : (cs ds : List Choice) (y : pure.Expression) → chosen (cs ++ ds) y ≡ chosen cs (chosen ds y)
+chosen-append [] ds y = refl
+chosen-append (c ∷ cs) ds y = ap (pure.conditional (tree_of c.condition) (tree_of c.value)) (chosen-append cs ds y)
 
 -- ---- prefix operators
 
@@ -163,20 +178,6 @@ some_of (x ∷ xs) n e h = tt
 pub is_some : {A : Type 0} (v : Vec A Global) (t : Bool) → t ≡ (v.len == 0) → t ≡ false → IsNotEmpty v.items
 is_some v t e h = some_of v.items v.len v.ok.0 (eqb-false v.len 0 (sym e ∙ h))
 
-one_of_none : (cs : List Choice) (n : ℕ) (last : Expression) → n ≡ length cs → n ≡ 0 → IsOneNode cs last last
-one_of_none [] n last e h = refl
-one_of_none (c ∷ cs) n last e h = absurd (omega (arith, e, h))
-
-pub none_before : (v : Vec Choice Global) (t : Bool) (last : Expression) → t ≡ (v.len == 0) → t ≡ true → IsOneNode v.items last last
-none_before v t last e h = one_of_none v.items v.len last v.ok.0 (eqb-true v.len 0 (sym e ∙ h))
-
-one_of : (v : Vec Choice Global) (b : Box Expression Global) (last : Expression) (cs : List Choice) → v.items ≡ cs → IsNotEmpty cs → b.value ≡ last → IsOneNode cs last (Conditional v b)
-one_of v b last [] e some is = absurd some
-one_of v b last (c ∷ cs) e some is = (v, b, e, is, refl)
-
-pub all_before : (v : Vec Choice Global) (b : Box Expression Global) (last : Expression) → IsNotEmpty v.items → b.value ≡ last → IsOneNode v.items last (Conditional v b)
-all_before v b last some is = one_of v b last v.items refl some is
-
 -- ---- operators before an operand that begins with operators
 
 pub more_prefixes : (os ps all : Vec PrefixOperator Global) (b : Box Expression Global) (x : Expression) → x ≡ Prefix ps b → all.items ≡ os.items ++ ps.items
@@ -192,6 +193,25 @@ flat-more_prefixes os ps all b x is together some flat =
 
 pub flat-first_prefixes : (os : Vec PrefixOperator Global) (b : Box Expression Global) (x : Expression) → b.value ≡ x → IsNotEmpty os.items → IsNoPrefix x → IsFlat x → IsFlat (Prefix os b)
 flat-first_prefixes os b x is some none flat = (some, subst IsNoPrefix (sym is) none, subst IsFlat (sym is) flat)
+
+-- ---- choices before a last value that begins with choices
+
+pub more_choices : (cs ds all : Vec Choice Global) (b : Box Expression Global) (x : Expression) → x ≡ Conditional ds b → all.items ≡ cs.items ++ ds.items
+    → tree_of (Conditional all b) ≡ chosen cs.items (tree_of x)
+more_choices cs ds all b x is together =
+    tree_of-Conditional all b ∙ ap (λ es. chosen es (tree_of b.value)) together ∙ chosen-append cs.items ds.items (tree_of b.value)
+    ∙ ap (chosen cs.items) (sym (ap tree_of is ∙ tree_of-Conditional ds b))
+
+pub flat-more_choices : (cs ds all : Vec Choice Global) (b : Box Expression Global) (x : Expression) → x ≡ Conditional ds b → all.items ≡ cs.items ++ ds.items
+    → IsNotEmpty cs.items → HasFlatChoices cs.items → IsFlat x → IsFlat (Conditional all b)
+flat-more_choices cs ds all b x is together some choices flat =
+    let h : IsFlat (Conditional ds b) = subst IsFlat is flat in
+    let old : HasFlatChoices ds.items = subst HasFlatChoices (items_hidden-the_row-Choice-3 ds) (row-choices _ (hidden-the_row-Choice-3 ds) h.3) in
+    conditional-node all b (subst IsNotEmpty (sym together) (still_some cs.items ds.items some)) (subst HasFlatChoices (sym together) (choices-append cs.items ds.items choices old)) h.1 h.2
+
+pub flat-first_choices : (cs : Vec Choice Global) (b : Box Expression Global) (x : Expression) → b.value ≡ x → IsNotEmpty cs.items → HasFlatChoices cs.items
+    → IsNoConditional x → IsFlat x → IsFlat (Conditional cs b)
+flat-first_choices cs b x is some choices none flat = conditional-node cs b some choices (subst IsNoConditional (sym is) none) (subst IsFlat (sym is) flat)
 
 -- ---- lists
 

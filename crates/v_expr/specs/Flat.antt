@@ -1,5 +1,4 @@
--- Flat trees: a chain of operators, of tests or of prefix operators is one node with all of its links, however long it is.
--- Of choices the node has one at least: a conditional in brackets may be the last value of another.
+-- Flat trees: a chain of operators, of tests, of prefix operators or of choices is one node with all of its links, however long it is.
 use Rattle.std.specs.Prelude.{◌≡◌, List, [], ◌∷◌}
 use Rattle.std.specs.declared.boxed.Box.{Box}
 use Rattle.std.specs.declared.vec.Vec.{Vec}
@@ -22,6 +21,9 @@ IsNoBinary e = (x : Box Expression Global) (links : Vec BinaryLink Global) → e
 
 abbrev pub IsNoTest : Expression → Type 0
 IsNoTest e = (x : Box Expression Global) (links : Vec TestLink Global) → e ≡ Test x links → ⊥
+
+abbrev pub IsNoConditional : Expression → Type 0
+IsNoConditional e = (choices : Vec Choice Global) (y : Box Expression Global) → e ≡ Conditional choices y → ⊥
 
 -- ---- the links of a node: there is one
 
@@ -54,7 +56,7 @@ abbrev mutual
   IsFlat (Prefix' os _ x) = IsNotEmpty os.items × IsNoPrefix x × IsFlat x
   IsFlat (Binary' _ x _ links) = HasLinks links × IsNoBinary x × IsFlat x × AreFlatLinks links
   IsFlat (Test' _ x _ links) = HasTests links × IsNoTest x × IsFlat x × AreFlatTests links
-  IsFlat (Conditional' _ choices _ y) = HasChoices choices × IsFlat y × AreFlatChoices choices
+  IsFlat (Conditional' _ choices _ y) = HasChoices choices × IsNoConditional y × IsFlat y × AreFlatChoices choices
 
   pub IsFlatRow : {m : _} → Row_of-Expression m → Type 0
   IsFlatRow end_of-Expression = Unit {0}
@@ -95,11 +97,6 @@ IsFlatChoice c = IsFlat c.condition × IsFlat c.value
 abbrev pub HasFlatChoices : List Choice → Type 0
 HasFlatChoices [] = Unit {0}
 HasFlatChoices (c ∷ cs) = IsFlatChoice c × HasFlatChoices cs
-
--- one node with all of the choices before a last value, or the last value where there is none
-abbrev pub IsOneNode : List Choice → Expression → Expression → Type 0
-IsOneNode [] last e = e ≡ last
-IsOneNode (c ∷ cs) last e = (choices : Vec Choice Global) × (y : Box Expression Global) × (choices.items ≡ c ∷ cs) × (y.value ≡ last) × (e ≡ Conditional choices y)
 
 -- each element of a list is as said
 abbrev pub Each : {A : Type 0} → (A → Type 0) → List A → Type 0

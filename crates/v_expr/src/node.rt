@@ -5,7 +5,7 @@ ghost use Rattle.verilog_trees.specs.Syntax as pure;
 ghost use Rattle.v_syntax.specs.Tree.{tree_of, all_prefixed, expressions_of};
 ghost use Rattle.v_syntax.specs.Chain.{linked, test_linked, chosen};
 ghost use Rattle.v_expr.specs.View.{joins_of};
-ghost use Rattle.v_expr.specs.Flat.{IsFlat, AreFlat, HasFlatChoices, IsOneNode};
+ghost use Rattle.v_expr.specs.Flat.{IsFlat, AreFlat, HasFlatChoices};
 ghost use Rattle.v_expr.specs.declared.stop.ExpressionStop.TheVariants.{NoMemory};
 
 use crate::operator::JointOperator;
@@ -120,21 +120,31 @@ pub fn concatenation<'s>(parts: Vec<Expression<'s>>) -> Expression<'s>
     Expression::Concatenation(parts)
 }
 
-/// The last value with the choices before it.
+/// The last value with the choices before it. Those that it begins with (it may have stood in brackets) come into the same node.
 pub fn with_choices<'s>(
     alloc: Global,
     choices: Vec<Choice<'s>>,
     last: Expression<'s>,
 ) -> Result<Expression<'s>, ExpressionStop>
     ensures made { IfOk result (λ e. tree_of e ≡ chosen choices.entry.items (tree_of last.entry)) }
-    ensures one { IfOk result (λ e. IsOneNode choices.entry.items last.entry e) }
     ensures flat { IfOk result (λ e. HasFlatChoices choices.entry.items → IsFlat last.entry → IsFlat e) }
     ensures memory { IfErr result (λ e. e ≡ NoMemory) }
 {
     if choices.is_empty() {
         return Ok(last);
     }
-    Ok(Expression::Conditional(choices, Box::new(alloc, last)?))
+    match last {
+        Expression::Conditional(inner, end) => {
+            let mut longer = choices;
+            let mut inner = inner;
+            longer.append(&mut inner)?;
+            Ok(Expression::Conditional(longer, end))
+        }
+        end => {
+            let end = Box::new(alloc, end)?;
+            Ok(Expression::Conditional(choices, end))
+        }
+    }
 }
 
 /// The operand with the operators before it. Those that it begins with (it may have stood in brackets) come into the same node.

@@ -57,7 +57,9 @@ IsSelectSound s (part_down b n) = IsSound s b
 -- a single index
 abbrev pub IsIndex : pure.Select → Type 0
 IsIndex (index i) = Unit {0}
-IsIndex _ = ⊥
+IsIndex (part h l) = ⊥
+IsIndex (part_up b n) = ⊥
+IsIndex (part_down b n) = ⊥
 
 abbrev pub AreSelectsSound : Scope → Object → pure.Selects → Type 0
 AreSelectsSound s o whole = is_memory o ≡ false
@@ -99,4 +101,6 @@ pub record IsBit (s : Scope) (images : Images) (g : Graph) (e : pure.Expression)
 -- a part select between two bounds
 abbrev pub IsBounded : pure.Select → Type 0
 IsBounded (part h l) = Unit {0}
-IsBounded _ = ⊥
+IsBounded (index i) = ⊥
+IsBounded (part_up b n) = ⊥
+IsBounded (part_down b n) = ⊥

@@ -31,7 +31,7 @@ use Rattle.v_value.proofs.Narrows.{narrow_width}
 use Rattle.v_lower.specs.Walking.{IsSound}
 use Rattle.v_lower.proofs.Soundness.{sound-narrow}
 use Rattle.v_write.specs.Sound.{IsSoundStatement, AreSoundValues, AreSoundItems, item_list}
-use Rattle.v_write.specs.Matching.{number_in, AreValuesNarrow, AreComparable, AreItemsComparable}
+use Rattle.v_write.specs.Matching.{plain_number, AreValuesNarrow, AreComparable, AreItemsComparable}
 use Rattle.v_write.specs.Cases.{item_statement}
 
 -- ---- numbers in chains
@@ -43,69 +43,69 @@ not_none n = grind (arith, nat_tests)
 followed : (n : ℕ) (x y : Option Number) → x ≡ None → x ≡ cond (suc n == 0) y None
 followed n x y h = h ∙ sym (ap (λ b. cond b y None) (not_none n))
 
-number-combined : (o : BinaryOperator) (x y : pure.Expression) → number_in (combined o x y) ≡ None
+number-combined : (o : BinaryOperator) (x y : pure.Expression) → plain_number (combined o x y) ≡ None
 number-combined Power x y = refl
 number-combined _ x y = refl
 
-number-onto : (ls : List BinaryLink) (x : pure.Expression) → number_in x ≡ None → number_in (linked ls x) ≡ None
+number-onto : (ls : List BinaryLink) (x : pure.Expression) → plain_number x ≡ None → plain_number (linked ls x) ≡ None
 number-onto [] x h = h
 number-onto (l ∷ ls) x h = number-onto ls _ (number-combined l.operator x (tree_of l.operand))
 
-number-linked : (ls : List BinaryLink) (x : pure.Expression) → number_in (linked ls x) ≡ cond (length ls == 0) (number_in x) None
+number-linked : (ls : List BinaryLink) (x : pure.Expression) → plain_number (linked ls x) ≡ cond (length ls == 0) (plain_number x) None
 number-linked [] x = refl
 number-linked (l ∷ ls) x = followed (length ls) _ _ (number-onto ls _ (number-combined l.operator x (tree_of l.operand)))
 
-number-tested : (o : TestOperator) (x y : pure.Expression) → number_in (tested o x y) ≡ None
+number-tested : (o : TestOperator) (x y : pure.Expression) → plain_number (tested o x y) ≡ None
 number-tested Less x y = refl
 number-tested _ x y = refl
 
-number-test_onto : (ls : List TestLink) (x : pure.Expression) → number_in x ≡ None → number_in (test_linked ls x) ≡ None
+number-test_onto : (ls : List TestLink) (x : pure.Expression) → plain_number x ≡ None → plain_number (test_linked ls x) ≡ None
 number-test_onto [] x h = h
 number-test_onto (l ∷ ls) x h = number-test_onto ls _ (number-tested l.operator x (tree_of l.operand))
 
-number-test_linked : (ls : List TestLink) (x : pure.Expression) → number_in (test_linked ls x) ≡ cond (length ls == 0) (number_in x) None
+number-test_linked : (ls : List TestLink) (x : pure.Expression) → plain_number (test_linked ls x) ≡ cond (length ls == 0) (plain_number x) None
 number-test_linked [] x = refl
 number-test_linked (l ∷ ls) x = followed (length ls) _ _ (number-test_onto ls _ (number-tested l.operator x (tree_of l.operand)))
 
-number-chosen : (cs : List Choice) (y : pure.Expression) → number_in (chosen cs y) ≡ cond (length cs == 0) (number_in y) None
+number-chosen : (cs : List Choice) (y : pure.Expression) → plain_number (chosen cs y) ≡ cond (length cs == 0) (plain_number y) None
 number-chosen [] y = refl
 number-chosen (c ∷ cs) y = followed (length cs) _ _ refl
 
-number-prefixed : (o : PrefixOperator) (x : pure.Expression) → number_in (prefixed o x) ≡ None
+number-prefixed : (o : PrefixOperator) (x : pure.Expression) → plain_number (prefixed o x) ≡ None
 number-prefixed Plus x = refl
 number-prefixed _ x = refl
 
-number-all_prefixed : (os : List PrefixOperator) (x : pure.Expression) → number_in (all_prefixed os x) ≡ cond (length os == 0) (number_in x) None
+number-all_prefixed : (os : List PrefixOperator) (x : pure.Expression) → plain_number (all_prefixed os x) ≡ cond (length os == 0) (plain_number x) None
 number-all_prefixed [] x = refl
 number-all_prefixed (o ∷ os) x = followed (length os) _ _ (number-prefixed o (all_prefixed os x))
 
-pub number-Prefix : (os : Vec PrefixOperator Global) (b : Box Expression Global) → number_in (tree_of (Prefix os b)) ≡ cond (length os.items == 0) (number_in (tree_of b.value)) None
+pub number-Prefix : (os : Vec PrefixOperator Global) (b : Box Expression Global) → plain_number (tree_of (Prefix os b)) ≡ cond (length os.items == 0) (plain_number (tree_of b.value)) None
 number-Prefix os b = number-all_prefixed os.items (tree_of b.value)
 
-pub number-Binary : (b : Box Expression Global) (v : Vec BinaryLink Global) → number_in (tree_of (Binary b v)) ≡ cond (length v.items == 0) (number_in (tree_of b.value)) None
-number-Binary b v = ap number_in (tree_of-Binary b v) ∙ number-linked v.items (tree_of b.value)
+pub number-Binary : (b : Box Expression Global) (v : Vec BinaryLink Global) → plain_number (tree_of (Binary b v)) ≡ cond (length v.items == 0) (plain_number (tree_of b.value)) None
+number-Binary b v = ap plain_number (tree_of-Binary b v) ∙ number-linked v.items (tree_of b.value)
 
-pub number-Test : (b : Box Expression Global) (v : Vec TestLink Global) → number_in (tree_of (Test b v)) ≡ cond (length v.items == 0) (number_in (tree_of b.value)) None
-number-Test b v = ap number_in (tree_of-Test b v) ∙ number-test_linked v.items (tree_of b.value)
+pub number-Test : (b : Box Expression Global) (v : Vec TestLink Global) → plain_number (tree_of (Test b v)) ≡ cond (length v.items == 0) (plain_number (tree_of b.value)) None
+number-Test b v = ap plain_number (tree_of-Test b v) ∙ number-test_linked v.items (tree_of b.value)
 
-pub number-Conditional : (v : Vec Choice Global) (b : Box Expression Global) → number_in (tree_of (Conditional v b)) ≡ cond (length v.items == 0) (number_in (tree_of b.value)) None
-number-Conditional v b = ap number_in (tree_of-Conditional v b) ∙ number-chosen v.items (tree_of b.value)
+pub number-Conditional : (v : Vec Choice Global) (b : Box Expression Global) → plain_number (tree_of (Conditional v b)) ≡ cond (length v.items == 0) (plain_number (tree_of b.value)) None
+number-Conditional v b = ap plain_number (tree_of-Conditional v b) ∙ number-chosen v.items (tree_of b.value)
 
 -- ---- judged values
 
 some_is_none : (n : Number) → Some n ≡ None → ⊥
 some_is_none n h = false≢true (sym (ap is_some h))
 
-pub number_is : (e : pure.Expression) (n : Number) → Some n ≡ number_in e → e ≡ number n
+pub number_is : (e : pure.Expression) (n : Number) → Some n ≡ plain_number e → e ≡ number n
 number_is (number k) n h = let same : n ≡ k = cc h in ap number (sym same)
 number_is _ n h = absurd (some_is_none n h)
 
 -- what is no number is judged as it stands, and has no bits that match any bit
-pub judged_whole : (k : CaseKind) (e : pure.Expression) → None ≡ number_in e → judged_item k e ≡ e
+pub judged_whole : (k : CaseKind) (e : pure.Expression) → None ≡ plain_number e → judged_item k e ≡ e
 judged_whole k (number n) h = absurd (some_is_none n (sym h))
 judged_whole k _ h = refl
 
-pub no_wild_bits : (e : pure.Expression) → None ≡ number_in e → wild_bits e ≡ 0
+pub no_wild_bits : (e : pure.Expression) → None ≡ plain_number e → wild_bits e ≡ 0
 no_wild_bits (number n) h = absurd (some_is_none n (sym h))
 no_wild_bits _ h = refl
 
@@ -115,8 +115,8 @@ number_narrow s n true h = h
 number_narrow s n false h = h
 
 pub value_narrow : (s : Scope) (k : CaseKind) (e : pure.Expression) → HasNarrowObjects s → IsSound s (judged_item k e) → IsNarrow s e
-value_narrow s k e objects h = by (number_in e) refl where
-  by : (o : Option Number) → o ≡ number_in e → IsNarrow s e
+value_narrow s k e objects h = by (plain_number e) refl where
+  by : (o : Option Number) → o ≡ plain_number e → IsNarrow s e
   by None i = sound-narrow s e objects (subst (λ x. IsSound s x) (judged_whole k e i) h)
   by (Some n) i =
       let same : e ≡ number n = number_is e n i in
@@ -124,7 +124,7 @@ value_narrow s k e objects h = by (number_in e) refl where
       (number_narrow s n (may_be_wild k n) (sound-narrow s (judged_item k (number n)) objects (subst (λ x. IsSound s (judged_item k x)) same h)))
 
 -- what the lowering of a number asks
-pub number_fits : (s : Scope) (k : CaseKind) (e : pure.Expression) (n : Number) (w : ℕ) → HasNarrowObjects s → Some n ≡ number_in e → IsSound s (judged_item k e) → width_of s e ≤ w
+pub number_fits : (s : Scope) (k : CaseKind) (e : pure.Expression) (n : Number) (w : ℕ) → HasNarrowObjects s → Some n ≡ plain_number e → IsSound s (judged_item k e) → width_of s e ≤ w
     → (1 ≤ n.width) × (n.value < 2 ^ n.width) × (n.width ≤ w)
 number_fits s k e n w objects i h l =
     let same : e ≡ number n = number_is e n i in

@@ -1,7 +1,7 @@
 -- What a case compares: the term of its expression, in the context of all its values, and tests of what that is worth.
 use Rattle.std.specs.Prelude.{◌≡◌, ◌≤◌, ℕ, max, Bool, false, ◌&&◌, ◌||◌, List, [], ◌∷◌, Option, Some, None}
 use Rattle.wb_values.specs.Value.{truth, Valuation}
-use Rattle.verilog_trees.specs.Syntax.{Number, Expression, number, Expressions, CaseKind, CaseItems}
+use Rattle.verilog_trees.specs.Syntax.{Number, Expression, number, name, concatenation, replication, as_signed, as_unsigned, unary, reduction, binary, shift, power, comparison, logical, conditional, Expressions, CaseKind, CaseItems}
 use Rattle.verilog_meaning.specs.Expression.{Scope, width_of, sign_of}
 use Rattle.verilog_meaning.specs.Statement.{items_width, items_signed, any_matches}
 use Rattle.verilog_designs.specs.Expressions.{judged_item}
@@ -18,9 +18,21 @@ use Rattle.v_write.specs.Guard.{IsGuard}
 use Rattle.v_write.specs.Sound.{IsSoundStatement}
 
 -- the number that an expression is, where it is one
-abbrev pub number_in : Expression → Option Number
-number_in (number k) = Some k
-number_in _ = None
+abbrev pub plain_number : Expression → Option Number
+plain_number (number k) = Some k
+plain_number (name n x) = None
+plain_number (concatenation es) = None
+plain_number (replication c es) = None
+plain_number (as_signed e) = None
+plain_number (as_unsigned e) = None
+plain_number (unary o e) = None
+plain_number (reduction o e) = None
+plain_number (binary o x y) = None
+plain_number (shift o x y) = None
+plain_number (power x y) = None
+plain_number (comparison o x y) = None
+plain_number (logical o x y) = None
+plain_number (conditional c x y) = None
 
 -- ---- the context
 

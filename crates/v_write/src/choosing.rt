@@ -15,7 +15,7 @@ ghost use Rattle.v_lower.specs.Table.{images_at};
 ghost use Rattle.v_lower.specs.Walking.{IsSound};
 ghost use Rattle.v_write.specs.Guard.{IsGuard};
 ghost use Rattle.v_write.specs.Sound.{AreSoundItems, item_list};
-ghost use Rattle.v_write.specs.Matching.{number_in, AreValuesNarrow, IsSelector, AreComparable, IsTestOf, HasAny};
+ghost use Rattle.v_write.specs.Matching.{plain_number, AreValuesNarrow, IsSelector, AreComparable, IsTestOf, HasAny};
 ghost use Rattle.v_write.specs.Cases.{default_from};
 
 use crate::NoMemory;
@@ -141,15 +141,15 @@ fn alone<T>(links: &[T], number: Option<Number>) -> Option<Number>
 }
 
 /// The number that an expression is, where it is one.
-fn number_in(expression: &Expression<'_>) -> Option<Number>
-    ensures { option_map number_of result ≡ number_in (tree_of expression.now) }
+fn plain_number(expression: &Expression<'_>) -> Option<Number>
+    ensures { option_map number_of result ≡ plain_number (tree_of expression.now) }
 {
     match expression {
         Expression::Number(number) => Some(*number),
-        Expression::Prefix(operators, operand) => alone(operators, number_in(operand)),
-        Expression::Binary(first, links) => alone(links, number_in(first)),
-        Expression::Test(first, links) => alone(links, number_in(first)),
-        Expression::Conditional(choices, last) => alone(choices, number_in(last)),
+        Expression::Prefix(operators, operand) => alone(operators, plain_number(operand)),
+        Expression::Binary(first, links) => alone(links, plain_number(first)),
+        Expression::Test(first, links) => alone(links, plain_number(first)),
+        Expression::Conditional(choices, last) => alone(choices, plain_number(last)),
         Expression::Name(_, _)
         | Expression::Concatenation(_)
         | Expression::Replication(_, _)
@@ -231,7 +231,7 @@ fn value_matches(
     ensures test { IfOk result (λ r. IsTestOf (scope_at scope.now) (images_at table.now) terms.old terms.new selector.id.0 selector.width r.0
         (λ v a. matches (case_kind_of selector.kind) (wild_bits (tree_of value.now)) a (value_of (scope_at scope.now) v (tree_of value.now) selector.width selector.signed))) }
 {
-    match number_in(value) {
+    match plain_number(value) {
         Some(number) => {
             let said = number_matches(terms, selector, number)?;
             Ok(said)
