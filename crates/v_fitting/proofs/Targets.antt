@@ -1,5 +1,5 @@
 -- Targets and statements that break no rule: constants where constants are wanted, and targets of at most 128 bits.
-use Rattle.std.proofs.Common.{◌≡◌, ◌≤◌, ℕ, Bool, true, false, not, cond, ◌&&◌, refl, sym, Option, Some, None, is_some, is_none, pos}
+use Rattle.std.proofs.Common.{◌≡◌, ℕ, Bool, true, false, not, cond, ◌&&◌, refl, sym, Option, Some, None, is_some, is_none, pos}
 use Rattle.std.proofs.lemmas.Bool.{false≢true, and_parts, and_from}
 use Rattle.wb_values.specs.Choice.{some_if}
 use Rattle.verilog_trees.specs.Syntax.{Expression, number, name, concatenation, replication, as_signed, as_unsigned, unary, reduction, binary, shift, power, comparison, logical, conditional, Expressions, no_expressions, expression, Select, index, part, part_up, part_down, Selects, whole, one, two, Target, place, joined, Targets, no_targets, target, CaseKind, Statement, empty, blocking, nonblocking, if_then, if_else, case, block, Statements, no_statements, statement, CaseItems, no_items, arm, default_arm}
@@ -7,7 +7,7 @@ use Rattle.verilog_meaning.specs.Expression.{Object, Scope, is_memory, width_of,
 use Rattle.verilog_meaning.specs.Statement.{targets_width}
 use Rattle.verilog_meaning.specs.Register.{is_constant, are_constant, select_is_constant, selects_are_constant}
 use Rattle.verilog_settled.specs.Locality.{has_constant_selects, all_have_constant_selects}
-use Rattle.verilog_rules.specs.Expression.{Broken, nothing, also, is_unbroken, constant_if, anywhere, constant, in_context, wider, by_name, by_total, copies, is_below, number_if, is_unsized, divides, is_bad_divisor, is_bad_exponent, as_constant, broken, broken_parts, broken_selects, broken_select, broken_bits, has_width, have_widths}
+use Rattle.verilog_rules.specs.Expression.{Broken, nothing, also, is_unbroken, constant_if, anywhere, constant, wider, by_name, by_total, copies, is_below, number_if, is_unsized, divides, is_bad_divisor, is_bad_exponent, as_constant, broken, broken_parts, broken_selects, broken_select, broken_bits, has_width, have_widths}
 use Rattle.verilog_designs.specs.Expressions.{by_constants, targets_have_width, broken_target, broken_targets, broken_block_target, broken_items, broken_statement, broken_statements, broken_arms}
 use Rattle.v_value.specs.Narrow.{HasNarrowObjects}
 use Rattle.v_size.proofs.Unbroken.{unbroken-also}
