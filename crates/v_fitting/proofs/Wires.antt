@@ -190,9 +190,10 @@ module _ (m : Module) (once : has_duplicate m ≡ false) where
   all-plain [] f = tt
   all-plain (port d ∷ items) f = (tt, all-plain items (λ w h. f w (among_right (each_port d d.names) (item_declarations items) w h)))
   all-plain (parameter d ∷ items) f = (tt, all-plain items f)
-  all-plain (wires signed r ws ∷ items) f =
-      (each-plain signed r ws (λ w h. f w (among_left (wire_declarations signed r ws) (item_declarations items) w h)),
-        all-plain items (λ w h. f w (among_right (wire_declarations signed r ws) (item_declarations items) w h)))
+  all-plain (wires signed r ws ∷ items) f = (
+    each-plain signed r ws (λ w h. f w (among_left (wire_declarations signed r ws) (item_declarations items) w h)),
+    all-plain items (λ w h. f w (among_right (wire_declarations signed r ws) (item_declarations items) w h)),
+  )
   all-plain (variables signed r vs ∷ items) f =
       (tt, all-plain items (λ w h. f w (among_right (variable_declarations signed r vs) (item_declarations items) w h)))
   all-plain (assign links ∷ items) f = (tt, all-plain items f)
