@@ -23,7 +23,7 @@ fn items_loop(
     items: &[Item<'_>],
 ) -> Result<Option<bool>, AllocError>
     requires alone { list_any is_part (map item_of items.now) ≡ false }
-    requires plain { HavePlainWires (scope_at names.entry.scope.now) (map item_of items.now) }
+    requires plain { HavePlainWires (scope_at names.scope.now) (map item_of items.now) }
 {
     let broken = items_rules(names, items);
     if !is_unbroken(broken) {
