@@ -28,11 +28,18 @@ never : {A : Type 0} (y : Bit) → None ≡ Some y → A
 never {A} y e = absurd (let f : None ≡ Some y = e in cc)
 
 inside : (low : ℤ) (count j b : ℕ) → natural_in (low +ℤ pos j) ≡ Some b → j < count → (int_le low (pos b) && int_lt (pos b) (low +ℤ pos count)) ≡ true
-inside low count j b e l = at (low +ℤ pos j) refl e
+inside low count j b e l = by low (low +ℤ pos j) refl e
   where
-    at : (i : ℤ) → low +ℤ pos j ≡ i → natural_in i ≡ Some b → (int_le low (pos b) && int_lt (pos b) (low +ℤ pos count)) ≡ true
-    at (pos n) g f = let same : n ≡ b = cc in grind (arith, ints, nat_tests, g, same, l)
-    at (negsuc n) g f = absurd (let h : None ≡ Some b = f in cc)
+    by : (low : ℤ) (i : ℤ) → low +ℤ pos j ≡ i → natural_in i ≡ Some b → (int_le low (pos b) && int_lt (pos b) (low +ℤ pos count)) ≡ true
+    by (pos k) (pos n) g f =
+        let same : n ≡ b = cc in
+        let sum : k + j ≡ n = omega (arith, ints, g) in
+        grind (arith, ints, nat_tests, same, sum, l)
+    by (negsuc k) (pos n) g f =
+        let same : n ≡ b = cc in
+        let sum : j ≡ n + (k + 1) = omega (arith, ints, g) in
+        grind (arith, ints, nat_tests, same, sum, l)
+    by low (negsuc n) g f = absurd (let h : None ≡ Some b = f in cc)
 
 either-so : (c t : Bool) → t ≡ true → cond c t true ≡ true
 either-so true t e = e
