@@ -1,12 +1,12 @@
 -- What a bit depends on after a statement is the bit itself, or a bit that the statement reads: so a table of these bits alone says as much.
 use Rattle.std.proofs.Common.{◌≡◌, ◌∙◌, ℕ, ◌+◌, ◌-◌, ◌%◌, ◌<◌, ◌≤◌, refl, ap, sym, subst, arith, Bool, true, false, cond, not, inl, inr, Option, Some, None}
-use Rattle.std.specs.Prelude.{IsTrue, ◌↔◌, ◌⊎◌, ◌&&◌, ◌||◌, ◌==◌, nat_lt, is_none, option_and_then, ℤ, pos, negsuc, ◌+ℤ◌, int_le, int_lt}
+use Rattle.std.specs.Prelude.{IsTrue, ◌↔◌, ◌⊎◌, ◌&&◌, ◌||◌, nat_lt, is_none, option_and_then, ℤ, pos, negsuc, ◌+ℤ◌, int_le, int_lt}
 use Rattle.std.proofs.lemmas.Bool.{false≢true, and_parts, and_from, or_left, or_right}
 use Rattle.std.proofs.lemmas.Bool.Decides.{nat_tests}
 use Rattle.std.proofs.lemmas.Int.{ints}
 use Rattle.wb_values.specs.Value.{Name, same_name}
 use Rattle.wb_values.specs.Choice.{some_if}
-use Rattle.verilog_trees.specs.Syntax.{Expression, number, name, concatenation, replication, as_signed, as_unsigned, unary, reduction, binary, shift, power, comparison, logical, conditional, Expressions, no_expressions, expression, Select, Selects, whole, one, two, Target, place, joined, Targets, no_targets, target, Statement, empty, blocking, nonblocking, if_then, if_else, case, block, Statements, no_statements, statement, CaseItems, no_items, arm, default_arm}
+use Rattle.verilog_trees.specs.Syntax.{Expression, number, name, concatenation, replication, as_signed, as_unsigned, unary, reduction, binary, shift, power, comparison, logical, conditional, Expressions, no_expressions, expression, Selects, whole, one, two, Target, place, joined, Targets, no_targets, target, Statement, empty, blocking, nonblocking, if_then, if_else, case, block, Statements, no_statements, statement, CaseItems, no_items, arm, default_arm}
 use Rattle.verilog_meaning.specs.Expression.{Object, Scope, object_width, is_memory, Bits, no_values, word_number, select_index, select_bits, selects_width, sign_of, width_of, widths_of}
 use Rattle.verilog_meaning.specs.Statement.{Place, variable_cell, cell_at, indexed_cell, all_bits, named_place}
 use Rattle.verilog_meaning.specs.Register.{select_is_constant, selects_are_constant, is_within, is_word_number, may_mean_bit, may_mean_word, may_mean, may_reach, may_assign, may_assign_in_case, is_bit_of}

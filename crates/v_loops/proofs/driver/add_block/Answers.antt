@@ -1,4 +1,4 @@
-use Rattle.std.proofs.Common.{◌≡◌, ◌∙◌, ap}
+use Rattle.std.proofs.Common.{◌∙◌, ap}
 use Rattle.verilog_meaning.specs.Register.{may_assign}
 use Rattle.verilog_designs.specs.Reads.{or_in, and_in}
 use Rattle.verilog_designs.specs.Drivers.{statement_reads}
@@ -6,7 +6,7 @@ use Rattle.v_syntax.specs.Tree.{statement_of}
 use Rattle.v_value.specs.Scope.{scope_at}
 use Rattle.v_flow.specs.Spans.{bits_in, existing}
 use Rattle.v_masks.specs.Masks.{masked, spread}
-use Rattle.v_loops.proofs.Local.{own-free, needs}
+use Rattle.v_loops.proofs.Local.{own-free}
 use Rattle.v_loops.proofs.Adding.{driver-adds}
 use Rattle.v_loops.proofs.driver.add_block.Goals as goal
 
@@ -16,8 +16,8 @@ add_assigned-requires-clause-narrow c = c.requires.fit.narrow
 pub add_statement_reads-requires-clause-narrow : goal.add_statement_reads-requires-clause-narrow
 add_statement_reads-requires-clause-narrow c = c.requires.fit.narrow
 
-pub add_assigned-2-requires-clause-narrow : goal.add_assigned-2-requires-clause-narrow
-add_assigned-2-requires-clause-narrow c = c.requires.fit.narrow
+pub add_assigned-requires-2-clause-narrow : goal.add_assigned-requires-2-clause-narrow
+add_assigned-requires-2-clause-narrow c = c.requires.fit.narrow
 
 pub after-requires-clause-variables : goal.after-requires-clause-variables
 after-requires-clause-variables c =

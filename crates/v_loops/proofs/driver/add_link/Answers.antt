@@ -1,4 +1,4 @@
-use Rattle.std.proofs.Common.{◌≡◌, ◌∙◌, ap}
+use Rattle.std.proofs.Common.{◌∙◌, ap}
 use Rattle.verilog_trees.specs.Syntax.{blocking}
 use Rattle.verilog_meaning.specs.Register.{may_reach}
 use Rattle.verilog_designs.specs.Reads.{or_in, and_in, reads, target_reads}
@@ -6,7 +6,7 @@ use Rattle.v_syntax.specs.Tree.{tree_of, target_of}
 use Rattle.v_value.specs.Scope.{scope_at}
 use Rattle.v_flow.specs.Spans.{bits_in, existing}
 use Rattle.v_masks.specs.Masks.{masked, spread}
-use Rattle.v_loops.proofs.Local.{own-free, needs}
+use Rattle.v_loops.proofs.Local.{own-free}
 use Rattle.v_loops.proofs.Adding.{driver-adds}
 use Rattle.v_loops.proofs.driver.add_link.Goals as goal
 
@@ -19,8 +19,8 @@ add_reads-requires-clause-narrow c = c.requires.fit.narrow.1
 pub add_target_reads-requires-clause-narrow : goal.add_target_reads-requires-clause-narrow
 add_target_reads-requires-clause-narrow c = c.requires.fit.narrow.0
 
-pub add_reached-2-requires-clause-narrow : goal.add_reached-2-requires-clause-narrow
-add_reached-2-requires-clause-narrow c = c.requires.fit.narrow.0
+pub add_reached-requires-2-clause-narrow : goal.add_reached-requires-2-clause-narrow
+add_reached-requires-2-clause-narrow c = c.requires.fit.narrow.0
 
 pub take-requires-clause-variables : goal.take-requires-clause-variables
 take-requires-clause-variables c =
