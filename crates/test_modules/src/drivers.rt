@@ -27,7 +27,7 @@ fn is_part(item: &Item<'_>) -> bool
 }
 
 /// Whether one of the items is a parameter or instances.
-fn has_part(items: &[Item<'_>]) -> bool
+pub(crate) fn has_part(items: &[Item<'_>]) -> bool
     ensures { result ≡ list_any is_part (map item_of items.now) }
 {
     for item in items {

@@ -1,11 +1,13 @@
 //! Texts of modules with the rules that they break, of those on digits, ports, constants, widths, selects and memories, on clocks as
-//! data, on kinds of assignments and on drivers; texts of modules with bits that have no driver. Prints each row that differs, and how
-//! many rows there are.
+//! data, on kinds of assignments and on drivers; texts of modules with bits that have no driver, and with combinational loops. Prints
+//! each row that differs, and how many rows there are.
 #![tactic(auto)]
 
 mod drivers;
+mod loops;
 
 use crate::drivers::{two_drivers, undriven};
+use crate::loops::looped;
 use std::alloc::{AllocError, Global};
 use std::{fs, io};
 use v_assigned::has_bad_name;
@@ -65,11 +67,23 @@ fn answer_of_tree(alloc: Global, tree: &Tree<'_>) -> Result<String, AllocError> 
 /// Whether the text's module `u` reads a bit that has no driver.
 fn drivers_of(alloc: Global, tree: &Tree<'_>) -> Result<String, AllocError> {
     let Some(within) = top_of(tree, "u") else {
-        return String::from_str(alloc, "no top");
+        return loops_of(alloc, tree);
     };
     let names = module_scope(alloc, within)?;
     let kinds = [(undriven(alloc, &within.items, &names)?, " V23")];
     told(alloc, &kinds, None)
+}
+
+/// Whether the text's module `l` has a combinational loop.
+fn loops_of(alloc: Global, tree: &Tree<'_>) -> Result<String, AllocError> {
+    let Some(within) = top_of(tree, "l") else {
+        return String::from_str(alloc, "no top");
+    };
+    match looped(alloc, within)? {
+        Some(true) => String::from_str(alloc, "ok V24"),
+        Some(false) => String::from_str(alloc, "ok"),
+        None => String::from_str(alloc, "not asked"),
+    }
 }
 
 /// The kinds, in their order, and the first of those on digits, constants, widths, selects and memories.

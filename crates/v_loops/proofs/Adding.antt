@@ -12,12 +12,14 @@ use Rattle.verilog_designs.specs.Reads.{BitSet, no_bits, or_in, and_in, but_not_
 use Rattle.verilog_designs.specs.Dependence.{Bit, is_in}
 use Rattle.v_flow.specs.declared.span.Span.{Span}
 use Rattle.v_flow.specs.Spans.{bits_of, bits_in, existing}
+use Rattle.v_flow.specs.Narrow.{IsNarrowFlow}
 use Rattle.v_flow.proofs.Sets.{turn, push}
 use Rattle.v_masks.specs.Masks.{spread}
 use Rattle.v_paths.specs.Premises.{HasNoMemory}
 use Rattle.v_depend.specs.Resting.{IsThere, OneIsUnsettled, RestsAfter}
 use Rattle.v_loops.specs.Turns.{as_statements, AreFitToRun, HasFirst, RestsBy, OneRests, Adds, RestsInTurn, IsStage, IsLasting}
-use Rattle.v_loops.proofs.Steps.{stage-there, in-first, spread-free}
+use Rattle.v_loops.proofs.Steps.{RestsWhereItDepends, stage-there, in-first}
+use Rattle.v_loops.proofs.Local.{needs, same-rests}
 
 -- ---- spans
 
@@ -38,7 +40,11 @@ kept-some true a b p q e h = absurd (false≢true (sym e))
 -- ---- one driver
 
 module _ (s : Scope) (x : pure.Statement) (p : BitSet) where
-  kept-rests : (all : Bool) (sp m : BitSet) → ((u : Bit) → IsThere s u → IsTrue (is_in m u) ↔ RestsAfter (spread p) s x u) → sp ≡ existing s (may_assign s x) → (u : Bit)
+  -- of the bits that the statement may assign the set has those that rest
+  abbrev TellsWhereAssigned : BitSet → Type 0
+  TellsWhereAssigned m = (u : Bit) → IsThere s u → IsTrue (may_assign s x u.of_name u.word u.place) → IsTrue (is_in m u) ↔ RestsAfter (spread p) s x u
+
+  kept-rests : (all : Bool) (sp m : BitSet) → TellsWhereAssigned m → sp ≡ existing s (may_assign s x) → (u : Bit)
       → IsTrue (is_in (cond all sp (and_in sp m)) u) → RestsBy all p s x u
   kept-rests true sp m f e u h =
       let g = and_parts (is_bit_of (s u.of_name) u.word u.place) (may_assign s x u.of_name u.word u.place) (subst (λ (q : BitSet). is_in q u ≡ true) e h) in
@@ -46,23 +52,24 @@ module _ (s : Scope) (x : pure.Statement) (p : BitSet) where
   kept-rests false sp m f e u h =
       let both = and_parts (is_in sp u) (is_in m u) h in
       let g = and_parts (is_bit_of (s u.of_name) u.word u.place) (may_assign s x u.of_name u.word u.place) (subst (λ (q : BitSet). is_in q u ≡ true) e both.0) in
-      (g.0, g.1, (f u g.0).0 both.1)
+      (g.0, g.1, (f u g.0 g.1).0 both.1)
 
-  rests-kept : (all : Bool) (sp m : BitSet) → ((u : Bit) → IsThere s u → IsTrue (is_in m u) ↔ RestsAfter (spread p) s x u) → sp ≡ existing s (may_assign s x) → (u : Bit)
+  rests-kept : (all : Bool) (sp m : BitSet) → TellsWhereAssigned m → sp ≡ existing s (may_assign s x) → (u : Bit)
       → RestsBy all p s x u → IsTrue (is_in (cond all sp (and_in sp m)) u)
   rests-kept true sp m f e u r =
       subst (λ (q : BitSet). is_in q u ≡ true) (sym e) (and_from (is_bit_of (s u.of_name) u.word u.place) (may_assign s x u.of_name u.word u.place) r.0 r.1)
   rests-kept false sp m f e u r =
       and_from (is_in sp u) (is_in m u)
       (subst (λ (q : BitSet). is_in q u ≡ true) (sym e) (and_from (is_bit_of (s u.of_name) u.word u.place) (may_assign s x u.of_name u.word u.place) r.0 r.1))
-      ((f u r.0).1 r.2)
+      ((f u r.0 r.1).1 r.2)
 
-  pub driver-adds : (all : Bool) (m0 m sp old new : BitSet) → m0 ≡ spread p → ((u : Bit) → IsThere s u → IsTrue (is_in m u) ↔ RestsAfter m0 s x u)
-      → sp ≡ existing s (may_assign s x) → new ≡ or_in old (cond all sp (and_in sp m)) → Adds all p s (x ∷ []) old new
-  driver-adds all m0 m sp old new start f e is u = (there, back)
+  pub driver-adds : (law : RestsWhereItDepends) → IsNarrowFlow s x → HasNoMemory s p → (all : Bool) (m0 m sp old new : BitSet) → m0 ≡ spread (and_in (needs s x) p)
+      → ((u : Bit) → IsThere s u → IsTrue (is_in m u) ↔ RestsAfter m0 s x u) → sp ≡ existing s (may_assign s x) → new ≡ or_in old (cond all sp (and_in sp m))
+      → Adds all p s (x ∷ []) old new
+  driver-adds law narrow none all m0 m sp old new start f e is u = (there, back)
     where
-      g : (u : Bit) → IsThere s u → IsTrue (is_in m u) ↔ RestsAfter (spread p) s x u
-      g = subst (λ (q : BitSet). (u : Bit) → IsThere s u → IsTrue (is_in m u) ↔ RestsAfter q s x u) start f
+      g : TellsWhereAssigned m
+      g y t a = let r = same-rests s x p m0 none start law narrow y t a in ((λ h. r.0 ((f y t).0 h)), (λ h. (f y t).1 (r.1 h)))
 
       there : IsTrue (is_in new u) → IsTrue (is_in old u) ⊎ OneRests all p s (x ∷ []) u
       there h =
@@ -74,8 +81,9 @@ module _ (s : Scope) (x : pure.Statement) (p : BitSet) where
       back (inr (inl r)) = subst (λ (q : BitSet). is_in q u ≡ true) (sym is) (or_right (is_in old u) (is_in (cond all sp (and_in sp m)) u) (rests-kept all sp m g e u r))
       back (inr (inr r)) = absurd r
 
-pub table-free : (s : Scope) (p m : BitSet) → m ≡ spread p → HasNoMemory s p → HasNoMemory s (existing s m)
-table-free s p m e none = subst (λ (q : BitSet). HasNoMemory s (existing s q)) (sym e) (spread-free s p none)
+-- the table of a turn
+pub table-free : (s : Scope) (p m : BitSet) → m ≡ spread p → HasNoMemory s p → HasNoMemory s m
+table-free s p m e none n k b h = ap (λ (q : BitSet). q n k b) e ∙ none n 0 b h
 
 -- ---- one driver after another
 
@@ -167,6 +175,21 @@ in-turn all p s items start a b nothing f g u = (there, back)
     back : RestsInTurn all p s items u → IsTrue (is_in b u)
     back (inl l) = (g u).1 (inl ((f u).1 (inr l)))
     back (inr k) = (g u).1 (inr k)
+
+-- what turns tell rests on the bits of the words 0 alone
+one-spread : (all : Bool) (p q : BitSet) (s : Scope) → spread p ≡ spread q → (xs : List pure.Statement) (u : Bit) → OneRests all p s xs u → OneRests all q s xs u
+one-spread all p q s e [] u h = h
+one-spread true p q s e (x ∷ xs) u (inl r) = inl r
+one-spread false p q s e (x ∷ xs) u (inl r) = inl (r.0, r.1, subst (λ (z : BitSet). RestsAfter z s x u) e r.2)
+one-spread all p q s e (x ∷ xs) u (inr h) = inr (one-spread all p q s e xs u h)
+
+turn-spread : (all : Bool) (p q : BitSet) (s : Scope) (items : List pure.Item) → spread p ≡ spread q → (u : Bit) → RestsInTurn all p s items u → RestsInTurn all q s items u
+turn-spread all p q s items e u (inl h) = inl (one-spread all p q s e (as_statements (assignments items)) u h)
+turn-spread all p q s items e u (inr h) = inr (one-spread all p q s e (combinational_blocks items) u h)
+
+pub by-spread : (all : Bool) (p q b : BitSet) (s : Scope) (items : List pure.Item) → spread p ≡ spread q → ((u : Bit) → IsTrue (is_in b u) ↔ RestsInTurn all p s items u)
+    → (u : Bit) → IsTrue (is_in b u) ↔ RestsInTurn all q s items u
+by-spread all p q b s items e f u = ((λ h. turn-spread all p q s items e u ((f u).0 h)), (λ h. (f u).1 (turn-spread all q p s items (sym e) u h)))
 
 pub no-spans : (xs : List Span) → xs ≡ [] → (u : Bit) → IsTrue (is_in (bits_in xs) u) → ⊥
 no-spans xs e u h = false≢true (subst (λ (ys : List Span). is_in (bits_in ys) u ≡ true) e h)

@@ -6,11 +6,13 @@ ghost use Rattle.v_syntax.specs.Source.{item_of};
 ghost use Rattle.v_value.specs.Scope.{scope_at};
 ghost use Rattle.v_value.specs.Narrow.{HasNarrowObjects};
 ghost use Rattle.v_flow.specs.Spans.{bits_in};
+ghost use Rattle.v_masks.specs.Masks.{masked};
 ghost use Rattle.v_paths.specs.Premises.{HasNoMemory};
 ghost use Rattle.v_loops.specs.Turns.{AreFitToRun, Adds};
 
 use crate::driver::add_block;
 use std::alloc::{AllocError, Global};
+use std::collections::BTreeMap;
 use v_flow::span::Span;
 use v_statement::register::is_clocked;
 use v_syntax::module::Item;
@@ -22,13 +24,13 @@ fn add_item<'s>(
     item: &Item<'s>,
     scope: &Scope<'_>,
     all: bool,
-    unsettled: &[Span<'s>],
+    unsettled: &BTreeMap<&'s str, u128>,
     found: &mut Vec<Span<'s>>,
 ) -> Result<(), AllocError>
     requires objects { HasNarrowObjects (scope_at scope.now) }
     requires fit { AreFitToRun (scope_at scope.now) (combinational_blocks (item_of item.now ∷ [])) }
-    requires variables { HasNoMemory (scope_at scope.now) (bits_in unsettled.now) }
-    ensures { OnOk result (Adds all (bits_in unsettled.now) (scope_at scope.now) (combinational_blocks (item_of item.now ∷ [])) (bits_in found.old.items) (bits_in found.new.items)) }
+    requires variables { HasNoMemory (scope_at scope.now) (masked unsettled.now) }
+    ensures { OnOk result (Adds all (masked unsettled.now) (scope_at scope.now) (combinational_blocks (item_of item.now ∷ [])) (bits_in found.old.items) (bits_in found.new.items)) }
 {
     match item {
         Item::Always(events, block) => {
@@ -53,13 +55,13 @@ pub(crate) fn add_blocks<'s>(
     items: &[Item<'s>],
     scope: &Scope<'_>,
     all: bool,
-    unsettled: &[Span<'s>],
+    unsettled: &BTreeMap<&'s str, u128>,
     found: &mut Vec<Span<'s>>,
 ) -> Result<(), AllocError>
     requires objects { HasNarrowObjects (scope_at scope.now) }
     requires fit { AreFitToRun (scope_at scope.now) (combinational_blocks (map item_of items.now)) }
-    requires variables { HasNoMemory (scope_at scope.now) (bits_in unsettled.now) }
-    ensures { OnOk result (Adds all (bits_in unsettled.now) (scope_at scope.now) (combinational_blocks (map item_of items.now)) (bits_in found.old.items) (bits_in found.new.items)) }
+    requires variables { HasNoMemory (scope_at scope.now) (masked unsettled.now) }
+    ensures { OnOk result (Adds all (masked unsettled.now) (scope_at scope.now) (combinational_blocks (map item_of items.now)) (bits_in found.old.items) (bits_in found.new.items)) }
 {
     for item in items {
         add_item(alloc, item, scope, all, unsettled, found)?;

@@ -6,12 +6,14 @@ ghost use Rattle.v_syntax.specs.Source.{item_of};
 ghost use Rattle.v_value.specs.Scope.{scope_at};
 ghost use Rattle.v_value.specs.Narrow.{HasNarrowObjects};
 ghost use Rattle.v_flow.specs.Spans.{bits_in};
+ghost use Rattle.v_masks.specs.Masks.{masked};
 ghost use Rattle.v_paths.specs.Premises.{HasNoMemory};
 ghost use Rattle.v_drivers.specs.Lists.{links_of, wire_links};
 ghost use Rattle.v_loops.specs.Turns.{as_statements, AreFitToRun, Adds};
 
 use crate::driver::add_link;
 use std::alloc::{AllocError, Global};
+use std::collections::BTreeMap;
 use v_flow::span::Span;
 use v_syntax::module::{Assignment, Item, Wire};
 use v_syntax::tree::{Selects, Target};
@@ -23,13 +25,13 @@ fn add_assignments<'s>(
     assignments: &[Assignment<'s>],
     scope: &Scope<'_>,
     all: bool,
-    unsettled: &[Span<'s>],
+    unsettled: &BTreeMap<&'s str, u128>,
     found: &mut Vec<Span<'s>>,
 ) -> Result<(), AllocError>
     requires objects { HasNarrowObjects (scope_at scope.now) }
     requires fit { AreFitToRun (scope_at scope.now) (as_statements (links_of assignments.now)) }
-    requires variables { HasNoMemory (scope_at scope.now) (bits_in unsettled.now) }
-    ensures { OnOk result (Adds all (bits_in unsettled.now) (scope_at scope.now) (as_statements (links_of assignments.now)) (bits_in found.old.items) (bits_in found.new.items)) }
+    requires variables { HasNoMemory (scope_at scope.now) (masked unsettled.now) }
+    ensures { OnOk result (Adds all (masked unsettled.now) (scope_at scope.now) (as_statements (links_of assignments.now)) (bits_in found.old.items) (bits_in found.new.items)) }
 {
     for assignment in assignments {
         add_link(
@@ -51,13 +53,13 @@ fn add_wire<'s>(
     wire: &Wire<'s>,
     scope: &Scope<'_>,
     all: bool,
-    unsettled: &[Span<'s>],
+    unsettled: &BTreeMap<&'s str, u128>,
     found: &mut Vec<Span<'s>>,
 ) -> Result<(), AllocError>
     requires objects { HasNarrowObjects (scope_at scope.now) }
     requires fit { AreFitToRun (scope_at scope.now) (as_statements (wire_links (wire.now ∷ []))) }
-    requires variables { HasNoMemory (scope_at scope.now) (bits_in unsettled.now) }
-    ensures { OnOk result (Adds all (bits_in unsettled.now) (scope_at scope.now) (as_statements (wire_links (wire.now ∷ []))) (bits_in found.old.items) (bits_in found.new.items)) }
+    requires variables { HasNoMemory (scope_at scope.now) (masked unsettled.now) }
+    ensures { OnOk result (Adds all (masked unsettled.now) (scope_at scope.now) (as_statements (wire_links (wire.now ∷ []))) (bits_in found.old.items) (bits_in found.new.items)) }
 {
     match &wire.value {
         Some(value) => {
@@ -75,13 +77,13 @@ fn add_wires<'s>(
     wires: &[Wire<'s>],
     scope: &Scope<'_>,
     all: bool,
-    unsettled: &[Span<'s>],
+    unsettled: &BTreeMap<&'s str, u128>,
     found: &mut Vec<Span<'s>>,
 ) -> Result<(), AllocError>
     requires objects { HasNarrowObjects (scope_at scope.now) }
     requires fit { AreFitToRun (scope_at scope.now) (as_statements (wire_links wires.now)) }
-    requires variables { HasNoMemory (scope_at scope.now) (bits_in unsettled.now) }
-    ensures { OnOk result (Adds all (bits_in unsettled.now) (scope_at scope.now) (as_statements (wire_links wires.now)) (bits_in found.old.items) (bits_in found.new.items)) }
+    requires variables { HasNoMemory (scope_at scope.now) (masked unsettled.now) }
+    ensures { OnOk result (Adds all (masked unsettled.now) (scope_at scope.now) (as_statements (wire_links wires.now)) (bits_in found.old.items) (bits_in found.new.items)) }
 {
     for wire in wires {
         add_wire(alloc, wire, scope, all, unsettled, found)?;
@@ -95,13 +97,13 @@ fn add_item<'s>(
     item: &Item<'s>,
     scope: &Scope<'_>,
     all: bool,
-    unsettled: &[Span<'s>],
+    unsettled: &BTreeMap<&'s str, u128>,
     found: &mut Vec<Span<'s>>,
 ) -> Result<(), AllocError>
     requires objects { HasNarrowObjects (scope_at scope.now) }
     requires fit { AreFitToRun (scope_at scope.now) (as_statements (assignments (item_of item.now ∷ []))) }
-    requires variables { HasNoMemory (scope_at scope.now) (bits_in unsettled.now) }
-    ensures { OnOk result (Adds all (bits_in unsettled.now) (scope_at scope.now) (as_statements (assignments (item_of item.now ∷ []))) (bits_in found.old.items) (bits_in found.new.items)) }
+    requires variables { HasNoMemory (scope_at scope.now) (masked unsettled.now) }
+    ensures { OnOk result (Adds all (masked unsettled.now) (scope_at scope.now) (as_statements (assignments (item_of item.now ∷ []))) (bits_in found.old.items) (bits_in found.new.items)) }
 {
     match item {
         Item::Wires(_, _, wires) => {
@@ -126,13 +128,13 @@ pub(crate) fn add_links<'s>(
     items: &[Item<'s>],
     scope: &Scope<'_>,
     all: bool,
-    unsettled: &[Span<'s>],
+    unsettled: &BTreeMap<&'s str, u128>,
     found: &mut Vec<Span<'s>>,
 ) -> Result<(), AllocError>
     requires objects { HasNarrowObjects (scope_at scope.now) }
     requires fit { AreFitToRun (scope_at scope.now) (as_statements (assignments (map item_of items.now))) }
-    requires variables { HasNoMemory (scope_at scope.now) (bits_in unsettled.now) }
-    ensures { OnOk result (Adds all (bits_in unsettled.now) (scope_at scope.now) (as_statements (assignments (map item_of items.now))) (bits_in found.old.items) (bits_in found.new.items)) }
+    requires variables { HasNoMemory (scope_at scope.now) (masked unsettled.now) }
+    ensures { OnOk result (Adds all (masked unsettled.now) (scope_at scope.now) (as_statements (assignments (map item_of items.now))) (bits_in found.old.items) (bits_in found.new.items)) }
 {
     for item in items {
         add_item(alloc, item, scope, all, unsettled, found)?;

@@ -17,6 +17,7 @@ use crate::span::has_all;
 use std::alloc::{AllocError, Global};
 use v_depend::laws::rests_where_it_depends;
 use v_flow::span::Span;
+use v_paths::mask::masks_of;
 use v_syntax::module::Item;
 use v_value::scope::Scope;
 
@@ -33,9 +34,10 @@ fn turn<'s>(
     requires variables { HasNoMemory (scope_at scope.now) (bits_in unsettled.now) }
     ensures { IfOk result (λ v. (u : Bit) → IsTrue (is_in (bits_in v.items) u) ↔ RestsInTurn all (bits_in unsettled.now) (scope_at scope.now) (map item_of items.now) u) }
 {
+    let table = masks_of(alloc, unsettled)?;
     let mut found = Vec::new(alloc);
-    add_links(alloc, items, scope, all, unsettled, &mut found)?;
-    add_blocks(alloc, items, scope, all, unsettled, &mut found)?;
+    add_links(alloc, items, scope, all, &table, &mut found)?;
+    add_blocks(alloc, items, scope, all, &table, &mut found)?;
     Ok(found)
 }
 

@@ -2,7 +2,7 @@ use Rattle.std.proofs.Common.{◌∙◌, sym, ap, map, []}
 use Rattle.v_value.specs.Scope.{scope_at}
 use Rattle.v_syntax.specs.Source.{item_of}
 use Rattle.v_size.specs.Rule.{unbroken}
-use Rattle.test_modules.proofs.Fitting.{items-narrow, reads-narrow}
+use Rattle.v_fitting.proofs.Items.{items-narrow, reads-narrow}
 use Rattle.test_modules.proofs.drivers.lacks_driver.Goals as goal
 
 pub has_undriven-requires-clause-targets : goal.has_undriven-requires-clause-targets

@@ -4,13 +4,14 @@ use Rattle.verilog_meaning.specs.Register.{combinational_blocks}
 use Rattle.v_syntax.specs.Source.{item_of}
 use Rattle.v_value.specs.Scope.{scope_at}
 use Rattle.v_flow.specs.Spans.{bits_in}
+use Rattle.v_masks.specs.Masks.{masked}
 use Rattle.v_loops.specs.Turns.{AreFitToRun}
 use Rattle.v_loops.proofs.Adding.{IsLeftToAdd}
 use Rattle.v_loops.proofs.block.add_blocks.Given as goal
 
 abbrev pub invariant-loop-item : goal.invariant-loop-item
 invariant-loop-item l = record {
-  adds : IsLeftToAdd l.all (bits_in l.unsettled) (scope_at l.scope) (combinational_blocks (map item_of l.items)) (combinational_blocks (map item_of (drop l.item-index l.items)))
+  adds : IsLeftToAdd l.all (masked l.unsettled) (scope_at l.scope) (combinational_blocks (map item_of l.items)) (combinational_blocks (map item_of (drop l.item-index l.items)))
       (bits_in l.initial.found.items) (bits_in l.found.items);
   fit : AreFitToRun (scope_at l.scope) (combinational_blocks (map item_of (drop l.item-index l.items)));
 }

@@ -7,6 +7,7 @@ use Rattle.v_drivers.proofs.Driving.{links-of-items}
 use Rattle.v_value.specs.Scope.{scope_at}
 use Rattle.v_statement.proofs.Runs.{rest_is}
 use Rattle.v_flow.specs.Spans.{bits_in}
+use Rattle.v_masks.specs.Masks.{masked}
 use Rattle.v_loops.specs.Turns.{as_statements}
 use Rattle.v_loops.proofs.Adding.{adds-turn, adds-end, fit-turn, statements-both}
 use Rattle.v_loops.proofs.link.add_links.Goals as goal
@@ -33,7 +34,7 @@ loop-item-preserved c =
     let more = as_statements (assignments (map item_of (drop (i + 1) xs))) in
     let rest = ap (λ ys. as_statements (assignments (map item_of ys))) (rest_is xs i r (omega arith) c.item-item.is) ∙ ap as_statements (links-of-items (item_of r) (map item_of (drop (i + 1) xs))) ∙ statements-both (assignments (item_of r ∷ [])) (assignments (map item_of (drop (i + 1) xs))) in
     record {
-      adds = adds-turn c.args.all (bits_in c.args.unsettled.now) s (as_statements (assignments (map item_of xs))) (as_statements (assignments (map item_of (drop i xs)))) (as_statements (assignments (item_of r ∷ []))) more (bits_in c.args.found.now.items) (bits_in c.loop-item.found.items) _
+      adds = adds-turn c.args.all (masked c.args.unsettled.now) s (as_statements (assignments (map item_of xs))) (as_statements (assignments (map item_of (drop i xs)))) (as_statements (assignments (item_of r ∷ []))) more (bits_in c.args.found.now.items) (bits_in c.loop-item.found.items) _
           rest c.loop-item.invariant.adds c.in_ok-add_item.ensures;
       fit = (fit-turn s (as_statements (assignments (map item_of (drop i xs)))) (as_statements (assignments (item_of r ∷ []))) more rest c.loop-item.invariant.fit).1;
     }
@@ -41,5 +42,5 @@ loop-item-preserved c =
 pub returns : goal.returns
 returns c =
     let s = scope_at c.args.scope.now in
-    adds-end c.args.all (bits_in c.args.unsettled.now) s (as_statements (assignments (map item_of c.args.items.now))) (as_statements (assignments (map item_of (drop c.loop-item.item-index c.args.items.now)))) (bits_in c.args.found.now.items) (bits_in c.loop-item.found.items)
+    adds-end c.args.all (masked c.args.unsettled.now) s (as_statements (assignments (map item_of c.args.items.now))) (as_statements (assignments (map item_of (drop c.loop-item.item-index c.args.items.now)))) (bits_in c.args.found.now.items) (bits_in c.loop-item.found.items)
     (at_drop_all (λ ys. as_statements (assignments (map item_of ys))) c.args.items.now c.loop-item.item-index c.loop-item-test.false) c.loop-item.invariant.adds

@@ -1,0 +1,11 @@
+use Rattle.std.proofs.Common.{◌∙◌, sym, ap, map, []}
+use Rattle.v_value.specs.Scope.{scope_at}
+use Rattle.v_syntax.specs.Source.{item_of}
+use Rattle.v_size.specs.Rule.{unbroken}
+use Rattle.v_fitting.proofs.Items.{items-runnable}
+use Rattle.test_modules.proofs.loops.items_loop.Goals as goal
+
+pub has_loop-requires-clause-fit : goal.has_loop-requires-clause-fit
+has_loop-requires-clause-fit c =
+    items-runnable [] (scope_at c.args.names.scope.now) c.args.names.narrow (map item_of c.args.items.now) c.requires.plain
+    (sym (ap unbroken (c.items_rules-broken.ensures [] c.requires.alone)) ∙ sym c.is_unbroken.ensures ∙ c.if-not-is_unbroken.false)

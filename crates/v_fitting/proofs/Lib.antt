@@ -1,0 +1,5 @@
+pub mod Items
+pub mod Wires
+mod Memories
+mod Targets
+mod Modules
