@@ -1,0 +1,13 @@
+mod Apart
+mod Chains
+mod Covered
+mod Ending
+mod Ends
+mod Given
+mod Known
+mod Listed
+mod Lowered
+mod Rounds
+mod Step
+mod Visits
+mod Walks
