@@ -11,3 +11,4 @@ mod Rounds
 mod Step
 mod Visits
 mod Walks
+mod Widths

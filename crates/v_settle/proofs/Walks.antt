@@ -1,19 +1,22 @@
 -- Drivers that the code comes to one after the other, and the bits that they drive.
 use Rattle.std.proofs.Common.{◌≡◌, ◌∙◌, ◌+◌, ◌<◌, ℕ, refl, ap, sym, subst, Bool, true, false, List, [], ◌∷◌, ◌++◌, append-nil, drop, length, get_or, arith, ◌⊎◌, inl, inr}
-use Rattle.std.specs.Prelude.{IsTrue, ◌||◌, ◌&&◌}
-use Rattle.std.proofs.lemmas.Bool.{false≢true, or_cases}
+use Rattle.std.specs.Prelude.{◌||◌, ◌&&◌, ◌==◌, not}
+use Rattle.std.proofs.lemmas.Bool.{false≢true, or_cases, and_parts}
+use Rattle.std.proofs.lemmas.Bool.Decides.{nat_tests}
+use Rattle.std.proofs.lemmas.Slice.Eq.{bytes_eq-Decides}
 use Rattle.std.proofs.lemmas.List.{drop_more}
-use Rattle.wb_values.specs.Value.{Name}
-use Rattle.verilog_trees.specs.Syntax.{Expression, Target, Statement, Item, wires, assign, always}
+use Rattle.wb_values.specs.Value.{Name, same_name}
+use Rattle.verilog_trees.specs.Syntax.{Statement}
 use Rattle.verilog_meaning.specs.Expression.{Scope}
-use Rattle.verilog_meaning.specs.Register.{is_bit_of, may_assign, one_may_assign}
+use Rattle.verilog_meaning.specs.Register.{is_bit_of, is_set, may_assign, one_may_assign}
 use Rattle.verilog_designs.specs.Reads.{BitSet, no_bits, or_in}
 use Rattle.v_flow.specs.declared.span.Span.{Span}
-use Rattle.v_flow.specs.Spans.{bits_of, bits_in, existing}
+use Rattle.v_flow.specs.Spans.{is_between, bits_of, bits_in, existing}
+use Rattle.v_masks.proofs.Bits.{set-none}
 use Rattle.v_flow.proofs.Sets.{or_false, or-none, turn, end}
 use Rattle.v_loops.specs.Turns.{as_statements, AreFitToRun}
 use Rattle.v_settle.specs.OneModule.{drivers, AreSound}
-use Rattle.v_settle.specs.Turns.{State, IsOpen, AreVisited}
+use Rattle.v_settle.specs.Turns.{State, AreVisited}
 use Rattle.v_settle.proofs.Listed.{Links, statements-both}
 use Rattle.v_settle.proofs.Rounds.{visited-then, none-visited}
 
@@ -54,7 +57,7 @@ statements-front xs ys = statements-both xs ys ∙ ap (λ zs. as_statements zs +
 -- ---- the drivers of an item
 
 pub of-links : (links : Links) → as_statements links ≡ as_statements (links ++ []) ++ ([] ++ [])
-of-links links = sym (append-nil (as_statements links) ) ∙ ap (λ zs. as_statements zs ++ []) (sym (append-nil links))
+of-links links = sym (append-nil (as_statements links)) ∙ ap (λ zs. as_statements zs ++ []) (sym (append-nil links))
 
 -- ---- bits that are driven
 
@@ -103,7 +106,27 @@ driven-none s xs a e = sym (or-none a) ∙ ap (or_in a) (sym (ap (driven-set s) 
 pub driven-same : (s : Scope) (xs ys : List Statement) (a b : BitSet) → xs ≡ ys → b ≡ or_in a (driven-set s xs) → b ≡ or_in a (driven-set s ys)
 driven-same s xs ys a b e h = h ∙ ap (λ zs. or_in a (driven-set s zs)) e
 
+pub begun-set : (s : Scope) (xs : List Statement) (start : List Span) → start ≡ [] → driven-set s xs ≡ or_in (bits_in start) (driven-set s xs)
+begun-set s xs start e = ap (λ zs. or_in (bits_in zs) (driven-set s xs)) (sym e)
+
 -- ---- spans that have no more
+
+zero-from : (w : ℕ) → not (w == 0) ≡ false → w ≡ 0
+zero-from w h = grind (arith, nat_tests, h)
+
+covered : (p q : Bool) → p ≡ true → (p && not q) ≡ false → q ≡ true
+covered p true h g = refl
+covered true false h g = absurd (false≢true (sym g))
+covered false false h g = absurd (false≢true h)
+
+pub span-covered : (x : Span) (f : Name → ℕ) (m w : ℕ) → m ≡ f x.name.now → ((b : ℕ) → is_set w b ≡ (is_set x.bits b && not (is_set m b))) → not (w == 0) ≡ false
+    → (n : Name) (k b : ℕ) → bits_of x n k b ≡ true → is_set (f n) b ≡ true
+span-covered x f m w is_m is_w none n k b h =
+    let both = and_parts (same_name x.name.now n) (is_between x.from_word x.to_word k && is_set x.bits b) h in
+    let same = (bytes_eq-Decides x.name.now n).0 both.0 in
+    let bit = (and_parts (is_between x.from_word x.to_word k) (is_set x.bits b) both.1).1 in
+    let empty : (is_set x.bits b && not (is_set m b)) ≡ false = sym (is_w b) ∙ ap (λ z. is_set z b) (zero-from w none) ∙ set-none b in
+    subst (λ (q : Name). is_set (f q) b ≡ true) same (ap (λ z. is_set z b) (sym is_m) ∙ covered (is_set x.bits b) (is_set m b) bit empty)
 
 pub spans-turn : (xs : List Span) (i : ℕ) (d : Span) (q : BitSet) → i < length xs
     → ((n : Name) (k b : ℕ) → bits_of (get_or xs i d) n k b ≡ true → q n k b ≡ true)
