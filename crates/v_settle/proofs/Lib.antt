@@ -1,3 +1,4 @@
+mod Alone
 mod Apart
 mod Chains
 mod Covered

@@ -3,6 +3,7 @@
 
 mod driven;
 mod driver;
+pub mod laws;
 mod module;
 mod reading;
 mod span;
