@@ -29,15 +29,25 @@ use Rattle.v_settle.proofs.Given.{spread-there, there-spread, spread-free, stage
 use Rattle.v_settle.proofs.Chains.{first-step, loop-from}
 use Rattle.v_settle.proofs.Covered.{all-bits, length-all, covers-all}
 use Rattle.v_settle.proofs.Listed.{fit-driver, IsBy, by-driver, one-assigns, assigned-by, driven-by, first-stage, stage-assigned}
+use Rattle.v_settle.specs.Copies.{IsWithin}
+use Rattle.v_settle.proofs.Copying.{stands-within}
 use Rattle.v_settle.proofs.Step.{some-same}
 
 -- ---- bits that are driven
 
 module _ (s : Scope) (items : List Item) (ready : IsEvaluable s items) (d : BitSet) (is_d : d ≡ existing s (one_may_assign s (drivers items))) where
-  in-driven : (u : Bit) → is_in d u ≡ true → IsThere s u × ((x : Statement) × IsAmong (drivers items) x × (may_assign s x u.of_name u.word u.place ≡ true))
+  -- a driver that may assign a bit that there is
+  record IsDrivenBy (u : Bit) : Type 0 where
+    pub there : IsThere s u
+    pub driver : Statement
+    pub stands : IsAmong (drivers items) driver
+    pub assigns : may_assign s driver u.of_name u.word u.place ≡ true
+
+  in-driven : (u : Bit) → is_in d u ≡ true → IsDrivenBy u
   in-driven u h =
       let both = and_parts (is_bit_of (s u.of_name) u.word u.place) (one_may_assign s (drivers items) u.of_name u.word u.place) (subst (λ (q : BitSet). is_in q u ≡ true) is_d h) in
-      (both.0, one-assigns s (drivers items) u.of_name u.word u.place both.1)
+      let o = one-assigns s (drivers items) u.of_name u.word u.place both.1 in
+      record { there = both.0; driver = o.0; stands = o.1; assigns = o.2 }
 
   pub driven-in : (x : Statement) (u : Bit) → IsAmong (drivers items) x → IsThere s u → may_assign s x u.of_name u.word u.place ≡ true → is_in d u ≡ true
   driven-in x u h there m =
@@ -48,21 +58,21 @@ module _ (s : Scope) (items : List Item) (ready : IsEvaluable s items) (d : BitS
   pub driven-free : HasNoMemory s d
   driven-free n k b m = false_from_ne_true (d n k b) (λ h. at (in-driven (record { of_name = n; word = k; place = b }) h))
     where
-      at : IsThere s (record { of_name = n; word = k; place = b }) × ((x : Statement) × IsAmong (drivers items) x × (may_assign s x n k b ≡ true)) → ⊥
+      at : IsDrivenBy (record { of_name = n; word = k; place = b }) → ⊥
       at h =
           true≢false
-          (sym (and_from (is_bit_of (s n) k b) (may_assign s h.1.0 n k b) h.0 h.1.2)
-          ∙ (fit-driver s items h.1.0 ready.runnable h.1.1).plain n k b m)
+          (sym (and_from (is_bit_of (s n) k b) (may_assign s h.driver n k b) h.there h.assigns)
+          ∙ (fit-driver s items h.driver ready.runnable h.stands).plain n k b m)
 
   pub driven-stage : IsStage s items 0 d
-  driven-stage u = ((λ h. let i = in-driven u h in first-stage s items i.1.0 u i.1.1 i.0 i.1.2), (λ h. let g = stage-assigned s items u h in driven-in g.0 u g.1 g.2 g.3))
+  driven-stage u = ((λ h. let i = in-driven u h in first-stage s items i.driver u i.stands i.there i.assigns), (λ h. let g = stage-assigned s items u h in driven-in g.0 u g.1 g.2 g.3))
 
   -- ---- the beginning
 
-  module _ (a n : Images) (g : Graph) (p : BitSet) (is_p : p ≡ spread d) (known : HasImages s a g) (same : n ≡ a) where
+  module _ (a n : Images) (g : Graph) (p : BitSet) (is_p : p ≡ spread d) (known : HasImages s a g) (known_spare : HasImages s n g) (within : IsWithin n a) where
     -- what is given from outside, and the state before the first driver
     abbrev start : State
-    start = state_of a n g no_bits
+    start = state_of a a g no_bits
 
     abbrev first : State
     first = state_of a n g p
@@ -77,15 +87,15 @@ module _ (s : Scope) (items : List Item) (ready : IsEvaluable s items) (d : BitS
     first-open =
         record {
           known = known;
-          known_spare = subst (λ (m : Images). HasImages s m g) (sym same) known;
+          known_spare = known_spare;
           plain = subst (λ (q : BitSet). HasNoMemory s (existing s q)) (sym is_p) (spread-free s d driven-free);
         }
 
-    outside : (p2 u v : Valuation) → Stands s start p2 u → IsSettledFrom s items a u v → IsSettledBut s first p2 v
+    outside : (p2 u v : Valuation) → StandsFor s a g p2 u → IsSettledFrom s items a u v → IsSettledBut s first p2 v
     outside p2 u v st h =
         record {
           valuation = u;
-          stands = record { names = st.names; others = st.others; spares = st.spares };
+          stands = record { names = st; others = u; spares = stands-within s n a g p2 u within st };
           same = λ y there e. sym (h.given y.of_name y.word y.place there (undriven y there e));
         }
       where
@@ -115,7 +125,7 @@ module _ (s : Scope) (items : List Item) (ready : IsEvaluable s items) (d : BitS
               driven-unsettled u b.there (driven-in b.driver u b.stands b.there b.assigns);
           chains = λ u there h.
               let i = in-driven u (unsettled-driven u there h) in
-              first-stage s items i.1.0 u i.1.1 there i.1.2;
+              first-stage s items i.driver u i.stands there i.assigns;
         }
 
     -- ---- the end
@@ -155,7 +165,7 @@ module _ (s : Scope) (items : List Item) (ready : IsEvaluable s items) (d : BitS
           o = found.0 h
 
           there : IsThere s o.0
-          there = (in-driven o.0 o.1).0
+          there = (in-driven o.0 o.1).there
 
           at : IsEnd → HasLoopIn s items
           at (inl last) = loop-of (length spans * 128) o.0 (omega arith) (far last (length spans * 128) o.0 there o.2)
@@ -190,9 +200,6 @@ module _ (s : Scope) (items : List Item) (ready : IsEvaluable s items) (d : BitS
           none : (u : Bit) → IsThere s u → is_in now.unsettled u ≡ false
           none = nothing-left (is-false left e)
 
-          begun-with : (q u : Valuation) → StandsFor s a g q u → Stands s start q u
-          begun-with q u st = record { names = st; others = u; spares = subst (λ (m : Images). StandsFor s m g q u) (sym same) st }
-
           value : (q u v : Valuation) (h : IsSettledFrom s items a u v) (b : IsSettledBut s now q v) (m : Name) (id : ℕ) → now.images m ≡ Some id → IsValueOf (s m) (v m)
               → b.valuation m ≡ v m
           value q u v h b m id i f =
@@ -204,7 +211,7 @@ module _ (s : Scope) (items : List Item) (ready : IsEvaluable s items) (d : BitS
 
           stands-then : (q u v : Valuation) → StandsFor s a g q u → IsSettledFrom s items a u v → StandsFor s now.images now.graph q v
           stands-then q u v st h =
-              let b = way.settled q u v (begun-with q u st) h in
+              let b = way.settled q u v st h in
               record {
                 fits = λ m id i. fits-now q u v h m id i;
                 same = λ m id i. b.stands.names.same m id i ∙ value q u v h b m id i (fits-now q u v h m id i);

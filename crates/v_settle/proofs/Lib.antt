@@ -1,6 +1,7 @@
 mod Alone
 mod Apart
 mod Chains
+mod Copying
 mod Covered
 mod Ending
 mod Ends

@@ -1,3 +1,4 @@
+pub mod Copies
 pub mod Designs
 pub mod Drivers
 pub mod OneModule

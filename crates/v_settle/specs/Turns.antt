@@ -76,7 +76,7 @@ pub record IsSettledBut (s : Scope) (a : State) (p v : Valuation) : Type 0 where
 pub record IsUnderWay (s : Scope) (items : List Item) (start now : State) (k : ℕ) : Type 0 where
   pub opens : IsOpen s now
   pub names : AreOfNames start.images now.images
-  pub settled : (p u v : Valuation) → Stands s start p u → IsSettledFrom s items start.images u v → IsSettledBut s now p v
+  pub settled : (p u v : Valuation) → StandsFor s start.images start.graph p u → IsSettledFrom s items start.images u v → IsSettledBut s now p v
   pub keeps : (x : Statement) (u : Bit) → Contains (drivers items) x → IsThere s u → RestsAfter now.unsettled s x u → IsTrue (is_in now.unsettled u)
   pub loops : (u : Bit) → DependsFarIn s items u u → IsTrue (is_in now.unsettled u)
   pub chains : (u : Bit) → IsThere s u → IsTrue (is_in now.unsettled u) → Stage s items k u

@@ -1,6 +1,7 @@
 //! The nets of a Verilog module evaluated to terms: what each name has in the settled valuation.
 #![tactic(auto)]
 
+mod copy;
 mod driven;
 mod driver;
 pub mod laws;

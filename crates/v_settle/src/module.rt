@@ -11,6 +11,7 @@ ghost use Rattle.v_loops.specs.OneModule.{HasLoopIn};
 ghost use Rattle.v_settle.specs.OneModule.{IsEvaluable, IsEvaluated};
 
 use crate::NoMemory;
+use crate::copy::copied;
 use crate::driven::driven;
 use crate::turn::turns;
 use std::alloc::{AllocError, Global};
@@ -25,19 +26,18 @@ use wb_terms::Terms;
 fn settle_all<'s>(
     alloc: Global,
     items: &[Item<'s>],
-    scope: &Scope<'_>,
+    scope: &Scope<'s>,
     table: &mut NamedTerms<'s>,
-    spare: &mut NamedTerms<'s>,
     terms: &mut Terms,
 ) -> Result<bool, NoMemory>
     requires objects { HasNarrowObjects (scope_at scope.now) }
     requires known { HasImages (scope_at scope.now) (images_at table.old) terms.old }
-    requires spare { images_at spare.old ≡ images_at table.old }
     requires ready { IsEvaluable (scope_at scope.now) (map item_of items.now) }
     ensures grows { Grows terms.old terms.new }
     ensures settled { IfOk result (λ r. r ≡ true → IsEvaluated (scope_at scope.now) (map item_of items.now) (images_at table.old) terms.old (images_at table.new) terms.new) }
     ensures loops { IfOk result (λ r. IsTrue r ↔ ¬ HasLoopIn (scope_at scope.now) (map item_of items.now)) }
 {
+    let mut spare = copied(alloc, scope, table)?;
     let spans = driven(alloc, items, scope)?;
     let mut unsettled = masks_of(alloc, &spans)?;
     let count = spans.len();
@@ -49,7 +49,7 @@ fn settle_all<'s>(
             &spans,
             &mut unsettled,
             table,
-            spare,
+            &mut spare,
             terms,
         )?;
         if ended {
@@ -63,19 +63,17 @@ fn settle_all<'s>(
 
 /// Evaluates the nets of a module without parameters and instances (1364-2005, 6.1 and 9.9): each name gets a term that is worth what the
 /// settled valuation gives it, where the terms before are worth what is given from outside. Answers whether all bits came to be settled;
-/// they do exactly where no bit depends on itself. Where some do not, the table may have any terms, and so may the second table, which is
-/// to begin with the same terms and is only written to. Where memory runs out, the store is as it was.
+/// they do exactly where no bit depends on itself. Where some do not, or memory runs out, the table may have any terms. Where memory runs
+/// out, the store is as it was.
 pub fn settle<'s>(
     alloc: Global,
     items: &[Item<'s>],
-    scope: &Scope<'_>,
+    scope: &Scope<'s>,
     table: &mut NamedTerms<'s>,
-    spare: &mut NamedTerms<'s>,
     terms: &mut Terms,
 ) -> Result<bool, NoMemory>
     requires objects { HasNarrowObjects (scope_at scope.now) }
     requires known { HasImages (scope_at scope.now) (images_at table.old) terms.old }
-    requires spare { images_at spare.old ≡ images_at table.old }
     requires ready { IsEvaluable (scope_at scope.now) (map item_of items.now) }
     ensures grows { Grows terms.old terms.new }
     ensures settled { IfOk result (λ r. r ≡ true → IsEvaluated (scope_at scope.now) (map item_of items.now) (images_at table.old) terms.old (images_at table.new) terms.new) }
@@ -83,7 +81,7 @@ pub fn settle<'s>(
     ensures kept { OnErr result (terms.new ≡ terms.old) }
 {
     let before = terms.len();
-    match settle_all(alloc, items, scope, table, spare, terms) {
+    match settle_all(alloc, items, scope, table, terms) {
         Ok(all) => Ok(all),
         Err(_) => {
             terms.cut(before);

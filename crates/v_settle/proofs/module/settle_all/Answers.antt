@@ -9,6 +9,7 @@ use Rattle.v_flow.specs.Spans.{bits_in}
 use Rattle.v_masks.specs.Masks.{masked, spread}
 use Rattle.v_depend.specs.Resting.{OneIsUnsettled}
 use Rattle.v_settle.specs.Turns.{state_of}
+use Rattle.v_settle.proofs.Copying.{copied-known}
 use Rattle.v_settle.proofs.Listed.{fit-drivers}
 use Rattle.v_settle.proofs.Ends.{first-open, begun, answered-loops, answered-settled}
 use Rattle.v_settle.proofs.Ending.{next-turns, last-turn}
@@ -24,8 +25,8 @@ loop-init c =
     let is_p = c.in_ok-unsettled.ensures ∙ ap (λ xs. spread (bits_in xs)) c.deref.ensures.value in
     record {
       grows = Grows-refl c.args.terms.now;
-      opens = first-open s items c.requires.ready (bits_in c.in_ok-spans.spans.items) c.in_ok-spans.ensures (images_at c.args.table.now) (images_at c.args.spare.now) c.args.terms.now (masked c.in_ok-unsettled.unsettled) is_p c.requires.known c.requires.spare;
-      way = begun s items c.requires.ready (bits_in c.in_ok-spans.spans.items) c.in_ok-spans.ensures (images_at c.args.table.now) (images_at c.args.spare.now) c.args.terms.now (masked c.in_ok-unsettled.unsettled) is_p c.requires.known c.requires.spare;
+      opens = first-open s items c.requires.ready (bits_in c.in_ok-spans.spans.items) c.in_ok-spans.ensures (images_at c.args.table.now) (images_at c.in_ok-spare.spare) c.args.terms.now (masked c.in_ok-unsettled.unsettled) is_p c.requires.known (copied-known (scope_at c.args.scope.now) (images_at c.args.table.now) (images_at c.in_ok-spare.spare) c.args.terms.now c.requires.known c.in_ok-spare.ensures.within c.in_ok-spare.ensures.all) c.in_ok-spare.ensures.within;
+      way = begun s items c.requires.ready (bits_in c.in_ok-spans.spans.items) c.in_ok-spans.ensures (images_at c.args.table.now) (images_at c.in_ok-spare.spare) c.args.terms.now (masked c.in_ok-unsettled.unsettled) is_p c.requires.known (copied-known (scope_at c.args.scope.now) (images_at c.args.table.now) (images_at c.in_ok-spare.spare) c.args.terms.now c.requires.known c.in_ok-spare.ensures.within c.in_ok-spare.ensures.all) c.in_ok-spare.ensures.within;
     }
 
 pub turns-ended-requires-clause-opens : goal.turns-ended-requires-clause-opens
@@ -42,8 +43,8 @@ loop-preserved c =
     record {
       grows = Grows-trans c.loop.invariant.grows c.in_ok-ended.ensures.grows;
       opens = c.in_ok-ended.ensures.opens;
-      way = next-turns (scope_at c.args.scope.now) (map item_of c.args.items.now) (state_of (images_at c.args.table.now) (images_at c.args.spare.now) c.args.terms.now no_bits) c.in_ok-ended.ended c.loop.counter (state_of (images_at c.turns.new.table) (images_at c.turns.new.spare) c.turns.new.terms (masked c.turns.new.unsettled)) c.if-ended.false
-          (c.in_ok-ended.ensures.made (state_of (images_at c.args.table.now) (images_at c.args.spare.now) c.args.terms.now no_bits) (c.loop.counter * 128) c.loop.invariant.way);
+      way = next-turns (scope_at c.args.scope.now) (map item_of c.args.items.now) (state_of (images_at c.args.table.now) (images_at c.args.table.now) c.args.terms.now no_bits) c.in_ok-ended.ended c.loop.counter (state_of (images_at c.turns.new.table) (images_at c.turns.new.spare) c.turns.new.terms (masked c.turns.new.unsettled)) c.if-ended.false
+          (c.in_ok-ended.ensures.made (state_of (images_at c.args.table.now) (images_at c.args.table.now) c.args.terms.now no_bits) (c.loop.counter * 128) c.loop.invariant.way);
     }
 
 pub returns-then-ended-clause-grows : goal.returns-then-ended-clause-grows
@@ -54,8 +55,8 @@ returns-then-ended-clause-settled c =
     let s = scope_at c.args.scope.now in
     let items = map item_of c.args.items.now in
     let is_p = c.in_ok-unsettled.ensures ∙ ap (λ xs. spread (bits_in xs)) c.deref.ensures.value in
-    let l = last-turn s items (state_of (images_at c.args.table.now) (images_at c.args.spare.now) c.args.terms.now no_bits) c.in_ok-ended.ended (c.loop.counter * 128) (state_of (images_at c.turns.new.table) (images_at c.turns.new.spare) c.turns.new.terms (masked c.turns.new.unsettled)) c.if-ended.true (c.in_ok-ended.ensures.made (state_of (images_at c.args.table.now) (images_at c.args.spare.now) c.args.terms.now no_bits) (c.loop.counter * 128) c.loop.invariant.way) in
-    answered-settled s items c.requires.ready (bits_in c.in_ok-spans.spans.items) c.in_ok-spans.ensures (images_at c.args.table.now) (images_at c.args.spare.now) c.args.terms.now (masked c.in_ok-unsettled.unsettled) is_p c.requires.known c.requires.spare
+    let l = last-turn s items (state_of (images_at c.args.table.now) (images_at c.args.table.now) c.args.terms.now no_bits) c.in_ok-ended.ended (c.loop.counter * 128) (state_of (images_at c.turns.new.table) (images_at c.turns.new.spare) c.turns.new.terms (masked c.turns.new.unsettled)) c.if-ended.true (c.in_ok-ended.ensures.made (state_of (images_at c.args.table.now) (images_at c.args.table.now) c.args.terms.now no_bits) (c.loop.counter * 128) c.loop.invariant.way) in
+    answered-settled s items c.requires.ready (bits_in c.in_ok-spans.spans.items) c.in_ok-spans.ensures (images_at c.args.table.now) (images_at c.in_ok-spare.spare) c.args.terms.now (masked c.in_ok-unsettled.unsettled) is_p c.requires.known (copied-known (scope_at c.args.scope.now) (images_at c.args.table.now) (images_at c.in_ok-spare.spare) c.args.terms.now c.requires.known c.in_ok-spare.ensures.within c.in_ok-spare.ensures.all) c.in_ok-spare.ensures.within
     c.requires.objects c.in_ok-spans.spans.items (λ i. bits_in c.in_ok-spans.spans.items) (state_of (images_at c.turns.new.table) (images_at c.turns.new.spare) c.turns.new.terms (masked c.turns.new.unsettled)) l.0 l.1 c.meets-left.result
     (subst (λ xs. IsTrue c.meets-left.result ↔ OneIsUnsettled (masked c.turns.new.unsettled) (bits_in xs)) c.deref-in-then.ensures.value c.meets-left.ensures)
 
@@ -64,8 +65,8 @@ returns-then-ended-clause-loops c =
     let s = scope_at c.args.scope.now in
     let items = map item_of c.args.items.now in
     let is_p = c.in_ok-unsettled.ensures ∙ ap (λ xs. spread (bits_in xs)) c.deref.ensures.value in
-    let l = last-turn s items (state_of (images_at c.args.table.now) (images_at c.args.spare.now) c.args.terms.now no_bits) c.in_ok-ended.ended (c.loop.counter * 128) (state_of (images_at c.turns.new.table) (images_at c.turns.new.spare) c.turns.new.terms (masked c.turns.new.unsettled)) c.if-ended.true (c.in_ok-ended.ensures.made (state_of (images_at c.args.table.now) (images_at c.args.spare.now) c.args.terms.now no_bits) (c.loop.counter * 128) c.loop.invariant.way) in
-    answered-loops s items c.requires.ready (bits_in c.in_ok-spans.spans.items) c.in_ok-spans.ensures (images_at c.args.table.now) (images_at c.args.spare.now) c.args.terms.now (masked c.in_ok-unsettled.unsettled) is_p c.requires.known c.requires.spare
+    let l = last-turn s items (state_of (images_at c.args.table.now) (images_at c.args.table.now) c.args.terms.now no_bits) c.in_ok-ended.ended (c.loop.counter * 128) (state_of (images_at c.turns.new.table) (images_at c.turns.new.spare) c.turns.new.terms (masked c.turns.new.unsettled)) c.if-ended.true (c.in_ok-ended.ensures.made (state_of (images_at c.args.table.now) (images_at c.args.table.now) c.args.terms.now no_bits) (c.loop.counter * 128) c.loop.invariant.way) in
+    answered-loops s items c.requires.ready (bits_in c.in_ok-spans.spans.items) c.in_ok-spans.ensures (images_at c.args.table.now) (images_at c.in_ok-spare.spare) c.args.terms.now (masked c.in_ok-unsettled.unsettled) is_p c.requires.known (copied-known (scope_at c.args.scope.now) (images_at c.args.table.now) (images_at c.in_ok-spare.spare) c.args.terms.now c.requires.known c.in_ok-spare.ensures.within c.in_ok-spare.ensures.all) c.in_ok-spare.ensures.within
     c.requires.objects c.in_ok-spans.spans.items (λ i. bits_in c.in_ok-spans.spans.items) (state_of (images_at c.turns.new.table) (images_at c.turns.new.spare) c.turns.new.terms (masked c.turns.new.unsettled)) l.0 l.1 c.meets-left.result
     (subst (λ xs. IsTrue c.meets-left.result ↔ OneIsUnsettled (masked c.turns.new.unsettled) (bits_in xs)) c.deref-in-then.ensures.value c.meets-left.ensures)
     (inl l.2)
@@ -78,7 +79,7 @@ returns-clause-settled c =
     let s = scope_at c.args.scope.now in
     let items = map item_of c.args.items.now in
     let is_p = c.in_ok-unsettled.ensures ∙ ap (λ xs. spread (bits_in xs)) c.deref.ensures.value in
-    answered-settled s items c.requires.ready (bits_in c.in_ok-spans.spans.items) c.in_ok-spans.ensures (images_at c.args.table.now) (images_at c.args.spare.now) c.args.terms.now (masked c.in_ok-unsettled.unsettled) is_p c.requires.known c.requires.spare
+    answered-settled s items c.requires.ready (bits_in c.in_ok-spans.spans.items) c.in_ok-spans.ensures (images_at c.args.table.now) (images_at c.in_ok-spare.spare) c.args.terms.now (masked c.in_ok-unsettled.unsettled) is_p c.requires.known (copied-known (scope_at c.args.scope.now) (images_at c.args.table.now) (images_at c.in_ok-spare.spare) c.args.terms.now c.requires.known c.in_ok-spare.ensures.within c.in_ok-spare.ensures.all) c.in_ok-spare.ensures.within
     c.requires.objects c.in_ok-spans.spans.items (λ i. bits_in c.in_ok-spans.spans.items) (state_of (images_at c.loop.table) (images_at c.loop.spare) c.loop.terms (masked c.loop.unsettled)) (c.loop.counter * 128) c.loop.invariant.way c.meets-left-2.result
     (subst (λ xs. IsTrue c.meets-left-2.result ↔ OneIsUnsettled (masked c.loop.unsettled) (bits_in xs)) c.deref-2.ensures.value c.meets-left-2.ensures)
 
@@ -87,7 +88,7 @@ returns-clause-loops c =
     let s = scope_at c.args.scope.now in
     let items = map item_of c.args.items.now in
     let is_p = c.in_ok-unsettled.ensures ∙ ap (λ xs. spread (bits_in xs)) c.deref.ensures.value in
-    answered-loops s items c.requires.ready (bits_in c.in_ok-spans.spans.items) c.in_ok-spans.ensures (images_at c.args.table.now) (images_at c.args.spare.now) c.args.terms.now (masked c.in_ok-unsettled.unsettled) is_p c.requires.known c.requires.spare
+    answered-loops s items c.requires.ready (bits_in c.in_ok-spans.spans.items) c.in_ok-spans.ensures (images_at c.args.table.now) (images_at c.in_ok-spare.spare) c.args.terms.now (masked c.in_ok-unsettled.unsettled) is_p c.requires.known (copied-known (scope_at c.args.scope.now) (images_at c.args.table.now) (images_at c.in_ok-spare.spare) c.args.terms.now c.requires.known c.in_ok-spare.ensures.within c.in_ok-spare.ensures.all) c.in_ok-spare.ensures.within
     c.requires.objects c.in_ok-spans.spans.items (λ i. bits_in c.in_ok-spans.spans.items) (state_of (images_at c.loop.table) (images_at c.loop.spare) c.loop.terms (masked c.loop.unsettled)) (c.loop.counter * 128) c.loop.invariant.way c.meets-left-2.result
     (subst (λ xs. IsTrue c.meets-left-2.result ↔ OneIsUnsettled (masked c.loop.unsettled) (bits_in xs)) c.deref-2.ensures.value c.meets-left-2.ensures)
     (inr (omega (arith, c.loop-test.false)))

@@ -13,6 +13,6 @@ abbrev pub invariant-loop : goal.invariant-loop
 invariant-loop l = record {
   grows : Grows l.initial.terms l.terms;
   opens : IsOpen (scope_at l.scope) (state_of (images_at l.table) (images_at l.spare) l.terms (masked l.unsettled));
-  way : IsUnderWay (scope_at l.scope) (map item_of l.items) (state_of (images_at l.initial.table) (images_at l.initial.spare) l.initial.terms no_bits)
+  way : IsUnderWay (scope_at l.scope) (map item_of l.items) (state_of (images_at l.initial.table) (images_at l.initial.table) l.initial.terms no_bits)
       (state_of (images_at l.table) (images_at l.spare) l.terms (masked l.unsettled)) (l.counter * 128);
 }
