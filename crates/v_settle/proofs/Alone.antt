@@ -44,18 +44,18 @@ an-input (Some output) = inr (λ e. differ e)
     differ e = true≢false (ap is-output e)
 an-input None = inr (λ e. none_some input e)
 
-other-name : (m n : Name) → same_name m n ≡ false → m ≢ n
+pub other-name : (m n : Name) → same_name m n ≡ false → m ≢ n
 other-name m n e f = false≢true (sym e ∙ subst (λ (z : Name). same_name m z ≡ true) f (is_same m))
 
 module _ (d : Design) (m : Module) (clear : has_parts d.source ≡ false) (own : module_has_parts m ≡ false) (top : at_path d [] ≡ Some (alone m)) where
   abbrev s : Scope
   s = placed_scope (alone m)
 
-  placed-top : (q : Placed) (path : List PathStep) → at_path d path ≡ Some q → q ≡ alone m
+  pub placed-top : (q : Placed) (path : List PathStep) → at_path d path ≡ Some q → q ≡ alone m
   placed-top q [] e = some_is q (alone m) (sym e ∙ top)
   placed-top q (u ∷ path) e = absurd (none_some q (sym (nothing_below d.source d.top clear u path) ∙ e))
 
-  unconnected : port_connections m.items ≡ []
+  pub unconnected : port_connections m.items ≡ []
   unconnected = no-connections m.items (second (is_any m.parameters) (list_any is_part m.items) own)
 
   no-connection : (c : Connection) → Contains (port_connections m.items) c → ⊥
@@ -125,7 +125,7 @@ settles-from-outside d m registers inputs u v images clear own top named settled
 pub no-memory : NoParameterIsMemory
 no-memory d p at = no_constant_memory d p.path p at
 
-link-of : (links : Links) (x : Statement) → IsAmong (as_statements links) x → (a : Target × Expression) × IsAmong links a × (blocking a.0 a.1 ≡ x)
+pub link-of : (links : Links) (x : Statement) → IsAmong (as_statements links) x → (a : Target × Expression) × IsAmong links a × (blocking a.0 a.1 ≡ x)
 link-of [] x h = absurd h
 link-of (a ∷ links) x (inl e) = (a, inl refl, e)
 link-of (a ∷ links) x (inr h) = let r = link-of links x h in (r.0, inr r.1, r.2)

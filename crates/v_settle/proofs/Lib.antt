@@ -1,5 +1,6 @@
 mod Alone
 mod Apart
+mod Back
 mod Chains
 mod Copying
 mod Covered

@@ -5,6 +5,7 @@ use Rattle.verilog_trees.specs.Syntax.{input, Module}
 use Rattle.verilog_meaning.specs.Register.{value_bit}
 use Rattle.verilog_meaning.specs.Hierarchy.{Placed, placed_scope}
 use Rattle.verilog_meaning.specs.Settled.{Design, at_path, IsPlacedIn, IsDeclared, inside, HasPort, IsBitOf, is_counted, IsSettled}
+use Rattle.verilog_meaning.specs.Next.{AreInputs}
 use Rattle.verilog_settled.specs.Locality.{HasNoConstantMemory}
 use Rattle.verilog_exists.specs.Exists.{IsShapely}
 use Rattle.verilog_exists.specs.Loops.{IsAcceptedButForLoops}
@@ -31,6 +32,17 @@ SettlesFromOutside =
     → ((n : Name) (id : ℕ) → images n ≡ Some id → IsDeclared (alone m) n)
     → IsSettled d registers inputs v → IsGivenTo d (alone m) registers inputs v u
     → IsSettledFrom (placed_scope (alone m)) m.items images u v
+
+-- And back: where its one module has settled from what is given to it, and each declared name has a term, so has a design that breaks no
+-- rule but perhaps that on loops.
+abbrev pub SettlesWithItsModule : Type 0
+SettlesWithItsModule =
+    (d : Design) (m : Module) (registers inputs u v : Valuation) (images : Images)
+    → has_parts d.source ≡ false → module_has_parts m ≡ false → at_path d [] ≡ Some (alone m)
+    → IsAcceptedButForLoops d → IsShapely d → AreInputs d inputs
+    → ((n : Name) → IsDeclared (alone m) n → (id : ℕ) × (images n ≡ Some id))
+    → IsGivenTo d (alone m) registers inputs v u → IsSettledFrom (placed_scope (alone m)) m.items images u v
+    → IsSettled d registers inputs v
 
 -- A bit of a design that breaks no rule has one driver at most, and no parameter is a memory.
 abbrev pub AcceptedHasOneDriver : Type 0
