@@ -1,6 +1,6 @@
 -- A design that is one module: what settles in it, and that a bit has one driver.
 use Rattle.std.proofs.Common.{◌≡◌, ◌≢◌, ◌∙◌, ℕ, refl, ap, sym, subst, arith, Bool, true, false, List, [], ◌∷◌, ◌⊎◌, inl, inr, Contains, Option, Some, None}
-use Rattle.std.specs.Prelude.{IsTrue, ◌||◌}
+use Rattle.std.specs.Prelude.{IsTrue}
 use Rattle.std.specs.List.{list_any}
 use Rattle.std.proofs.lemmas.Bool.{false≢true, true≢false, or_parts, cases_Bool}
 use Rattle.std.proofs.lemmas.Slice.Eq.{bytes_eq-Decides}
@@ -9,12 +9,12 @@ use Rattle.verilog_trees.specs.Syntax.{Expression, Target, Statement, blocking, 
 use Rattle.verilog_meaning.specs.Expression.{Scope}
 use Rattle.verilog_meaning.specs.Register.{may_assign, one_may_assign, combinational_blocks, value_bit, is_bit_of}
 use Rattle.verilog_meaning.specs.Hierarchy.{declarations, PathStep, Placed, placed_scope}
-use Rattle.verilog_meaning.specs.Settled.{Design, at_path, IsPlacedIn, IsDeclared, is_declared_among, inside, HasPort, port_directions, is_counted, one_may_reach, IsDriven, assignments, Connection, port_connections, IsSettledIn, IsSettled}
+use Rattle.verilog_meaning.specs.Settled.{Design, at_path, IsPlacedIn, IsDeclared, is_declared_among, HasPort, port_directions, is_counted, one_may_reach, IsDriven, assignments, Connection, port_connections, IsSettledIn, IsSettled}
 use Rattle.verilog_designs.specs.Dependence.{Bit}
 use Rattle.verilog_unique.proofs.Options.{is_same}
 use Rattle.verilog_unique.proofs.Descent.{IsAmong, among_contains}
 use Rattle.verilog_unique.proofs.Parameters.{no_constant_memory}
-use Rattle.verilog_exists.proofs.Links.{Link, IsLink, of_assignment, assignment_link}
+use Rattle.verilog_exists.proofs.Links.{Link, of_assignment, assignment_link}
 use Rattle.verilog_exists.proofs.Givers.{IsSound}
 use Rattle.verilog_exists.proofs.Drivers.{is_sound}
 use Rattle.verilog_exists.proofs.Valued.{ranges_known}
@@ -22,7 +22,6 @@ use Rattle.v_hier.specs.Instances.{is_part, is_any, module_has_parts, has_parts}
 use Rattle.v_scopes.specs.Ports.{alone}
 use Rattle.v_scopes.proofs.Parts.{some_is, none_some, nothing_below}
 use Rattle.v_assigned.proofs.OneModule.{no-connections, second}
-use Rattle.v_lower.specs.Lowered.{Images}
 use Rattle.v_depend.specs.Resting.{IsThere}
 use Rattle.v_loops.specs.Turns.{as_statements}
 use Rattle.v_settle.specs.OneModule.{is_driven, drivers}

@@ -1,22 +1,19 @@
 -- A design that is one module has settled where its module has.
-use Rattle.std.proofs.Common.{◌≡◌, ◌≢◌, ◌∙◌, ◌<◌, ◌^◌, ℕ, zero, suc, refl, ap, sym, subst, arith, Bool, true, false, List, [], ◌∷◌, ◌⊎◌, inl, inr, Contains, Option, Some, None}
+use Rattle.std.proofs.Common.{◌≡◌, ◌≢◌, ◌∙◌, ℕ, zero, suc, refl, sym, subst, Bool, true, false, [], ◌⊎◌, inl, inr, Some}
 use Rattle.std.specs.Prelude.{IsTrue, not}
-use Rattle.std.proofs.lemmas.Bool.{false≢true, true≢false, false_from_ne_true, and_parts, or_cases}
+use Rattle.std.proofs.lemmas.Bool.{true≢false, false_from_ne_true, and_parts, or_cases}
 use Rattle.std.proofs.Math.Pow.{pow_pos}
 use Rattle.wb_values.specs.Value.{Name, number as a_number, Valuation}
-use Rattle.verilog_trees.specs.Syntax.{Expression, Target, Statement, blocking, input, Module}
+use Rattle.verilog_trees.specs.Syntax.{Statement, input, Module}
 use Rattle.verilog_meaning.specs.Expression.{Scope, object_width, is_memory}
 use Rattle.verilog_meaning.specs.Register.{may_assign, one_may_assign, combinational_blocks, clocked_blocks, value_bit, is_bit_of}
-use Rattle.verilog_meaning.specs.Hierarchy.{PathStep, Placed, placed_scope}
-use Rattle.verilog_meaning.specs.Settled.{Design, at_path, IsPlacedIn, IsDeclared, IsValueOf, HasPort, is_counted, IsDriven, assignments, one_may_reach, Connection, port_connections, HasConnected, IsSettledIn, IsSettled}
+use Rattle.verilog_meaning.specs.Hierarchy.{Placed, placed_scope}
+use Rattle.verilog_meaning.specs.Settled.{Design, at_path, IsDeclared, IsValueOf, HasPort, is_counted, IsDriven, assignments, one_may_reach, HasConnected, IsSettledIn}
 use Rattle.verilog_meaning.specs.Next.{AreInputs}
-use Rattle.verilog_designs.specs.Dependence.{Bit}
 use Rattle.verilog_unique.proofs.Descent.{IsAmong}
 use Rattle.verilog_unique.proofs.Ports.{port_is_declared}
 use Rattle.verilog_unique.proofs.Values.{same_values}
-use Rattle.verilog_exists.specs.Exists.{IsShapely}
-use Rattle.verilog_exists.specs.Loops.{IsAcceptedButForLoops}
-use Rattle.verilog_exists.proofs.Links.{Link, IsLink, of_assignment, assignment_link}
+use Rattle.verilog_exists.proofs.Links.{of_assignment, assignment_link}
 use Rattle.verilog_exists.proofs.Givers.{IsSound}
 use Rattle.verilog_exists.proofs.Drivers.{is_sound}
 use Rattle.verilog_exists.proofs.Valued.{ranges_known}

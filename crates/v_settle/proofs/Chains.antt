@@ -1,15 +1,12 @@
 -- Chains that are longer than there are bits, and bits that depend on themselves. (The same stands in the proofs of `v_loops`, where it is
 -- private.)
 use Rattle.std.proofs.Common.{◌≡◌, ℕ, zero, suc, ◌≤◌, refl, sym, subst, arith, List, [], ◌∷◌, length, ◌⊎◌, inl, inr}
-use Rattle.std.specs.Prelude.{IsTrue, ◌↔◌}
 use Rattle.verilog_trees.specs.Syntax.{Item}
 use Rattle.verilog_meaning.specs.Expression.{Scope}
-use Rattle.verilog_designs.specs.Reads.{BitSet}
 use Rattle.verilog_designs.specs.Dependence.{Bit}
 use Rattle.verilog_unique.proofs.Descent.{IsAmong, without, length_without, split}
-use Rattle.v_paths.specs.Premises.{HasNoMemory}
 use Rattle.v_loops.specs.OneModule.{DependsIn, DependsFarIn, HasLoopIn}
-use Rattle.v_loops.specs.Turns.{HasFirst, Stage, IsStage, IsLasting}
+use Rattle.v_loops.specs.Turns.{Stage}
 
 module _ (s : Scope) (items : List Item) where
   -- one step more at the end

@@ -1,5 +1,5 @@
 -- A second table with the terms of declared names.
-use Rattle.std.proofs.Common.{◌≡◌, ◌∙◌, ◌+◌, ◌<◌, ℕ, refl, ap, sym, subst, Bool, true, false, cond, List, [], ◌∷◌, ◌⊎◌, inl, inr, Option, Some, None, is_some}
+use Rattle.std.proofs.Common.{◌≡◌, ◌∙◌, ℕ, refl, ap, sym, subst, Bool, true, false, cond, List, [], ◌∷◌, ◌⊎◌, inl, inr, Option, Some, None, is_some}
 use Rattle.std.specs.Prelude.{◌&&◌, not, nat_le}
 use Rattle.std.proofs.lemmas.Bool.{false≢true, and_parts}
 use Rattle.std.proofs.lemmas.Slice.Eq.{bytes_eq-Decides}
@@ -17,7 +17,7 @@ stands-within s a b g p v f st = record { fits = λ n id e. st.fits n id (f n id
 
 -- ---- one name
 
-first : Option ℕ → ℕ
+abbrev first : Option ℕ → ℕ
 first (Some x) = x
 first None = 0
 
@@ -63,8 +63,8 @@ IsNamedIn ds n = is_some (entry_of (objects_of ds) n) ≡ true
 abbrev pub IsCopied : (all rest : List Declaration) → (a copy : Images) → Type 0
 IsCopied all rest a copy = (n : Name) → IsNamedIn all n → is_some (a n) ≡ true → (is_some (copy n) ≡ true) ⊎ IsNamedIn rest n
 
-pub none-copied : (all : List Declaration) (a copy : Images) → IsCopied all all a copy
-none-copied all a copy n h g = inr h
+pub none-copied : (all rest : List Declaration) (a copy : Images) → rest ≡ all → IsCopied all rest a copy
+none-copied all rest a copy e n h g = inr (subst (λ (ds : List Declaration). IsNamedIn ds n) (sym e) h)
 
 pub copied-turn : (all rest : List Declaration) (d : Declaration) (more : List Declaration) (a b c : Images) → rest ≡ d ∷ more → IsCopied all rest a b
     → ((n : Name) → is_some (b n) ≡ true → is_some (c n) ≡ true) → (is_some (a d.name.now) ≡ true → is_some (c d.name.now) ≡ true) → IsCopied all more a c

@@ -1,6 +1,6 @@
 -- Turns that go on, and that end.
-use Rattle.std.proofs.Common.{◌≡◌, ◌∙◌, ◌+◌, ◌*◌, ◌≤◌, ℕ, zero, suc, refl, ap, sym, subst, arith, Bool, true, false, List, length, ◌⊎◌, inl, inr}
-use Rattle.std.specs.Prelude.{IsTrue, ◌↔◌, not, ◌&&◌}
+use Rattle.std.proofs.Common.{◌≡◌, ◌∙◌, ◌+◌, ◌*◌, ℕ, suc, ap, sym, subst, arith, Bool, true, false, List}
+use Rattle.std.specs.Prelude.{IsTrue, ◌↔◌}
 use Rattle.std.proofs.lemmas.Bool.{false≢true, true≢false, and_from}
 use Rattle.wb_values.specs.Value.{Name}
 use Rattle.verilog_trees.specs.Syntax.{Item}
@@ -11,18 +11,13 @@ use Rattle.verilog_designs.specs.Dependence.{Bit, is_in}
 use Rattle.v_value.specs.Narrow.{HasNarrowObjects}
 use Rattle.v_flow.specs.Spans.{existing}
 use Rattle.v_depend.specs.Resting.{IsThere, OneIsUnsettled}
-use Rattle.v_loops.specs.OneModule.{DependsIn}
 use Rattle.v_settle.specs.OneModule.{drivers, IsEvaluable}
-use Rattle.v_settle.specs.Turns.{State, IsUnderWay, AreVisited, IsLast, Ends, IsFurther}
+use Rattle.v_settle.specs.Turns.{State, IsUnderWay, AreVisited, IsLast, IsFurther}
 use Rattle.v_settle.proofs.Given.{stage-driven}
 use Rattle.v_settle.proofs.Listed.{stage-assigned}
 use Rattle.v_settle.proofs.Step.{RestsWhereItDepends}
 use Rattle.v_settle.proofs.Rounds.{IsTurned, turned-once}
 use Rattle.v_settle.proofs.Ends.{driven-in}
-
-is-false : (t : Bool) → not t ≡ true → t ≡ false
-is-false false k = refl
-is-false true k = absurd (false≢true k)
 
 -- Turns lead from one state to another.
 abbrev pub IsOnward : Scope → List Item → (before now : State) → ℕ → Type 0
@@ -44,13 +39,13 @@ module _ (s : Scope) (items : List Item) (before : State) where
         driven-in s items ready d is_d g.0 u g.1 there g.3
 
     -- nothing is left
-    pub nothing-onward : (i : ℕ) (now : State) (some : Bool) → IsOnward s items before now i → IsTrue some ↔ OneIsUnsettled now.unsettled d → not some ≡ true
+    pub nothing-onward : (i : ℕ) (now : State) (some : Bool) → IsOnward s items before now i → IsTrue some ↔ OneIsUnsettled now.unsettled d → some ≡ false
         → (start : State) (k : ℕ) → IsUnderWay s items start before k → IsFurther true s items 128 start now k
     nothing-onward i now some f met none start k w =
         record {
           turns_made = i + k;
           way = f start k w;
-          ends = λ u there h. absurd (true≢false (sym (met.1 (u, among-driven start now (i + k) (f start k w) u there h, h)) ∙ is-false some none));
+          ends = λ u there h. absurd (true≢false (sym (met.1 (u, among-driven start now (i + k) (f start k w) u there h, h)) ∙ none));
         }
 
     module _ (i : ℕ) (now next : State) (f : IsOnward s items before now i) (turned : AreVisited s (drivers items) now next) where
@@ -65,7 +60,7 @@ module _ (s : Scope) (items : List Item) (before : State) where
 
       -- the turn settled nothing
       pub last-onward : (was : BitSet) (more : Bool) → was ≡ and_in d now.unsettled → (more ≡ false → (n : Name) (k b : ℕ) → was n k b ≡ true → next.unsettled n k b ≡ true)
-          → not more ≡ true → (start : State) (k : ℕ) → IsUnderWay s items start before k → IsFurther true s items 128 start next k
+          → more ≡ false → (start : State) (k : ℕ) → IsUnderWay s items start before k → IsFurther true s items 128 start next k
       last-onward was more is_was has none start k w =
           record { turns_made = suc (i + k); way = t.way; ends = last }
         where
@@ -74,7 +69,7 @@ module _ (s : Scope) (items : List Item) (before : State) where
 
           still : (u : Bit) → IsThere s u → IsTrue (is_in now.unsettled u) → IsTrue (is_in next.unsettled u)
           still u there h =
-              has (is-false more none) u.of_name u.word u.place
+              has none u.of_name u.word u.place
               (subst (λ (z : BitSet). is_in z u ≡ true) (sym is_was)
               (and_from (is_in d u) (is_in now.unsettled u) (among-driven start now (i + k) (f start k w) u there h) h))
 

@@ -1,17 +1,16 @@
 -- Where the turns begin, and what they end with.
-use Rattle.std.proofs.Common.{◌≡◌, ◌∙◌, ◌≤◌, ◌*◌, ◌+◌, ℕ, zero, suc, refl, ap, sym, subst, arith, Bool, true, false, List, [], ◌∷◌, length, ◌⊎◌, inl, inr, Contains, Option, Some, None}
-use Rattle.std.specs.Prelude.{IsTrue, ◌↔◌, not, ◌&&◌, ◌||◌}
+use Rattle.std.proofs.Common.{◌≡◌, ◌∙◌, ◌≤◌, ◌*◌, ℕ, zero, suc, refl, sym, subst, arith, Bool, true, false, List, length, ◌⊎◌, inl, inr, Contains, Some}
+use Rattle.std.specs.Prelude.{IsTrue, ◌↔◌, not}
 use Rattle.std.proofs.lemmas.Bool.{false≢true, true≢false, cases_Bool, false_from_ne_true, and_parts, and_from}
 use Rattle.wb_values.specs.Value.{Name, Valuation}
 use Rattle.verilog_trees.specs.Syntax.{Statement, Item}
-use Rattle.verilog_meaning.specs.Expression.{Object, Scope, is_memory}
-use Rattle.verilog_meaning.specs.Register.{is_bit_of, may_assign, one_may_assign, value_bit}
+use Rattle.verilog_meaning.specs.Expression.{Scope}
+use Rattle.verilog_meaning.specs.Register.{is_bit_of, may_assign, one_may_assign}
 use Rattle.verilog_meaning.specs.Settled.{IsValueOf}
-use Rattle.verilog_settled.specs.Locality.{IsSame}
 use Rattle.verilog_unique.proofs.Descent.{IsAmong, among_contains}
 use Rattle.verilog_unique.proofs.Values.{same_values}
 use Rattle.verilog_designs.specs.Reads.{BitSet, no_bits}
-use Rattle.verilog_designs.specs.Dependence.{Bit, is_in, at_start, After}
+use Rattle.verilog_designs.specs.Dependence.{Bit, is_in}
 use Rattle.v_value.specs.Narrow.{HasNarrowObjects}
 use Rattle.wb_terms.specs.Graph.{Graph}
 use Rattle.v_lower.specs.Lowered.{Images, HasImages, StandsFor}
@@ -20,15 +19,15 @@ use Rattle.v_flow.specs.Spans.{bits_in, existing}
 use Rattle.v_masks.specs.Masks.{spread}
 use Rattle.v_paths.specs.Premises.{HasNoMemory}
 use Rattle.v_depend.specs.Resting.{IsThere, OneIsUnsettled, at_first, RestsAfter}
-use Rattle.v_loops.specs.OneModule.{DependsIn, DependsFarIn, HasLoopIn}
+use Rattle.v_loops.specs.OneModule.{HasLoopIn}
 use Rattle.v_loops.specs.Turns.{Stage, IsStage}
 use Rattle.v_settle.specs.OneModule.{is_driven, IsSettledFrom, IsEvaluated, drivers, IsEvaluable}
-use Rattle.v_settle.specs.Turns.{State, state_of, IsOpen, Stands, IsSettledBut, IsUnderWay, IsLast}
+use Rattle.v_settle.specs.Turns.{State, state_of, IsOpen, IsSettledBut, IsUnderWay, IsLast}
 use Rattle.v_settle.proofs.Apart.{as-before}
-use Rattle.v_settle.proofs.Given.{spread-there, there-spread, spread-free, stage-there, stage-driven}
+use Rattle.v_settle.proofs.Given.{spread-there, there-spread, spread-free, stage-driven}
 use Rattle.v_settle.proofs.Chains.{first-step, loop-from}
 use Rattle.v_settle.proofs.Covered.{all-bits, length-all, covers-all}
-use Rattle.v_settle.proofs.Listed.{fit-driver, IsBy, by-driver, one-assigns, assigned-by, driven-by, first-stage, stage-assigned}
+use Rattle.v_settle.proofs.Listed.{fit-driver, by-driver, one-assigns, assigned-by, driven-by, first-stage, stage-assigned}
 use Rattle.v_settle.specs.Copies.{IsWithin}
 use Rattle.v_settle.proofs.Copying.{stands-within}
 use Rattle.v_settle.proofs.Step.{some-same}

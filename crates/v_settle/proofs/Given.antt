@@ -1,26 +1,25 @@
 -- What a driver gives its bits, and lists of drivers. (The same stands in the proofs of `v_loops`, where it is private.)
 use Rattle.std.proofs.Common.{◌≡◌, ◌∙◌, ℕ, zero, suc, refl, ap, sym, subst, arith, Bool, true, false, not, List, [], ◌∷◌, inl, inr, Option, Some, None, is_some}
-use Rattle.std.specs.Prelude.{IsTrue, ◌↔◌, ◌&&◌, ◌||◌, nat_lt, is_none}
-use Rattle.std.proofs.lemmas.Bool.{true≢false, false≢true, and_parts, and_from, false_from_ne_true}
+use Rattle.std.specs.Prelude.{IsTrue, ◌&&◌, ◌||◌, nat_lt, is_none}
+use Rattle.std.proofs.lemmas.Bool.{true≢false, false≢true, and_parts}
 use Rattle.std.proofs.lemmas.Bool.Decides.{nat_tests}
 use Rattle.wb_values.specs.Value.{same_name}
 use Rattle.verilog_trees.specs.Syntax.{Expression, number, name, concatenation, replication, as_signed, as_unsigned, unary, reduction, binary, shift, power, comparison, logical, conditional, Expressions, no_expressions, expression, Select, index, part, part_up, part_down, Selects, whole, one, two, Target, place, joined, Targets, no_targets, target, Statement, blocking, Item}
-use Rattle.verilog_meaning.specs.Expression.{Scope, is_memory}
-use Rattle.verilog_meaning.specs.Register.{is_constant, are_constant, select_is_constant, selects_are_constant, may_mean, may_reach, may_reach_one, may_assign, combinational_blocks, words_between, is_bit_of}
+use Rattle.verilog_meaning.specs.Expression.{Scope}
+use Rattle.verilog_meaning.specs.Register.{is_constant, are_constant, select_is_constant, selects_are_constant, may_mean, may_reach, may_reach_one, combinational_blocks, words_between, is_bit_of}
 use Rattle.verilog_meaning.specs.Settled.{assignments}
 use Rattle.verilog_settled.specs.Locality.{has_constant_selects, all_have_constant_selects}
 use Rattle.verilog_settled.proofs.Assigned.{takes_reach}
-use Rattle.verilog_unique.proofs.Descent.{IsAmong, contains_among, among_contains}
+use Rattle.verilog_unique.proofs.Descent.{IsAmong, among_contains}
 use Rattle.verilog_unique.proofs.Reading.{after_block}
 use Rattle.verilog_designs.specs.Reads.{BitSet, no_bits, or_in, name_reads, reads, reads_in_all, select_reads, selects_read, surely_reaches, one_surely_reaches}
 use Rattle.verilog_designs.specs.Dependence.{Bit, is_in, index_reads, one_index_reads, IsGivenBy, copied_to, computed, at_start, AfterAssignment, kept, given, indexed, After}
 use Rattle.v_flow.specs.Spans.{existing}
 use Rattle.v_masks.specs.Masks.{spread}
 use Rattle.v_paths.specs.Premises.{HasNoMemory}
-use Rattle.v_depend.specs.Resting.{IsThere, RestsAfter}
-use Rattle.v_depend.specs.Running.{IsFit}
+use Rattle.v_depend.specs.Resting.{IsThere}
 use Rattle.v_loops.specs.OneModule.{DependsIn}
-use Rattle.v_loops.specs.Turns.{as_statements, AreFitToRun, HaveConstantSelects, IsRunnable, RestsBy, OneRests, RestsInTurn, Stage, IsStage}
+use Rattle.v_loops.specs.Turns.{as_statements, HaveConstantSelects, RestsBy, OneRests, RestsInTurn, Stage}
 
 -- ---- constants read nothing
 

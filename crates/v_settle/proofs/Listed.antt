@@ -1,16 +1,15 @@
 -- The drivers of a module as one list of statements: which they are, and what holds of each.
-use Rattle.std.proofs.Common.{◌≡◌, ◌∙◌, ℕ, refl, ap, sym, subst, Bool, true, false, List, [], ◌∷◌, ◌++◌, append-nil, append_assoc, ◌⊎◌, inl, inr, Contains}
+use Rattle.std.proofs.Common.{◌≡◌, ◌∙◌, ℕ, refl, ap, sym, subst, true, List, [], ◌∷◌, ◌++◌, append-nil, append_assoc, ◌⊎◌, inl, inr}
 use Rattle.std.specs.Prelude.{IsTrue, ◌||◌}
 use Rattle.std.proofs.lemmas.Bool.{false≢true, or_cases, or_left, or_right}
 use Rattle.wb_values.specs.Value.{Name, Valuation}
 use Rattle.verilog_trees.specs.Syntax.{Expression, Target, Statement, blocking, Item}
 use Rattle.verilog_meaning.specs.Expression.{Scope}
-use Rattle.verilog_meaning.specs.Register.{may_reach, may_assign, one_may_assign, combinational_blocks, is_bit_of}
+use Rattle.verilog_meaning.specs.Register.{may_reach, may_assign, one_may_assign, combinational_blocks}
 use Rattle.verilog_meaning.specs.Settled.{assignments, one_may_reach, HasAssigned, HasRun, HasRunAll}
-use Rattle.verilog_designs.specs.Reads.{BitSet, no_bits, or_in}
-use Rattle.verilog_designs.specs.Dependence.{Bit, is_in, at_start, After, given}
+use Rattle.verilog_designs.specs.Reads.{no_bits}
+use Rattle.verilog_designs.specs.Dependence.{Bit, at_start, After, given}
 use Rattle.verilog_unique.proofs.Descent.{IsAmong, among_left, among_right, among_either, contains_among, among_contains}
-use Rattle.v_flow.specs.Spans.{existing}
 use Rattle.v_drivers.proofs.Driving.{links-of-items, combinational-of-items}
 use Rattle.v_write.specs.Sound.{IsSoundStatement}
 use Rattle.v_depend.specs.Resting.{IsThere}

@@ -1,27 +1,22 @@
 -- What the terms of expressions are worth as values of assignments. (The same stands in the proofs of `v_write`, where it is private.)
-use Rattle.std.proofs.Common.{◌≡◌, ◌≤◌, ◌%◌, ◌^◌, max, ℕ, Bool, true, false, not, ◌&&◌, Option, Some, None, refl, ap, sym, subst, ◌∙◌, arith}
+use Rattle.std.proofs.Common.{◌≡◌, ◌≤◌, ◌%◌, ◌^◌, max, ℕ, Bool, true, false, not, ◌&&◌, refl, ap, sym, subst, ◌∙◌, arith}
 use Rattle.std.proofs.Math.Nat.{mod-eq_of_lt}
 use Rattle.std.proofs.lemmas.Bool.{false≢true}
-use Rattle.wb_values.specs.Value.{truth, Valuation}
-use Rattle.model_meaning.specs.Term.{Term, val, sort_of, bits_sort, complement, term_width}
-use Rattle.model_meaning.specs.Term as term
 use Rattle.verilog_trees.specs.Syntax.{Expression}
-use Rattle.verilog_meaning.specs.Expression.{Scope, is_nonzero, width_of, sign_of, value_of, assigned_value}
+use Rattle.verilog_meaning.specs.Expression.{Scope, width_of, sign_of, value_of, assigned_value}
 use Rattle.verilog_rules.specs.Expression.{Broken, anywhere, broken, is_unbroken}
-use Rattle.wb_terms.specs.Graph.{Graph, tree}
-use Rattle.wb_terms.specs.declared.nodes.TermId.{TermId}
+use Rattle.wb_terms.specs.Graph.{Graph}
 use Rattle.v_value.specs.Evaluation.{width_at}
-use Rattle.v_operators.specs.Meaning.{Grows, IsOfSort, HasNumber, HasTruth, Makes, Tests, Connects}
+use Rattle.v_operators.specs.Meaning.{Grows, HasNumber, Makes}
 use Rattle.v_operators.proofs.Growing.{Grows-same}
-use Rattle.v_lower.specs.Lowered.{Images, HasImages, IsLowered, IsLoweredAlone}
+use Rattle.v_lower.specs.Lowered.{Images, HasImages, IsLowered}
 use Rattle.v_lower.specs.Walking.{IsSound, sound_at}
 use Rattle.v_lower.specs.Answer.{IsAsked, IsAnswer, outcome_of}
 use Rattle.v_lower.specs.declared.expression.SizeStop.{SizeStop}
 use Rattle.v_lower.specs.declared.expression.SizeStop.TheVariants.{Refused, NoMemory}
 use Rattle.std.specs.Prelude.{Err}
 use Rattle.v_lower.proofs.Lowering.{stands_before}
-use Rattle.v_write.specs.Guard.{Guards}
-use Rattle.v_write.specs.Running.{IsCondition, IsAssigned}
+use Rattle.v_write.specs.Running.{IsAssigned}
 
 -- ---- what is asked of the lowering
 

@@ -1,17 +1,15 @@
 -- Turns over all drivers: a bit that is left unsettled depends on one that was unsettled before.
-use Rattle.std.proofs.Common.{◌≡◌, ◌∙◌, ℕ, suc, refl, ap, sym, subst, Bool, true, false, List, [], ◌∷◌, ◌++◌, ◌⊎◌, inl, inr, Contains}
+use Rattle.std.proofs.Common.{ℕ, suc, refl, sym, subst, List, [], ◌∷◌, ◌++◌, inl, inr}
 use Rattle.std.specs.Prelude.{IsTrue}
 use Rattle.verilog_trees.specs.Syntax.{Statement, Item}
 use Rattle.verilog_meaning.specs.Expression.{Scope}
-use Rattle.verilog_meaning.specs.Register.{may_assign}
 use Rattle.verilog_unique.proofs.Descent.{IsAmong}
 use Rattle.verilog_designs.specs.Dependence.{Bit, is_in, at_start, After}
 use Rattle.v_value.specs.Narrow.{HasNarrowObjects}
-use Rattle.v_depend.specs.Resting.{IsThere, RestsAfter}
+use Rattle.v_depend.specs.Resting.{IsThere}
 use Rattle.v_loops.specs.OneModule.{DependsIn}
-use Rattle.v_loops.specs.Turns.{Stage}
 use Rattle.v_settle.specs.OneModule.{drivers, IsEvaluable}
-use Rattle.v_settle.specs.Turns.{State, IsOpen, IsVisited, AreVisited, IsUnderWay, IsLast}
+use Rattle.v_settle.specs.Turns.{State, IsOpen, IsVisited, AreVisited, IsUnderWay}
 use Rattle.v_settle.proofs.Given.{after-there, stage-driven}
 use Rattle.v_settle.proofs.Listed.{depends, stage-assigned}
 use Rattle.v_settle.proofs.Step.{RestsWhereItDepends, shrinks, step}

@@ -1,5 +1,5 @@
 -- What holds between drivers still holds after a further one.
-use Rattle.std.proofs.Common.{◌≡◌, ◌∙◌, ◌<◌, ◌^◌, ℕ, suc, refl, ap, sym, subst, Bool, true, false, cond, List, [], ◌∷◌, ◌⊎◌, inl, inr, Contains, Option, Some, None, is_some}
+use Rattle.std.proofs.Common.{◌≡◌, ◌∙◌, ◌<◌, ◌^◌, ℕ, refl, ap, sym, subst, true, false, List, ◌⊎◌, inl, inr, Contains, Option, Some, None, is_some}
 use Rattle.std.specs.Prelude.{IsTrue, IfSome, ◌↔◌, not, ◌&&◌}
 use Rattle.std.proofs.lemmas.Bool.{false≢true, true≢false, cases_Bool, false_from_ne_true}
 use Rattle.wb_values.specs.Value.{Name, Valuation}
@@ -8,27 +8,24 @@ use Rattle.verilog_meaning.specs.Expression.{Object, Scope, object_width, is_mem
 use Rattle.verilog_meaning.specs.Statement.{run}
 use Rattle.verilog_meaning.specs.Register.{may_assign, value_bit}
 use Rattle.verilog_meaning.specs.Settled.{IsValueOf, HasRun}
-use Rattle.verilog_settled.specs.Locality.{IsSame, DifferAt, HasNoConstantMemory, Fits, AllFit}
+use Rattle.verilog_settled.specs.Locality.{IsSame, DifferAt, Fits, AllFit}
 use Rattle.verilog_settled.proofs.Runs.{run_bit_is_local}
 use Rattle.verilog_unique.proofs.Descent.{IsAmong, contains_among, among_contains}
-use Rattle.verilog_unique.proofs.Reading.{after_block}
 use Rattle.verilog_exists.proofs.Kept.{unassigned}
 use Rattle.verilog_exists.proofs.Declared.{assigned_name}
 use Rattle.verilog_designs.specs.Reads.{BitSet}
 use Rattle.verilog_designs.specs.Dependence.{Bit, is_in, at_start, After}
-use Rattle.verilog_designs.specs.Drivers.{assigned_names}
 use Rattle.v_value.specs.Narrow.{HasNarrowObjects}
-use Rattle.v_lower.specs.Lowered.{Images, HasImages, StandsFor, has_sort, has_number}
+use Rattle.v_lower.specs.Lowered.{Images, has_number}
 use Rattle.v_write.specs.Written.{AreOfNames}
 use Rattle.v_depend.specs.Resting.{IsThere, at_first, RestsAfter}
 use Rattle.v_loops.specs.OneModule.{DependsIn, DependsFarIn}
-use Rattle.v_loops.specs.Turns.{Stage}
-use Rattle.v_settle.specs.OneModule.{IsSettledFrom, drivers, IsEvaluable}
+use Rattle.v_settle.specs.OneModule.{drivers, IsEvaluable}
 use Rattle.v_settle.specs.Turns.{State, IsOpen, Stands, IsRun, IsPassed, IsVisited, IsSettledBut, IsUnderWay}
 use Rattle.v_settle.proofs.Apart.{as-before, still-before}
 use Rattle.v_settle.proofs.Given.{after-there}
 use Rattle.v_settle.proofs.Chains.{first-step, turned}
-use Rattle.v_settle.proofs.Known.{IsNamed, IsAssignable, statement-leaves, assignable}
+use Rattle.v_settle.proofs.Known.{IsNamed, statement-leaves, assignable}
 use Rattle.v_settle.proofs.Listed.{sound-among, driver-runs, IsBy, by-driver}
 
 -- the law on what rests after a statement

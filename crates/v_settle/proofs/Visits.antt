@@ -1,11 +1,11 @@
 -- One driver, as the code comes to it: it is evaluated, or passed.
 use Rattle.std.proofs.Common.{◌≡◌, ◌∙◌, ℕ, refl, ap, sym, subst, Bool, true, false, inl, inr, List}
-use Rattle.std.specs.Prelude.{IsTrue, ◌↔◌, not, ◌&&◌}
+use Rattle.std.specs.Prelude.{IsTrue, ◌↔◌, ◌&&◌}
 use Rattle.std.proofs.lemmas.Bool.{false≢true, true≢false, false_from_ne_true, and_parts, and_from}
 use Rattle.wb_values.specs.Value.{Name, Valuation}
 use Rattle.model_meaning.specs.Term.{Term, val}
 use Rattle.verilog_trees.specs.Syntax.{Expression, Target, Statement, blocking}
-use Rattle.verilog_meaning.specs.Expression.{Scope, is_memory, assigned_value}
+use Rattle.verilog_meaning.specs.Expression.{Scope, assigned_value}
 use Rattle.verilog_meaning.specs.Statement.{places, target_width, written, run, with_updates}
 use Rattle.verilog_meaning.specs.Register.{is_bit_of, may_assign}
 use Rattle.verilog_designs.specs.Reads.{BitSet, and_in}
@@ -23,7 +23,7 @@ use Rattle.v_flow.specs.Spans.{bits_in, existing}
 use Rattle.v_paths.specs.Premises.{HasNoMemory, AssignsNoMemory}
 use Rattle.v_depend.specs.Resting.{IsThere, at_first, RestsAfter}
 use Rattle.v_settle.specs.Drivers.{IsLinkLowered}
-use Rattle.v_settle.specs.Turns.{State, state_of, IsOpen, Stands, IsRun, IsPassed, IsVisited}
+use Rattle.v_settle.specs.Turns.{State, state_of, IsOpen, IsVisited}
 use Rattle.v_settle.proofs.Apart.{as-before}
 
 -- an environment that stands under images stands under them in a store that has grown
@@ -70,7 +70,7 @@ module _ (s : Scope) (x : Statement) (a : State) (opens : IsOpen s a) (plain : A
   -- ---- a driver that is passed
 
   pub passed : (spans before : BitSet) (more : Bool) → spans ≡ existing s (may_assign s x) → before ≡ and_in spans a.unsettled
-      → (more ≡ false → (n : Name) (k b : ℕ) → before n k b ≡ true → q n k b ≡ true) → not more ≡ true → IsVisited s x a (state_of a.images a.spare a.graph q)
+      → (more ≡ false → (n : Name) (k b : ℕ) → before n k b ≡ true → q n k b ≡ true) → more ≡ false → IsVisited s x a (state_of a.images a.spare a.graph q)
   passed spans before more is_spans is_before has none =
       record {
         opens = record { known = opens.known; known_spare = opens.known_spare; plain = after-plain };
@@ -79,13 +79,9 @@ module _ (s : Scope) (x : Statement) (a : State) (opens : IsOpen s a) (plain : A
         worth = inr (record { stands = λ p w st. record { names = st.names; others = st.others; spares = st.spares }; lasts = lasts });
       }
     where
-      is-false : (t : Bool) → not t ≡ true → t ≡ false
-      is-false false k = refl
-      is-false true k = absurd (false≢true k)
-
       lasts : (u : Bit) → IsThere s u → IsTrue (may_assign s x u.of_name u.word u.place) → IsTrue (is_in a.unsettled u) → IsTrue (is_in q u)
       lasts u there m h =
-          has (is-false more none) u.of_name u.word u.place
+          has none u.of_name u.word u.place
           (subst (λ (z : BitSet). is_in z u ≡ true) (sym is_before)
           (and_from (is_in spans u) (is_in a.unsettled u)
           (subst (λ (z : BitSet). is_in z u ≡ true) (sym is_spans) (and_from (is_bit_of (s u.of_name) u.word u.place) (may_assign s x u.of_name u.word u.place) there m)) h))

@@ -15,7 +15,7 @@ use Rattle.v_flow.specs.Spans.{is_between, bits_of, bits_in, existing}
 use Rattle.v_masks.proofs.Bits.{set-none}
 use Rattle.v_flow.proofs.Sets.{or_false, or-none, turn, end}
 use Rattle.v_loops.specs.Turns.{as_statements, AreFitToRun}
-use Rattle.v_settle.specs.OneModule.{drivers, AreSound}
+use Rattle.v_settle.specs.OneModule.{AreSound}
 use Rattle.v_settle.specs.Turns.{State, AreVisited}
 use Rattle.v_settle.proofs.Listed.{Links, statements-both}
 use Rattle.v_settle.proofs.Rounds.{visited-then, none-visited}

@@ -1,11 +1,11 @@
 -- How many bits the parts of targets have.
-use Rattle.std.proofs.Common.{◌≡◌, ◌∙◌, ◌+◌, ◌≤◌, ℕ, refl, ap, sym, subst, arith, Bool, true, false, cond, List, [], ◌∷◌}
+use Rattle.std.proofs.Common.{◌≡◌, ◌∙◌, ◌+◌, ◌≤◌, ℕ, refl, ap, sym, arith, Bool, true, false, cond, List, ◌∷◌}
 use Rattle.std.specs.declared.vec.Vec.{Vec}
 use Rattle.std.specs.declared.alloc.Global.{Global}
 use Rattle.std.specs.Borrow.{Bor}
 use Rattle.verilog_trees.specs.Syntax.{whole, one, two}
 use Rattle.verilog_trees.specs.Syntax as pure
-use Rattle.verilog_meaning.specs.Expression.{Object, Scope, Bits, object_width, is_memory, no_values, selects_width, select_bits}
+use Rattle.verilog_meaning.specs.Expression.{Object, Scope, object_width, is_memory, no_values, selects_width, select_bits}
 use Rattle.verilog_meaning.specs.Statement.{all_bits, target_width, targets_width}
 use Rattle.v_syntax.specs.declared.tree.Target.{Target, Place, Joined}
 use Rattle.v_syntax.specs.declared.tree.Selects.{Selects}

@@ -1,5 +1,4 @@
 -- What is promised where one continuous assignment is evaluated.
-use Rattle.std.specs.Prelude.{ℕ}
 use Rattle.wb_values.specs.Value.{Valuation}
 use Rattle.verilog_trees.specs.Syntax.{Expression, Target, blocking}
 use Rattle.verilog_meaning.specs.Expression.{Scope}

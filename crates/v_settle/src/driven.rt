@@ -97,8 +97,10 @@ fn add_item<'s>(
             add_assigned(scope, block, found)?;
             Ok(())
         }
-        Item::Port(_) | Item::Parameter(_) | Item::Variables(_, _, _) | Item::Instances(_, _, _) =>
-            { Ok(()) }
+        Item::Port(_) => Ok(()),
+        Item::Parameter(_) => Ok(()),
+        Item::Variables(_, _, _) => Ok(()),
+        Item::Instances(_, _, _) => Ok(()),
     }
 }
 

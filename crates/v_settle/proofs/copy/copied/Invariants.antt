@@ -7,5 +7,5 @@ use Rattle.v_settle.proofs.copy.copied.Given as goal
 abbrev pub invariant-loop-declaration : goal.invariant-loop-declaration
 invariant-loop-declaration l = record {
   within : IsWithin (images_at l.copy) (images_at l.table);
-  all : IsCopied l.scope.declarations.items (drop l.declaration-index l.scope.declarations.items) (images_at l.table) (images_at l.copy);
+  all : IsCopied l.scope.declarations.items (drop l.declaration-index l.declaration-items) (images_at l.table) (images_at l.copy);
 }

@@ -1,5 +1,5 @@
-use Rattle.std.proofs.Common.{◌∙◌, ap, sym, subst, true, is_some}
-use Rattle.std.specs.Prelude.{option_map, ◌≡◌}
+use Rattle.std.proofs.Common.{◌∙◌, ap, sym, is_some}
+use Rattle.std.specs.Prelude.{option_map}
 use Rattle.std.proofs.lemmas.Bool.{false≢true}
 use Rattle.v_lower.specs.Table.{images_at}
 use Rattle.v_settle.proofs.Copying.{name-within, name-kept, name-there}

@@ -1,4 +1,4 @@
-use Rattle.std.proofs.Common.{◌∙◌, ◌+◌, [], ◌∷◌, drop, ap, sym, arith}
+use Rattle.std.proofs.Common.{◌+◌, [], ◌∷◌, drop, ap, arith}
 use Rattle.std.proofs.lemmas.List.{at_drop_all}
 use Rattle.verilog_trees.specs.Syntax.{blocking}
 use Rattle.v_syntax.specs.Tree.{tree_of, target_of}
@@ -8,9 +8,7 @@ use Rattle.v_value.specs.Scope.{scope_at}
 use Rattle.v_statement.proofs.Runs.{rest_is}
 use Rattle.v_flow.specs.Spans.{bits_in}
 use Rattle.v_loops.specs.Turns.{as_statements}
-use Rattle.v_settle.specs.OneModule.{drivers}
-use Rattle.v_settle.proofs.Listed.{drivers-more}
-use Rattle.v_settle.proofs.Walks.{driven-set, driven-one, driven-turn, driven-end, begun-set, fit-turn, statements-front}
+use Rattle.v_settle.proofs.Walks.{driven-set, driven-one, driven-turn, driven-end, fit-turn}
 use Rattle.v_settle.proofs.driven.add_assignments.Goals as goal
 
 pub add_reached-requires-clause-narrow : goal.add_reached-requires-clause-narrow

@@ -1,4 +1,4 @@
-use Rattle.std.proofs.Common.{◌∙◌, ◌+◌, [], ◌∷◌, drop, ap, sym, arith}
+use Rattle.std.proofs.Common.{◌∙◌, ◌+◌, [], ◌∷◌, drop, ap, arith}
 use Rattle.std.proofs.lemmas.List.{at_drop_all}
 use Rattle.verilog_meaning.specs.Settled.{wire_assignment}
 use Rattle.v_syntax.specs.Source.{boxed_tree_of}
@@ -8,9 +8,7 @@ use Rattle.v_value.specs.Scope.{scope_at}
 use Rattle.v_statement.proofs.Runs.{rest_is}
 use Rattle.v_flow.specs.Spans.{bits_in}
 use Rattle.v_loops.specs.Turns.{as_statements}
-use Rattle.v_settle.specs.OneModule.{drivers}
-use Rattle.v_settle.proofs.Listed.{drivers-more}
-use Rattle.v_settle.proofs.Walks.{driven-set, driven-one, driven-turn, driven-end, begun-set, fit-turn, statements-front}
+use Rattle.v_settle.proofs.Walks.{driven-set, driven-turn, driven-end, fit-turn, statements-front}
 use Rattle.v_settle.proofs.driven.add_wires.Goals as goal
 
 pub add_wire-requires-clause-fit : goal.add_wire-requires-clause-fit

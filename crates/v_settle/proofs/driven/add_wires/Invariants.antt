@@ -1,12 +1,9 @@
 use Rattle.std.proofs.Common.{◌≡◌, drop}
-use Rattle.verilog_meaning.specs.Settled.{wire_assignment}
-use Rattle.v_syntax.specs.Source.{boxed_tree_of}
 use Rattle.v_drivers.specs.Lists.{wire_links}
 use Rattle.verilog_designs.specs.Reads.{or_in}
 use Rattle.v_value.specs.Scope.{scope_at}
 use Rattle.v_flow.specs.Spans.{bits_in}
 use Rattle.v_loops.specs.Turns.{as_statements, AreFitToRun}
-use Rattle.v_settle.specs.OneModule.{drivers}
 use Rattle.v_settle.proofs.Walks.{driven-set}
 use Rattle.v_settle.proofs.driven.add_wires.Given as goal
 

@@ -1,15 +1,13 @@
-use Rattle.std.proofs.Common.{◌∙◌, ◌+◌, [], ◌∷◌, drop, ap, sym, arith}
+use Rattle.std.proofs.Common.{◌∙◌, ◌+◌, [], ◌∷◌, drop, ap, arith}
 use Rattle.std.proofs.lemmas.List.{at_drop_all}
 use Rattle.std.specs.Prelude.{map}
 use Rattle.v_syntax.specs.Source.{item_of}
-use Rattle.verilog_designs.specs.Reads.{or_in}
 use Rattle.v_value.specs.Scope.{scope_at}
 use Rattle.v_statement.proofs.Runs.{rest_is}
 use Rattle.v_flow.specs.Spans.{bits_in}
-use Rattle.v_loops.specs.Turns.{as_statements}
 use Rattle.v_settle.specs.OneModule.{drivers}
 use Rattle.v_settle.proofs.Listed.{drivers-more}
-use Rattle.v_settle.proofs.Walks.{driven-set, driven-one, driven-turn, driven-end, begun-set, fit-turn, statements-front}
+use Rattle.v_settle.proofs.Walks.{driven-set, driven-turn, driven-end, begun-set, fit-turn}
 use Rattle.v_settle.proofs.driven.driven.Goals as goal
 
 pub add_item-requires-clause-fit : goal.add_item-requires-clause-fit

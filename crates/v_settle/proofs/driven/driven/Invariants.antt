@@ -4,7 +4,7 @@ use Rattle.v_syntax.specs.Source.{item_of}
 use Rattle.verilog_designs.specs.Reads.{or_in}
 use Rattle.v_value.specs.Scope.{scope_at}
 use Rattle.v_flow.specs.Spans.{bits_in}
-use Rattle.v_loops.specs.Turns.{as_statements, AreFitToRun}
+use Rattle.v_loops.specs.Turns.{AreFitToRun}
 use Rattle.v_settle.specs.OneModule.{drivers}
 use Rattle.v_settle.proofs.Walks.{driven-set}
 use Rattle.v_settle.proofs.driven.driven.Given as goal

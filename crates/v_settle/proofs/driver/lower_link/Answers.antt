@@ -12,14 +12,14 @@ target_width-width-requires-clause-narrow c = c.requires.fit.narrow.0
 pub target_width-width-requires-clause-at_most_128 : goal.target_width-width-requires-clause-at_most_128
 target_width-width-requires-clause-at_most_128 c = c.requires.fit.targets
 
-pub assigned-number-requires-clause-sound : goal.assigned-number-requires-clause-sound
-assigned-number-requires-clause-sound c = c.requires.sound.3
+pub assigned-requires-clause-sound : goal.assigned-requires-clause-sound
+assigned-requires-clause-sound c = c.requires.sound.3
 
-pub assigned-number-requires-clause-some_bits : goal.assigned-number-requires-clause-some_bits
-assigned-number-requires-clause-some_bits c = subst (λ k. 1 ≤ k) (sym c.target_width-width.ensures) c.requires.sound.1
+pub assigned-requires-clause-some_bits : goal.assigned-requires-clause-some_bits
+assigned-requires-clause-some_bits c = subst (λ k. 1 ≤ k) (sym c.target_width-width.ensures) c.requires.sound.1
 
-pub assigned-number-requires-clause-at_most_128 : goal.assigned-number-requires-clause-at_most_128
-assigned-number-requires-clause-at_most_128 c = subst (λ k. k ≤ 128) (sym c.target_width-width.ensures) c.requires.sound.2
+pub assigned-requires-clause-at_most_128 : goal.assigned-requires-clause-at_most_128
+assigned-requires-clause-at_most_128 c = subst (λ k. k ≤ 128) (sym c.target_width-width.ensures) c.requires.sound.2
 
 pub write_target-requires-clause-known : goal.write_target-requires-clause-known
 write_target-requires-clause-known c =

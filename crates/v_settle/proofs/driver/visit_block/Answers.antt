@@ -50,3 +50,12 @@ returns-clause-visited c =
     block-visited (scope_at c.args.scope.now) (statement_of c.args.block.now) (state_of (images_at c.args.table.now) (images_at c.args.spare.now) c.args.terms.now (masked c.args.unsettled.now)) c.requires.opens c.requires.fit.plain
     (masked c.after.new.unsettled) c.in_ok-after.ensures c.lower_statement.new.terms c.in_ok-lower_statement.ensures.grows (images_at c.lower_statement.new.table)
     (images_at c.lower_statement.new.next) c.in_ok-lower_statement.ensures.lowered
+
+pub returns-in_err-add_assigned-clause-grows : goal.returns-in_err-add_assigned-clause-grows
+returns-in_err-add_assigned-clause-grows c = Grows-refl c.args.terms.now
+
+pub returns-in_err-before-clause-grows : goal.returns-in_err-before-clause-grows
+returns-in_err-before-clause-grows c = Grows-refl c.args.terms.now
+
+pub returns-in_err-after-clause-grows : goal.returns-in_err-after-clause-grows
+returns-in_err-after-clause-grows c = Grows-refl c.args.terms.now

@@ -51,3 +51,12 @@ returns-clause-visited c =
     let l = c.in_ok-lower_link.ensures.lowered in
     link-visited (scope_at c.args.scope.now) (blocking (target_of c.args.target.now) (tree_of c.args.value.now)) (state_of (images_at c.args.table.now) (images_at c.args.spare.now) c.args.terms.now (masked c.args.unsettled.now)) c.requires.opens c.requires.fit.plain
     (masked c.take.new.unsettled) c.in_ok-take.ensures c.lower_link.new.terms c.in_ok-lower_link.ensures.grows (images_at c.lower_link.new.table) l.known l.names l.stands
+
+pub returns-in_err-add_reached-clause-grows : goal.returns-in_err-add_reached-clause-grows
+returns-in_err-add_reached-clause-grows c = Grows-refl c.args.terms.now
+
+pub returns-in_err-before-clause-grows : goal.returns-in_err-before-clause-grows
+returns-in_err-before-clause-grows c = Grows-refl c.args.terms.now
+
+pub returns-in_err-take-clause-grows : goal.returns-in_err-take-clause-grows
+returns-in_err-take-clause-grows c = Grows-refl c.args.terms.now

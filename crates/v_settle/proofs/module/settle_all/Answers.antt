@@ -1,4 +1,4 @@
-use Rattle.std.proofs.Common.{◌≡◌, ◌∙◌, ◌*◌, ap, sym, subst, arith, inl, inr}
+use Rattle.std.proofs.Common.{◌∙◌, ◌*◌, ap, subst, arith, inl, inr}
 use Rattle.std.specs.Prelude.{map, ◌↔◌, IsTrue}
 use Rattle.verilog_designs.specs.Reads.{no_bits}
 use Rattle.v_syntax.specs.Source.{item_of}
@@ -15,8 +15,8 @@ use Rattle.v_settle.proofs.Ends.{first-open, begun, answered-loops, answered-set
 use Rattle.v_settle.proofs.Ending.{next-turns, last-turn}
 use Rattle.v_settle.proofs.module.settle_all.Goals as goal
 
-pub driven-spans-requires-clause-fit : goal.driven-spans-requires-clause-fit
-driven-spans-requires-clause-fit c = fit-drivers (scope_at c.args.scope.now) (map item_of c.args.items.now) c.requires.ready.runnable
+pub driven-requires-clause-fit : goal.driven-requires-clause-fit
+driven-requires-clause-fit c = fit-drivers (scope_at c.args.scope.now) (map item_of c.args.items.now) c.requires.ready.runnable
 
 pub loop-init : goal.loop-init
 loop-init c =
@@ -29,14 +29,14 @@ loop-init c =
       way = begun s items c.requires.ready (bits_in c.in_ok-spans.spans.items) c.in_ok-spans.ensures (images_at c.args.table.now) (images_at c.in_ok-spare.spare) c.args.terms.now (masked c.in_ok-unsettled.unsettled) is_p c.requires.known (copied-known (scope_at c.args.scope.now) (images_at c.args.table.now) (images_at c.in_ok-spare.spare) c.args.terms.now c.requires.known c.in_ok-spare.ensures.within c.in_ok-spare.ensures.all) c.in_ok-spare.ensures.within;
     }
 
-pub turns-ended-requires-clause-opens : goal.turns-ended-requires-clause-opens
-turns-ended-requires-clause-opens c = c.loop.invariant.opens
+pub turns-requires-clause-opens : goal.turns-requires-clause-opens
+turns-requires-clause-opens c = c.loop.invariant.opens
 
-pub turns-ended-requires-clause-ready : goal.turns-ended-requires-clause-ready
-turns-ended-requires-clause-ready c = c.requires.ready
+pub turns-requires-clause-ready : goal.turns-requires-clause-ready
+turns-requires-clause-ready c = c.requires.ready
 
-pub turns-ended-requires-clause-driven : goal.turns-ended-requires-clause-driven
-turns-ended-requires-clause-driven c = ap bits_in c.deref-in-loop.ensures.value ∙ c.in_ok-spans.ensures
+pub turns-requires-clause-driven : goal.turns-requires-clause-driven
+turns-requires-clause-driven c = ap bits_in c.deref-in-loop.ensures.value ∙ c.in_ok-spans.ensures
 
 pub loop-preserved : goal.loop-preserved
 loop-preserved c =
@@ -58,7 +58,7 @@ returns-then-ended-clause-settled c =
     let l = last-turn s items (state_of (images_at c.args.table.now) (images_at c.args.table.now) c.args.terms.now no_bits) c.in_ok-ended.ended (c.loop.counter * 128) (state_of (images_at c.turns.new.table) (images_at c.turns.new.spare) c.turns.new.terms (masked c.turns.new.unsettled)) c.if-ended.true (c.in_ok-ended.ensures.made (state_of (images_at c.args.table.now) (images_at c.args.table.now) c.args.terms.now no_bits) (c.loop.counter * 128) c.loop.invariant.way) in
     answered-settled s items c.requires.ready (bits_in c.in_ok-spans.spans.items) c.in_ok-spans.ensures (images_at c.args.table.now) (images_at c.in_ok-spare.spare) c.args.terms.now (masked c.in_ok-unsettled.unsettled) is_p c.requires.known (copied-known (scope_at c.args.scope.now) (images_at c.args.table.now) (images_at c.in_ok-spare.spare) c.args.terms.now c.requires.known c.in_ok-spare.ensures.within c.in_ok-spare.ensures.all) c.in_ok-spare.ensures.within
     c.requires.objects c.in_ok-spans.spans.items (λ i. bits_in c.in_ok-spans.spans.items) (state_of (images_at c.turns.new.table) (images_at c.turns.new.spare) c.turns.new.terms (masked c.turns.new.unsettled)) l.0 l.1 c.meets-left.result
-    (subst (λ xs. IsTrue c.meets-left.result ↔ OneIsUnsettled (masked c.turns.new.unsettled) (bits_in xs)) c.deref-in-then.ensures.value c.meets-left.ensures)
+    (subst (λ xs. IsTrue c.meets-left.result ↔ OneIsUnsettled (masked c.turns.new.unsettled) (bits_in xs)) c.deref-then-ended.ensures.value c.meets-left.ensures)
 
 pub returns-then-ended-clause-loops : goal.returns-then-ended-clause-loops
 returns-then-ended-clause-loops c =
@@ -68,7 +68,7 @@ returns-then-ended-clause-loops c =
     let l = last-turn s items (state_of (images_at c.args.table.now) (images_at c.args.table.now) c.args.terms.now no_bits) c.in_ok-ended.ended (c.loop.counter * 128) (state_of (images_at c.turns.new.table) (images_at c.turns.new.spare) c.turns.new.terms (masked c.turns.new.unsettled)) c.if-ended.true (c.in_ok-ended.ensures.made (state_of (images_at c.args.table.now) (images_at c.args.table.now) c.args.terms.now no_bits) (c.loop.counter * 128) c.loop.invariant.way) in
     answered-loops s items c.requires.ready (bits_in c.in_ok-spans.spans.items) c.in_ok-spans.ensures (images_at c.args.table.now) (images_at c.in_ok-spare.spare) c.args.terms.now (masked c.in_ok-unsettled.unsettled) is_p c.requires.known (copied-known (scope_at c.args.scope.now) (images_at c.args.table.now) (images_at c.in_ok-spare.spare) c.args.terms.now c.requires.known c.in_ok-spare.ensures.within c.in_ok-spare.ensures.all) c.in_ok-spare.ensures.within
     c.requires.objects c.in_ok-spans.spans.items (λ i. bits_in c.in_ok-spans.spans.items) (state_of (images_at c.turns.new.table) (images_at c.turns.new.spare) c.turns.new.terms (masked c.turns.new.unsettled)) l.0 l.1 c.meets-left.result
-    (subst (λ xs. IsTrue c.meets-left.result ↔ OneIsUnsettled (masked c.turns.new.unsettled) (bits_in xs)) c.deref-in-then.ensures.value c.meets-left.ensures)
+    (subst (λ xs. IsTrue c.meets-left.result ↔ OneIsUnsettled (masked c.turns.new.unsettled) (bits_in xs)) c.deref-then-ended.ensures.value c.meets-left.ensures)
     (inl l.2)
 
 pub returns-clause-grows : goal.returns-clause-grows
@@ -92,3 +92,12 @@ returns-clause-loops c =
     c.requires.objects c.in_ok-spans.spans.items (λ i. bits_in c.in_ok-spans.spans.items) (state_of (images_at c.loop.table) (images_at c.loop.spare) c.loop.terms (masked c.loop.unsettled)) (c.loop.counter * 128) c.loop.invariant.way c.meets-left-2.result
     (subst (λ xs. IsTrue c.meets-left-2.result ↔ OneIsUnsettled (masked c.loop.unsettled) (bits_in xs)) c.deref-2.ensures.value c.meets-left-2.ensures)
     (inr (omega (arith, c.loop-test.false)))
+
+pub returns-in_err-spare-clause-grows : goal.returns-in_err-spare-clause-grows
+returns-in_err-spare-clause-grows c = Grows-refl c.args.terms.now
+
+pub returns-in_err-spans-clause-grows : goal.returns-in_err-spans-clause-grows
+returns-in_err-spans-clause-grows c = Grows-refl c.args.terms.now
+
+pub returns-in_err-unsettled-clause-grows : goal.returns-in_err-unsettled-clause-grows
+returns-in_err-unsettled-clause-grows c = Grows-refl c.args.terms.now

@@ -1,4 +1,4 @@
-use Rattle.std.proofs.Common.{◌∙◌, ◌+◌, [], ◌∷◌, drop, ap, arith}
+use Rattle.std.proofs.Common.{◌+◌, [], ◌∷◌, drop, ap, arith}
 use Rattle.std.proofs.lemmas.List.{at_drop_all}
 use Rattle.verilog_trees.specs.Syntax.{blocking}
 use Rattle.v_syntax.specs.Tree.{tree_of, target_of}
@@ -9,11 +9,9 @@ use Rattle.v_statement.proofs.Runs.{rest_is}
 use Rattle.v_lower.specs.Table.{images_at}
 use Rattle.v_masks.specs.Masks.{masked}
 use Rattle.v_loops.specs.Turns.{as_statements}
-use Rattle.v_settle.specs.OneModule.{drivers}
 use Rattle.v_settle.specs.Turns.{state_of}
-use Rattle.v_settle.proofs.Listed.{drivers-more}
 use Rattle.v_settle.proofs.Rounds.{are-open, one-visited}
-use Rattle.v_settle.proofs.Walks.{visits-turn, visits-end, sound-turn, fit-turn, statements-front}
+use Rattle.v_settle.proofs.Walks.{visits-turn, visits-end, sound-turn, fit-turn}
 use Rattle.v_settle.proofs.turn.visit_assignments.Goals as goal
 
 pub loop-assignment-init : goal.loop-assignment-init

@@ -1,6 +1,4 @@
 use Rattle.std.proofs.Common.{drop}
-use Rattle.verilog_trees.specs.Syntax.{blocking}
-use Rattle.v_syntax.specs.Tree.{tree_of, target_of}
 use Rattle.v_drivers.specs.Lists.{links_of}
 use Rattle.v_operators.specs.Meaning.{Grows}
 use Rattle.v_value.specs.Scope.{scope_at}

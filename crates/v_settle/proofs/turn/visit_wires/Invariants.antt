@@ -1,6 +1,4 @@
 use Rattle.std.proofs.Common.{drop}
-use Rattle.verilog_meaning.specs.Settled.{wire_assignment}
-use Rattle.v_syntax.specs.Source.{boxed_tree_of}
 use Rattle.v_drivers.specs.Lists.{wire_links}
 use Rattle.v_operators.specs.Meaning.{Grows}
 use Rattle.v_value.specs.Scope.{scope_at}

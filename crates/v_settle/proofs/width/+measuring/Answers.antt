@@ -1,4 +1,4 @@
-use Rattle.std.proofs.Common.{◌∙◌, ◌+◌, ◌≤◌, drop, ap, sym, subst, rules, arith}
+use Rattle.std.proofs.Common.{◌∙◌, ◌+◌, ◌≤◌, drop, sym, subst, rules, arith}
 use Rattle.std.proofs.lemmas.List.{at_drop_all}
 use Rattle.verilog_meaning.specs.Statement.{targets_width}
 use Rattle.v_value.specs.Scope.{scope_at}
@@ -7,7 +7,7 @@ use Rattle.v_statement.specs.Statements.{target_list}
 use Rattle.v_statement.proofs.Runs.{rest_is}
 use Rattle.v_flow.specs.Narrow.{HaveNarrowParts}
 use Rattle.v_flow.proofs.Targets as target
-use Rattle.v_settle.proofs.Widths.{width-Place, width-Joined, all-turn, one-within, sum-within, all-end}
+use Rattle.v_settle.proofs.Widths.{width-Place, width-Joined, all-turn, one-within, all-end}
 use Rattle.v_settle.proofs.width.+measuring.Goals as goal
 
 pub target_width-place_width-requires-clause-narrow : goal.target_width-place_width-requires-clause-narrow
