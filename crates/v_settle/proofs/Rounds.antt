@@ -3,6 +3,7 @@ use Rattle.std.proofs.Common.{ℕ, suc, refl, sym, subst, List, [], ◌∷◌, �
 use Rattle.std.specs.Prelude.{IsTrue}
 use Rattle.verilog_trees.specs.Syntax.{Statement, Item}
 use Rattle.verilog_meaning.specs.Expression.{Scope}
+use Rattle.verilog_meaning.specs.Register.{may_assign}
 use Rattle.verilog_unique.proofs.Descent.{IsAmong}
 use Rattle.verilog_designs.specs.Dependence.{Bit, is_in, at_start, After}
 use Rattle.v_value.specs.Narrow.{HasNarrowObjects}
@@ -37,7 +38,7 @@ module _ (s : Scope) (items : List Item) (objects : HasNarrowObjects s) (ready :
   pub record IsLeft (xs : List Statement) (a b : State) (k : ℕ) : Type 0 where
     pub way : IsUnderWay s items start b k
     pub fewer : (u : Bit) → IsThere s u → IsTrue (is_in b.unsettled u) → IsTrue (is_in a.unsettled u)
-    pub rests : (x : Statement) (u : Bit) → IsAmong xs x → IsThere s u → IsTrue (is_in b.unsettled u)
+    pub rests : (x : Statement) (u : Bit) → IsAmong xs x → IsThere s u → IsTrue (may_assign s x u.of_name u.word u.place) → IsTrue (is_in b.unsettled u)
         → (y : Bit) × IsThere s y × IsTrue (is_in a.unsettled y) × After s at_start x u y
 
   first-left : (x : Statement) (xs : List Statement) (a c b : State) (k : ℕ) → IsAmong (drivers items) x → IsUnderWay s items start a k → IsVisited s x a c
@@ -48,12 +49,13 @@ module _ (s : Scope) (items : List Item) (objects : HasNarrowObjects s) (ready :
       less : (u : Bit) → IsThere s u → IsTrue (is_in c.unsettled u) → IsTrue (is_in a.unsettled u)
       less = shrinks s items objects ready law start a c x among k way visited
 
-      rests : (z : Statement) (u : Bit) → IsAmong (x ∷ xs) z → IsThere s u → IsTrue (is_in b.unsettled u)
+      rests : (z : Statement) (u : Bit) → IsAmong (x ∷ xs) z → IsThere s u → IsTrue (may_assign s z u.of_name u.word u.place) → IsTrue (is_in b.unsettled u)
           → (y : Bit) × IsThere s y × IsTrue (is_in a.unsettled y) × After s at_start z u y
-      rests z u (inl e) there h =
-          let o = (law a.unsettled s x u there).0 ((visited.rests u there).0 (left.fewer u there h)) in
+      rests z u (inl e) there n h =
+          let mine = subst (λ (w : Statement). IsTrue (may_assign s w u.of_name u.word u.place)) (sym e) n in
+          let o = (law a.unsettled s x u there).0 (visited.rests u there mine (left.fewer u there h)) in
           (o.0, after-there s x u o.0 there o.2, o.1, subst (λ (w : Statement). After s at_start w u o.0) e o.2)
-      rests z u (inr m) there h = let o = left.rests z u m there h in (o.0, o.1, less o.0 o.1 o.2, o.3)
+      rests z u (inr m) there n h = let o = left.rests z u m there n h in (o.0, o.1, less o.0 o.1 o.2, o.3)
 
   left-by : (xs : List Statement) (a b : State) (k : ℕ) → ((x : Statement) → IsAmong xs x → IsAmong (drivers items) x) → IsUnderWay s items start a k
       → AreVisited s xs a b → IsLeft xs a b k
@@ -61,7 +63,7 @@ module _ (s : Scope) (items : List Item) (objects : HasNarrowObjects s) (ready :
       record {
         way = subst (λ (z : State). IsUnderWay s items start z k) h way;
         fewer = λ u there m. subst (λ (z : State). IsTrue (is_in z.unsettled u)) (sym h) m;
-        rests = λ x u n there m. absurd n;
+        rests = λ x u n there q m. absurd n;
       }
   left-by (x ∷ xs) a b k among way h =
       let here : IsAmong (drivers items) x = among x (inl refl) in
@@ -93,5 +95,5 @@ module _ (s : Scope) (items : List Item) (objects : HasNarrowObjects s) (ready :
       on : (u : Bit) → IsThere s u → IsTrue (is_in b.unsettled u) → (y : Bit) × IsThere s y × IsTrue (is_in a.unsettled y) × DependsIn s items u y
       on u there m =
           let d = stage-assigned s items u (stage-driven s items k u (left.way.chains u there m)) in
-          let o = left.rests d.0 u d.1 there m in
+          let o = left.rests d.0 u d.1 there d.3 m in
           (o.0, o.1, o.2, depends s items ready.runnable d.0 u o.0 d.1 there d.3 o.3)

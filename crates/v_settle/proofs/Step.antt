@@ -83,16 +83,24 @@ module _ (s : Scope) (items : List Item) (objects : HasNarrowObjects s) (ready :
   module _ (a b : State) (x : Statement) (stands : IsAmong (drivers items) x) (k : ℕ) (way : IsUnderWay s items start a k) (visited : IsVisited s x a b) where
     -- no bit becomes unsettled
     pub shrinks : (u : Bit) → IsThere s u → IsTrue (is_in b.unsettled u) → IsTrue (is_in a.unsettled u)
-    shrinks u there h = way.keeps x u (contains_among (drivers items) x stands) there ((visited.rests u there).0 h)
+    shrinks u there h = at (cases_Bool (may_assign s x u.of_name u.word u.place))
+      where
+        at : (may_assign s x u.of_name u.word u.place ≡ true) ⊎ (may_assign s x u.of_name u.word u.place ≡ false) → IsTrue (is_in a.unsettled u)
+        at (inl m) = way.keeps x u (contains_among (drivers items) x stands) there (visited.rests u there m h)
+        at (inr m) = (visited.others u there m).0 h
 
     -- a bit that the driver may not assign stays as it is
     stays : (u : Bit) → IsThere s u → may_assign s x u.of_name u.word u.place ≡ false → IsTrue (is_in a.unsettled u) → IsTrue (is_in b.unsettled u)
-    stays u there m h = (visited.rests u there).1 (still-before s (at_first a.unsettled) x u u m h)
+    stays u there m h = (visited.others u there m).1 h
+
+    -- a bit that rests after the driver is left unsettled
+    is-left : (u : Bit) → IsThere s u → RestsAfter a.unsettled s x u → IsTrue (is_in b.unsettled u)
+    is-left u there r = visited.left u there (way.keeps x u (contains_among (drivers items) x stands) there r) r
 
     -- what a settled bit depends on was settled
     settled-on : (u y : Bit) → IsThere s u → is_in b.unsettled u ≡ false → After s at_start x u y → is_in a.unsettled y ≡ false
     settled-on u y there h f =
-        false_from_ne_true (is_in a.unsettled y) (λ m. true≢false (sym ((visited.rests u there).1 (after-on a.unsettled x u y there m f)) ∙ h))
+        false_from_ne_true (is_in a.unsettled y) (λ m. true≢false (sym (is-left u there (after-on a.unsettled x u y there m f)) ∙ h))
 
     -- ---- bits that stay settled
 
@@ -109,7 +117,7 @@ module _ (s : Scope) (items : List Item) (objects : HasNarrowObjects s) (ready :
         by-this : may_assign s y u.of_name u.word u.place ≡ true → (may_assign s x u.of_name u.word u.place ≡ true) ⊎ (may_assign s x u.of_name u.word u.place ≡ false)
             → IsTrue (is_in b.unsettled u)
         by-this m (inl n) =
-            (visited.rests u there).1
+            is-left u there
             (subst (λ (z : Statement). RestsAfter a.unsettled s z u) (one-driver y u (among_contains (drivers items) y c) there m n)
             (rests-less a.unsettled b.unsettled y u shrinks there r))
         by-this m (inr n) = stays u there n before
@@ -132,7 +140,7 @@ module _ (s : Scope) (items : List Item) (objects : HasNarrowObjects s) (ready :
 
         at : (may_assign s x u.of_name u.word u.place ≡ true) ⊎ (may_assign s x u.of_name u.word u.place ≡ false) → IsTrue (is_in b.unsettled u)
         at (inl m) =
-            (visited.rests u by.there).1
+            is-left u by.there
             (after-on a.unsettled x u next.0 by.there unsettled
             (subst (λ (z : Statement). After s at_start z u next.0) (one-driver by.driver u by.stands by.there by.assigns m) by.after))
         at (inr m) = stays u by.there m (way.loops u h)

@@ -21,10 +21,10 @@ use Rattle.v_write.specs.Written.{AreOfNames}
 use Rattle.v_flow.specs.declared.span.Span.{Span}
 use Rattle.v_flow.specs.Spans.{bits_in, existing}
 use Rattle.v_paths.specs.Premises.{HasNoMemory, AssignsNoMemory}
-use Rattle.v_depend.specs.Resting.{IsThere, at_first, RestsAfter}
+use Rattle.v_depend.specs.Resting.{IsThere, OneIsUnsettled, at_first, RestsAfter}
 use Rattle.v_settle.specs.Drivers.{IsLinkLowered}
 use Rattle.v_settle.specs.Turns.{State, state_of, IsOpen, IsVisited}
-use Rattle.v_settle.proofs.Apart.{as-before}
+use Rattle.v_settle.proofs.Apart.{as-before, still-before}
 
 -- an environment that stands under images stands under them in a store that has grown
 stands_after : (s : Scope) (im : Images) (g h : Graph) (p v : Valuation) → Grows g h → HasImages s im g → StandsFor s im g p v → StandsFor s im h p v
@@ -56,6 +56,26 @@ both-false : (a b : Bool) → a ≡ true → (a && b) ≡ false → b ≡ false
 both-false true b e h = h
 both-false false b e h = absurd (false≢true e)
 
+-- ---- a driver of which no bit is unsettled
+
+pub skipped : (s : Scope) (x : Statement) (a : State) (spans : BitSet) (some : Bool) → IsOpen s a → spans ≡ existing s (may_assign s x)
+    → IsTrue some ↔ OneIsUnsettled a.unsettled spans → some ≡ false → IsVisited s x a (state_of a.images a.spare a.graph a.unsettled)
+skipped s x a spans some opens is_spans met none =
+    record {
+      opens = record { known = opens.known; known_spare = opens.known_spare; plain = opens.plain };
+      names = λ n. refl;
+      rests = λ u there m h.
+          absurd (true≢false (sym (met.1 (
+            u,
+            subst (λ (z : BitSet). is_in z u ≡ true) (sym is_spans)
+                (and_from (is_bit_of (s u.of_name) u.word u.place) (may_assign s x u.of_name u.word u.place) there m),
+            h,
+          )) ∙ none));
+      left = λ u there h r. h;
+      others = λ u there m. ((λ h. h), (λ h. h));
+      worth = inr (record { stands = λ p w st. record { names = st.names; others = st.others; spares = st.spares }; lasts = λ u there m h. h });
+    }
+
 module _ (s : Scope) (x : Statement) (a : State) (opens : IsOpen s a) (plain : AssignsNoMemory s x) (q : BitSet)
     (rests : (u : Bit) → IsThere s u → IsTrue (is_in q u) ↔ RestsAfter a.unsettled s x u) where
   after-plain : HasNoMemory s (existing s q)
@@ -67,6 +87,17 @@ module _ (s : Scope) (x : Statement) (a : State) (opens : IsOpen s a) (plain : A
       let before = as-before s (at_first a.unsettled) x u u free ((rests u both.0).0 both.1) in
       true≢false (sym (and_from (is_bit_of (s n) k b) (a.unsettled n k b) both.0 before) ∙ opens.plain n k b m))
 
+  -- what the driver leaves of its bits, and of others
+  rests-of : (u : Bit) → IsThere s u → IsTrue (may_assign s x u.of_name u.word u.place) → IsTrue (is_in q u) → RestsAfter a.unsettled s x u
+  rests-of u there m h = (rests u there).0 h
+
+  left-of : (u : Bit) → IsThere s u → IsTrue (is_in a.unsettled u) → RestsAfter a.unsettled s x u → IsTrue (is_in q u)
+  left-of u there h r = (rests u there).1 r
+
+  others-of : (u : Bit) → IsThere s u → may_assign s x u.of_name u.word u.place ≡ false → IsTrue (is_in q u) ↔ IsTrue (is_in a.unsettled u)
+  others-of u there m =
+      ((λ h. as-before s (at_first a.unsettled) x u u m ((rests u there).0 h)), (λ h. (rests u there).1 (still-before s (at_first a.unsettled) x u u m h)))
+
   -- ---- a driver that is passed
 
   pub passed : (spans before : BitSet) (more : Bool) → spans ≡ existing s (may_assign s x) → before ≡ and_in spans a.unsettled
@@ -75,7 +106,9 @@ module _ (s : Scope) (x : Statement) (a : State) (opens : IsOpen s a) (plain : A
       record {
         opens = record { known = opens.known; known_spare = opens.known_spare; plain = after-plain };
         names = λ n. refl;
-        rests = rests;
+        rests = rests-of;
+        left = left-of;
+        others = others-of;
         worth = inr (record { stands = λ p w st. record { names = st.names; others = st.others; spares = st.spares }; lasts = lasts });
       }
     where
@@ -94,7 +127,9 @@ module _ (s : Scope) (x : Statement) (a : State) (opens : IsOpen s a) (plain : A
         record {
           opens = record { known = l.known; known_spare = l.known_next; plain = after-plain };
           names = l.names;
-          rests = rests;
+          rests = rests-of;
+          left = left-of;
+          others = others-of;
           worth = inl (λ p w st. record {
             names = l.stands p w st.others st.names st.spares;
             others = with_updates s st.others (run s x w).updates;
@@ -108,7 +143,9 @@ module _ (s : Scope) (x : Statement) (a : State) (opens : IsOpen s a) (plain : A
         record {
           opens = record { known = known; known_spare = images_kept s a.spare a.graph h grows opens.known_spare; plain = after-plain };
           names = names;
-          rests = rests;
+          rests = rests-of;
+          left = left-of;
+          others = others-of;
           worth = inl (λ p w st. record {
             names = stands p w st.names;
             others = st.others;

@@ -51,11 +51,14 @@ pub record IsPassed (s : Scope) (x : Statement) (a b : State) : Type 0 where
   pub stands : (p w : Valuation) → Stands s a p w → Stands s b p w
   pub lasts : (u : Bit) → IsThere s u → IsTrue (may_assign s x u.of_name u.word u.place) → IsTrue (is_in a.unsettled u) → IsTrue (is_in b.unsettled u)
 
--- A driver was come to: what is left unsettled are the bits that rest on unsettled ones after it.
+-- A driver was come to. Of its bits those that are left unsettled rest on unsettled ones after it; a bit that was unsettled and rests so
+-- is left; and the bits that it may not assign are as before.
 pub record IsVisited (s : Scope) (x : Statement) (a b : State) : Type 0 where
   pub opens : IsOpen s b
   pub names : AreOfNames a.images b.images
-  pub rests : (u : Bit) → IsThere s u → IsTrue (is_in b.unsettled u) ↔ RestsAfter a.unsettled s x u
+  pub rests : (u : Bit) → IsThere s u → IsTrue (may_assign s x u.of_name u.word u.place) → IsTrue (is_in b.unsettled u) → RestsAfter a.unsettled s x u
+  pub left : (u : Bit) → IsThere s u → IsTrue (is_in a.unsettled u) → RestsAfter a.unsettled s x u → IsTrue (is_in b.unsettled u)
+  pub others : (u : Bit) → IsThere s u → may_assign s x u.of_name u.word u.place ≡ false → IsTrue (is_in b.unsettled u) ↔ IsTrue (is_in a.unsettled u)
   pub worth : IsRun s x a b ⊎ IsPassed s x a b
 
 -- one driver after the other

@@ -1,4 +1,4 @@
-//! One driver evaluated, where that settles some of its bits.
+//! One driver evaluated, where some of its bits are unsettled, and some of these settle by it.
 
 ghost use Rattle.std.specs.Prelude.{◌≡◌, ◌∷◌, [], OnOk};
 ghost use Rattle.verilog_trees.specs.Syntax.{blocking};
@@ -20,7 +20,7 @@ use crate::span::has_more;
 use crate::width::target_width;
 use std::alloc::Global;
 use std::collections::BTreeMap;
-use v_depend::{after, take};
+use v_depend::{after, meets, take};
 use v_flow::{add_assigned, add_reached};
 use v_lower::NamedTerms;
 use v_paths::mask::kept_in;
@@ -51,7 +51,7 @@ fn lower_link<'s>(
     Ok(())
 }
 
-/// Evaluates a continuous assignment, where bits of it no longer rest on unsettled ones.
+/// Evaluates a continuous assignment, where bits of it are unsettled and no longer rest on unsettled ones.
 pub(crate) fn visit_link<'s>(
     alloc: Global,
     target: &Target<'s>,
@@ -73,6 +73,10 @@ pub(crate) fn visit_link<'s>(
 {
     let mut spans = Vec::new(alloc);
     add_reached(scope, target, &mut spans)?;
+    let some = meets(&spans, unsettled);
+    if !some {
+        return Ok(());
+    }
     let before = kept_in(alloc, unsettled, &spans)?;
     take(alloc, target, value, scope, unsettled)?;
     let more = has_more(&before, unsettled);
@@ -104,6 +108,10 @@ pub(crate) fn visit_block<'s>(
 {
     let mut spans = Vec::new(alloc);
     add_assigned(scope, block, &mut spans)?;
+    let some = meets(&spans, unsettled);
+    if !some {
+        return Ok(());
+    }
     let before = kept_in(alloc, unsettled, &spans)?;
     after(alloc, block, scope, unsettled)?;
     let more = has_more(&before, unsettled);
