@@ -1,0 +1,17 @@
+mod Alone
+mod Apart
+mod Back
+mod Chains
+mod Copying
+mod Covered
+mod Ending
+mod Ends
+mod Given
+mod Known
+mod Listed
+mod Lowered
+mod Rounds
+mod Step
+mod Visits
+mod Walks
+mod Widths

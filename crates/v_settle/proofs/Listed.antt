@@ -1,0 +1,242 @@
+-- The drivers of a module as one list of statements: which they are, and what holds of each.
+use Rattle.std.proofs.Common.{◌≡◌, ◌∙◌, ℕ, refl, ap, sym, subst, true, List, [], ◌∷◌, ◌++◌, append-nil, append_assoc, ◌⊎◌, inl, inr}
+use Rattle.std.specs.Prelude.{IsTrue, ◌||◌}
+use Rattle.std.proofs.lemmas.Bool.{false≢true, or_cases, or_left, or_right}
+use Rattle.wb_values.specs.Value.{Name, Valuation}
+use Rattle.verilog_trees.specs.Syntax.{Expression, Target, Statement, blocking, Item}
+use Rattle.verilog_meaning.specs.Expression.{Scope}
+use Rattle.verilog_meaning.specs.Register.{may_reach, may_assign, one_may_assign, combinational_blocks}
+use Rattle.verilog_meaning.specs.Settled.{assignments, one_may_reach, HasAssigned, HasRun, HasRunAll}
+use Rattle.verilog_designs.specs.Reads.{no_bits}
+use Rattle.verilog_designs.specs.Dependence.{Bit, at_start, After, given}
+use Rattle.verilog_unique.proofs.Descent.{IsAmong, among_left, among_right, among_either, contains_among, among_contains}
+use Rattle.v_drivers.proofs.Driving.{links-of-items, combinational-of-items}
+use Rattle.v_write.specs.Sound.{IsSoundStatement}
+use Rattle.v_depend.specs.Resting.{IsThere}
+use Rattle.v_depend.specs.Running.{IsFit}
+use Rattle.v_loops.specs.OneModule.{DependsIn}
+use Rattle.v_loops.specs.Turns.{as_statements, AreFitToRun, IsRunnable, Stage}
+use Rattle.v_settle.specs.OneModule.{is_driven, drivers, AreSound}
+use Rattle.v_settle.proofs.Given.{only-given, given-reached, one-here, one-there, as-statement, as-link}
+
+abbrev pub Links : Type 0
+Links = List (Target × Expression)
+
+pub statements-both : (xs ys : Links) → as_statements (xs ++ ys) ≡ as_statements xs ++ as_statements ys
+statements-both [] ys = refl
+statements-both (a ∷ xs) ys = ap (λ zs. blocking a.0 a.1 ∷ zs) (statements-both xs ys)
+
+pub links-more : (i : Item) (items : List Item) → as_statements (assignments (i ∷ items)) ≡ as_statements (assignments (i ∷ [])) ++ as_statements (assignments items)
+links-more i items = ap as_statements (links-of-items i items) ∙ statements-both (assignments (i ∷ [])) (assignments items)
+
+-- the drivers of one item, and those of the rest
+pub drivers-more : (i : Item) (items : List Item) → drivers (i ∷ items) ≡ drivers (i ∷ []) ++ drivers items
+drivers-more i items =
+    let l = as_statements (assignments (i ∷ [])) in
+    let b = combinational_blocks (i ∷ []) in
+    ap (λ zs. l ++ (zs ++ drivers items)) (sym (append-nil b)) ∙ sym (append_assoc l (b ++ []) (drivers items))
+
+-- ---- which they are
+
+either-kind : (i : Item) (items : List Item) (x : Statement)
+    → (IsAmong (drivers items) x → IsAmong (as_statements (assignments items)) x ⊎ IsAmong (combinational_blocks items) x)
+    → IsAmong (drivers (i ∷ items)) x → IsAmong (as_statements (assignments (i ∷ items))) x ⊎ IsAmong (combinational_blocks (i ∷ items)) x
+either-kind i items x later h = first (among_either (as_statements (assignments (i ∷ []))) (combinational_blocks (i ∷ []) ++ drivers items) x h)
+  where
+    link : IsAmong (as_statements (assignments (i ∷ [])) ++ as_statements (assignments items)) x → IsAmong (as_statements (assignments (i ∷ items))) x
+    link k = subst (λ (zs : List Statement). IsAmong zs x) (sym (links-more i items)) k
+
+    block : IsAmong (combinational_blocks (i ∷ []) ++ combinational_blocks items) x → IsAmong (combinational_blocks (i ∷ items)) x
+    block k = subst (λ (zs : List Statement). IsAmong zs x) (sym (combinational-of-items i items)) k
+
+    last : IsAmong (as_statements (assignments items)) x ⊎ IsAmong (combinational_blocks items) x
+        → IsAmong (as_statements (assignments (i ∷ items))) x ⊎ IsAmong (combinational_blocks (i ∷ items)) x
+    last (inl k) = inl (link (among_right (as_statements (assignments (i ∷ []))) (as_statements (assignments items)) x k))
+    last (inr k) = inr (block (among_right (combinational_blocks (i ∷ [])) (combinational_blocks items) x k))
+
+    second : IsAmong (combinational_blocks (i ∷ [])) x ⊎ IsAmong (drivers items) x
+        → IsAmong (as_statements (assignments (i ∷ items))) x ⊎ IsAmong (combinational_blocks (i ∷ items)) x
+    second (inl k) = inr (block (among_left (combinational_blocks (i ∷ [])) (combinational_blocks items) x k))
+    second (inr k) = last (later k)
+
+    first : IsAmong (as_statements (assignments (i ∷ []))) x ⊎ IsAmong (combinational_blocks (i ∷ []) ++ drivers items) x
+        → IsAmong (as_statements (assignments (i ∷ items))) x ⊎ IsAmong (combinational_blocks (i ∷ items)) x
+    first (inl k) = inl (link (among_left (as_statements (assignments (i ∷ []))) (as_statements (assignments items)) x k))
+    first (inr k) = second (among_either (combinational_blocks (i ∷ [])) (drivers items) x k)
+
+pub kind-of : (items : List Item) (x : Statement) → IsAmong (drivers items) x
+    → IsAmong (as_statements (assignments items)) x ⊎ IsAmong (combinational_blocks items) x
+kind-of [] x h = absurd h
+kind-of (i ∷ items) x h = either-kind i items x (kind-of items x) h
+
+pub link-among : (items : List Item) (x : Statement) → IsAmong (as_statements (assignments items)) x → IsAmong (drivers items) x
+link-among [] x h = absurd h
+link-among (i ∷ items) x h =
+    at (link-among items x) (among_either (as_statements (assignments (i ∷ []))) (as_statements (assignments items)) x (subst (λ (zs : List Statement). IsAmong zs x) (links-more i items) h))
+  where
+    at : (IsAmong (as_statements (assignments items)) x → IsAmong (drivers items) x)
+        → IsAmong (as_statements (assignments (i ∷ []))) x ⊎ IsAmong (as_statements (assignments items)) x → IsAmong (drivers (i ∷ items)) x
+    at f (inl k) = among_left (as_statements (assignments (i ∷ []))) (combinational_blocks (i ∷ []) ++ drivers items) x k
+    at f (inr k) =
+        among_right (as_statements (assignments (i ∷ []))) (combinational_blocks (i ∷ []) ++ drivers items) x
+        (among_right (combinational_blocks (i ∷ [])) (drivers items) x (f k))
+
+pub block-among : (items : List Item) (x : Statement) → IsAmong (combinational_blocks items) x → IsAmong (drivers items) x
+block-among [] x h = absurd h
+block-among (i ∷ items) x h =
+    at (block-among items x) (among_either (combinational_blocks (i ∷ [])) (combinational_blocks items) x (subst (λ (zs : List Statement). IsAmong zs x) (combinational-of-items i items) h))
+  where
+    at : (IsAmong (combinational_blocks items) x → IsAmong (drivers items) x)
+        → IsAmong (combinational_blocks (i ∷ [])) x ⊎ IsAmong (combinational_blocks items) x → IsAmong (drivers (i ∷ items)) x
+    at f (inl k) =
+        among_right (as_statements (assignments (i ∷ []))) (combinational_blocks (i ∷ []) ++ drivers items) x
+        (among_left (combinational_blocks (i ∷ [])) (drivers items) x k)
+    at f (inr k) =
+        among_right (as_statements (assignments (i ∷ []))) (combinational_blocks (i ∷ []) ++ drivers items) x
+        (among_right (combinational_blocks (i ∷ [])) (drivers items) x (f k))
+
+-- ---- what holds of each
+
+fit-among : (s : Scope) (xs : List Statement) (x : Statement) → AreFitToRun s xs → IsAmong xs x → IsFit s x
+fit-among s [] x f h = absurd h
+fit-among s (y ∷ xs) x f (inl e) = subst (IsFit s) e f.0
+fit-among s (y ∷ xs) x f (inr h) = fit-among s xs x f.1 h
+
+pub fit-driver : (s : Scope) (items : List Item) (x : Statement) → IsRunnable s items → IsAmong (drivers items) x → IsFit s x
+fit-driver s items x r h =
+    elim (kind-of items x h) as (λ _. IsFit s x) [
+      | inl k ↦ fit-among s (as_statements (assignments items)) x r.links k
+      | inr k ↦ fit-among s (combinational_blocks items) x r.blocks k
+    ]
+
+all-fit : (s : Scope) (xs : List Statement) → ((x : Statement) → IsAmong xs x → IsFit s x) → AreFitToRun s xs
+all-fit s [] f = tt
+all-fit s (x ∷ xs) f = (f x (inl refl), all-fit s xs (λ y h. f y (inr h)))
+
+pub fit-drivers : (s : Scope) (items : List Item) → IsRunnable s items → AreFitToRun s (drivers items)
+fit-drivers s items r = all-fit s (drivers items) (λ x h. fit-driver s items x r h)
+
+pub sound-among : (s : Scope) (xs : List Statement) (x : Statement) → AreSound s xs → IsAmong xs x → IsSoundStatement s x
+sound-among s [] x f h = absurd h
+sound-among s (y ∷ xs) x f (inl e) = subst (IsSoundStatement s) e f.0
+sound-among s (y ∷ xs) x f (inr h) = sound-among s xs x f.1 h
+
+link-runs : (s : Scope) (v : Valuation) (links : Links) (x : Statement) → HasAssigned s v links → IsAmong (as_statements links) x → HasRun s v x
+link-runs s v [] x h k = absurd k
+link-runs s v (a ∷ links) x h (inl e) = subst (HasRun s v) e h.0
+link-runs s v (a ∷ links) x h (inr k) = link-runs s v links x h.1 k
+
+block-runs : (s : Scope) (v : Valuation) (xs : List Statement) (x : Statement) → HasRunAll s v xs → IsAmong xs x → HasRun s v x
+block-runs s v [] x h k = absurd k
+block-runs s v (y ∷ xs) x h (inl e) = subst (HasRun s v) e h.0
+block-runs s v (y ∷ xs) x h (inr k) = block-runs s v xs x h.1 k
+
+pub driver-runs : (s : Scope) (v : Valuation) (items : List Item) (x : Statement) → HasAssigned s v (assignments items) → HasRunAll s v (combinational_blocks items)
+    → IsAmong (drivers items) x → HasRun s v x
+driver-runs s v items x h g k =
+    elim (kind-of items x k) as (λ _. HasRun s v x) [
+      | inl l ↦ link-runs s v (assignments items) x h l
+      | inr l ↦ block-runs s v (combinational_blocks items) x g l
+    ]
+
+-- ---- dependence
+
+module _ (s : Scope) (items : List Item) (runnable : IsRunnable s items) where
+  -- what a bit depends on by a driver that may assign it
+  pub depends : (x : Statement) (u y : Bit) → IsAmong (drivers items) x → IsThere s u → IsTrue (may_assign s x u.of_name u.word u.place)
+      → After s at_start x u y → DependsIn s items u y
+  depends x u y h there m a = at (kind-of items x h)
+    where
+      at : IsAmong (as_statements (assignments items)) x ⊎ IsAmong (combinational_blocks items) x → DependsIn s items u y
+      at (inl k) =
+          let l = as-link s (assignments items) x runnable.constant k in
+          let reach = subst (λ (z : Statement). IsTrue (may_assign s z u.of_name u.word u.place)) (sym l.is_it) m in
+          let after = subst (λ (z : Statement). After s at_start z u y) (sym l.is_it) a in
+          DependsIn.by_assignment l.link u y (contains_among (assignments items) l.link l.stands) there (only-given s l.link.0 l.link.1 u y l.constant reach after)
+      at (inr k) = DependsIn.by_block x u y (contains_among (combinational_blocks items) x k) there m a
+
+-- a driver by which a bit depends on another one
+pub record IsBy (s : Scope) (items : List Item) (u y : Bit) : Type 0 where
+  pub driver : Statement
+  pub stands : IsAmong (drivers items) driver
+  pub there : IsThere s u
+  pub assigns : IsTrue (may_assign s driver u.of_name u.word u.place)
+  pub after : After s at_start driver u y
+
+pub by-driver : (s : Scope) (items : List Item) (u y : Bit) → DependsIn s items u y → IsBy s items u y
+by-driver s items _ _ (DependsIn.by_assignment a u y c h g) =
+    record {
+      driver = blocking a.0 a.1;
+      stands = link-among items (blocking a.0 a.1) (as-statement (assignments items) a (among_contains (assignments items) a c));
+      there = h;
+      assigns = given-reached s a.0 a.1 u y g;
+      after = given y g refl;
+    }
+by-driver s items _ _ (DependsIn.by_block x u y c h m a) =
+    record { driver = x; stands = block-among items x (among_contains (combinational_blocks items) x c); there = h; assigns = m; after = a }
+
+-- ---- bits that are driven
+
+pub one-assigns : (s : Scope) (xs : List Statement) (n : Name) (k b : ℕ) → one_may_assign s xs n k b ≡ true → (x : Statement) × IsAmong xs x × (may_assign s x n k b ≡ true)
+one-assigns s [] n k b h = absurd (false≢true h)
+one-assigns s (x ∷ xs) n k b h = at (one-assigns s xs n k b) (or_cases (may_assign s x n k b) (one_may_assign s xs n k b) h)
+  where
+    at : (one_may_assign s xs n k b ≡ true → (y : Statement) × IsAmong xs y × (may_assign s y n k b ≡ true)) → (may_assign s x n k b ≡ true) ⊎ (one_may_assign s xs n k b ≡ true)
+        → (y : Statement) × IsAmong (x ∷ xs) y × (may_assign s y n k b ≡ true)
+    at f (inl e) = (x, inl refl, e)
+    at f (inr e) = let o = f e in (o.0, inr o.1, o.2)
+
+pub assigned-by : (s : Scope) (xs : List Statement) (x : Statement) (n : Name) (k b : ℕ) → IsAmong xs x → may_assign s x n k b ≡ true → one_may_assign s xs n k b ≡ true
+assigned-by s [] x n k b h m = absurd h
+assigned-by s (y ∷ xs) x n k b (inl e) m =
+    or_left (may_assign s y n k b) (one_may_assign s xs n k b) (subst (λ (z : Statement). may_assign s z n k b ≡ true) (sym e) m)
+assigned-by s (y ∷ xs) x n k b (inr h) m = or_right (may_assign s y n k b) (one_may_assign s xs n k b) (assigned-by s xs x n k b h m)
+
+reached-by : (s : Scope) (links : Links) (x : Statement) (n : Name) (k b : ℕ) → IsAmong (as_statements links) x → may_assign s x n k b ≡ true → one_may_reach s links n k b ≡ true
+reached-by s [] x n k b h m = absurd h
+reached-by s (a ∷ links) x n k b (inl e) m =
+    or_left (may_reach s a.0 n k b) (one_may_reach s links n k b) (subst (λ (z : Statement). may_assign s z n k b ≡ true) (sym e) m)
+reached-by s (a ∷ links) x n k b (inr h) m = or_right (may_reach s a.0 n k b) (one_may_reach s links n k b) (reached-by s links x n k b h m)
+
+-- what a driver may assign is driven
+pub is-driven : (s : Scope) (items : List Item) (x : Statement) (n : Name) (k b : ℕ) → IsAmong (drivers items) x → may_assign s x n k b ≡ true → is_driven s items n k b ≡ true
+is-driven s items x n k b h m =
+    elim (kind-of items x h) as (λ _. is_driven s items n k b ≡ true) [
+      | inl l ↦ or_left (one_may_reach s (assignments items) n k b) (one_may_assign s (combinational_blocks items) n k b) (reached-by s (assignments items) x n k b l m)
+      | inr l ↦ or_right (one_may_reach s (assignments items) n k b) (one_may_assign s (combinational_blocks items) n k b)
+          (assigned-by s (combinational_blocks items) x n k b l m)
+    ]
+
+link-reaches : (s : Scope) (links : Links) (n : Name) (k b : ℕ) → one_may_reach s links n k b ≡ true → one_may_assign s (as_statements links) n k b ≡ true
+link-reaches s [] n k b h = h
+link-reaches s (a ∷ links) n k b h =
+    elim (or_cases (may_reach s a.0 n k b) (one_may_reach s links n k b) h) as (λ _. (may_reach s a.0 n k b || one_may_assign s (as_statements links) n k b) ≡ true) [
+      | inl e ↦ or_left (may_reach s a.0 n k b) (one_may_assign s (as_statements links) n k b) e
+      | inr e ↦ or_right (may_reach s a.0 n k b) (one_may_assign s (as_statements links) n k b) (link-reaches s links n k b e)
+    ]
+
+-- and what is driven a driver may assign
+pub driven-by : (s : Scope) (items : List Item) (n : Name) (k b : ℕ) → is_driven s items n k b ≡ true → (x : Statement) × IsAmong (drivers items) x × (may_assign s x n k b ≡ true)
+driven-by s items n k b h =
+    elim (or_cases (one_may_reach s (assignments items) n k b) (one_may_assign s (combinational_blocks items) n k b) h)
+    as (λ _. (x : Statement) × IsAmong (drivers items) x × (may_assign s x n k b ≡ true)) [
+      | inl e ↦ let o = one-assigns s (as_statements (assignments items)) n k b (link-reaches s (assignments items) n k b e) in
+          (o.0, link-among items o.0 o.1, o.2)
+      | inr e ↦ let o = one-assigns s (combinational_blocks items) n k b e in (o.0, block-among items o.0 o.1, o.2)
+    ]
+
+-- a bit that a driver may assign is of the first stage, and each bit of that is assigned by one
+pub first-stage : (s : Scope) (items : List Item) (x : Statement) (u : Bit) → IsAmong (drivers items) x → IsThere s u
+    → IsTrue (may_assign s x u.of_name u.word u.place) → Stage s items 0 u
+first-stage s items x u h there m =
+    elim (kind-of items x h) as (λ _. Stage s items 0 u) [
+      | inl l ↦ inl (one-here true no_bits s (as_statements (assignments items)) x u l (there, m, tt))
+      | inr l ↦ inr (one-here true no_bits s (combinational_blocks items) x u l (there, m, tt))
+    ]
+
+pub stage-assigned : (s : Scope) (items : List Item) (u : Bit) → Stage s items 0 u
+    → (x : Statement) × IsAmong (drivers items) x × IsThere s u × IsTrue (may_assign s x u.of_name u.word u.place)
+stage-assigned s items u (inl h) =
+    let o = one-there true no_bits s (as_statements (assignments items)) u h in (o.0, link-among items o.0 o.1, o.2.0, o.2.1)
+stage-assigned s items u (inr h) =
+    let o = one-there true no_bits s (combinational_blocks items) u h in (o.0, block-among items o.0 o.1, o.2.0, o.2.1)

@@ -1,0 +1,18 @@
+use Rattle.std.proofs.Common.{◌*◌}
+use Rattle.std.specs.Prelude.{map}
+use Rattle.verilog_designs.specs.Reads.{no_bits}
+use Rattle.v_syntax.specs.Source.{item_of}
+use Rattle.v_operators.specs.Meaning.{Grows}
+use Rattle.v_value.specs.Scope.{scope_at}
+use Rattle.v_lower.specs.Table.{images_at}
+use Rattle.v_masks.specs.Masks.{masked}
+use Rattle.v_settle.specs.Turns.{state_of, IsOpen, IsUnderWay}
+use Rattle.v_settle.proofs.module.settle_all.Given as goal
+
+abbrev pub invariant-loop : goal.invariant-loop
+invariant-loop l = record {
+  grows : Grows l.initial.terms l.terms;
+  opens : IsOpen (scope_at l.scope) (state_of (images_at l.table) (images_at l.spare) l.terms (masked l.unsettled));
+  way : IsUnderWay (scope_at l.scope) (map item_of l.items) (state_of (images_at l.initial.table) (images_at l.initial.table) l.initial.terms no_bits)
+      (state_of (images_at l.table) (images_at l.spare) l.terms (masked l.unsettled)) (l.counter * 128);
+}

@@ -1,0 +1,73 @@
+use Rattle.std.proofs.Common.{◌∙◌, ◌+◌, [], ◌∷◌, drop, ap, arith}
+use Rattle.std.proofs.lemmas.List.{at_drop_all}
+use Rattle.std.specs.Prelude.{map}
+use Rattle.v_syntax.specs.Source.{item_of}
+use Rattle.v_operators.proofs.Growing.{Grows-refl, Grows-trans}
+use Rattle.v_value.specs.Scope.{scope_at}
+use Rattle.v_statement.proofs.Runs.{rest_is}
+use Rattle.v_lower.specs.Table.{images_at}
+use Rattle.v_masks.specs.Masks.{masked}
+use Rattle.v_settle.specs.OneModule.{drivers}
+use Rattle.v_settle.specs.Turns.{state_of}
+use Rattle.v_settle.proofs.Listed.{drivers-more}
+use Rattle.v_settle.proofs.Rounds.{are-open}
+use Rattle.v_settle.proofs.Walks.{visits-turn, visits-end, sound-turn, fit-turn}
+use Rattle.v_settle.proofs.turn.turn.Goals as goal
+
+pub loop-item-init : goal.loop-item-init
+loop-item-init c =
+    record { grows = Grows-refl c.args.terms.now; opens = c.requires.opens; sound = c.requires.sound; fit = c.requires.fit; left = λ last h. h }
+
+pub visit_item-requires-clause-opens : goal.visit_item-requires-clause-opens
+visit_item-requires-clause-opens c = c.loop-item.invariant.opens
+
+pub visit_item-requires-clause-sound : goal.visit_item-requires-clause-sound
+visit_item-requires-clause-sound c =
+    let s = scope_at c.args.scope.now in
+    let xs = c.args.items.now in
+    let i = c.loop-item.item-index in
+    let r = c.item-item.result in
+    let more = drivers (map item_of (drop (i + 1) xs)) in
+    let rest = ap (λ ys. drivers (map item_of ys)) (rest_is xs i r (omega arith) c.item-item.is) ∙ drivers-more (item_of r) (map item_of (drop (i + 1) xs)) in
+    (sound-turn s (drivers (map item_of (drop i xs))) (drivers (item_of r ∷ [])) more rest c.loop-item.invariant.sound).0
+
+pub visit_item-requires-clause-fit : goal.visit_item-requires-clause-fit
+visit_item-requires-clause-fit c =
+    let s = scope_at c.args.scope.now in
+    let xs = c.args.items.now in
+    let i = c.loop-item.item-index in
+    let r = c.item-item.result in
+    let more = drivers (map item_of (drop (i + 1) xs)) in
+    let rest = ap (λ ys. drivers (map item_of ys)) (rest_is xs i r (omega arith) c.item-item.is) ∙ drivers-more (item_of r) (map item_of (drop (i + 1) xs)) in
+    (fit-turn s (drivers (map item_of (drop i xs))) (drivers (item_of r ∷ [])) more rest c.loop-item.invariant.fit).0
+
+pub loop-item-preserved : goal.loop-item-preserved
+loop-item-preserved c =
+    let s = scope_at c.args.scope.now in
+    let xs = c.args.items.now in
+    let i = c.loop-item.item-index in
+    let r = c.item-item.result in
+    let more = drivers (map item_of (drop (i + 1) xs)) in
+    let rest = ap (λ ys. drivers (map item_of ys)) (rest_is xs i r (omega arith) c.item-item.is) ∙ drivers-more (item_of r) (map item_of (drop (i + 1) xs)) in
+    let a = (state_of (images_at c.args.table.now) (images_at c.args.spare.now) c.args.terms.now (masked c.args.unsettled.now)) in
+    let b = (state_of (images_at c.loop-item.table) (images_at c.loop-item.spare) c.loop-item.terms (masked c.loop-item.unsettled)) in
+    let n = (state_of (images_at c.visit_item.new.table) (images_at c.visit_item.new.spare) c.visit_item.new.terms (masked c.visit_item.new.unsettled)) in
+    let v = c.in_ok-visit_item.ensures.visited in
+    record {
+      grows = Grows-trans c.loop-item.invariant.grows c.in_ok-visit_item.ensures.grows;
+      opens = are-open s (drivers (item_of r ∷ [])) b n c.loop-item.invariant.opens v;
+      sound = (sound-turn s (drivers (map item_of (drop i xs))) (drivers (item_of r ∷ [])) more rest c.loop-item.invariant.sound).1;
+      fit = (fit-turn s (drivers (map item_of (drop i xs))) (drivers (item_of r ∷ [])) more rest c.loop-item.invariant.fit).1;
+      left = visits-turn s (drivers (map item_of xs)) (drivers (map item_of (drop i xs))) (drivers (item_of r ∷ [])) more a b n rest c.loop-item.invariant.left v;
+    }
+
+pub returns-clause-grows : goal.returns-clause-grows
+returns-clause-grows c = c.loop-item.invariant.grows
+
+pub returns-clause-visited : goal.returns-clause-visited
+returns-clause-visited c =
+    let s = scope_at c.args.scope.now in
+    let xs = c.args.items.now in
+    let i = c.loop-item.item-index in
+    visits-end s (drivers (map item_of xs)) (drivers (map item_of (drop i xs))) (state_of (images_at c.args.table.now) (images_at c.args.spare.now) c.args.terms.now (masked c.args.unsettled.now)) (state_of (images_at c.loop-item.table) (images_at c.loop-item.spare) c.loop-item.terms (masked c.loop-item.unsettled))
+    (at_drop_all (λ ys. drivers (map item_of ys)) xs i c.loop-item-test.false) c.loop-item.invariant.left

@@ -1,0 +1,79 @@
+use Rattle.std.proofs.Common.{arith}
+use Rattle.std.specs.Prelude.{map}
+use Rattle.v_syntax.specs.Source.{item_of}
+use Rattle.v_operators.proofs.Growing.{Grows-refl, Grows-trans}
+use Rattle.v_value.specs.Scope.{scope_at}
+use Rattle.v_lower.specs.Table.{images_at}
+use Rattle.v_flow.specs.Spans.{bits_in}
+use Rattle.v_masks.specs.Masks.{masked}
+use Rattle.v_settle.specs.OneModule.{drivers}
+use Rattle.v_settle.specs.Turns.{state_of}
+use Rattle.v_settle.proofs.Listed.{fit-drivers}
+use Rattle.v_settle.proofs.Rounds.{are-open}
+use Rattle.v_settle.proofs.Visits.{has-for}
+use Rattle.v_settle.proofs.Ending.{none-onward, ended-onward, nothing-onward, turn-onward, last-onward}
+use Rattle.v_settle.proofs.turn.turns.Goals as goal
+
+pub loop-init : goal.loop-init
+loop-init c =
+    record {
+      grows = Grows-refl c.args.terms.now;
+      opens = c.requires.opens;
+      way = none-onward (scope_at c.args.scope.now) (map item_of c.args.items.now) (state_of (images_at c.args.table.now) (images_at c.args.spare.now) c.args.terms.now (masked c.args.unsettled.now));
+    }
+
+pub turn-requires-clause-opens : goal.turn-requires-clause-opens
+turn-requires-clause-opens c = c.loop.invariant.opens
+
+pub turn-requires-clause-sound : goal.turn-requires-clause-sound
+turn-requires-clause-sound c = c.requires.ready.sound
+
+pub turn-requires-clause-fit : goal.turn-requires-clause-fit
+turn-requires-clause-fit c = fit-drivers (scope_at c.args.scope.now) (map item_of c.args.items.now) c.requires.ready.runnable
+
+pub loop-preserved : goal.loop-preserved
+loop-preserved c =
+    let s = scope_at c.args.scope.now in
+    let items = map item_of c.args.items.now in
+    record {
+      grows = Grows-trans c.loop.invariant.grows c.in_ok-turn.ensures.grows;
+      opens = are-open s (drivers items) (state_of (images_at c.loop.table) (images_at c.loop.spare) c.loop.terms (masked c.loop.unsettled)) (state_of (images_at c.turn.new.table) (images_at c.turn.new.spare) c.turn.new.terms (masked c.turn.new.unsettled)) c.loop.invariant.opens c.in_ok-turn.ensures.visited;
+      way = turn-onward s items (state_of (images_at c.args.table.now) (images_at c.args.spare.now) c.args.terms.now (masked c.args.unsettled.now)) c.requires.objects c.requires.ready c.rests_where_it_depends.ensures (bits_in c.args.driven.now) c.requires.driven c.loop.counter (state_of (images_at c.loop.table) (images_at c.loop.spare) c.loop.terms (masked c.loop.unsettled)) (state_of (images_at c.turn.new.table) (images_at c.turn.new.spare) c.turn.new.terms (masked c.turn.new.unsettled))
+          c.loop.invariant.way c.in_ok-turn.ensures.visited;
+    }
+
+pub returns-then-not-some-clause-grows : goal.returns-then-not-some-clause-grows
+returns-then-not-some-clause-grows c = c.loop.invariant.grows
+
+pub returns-then-not-some-clause-opens : goal.returns-then-not-some-clause-opens
+returns-then-not-some-clause-opens c = c.loop.invariant.opens
+
+pub returns-then-not-some-clause-made : goal.returns-then-not-some-clause-made
+returns-then-not-some-clause-made c =
+    nothing-onward (scope_at c.args.scope.now) (map item_of c.args.items.now) (state_of (images_at c.args.table.now) (images_at c.args.spare.now) c.args.terms.now (masked c.args.unsettled.now)) c.requires.objects c.requires.ready c.rests_where_it_depends.ensures
+    (bits_in c.args.driven.now) c.requires.driven c.loop.counter (state_of (images_at c.loop.table) (images_at c.loop.spare) c.loop.terms (masked c.loop.unsettled)) c.meets-some.result c.loop.invariant.way c.meets-some.ensures c.if-not-some.true
+
+pub returns-then-not-more-clause-grows : goal.returns-then-not-more-clause-grows
+returns-then-not-more-clause-grows c = Grows-trans c.loop.invariant.grows c.in_ok-turn.ensures.grows
+
+pub returns-then-not-more-clause-opens : goal.returns-then-not-more-clause-opens
+returns-then-not-more-clause-opens c =
+    are-open (scope_at c.args.scope.now) (drivers (map item_of c.args.items.now)) (state_of (images_at c.loop.table) (images_at c.loop.spare) c.loop.terms (masked c.loop.unsettled)) (state_of (images_at c.turn.new.table) (images_at c.turn.new.spare) c.turn.new.terms (masked c.turn.new.unsettled)) c.loop.invariant.opens c.in_ok-turn.ensures.visited
+
+pub returns-then-not-more-clause-made : goal.returns-then-not-more-clause-made
+returns-then-not-more-clause-made c =
+    last-onward (scope_at c.args.scope.now) (map item_of c.args.items.now) (state_of (images_at c.args.table.now) (images_at c.args.spare.now) c.args.terms.now (masked c.args.unsettled.now)) c.requires.objects c.requires.ready c.rests_where_it_depends.ensures
+    (bits_in c.args.driven.now) c.requires.driven c.loop.counter (state_of (images_at c.loop.table) (images_at c.loop.spare) c.loop.terms (masked c.loop.unsettled)) (state_of (images_at c.turn.new.table) (images_at c.turn.new.spare) c.turn.new.terms (masked c.turn.new.unsettled)) c.loop.invariant.way c.in_ok-turn.ensures.visited (bits_in c.in_ok-before.before.items) c.has_more-more.result
+    c.in_ok-before.ensures
+    (has-for c.deref.result.now c.in_ok-before.before.items (masked c.turn.new.unsettled) c.has_more-more.result c.deref.ensures.value c.has_more-more.ensures)
+    c.if-not-more.true
+
+pub returns-clause-grows : goal.returns-clause-grows
+returns-clause-grows c = c.loop.invariant.grows
+
+pub returns-clause-opens : goal.returns-clause-opens
+returns-clause-opens c = c.loop.invariant.opens
+
+pub returns-clause-made : goal.returns-clause-made
+returns-clause-made c =
+    ended-onward (scope_at c.args.scope.now) (map item_of c.args.items.now) (state_of (images_at c.args.table.now) (images_at c.args.spare.now) c.args.terms.now (masked c.args.unsettled.now)) c.loop.counter (state_of (images_at c.loop.table) (images_at c.loop.spare) c.loop.terms (masked c.loop.unsettled)) (omega arith) c.loop.invariant.way
