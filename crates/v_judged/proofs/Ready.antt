@@ -191,17 +191,17 @@ module _ (d : Design) (m : Module) (h : IsTopOf d m) where
   pub blocking_so : (r : Bool) → r ≡ list_any has_blocking (clocked_blocks m.items) → (r ≡ true → HasBlockingInClocked d) × (r ≡ false → ¬ HasBlockingInClocked d)
   blocking_so r e = (
     λ t. let o = one-of has_blocking (clocked_blocks m.items) (sym e ∙ t) in
-    record { place = alone m; statement = o.element; is_placed = top d m h; stands = o.stands; blocks = o.so },
+        record { place = alone m; statement = o.element; is_placed = top d m h; stands = o.stands; blocks = o.so },
     λ f b. true≢false (sym (any-there has_blocking (clocked_blocks m.items) b.statement
-    (subst (λ (p : Placed). Contains (clocked_blocks p.of_module.items) b.statement) (placed d m h b.place.path b.place b.is_placed) b.stands) b.blocks) ∙ sym e ∙ f),
+        (subst (λ (p : Placed). Contains (clocked_blocks p.of_module.items) b.statement) (placed d m h b.place.path b.place b.is_placed) b.stands) b.blocks) ∙ sym e ∙ f),
   )
 
   pub nonblocking_so : (r : Bool) → r ≡ list_any has_nonblocking (combinational_blocks m.items) → (r ≡ true → HasNonblockingInComb d) × (r ≡ false → ¬ HasNonblockingInComb d)
   nonblocking_so r e = (
     λ t. let o = one-of has_nonblocking (combinational_blocks m.items) (sym e ∙ t) in
-    record { place = alone m; statement = o.element; is_placed = top d m h; stands = o.stands; waits = o.so },
+        record { place = alone m; statement = o.element; is_placed = top d m h; stands = o.stands; waits = o.so },
     λ f b. true≢false (sym (any-there has_nonblocking (combinational_blocks m.items) b.statement
-    (subst (λ (p : Placed). Contains (combinational_blocks p.of_module.items) b.statement) (placed d m h b.place.path b.place b.is_placed) b.stands) b.waits) ∙ sym e ∙ f),
+        (subst (λ (p : Placed). Contains (combinational_blocks p.of_module.items) b.statement) (placed d m h b.place.path b.place b.is_placed) b.stands) b.waits) ∙ sym e ∙ f),
   )
 
 -- ---- places in lists

@@ -196,10 +196,13 @@ module _ (source : Source) (m : Module) (own : module_has_parts m ≡ false) (kn
       → Good (broken_addresses s vs) → AreValued (scope_of []) (variable_declarations signed r vs)
   variables_valued i h signed r ok [] f g k = tt
   variables_valued i h signed r ok (v ∷ vs) f g k = (
-    (ok, item_range i v.1 h (λ n x. f n (among_left (names_in_range v.1) (names_in_addresses vs) n x)) (λ n x. g n (among_left (names_in_range v.1) (names_in_addresses vs) n x))
-    (good_left (broken_range s v.1) (broken_addresses s vs) k)),
+    (
+      ok,
+      item_range i v.1 h (λ n x. f n (among_left (names_in_range v.1) (names_in_addresses vs) n x)) (λ n x. g n (among_left (names_in_range v.1) (names_in_addresses vs) n x))
+          (good_left (broken_range s v.1) (broken_addresses s vs) k),
+    ),
     variables_valued i h signed r ok vs (λ n x. f n (among_right (names_in_range v.1) (names_in_addresses vs) n x))
-    (λ n x. g n (among_right (names_in_range v.1) (names_in_addresses vs) n x)) (good_right (broken_range s v.1) (broken_addresses s vs) k),
+        (λ n x. g n (among_right (names_in_range v.1) (names_in_addresses vs) n x)) (good_right (broken_range s v.1) (broken_addresses s vs) k),
   )
 
   items_valued : (items : List Item) → ((i : Item) → IsAmong items i → IsAmong m.items i) → Good (broken_module_items source s items) → AreValued (scope_of []) (item_declarations items)

@@ -14,5 +14,7 @@ returns-then-data c = λ d h k. inl (refl, (clock_so d (module_of c.args.within.
 pub returns : goal.returns
 returns c = λ d h k.
     let m = module_of c.args.within.now in
-    inr ((clock_so d m h c.args.clock.now k c.in_ok-data.data c.in_ok-data.ensures).1 c.if-data.false,
-    c.in_ok-kind.ensures d m h (ap (map item_of) (sym c.deref.ensures.value)) c.requires.same k)
+    inr (
+      (clock_so d m h c.args.clock.now k c.in_ok-data.data c.in_ok-data.ensures).1 c.if-data.false,
+      c.in_ok-kind.ensures d m h (ap (map item_of) (sym c.deref.ensures.value)) c.requires.same k,
+    )
