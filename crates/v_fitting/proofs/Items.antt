@@ -15,6 +15,7 @@ use Rattle.v_sound.proofs.Within.{net-target-narrow}
 use Rattle.v_drivers.specs.Premises.{HaveNarrowTargets, AreNarrowBlocks, AreNarrowItems}
 use Rattle.v_undriven.specs.Premises.{AreNarrowValues, AreNarrowReads}
 use Rattle.v_depend.specs.Running.{IsFit}
+use Rattle.v_paths.specs.Modules.{AreFitItems}
 use Rattle.v_loops.specs.Turns.{as_statements, AreFitToRun, HaveConstantSelects, IsRunnable}
 use Rattle.v_fitting.specs.Wires.{AreNoMemories, HasPlainWires, HavePlainWires}
 use Rattle.v_fitting.proofs.Targets.{target-constant, statement-targets}
@@ -193,3 +194,23 @@ module _ (source : Source) (s : Scope) (objects : HasNarrowObjects s) where
             constant = g.constant;
           }
       one-more (instances m given is) rest w u g = record { links = g.links; blocks = g.blocks; constant = g.constant }
+
+  -- ---- blocks that latches are looked for in
+
+  pub items-fit : (items : List Item) → is_unbroken (broken_module_items source s items) ≡ true → AreFitItems s items
+  items-fit [] h = tt
+  items-fit (port d ∷ items) h = (tt, items-fit items (unbroken-also (broken_module_item source s (port d)) (broken_module_items source s items) h).1)
+  items-fit (parameter d ∷ items) h = (tt, items-fit items (unbroken-also (broken_module_item source s (parameter d)) (broken_module_items source s items) h).1)
+  items-fit (wires signed r ws ∷ items) h = (tt, items-fit items (unbroken-also (broken_module_item source s (wires signed r ws)) (broken_module_items source s items) h).1)
+  items-fit (variables signed r vs ∷ items) h = (tt, items-fit items (unbroken-also (broken_module_item source s (variables signed r vs)) (broken_module_items source s items) h).1)
+  items-fit (assign xs ∷ items) h = (tt, items-fit items (unbroken-also (broken_module_item source s (assign xs)) (broken_module_items source s items) h).1)
+  items-fit (always es x ∷ items) h =
+      let p = unbroken-also (broken_module_item source s (always es x)) (broken_module_items source s items) h in
+      let q = unbroken-also (broken_events s es) (broken_statement s (is_clocked es) x) p.0 in (
+        record {
+          narrow = statement-narrow s objects (is_clocked es) x q.1;
+          no_memory = λ e. plain-statement s x (subst (λ c. is_unbroken (broken_statement s c x) ≡ true) e q.1);
+        },
+        items-fit items p.1,
+      )
+  items-fit (instances m given is ∷ items) h = (tt, items-fit items (unbroken-also (broken_module_item source s (instances m given is)) (broken_module_items source s items) h).1)

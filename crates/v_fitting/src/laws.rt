@@ -9,6 +9,7 @@ ghost use Rattle.verilog_designs.specs.Names.{has_duplicate};
 ghost use Rattle.verilog_designs.specs.Expressions.{broken_module_items, broken_module};
 ghost use Rattle.v_value.specs.Narrow.{HasNarrowObjects};
 ghost use Rattle.v_drivers.specs.Premises.{AreNarrowItems};
+ghost use Rattle.v_paths.specs.Modules.{AreFitItems};
 ghost use Rattle.v_undriven.specs.Premises.{AreNarrowReads};
 ghost use Rattle.v_loops.specs.Turns.{IsRunnable};
 ghost use Rattle.v_fitting.specs.Wires.{HavePlainWires};
@@ -25,6 +26,13 @@ pub fn narrow_reads()
     ensures { (source : Source) (s : Scope) (items : List Item) → HasNarrowObjects s
         → is_unbroken (broken_module_items source s items) ≡ true
         → AreNarrowReads s items }
+{}
+
+/// Their blocks fit words, and those that are not clocked assign no memory: latches and lists of events may be looked for.
+pub fn fit_items()
+    ensures { (source : Source) (s : Scope) (items : List Item) → HasNarrowObjects s
+        → is_unbroken (broken_module_items source s items) ≡ true
+        → AreFitItems s items }
 {}
 
 /// Where no wire is a memory as well, their drivers assign no memory, and the targets of continuous assignments have constant selects:

@@ -1,0 +1,6 @@
+mod First
+mod Tops
+mod Valued
+mod Declared
+mod Ready
+mod Asked

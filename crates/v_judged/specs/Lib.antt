@@ -1,0 +1,3 @@
+pub mod Refusal
+pub mod First
+pub mod Tops

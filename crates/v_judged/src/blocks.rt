@@ -1,0 +1,71 @@
+//! The kinds on the clock and on blocks.
+ghost use Rattle.std.specs.Prelude.{◌≡◌, [], map, IfOk};
+ghost use Rattle.verilog_trees.specs.Syntax as pure;
+ghost use Rattle.verilog_meaning.specs.Hierarchy.{module_scope};
+ghost use Rattle.verilog_meaning.specs.Settled.{Design};
+ghost use Rattle.v_syntax.specs.Source.{item_of, module_of};
+ghost use Rattle.v_value.specs.Scope.{scope_at};
+ghost use Rattle.v_value.specs.Narrow.{HasNarrowObjects};
+ghost use Rattle.v_paths.specs.Modules.{AreFitItems};
+ghost use Rattle.v_judged.specs.First.{IsFirst, item_kinds, block_kinds};
+ghost use Rattle.v_judged.specs.Tops.{IsTopOf};
+
+use crate::kind::DesignKind;
+use std::alloc::{AllocError, Global};
+use v_blocks::{first_blocking_in_clocked, first_nonblocking_in_combinational};
+use v_hier::has_clock_as_data;
+use v_paths::laws::{bad_event_lists_of_one_module, latches_of_one_module};
+use v_paths::{has_bad_event_list, has_latch};
+use v_syntax::module::{Item, Module};
+use v_value::scope::Scope;
+
+/// The first of the kinds on blocks whose rule is broken by such items, which are those of the top.
+fn items_refusal(
+    alloc: Global,
+    items: &[Item<'_>],
+    scope: &Scope<'_>,
+    clock: &str,
+) -> Result<Option<DesignKind>, AllocError>
+    requires objects { HasNarrowObjects (scope_at scope.now) }
+    requires fit { AreFitItems (scope_at scope.now) (map item_of items.now) }
+    ensures { IfOk result (λ k. (d : Design) (m : pure.Module) → IsTopOf d m → m.items ≡ map item_of items.now
+        → scope_at scope.now ≡ module_scope m [] → d.clock ≡ clock.now → IsFirst d item_kinds k) }
+{
+    bad_event_lists_of_one_module();
+    latches_of_one_module();
+    let events = has_bad_event_list(alloc, scope, clock, items)?;
+    if events {
+        return Ok(Some(DesignKind::BadEventList));
+    }
+    if first_blocking_in_clocked(items).is_some() {
+        return Ok(Some(DesignKind::BlockingInClocked));
+    }
+    if first_nonblocking_in_combinational(items).is_some() {
+        return Ok(Some(DesignKind::NonblockingInComb));
+    }
+    let latched = has_latch(alloc, scope, items)?;
+    if latched {
+        return Ok(Some(DesignKind::Latch));
+    }
+    Ok(None)
+}
+
+/// The first of these kinds whose rule is broken by the module, which is the top.
+pub(crate) fn blocks_refusal(
+    alloc: Global,
+    within: &Module<'_>,
+    scope: &Scope<'_>,
+    clock: &str,
+) -> Result<Option<DesignKind>, AllocError>
+    requires objects { HasNarrowObjects (scope_at scope.now) }
+    requires fit { AreFitItems (scope_at scope.now) (module_of within.now).items }
+    requires same { scope_at scope.now ≡ module_scope (module_of within.now) [] }
+    ensures { IfOk result (λ k. (d : Design) → IsTopOf d (module_of within.now) → d.clock ≡ clock.now → IsFirst d block_kinds k) }
+{
+    let data = has_clock_as_data(alloc, within, clock)?;
+    if data {
+        return Ok(Some(DesignKind::ClockAsData));
+    }
+    let kind = items_refusal(alloc, &within.items, scope, clock)?;
+    Ok(kind)
+}
