@@ -77,14 +77,14 @@ step_written codes codes' hints hints' lits numbers s cs hs start end first last
         omega (arith, last),
       ),
       ap (λ (xs : List ℕ). lemma_of xs (slice_range hints' s.first_hint s.end_hint)) coded
-      ∙ ap (λ (xs : List ℕ). lemma_of (map code_of lits) xs) hinted
-      ∙ ap (λ (ls : List Lit). made ls numbers) (literals_of_codes lits),
+          ∙ ap (λ (xs : List ℕ). lemma_of (map code_of lits) xs) hinted
+          ∙ ap (λ (ls : List Lit). made ls numbers) (literals_of_codes lits),
     )
 
--- a log has no step where its value is the empty list
-pub empty_by : (codes hints : List ℕ) (steps : List Step) (value : List Lemma) (b : Bool) (n : ℕ) → map (lemma_in codes hints) steps ≡ value → n ≡ length steps → b ≡ (n == 0) → (b ≡ true) ↔ (value ≡ [])
-empty_by codes hints [] value b n is len test = (λ t. sym is, λ e. test ∙ ap (λ (m : ℕ). m == 0) len)
-empty_by codes hints (s ∷ steps) value b n is len test = (
+-- a list is empty where its image is
+pub empty_map : {X Y : Type 0} (f : X → Y) (xs : List X) (ys : List Y) (b : Bool) (n : ℕ) → map f xs ≡ ys → n ≡ length xs → b ≡ (n == 0) → (b ≡ true) ↔ (ys ≡ [])
+empty_map f [] ys b n is len test = (λ t. sym is, λ e. test ∙ ap (λ (m : ℕ). m == 0) len)
+empty_map f (x ∷ xs) ys b n is len test = (
   λ t. absurd (false≢true (sym (test ∙ ap (λ (m : ℕ). m == 0) len) ∙ t)),
-  λ e. let k : lemma_in codes hints s ∷ map (lemma_in codes hints) steps ≡ [] = is ∙ e in cc,
+  λ e. let k : f x ∷ map f xs ≡ [] = is ∙ e in cc,
 )

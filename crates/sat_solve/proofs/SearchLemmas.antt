@@ -251,6 +251,7 @@ IsLoaded-added f trail pairs pairs' lists lists' head number lits first second l
       state = loaded.state;
       small = loaded.small;
       undecided = loaded.undecided;
+      within = omega (arith, slice_get_within f.clauses number lits at);
       paired = omega (arith, one_more_pair pairs pairs' lists lists' first second pair_added, loaded.paired);
       start = loaded.start;
       watched = IsWatched-added trail.vars trail.entries head held held' lists lists' lits first second added
@@ -282,6 +283,7 @@ IsLoaded-forced f trail pairs lists head number lits first loaded at among alone
   state = IsState-forced f [] trail first number lits loaded.state (slice_get-left f.clauses [] number lits at) record { own = among; others = λ x h. inl (alone x h) } fresh short;
   small = loaded.small;
   undecided = undecided;
+  within = loaded.within;
   paired = loaded.paired;
   start = loaded.start;
   watched = IsWatched-push trail.vars record { lit = first; reason = Some number } trail.entries head (held_of f [] pairs) lists fresh (λ none. cc) loaded.watched;
@@ -297,6 +299,7 @@ IsLoaded-start f trail pairs lists head state small empty none new start = recor
   state = state;
   small = small;
   undecided = λ k e low high at. absurd (let n : length trail.entries ≡ 0 = ap (λ (es : List Entry). length es) empty in omega (arith, n, high));
+  within = omega arith;
   paired = ap (λ (ps : List Pair). length ps) none;
   start = start;
   watched = record {
@@ -310,7 +313,7 @@ IsLoaded-start f trail pairs lists head state small empty none new start = recor
     not_held : (k : ℕ) (h : Held) → None ≡ Some h → ⊥
     not_held k h e = cc
 
-    empty_list : (n code : ℕ) → get_or (replicate n []) code [] ≡ []
+    empty_list : (n code : ℕ) → ◌≡◌ {A = List Watch} (get_or (replicate n []) code []) []
     empty_list zero code = refl
     empty_list (suc n) zero = refl
     empty_list (suc n) (suc code) = empty_list n code
@@ -320,7 +323,7 @@ pub IsSearch-loaded : (f : Formula) (trail : TrailView) (pairs : List Pair) (lis
 IsSearch-loaded f trail pairs lists head number loaded all = record {
   state = loaded.state;
   small = loaded.small;
-  paired = omega (arith, loaded.paired, all, length-known f []);
+  paired = let n : length (known_clauses f []) ≡ length f.clauses + 0 = length-known f [] in omega (arith, loaded.paired, all, n);
   watched = loaded.watched;
 }
 

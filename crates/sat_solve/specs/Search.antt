@@ -1,5 +1,5 @@
 -- The state of a search with its watches.
-use Rattle.std.specs.Prelude.{◌≡◌, ℕ, ◌-◌, ◌<◌, ◌^◌, List, [], length, Some, slice_get}
+use Rattle.std.specs.Prelude.{◌≡◌, ℕ, ◌-◌, ◌<◌, ◌≤◌, ◌^◌, List, [], length, Some, slice_get}
 use Rattle.sat_base.specs.declared.logs.Lemma.{Lemma}
 use Rattle.sat_base.specs.Literal.{negation}
 use Rattle.sat_base.specs.Formula.{Formula}
@@ -36,6 +36,7 @@ pub record IsLoaded (f : Formula) (trail : TrailView) (pairs : List Pair) (lists
   pub state : IsState f [] trail
   pub small : trail.vars < 2 ^ 31
   pub undecided : IsUndecided trail.entries 0 (length trail.entries)
+  pub within : number ≤ length f.clauses
   pub paired : length pairs ≡ number
   pub start : head ≡ 0
   pub watched : IsWatched trail.vars trail.entries head (held_of f [] pairs) lists
