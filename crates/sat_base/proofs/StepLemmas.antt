@@ -1,5 +1,5 @@
 -- The buffers of a log: what is written at their ends doesn't change the steps before.
-use Rattle.std.proofs.Common.{◌≡◌, ℕ, ◌≤◌, ◌-◌, Bool, true, List, [], ◌∷◌, ◌++◌, length, take, drop, All, arith, refl, sym, ap, ◌∙◌, length-append, length-drop, map}
+use Rattle.std.proofs.Common.{◌≡◌, ℕ, ◌≤◌, ◌-◌, Bool, true, List, [], ◌∷◌, ◌++◌, length, take, drop, get_or, All, arith, refl, sym, ap, ◌∙◌, length-append, length-drop, map}
 use Rattle.std.specs.Prelude.{slice_range, ◌==◌, ◌↔◌}
 use Rattle.std.proofs.lemmas.Bool.{false≢true}
 use Rattle.std.proofs.lemmas.List.{take-append-le, drop-append-le, map-append, take_all, append-nil}
@@ -46,7 +46,7 @@ module _ (codes codes' hints hints' : List ℕ) (more_codes : IsGrown codes code
       ∙ ap (λ (xs : List ℕ). lemma_of (slice_range codes s.start s.end) xs) (part-grown hints hints' s.first_hint s.end_hint more_hints w.2 w.3)
 
   pub all_within_grown : (steps : List Step) → All (IsWithin codes hints) steps → All (IsWithin codes' hints') steps
-  all_within_grown steps all k d l = within_grown _ (all k d l)
+  all_within_grown steps all k d l = within_grown (get_or steps k d) (all k d l)
 
   pub lemmas_grown : (steps : List Step) → All (IsWithin codes hints) steps → map (lemma_in codes' hints') steps ≡ map (lemma_in codes hints) steps
   lemmas_grown [] all = refl

@@ -1,4 +1,4 @@
-use Rattle.std.proofs.Common.{◌≡◌, ◌++◌, ◌∙◌, [], ◌∷◌, List, Result, Ok, Err, ap, sym, map, All, subst}
+use Rattle.std.proofs.Common.{◌≡◌, ℕ, ◌++◌, ◌∙◌, [], ◌∷◌, List, Result, Ok, Err, ap, sym, map, All, subst}
 use Rattle.std.specs.Prelude.{OnErr}
 use Rattle.sat_base.specs.declared.literals.Lit.{Lit}
 use Rattle.sat_base.specs.declared.logs.Lemma.{Lemma}
@@ -40,9 +40,9 @@ returns-in_err-push-clause-err c =
 pub returns-clause-ok : goal.returns-clause-ok
 returns-clause-ok c =
     let lemma = c.args.lemma in
-    let made : List Lit → Lemma = λ ls. record { lits = ls; hints = c.as_slice-numbers.result.now } in
+    let made : List Lit → List ℕ → Lemma = λ ls ns. record { lits = ls; hints = ns } in
     let is : lemma_in c.write.new.codes.items c.write.new.hints.items c.in_ok-step.step ≡ lemma =
-    c.in_ok-step.ensures.step.1 ∙ ap made c.as_slice-lits.ensures ∙ ap (λ ns. record { lits = lemma.lits; hints = ns }) c.as_slice-numbers.ensures in
+    c.in_ok-step.ensures.step.1 ∙ ap (λ (ls : List Lit). made ls c.as_slice-numbers.result.now) c.as_slice-lits.ensures ∙ ap (λ (ns : List ℕ). made lemma.lits ns) c.as_slice-numbers.ensures in
     ap (λ (ss : List Step). map (lemma_in c.write.new.codes.items c.write.new.hints.items) ss) c.in_ok-push.ensures.items
     ∙ lemmas_push c.self.inside.codes.items c.write.new.codes.items c.self.inside.hints.items c.write.new.hints.items c.in_ok-step.ensures.codes c.in_ok-step.ensures.hints c.self.inside.steps.items c.in_ok-step.step lemma c.self.invariant is
     ∙ ap (λ (ls : List Lemma). ls ++ lemma ∷ []) c.self.view_is
