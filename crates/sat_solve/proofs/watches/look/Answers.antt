@@ -178,3 +178,35 @@ returns-in-True-truth-2 c =
       sized = refl;
       head = refl;
     }
+
+pub returns-in-True-truth : goal.returns-in-True-truth
+returns-in-True-truth c =
+    let pairs = c.args.watches.now.pairs in
+    let known = known_clauses c.args.cnf.now c.args.log.now in
+    let k = c.args.watch.clause in
+    let h = c.requires.fitting.0 in
+    let here : slice_get (held_by pairs known) k ≡ Some h = c.requires.fitting.1 in
+    let other = c.if-pair-code.other in
+    let pair = pair_is pairs known k h c.pair-pair.result (held_at pairs known k h here) c.pair-pair.ensures in
+    let is : IsOther h c.args.code other =
+    elim c.if-pair-code.branch [
+      | then-pair-code w ↦ other_then h c.args.code other c.pair-pair.result.first c.pair-pair.result.second pair w.if-pair-code.true w.other-is
+      | else-pair-code w ↦ other_else h c.args.code other c.pair-pair.result.first c.pair-pair.result.second pair w.if-pair-code.false w.other-is
+    ] in
+    let among = other_in h c.args.code other (c.requires.paired h here) is in
+    let holds : IsTrueIn c.args.trail.now.entries (literal_of other) = subst (λ (t : Truth). IsTruth c.args.trail.now.entries (literal_of other) t) c.in-True-truth.is c.truth-truth.ensures in
+    record {
+      state = c.requires.state;
+      looked = (
+        refl,
+        refl,
+        refl,
+        (h, here, among),
+        λ g at_g.
+            let same : h ≡ g = same_some (slice_get (held_by pairs known) k) h g here at_g in
+            (literal_of other, subst (λ (y : Held). Contains y.lits (literal_of other)) same among, holds),
+        inl refl,
+      );
+      sized = refl;
+      head = refl;
+    }
