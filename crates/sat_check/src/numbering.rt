@@ -47,11 +47,26 @@ fn push_lemmas(alloc: Global, variables: &mut Vec<u64>, log: &Log) -> Result<(),
     ensures kept { OnOk result (KeepsAll variables.old.items variables.new.items) }
     ensures added { OnOk result (HasVariables variables.new.items (map (λ s. s.lits) log.now)) }
 {
+    let mut limit = 0;
     for k in 0..log.len() {
         let lits = log.lits(alloc, k)?;
         push_variables(variables, lits.as_slice())?;
+        limit = thinned(variables, limit);
     }
     Ok(())
+}
+
+// Takes repeated variables out where there are more than `limit`. Gives the next limit, which is so far away that all the sorting takes
+// no more than n log n.
+fn thinned(variables: &mut Vec<u64>, limit: usize) -> usize
+    ensures { KeepsAll variables.old.items variables.new.items }
+{
+    if variables.len() <= limit {
+        return limit;
+    }
+    variables.sort_unstable();
+    variables.dedup();
+    variables.len().saturating_mul(2).saturating_add(1 << 16)
 }
 
 // Where a variable of the list stands. Where all variables from 0 on occur, it stands at its own number.

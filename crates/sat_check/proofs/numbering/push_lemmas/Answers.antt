@@ -1,10 +1,10 @@
-use Rattle.std.proofs.Common.{◌≡◌, ◌∙◌, ◌<◌, ◌++◌, ◌∷◌, [], List, length, take, map, get_or, slice_get, Some, arith, sym, ap, subst}
+use Rattle.std.proofs.Common.{◌≡◌, ◌∙◌, ◌+◌, ◌<◌, ◌++◌, ◌∷◌, [], List, length, take, map, get_or, slice_get, Some, arith, sym, ap, subst}
 use Rattle.std.proofs.lemmas.List.{map_more, take_all}
 use Rattle.std.proofs.lemmas.Option.{slice_get-get_or}
 use Rattle.sat_base.specs.declared.literals.Lit.{Lit}
 use Rattle.sat_base.specs.declared.logs.Lemma.{Lemma}
 use Rattle.sat_check.specs.Numbering.{HasVariables}
-use Rattle.sat_check.proofs.Numberings.{HasVariables-push, KeepsAll-push}
+use Rattle.sat_check.proofs.Numberings.{HasVariables-push, HasVariables-kept, KeepsAll-push}
 use Rattle.sat_check.proofs.numbering.push_lemmas.Goals as goal
 
 pub loop-k-preserved : goal.loop-k-preserved
@@ -18,12 +18,14 @@ loop-k-preserved c =
     let front : List (List Lit) = map (λ (x : Lemma). x.lits) (take k log) in
     let added : c.push_variables.new.variables.items ≡ c.loop-k.variables.items ++ map (λ l. l.var) s.lits =
     c.in_ok-push_variables.ensures ∙ ap (λ (lits : List Lit). c.loop-k.variables.items ++ map (λ l. l.var) lits) (c.as_slice.ensures ∙ c.in_ok-lits.ensures s at) in
+    let more = c.push_variables.new.variables.items in
+    let kept = KeepsAll-push c.args.variables.now.items c.loop-k.variables.items more _ c.loop-k.invariant.kept added in
+    let has : HasVariables more (map (λ (x : Lemma). x.lits) (take (k + 1) log)) =
+    subst (HasVariables more) (sym (map_more (λ (x : Lemma). x.lits) log k none within))
+    (HasVariables-push c.loop-k.variables.items more front s.lits c.loop-k.invariant.added added) in
     record {
-      kept = KeepsAll-push c.args.variables.now.items c.loop-k.variables.items c.push_variables.new.variables.items _ c.loop-k.invariant.kept added;
-      added =
-          subst (HasVariables c.push_variables.new.variables.items)
-          (sym (map_more (λ (x : Lemma). x.lits) log k none within))
-          (HasVariables-push c.loop-k.variables.items c.push_variables.new.variables.items front s.lits c.loop-k.invariant.added added);
+      kept = λ x member. c.thinned-limit.ensures x (kept x member);
+      added = HasVariables-kept more c.thinned-limit.new.variables.items (map (λ (x : Lemma). x.lits) (take (k + 1) log)) c.thinned-limit.ensures has;
     }
 
 pub returns-clause-added : goal.returns-clause-added
