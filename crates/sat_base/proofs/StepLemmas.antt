@@ -1,7 +1,7 @@
 -- The buffers of a log: what is written at their ends doesn't change the steps before.
-use Rattle.std.proofs.Common.{◌≡◌, ℕ, ◌≤◌, ◌-◌, Bool, true, List, [], ◌∷◌, ◌++◌, length, take, drop, get_or, All, arith, refl, sym, ap, ◌∙◌, length-append, length-drop, map}
+use Rattle.std.proofs.Common.{◌≡◌, ℕ, suc, ◌≤◌, ◌-◌, Bool, true, List, [], ◌∷◌, ◌++◌, length, take, drop, get_or, All, arith, refl, sym, ap, ◌∙◌, length-append, length-drop, map}
 use Rattle.std.specs.Prelude.{slice_range, ◌==◌, ◌↔◌}
-use Rattle.std.proofs.lemmas.Bool.{false≢true}
+use Rattle.std.proofs.lemmas.Bool.{eqb-true}
 use Rattle.std.proofs.lemmas.List.{take-append-le, drop-append-le, map-append, take_all, append-nil}
 use Rattle.std.proofs.lemmas.List.Elements.{All-head, All-tail, All-push}
 use Rattle.std.proofs.Math.Seq.{drop-append_seam}
@@ -85,6 +85,6 @@ step_written codes codes' hints hints' lits numbers s cs hs start end first last
 pub empty_map : {X Y : Type 0} (f : X → Y) (xs : List X) (ys : List Y) (b : Bool) (n : ℕ) → map f xs ≡ ys → n ≡ length xs → b ≡ (n == 0) → (b ≡ true) ↔ (ys ≡ [])
 empty_map f [] ys b n is len test = (λ t. sym is, λ e. test ∙ ap (λ (m : ℕ). m == 0) len)
 empty_map f (x ∷ xs) ys b n is len test = (
-  λ t. absurd (false≢true (sym (test ∙ ap (λ (m : ℕ). m == 0) len) ∙ t)),
+  λ t. absurd (let none : n ≡ 0 = eqb-true n 0 (sym test ∙ t) in let some : n ≡ suc (length xs) = len in omega (arith, none, some)),
   λ e. let k : f x ∷ map f xs ≡ [] = is ∙ e in cc,
 )

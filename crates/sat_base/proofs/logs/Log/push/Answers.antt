@@ -14,19 +14,19 @@ on_err (Err e) P p = p
 pub invariant_of-self : goal.invariant_of-self
 invariant_of-self c = all_within_grown c.self.inside.codes.items c.write.new.codes.items c.self.inside.hints.items c.write.new.hints.items c.in_err-step.ensures.codes c.in_err-step.ensures.hints c.self.inside.steps.items c.self.invariant
 
-pub invariant_of-self-2 : goal.invariant_of-self-2
-invariant_of-self-2 c =
+pub invariant_of-self-in_err-push : goal.invariant_of-self-in_err-push
+invariant_of-self-in_err-push c =
     subst (λ (ss : List Step). All (IsWithin c.write.new.codes.items c.write.new.hints.items) ss) (sym c.in_err-push.ensures.items)
     (all_within_grown c.self.inside.codes.items c.write.new.codes.items c.self.inside.hints.items c.write.new.hints.items c.in_ok-step.ensures.codes c.in_ok-step.ensures.hints c.self.inside.steps.items c.self.invariant)
 
-pub invariant_of-self-3 : goal.invariant_of-self-3
-invariant_of-self-3 c =
+pub invariant_of-self-2 : goal.invariant_of-self-2
+invariant_of-self-2 c =
     subst (λ (ss : List Step). All (IsWithin c.write.new.codes.items c.write.new.hints.items) ss) (sym c.in_ok-push.ensures.items)
     (all_within_push c.self.inside.codes.items c.write.new.codes.items c.self.inside.hints.items c.write.new.hints.items c.in_ok-step.ensures.codes c.in_ok-step.ensures.hints c.self.inside.steps.items c.in_ok-step.step c.self.invariant c.in_ok-step.ensures.step.0)
 
 pub returns-in_err-step-clause-err : goal.returns-in_err-step-clause-err
 returns-in_err-step-clause-err c =
-    on_err c.from_residual-in_err-step.result _
+    on_err c.from_residual.result _
     (lemmas_grown c.self.inside.codes.items c.write.new.codes.items c.self.inside.hints.items c.write.new.hints.items c.in_err-step.ensures.codes c.in_err-step.ensures.hints c.self.inside.steps.items c.self.invariant
     ∙ c.self.view_is)
 
