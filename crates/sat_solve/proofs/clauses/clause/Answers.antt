@@ -8,8 +8,8 @@ use Rattle.sat_solve.proofs.LogLemmas.{slice_get-left, slice_get-right}
 use Rattle.sat_solve.proofs.StateLemmas.{length-known}
 use Rattle.sat_solve.proofs.clauses.clause.Goals as goal
 
-pub codes-2-requires : goal.codes-2-requires
-codes-2-requires c = omega (arith, c.requires.number, length-known c.args.cnf.now c.args.log.now, ap length c.requires.holding, c.len-count.ensures, c.if-place-count.false)
+pub codes-requires-2 : goal.codes-requires-2
+codes-requires-2 c = omega (arith, c.requires.number, length-known c.args.cnf.now c.args.log.now, ap length c.requires.holding, c.len-count.ensures, c.if-place-count.false)
 
 pub returns-then-place-count : goal.returns-then-place-count
 returns-then-place-count c =
