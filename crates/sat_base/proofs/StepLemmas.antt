@@ -8,7 +8,7 @@ use Rattle.std.proofs.Math.Seq.{drop-append_seam}
 use Rattle.sat_base.specs.declared.literals.Lit.{Lit}
 use Rattle.sat_base.specs.declared.logs.Lemma.{Lemma}
 use Rattle.sat_base.specs.declared.logs.Step.{Step}
-use Rattle.sat_base.specs.Codes.{code_of, literal_of}
+use Rattle.sat_base.specs.Codes.{code_of}
 use Rattle.sat_base.specs.Steps.{lemma_of, lemma_in, IsWithin, IsGrown}
 use Rattle.sat_base.proofs.CodeLemmas.{literals_of_codes}
 

@@ -77,6 +77,8 @@ impl Checker {
         ensures kept { self.new ≡ self.old }
     {
         let first = formula.clauses().len();
+        // That there are so many clauses tells the proof that their numbers fit.
+        let _ = self.count();
         for k in 0..log.len() {
             if !self.follows(first + k, log.hints(k)) {
                 return Verdict::No(k as u64);
@@ -86,6 +88,13 @@ impl Checker {
             }
         }
         Verdict::No(log.len() as u64)
+    }
+
+    // How many clauses it has, the lemmas among them.
+    fn count(&self) -> usize
+        ensures { result ≡ length self.now }
+    {
+        self.clauses.len()
     }
 
     // Whether the clause of this number follows by the hints from the clauses before it.

@@ -1,5 +1,5 @@
 -- The clauses that have a pair, as they are held: by their places, and as pairs change and are added.
-use Rattle.std.proofs.Common.{◌≡◌, ℕ, zero, suc, ◌<◌, ◌≤◌, List, [], ◌∷◌, ◌++◌, length, set, map, None, Some, refl, ap, arith}
+use Rattle.std.proofs.Common.{◌≡◌, ℕ, zero, suc, ◌≤◌, List, [], ◌∷◌, ◌++◌, length, set, map, None, Some, refl, ap, arith}
 use Rattle.std.specs.List.{slice_get}
 use Rattle.sat_base.specs.declared.literals.Lit.{Lit}
 use Rattle.sat_solve.specs.declared.pairs.Pair.{Pair}

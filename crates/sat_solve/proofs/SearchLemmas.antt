@@ -1,10 +1,10 @@
 -- The state of a search with its watches, step by step.
 use Rattle.std.proofs.Common.{◌≡◌, ℕ, zero, suc, ◌+◌, ◌-◌, ◌*◌, ◌<◌, ◌≤◌, ◌^◌, false, not, List, [], ◌∷◌, ◌++◌, length, drop, get_or, map, replicate, ◌⊎◌, inl, inr, ⊎_elim, Option, Some, None, IsSome, refl, sym, ap, ◌∙◌, subst, arith}
-use Rattle.std.specs.List.{Contains, slice_get, All}
+use Rattle.std.specs.List.{Contains, slice_get}
 use Rattle.std.specs.Option.{option_map, is_some}
 use Rattle.std.proofs.lemmas.List.{drop-drop, drop_all, length-drop, length_push, length-replicate}
 use Rattle.std.proofs.lemmas.List.Elements.{All-contains, Contains-get_or}
-use Rattle.std.proofs.lemmas.Option.{slice_get_within, get_or_from_slice_get, slice_get-map}
+use Rattle.std.proofs.lemmas.Option.{slice_get_within, slice_get-map}
 use Rattle.sat_base.specs.declared.literals.Lit.{Lit}
 use Rattle.sat_base.specs.declared.logs.Lemma.{Lemma}
 use Rattle.sat_base.specs.Formula.{Formula, IsClauseOver}
