@@ -1,2 +1,4 @@
+pub mod CodeLemmas
 pub mod Implied
 pub mod Worked
+pub mod StepLemmas

@@ -2,12 +2,14 @@
 #![tactic(auto)]
 
 pub use clauses::{Clause, Hints};
+pub use codes::{decode, encode};
 pub use formulas::{Assignment, Cnf, UnknownVariable};
 pub use literals::Lit;
 pub use logs::{Lemma, Log};
 pub use memory::NoMemory;
 
 pub mod clauses;
+pub mod codes;
 pub mod examples;
 pub mod formulas;
 pub mod laws;

@@ -138,6 +138,9 @@ pub KeepsAll-push : (start old new more : List ℕ) → KeepsAll start old → n
 KeepsAll-push start old new more keeps is x member =
     subst (λ (v : List ℕ). Contains v x) (sym is) (Contains-append_left old more x (keeps x member))
 
+pub KeepsAll-sorted : (variables sorted : List ℕ) → IsPermutation variables sorted → KeepsAll variables (dedup eqb sorted)
+KeepsAll-sorted variables sorted permutation x member = Contains-dedup_nat sorted x (Contains-permutation variables sorted x permutation member)
+
 pub HasVariables-sorted : (variables sorted : List ℕ) (clauses : List (List Lit)) → IsPermutation variables sorted
     → HasVariables variables clauses → HasVariables (dedup eqb sorted) clauses
 HasVariables-sorted variables sorted clauses permutation has =

@@ -50,15 +50,14 @@ impl Checker {
         ensures { IfOk result (λ checker. checker ≡ numbered_clauses formula.now log.now) }
     {
         let clauses = formula.clauses();
-        let lemmas = log.as_slice();
-        let variables = numbering::variables_of(alloc, clauses, lemmas)?;
+        let variables = numbering::variables_of(alloc, clauses, log)?;
         // Literals have numbers of 32 bits. More than 2^31 variables take more than 16 GiB.
         if variables.len() > 1 << 31 {
             return Err(NoMemory);
         }
         let mut arena = Arena::new(alloc);
         numbering::add_clauses(alloc, variables.as_slice(), clauses, &mut arena)?;
-        numbering::add_lemmas(alloc, variables.as_slice(), lemmas, &mut arena)?;
+        numbering::add_lemmas(alloc, variables.as_slice(), log, &mut arena)?;
         let marks = Marks::new(alloc, 2 * variables.len())?;
         Ok(Checker {
             variables,
@@ -78,19 +77,28 @@ impl Checker {
         ensures kept { self.new ≡ self.old }
     {
         let first = formula.clauses().len();
-        for (k, lemma) in log.as_slice().iter().enumerate() {
-            if !self.follows(first + k, lemma.hints.as_slice()) {
+        // That there are so many clauses tells the proof that their numbers fit.
+        let _ = self.count();
+        for k in 0..log.len() {
+            if !self.follows(first + k, log.hints(k)) {
                 return Verdict::No(k as u64);
             }
-            if lemma.lits.is_empty() {
+            if log.codes(k).is_empty() {
                 return Verdict::Yes;
             }
         }
         Verdict::No(log.len() as u64)
     }
 
+    // How many clauses it has, the lemmas among them.
+    fn count(&self) -> usize
+        ensures { result ≡ length self.now }
+    {
+        self.clauses.len()
+    }
+
     // Whether the clause of this number follows by the hints from the clauses before it.
-    fn follows(&mut self, number: usize, hints: &[u64]) -> bool
+    fn follows(&mut self, number: usize, hints: &[u32]) -> bool
         requires { number < length self.old }
         ensures decides { IsTrue result ↔ Follows (take number self.old) (slice_index_or self.old number []) hints.now }
         ensures kept { self.new ≡ self.old }

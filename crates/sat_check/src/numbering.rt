@@ -4,22 +4,18 @@ ghost use Rattle.std.specs.List.Sorted.{IsStrictlyIncreasing};
 ghost use Rattle.sat_check.specs.Numbering.{literal_at, HasVariables, KeepsAll, Numbers, AddsNumbered};
 
 use crate::arena::Arena;
-use sat_base::{Clause, Lemma, Lit, NoMemory};
+use sat_base::{Clause, Lit, Log, NoMemory};
 use std::alloc::Global;
 
-/// The variables that occur in the clauses or in the lemmas, in ascending order.
-pub fn variables_of(
-    alloc: Global,
-    clauses: &[Clause],
-    lemmas: &[Lemma],
-) -> Result<Vec<u64>, NoMemory>
+/// The variables that occur in the clauses or in the log's lemmas, in ascending order.
+pub fn variables_of(alloc: Global, clauses: &[Clause], log: &Log) -> Result<Vec<u64>, NoMemory>
     ensures increasing { IfOk result (λ v. IsStrictlyIncreasing v.items) }
     ensures clauses { IfOk result (λ v. HasVariables v.items clauses.now) }
-    ensures lemmas { IfOk result (λ v. HasVariables v.items (map (λ s. s.lits) lemmas.now)) }
+    ensures lemmas { IfOk result (λ v. HasVariables v.items (map (λ s. s.lits) log.now)) }
 {
     let mut variables = Vec::new(alloc);
     push_clauses(&mut variables, clauses)?;
-    push_lemmas(&mut variables, lemmas)?;
+    push_lemmas(alloc, &mut variables, log)?;
     variables.sort_unstable();
     variables.dedup();
     Ok(variables)
@@ -47,14 +43,30 @@ fn push_clauses(variables: &mut Vec<u64>, clauses: &[Clause]) -> Result<(), NoMe
 }
 
 // Adds the variables of the lemmas.
-fn push_lemmas(variables: &mut Vec<u64>, lemmas: &[Lemma]) -> Result<(), NoMemory>
+fn push_lemmas(alloc: Global, variables: &mut Vec<u64>, log: &Log) -> Result<(), NoMemory>
     ensures kept { OnOk result (KeepsAll variables.old.items variables.new.items) }
-    ensures added { OnOk result (HasVariables variables.new.items (map (λ s. s.lits) lemmas.now)) }
+    ensures added { OnOk result (HasVariables variables.new.items (map (λ s. s.lits) log.now)) }
 {
-    for lemma in lemmas {
-        push_variables(variables, lemma.lits.as_slice())?;
+    let mut limit = 0;
+    for k in 0..log.len() {
+        let lits = log.lits(alloc, k)?;
+        push_variables(variables, lits.as_slice())?;
+        limit = thinned(variables, limit);
     }
     Ok(())
+}
+
+// Takes repeated variables out where there are more than `limit`. Gives the next limit, which is so far away that all the sorting takes
+// no more than n log n.
+fn thinned(variables: &mut Vec<u64>, limit: usize) -> usize
+    ensures { KeepsAll variables.old.items variables.new.items }
+{
+    if variables.len() <= limit {
+        return limit;
+    }
+    variables.sort_unstable();
+    variables.dedup();
+    variables.len().saturating_mul(2).saturating_add(1 << 16)
 }
 
 // Where a variable of the list stands. Where all variables from 0 on occur, it stands at its own number.
@@ -122,17 +134,18 @@ pub fn add_clauses(
 pub fn add_lemmas(
     alloc: Global,
     variables: &[u64],
-    lemmas: &[Lemma],
+    log: &Log,
     arena: &mut Arena,
 ) -> Result<(), NoMemory>
     requires increasing { IsStrictlyIncreasing variables.now }
-    requires known { HasVariables variables.now (map (λ s. s.lits) lemmas.now) }
+    requires known { HasVariables variables.now (map (λ s. s.lits) log.now) }
     requires fits { 2 * length variables.now ≤ 2 ^ 32 }
-    ensures { OnOk result (AddsNumbered variables.now arena.old arena.new (map (λ s. s.lits) lemmas.now)) }
+    ensures { OnOk result (AddsNumbered variables.now arena.old arena.new (map (λ s. s.lits) log.now)) }
 {
     let mut numbers = Vec::new(alloc);
-    for lemma in lemmas {
-        number_all(variables, lemma.lits.as_slice(), &mut numbers)?;
+    for k in 0..log.len() {
+        let lits = log.lits(alloc, k)?;
+        number_all(variables, lits.as_slice(), &mut numbers)?;
         arena.push(numbers.as_slice())?;
     }
     Ok(())

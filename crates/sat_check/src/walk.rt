@@ -55,13 +55,13 @@ pub fn left_of(clause: &[u32], marks: &Marks) -> Left
 
 /// The one literal that the clause of this number leaves, where its opposite is not marked either.
 #[inline]
-pub fn forced_by(clauses: &Arena, marks: &Marks, earlier: usize, hint: u64) -> Option<u32>
+pub fn forced_by(clauses: &Arena, marks: &Marks, earlier: usize, hint: u32) -> Option<u32>
     requires earlier { earlier ≤ length clauses.now }
     requires places { ArePlaces (length marks.now) clauses.now }
     ensures { MatchOption result ((x : ℕ) → ¬ IsForced marks.now clauses.now earlier hint x)
         (IsForced marks.now clauses.now earlier hint) }
 {
-    if hint >= earlier as u64 {
+    if hint as usize >= earlier {
         return None;
     }
     match left_of(clauses.list(hint as usize), marks) {
@@ -78,12 +78,12 @@ pub fn forced_by(clauses: &Arena, marks: &Marks, earlier: usize, hint: u64) -> O
 
 /// Whether the clause of this number is an earlier one, and each of its literals is marked.
 #[inline]
-pub fn is_falsified(clauses: &Arena, marks: &Marks, earlier: usize, hint: u64) -> bool
+pub fn is_falsified(clauses: &Arena, marks: &Marks, earlier: usize, hint: u32) -> bool
     requires earlier { earlier ≤ length clauses.now }
     requires places { ArePlaces (length marks.now) clauses.now }
     ensures { IsTrue result ↔ IsFalsified marks.now clauses.now earlier hint }
 {
-    if hint >= earlier as u64 {
+    if hint as usize >= earlier {
         return false;
     }
     match left_of(clauses.list(hint as usize), marks) {
@@ -106,7 +106,7 @@ pub fn mark_all(marks: &mut Marks, literals: &[u32])
 
 /// Walks along the hints, and says whether they lead to a conflict. The literals that are forced on the
 /// way make their opposites marked.
-pub fn leads_to_conflict(clauses: &Arena, marks: &mut Marks, earlier: usize, hints: &[u64]) -> bool
+pub fn leads_to_conflict(clauses: &Arena, marks: &mut Marks, earlier: usize, hints: &[u32]) -> bool
     requires earlier { earlier ≤ length clauses.now }
     requires places { ArePlaces (length marks.old) clauses.now }
     ensures decides { (at : ℕ → Lit) → IsNumbering (length marks.old) at

@@ -3,8 +3,8 @@ pub mod NewLemma
 pub mod KeptLemmas
 pub mod TruthLemmas
 pub mod FoundLemmas
-pub mod CodeLemmas
 pub mod StateLemmas
+pub mod HeldLemmas
 pub mod Places
 pub mod Walks
 pub mod Forced

@@ -1,5 +1,5 @@
 -- A log behind one more lemma: what holds of all its steps, and that it refutes with the empty one.
-use Rattle.std.proofs.Common.{◌≡◌, ℕ, zero, suc, Some, ◌<◌, ◌≤◌, List, [], ◌∷◌, ◌++◌, length, map, ⊎_elim, refl, sym, ap, ◌∙◌, subst, arith}
+use Rattle.std.proofs.Common.{◌≡◌, ℕ, zero, suc, ◌+◌, Some, ◌<◌, ◌≤◌, List, [], ◌∷◌, ◌++◌, length, map, ⊎_elim, refl, sym, ap, ◌∙◌, subst, arith}
 use Rattle.std.specs.List.{slice_get}
 use Rattle.std.proofs.lemmas.Bool.{cases_lt}
 use Rattle.std.proofs.lemmas.List.{append_assoc, map-append, take-append-le, take_at, length_push}
@@ -14,6 +14,11 @@ pub slice_get-left : {X : Type 0} (xs ys : List X) (k : ℕ) (x : X) → slice_g
 slice_get-left [] ys k x h = cc
 slice_get-left (y ∷ xs) ys zero x h = h
 slice_get-left (y ∷ xs) ys (suc k) x h = slice_get-left xs ys k x h
+
+pub slice_get-right : {X : Type 0} (xs ys : List X) (k n : ℕ) → n ≡ length xs + k → slice_get (xs ++ ys) n ≡ slice_get ys k
+slice_get-right [] ys k n e = let m : n ≡ k = (let d : n ≡ 0 + k = e in omega (arith, d)) in ap (λ i. slice_get ys i) m
+slice_get-right (x ∷ xs) ys k zero e = absurd (let d : 0 ≡ suc (length xs) + k = e in omega (arith, d))
+slice_get-right (x ∷ xs) ys k (suc n) e = slice_get-right xs ys k n (let d : suc n ≡ suc (length xs) + k = e in omega (arith, d))
 
 pub slice_get-push : {X : Type 0} (xs : List X) (x : X) → slice_get (xs ++ x ∷ []) (length xs) ≡ Some x
 slice_get-push [] x = refl

@@ -10,10 +10,10 @@ use Rattle.sat_solve.specs.declared.lists.Watch.{Watch}
 use Rattle.sat_solve.specs.Trail.{IsFalseIn}
 use Rattle.sat_solve.specs.Kept.{TrailView}
 use Rattle.sat_solve.specs.State.{known_clauses, IsState}
-use Rattle.sat_solve.specs.Codes.{literal_of}
+use Rattle.sat_base.specs.Codes.{literal_of}
 use Rattle.sat_solve.specs.Held.{Held}
 use Rattle.sat_solve.specs.Watches.{IsPaired, IsMove}
-use Rattle.sat_solve.proofs.CodeLemmas.{same_code, code_of_literal, code_below}
+use Rattle.sat_base.proofs.CodeLemmas.{same_code, code_of_literal, code_below}
 use Rattle.sat_solve.proofs.StateLemmas.{known_literal}
 use Rattle.sat_solve.proofs.SearchLemmas.{clause_of}
 

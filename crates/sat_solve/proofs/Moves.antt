@@ -9,14 +9,16 @@ use Rattle.sat_base.specs.declared.literals.Lit.{Lit}
 use Rattle.sat_base.specs.Literal.{negation}
 use Rattle.sat_solve.specs.declared.trail.Entry.{Entry}
 use Rattle.sat_solve.specs.declared.lists.Watch.{Watch}
+use Rattle.sat_solve.specs.declared.pairs.Pair.{Pair}
 use Rattle.sat_solve.specs.Trail.{sign_at, IsFalseIn, IsSound}
 use Rattle.sat_solve.specs.Decisions.{IsDecisionAt}
-use Rattle.sat_solve.specs.Codes.{literal_of, code_of}
-use Rattle.sat_solve.specs.Held.{Held}
+use Rattle.sat_base.specs.Codes.{literal_of, code_of}
+use Rattle.sat_solve.specs.Held.{Held, held_by}
 use Rattle.sat_solve.specs.Watches.{HasTrue, IsKept, IsPaired, HasWatch, IsFitting, oldest, IsWatchedClause, IsWatched, HasTrueAt, IsMove, IsAdded}
 use Rattle.sat_solve.proofs.Signs.{sign_other, is_negation}
-use Rattle.sat_solve.proofs.CodeLemmas.{code_of_literal}
+use Rattle.sat_base.proofs.CodeLemmas.{code_of_literal}
 use Rattle.sat_solve.proofs.Places.{sign_older}
+use Rattle.sat_solve.proofs.HeldLemmas.{held_with, held_length}
 use Rattle.sat_solve.proofs.LogLemmas.{slice_get-left, slice_get-push}
 use Rattle.sat_solve.proofs.Watching.{list_there, list_other, IsWatched-replaced}
 
@@ -306,8 +308,27 @@ IsWatched-next vars trail head held lists code list e within next low is seen wa
         (λ other. old (sym (sign_other e (oldest head trail) (literal_of x).var other) ∙ f))
         (cases_eq e.lit.var (literal_of x).var)
 
+-- A clause is added at the end, watched at two of its literals, each in the other's list.
+pub record IsHeldAdded (held held' : List Held) (lists lists' : List (List Watch)) (lits : List Lit) (first second : Lit) : Type 0 where
+  pub middle : List (List Watch)
+  pub held_is : held' ≡ held ++ record { lits = lits; first = code_of first; second = code_of second } ∷ []
+  pub middle_is : middle ≡ set lists (code_of first) (get_or lists (code_of first) [] ++ record { clause = length held; blocker = code_of second } ∷ [])
+  pub lists_are : lists' ≡ set middle (code_of second) (get_or middle (code_of second) [] ++ record { clause = length held; blocker = code_of first } ∷ [])
+
+-- The pair of the next clause is that clause, added.
+pub held_added : (pairs pairs' : List Pair) (clauses clauses' : List (List Lit)) (lists lists' : List (List Watch)) (lits : List Lit) (first second : Lit) → length pairs ≤ length clauses → held_by pairs' clauses' ≡ held_by pairs clauses ++ held_with lits record { first = code_of first; second = code_of second } ∷ [] → IsAdded pairs pairs' lists lists' first second → IsHeldAdded (held_by pairs clauses) (held_by pairs' clauses') lists lists' lits first second
+held_added pairs pairs' clauses clauses' lists lists' lits first second few held_is added =
+    let count = sym (held_length pairs clauses few) in
+    let watch : ℕ → ℕ → Watch = λ n b. record { clause = n; blocker = b } in
+    record {
+      middle = added.middle;
+      held_is = held_is;
+      middle_is = added.middle_is ∙ ap (λ (n : ℕ). set lists (code_of first) (get_or lists (code_of first) [] ++ watch n (code_of second) ∷ [])) count;
+      lists_are = added.lists_are ∙ ap (λ (n : ℕ). set added.middle (code_of second) (get_or added.middle (code_of second) [] ++ watch n (code_of first) ∷ [])) count;
+    }
+
 -- A clause is added.
-module _ (vars : ℕ) (trail : List Entry) (head : ℕ) (held held' : List Held) (lists lists' : List (List Watch)) (lits : List Lit) (first second : Lit) (added : IsAdded held held' lists lists' lits first second) (in_first : code_of first < length lists) (in_second : code_of second < length lists) (paired : IsPaired record { lits = lits; first = code_of first; second = code_of second }) (kept : IsKept trail (oldest head trail) record { lits = lits; first = code_of first; second = code_of second }) (below : (m : ℕ) → IsDecisionAt trail m → IsKept (drop (m + 1) trail) (drop (m + 1) trail) record { lits = lits; first = code_of first; second = code_of second }) (watched : IsWatched vars trail head held lists) where
+module _ (vars : ℕ) (trail : List Entry) (head : ℕ) (held held' : List Held) (lists lists' : List (List Watch)) (lits : List Lit) (first second : Lit) (added : IsHeldAdded held held' lists lists' lits first second) (in_first : code_of first < length lists) (in_second : code_of second < length lists) (paired : IsPaired record { lits = lits; first = code_of first; second = code_of second }) (kept : IsKept trail (oldest head trail) record { lits = lits; first = code_of first; second = code_of second }) (below : (m : ℕ) → IsDecisionAt trail m → IsKept (drop (m + 1) trail) (drop (m + 1) trail) record { lits = lits; first = code_of first; second = code_of second }) (watched : IsWatched vars trail head held lists) where
   middle_length : length added.middle ≡ length lists
   middle_length = ap (λ ls. length ls) added.middle_is ∙ pushed_length lists (code_of first) record { clause = length held; blocker = code_of second }
 

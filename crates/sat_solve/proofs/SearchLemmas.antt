@@ -1,10 +1,10 @@
 -- The state of a search with its watches, step by step.
-use Rattle.std.proofs.Common.{◌≡◌, ℕ, zero, suc, ◌+◌, ◌-◌, ◌*◌, ◌<◌, ◌≤◌, ◌^◌, false, not, List, [], ◌∷◌, ◌++◌, length, drop, take, get_or, map, ◌⊎◌, inl, inr, ⊎_elim, Option, Some, None, IsSome, refl, sym, ap, ◌∙◌, subst, arith}
-use Rattle.std.specs.List.{Contains, slice_get, All}
+use Rattle.std.proofs.Common.{◌≡◌, ℕ, zero, suc, ◌+◌, ◌-◌, ◌*◌, ◌<◌, ◌≤◌, ◌^◌, false, not, List, [], ◌∷◌, ◌++◌, length, drop, get_or, map, replicate, ◌⊎◌, inl, inr, ⊎_elim, Option, Some, None, IsSome, refl, sym, ap, ◌∙◌, subst, arith}
+use Rattle.std.specs.List.{Contains, slice_get}
 use Rattle.std.specs.Option.{option_map, is_some}
-use Rattle.std.proofs.lemmas.List.{drop-drop, drop_all, length-drop, map_push, take_more}
-use Rattle.std.proofs.lemmas.List.Elements.{All-contains}
-use Rattle.std.proofs.lemmas.Option.{slice_get_within, get_or_from_slice_get, slice_get-map}
+use Rattle.std.proofs.lemmas.List.{drop-drop, drop_all, length-drop, length_push, length-replicate}
+use Rattle.std.proofs.lemmas.List.Elements.{All-contains, Contains-get_or}
+use Rattle.std.proofs.lemmas.Option.{slice_get_within, slice_get-map}
 use Rattle.sat_base.specs.declared.literals.Lit.{Lit}
 use Rattle.sat_base.specs.declared.logs.Lemma.{Lemma}
 use Rattle.sat_base.specs.Formula.{Formula, IsClauseOver}
@@ -14,23 +14,26 @@ use Rattle.sat_solve.specs.declared.trail.Entry.{Entry}
 use Rattle.sat_solve.specs.declared.trail.Truth.{Truth}
 use Rattle.sat_solve.specs.declared.trail.Truth.TheVariants.{True, False, Open}
 use Rattle.sat_solve.specs.declared.lists.Watch.{Watch}
+use Rattle.sat_solve.specs.declared.pairs.Pair.{Pair}
 use Rattle.sat_solve.specs.Trail.{sign_at, IsFalseIn, IsUnit, IsClosed, IsSound}
 use Rattle.sat_solve.specs.Kept.{TrailView}
 use Rattle.sat_solve.specs.State.{known_clauses, IsState}
 use Rattle.sat_solve.specs.Decisions.{IsDecisionAt, IsUndecided}
-use Rattle.sat_solve.specs.Codes.{literal_of, code_of}
+use Rattle.sat_base.specs.Codes.{literal_of, code_of}
 use Rattle.sat_solve.specs.Truth.{IsTruth}
-use Rattle.sat_solve.specs.Held.{Held}
+use Rattle.sat_solve.specs.Held.{Held, held_by}
 use Rattle.sat_solve.specs.Lesson.{IsBound, IsForcedFrom, IsLesson, IsTaught}
 use Rattle.sat_solve.specs.Watches.{HasTrue, IsKept, IsPaired, oldest, IsWatched, IsAdded}
-use Rattle.sat_solve.specs.Search.{IsSearch, IsLoaded}
+use Rattle.sat_solve.specs.Search.{held_of, IsSearch, IsLoaded}
 use Rattle.sat_solve.proofs.Signs.{Contains-head, Contains-tail, Contains-cases, Contains-none, sign_here}
-use Rattle.sat_solve.proofs.CodeLemmas.{literal_of_code, code_below}
+use Rattle.sat_base.proofs.CodeLemmas.{literal_of_code, code_below}
 use Rattle.sat_solve.proofs.Places.{IsSound-drop, none_from, slice_get-drop}
-use Rattle.sat_solve.proofs.LogLemmas.{slice_get-left, known_clauses-push}
+use Rattle.sat_solve.proofs.LogLemmas.{slice_get-left, slice_get-push, known_clauses-push}
+use Rattle.sat_solve.proofs.StateLemmas.{length-known, all_at}
+use Rattle.sat_solve.proofs.HeldLemmas.{held_with, held_by-next, held_by-more}
 use Rattle.sat_solve.proofs.Forced.{IsState-learnt, no_reason}
 use Rattle.sat_solve.proofs.Watching.{oldest-push, oldest-all, IsWatched-push, IsWatched-back}
-use Rattle.sat_solve.proofs.Moves.{IsWatched-added}
+use Rattle.sat_solve.proofs.Moves.{IsHeldAdded, held_added, IsWatched-added}
 
 -- a literal with a truth that is neither is over a variable without a value
 pub open_by : (trail : List Entry) (x : Lit) (t : Truth) → IsTruth trail x t → (t ≡ True → ⊥) → (t ≡ False → ⊥) → sign_at trail x.var ≡ None
@@ -64,21 +67,31 @@ IsState-back f log trail back s = record {
 }
 
 -- cut below a decision
-pub IsSearch-back : (f : Formula) (log : List Lemma) (trail : TrailView) (held : List Held) (lists : List (List Watch)) (head back k : ℕ) → back ≡ k + 1 → IsDecisionAt trail.entries k → IsSearch f log trail held lists head → IsSearch f log (record { vars = trail.vars; entries = drop back trail.entries }) held lists (length (drop back trail.entries))
-IsSearch-back f log trail held lists head back k is decided s = record {
+pub IsSearch-back : (f : Formula) (log : List Lemma) (trail : TrailView) (pairs : List Pair) (lists : List (List Watch)) (head back k : ℕ) → back ≡ k + 1 → IsDecisionAt trail.entries k → IsSearch f log trail pairs lists head → IsSearch f log (record { vars = trail.vars; entries = drop back trail.entries }) pairs lists (length (drop back trail.entries))
+IsSearch-back f log trail pairs lists head back k is decided s = record {
   state = IsState-back f log trail back s.state;
   small = s.small;
-  holding = s.holding;
-  watched = IsWatched-back trail.vars trail.entries head held lists back k is decided s.watched;
+  paired = s.paired;
+  watched = IsWatched-back trail.vars trail.entries head (held_of f log pairs) lists back k is decided s.watched;
 }
 
 -- the codes of a clause's literals are within the lists
 pub codes_within : (vars n : ℕ) (lits : List Lit) → IsClauseOver vars lits → n ≡ 2 * vars → (x : Lit) → Contains lits x → code_of x < n
 codes_within vars n lits known is x h = omega (arith, code_below x vars (All-contains (λ (l : Lit). l.var < vars) lits x known h), is)
 
+-- the lists of both literals of a variable
+pub lists_hold : (vars n : ℕ) (lits : List Lit) → IsClauseOver vars lits → n ≡ 2 * vars → (x : Lit) → Contains lits x → 2 * x.var + 1 < n
+lists_hold vars n lits known is x h = omega (arith, All-contains (λ (l : Lit). l.var < vars) lits x known h, is)
+
 -- the literal at which a lemma is watched besides its first
 abbrev pub IsSecond : List Lit → Lit → Lit → Type 0
 IsSecond lits first second = ((length lits ≤ 1) × (second ≡ first)) ⊎ ((1 < length lits) × (second ≡ get_or lits 1 record { var = 0; negative = false }))
+
+pub second_among : (lits : List Lit) (first second : Lit) → Contains lits first → IsSecond lits first second → Contains lits second
+second_among lits first second in_first is = ⊎_elim
+    (λ one. subst (λ x. Contains lits x) (sym one.1) in_first)
+    (λ two. subst (λ x. Contains lits x) (sym two.1) (Contains-get_or lits 1 record { var = 0; negative = false } two.0))
+    is
 
 module _ (clauses : List (List Lit)) (trail : List Entry) (sound : IsSound clauses trail) (start back : ℕ) (lits : List Lit) (f : IsForcedFrom trail start back (length trail) lits) (once : HasEachVariableOnce lits) (second : Lit) (is_second : IsSecond lits f.point second) where
   point_in : Contains lits f.point
@@ -165,16 +178,38 @@ module _ (clauses : List (List Lit)) (trail : List Entry) (sound : IsSound claus
         subst (λ j. IsKept (drop j (record { lit = f.point; reason = Some n } ∷ drop back trail)) (drop j (record { lit = f.point; reason = Some n } ∷ drop back trail)) record { lits = lits; first = code_of f.point; second = code_of second }) one
         (subst (λ t. IsKept t t record { lits = lits; first = code_of f.point; second = code_of second }) (sym same) (kept_there (back + m) (omega arith) there))
 
+-- what is held with the pair of the next clause
+next_held : (pairs pairs' : List Pair) (clauses : List (List Lit)) (lists lists' : List (List Watch)) (lits : List Lit) (first second : Lit) → slice_get clauses (length pairs) ≡ Some lits → IsAdded pairs pairs' lists lists' first second → held_by pairs' clauses ≡ held_by pairs clauses ++ held_with lits record { first = code_of first; second = code_of second } ∷ []
+next_held pairs pairs' clauses lists lists' lits first second at added =
+    ap (λ (ps : List Pair). held_by ps clauses) added.pairs_are ∙ held_by-next pairs clauses lits record { first = code_of first; second = code_of second } at
+
+one_more_pair : (pairs pairs' : List Pair) (lists lists' : List (List Watch)) (first second : Lit) → IsAdded pairs pairs' lists lists' first second → length pairs' ≡ length pairs + 1
+one_more_pair pairs pairs' lists lists' first second added = ap (λ (ps : List Pair). length ps) added.pairs_are ∙ length_push pairs record { first = code_of first; second = code_of second }
+
+-- a lemma is added to the clauses that are held
+learnt_held : (f : Formula) (log : List Lemma) (s : Lemma) (pairs pairs' : List Pair) (lists lists' : List (List Watch)) (first second : Lit) → length pairs ≡ length (known_clauses f log) → IsAdded pairs pairs' lists lists' first second → IsHeldAdded (held_of f log pairs) (held_of f (log ++ s ∷ []) pairs') lists lists' s.lits first second
+learnt_held f log s pairs pairs' lists lists' first second paired added =
+    let clauses = known_clauses f log in
+    let clauses' = clauses ++ s.lits ∷ [] in
+    let few : length pairs ≤ length clauses = omega (arith, paired) in
+    let at : slice_get clauses' (length pairs) ≡ Some s.lits = ap (λ (n : ℕ). slice_get clauses' n) paired ∙ slice_get-push clauses s.lits in
+    let held_is = next_held pairs pairs' clauses' lists lists' s.lits first second at added
+    ∙ ap (λ (hs : List Held). hs ++ held_with s.lits record { first = code_of first; second = code_of second } ∷ []) (held_by-more pairs clauses (s.lits ∷ []) few) in
+    held_added pairs pairs' clauses (known_clauses f (log ++ s ∷ [])) lists lists' s.lits first second few (ap (λ (cs : List (List Lit)). held_by pairs' cs) (known_clauses-push f log s) ∙ held_is) added
+
 -- The search behind a lemma, which is watched at its point and at the literal of the next level.
-pub IsSearch-learnt : (f : Formula) (log : List Lemma) (trail : TrailView) (held held' : List Held) (lists lists' : List (List Watch)) (head : ℕ) (s : Lemma) (back : ℕ) (l second : Lit) (n : ℕ) → IsSearch f log trail held lists head → IsClauseOver trail.vars s.lits → HasEachVariableOnce s.lits → Follows (known_clauses f log) s.lits s.hints → (lesson : IsLesson (known_clauses f log) trail.entries s.lits back) → l ≡ lesson.forced.point → IsSecond s.lits l second → IsAdded held held' lists lists' s.lits l second → n ≡ length f.clauses + length log → n + 1 < 2 ^ 64 → length (drop back trail.entries) < trail.vars → IsSearch f (log ++ s ∷ []) (record { vars = trail.vars; entries = record { lit = l; reason = Some n } ∷ drop back trail.entries }) held' lists' (length (drop back trail.entries))
-IsSearch-learnt f log trail held held' lists lists' head s back l second n search known once follows lesson is is_second added number small short =
+pub IsSearch-learnt : (f : Formula) (log : List Lemma) (trail : TrailView) (pairs pairs' : List Pair) (lists lists' : List (List Watch)) (head : ℕ) (s : Lemma) (back : ℕ) (l second : Lit) (n : ℕ) → IsSearch f log trail pairs lists head → IsClauseOver trail.vars s.lits → HasEachVariableOnce s.lits → Follows (known_clauses f log) s.lits s.hints → (lesson : IsLesson (known_clauses f log) trail.entries s.lits back) → l ≡ lesson.forced.point → IsSecond s.lits l second → IsAdded pairs pairs' lists lists' l second → n ≡ length f.clauses + length log → n + 1 < 2 ^ 64 → length (drop back trail.entries) < trail.vars → IsSearch f (log ++ s ∷ []) (record { vars = trail.vars; entries = record { lit = l; reason = Some n } ∷ drop back trail.entries }) pairs' lists' (length (drop back trail.entries))
+IsSearch-learnt f log trail pairs pairs' lists lists' head s back l second n search known once follows lesson is is_second added number small short =
+    let held = held_of f log pairs in
+    let held' = held_of f (log ++ s ∷ []) pairs' in
+    let held_more : IsHeldAdded held held' lists lists' s.lits l second = learnt_held f log s pairs pairs' lists lists' l second search.paired added in
     let t = trail.entries in
     let at = lesson.forced in
     let clauses = known_clauses f log in
     let sound = search.state.sound in
     let older = drop back t in
     let sec : IsSecond s.lits at.point second = subst (λ (x : Lit). IsSecond s.lits x second) is is_second in
-    let add : IsAdded held held' lists lists' s.lits at.point second = subst (λ (x : Lit). IsAdded held held' lists lists' s.lits x second) is added in
+    let add : IsHeldAdded held held' lists lists' s.lits at.point second = subst (λ (x : Lit). IsHeldAdded held held' lists lists' s.lits x second) is held_more in
     let below : IsWatched trail.vars older (length older) held lists = IsWatched-back trail.vars t head held lists back at.decision.0 at.decision.1 at.decision.2 search.watched in
     let fresh : sign_at older at.point.var ≡ None = none_from clauses t lesson.start back at.point.var sound at.ordered at.point_open in
     let e : Entry = record { lit = at.point; reason = Some n } in
@@ -190,21 +225,34 @@ IsSearch-learnt f log trail held held' lists lists' head s back l second n searc
     record {
       state = IsState-learnt f log trail s back l n search.state known once follows lesson is number small short;
       small = search.small;
-      holding = ap (λ hs. map (λ (h : Held). h.lits) hs) add.held_is ∙ map_push (λ (h : Held). h.lits) held record { lits = s.lits; first = code_of at.point; second = code_of second } ∙ ap (λ cs. cs ++ s.lits ∷ []) search.holding ∙ sym (known_clauses-push f log s);
+      paired = omega (arith, one_more_pair pairs pairs' lists lists' l second added, search.paired, ap (λ (cs : List (List Lit)). length cs) (known_clauses-push f log s), length_push (known_clauses f log) s.lits);
       watched = subst (λ (x : Lit). IsWatched trail.vars (record { lit = x; reason = Some n } ∷ older) (length older) held' lists') (sym is) watched;
     }
 
+-- a clause that is loaded is over the formula's variables
+loaded_over : (f : Formula) (trail : TrailView) (pairs : List Pair) (lists : List (List Watch)) (head number : ℕ) (lits : List Lit) → IsLoaded f trail pairs lists head number → slice_get f.clauses number ≡ Some lits → IsClauseOver trail.vars lits
+loaded_over f trail pairs lists head number lits loaded at = subst (λ n. IsClauseOver n lits) (sym loaded.state.vars) (all_at (IsClauseOver f.vars) f.clauses number lits at loaded.state.known)
+
+pub loaded_lists : (f : Formula) (trail : TrailView) (pairs : List Pair) (lists : List (List Watch)) (head number : ℕ) (lits : List Lit) → IsLoaded f trail pairs lists head number → slice_get f.clauses number ≡ Some lits → (x : Lit) → Contains lits x → 2 * x.var + 1 < length lists
+loaded_lists f trail pairs lists head number lits loaded at x h = lists_hold trail.vars (length lists) lits (loaded_over f trail pairs lists head number lits loaded at) loaded.watched.sized x h
+
 -- A clause of the formula is loaded.
-pub IsLoaded-added : (f : Formula) (trail : TrailView) (held held' : List Held) (lists lists' : List (List Watch)) (head number : ℕ) (lits : List Lit) (first second : Lit) → IsLoaded f trail held lists head number → slice_get f.clauses number ≡ Some lits → IsAdded held held' lists lists' lits first second → Contains lits first → Contains lits second → (first ≡ second → (x : Lit) → Contains lits x → x ≡ first) → (first ≡ second → HasTrue trail.entries lits) → IsLoaded f trail held' lists' head (number + 1)
-IsLoaded-added f trail held held' lists lists' head number lits first second loaded at added in_first in_second alone single =
-    let inside = slice_get_within f.clauses number lits at in
-    let over : IsClauseOver trail.vars lits = subst (λ n. IsClauseOver n lits) (sym loaded.state.vars) (all_here f.clauses number lits loaded.state.known at) in
+pub IsLoaded-added : (f : Formula) (trail : TrailView) (pairs pairs' : List Pair) (lists lists' : List (List Watch)) (head number : ℕ) (lits : List Lit) (first second : Lit) → IsLoaded f trail pairs lists head number → slice_get f.clauses number ≡ Some lits → IsAdded pairs pairs' lists lists' first second → Contains lits first → Contains lits second → (first ≡ second → (x : Lit) → Contains lits x → x ≡ first) → (first ≡ second → HasTrue trail.entries lits) → IsLoaded f trail pairs' lists' head (number + 1)
+IsLoaded-added f trail pairs pairs' lists lists' head number lits first second loaded at pair_added in_first in_second alone single =
+    let known = known_clauses f [] in
+    let held = held_of f [] pairs in
+    let held' = held_of f [] pairs' in
+    let at_known : slice_get known (length pairs) ≡ Some lits = ap (λ (n : ℕ). slice_get known n) loaded.paired ∙ slice_get-left f.clauses [] number lits at in
+    let few : length pairs ≤ length known = omega (arith, slice_get_within known (length pairs) lits at_known) in
+    let added : IsHeldAdded held held' lists lists' lits first second = held_added pairs pairs' known known lists lists' lits first second few (next_held pairs pairs' known lists lists' lits first second at_known pair_added) pair_added in
+    let over : IsClauseOver trail.vars lits = loaded_over f trail pairs lists head number lits loaded at in
     let same : code_of first ≡ code_of second → first ≡ second = λ h. sym (literal_of_code first) ∙ ap literal_of h ∙ literal_of_code second in
     record {
       state = loaded.state;
       small = loaded.small;
       undecided = loaded.undecided;
-      holding = ap (λ hs. map (λ (h : Held). h.lits) hs) added.held_is ∙ map_push (λ (h : Held). h.lits) held record { lits = lits; first = code_of first; second = code_of second } ∙ ap (λ cs. cs ++ lits ∷ []) loaded.holding ∙ ap (λ c. take number f.clauses ++ c ∷ []) (sym (get_or_from_slice_get f.clauses number lits lits at)) ∙ sym (take_more f.clauses number lits inside);
+      within = omega (arith, slice_get_within f.clauses number lits at);
+      paired = omega (arith, one_more_pair pairs pairs' lists lists' first second pair_added, loaded.paired);
       start = loaded.start;
       watched = IsWatched-added trail.vars trail.entries head held held' lists lists' lits first second added
           (codes_within trail.vars (length lists) lits over loaded.watched.sized first in_first)
@@ -223,9 +271,6 @@ IsLoaded-added f trail held held' lists lists' head number lits first second loa
           loaded.watched;
     }
   where
-    all_here : (cs : List (List Lit)) (k : ℕ) (c : List Lit) → All (IsClauseOver f.vars) cs → slice_get cs k ≡ Some c → IsClauseOver f.vars c
-    all_here cs k c all there = subst (IsClauseOver f.vars) (get_or_from_slice_get cs k c c there) (all k c (slice_get_within cs k c there))
-
     nothing_false : (n : ℕ) (t : List Entry) (x : Lit) → n ≡ 0 → IsFalseIn (oldest n t) x → ⊥
     nothing_false n t x is h =
         let m : length t ≤ length t - n = omega (arith, is) in
@@ -233,27 +278,62 @@ IsLoaded-added f trail held held' lists lists' head number lits first second loa
         cc
 
 -- A clause of one literal forces it.
-pub IsLoaded-forced : (f : Formula) (trail : TrailView) (held : List Held) (lists : List (List Watch)) (head number : ℕ) (lits : List Lit) (first : Lit) → IsLoaded f trail held lists head number → slice_get f.clauses number ≡ Some lits → Contains lits first → ((x : Lit) → Contains lits x → x ≡ first) → sign_at trail.entries first.var ≡ None → length trail.entries < trail.vars → IsLoaded f (record { vars = trail.vars; entries = record { lit = first; reason = Some number } ∷ trail.entries }) held lists head number
-IsLoaded-forced f trail held lists head number lits first loaded at among alone fresh short = record {
+pub IsLoaded-forced : (f : Formula) (trail : TrailView) (pairs : List Pair) (lists : List (List Watch)) (head number : ℕ) (lits : List Lit) (first : Lit) → IsLoaded f trail pairs lists head number → slice_get f.clauses number ≡ Some lits → Contains lits first → ((x : Lit) → Contains lits x → x ≡ first) → sign_at trail.entries first.var ≡ None → length trail.entries < trail.vars → IsLoaded f (record { vars = trail.vars; entries = record { lit = first; reason = Some number } ∷ trail.entries }) pairs lists head number
+IsLoaded-forced f trail pairs lists head number lits first loaded at among alone fresh short = record {
   state = IsState-forced f [] trail first number lits loaded.state (slice_get-left f.clauses [] number lits at) record { own = among; others = λ x h. inl (alone x h) } fresh short;
   small = loaded.small;
   undecided = undecided;
-  holding = loaded.holding;
+  within = loaded.within;
+  paired = loaded.paired;
   start = loaded.start;
-  watched = IsWatched-push trail.vars record { lit = first; reason = Some number } trail.entries head held lists fresh (λ none. cc) loaded.watched;
+  watched = IsWatched-push trail.vars record { lit = first; reason = Some number } trail.entries head (held_of f [] pairs) lists fresh (λ none. cc) loaded.watched;
 }
   where
     undecided : IsUndecided (record { lit = first; reason = Some number } ∷ trail.entries) 0 (suc (length trail.entries))
     undecided zero e low high here = let same : record { lit = first; reason = Some number } ≡ e = let h : Some record { lit = first; reason = Some number } ≡ Some e = here in cc in subst (λ (y : Entry). IsSome y.reason) same refl
     undecided (suc k) e low high here = loaded.undecided k e (omega arith) (omega (arith, high)) here
 
+-- no clause has been loaded
+pub IsLoaded-start : (f : Formula) (trail : TrailView) (pairs : List Pair) (lists : List (List Watch)) (head : ℕ) → IsState f [] trail → trail.vars < 2 ^ 31 → trail.entries ≡ [] → pairs ≡ [] → lists ≡ replicate (2 * trail.vars) [] → head ≡ 0 → IsLoaded f trail pairs lists head 0
+IsLoaded-start f trail pairs lists head state small empty none new start = record {
+  state = state;
+  small = small;
+  undecided = λ k e low high at. absurd (let n : length trail.entries ≡ 0 = ap (λ (es : List Entry). length es) empty in omega (arith, n, high));
+  within = omega arith;
+  paired = ap (λ (ps : List Pair). length ps) none;
+  start = start;
+  watched = record {
+    sized = ap (λ (ls : List (List Watch)). length ls) new ∙ length-replicate (2 * trail.vars) [];
+    within = omega (arith, start);
+    each = λ k h at. absurd (not_held k h (sym (ap (λ (ps : List Pair). slice_get (held_of f [] ps) k) none) ∙ at));
+    fitting = λ code w h. absurd (Contains-none w (subst (λ (l : List Watch). Contains l w) (ap (λ (ls : List (List Watch)). get_or ls code []) new ∙ empty_list (2 * trail.vars) code) h));
+  };
+}
+  where
+    not_held : (k : ℕ) (h : Held) → None ≡ Some h → ⊥
+    not_held k h e = cc
+
+    empty_list : (n code : ℕ) → ◌≡◌ {A = List Watch} (get_or (replicate n []) code []) []
+    empty_list zero code = refl
+    empty_list (suc n) zero = refl
+    empty_list (suc n) (suc code) = empty_list n code
+
+-- all clauses of the formula have been loaded
+pub IsSearch-loaded : (f : Formula) (trail : TrailView) (pairs : List Pair) (lists : List (List Watch)) (head number : ℕ) → IsLoaded f trail pairs lists head number → number ≡ length f.clauses → IsSearch f [] trail pairs lists head
+IsSearch-loaded f trail pairs lists head number loaded all = record {
+  state = loaded.state;
+  small = loaded.small;
+  paired = let n : length (known_clauses f []) ≡ length f.clauses + 0 = length-known f [] in omega (arith, loaded.paired, all, n);
+  watched = loaded.watched;
+}
+
 pub decided_by : (o : Option ℕ) → is_some o ≡ false → o ≡ None
 decided_by None h = refl
 decided_by (Some r) h = cc
 
 -- a decision, where propagation has ended
-pub IsSearch-decided : (f : Formula) (log : List Lemma) (trail : TrailView) (held : List Held) (lists : List (List Watch)) (head : ℕ) (l : Lit) → IsSearch f log trail held lists head → IsClosed (known_clauses f log) trail.entries → head ≡ length trail.entries → sign_at trail.entries l.var ≡ None → length trail.entries < trail.vars → IsSearch f log (record { vars = trail.vars; entries = record { lit = l; reason = None } ∷ trail.entries }) held lists head
-IsSearch-decided f log trail held lists head l s closed all fresh short = record {
+pub IsSearch-decided : (f : Formula) (log : List Lemma) (trail : TrailView) (pairs : List Pair) (lists : List (List Watch)) (head : ℕ) (l : Lit) → IsSearch f log trail pairs lists head → IsClosed (known_clauses f log) trail.entries → head ≡ length trail.entries → sign_at trail.entries l.var ≡ None → length trail.entries < trail.vars → IsSearch f log (record { vars = trail.vars; entries = record { lit = l; reason = None } ∷ trail.entries }) pairs lists head
+IsSearch-decided f log trail pairs lists head l s closed all fresh short = record {
   state = record {
     vars = s.state.vars;
     short = omega (arith, short);
@@ -263,8 +343,8 @@ IsSearch-decided f log trail held lists head l s closed all fresh short = record
     sound = (record { fresh = fresh; cause = closed }, s.state.sound);
   };
   small = s.small;
-  holding = s.holding;
-  watched = IsWatched-push trail.vars record { lit = l; reason = None } trail.entries head held lists fresh (λ none. all) s.watched;
+  paired = s.paired;
+  watched = IsWatched-push trail.vars record { lit = l; reason = None } trail.entries head (held_of f log pairs) lists fresh (λ none. all) s.watched;
 }
 
 pub lesson_some : (clauses : List (List Lit)) (trail : List Entry) (lits : List Lit) (back : ℕ) → IsTaught clauses trail lits back → (lits ≡ [] → ⊥) → IsLesson clauses trail lits back

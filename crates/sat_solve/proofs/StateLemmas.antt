@@ -8,11 +8,11 @@ use Rattle.sat_base.specs.declared.literals.Lit.{Lit}
 use Rattle.sat_base.specs.declared.logs.Lemma.{Lemma}
 use Rattle.sat_base.specs.Formula.{Formula, IsClauseOver}
 use Rattle.sat_solve.specs.declared.trail.Entry.{Entry}
-use Rattle.sat_solve.specs.Codes.{literal_of}
+use Rattle.sat_base.specs.Codes.{literal_of}
 use Rattle.sat_solve.specs.Trail.{IsSettled, IsClosed}
 use Rattle.sat_solve.specs.Kept.{TrailView}
 use Rattle.sat_solve.specs.State.{known_clauses, IsState}
-use Rattle.sat_solve.proofs.CodeLemmas.{code_in}
+use Rattle.sat_base.proofs.CodeLemmas.{code_in}
 
 -- how many clauses are known
 pub length-known : (f : Formula) (log : List Lemma) → length (known_clauses f log) ≡ length f.clauses + length log

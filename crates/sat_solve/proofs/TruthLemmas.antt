@@ -9,11 +9,11 @@ use Rattle.sat_base.specs.declared.literals.Lit.{Lit}
 use Rattle.sat_solve.specs.declared.trail.Entry.{Entry}
 use Rattle.sat_solve.specs.declared.trail.Truth.{Truth}
 use Rattle.sat_solve.specs.declared.trail.Truth.TheVariants.{True, False, Open}
-use Rattle.sat_solve.specs.Codes.{code_of, literal_of}
+use Rattle.sat_base.specs.Codes.{code_of, literal_of}
 use Rattle.sat_solve.specs.Trail.{sign_at}
 use Rattle.sat_solve.specs.Truth.{IsTruth, AreTruths, truth_by, with_pair}
 use Rattle.sat_solve.proofs.Signs.{same_lit, sign_here, sign_other}
-use Rattle.sat_solve.proofs.CodeLemmas.{code_of_literal}
+use Rattle.sat_base.proofs.CodeLemmas.{code_of_literal}
 
 -- the truth of a literal is a matter of its variable's sign
 pub IsTruth-by : (trail after : List Entry) (x : Lit) (t : Truth) → sign_at after x.var ≡ sign_at trail x.var → IsTruth trail x t → IsTruth after x t

@@ -10,19 +10,21 @@ use Rattle.sat_base.specs.Literal.{negation}
 use Rattle.sat_base.specs.Formula.{Formula}
 use Rattle.sat_solve.specs.declared.trail.Entry.{Entry}
 use Rattle.sat_solve.specs.declared.lists.Watch.{Watch}
+use Rattle.sat_solve.specs.declared.pairs.Pair.{Pair}
 use Rattle.sat_solve.specs.Trail.{sign_at, IsFalseIn, IsConflict, IsSound}
 use Rattle.sat_solve.specs.Kept.{TrailView}
 use Rattle.sat_solve.specs.State.{known_clauses, IsState}
 use Rattle.sat_solve.specs.Found.{IsConflictAt}
-use Rattle.sat_solve.specs.Codes.{literal_of, code_of}
+use Rattle.sat_base.specs.Codes.{literal_of, code_of}
 use Rattle.sat_solve.specs.Held.{Held}
 use Rattle.sat_solve.specs.Watches.{HasTrue, IsFitting, IsPairedAt, oldest, IsWatched, HasTrueAt, IsAtMostOneMore, IsMove}
-use Rattle.sat_solve.specs.Search.{IsSearch, IsNext}
+use Rattle.sat_solve.specs.Search.{held_of, IsSearch, IsNext}
 use Rattle.sat_solve.proofs.Signs.{sign_kept}
-use Rattle.sat_solve.proofs.CodeLemmas.{literal_of_code}
+use Rattle.sat_base.proofs.CodeLemmas.{literal_of_code}
 use Rattle.sat_solve.proofs.Places.{negation_false}
 use Rattle.sat_solve.proofs.Watching.{oldest-push, oldest-next, IsWatched-push, list_there}
 use Rattle.sat_solve.proofs.Moves.{removed_at, removed_length, HasTrueAt-set, lits_kept, IsWatched-stays, IsWatched-moved, IsWatched-next}
+use Rattle.sat_solve.proofs.HeldLemmas.{held_lits}
 use Rattle.sat_solve.proofs.SearchLemmas.{clause_of}
 use Rattle.sat_solve.proofs.Looks.{held_known, code_known}
 
@@ -46,15 +48,15 @@ pub record IsVisiting (f : Formula) (log : List Lemma) (trail : TrailView) (held
   pub coming : IsComing trail.entries head code
   pub falsified : IsFalseIn trail.entries (literal_of code)
 
-pub visit_start : (f : Formula) (log : List Lemma) (trail : TrailView) (held : List Held) (lists lists' : List (List Watch)) (head code rest : ℕ) (list : List Watch) → IsSearch f log trail held lists head → IsNext trail.entries head code → code < length lists → list ≡ get_or lists code [] → lists' ≡ set lists code [] → rest ≡ length list → IsVisiting f log trail held lists' head code rest list
-visit_start f log trail held lists lists' head code rest list s next inside is taken all =
+pub visit_start : (f : Formula) (log : List Lemma) (trail : TrailView) (pairs : List Pair) (lists lists' : List (List Watch)) (head code rest : ℕ) (list : List Watch) → IsSearch f log trail pairs lists head → IsNext trail.entries head code → code < length lists → list ≡ get_or lists code [] → lists' ≡ set lists code [] → rest ≡ length list → IsVisiting f log trail (held_of f log pairs) lists' head code rest list
+visit_start f log trail pairs lists lists' head code rest list s next inside is taken all =
     let whole : set lists' code list ≡ lists = ap (λ ls. set ls code list) taken ∙ set-set lists code [] list ∙ ap (λ l. set lists code l) is ∙ set-get_or lists code [] in
     record {
       state = s.state;
       small = s.small;
-      holding = s.holding;
+      holding = held_lits pairs (known_clauses f log) s.paired;
       inside = omega (arith, inside, ap length taken, length-set lists code []);
-      watched = subst (λ ls. IsWatched trail.vars trail.entries head held ls) (sym whole) s.watched;
+      watched = subst (λ ls. IsWatched trail.vars trail.entries head (held_of f log pairs) ls) (sym whole) s.watched;
       within = omega (arith, all);
       seen = λ j w low at. absurd (omega (arith, low, all, slice_get_within list j w at));
       low = next.within;
@@ -189,26 +191,26 @@ more_length before after more = ⊎_elim
     more
 
 -- at its end
-pub visit_end : (f : Formula) (log : List Lemma) (trail : TrailView) (held : List Held) (lists lists' : List (List Watch)) (head code rest : ℕ) (list : List Watch) → IsVisiting f log trail held lists head code rest list → rest ≡ 0 → lists' ≡ set lists code list → IsSearch f log trail held lists' (head + 1)
-visit_end f log trail held lists lists' head code rest list v none put = record {
+pub visit_end : (f : Formula) (log : List Lemma) (trail : TrailView) (pairs : List Pair) (lists lists' : List (List Watch)) (head code rest : ℕ) (list : List Watch) → IsVisiting f log trail (held_of f log pairs) lists head code rest list → length pairs ≡ length (known_clauses f log) → rest ≡ 0 → lists' ≡ set lists code list → IsSearch f log trail pairs lists' (head + 1)
+visit_end f log trail pairs lists lists' head code rest list v paired none put = record {
   state = v.state;
   small = v.small;
-  holding = v.holding;
-  watched = subst (λ ls. IsWatched trail.vars trail.entries (head + 1) held ls) (sym put)
-      (IsWatched-next trail.vars trail.entries head held lists code list v.coming.0 v.inside v.coming.1 v.low v.coming.2
+  paired = paired;
+  watched = subst (λ ls. IsWatched trail.vars trail.entries (head + 1) (held_of f log pairs) ls) (sym put)
+      (IsWatched-next trail.vars trail.entries head (held_of f log pairs) lists code list v.coming.0 v.inside v.coming.1 v.low v.coming.2
       (λ w h. v.seen h.0 w (omega (arith, none)) (slice_get-get_or list h.0 w h.1 ∙ ap Some h.2))
       v.watched);
 }
 
 -- at a conflict
-pub visit_conflict : (f : Formula) (log : List Lemma) (trail : TrailView) (held : List Held) (lists lists' : List (List Watch)) (head code rest i : ℕ) (list : List Watch) (w : Watch) → IsVisiting f log trail held lists head code rest list → slice_get list i ≡ Some w → ((h : Held) → slice_get held w.clause ≡ Some h → IsConflict trail.entries h.lits) → lists' ≡ set lists code list → IsSearch f log trail held lists' head × IsConflictAt (known_clauses f log) trail.entries w.clause
-visit_conflict f log trail held lists lists' head code rest i list w v at conflict put =
-    let fits = visit_fitting f log trail held lists head code rest list v i w at in (
+pub visit_conflict : (f : Formula) (log : List Lemma) (trail : TrailView) (pairs : List Pair) (lists lists' : List (List Watch)) (head code rest i : ℕ) (list : List Watch) (w : Watch) → IsVisiting f log trail (held_of f log pairs) lists head code rest list → length pairs ≡ length (known_clauses f log) → slice_get list i ≡ Some w → ((h : Held) → slice_get (held_of f log pairs) w.clause ≡ Some h → IsConflict trail.entries h.lits) → lists' ≡ set lists code list → IsSearch f log trail pairs lists' head × IsConflictAt (known_clauses f log) trail.entries w.clause
+visit_conflict f log trail pairs lists lists' head code rest i list w v paired at conflict put =
+    let fits = visit_fitting f log trail (held_of f log pairs) lists head code rest list v i w at in (
       record {
         state = v.state;
         small = v.small;
-        holding = v.holding;
-        watched = subst (λ ls. IsWatched trail.vars trail.entries head held ls) (sym put) v.watched;
+        paired = paired;
+        watched = subst (λ ls. IsWatched trail.vars trail.entries head (held_of f log pairs) ls) (sym put) v.watched;
       },
-      (fits.0.lits, clause_of held (known_clauses f log) w.clause fits.0 v.holding fits.1, conflict fits.0 fits.1),
+      (fits.0.lits, clause_of (held_of f log pairs) (known_clauses f log) w.clause fits.0 v.holding fits.1, conflict fits.0 fits.1),
     )

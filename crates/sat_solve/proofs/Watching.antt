@@ -8,11 +8,11 @@ use Rattle.sat_solve.specs.declared.trail.Entry.{Entry}
 use Rattle.sat_solve.specs.declared.lists.Watch.{Watch}
 use Rattle.sat_solve.specs.Trail.{sign_at, IsFalseIn, IsSettled, IsClosed}
 use Rattle.sat_solve.specs.Decisions.{IsDecisionAt}
-use Rattle.sat_solve.specs.Codes.{literal_of}
+use Rattle.sat_base.specs.Codes.{literal_of}
 use Rattle.sat_solve.specs.Held.{Held}
 use Rattle.sat_solve.specs.Watches.{HasTrue, IsKept, IsPaired, HasWatch, IsFitting, oldest, IsWatched}
 use Rattle.sat_solve.proofs.Signs.{sign_kept}
-use Rattle.sat_solve.proofs.CodeLemmas.{same_code}
+use Rattle.sat_base.proofs.CodeLemmas.{same_code}
 use Rattle.sat_solve.proofs.Places.{drop-entry, slice_get-drop}
 
 -- a true literal stays so

@@ -6,8 +6,8 @@ pub mod Decisions
 pub mod Marks
 pub mod Walk
 pub mod Lesson
-pub mod Codes
 pub mod Truth
+pub mod Spans
 pub mod Held
 pub mod Watches
 pub mod Search

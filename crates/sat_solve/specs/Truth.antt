@@ -4,7 +4,7 @@ use Rattle.sat_base.specs.declared.literals.Lit.{Lit}
 use Rattle.sat_solve.specs.declared.trail.Entry.{Entry}
 use Rattle.sat_solve.specs.declared.trail.Truth.{Truth}
 use Rattle.sat_solve.specs.declared.trail.Truth.TheVariants.{True, False, Open}
-use Rattle.sat_solve.specs.Codes.{code_of}
+use Rattle.sat_base.specs.Codes.{code_of}
 use Rattle.sat_solve.specs.Trail.{sign_at, IsTrueIn, IsFalseIn}
 
 abbrev pub IsTruth : List Entry → Lit → Truth → Type 0

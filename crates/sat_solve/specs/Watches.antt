@@ -3,11 +3,12 @@ use Rattle.std.specs.Prelude.{◌≡◌, ◌≢◌, ℕ, ◌+◌, ◌-◌, ◌*�
 use Rattle.sat_base.specs.declared.literals.Lit.{Lit}
 use Rattle.sat_solve.specs.declared.trail.Entry.{Entry}
 use Rattle.sat_solve.specs.declared.lists.Watch.{Watch}
+use Rattle.sat_solve.specs.declared.pairs.Pair.{Pair}
 use Rattle.sat_solve.specs.declared.watches.Outcome.{Outcome}
 use Rattle.sat_solve.specs.declared.watches.Outcome.TheVariants.{Stays, Moved, Falsified}
 use Rattle.sat_solve.specs.Trail.{IsTrueIn, IsFalseIn, IsConflict}
 use Rattle.sat_solve.specs.Decisions.{IsDecisionAt}
-use Rattle.sat_solve.specs.Codes.{literal_of, code_of}
+use Rattle.sat_base.specs.Codes.{literal_of, code_of}
 use Rattle.sat_solve.specs.Held.{Held}
 
 -- a literal of the clause is true
@@ -85,9 +86,9 @@ IsLooked trail trail' held held' lists lists' code k Moved = (trail' ≡ trail) 
 IsLooked trail trail' held held' lists lists' code k Falsified =
     (held' ≡ held) × (lists' ≡ lists) × (trail' ≡ trail) × ((h : Held) → slice_get held k ≡ Some h → IsConflict trail h.lits)
 
--- a clause is added at the end, watched at two of its literals, each in the other's list
-pub record IsAdded (held held' : List Held) (lists lists' : List (List Watch)) (lits : List Lit) (first second : Lit) : Type 0 where
+-- a clause gets the next number and is watched at two literals, each in the other's list
+pub record IsAdded (pairs pairs' : List Pair) (lists lists' : List (List Watch)) (first second : Lit) : Type 0 where
   pub middle : List (List Watch)
-  pub held_is : held' ≡ held ++ record { lits = lits; first = code_of first; second = code_of second } ∷ []
-  pub middle_is : middle ≡ slice_set lists (code_of first) (slice_index_or lists (code_of first) [] ++ record { clause = length held; blocker = code_of second } ∷ [])
-  pub lists_are : lists' ≡ slice_set middle (code_of second) (slice_index_or middle (code_of second) [] ++ record { clause = length held; blocker = code_of first } ∷ [])
+  pub pairs_are : pairs' ≡ pairs ++ record { first = code_of first; second = code_of second } ∷ []
+  pub middle_is : middle ≡ slice_set lists (code_of first) (slice_index_or lists (code_of first) [] ++ record { clause = length pairs; blocker = code_of second } ∷ [])
+  pub lists_are : lists' ≡ slice_set middle (code_of second) (slice_index_or middle (code_of second) [] ++ record { clause = length pairs; blocker = code_of first } ∷ [])

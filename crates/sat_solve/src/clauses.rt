@@ -1,25 +1,30 @@
-//! The clauses by their numbers, as the search holds them: the formula's, then the lemmas.
+//! The clauses by their numbers: the formula's, then the lemmas.
 ghost use Rattle.std.specs.Prelude.{◌≡◌, ◌<◌, length, map, slice_get, Some, IfOk};
 ghost use Rattle.sat_solve.specs.State.{known_clauses};
-ghost use Rattle.sat_solve.specs.Codes.{literal_of};
+ghost use Rattle.sat_base.specs.Codes.{literal_of};
 
-use crate::arena::{Arena, Pair};
+use crate::arena::Arena;
 use sat_base::{Cnf, Log, NoMemory};
 use std::alloc::Global;
 
 /// The codes of the clause of this number: the formula's are counted from 0, and the lemmas go on from there.
 #[inline]
-pub fn clause<'a>(cnf: &Cnf, log: &Log, arena: &'a Arena, number: u64) -> &'a [u32]
+pub fn clause<'a>(cnf: &Cnf, log: &'a Log, arena: &'a Arena, number: u64) -> &'a [u32]
     requires number { number < length (known_clauses cnf.now log.now) }
-    requires holding { map (λ h. h.lits) arena.now ≡ known_clauses cnf.now log.now }
+    requires holding { arena.now ≡ cnf.now.clauses }
     ensures { slice_get (known_clauses cnf.now log.now) number ≡ Some (map literal_of result.now) }
 {
-    arena.codes(number as usize)
+    let place = number as usize;
+    let count = arena.len();
+    if place < count {
+        return arena.codes(place);
+    }
+    log.codes(place - count)
 }
 
-/// All clauses of a formula, which are watched at no literal of theirs.
+/// The formula's clauses.
 pub fn hold(alloc: Global, cnf: &Cnf) -> Result<Arena, NoMemory>
-    ensures { IfOk result (λ a. map (λ h. h.lits) a ≡ cnf.now.clauses) }
+    ensures { IfOk result (λ a. a ≡ cnf.now.clauses) }
 {
     // More variables would take more than 50 GiB.
     if cnf.vars() >= 1 << 31 {
@@ -28,11 +33,7 @@ pub fn hold(alloc: Global, cnf: &Cnf) -> Result<Arena, NoMemory>
     let mut arena = Arena::new(alloc);
     let clauses = cnf.clauses();
     for number in 0..clauses.len() {
-        let nowhere = Pair {
-            first: 0,
-            second: 0,
-        };
-        arena.push(clauses[number].as_slice(), nowhere)?;
+        arena.push(clauses[number].as_slice())?;
     }
     Ok(arena)
 }

@@ -40,7 +40,7 @@ pub fn explain(
     order: &mut Order,
 ) -> Result<Lesson, NoMemory>
     requires state { IsState cnf.now log.now trail.now }
-    requires holding { map (λ h. h.lits) arena.now ≡ known_clauses cnf.now log.now }
+    requires holding { arena.now ≡ cnf.now.clauses }
     requires conflict { IsConflictAt (known_clauses cnf.now log.now) trail.now.entries conflict }
     ensures known { IfOk result (λ s. IsClauseOver trail.now.vars s.lemma.lits) }
     ensures once { IfOk result (λ s. HasEachVariableOnce s.lemma.lits) }
@@ -76,7 +76,7 @@ fn bump(order: &mut Order, seen: &[u64]) {
 // The variables in the reasons of the lemma's literals have had a part in it too.
 fn bump_reasons(cnf: &Cnf, log: &Log, arena: &Arena, trail: &Trail, order: &mut Order, lits: &[Lit])
     requires state { IsState cnf.now log.now trail.now }
-    requires holding { map (λ h. h.lits) arena.now ≡ known_clauses cnf.now log.now }
+    requires holding { arena.now ≡ cnf.now.clauses }
 {
     for lit in lits {
         match trail.reason(lit.var) {
@@ -106,14 +106,11 @@ fn finish(walk: Walk, back: usize) -> Lesson
 {
     let Walk {
         marks: _,
-        mut lits,
+        lits,
         mut numbers,
         seen: _,
     } = walk;
     numbers.reverse();
-    // The log keeps them: without the room for more.
-    lits.shrink_to_fit();
-    numbers.shrink_to_fit();
     Lesson {
         lemma: Lemma {
             lits: Clause::from_vec(lits),
@@ -158,7 +155,7 @@ fn walk_below(
     base: usize,
 ) -> Result<usize, NoMemory>
     requires state { IsState cnf.now log.now trail.now }
-    requires holding { map (λ h. h.lits) arena.now ≡ known_clauses cnf.now log.now }
+    requires holding { arena.now ≡ cnf.now.clauses }
     requires start { start ≤ length trail.now.entries }
     requires walked { IsWalked (known_clauses cnf.now log.now) trail.now.entries trail.now.vars start walk.old.marks walk.old.lits.items walk.old.numbers.items }
     requires point { IsForcedFrom trail.now.entries start start start walk.old.lits.items }
@@ -219,12 +216,12 @@ pub fn learn(
     order: &mut Order,
     lesson: Lesson,
 ) -> Result<(), NoMemory>
-    requires search { IsSearch cnf.now log.old trail.old watches.old.arena watches.old.lists watches.old.head }
+    requires search { IsSearch cnf.now log.old trail.old watches.old.pairs watches.old.lists watches.old.head }
     requires known { IsClauseOver trail.old.vars lesson.lemma.lits }
     requires once { HasEachVariableOnce lesson.lemma.lits }
     requires follows { Follows (known_clauses cnf.now log.old) lesson.lemma.lits lesson.lemma.hints }
     requires taught { IsLesson (known_clauses cnf.now log.old) trail.old.entries lesson.lemma.lits lesson.back }
-    ensures search { OnOk result (IsSearch cnf.now log.new trail.new watches.new.arena watches.new.lists watches.new.head) }
+    ensures search { OnOk result (IsSearch cnf.now log.new trail.new watches.new.pairs watches.new.lists watches.new.head) }
     ensures longer { OnOk result (length log.new ≡ length log.old + 1) }
 {
     let number = (cnf.clauses().len() + log.len()) as u64;
@@ -239,7 +236,7 @@ pub fn learn(
         lit: first,
         reason: Some(number),
     })?;
-    add(watches, lits, first, second)?;
+    add(watches, first, second)?;
     log.push(lesson.lemma)?;
     Ok(())
 }
@@ -247,7 +244,7 @@ pub fn learn(
 /// Takes this many entries off.
 pub fn back_up(watches: &mut Watches, trail: &mut Trail, order: &mut Order, count: usize)
     ensures trail { trail.new ≡ record { vars = trail.old.vars; entries = drop count trail.old.entries } }
-    ensures watches { watches.new ≡ record { arena = watches.old.arena; lists = watches.old.lists; head = length (drop count trail.old.entries) } }
+    ensures watches { watches.new ≡ record { pairs = watches.old.pairs; lists = watches.old.lists; head = length (drop count trail.old.entries) } }
 {
     for _ in 0..count {
         match trail.pop() {

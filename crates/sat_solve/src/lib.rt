@@ -6,13 +6,13 @@ pub use solver::{Answer, solve};
 
 mod arena;
 mod clauses;
-mod codes;
 mod learning;
 mod lists;
 mod marks;
 mod minimizing;
 mod order;
 mod pace;
+mod pairs;
 mod solver;
 mod trail;
 mod walk;

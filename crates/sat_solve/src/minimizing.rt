@@ -43,7 +43,7 @@ impl Minimizer {
         var: u64,
     ) -> bool
         requires state { IsState cnf.now log.now trail.now }
-        requires holding { map (λ h. h.lits) arena.now ≡ known_clauses cnf.now log.now }
+        requires holding { arena.now ≡ cnf.now.clauses }
         requires sized { length marks.now ≡ trail.now.vars }
     {
         self.are_implied(cnf, log, arena, trail, marks, var, DEPTH)
@@ -62,7 +62,7 @@ impl Minimizer {
         depth: u32,
     ) -> bool
         requires state { IsState cnf.now log.now trail.now }
-        requires holding { map (λ h. h.lits) arena.now ≡ known_clauses cnf.now log.now }
+        requires holding { arena.now ≡ cnf.now.clauses }
         requires sized { length marks.now ≡ trail.now.vars }
     {
         match trail.reason(var) {
@@ -99,7 +99,7 @@ impl Minimizer {
         depth: u32,
     ) -> bool
         requires state { IsState cnf.now log.now trail.now }
-        requires holding { map (λ h. h.lits) arena.now ≡ known_clauses cnf.now log.now }
+        requires holding { arena.now ≡ cnf.now.clauses }
         requires sized { length marks.now ≡ trail.now.vars }
     {
         let found = match self.found.get(var as usize) {

@@ -70,25 +70,17 @@ fn search(
     mut trail: Trail,
     mut order: Order,
 ) -> Result<Answer, NoMemory>
-    requires { IsSearch cnf.now [] trail watches.arena watches.lists watches.head }
+    requires { IsSearch cnf.now [] trail watches.pairs watches.lists watches.head }
     ensures { IfOk result (IsRightAnswer cnf.now budget) }
 {
+    let arena = hold(alloc, cnf)?;
     let mut log = Log::new(alloc);
     let mut pace = Pace::new();
     let mut base = 0;
     loop {
-        match propagate(alloc, cnf, &log, &mut watches, &mut trail)? {
+        match propagate(alloc, cnf, &log, &arena, &mut watches, &mut trail)? {
             Some(conflict) => {
-                let lesson = explain(
-                    alloc,
-                    cnf,
-                    &log,
-                    &watches.arena,
-                    &trail,
-                    conflict,
-                    base,
-                    &mut order,
-                )?;
+                let lesson = explain(alloc, cnf, &log, &arena, &trail, conflict, base, &mut order)?;
                 if lesson.lemma.lits.is_empty() {
                     log.push(lesson.lemma)?;
                     return Ok(Answer::Refuted(log));
@@ -185,8 +177,8 @@ fn restart(
     order: &mut Order,
     base: usize,
 )
-    requires { IsSearch cnf.now log.now trail.old watches.old.arena watches.old.lists watches.old.head }
-    ensures { IsSearch cnf.now log.now trail.new watches.new.arena watches.new.lists watches.new.head }
+    requires { IsSearch cnf.now log.now trail.old watches.old.pairs watches.old.lists watches.old.head }
+    ensures { IsSearch cnf.now log.now trail.new watches.new.pairs watches.new.lists watches.new.head }
 {
     let keep = reused(trail, order, base);
     let count = trail.len();

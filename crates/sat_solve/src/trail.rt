@@ -1,7 +1,7 @@
 //! The trail: the literals that are true, in the order in which they became so, with their reasons.
 ghost use Rattle.std.specs.Prelude.{◌≡◌, ℕ, ◌+◌, ◌*◌, ◌<◌, ◌≤◌, [], ◌∷◌, length, IfOk, OnOk, IfSome, IfNone, MatchOption, IsSome, slice_get, slice_index_or, not, Bool, false, true};
 ghost use Rattle.sat_solve.specs.Trail.{sign_at};
-ghost use Rattle.sat_solve.specs.Codes.{literal_of};
+ghost use Rattle.sat_base.specs.Codes.{literal_of};
 ghost use Rattle.sat_solve.specs.Truth.{IsTruth, truth_by, with_pair};
 ghost use Rattle.sat_solve.specs.Decisions.{IsReasonIn};
 

@@ -36,7 +36,7 @@ pub fn begin(
     conflict: u64,
 ) -> Result<Walk, NoMemory>
     requires state { IsState cnf.now log.now trail.now }
-    requires holding { map (λ h. h.lits) arena.now ≡ known_clauses cnf.now log.now }
+    requires holding { arena.now ≡ cnf.now.clauses }
     requires conflict { IsConflictAt (known_clauses cnf.now log.now) trail.now.entries conflict }
     ensures walked { IfOk result (λ w. IsWalked (known_clauses cnf.now log.now) trail.now.entries trail.now.vars 0 w.marks w.lits.items w.numbers.items) }
     ensures lits { IfOk result (λ w. w.lits.items ≡ []) }
@@ -98,7 +98,7 @@ pub fn expand(
     reason: u64,
 ) -> Result<(), NoMemory>
     requires state { IsState cnf.now log.now trail.now }
-    requires holding { map (λ h. h.lits) arena.now ≡ known_clauses cnf.now log.now }
+    requires holding { arena.now ≡ cnf.now.clauses }
     requires reason { (e : Entry) × (slice_get trail.now.entries k ≡ Some e) × (e.reason ≡ Some reason) }
     requires walked { IsWalked (known_clauses cnf.now log.now) trail.now.entries trail.now.vars k walk.old.marks walk.old.lits.items walk.old.numbers.items }
     ensures walked { OnOk result (IsWalked (known_clauses cnf.now log.now) trail.now.entries trail.now.vars (k + 1) walk.new.marks walk.new.lits.items walk.new.numbers.items) }
@@ -123,7 +123,7 @@ pub fn step(
     implied: bool,
 ) -> Result<(), NoMemory>
     requires state { IsState cnf.now log.now trail.now }
-    requires holding { map (λ h. h.lits) arena.now ≡ known_clauses cnf.now log.now }
+    requires holding { arena.now ≡ cnf.now.clauses }
     requires place { k < length trail.now.entries }
     requires walked { IsWalked (known_clauses cnf.now log.now) trail.now.entries trail.now.vars k walk.old.marks walk.old.lits.items walk.old.numbers.items }
     ensures walked { OnOk result (IsWalked (known_clauses cnf.now log.now) trail.now.entries trail.now.vars (k + 1) walk.new.marks walk.new.lits.items walk.new.numbers.items) }
@@ -167,7 +167,7 @@ pub fn walk_all(
     walk: &mut Walk,
 ) -> Result<(), NoMemory>
     requires state { IsState cnf.now log.now trail.now }
-    requires holding { map (λ h. h.lits) arena.now ≡ known_clauses cnf.now log.now }
+    requires holding { arena.now ≡ cnf.now.clauses }
     requires undecided { IsUndecided trail.now.entries 0 (length trail.now.entries) }
     requires walked { IsWalked (known_clauses cnf.now log.now) trail.now.entries trail.now.vars 0 walk.old.marks walk.old.lits.items walk.old.numbers.items }
     requires lits { walk.old.lits.items ≡ [] }
@@ -205,7 +205,7 @@ pub fn walk_to_point(
     start: usize,
 ) -> Result<usize, NoMemory>
     requires state { IsState cnf.now log.now trail.now }
-    requires holding { map (λ h. h.lits) arena.now ≡ known_clauses cnf.now log.now }
+    requires holding { arena.now ≡ cnf.now.clauses }
     requires level { IsBelowLevel trail.now.entries start }
     requires walked { IsWalked (known_clauses cnf.now log.now) trail.now.entries trail.now.vars 0 walk.old.marks walk.old.lits.items walk.old.numbers.items }
     requires lits { walk.old.lits.items ≡ [] }

@@ -3,24 +3,24 @@ ghost use Rattle.std.specs.Prelude.{true, false, ◌≡◌, ◌≢◌, ℕ, ◌+
 ghost use Rattle.sat_solve.specs.Trail.{IsFalseIn, IsClosed};
 ghost use Rattle.sat_solve.specs.State.{known_clauses, IsState};
 ghost use Rattle.sat_solve.specs.Found.{IsConflictAt};
-ghost use Rattle.sat_solve.specs.Codes.{literal_of, code_of};
+ghost use Rattle.sat_base.specs.Codes.{literal_of, code_of};
 ghost use Rattle.sat_base.specs.declared.literals.Lit.{Lit};
 ghost use Rattle.sat_solve.specs.Decisions.{IsUndecided};
 ghost use Rattle.sat_solve.specs.Watches.{IsFitting, IsLooked, IsPairedAt, IsAdded};
-ghost use Rattle.sat_solve.specs.Search.{IsSearch, IsNext, IsLoaded};
+ghost use Rattle.sat_solve.specs.Search.{held_of, IsSearch, IsNext, IsLoaded};
 
-use crate::arena::{Arena, Pair};
-use crate::codes::{decode, encode};
+use crate::arena::Arena;
+use crate::clauses::clause;
 use crate::lists::{Lists, Watch};
+use crate::pairs::{Pair, Pairs};
 use crate::trail::{Entry, Trail, Truth};
-use sat_base::{Cnf, Lit, Log, NoMemory};
+use sat_base::{Cnf, Lit, Log, NoMemory, decode, encode};
 use std::alloc::Global;
 
-/// The clauses with their watches, and how many entries of the trail, the oldest first, have been gone
-/// over.
+/// The watches of the clauses, and how many entries of the trail, the oldest first, have been gone over.
 #[derive(Drop)]
 pub struct Watches {
-    pub arena: Arena,
+    pub pairs: Pairs,
     pub lists: Lists,
     pub head: usize,
 }
@@ -86,19 +86,22 @@ fn replacement(trail: &Trail, codes: &[u32], other: u32, from: u32) -> Option<Fo
 fn look(
     cnf: &Cnf,
     log: &Log,
+    arena: &Arena,
     watches: &mut Watches,
     trail: &mut Trail,
     code: u32,
     watch: Watch,
 ) -> Result<Outcome, NoMemory>
     requires state { IsState cnf.now log.now trail.old }
-    requires lits { map (λ h. h.lits) watches.old.arena ≡ known_clauses cnf.now log.now }
+    requires holding { arena.now ≡ cnf.now.clauses }
+    requires lits { map (λ h. h.lits) (held_of cnf.now log.now watches.old.pairs) ≡ known_clauses cnf.now log.now }
     requires sized { length watches.old.lists ≡ 2 * trail.old.vars }
-    requires fitting { IsFitting watches.old.arena watch }
-    requires paired { IsPairedAt watches.old.arena watch.clause }
+    requires fitting { IsFitting (held_of cnf.now log.now watches.old.pairs) watch }
+    requires paired { IsPairedAt (held_of cnf.now log.now watches.old.pairs) watch.clause }
     requires falsified { IsFalseIn trail.old.entries (literal_of code) }
     ensures state { OnOk result (IsState cnf.now log.now trail.new) }
-    ensures looked { IfOk result (IsLooked trail.old.entries trail.new.entries watches.old.arena watches.new.arena watches.old.lists watches.new.lists code watch.clause) }
+    ensures looked { IfOk result (IsLooked trail.old.entries trail.new.entries (held_of cnf.now log.now watches.old.pairs) (held_of cnf.now log.now watches.new.pairs) watches.old.lists watches.new.lists code watch.clause) }
+    ensures sized { OnOk result (length watches.new.pairs ≡ length watches.old.pairs) }
     ensures head { OnOk result (watches.new.head ≡ watches.old.head) }
 {
     match trail.truth(watch.blocker) {
@@ -106,7 +109,7 @@ fn look(
         _ => {}
     }
     let number = watch.clause as usize;
-    let pair = watches.arena.pair(number);
+    let pair = watches.pairs.pair(number);
     let other = if pair.first == code {
         pair.second
     } else {
@@ -121,8 +124,9 @@ fn look(
         Truth::True => return Ok(Outcome::Stays(stays)),
         _ => {}
     }
-    let from = watches.arena.from(number);
-    match replacement(trail, watches.arena.codes(number), other, from) {
+    let codes = clause(cnf, log, arena, watch.clause as u64);
+    let from = watches.pairs.from(number);
+    match replacement(trail, codes, other, from) {
         Some(next) => {
             // A true literal need not be watched: it will do as the blocker.
             match trail.truth(next.code) {
@@ -135,7 +139,7 @@ fn look(
                 _ => {}
             }
             watches.lists.push(next.code, stays)?;
-            watches.arena.watch_at(
+            watches.pairs.watch_at(
                 number,
                 Pair {
                     first: other,
@@ -165,16 +169,18 @@ fn visit(
     alloc: Global,
     cnf: &Cnf,
     log: &Log,
+    arena: &Arena,
     watches: &mut Watches,
     trail: &mut Trail,
     code: u32,
 ) -> Result<Option<u64>, NoMemory>
-    requires search { IsSearch cnf.now log.now trail.old watches.old.arena watches.old.lists watches.old.head }
+    requires search { IsSearch cnf.now log.now trail.old watches.old.pairs watches.old.lists watches.old.head }
+    requires holding { arena.now ≡ cnf.now.clauses }
     requires next { IsNext trail.old.entries watches.old.head code }
     requires code { code < length watches.old.lists }
     ensures found { IfOk result (λ r. MatchOption r
-        (IsSearch cnf.now log.now trail.new watches.new.arena watches.new.lists (watches.new.head + 1))
-        (λ n. IsSearch cnf.now log.now trail.new watches.new.arena watches.new.lists watches.new.head
+        (IsSearch cnf.now log.now trail.new watches.new.pairs watches.new.lists (watches.new.head + 1))
+        (λ n. IsSearch cnf.now log.now trail.new watches.new.pairs watches.new.lists watches.new.head
         × IsConflictAt (known_clauses cnf.now log.now) trail.new.entries n)) }
     ensures head { OnOk result (watches.new.head ≡ watches.old.head) }
     ensures grown { OnOk result (length trail.old.entries ≤ length trail.new.entries) }
@@ -184,7 +190,7 @@ fn visit(
     while rest > 0 {
         rest -= 1;
         let watch = list[rest];
-        match look(cnf, log, watches, trail, code, watch)? {
+        match look(cnf, log, arena, watches, trail, code, watch)? {
             Outcome::Stays(stays) => list[rest] = stays,
             Outcome::Moved => {
                 let _ = list.swap_remove(rest);
@@ -205,11 +211,13 @@ pub fn propagate(
     alloc: Global,
     cnf: &Cnf,
     log: &Log,
+    arena: &Arena,
     watches: &mut Watches,
     trail: &mut Trail,
 ) -> Result<Option<u64>, NoMemory>
-    requires search { IsSearch cnf.now log.now trail.old watches.old.arena watches.old.lists watches.old.head }
-    ensures search { OnOk result (IsSearch cnf.now log.now trail.new watches.new.arena watches.new.lists watches.new.head) }
+    requires search { IsSearch cnf.now log.now trail.old watches.old.pairs watches.old.lists watches.old.head }
+    requires holding { arena.now ≡ cnf.now.clauses }
+    ensures search { OnOk result (IsSearch cnf.now log.now trail.new watches.new.pairs watches.new.lists watches.new.head) }
     ensures grown { OnOk result (length trail.old.entries ≤ length trail.new.entries) }
     ensures found { IfOk result (λ r. MatchOption r
         (IsClosed (known_clauses cnf.now log.now) trail.new.entries × (watches.new.head ≡ length trail.new.entries))
@@ -218,7 +226,7 @@ pub fn propagate(
     while watches.head < trail.len() {
         let entry = trail.newest(trail.len() - 1 - watches.head);
         let code = encode(entry.lit.negated());
-        match visit(alloc, cnf, log, watches, trail, code)? {
+        match visit(alloc, cnf, log, arena, watches, trail, code)? {
             Some(number) => return Ok(Some(number)),
             None => watches.head += 1,
         }
@@ -232,7 +240,7 @@ pub fn load(alloc: Global, cnf: &Cnf, trail: &mut Trail) -> Result<(Watches, Opt
     requires state { IsState cnf.now [] trail.old }
     requires empty { trail.old.entries ≡ [] }
     ensures found { IfOk result (λ r. MatchOption r.1
-        (IsSearch cnf.now [] trail.new r.0.arena r.0.lists r.0.head)
+        (IsSearch cnf.now [] trail.new r.0.pairs r.0.lists r.0.head)
         (λ n. IsState cnf.now [] trail.new × IsConflictAt (known_clauses cnf.now []) trail.new.entries n)) }
     ensures undecided { OnOk result (IsUndecided trail.new.entries 0 (length trail.new.entries)) }
 {
@@ -241,7 +249,7 @@ pub fn load(alloc: Global, cnf: &Cnf, trail: &mut Trail) -> Result<(Watches, Opt
         return Err(NoMemory);
     }
     let mut watches = Watches {
-        arena: Arena::new(alloc),
+        pairs: Pairs::new(alloc),
         lists: Lists::new(alloc, 2 * cnf.vars() as usize)?,
         head: 0,
     };
@@ -261,9 +269,9 @@ fn load_clause(
     trail: &mut Trail,
     number: u64,
 ) -> Result<bool, NoMemory>
-    requires loaded { IsLoaded cnf.now trail.old watches.old.arena watches.old.lists watches.old.head number }
+    requires loaded { IsLoaded cnf.now trail.old watches.old.pairs watches.old.lists watches.old.head number }
     requires number { number < length cnf.now.clauses }
-    ensures added { IfOk result (λ b. b ≡ false → IsLoaded cnf.now trail.new watches.new.arena watches.new.lists watches.new.head (number + 1)) }
+    ensures added { IfOk result (λ b. b ≡ false → IsLoaded cnf.now trail.new watches.new.pairs watches.new.lists watches.new.head (number + 1)) }
     ensures found { IfOk result (λ b. b ≡ true → IsState cnf.now [] trail.new × IsUndecided trail.new.entries 0 (length trail.new.entries) × IsConflictAt (known_clauses cnf.now []) trail.new.entries number) }
 {
     let lits = cnf.clauses()[number as usize].as_slice();
@@ -273,7 +281,7 @@ fn load_clause(
     let first = lits[0];
     match other_literal(lits, first) {
         Some(second) => {
-            add(watches, lits, first, second)?;
+            add(watches, first, second)?;
             Ok(false)
         }
         None => match trail.sign(first.var) {
@@ -281,7 +289,7 @@ fn load_clause(
                 if sign != first.negative {
                     return Ok(true);
                 }
-                add(watches, lits, first, first)?;
+                add(watches, first, first)?;
                 Ok(false)
             }
             None => {
@@ -289,7 +297,7 @@ fn load_clause(
                     lit: first,
                     reason: Some(number),
                 })?;
-                add(watches, lits, first, first)?;
+                add(watches, first, first)?;
                 Ok(false)
             }
         },
@@ -309,16 +317,15 @@ fn other_literal(lits: &[Lit], first: Lit) -> Option<Lit>
 }
 
 /// Adds a clause that is watched at these two literals, which are one where it has no other.
-pub fn add(watches: &mut Watches, lits: &[Lit], first: Lit, second: Lit) -> Result<(), NoMemory>
-    requires small { All (λ l. l.var < 2 ^ 31) lits.now }
-    requires first { Contains lits.now first }
-    requires second { Contains lits.now second }
-    requires lists { All (λ l. 2 * l.var + 1 < length watches.old.lists) lits.now }
-    ensures added { OnOk result (IsAdded watches.old.arena watches.new.arena watches.old.lists watches.new.lists lits.now first second) }
+pub fn add(watches: &mut Watches, first: Lit, second: Lit) -> Result<(), NoMemory>
+    requires few { length watches.old.lists ≤ 2 ^ 32 }
+    requires first { 2 * first.var + 1 < length watches.old.lists }
+    requires second { 2 * second.var + 1 < length watches.old.lists }
+    ensures added { OnOk result (IsAdded watches.old.pairs watches.new.pairs watches.old.lists watches.new.lists first second) }
     ensures head { OnOk result (watches.new.head ≡ watches.old.head) }
 {
-    let number = watches.arena.len();
-    // More clauses would take more than 64 GiB.
+    let number = watches.pairs.len();
+    // More clauses would take more than 48 GiB.
     if number >= u32::MAX as usize {
         return Err(NoMemory);
     }
@@ -327,7 +334,7 @@ pub fn add(watches: &mut Watches, lits: &[Lit], first: Lit, second: Lit) -> Resu
         first: encode(first),
         second: encode(second),
     };
-    watches.arena.push(lits, pair)?;
+    watches.pairs.push(pair)?;
     let at_first = Watch {
         clause,
         blocker: pair.second,

@@ -1,4 +1,5 @@
 //! Logs as rows write them: steps with `;` between them, each its literals, `by`, and its hints.
+ghost use Rattle.std.specs.Prelude.{◌<◌, length};
 
 use crate::formulas::{count, formula, literal};
 use crate::rows::halves;
@@ -55,11 +56,11 @@ fn log_of_lists(alloc: Global, text: &str) -> Option<Log> {
     let lemma = step(alloc, text)?;
     let hints = Hints::from_vec(Vec::from_slice(alloc, lemma.hints.as_slice()).ok()?);
     let lits = lemma.lits;
-    let mut steps = Vec::new(alloc);
-    if steps.push(Lemma { lits, hints }).is_err() {
+    let mut log = Log::new(alloc);
+    if log.push(Lemma { lits, hints }).is_err() {
         return None;
     }
-    Some(Log::from_vec(steps))
+    Some(log)
 }
 
 fn add_lit(alloc: Global, lit: Lit, out: &mut Sheet) {
@@ -68,12 +69,17 @@ fn add_lit(alloc: Global, lit: Lit, out: &mut Sheet) {
     out.add(" ");
 }
 
-fn add_step(alloc: Global, lemma: &Lemma, out: &mut Sheet) {
-    for lit in lemma.lits.as_slice() {
+fn add_step(alloc: Global, log: &Log, step: usize, out: &mut Sheet)
+    requires { step < length log.now }
+{
+    let Ok(lits) = log.lits(alloc, step) else {
+        return out.add("no memory");
+    };
+    for lit in lits.as_slice() {
         add_lit(alloc, *lit, out);
     }
     out.add("by");
-    for hint in lemma.hints.as_slice() {
+    for hint in log.hints(step) {
         out.add(" ");
         out.add_number(alloc, u128::from(*hint));
     }
@@ -90,9 +96,9 @@ pub fn add_log(alloc: Global, kind: &str, text: &str, out: &mut Sheet) {
         return out.add("no log");
     };
     out.add_number(alloc, log.len() as u128);
-    for lemma in log.as_slice() {
+    for step in 0..log.len() {
         out.add("; ");
-        add_step(alloc, lemma, out);
+        add_step(alloc, &log, step, out);
     }
 }
 

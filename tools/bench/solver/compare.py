@@ -4,7 +4,8 @@
     compare.py PROGRAM FOLDER
 
 Times are processor seconds of one run, and so is the limit; of the solver only what `solve` takes, by the clock, is
-printed beside. "Constrained" is cadical without simplifying and without forgetting, as this solver has to be. Memory is the greatest resident set."""
+printed beside. "Constrained" is cadical without simplifying and without forgetting, as this solver has to be. Memory is the greatest resident
+set of another run, in which the log is not checked; "rest" is that less the log, by minisat's."""
 import math
 import pathlib
 import re
@@ -43,24 +44,26 @@ def run(words):
 
 def main():
     program, folder = sys.argv[1:]
-    print("| formula | answer | lemmas | solve | check | minisat | ratio | cadical | constrained | picosat | MB | log MB | minisat MB |")
-    print("|---|---|---|---|---|---|---|---|---|---|---|---|---|")
+    print("| formula | answer | lemmas | solve | check | minisat | ratio | cadical | constrained | picosat | MB | log MB | minisat MB | rest |")
+    print("|---|---|---|---|---|---|---|---|---|---|---|---|---|---|")
     ratios = []
     for path in sorted(pathlib.Path(folder).glob("*.cnf")):
-        seconds, memory, text = run([program, str(path)])
+        seconds, _, text = run([program, str(path)])
+        _, memory, _ = run([program, str(path), "100000000", "alone"])
         facts = dict(re.findall(r"(\w+)=(\S+)", text))
         others = {name: run([*words, str(path)]) for name, words in OTHERS.items()}
         check = float(facts.get("check", 0))
         wall = float(facts.get("s", LIMIT))
         # The program's processor time is of reading, solving and checking; the clock says how it is divided.
         own = seconds * wall / (wall + check) if wall + check > 0 else seconds
-        log = (16 * int(facts.get("lits", 0)) + 8 * int(facts.get("hints", 0)) + 64 * int(facts.get("lemmas", 0))) / 1e6
+        log = (4 * int(facts.get("lits", 0)) + 4 * int(facts.get("hints", 0)) + 16 * int(facts.get("lemmas", 0))) / 1e6
+        rest = (memory / 1000 - log) / (others["minisat"][1] / 1000)
         ratio = max(own, 0.005) / max(others["minisat"][0], 0.005)
         ratios.append((ratio, path.stem))
         print(
             f"| {path.stem} | {text.split()[0] if text.split() else 'none'} | {facts.get('lemmas', '')} | {own:.2f} | {seconds - own:.2f} | "
             f"{others['minisat'][0]:.2f} | {ratio:.2f} | {others['cadical'][0]:.2f} | {others['constrained'][0]:.2f} | "
-            f"{others['picosat'][0]:.2f} | {memory / 1000:.0f} | {log:.0f} | {others['minisat'][1] / 1000:.0f} |",
+            f"{others['picosat'][0]:.2f} | {memory / 1000:.0f} | {log:.0f} | {others['minisat'][1] / 1000:.0f} | {rest:.1f} |",
             flush=True,
         )
     mean = math.exp(sum(math.log(r) for r, _ in ratios) / len(ratios))

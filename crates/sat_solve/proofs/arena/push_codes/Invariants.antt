@@ -1,5 +1,5 @@
 use Rattle.std.proofs.Common.{◌≡◌, ◌≤◌, ◌++◌, length, map, take}
-use Rattle.sat_solve.specs.Codes.{code_of}
+use Rattle.sat_base.specs.Codes.{code_of}
 use Rattle.sat_solve.proofs.arena.push_codes.Given as goal
 
 abbrev pub invariant-loop-lit : goal.invariant-loop-lit

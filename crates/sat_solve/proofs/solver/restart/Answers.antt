@@ -14,6 +14,6 @@ returns-then-is_none c =
     let count = c.len-count.result - c.reused-keep.result in
     let is : count ≡ place + 1 = omega (arith, c.if-keep-count.true) in
     let decided : IsDecisionAt trail.entries place = (c.newest.result, c.newest.ensures.value, decided_by c.newest.result.reason (c.is_none.ensures ∙ ap not c.if-is_none.true)) in
-    let back = IsSearch-back c.args.cnf.now c.args.log.now trail old.arena old.lists old.head count place is decided c.requires in
-    subst (λ (t : TrailView). IsSearch c.args.cnf.now c.args.log.now t c.back_up.new.watches.arena c.back_up.new.watches.lists c.back_up.new.watches.head) (sym c.back_up.ensures.trail)
-    (subst (λ (w : Watches). IsSearch c.args.cnf.now c.args.log.now record { vars = trail.vars; entries = drop count trail.entries } w.arena w.lists w.head) (sym c.back_up.ensures.watches) back)
+    let back = IsSearch-back c.args.cnf.now c.args.log.now trail old.pairs old.lists old.head count place is decided c.requires in
+    subst (λ (t : TrailView). IsSearch c.args.cnf.now c.args.log.now t c.back_up.new.watches.pairs c.back_up.new.watches.lists c.back_up.new.watches.head) (sym c.back_up.ensures.trail)
+    (subst (λ (w : Watches). IsSearch c.args.cnf.now c.args.log.now record { vars = trail.vars; entries = drop count trail.entries } w.pairs w.lists w.head) (sym c.back_up.ensures.watches) back)

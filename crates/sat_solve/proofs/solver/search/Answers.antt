@@ -68,9 +68,9 @@ loop-log-preserved c =
     let ended = closed_here (goal.at.loop-log-preserved c).In-None in
     let after : c.push-in-Some-decide.new.self ≡ record { vars = trail.vars; entries = record { lit = c.in-Some-decide.lit; reason = None } ∷ trail.entries } = c.in_ok-push-in-Some-decide.ensures.after in
     let short : length trail.entries < trail.vars = subst (λ (t : TrailView). length t.entries ≤ t.vars) after c.in_ok-push-in-Some-decide.ensures.small in
-    let next = IsSearch-decided f log trail c.propagate.new.watches.arena c.propagate.new.watches.lists c.propagate.new.watches.head c.in-Some-decide.lit c.in_ok-conflict.ensures.search ended.0 ended.1 (c.in-Some-decide.ensures).1 short in
+    let next = IsSearch-decided f log trail c.propagate.new.watches.pairs c.propagate.new.watches.lists c.propagate.new.watches.head c.in-Some-decide.lit c.in_ok-conflict.ensures.search ended.0 ended.1 (c.in-Some-decide.ensures).1 short in
     record {
-      search = subst (λ (t : TrailView). IsSearch f log t c.propagate.new.watches.arena c.propagate.new.watches.lists c.propagate.new.watches.head) (sym after) next;
+      search = subst (λ (t : TrailView). IsSearch f log t c.propagate.new.watches.pairs c.propagate.new.watches.lists c.propagate.new.watches.head) (sym after) next;
       within = c.loop-log.invariant.within;
       restarts = omega (arith, c.is_due.ensures.kept c.if-is_due.false, c.loop-log.invariant.restarts);
     }

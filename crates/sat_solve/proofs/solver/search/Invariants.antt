@@ -4,7 +4,7 @@ use Rattle.sat_solve.proofs.solver.search.Given as goal
 
 abbrev pub invariant-loop-log : goal.invariant-loop-log
 invariant-loop-log l = record {
-  search : IsSearch l.cnf l.log l.trail l.watches.arena l.watches.lists l.watches.head;
+  search : IsSearch l.cnf l.log l.trail l.watches.pairs l.watches.lists l.watches.head;
   within : length l.log ≤ l.budget;
   restarts : l.pace.restarts ≤ length l.log;
 }

@@ -1,10 +1,10 @@
 use Rattle.std.proofs.Common.{◌≡◌, length, map, true, ap, ◌∙◌, arith}
 use Rattle.std.proofs.lemmas.List.{length-replicate}
 use Rattle.std.proofs.Common.{false, Bool, List}
-use Rattle.sat_solve.specs.Codes.{literal_of}
+use Rattle.sat_base.specs.Codes.{literal_of}
 use Rattle.sat_solve.specs.State.{known_clauses}
 use Rattle.sat_solve.specs.Walk.{is_marked}
-use Rattle.sat_solve.proofs.CodeLemmas.{codes_all}
+use Rattle.sat_base.proofs.CodeLemmas.{codes_all}
 use Rattle.sat_solve.proofs.StateLemmas.{code_over}
 use Rattle.sat_solve.proofs.Walks.{IsWalked-start}
 use Rattle.sat_solve.proofs.walk.begin.Goals as goal

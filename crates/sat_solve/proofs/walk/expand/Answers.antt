@@ -3,10 +3,10 @@ use Rattle.std.proofs.lemmas.List.{length-set, get_or-set_other}
 use Rattle.std.proofs.lemmas.Option.{slice_get_within}
 use Rattle.sat_solve.specs.declared.trail.Entry.{Entry}
 use Rattle.sat_solve.specs.State.{known_clauses}
-use Rattle.sat_solve.specs.Codes.{literal_of}
+use Rattle.sat_base.specs.Codes.{literal_of}
 use Rattle.sat_solve.specs.Walk.{is_marked, IsWalked}
 use Rattle.sat_solve.proofs.Places.{reason_within}
-use Rattle.sat_solve.proofs.CodeLemmas.{codes_all}
+use Rattle.sat_base.proofs.CodeLemmas.{codes_all}
 use Rattle.sat_solve.proofs.StateLemmas.{code_over}
 use Rattle.sat_solve.proofs.Walks.{IsWalked-expanded}
 use Rattle.sat_solve.proofs.walk.expand.Goals as goal

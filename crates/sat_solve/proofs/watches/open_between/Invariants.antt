@@ -1,6 +1,6 @@
 use Rattle.std.proofs.Common.{◌≡◌, ◌<◌, ◌≤◌, ◌⊎◌, ℕ, get_or}
 use Rattle.sat_solve.specs.Trail.{IsFalseIn}
-use Rattle.sat_solve.specs.Codes.{literal_of}
+use Rattle.sat_base.specs.Codes.{literal_of}
 use Rattle.sat_solve.proofs.watches.open_between.Given as goal
 
 abbrev pub invariant-loop-at : goal.invariant-loop-at

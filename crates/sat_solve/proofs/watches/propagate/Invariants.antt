@@ -4,7 +4,7 @@ use Rattle.sat_solve.proofs.watches.propagate.Given as goal
 
 abbrev pub invariant-loop-watches : goal.invariant-loop-watches
 invariant-loop-watches l = record {
-  search : IsSearch l.cnf l.log l.trail l.watches.arena l.watches.lists l.watches.head;
+  search : IsSearch l.cnf l.log l.trail l.watches.pairs l.watches.lists l.watches.head;
   grown : length l.initial.trail.entries ≤ length l.trail.entries;
 }
 

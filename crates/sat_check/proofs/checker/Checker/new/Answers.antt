@@ -9,4 +9,4 @@ add_clauses-requires-clause-known c =
 
 pub add_lemmas-requires-clause-known : goal.add_lemmas-requires-clause-known
 add_lemmas-requires-clause-known c =
-    subst (λ (v : List ℕ). HasVariables v (map (λ (s : Lemma). s.lits) c.as_slice-lemmas.result.now)) (sym c.as_slice-2.ensures.value) c.in_ok-variables.ensures.lemmas
+    subst (λ (v : List ℕ). HasVariables v (map (λ (s : Lemma). s.lits) c.args.log.now)) (sym c.as_slice-2.ensures.value) c.in_ok-variables.ensures.lemmas

@@ -1,8 +1,8 @@
-//! Literals as numbers of 32 bits, by which the search keeps them.
+//! Literals as numbers of 32 bits: twice the variable, and one more for its negation.
 ghost use Rattle.std.specs.Prelude.{◌≡◌, ◌^◌, ◌<◌};
-ghost use Rattle.sat_solve.specs.Codes.{code_of, literal_of};
+ghost use Rattle.sat_base.specs.Codes.{code_of, literal_of};
 
-use sat_base::Lit;
+use crate::literals::Lit;
 
 /// The number of a literal.
 #[inline]

@@ -4,8 +4,10 @@ use Rattle.std.specs.List.{Contains}
 use Rattle.std.proofs.lemmas.List.{get_or-map, length-map}
 use Rattle.std.proofs.lemmas.Bool.{eqb-true, eq-eqb, cases_eq}
 use Rattle.sat_base.specs.declared.literals.Lit.{Lit}
-use Rattle.sat_solve.specs.Codes.{code_of, literal_of}
-use Rattle.sat_solve.proofs.Signs.{same_lit}
+use Rattle.sat_base.specs.Codes.{code_of, literal_of}
+
+pub same_lit : (x y : Lit) → x.var ≡ y.var → x.negative ≡ y.negative → x ≡ y
+same_lit x y e f = let mk : ℕ → Bool → Lit = λ v b. record { var = v; negative = b } in ap (λ v. mk v x.negative) e ∙ ap (λ b. mk y.var b) f
 
 half : (v : ℕ) (b : Bool) → (2 * v + cond b 1 0) / 2 ≡ v
 half v true = omega arith
