@@ -10,6 +10,7 @@ mod Given
 mod Known
 mod Listed
 mod Lowered
+mod Placed
 mod Rounds
 mod Step
 mod Visits
