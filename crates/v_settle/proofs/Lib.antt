@@ -9,7 +9,9 @@ mod Ends
 mod Given
 mod Known
 mod Listed
+mod Local
 mod Lowered
+mod Parts
 mod Placed
 mod Rounds
 mod Step

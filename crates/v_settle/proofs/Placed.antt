@@ -1,31 +1,30 @@
 -- Numbers written to parts of targets at known places: terms, tables and valuations.
-use Rattle.std.proofs.Common.{◌≡◌, ◌∙◌, ◌+◌, ◌-◌, ◌*◌, ◌/◌, ◌%◌, ◌^◌, ◌<◌, ◌≤◌, ℕ, zero, suc, refl, ap, sym, subst, arith, add_assoc, Bool, true, false, cond, List, [], ◌∷◌, ◌++◌, Option, Some, None, is_some, pos, negsuc}
+use Rattle.std.proofs.Common.{◌≡◌, ◌∙◌, ◌+◌, ◌-◌, ◌*◌, ◌/◌, ◌%◌, ◌^◌, ◌<◌, ◌≤◌, ℕ, refl, ap, sym, subst, arith, Bool, true, false, cond, List, [], ◌∷◌, ◌++◌, Option, Some, None, is_some, pos, negsuc}
 use Rattle.std.specs.Prelude.{IsTrue, not, ◌&&◌}
 use Rattle.std.proofs.Math.Pow.{pow_pos, mod-mod-pow, shr-shr}
-use Rattle.std.proofs.Math.Nat.{mod-lt, mod-one, mod-mod, mod-eq_of_lt, div-one, div-eq_of_lt}
+use Rattle.std.proofs.Math.Nat.{mod-lt, mod-one, mod-eq_of_lt, div-one, div-eq_of_lt}
 use Rattle.std.proofs.lemmas.Bool.{false≢true, and_parts}
 use Rattle.std.proofs.lemmas.Slice.Eq.{bytes_eq-Decides}
 use Rattle.wb_values.specs.Value.{Name, Value, truth_value, number, words, as_number, Sort, truth, word, memory, Valuation, same_name, with_value}
 use Rattle.wb_values.specs.Number.{word_extract}
 use Rattle.model_meaning.specs.Term.{Term, val}
-use Rattle.verilog_trees.specs.Syntax.{Select, Selects, whole, one, two, Target, place, joined, Targets, no_targets, target}
+use Rattle.verilog_trees.specs.Syntax.{Selects, whole, one, two, Target, place, joined, Targets, no_targets, target}
 use Rattle.verilog_meaning.specs.Expression.{Object, Scope, Bits, object_width, is_memory, no_values, select_index, select_bits, selects_width}
-use Rattle.verilog_meaning.specs.Statement.{Cell, variable_cell, indexed_cell, all_bits, Place, named_place, places, all_places, places_width, target_width, targets_width, with_bits, with_bits_at, written_cell, written_place, written}
-use Rattle.verilog_meaning.specs.Register.{selects_are_constant}
+use Rattle.verilog_meaning.specs.Statement.{variable_cell, indexed_cell, all_bits, Place, named_place, places, all_places, places_width, with_bits, with_bits_at, written_cell, written_place, written}
 use Rattle.verilog_meaning.specs.Settled.{IsValueOf}
 use Rattle.verilog_settled.specs.Locality.{HasNoConstantMemory, has_constant_selects, all_have_constant_selects}
 use Rattle.verilog_settled.proofs.Places.{place_fixed}
 use Rattle.wb_terms.specs.Graph.{Graph, tree}
 use Rattle.v_value.specs.Index.{span_of}
 use Rattle.v_value.specs.declared.select.Span.{Span}
-use Rattle.v_statement.proofs.Targets.{places-width}
 use Rattle.v_statement.proofs.Written.{cut_high}
 use Rattle.v_operators.specs.Meaning.{Grows, IsOfSort, HasNumber, Makes, Joins}
-use Rattle.v_operators.proofs.Growing.{Grows-refl, tree_kept, number_kept}
-use Rattle.v_lower.specs.Lowered.{Images, HasImages, IsImage, IsSortOf, StandsFor}
+use Rattle.v_operators.proofs.Growing.{tree_kept, number_kept}
+use Rattle.v_lower.specs.Lowered.{has_number, Images, HasImages, IsImage, IsSortOf, StandsFor}
 use Rattle.v_lower.proofs.Lowering.{images_kept}
 use Rattle.v_write.specs.Written.{AreOfNames}
 use Rattle.v_depend.specs.Left.{part_bits}
+use Rattle.v_settle.proofs.Widths.{part-width}
 use Rattle.v_settle.specs.Drivers.{IsNet, HasOneSelect, IsNetChanged, IsPlaceWritten, AreBitsWritten}
 
 -- ---- pieces of a number (as in the proofs of `v_write`)
@@ -91,6 +90,16 @@ net_word s a g n id w known net e is_w =
     let i = known.image n id e in
     subst (λ k. IsOfSort g id (word k)) (sym is_w) (word_image g (s n) id i.sort net.plain i.of_name i.of_sort)
 
+pub is-some-id : (o : Option ℕ) → is_some o ≡ true → (id : ℕ) × (o ≡ Some id)
+is-some-id (Some id) h = (id, refl)
+is-some-id None h = absurd (false≢true h)
+
+pub no-number : (o : Object) → o.constant ≡ None → has_number o ≡ false
+no-number o e = ap (λ (c : Option ℕ). is_some c && not (is_memory o)) e
+
+pub net_term : (s : Scope) (a : Images) (g : Graph) (n : Name) → HasImages s a g → IsNet s n → (id : ℕ) × (a n ≡ Some id)
+net_term s a g n known net = is-some-id (a n) (known.some n net.sort (no-number (s n) net.variable))
+
 -- ---- the place of a part
 
 part_place : (s : Scope) (n : Name) (x : Selects) → is_memory (s n) ≡ false → HasOneSelect x
@@ -104,6 +113,9 @@ part_place s n (one i) m h = by (is_memory (s n)) m
     by false e = refl
     by true e = absurd (false≢true (sym e))
 part_place s n (two i j) m h = absurd h
+
+pub place_count : (s : Scope) (n : Name) (x : Selects) → IsNet s n → HasOneSelect x → selects_width s (s n) x ≡ (named_place s no_values n x).bits.count
+place_count s n x net single = sym (ap (λ (q : Place). q.bits.count) (part_place s n x net.plain single) ∙ part-width s (s n) x)
 
 -- the term after bits at known places were replaced
 pub net_replaced : (s : Scope) (a : Images) (g h : Graph) (n : Name) (x : Selects) (b : Span) (old value id w : ℕ) → IsNet s n → HasOneSelect x → a n ≡ Some old
@@ -133,6 +145,13 @@ net_whole s a g n old value net had sort = record { of_sort = sort; value = wort
     worth p v y st is_y =
         let f = number_of_value (s n) (v n) net.plain (st.fits n old had) in
         is_y.value ∙ ap number (sym (all_written (s n) (as_number (v n)) y f.1 is_y.fits))
+
+pub net_all : (s : Scope) (a : Images) (g : Graph) (n : Name) (x : Selects) (value : ℕ) → HasImages s a g → IsNet s n → x ≡ whole
+    → IsOfSort g value (word (selects_width s (s n) x)) → IsNetChanged s a g (named_place s no_values n x) value g value
+net_all s a g n x value known net e sort =
+    let t = net_term s a g n known net in
+    subst (λ (y : Selects). IsNetChanged s a g (named_place s no_values n y) value g value) (sym e)
+    (net_whole s a g n t.0 value net t.1 (subst (λ (y : Selects). IsOfSort g value (word (selects_width s (s n) y))) e sort))
 
 -- ---- a table in which one name has another term
 
@@ -191,8 +210,12 @@ module _ (s : Scope) (a b : Images) (g h : Graph) (n : Name) (id : ℕ) (grows :
       → IsPlaceWritten s a g (named_place s no_values n x) value b h
   place_written x value net single c =
       subst (λ (q : Place). IsPlaceWritten s a g q value b h) (sym at)
-      (record { known = images_written (net_image net d.of_sort); names = names_kept; stands = λ p v y st is_y.
-          stands_written p v _ st (number_fits (s n) (v n) (part_bits s (s n) x) y net.plain) (d.value p v y st is_y) })
+      (record {
+        known = images_written (net_image net d.of_sort);
+        names = names_kept;
+        stands = λ p v y st is_y.
+            stands_written p v _ st (number_fits (s n) (v n) (part_bits s (s n) x) y net.plain) (d.value p v y st is_y);
+      })
     where
       at : named_place s no_values n x ≡ record { of_name = n; cell = variable_cell; bits = part_bits s (s n) x }
       at = part_place s n x net.plain single
@@ -232,24 +255,24 @@ written-both s v (p ∷ ps) qs z h =
 
 -- ---- bits of a number written to places
 
-pub one_written : (s : Scope) (a : Images) (g k : Graph) (q : Place) (number w low c bits : ℕ) (b : Images) (h : Graph) → HasImages s a g → Grows g k → c ≡ q.bits.count
-    → Makes g k number w bits c (λ x. x / 2 ^ low % 2 ^ c) → IsPlaceWritten s a k q bits b h → AreBitsWritten s a g (q ∷ []) c number w low b h
-one_written s a g k q number w low c bits b h known grows is_c piece done =
+pub one_written : (s : Scope) (a : Images) (g k : Graph) (q : Place) (source w low c bits : ℕ) (b : Images) (h : Graph) → HasImages s a g → Grows g k → c ≡ q.bits.count
+    → Makes g k source w bits c (λ x. x / 2 ^ low % 2 ^ c) → IsPlaceWritten s a k q bits b h → AreBitsWritten s a g (q ∷ []) c source w low b h
+one_written s a g k q source w low c bits b h known grows is_c piece done =
     record { known = done.known; names = done.names; stands = stands }
   where
-    stands : (p v : Valuation) (x : ℕ) → StandsFor s a g p v → HasNumber g number w p x → StandsFor s b h p (written s v (q ∷ []) (x / 2 ^ low % 2 ^ c))
+    stands : (p v : Valuation) (x : ℕ) → StandsFor s a g p v → HasNumber g source w p x → StandsFor s b h p (written s v (q ∷ []) (x / 2 ^ low % 2 ^ c))
     stands p v x st is_x =
         let y = x / 2 ^ low % 2 ^ c in
         let made : HasNumber k bits q.bits.count p y = subst (λ n. HasNumber k bits n p y) is_c (piece.value p x is_x) in
         subst (λ n. StandsFor s b h p (written_place s v q n)) (sym (div-one y)) (done.stands p v y (stands_after s a g k p v grows known st) made)
 
-pub none_written : (s : Scope) (a : Images) (g : Graph) (number w low : ℕ) → HasImages s a g → AreBitsWritten s a g [] 0 number w low a g
-none_written s a g number w low known = record { known = known; names = λ n. refl; stands = λ p v x st is_x. st }
+pub none_written : (s : Scope) (a : Images) (g : Graph) (source w low : ℕ) → HasImages s a g → AreBitsWritten s a g [] 0 source w low a g
+none_written s a g source w low known = record { known = known; names = λ n. refl; stands = λ p v x st is_x. st }
 
-pub more_written : (s : Scope) (a b c : Images) (g h l : Graph) (ps qs : List Place) (k m number w low : ℕ) → IsOfSort g number (word w) → Grows g h
-    → k ≡ places_width ps → m ≡ places_width qs → AreBitsWritten s a g qs m number w low b h → AreBitsWritten s b h ps k number w (low + m) c l
-    → AreBitsWritten s a g (ps ++ qs) (k + m) number w low c l
-more_written s a b c g h l ps qs k m number w low sort grows is_k is_m before after =
+pub more_written : (s : Scope) (a b c : Images) (g h l : Graph) (ps qs : List Place) (k m source w low : ℕ) → IsOfSort g source (word w) → Grows g h
+    → k ≡ places_width ps → m ≡ places_width qs → AreBitsWritten s a g qs m source w low b h → AreBitsWritten s b h ps k source w (low + m) c l
+    → AreBitsWritten s a g (ps ++ qs) (k + m) source w low c l
+more_written s a b c g h l ps qs k m source w low sort grows is_k is_m before after =
     record { known = after.known; names = λ n. after.names n ∙ before.names n; stands = stands }
   where
     same : (v : Valuation) (x : ℕ) → written s (written s v qs (x / 2 ^ low % 2 ^ m)) ps (x / 2 ^ (low + m) % 2 ^ k) ≡ written s v (ps ++ qs) (x / 2 ^ low % 2 ^ (k + m))
@@ -262,10 +285,10 @@ more_written s a b c g h l ps qs k m number w low sort grows is_k is_m before af
         sym (written-both s v ps qs z fits ∙ ap (λ n. written s (written s v qs n) ps (z / 2 ^ places_width qs)) low_bits
         ∙ ap (λ n. written s (written s v qs (y % 2 ^ m)) ps n) high_bits)
 
-    stands : (p v : Valuation) (x : ℕ) → StandsFor s a g p v → HasNumber g number w p x → StandsFor s c l p (written s v (ps ++ qs) (x / 2 ^ low % 2 ^ (k + m)))
+    stands : (p v : Valuation) (x : ℕ) → StandsFor s a g p v → HasNumber g source w p x → StandsFor s c l p (written s v (ps ++ qs) (x / 2 ^ low % 2 ^ (k + m)))
     stands p v x st is_x =
         subst (StandsFor s c l p) (same v x)
-        (after.stands p (written s v qs (x / 2 ^ low % 2 ^ m)) x (before.stands p v x st is_x) (number_kept number w p x grows sort.below is_x))
+        (after.stands p (written s v qs (x / 2 ^ low % 2 ^ m)) x (before.stands p v x st is_x) (number_kept source w p x grows sort.below is_x))
 
 -- ---- targets with constant selects mean the same places everywhere
 

@@ -2,6 +2,7 @@
 
 ghost use Rattle.std.specs.Prelude.{◌≡◌, ◌∷◌, [], OnOk};
 ghost use Rattle.verilog_trees.specs.Syntax.{blocking};
+ghost use Rattle.verilog_settled.specs.Locality.{HasNoConstantMemory};
 ghost use Rattle.v_syntax.specs.Tree.{tree_of, target_of, statement_of};
 ghost use Rattle.v_value.specs.Scope.{scope_at};
 ghost use Rattle.v_value.specs.Narrow.{HasNarrowObjects};
@@ -39,6 +40,7 @@ fn lower_link<'s>(
     terms: &mut Terms,
 ) -> Result<(), NoMemory>
     requires objects { HasNarrowObjects (scope_at scope.now) }
+    requires parameters { HasNoConstantMemory (scope_at scope.now) }
     requires known { HasImages (scope_at scope.now) (images_at table.old) terms.old }
     requires sound { IsSoundLink (scope_at scope.now) (target_of target.now) (tree_of value.now) }
     requires fit { IsFit (scope_at scope.now) (blocking (target_of target.now) (tree_of value.now)) }
@@ -63,6 +65,7 @@ pub(crate) fn visit_link<'s>(
     terms: &mut Terms,
 ) -> Result<(), NoMemory>
     requires objects { HasNarrowObjects (scope_at scope.now) }
+    requires parameters { HasNoConstantMemory (scope_at scope.now) }
     requires opens { IsOpen (scope_at scope.now) (state_of (images_at table.old) (images_at spare.old) terms.old (masked unsettled.old)) }
     requires sound { IsSoundLink (scope_at scope.now) (target_of target.now) (tree_of value.now) }
     requires fit { IsFit (scope_at scope.now) (blocking (target_of target.now) (tree_of value.now)) }

@@ -3,6 +3,7 @@
 ghost use Rattle.std.specs.Prelude.{◌≡◌, ◌∷◌, ℕ, [], map, IfOk, OnOk};
 ghost use Rattle.verilog_meaning.specs.Register.{combinational_blocks, one_may_assign};
 ghost use Rattle.verilog_meaning.specs.Settled.{assignments};
+ghost use Rattle.verilog_settled.specs.Locality.{HasNoConstantMemory};
 ghost use Rattle.v_syntax.specs.Source.{item_of};
 ghost use Rattle.v_value.specs.Scope.{scope_at};
 ghost use Rattle.v_value.specs.Narrow.{HasNarrowObjects};
@@ -43,6 +44,7 @@ fn visit_assignments<'s>(
     terms: &mut Terms,
 ) -> Result<(), NoMemory>
     requires objects { HasNarrowObjects (scope_at scope.now) }
+    requires parameters { HasNoConstantMemory (scope_at scope.now) }
     requires opens { IsOpen (scope_at scope.now) (state_of (images_at table.old) (images_at spare.old) terms.old (masked unsettled.old)) }
     requires sound { AreSoundLinks (scope_at scope.now) (links_of assignments.now) }
     requires fit { AreFitToRun (scope_at scope.now) (as_statements (links_of assignments.now)) }
@@ -77,6 +79,7 @@ fn visit_wire<'s>(
     terms: &mut Terms,
 ) -> Result<(), NoMemory>
     requires objects { HasNarrowObjects (scope_at scope.now) }
+    requires parameters { HasNoConstantMemory (scope_at scope.now) }
     requires opens { IsOpen (scope_at scope.now) (state_of (images_at table.old) (images_at spare.old) terms.old (masked unsettled.old)) }
     requires sound { AreSoundLinks (scope_at scope.now) (wire_links (wire.now ∷ [])) }
     requires fit { AreFitToRun (scope_at scope.now) (as_statements (wire_links (wire.now ∷ []))) }
@@ -106,6 +109,7 @@ fn visit_wires<'s>(
     terms: &mut Terms,
 ) -> Result<(), NoMemory>
     requires objects { HasNarrowObjects (scope_at scope.now) }
+    requires parameters { HasNoConstantMemory (scope_at scope.now) }
     requires opens { IsOpen (scope_at scope.now) (state_of (images_at table.old) (images_at spare.old) terms.old (masked unsettled.old)) }
     requires sound { AreSoundLinks (scope_at scope.now) (wire_links wires.now) }
     requires fit { AreFitToRun (scope_at scope.now) (as_statements (wire_links wires.now)) }
@@ -131,6 +135,7 @@ fn visit_item<'s>(
     terms: &mut Terms,
 ) -> Result<(), NoMemory>
     requires objects { HasNarrowObjects (scope_at scope.now) }
+    requires parameters { HasNoConstantMemory (scope_at scope.now) }
     requires opens { IsOpen (scope_at scope.now) (state_of (images_at table.old) (images_at spare.old) terms.old (masked unsettled.old)) }
     requires links { AreSoundLinks (scope_at scope.now) (assignments (item_of item.now ∷ [])) }
     requires blocks { AreSound (scope_at scope.now) (combinational_blocks (item_of item.now ∷ [])) }
@@ -172,6 +177,7 @@ fn turn<'s>(
     terms: &mut Terms,
 ) -> Result<(), NoMemory>
     requires objects { HasNarrowObjects (scope_at scope.now) }
+    requires parameters { HasNoConstantMemory (scope_at scope.now) }
     requires opens { IsOpen (scope_at scope.now) (state_of (images_at table.old) (images_at spare.old) terms.old (masked unsettled.old)) }
     requires links { AreSoundLinks (scope_at scope.now) (assignments (map item_of items.now)) }
     requires blocks { AreSound (scope_at scope.now) (combinational_blocks (map item_of items.now)) }
