@@ -6,6 +6,7 @@ mod Copying
 mod Covered
 mod Ending
 mod Ends
+mod Evaluable
 mod Given
 mod Known
 mod Listed
