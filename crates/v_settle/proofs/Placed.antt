@@ -97,8 +97,11 @@ is-some-id None h = absurd (false≢true h)
 pub no-number : (o : Object) → o.constant ≡ None → has_number o ≡ false
 no-number o e = ap (λ (c : Option ℕ). is_some c && not (is_memory o)) e
 
+pub term_there : (s : Scope) (a : Images) (g : Graph) (n : Name) → HasImages s a g → IsNet s n → is_some (a n) ≡ true
+term_there s a g n known net = known.some n net.sort (no-number (s n) net.variable)
+
 pub net_term : (s : Scope) (a : Images) (g : Graph) (n : Name) → HasImages s a g → IsNet s n → (id : ℕ) × (a n ≡ Some id)
-net_term s a g n known net = is-some-id (a n) (known.some n net.sort (no-number (s n) net.variable))
+net_term s a g n known net = is-some-id (a n) (term_there s a g n known net)
 
 -- ---- the place of a part
 

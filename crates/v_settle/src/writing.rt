@@ -1,6 +1,6 @@
 //! Numbers written to the targets of continuous assignments, whose parts are at known places.
 
-ghost use Rattle.std.specs.Prelude.{◌≡◌, ◌+◌, ◌≤◌, ◌/◌, ◌%◌, ◌^◌, ◌∷◌, [], Some, IfOk, OnOk};
+ghost use Rattle.std.specs.Prelude.{◌≡◌, ◌+◌, ◌≤◌, ◌/◌, ◌%◌, ◌^◌, ◌∷◌, [], Some, IsSome, IfOk, OnOk};
 ghost use Rattle.wb_values.specs.Value.{word};
 ghost use Rattle.verilog_trees.specs.Syntax.{name as named};
 ghost use Rattle.verilog_meaning.specs.Expression.{no_values, selects_width};
@@ -46,10 +46,9 @@ fn piece(
     Ok(id)
 }
 
-/// The term of a net or variable.
-fn term_of(scope: &Scope<'_>, table: &NamedTerms<'_>, _terms: &Terms, name: &str) -> TermId
-    requires known { HasImages (scope_at scope.now) (images_at table.now) _terms.now }
-    requires net { IsNet (scope_at scope.now) name.now }
+/// The term of a name that has one.
+fn term_of(table: &NamedTerms<'_>, name: &str) -> TermId
+    requires { IsSome (images_at table.now name.now) }
     ensures { images_at table.now name.now ≡ Some result.0 }
 {
     match table.term(name) {
@@ -77,7 +76,7 @@ fn replaced(
     ensures changed { IfOk result (λ r. IsNetChanged (scope_at scope.now) (images_at table.now) terms.old (named_place (scope_at scope.now) no_values name.now (selects_of selects.now)) number.0 terms.new r.0) }
 {
     let span = part_span(selects, name, scope);
-    let old = term_of(scope, table, terms, name);
+    let old = term_of(table, name);
     let width = object_width(scope.object(name));
     let id = fixed_written(terms, old, width, number, span)?;
     Ok(id)

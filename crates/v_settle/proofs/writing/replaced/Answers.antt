@@ -3,8 +3,11 @@ use Rattle.verilog_meaning.specs.Expression.{object_width}
 use Rattle.v_syntax.specs.Tree.{selects_of}
 use Rattle.v_value.specs.Scope.{scope_at}
 use Rattle.v_lower.specs.Table.{images_at}
-use Rattle.v_settle.proofs.Placed.{net_word, net_replaced}
+use Rattle.v_settle.proofs.Placed.{term_there, net_word, net_replaced}
 use Rattle.v_settle.proofs.writing.replaced.Goals as goal
+
+pub term_of-old-requires : goal.term_of-old-requires
+term_of-old-requires c = term_there (scope_at c.args.scope.now) (images_at c.args.table.now) c.args.terms.now c.args.name.now c.requires.known c.requires.net
 
 pub fixed_written-requires-clause-old : goal.fixed_written-requires-clause-old
 fixed_written-requires-clause-old c =
