@@ -6,10 +6,14 @@ mod Copying
 mod Covered
 mod Ending
 mod Ends
+mod Evaluable
 mod Given
 mod Known
 mod Listed
+mod Local
 mod Lowered
+mod Parts
+mod Placed
 mod Rounds
 mod Step
 mod Visits

@@ -1,22 +1,21 @@
 -- What holds between drivers still holds after a further one.
 use Rattle.std.proofs.Common.{◌≡◌, ◌∙◌, ◌<◌, ◌^◌, ℕ, refl, ap, sym, subst, true, false, List, ◌⊎◌, inl, inr, Contains, Option, Some, None, is_some}
-use Rattle.std.specs.Prelude.{IsTrue, IfSome, ◌↔◌, not, ◌&&◌}
+use Rattle.std.specs.Prelude.{IsTrue, IfSome, ◌↔◌}
 use Rattle.std.proofs.lemmas.Bool.{false≢true, true≢false, cases_Bool, false_from_ne_true}
 use Rattle.wb_values.specs.Value.{Name, Valuation}
 use Rattle.verilog_trees.specs.Syntax.{Statement, Item}
-use Rattle.verilog_meaning.specs.Expression.{Object, Scope, object_width, is_memory}
+use Rattle.verilog_meaning.specs.Expression.{Scope, object_width}
 use Rattle.verilog_meaning.specs.Statement.{run}
 use Rattle.verilog_meaning.specs.Register.{may_assign, value_bit}
 use Rattle.verilog_meaning.specs.Settled.{IsValueOf, HasRun}
 use Rattle.verilog_settled.specs.Locality.{IsSame, DifferAt, Fits, AllFit}
-use Rattle.verilog_settled.proofs.Runs.{run_bit_is_local}
 use Rattle.verilog_unique.proofs.Descent.{IsAmong, contains_among, among_contains}
 use Rattle.verilog_exists.proofs.Kept.{unassigned}
 use Rattle.verilog_exists.proofs.Declared.{assigned_name}
 use Rattle.verilog_designs.specs.Reads.{BitSet}
 use Rattle.verilog_designs.specs.Dependence.{Bit, is_in, at_start, After}
 use Rattle.v_value.specs.Narrow.{HasNarrowObjects}
-use Rattle.v_lower.specs.Lowered.{Images, has_number}
+use Rattle.v_lower.specs.Lowered.{Images}
 use Rattle.v_write.specs.Written.{AreOfNames}
 use Rattle.v_depend.specs.Resting.{IsThere, at_first, RestsAfter}
 use Rattle.v_loops.specs.OneModule.{DependsIn, DependsFarIn}
@@ -25,8 +24,10 @@ use Rattle.v_settle.specs.Turns.{State, IsOpen, Stands, IsRun, IsPassed, IsVisit
 use Rattle.v_settle.proofs.Apart.{as-before, still-before}
 use Rattle.v_settle.proofs.Given.{after-there}
 use Rattle.v_settle.proofs.Chains.{first-step, turned}
-use Rattle.v_settle.proofs.Known.{IsNamed, statement-leaves, assignable}
-use Rattle.v_settle.proofs.Listed.{sound-among, driver-runs, IsBy, by-driver}
+use Rattle.v_settle.proofs.Known.{IsNamed}
+use Rattle.v_settle.proofs.Local.{kind, may-assign, driver-is-local}
+use Rattle.v_settle.proofs.Placed.{is-some-id, no-number}
+use Rattle.v_settle.proofs.Listed.{driver-runs, IsBy, by-driver}
 
 -- the law on what rests after a statement
 abbrev pub RestsWhereItDepends : Type 0
@@ -39,13 +40,6 @@ RestsWhereItDepends =
 some-or-none : (o : Option ℕ) → ((id : ℕ) × (o ≡ Some id)) ⊎ (is_some o ≡ false)
 some-or-none (Some id) = inl (id, refl)
 some-or-none None = inr refl
-
-is-some-id : (o : Option ℕ) → is_some o ≡ true → (id : ℕ) × (o ≡ Some id)
-is-some-id (Some id) h = (id, refl)
-is-some-id None h = absurd (false≢true h)
-
-no-number : (o : Object) → o.constant ≡ None → has_number o ≡ false
-no-number o e = ap (λ (c : Option ℕ). is_some c && not (is_memory o)) e
 
 -- a name that may be assigned has a term
 term-of : (s : Scope) (a : State) (n : Name) → IsOpen s a → IsNamed s n → (s n).constant ≡ None → (id : ℕ) × (a.images n ≡ Some id)
@@ -151,14 +145,14 @@ module _ (s : Scope) (items : List Item) (objects : HasNarrowObjects s) (ready :
     elsewhere : (w : Valuation) (n : Name) → is_some (a.images n) ≡ false → (run s x w).valuation n ≡ w n
     elsewhere w n e =
         unassigned s x w n (λ h.
-        let k = assignable s objects x (sound-among s (drivers items) x ready.sound stands) n h in
+        let k = may-assign s objects x (kind s items x ready stands) n h in
         let t = term-of s a n way.opens k.0 k.1 in
         false≢true (sym e ∙ ap is_some t.1))
 
     unassigned-bit : (u : Bit) → is_some (a.images u.of_name) ≡ false → may_assign s x u.of_name u.word u.place ≡ false
     unassigned-bit u e =
         false_from_ne_true (may_assign s x u.of_name u.word u.place) (λ m.
-        let k = assignable s objects x (sound-among s (drivers items) x ready.sound stands) u.of_name (assigned_name s x u.of_name u.word u.place m) in
+        let k = may-assign s objects x (kind s items x ready stands) u.of_name (assigned_name s x u.of_name u.word u.place m) in
         let t = term-of s a u.of_name way.opens k.0 k.1 in
         false≢true (sym e ∙ ap is_some t.1))
 
@@ -175,9 +169,8 @@ module _ (s : Scope) (items : List Item) (objects : HasNarrowObjects s) (ready :
       local : Stands s b p (run s x w).valuation → (u : Bit) (id : ℕ) → IsThere s u → a.images u.of_name ≡ Some id
           → IsSame (run s x w).valuation (run s x v).valuation u ⊎ DifferAt w v (After s at_start x u)
       local st u id there e =
-          run_bit_is_local s w v (IsNamed s) x u ready.parameters (all-fit a w way.opens stood.names.fits) (all-fit a v way.opens fits)
-          (statement-leaves s objects x (sound-among s (drivers items) x ready.sound stands)) (run-keeps st)
-          (λ n h. subst (IsValueOf (s n)) (sym (runs n)) h) (stood.names.fits u.of_name id e) (fits u.of_name id e)
+          driver-is-local s objects ready.parameters w v (all-fit a w way.opens stood.names.fits) (all-fit a v way.opens fits) u (stood.names.fits u.of_name id e)
+          (fits u.of_name id e) x (kind s items x ready stands) (run-keeps st) (λ n h. subst (IsValueOf (s n)) (sym (runs n)) h)
 
       run-same : Stands s b p (run s x w).valuation → (u : Bit) → IsThere s u → is_in b.unsettled u ≡ false → IsSame (run s x w).valuation v u
       run-same st u there h = at (some-or-none (a.images u.of_name))

@@ -1,13 +1,15 @@
 -- One driver, as the code comes to it: it is evaluated, or passed.
-use Rattle.std.proofs.Common.{◌≡◌, ◌∙◌, ℕ, refl, ap, sym, subst, Bool, true, false, inl, inr, List}
+use Rattle.std.proofs.Common.{◌≡◌, ◌∙◌, ◌/◌, ◌%◌, ◌^◌, ◌<◌, ℕ, refl, ap, sym, subst, Bool, true, false, inl, inr, List}
 use Rattle.std.specs.Prelude.{IsTrue, ◌↔◌, ◌&&◌}
+use Rattle.std.proofs.Math.Nat.{mod-eq_of_lt, div-one}
 use Rattle.std.proofs.lemmas.Bool.{false≢true, true≢false, false_from_ne_true, and_parts, and_from}
 use Rattle.wb_values.specs.Value.{Name, Valuation}
 use Rattle.model_meaning.specs.Term.{Term, val}
 use Rattle.verilog_trees.specs.Syntax.{Expression, Target, Statement, blocking}
-use Rattle.verilog_meaning.specs.Expression.{Scope, assigned_value}
-use Rattle.verilog_meaning.specs.Statement.{places, target_width, written, run, with_updates}
+use Rattle.verilog_meaning.specs.Expression.{Scope, no_values, assigned_value}
+use Rattle.verilog_meaning.specs.Statement.{Place, places, target_width, written, run, with_updates}
 use Rattle.verilog_meaning.specs.Register.{is_bit_of, may_assign}
+use Rattle.verilog_settled.specs.Locality.{HasNoConstantMemory, has_constant_selects}
 use Rattle.verilog_designs.specs.Reads.{BitSet, and_in}
 use Rattle.verilog_designs.specs.Dependence.{Bit, is_in}
 use Rattle.wb_terms.specs.Graph.{Graph}
@@ -15,16 +17,17 @@ use Rattle.v_operators.specs.Meaning.{Grows}
 use Rattle.v_operators.proofs.Growing.{tree_kept}
 use Rattle.v_lower.specs.Lowered.{Images, HasImages, StandsFor}
 use Rattle.v_lower.proofs.Lowering.{images_kept}
-use Rattle.v_write.specs.Blocks.{IsTargetWritten, IsStatementLowered}
+use Rattle.v_write.specs.Blocks.{IsStatementLowered}
 use Rattle.v_write.specs.Running.{IsAssigned}
 use Rattle.v_write.specs.Written.{AreOfNames}
 use Rattle.v_flow.specs.declared.span.Span.{Span}
 use Rattle.v_flow.specs.Spans.{bits_in, existing}
 use Rattle.v_paths.specs.Premises.{HasNoMemory, AssignsNoMemory}
 use Rattle.v_depend.specs.Resting.{IsThere, OneIsUnsettled, at_first, RestsAfter}
-use Rattle.v_settle.specs.Drivers.{IsLinkLowered}
+use Rattle.v_settle.specs.Drivers.{AreBitsWritten, IsLinkLowered}
 use Rattle.v_settle.specs.Turns.{State, state_of, IsOpen, IsVisited}
 use Rattle.v_settle.proofs.Apart.{as-before, still-before}
+use Rattle.v_settle.proofs.Placed.{fixed_places}
 
 -- an environment that stands under images stands under them in a store that has grown
 stands_after : (s : Scope) (im : Images) (g h : Graph) (p v : Valuation) → Grows g h → HasImages s im g → StandsFor s im g p v → StandsFor s im h p v
@@ -33,16 +36,22 @@ stands_after s im g h p v a k st =
 
 -- ---- a continuous assignment
 
-pub link-lowered : (s : Scope) (a : Images) (g k : Graph) (t : Target) (e : Expression) (id w : ℕ) (b : Images) (h : Graph) → HasImages s a g → Grows g k
-    → w ≡ target_width s t → IsAssigned s a k e w id → IsTargetWritten s a k t id w b h → IsLinkLowered s a g t e b h
-link-lowered s a g k t e id w b h known grows width value done =
+pub link-lowered : (s : Scope) (a : Images) (g k : Graph) (t : Target) (e : Expression) (id w : ℕ) (b : Images) (h : Graph) → HasNoConstantMemory s
+    → IsTrue (has_constant_selects s t) → HasImages s a g → Grows g k → w ≡ target_width s t → IsAssigned s a k e w id
+    → AreBitsWritten s a k (places s no_values t) (target_width s t) id w 0 b h → IsLinkLowered s a g t e b h
+link-lowered s a g k t e id w b h parameters constant known grows width value done =
     record { known = done.known; names = done.names; stands = stands }
   where
     stands : (p v : Valuation) → StandsFor s a g p v → StandsFor s b h p (run s (blocking t e) v).valuation
     stands p v st =
         let now = stands_after s a g k p v grows known st in
+        let x = assigned_value s v w e in
+        let is_x = value.value p v now in
+        let fits : x < 2 ^ target_width s t = subst (λ (z : ℕ). x < 2 ^ z) width is_x.fits in
+        let all : x / 2 ^ 0 % 2 ^ target_width s t ≡ x = ap (λ z. z % 2 ^ target_width s t) (div-one x) ∙ mod-eq_of_lt {n = x} {m = 2 ^ target_width s t} fits in
         subst (λ (z : ℕ). StandsFor s b h p (written s v (places s v t) (assigned_value s v z e))) width
-        (done.stands p v (assigned_value s v w e) now (value.value p v now))
+        (subst (λ (qs : List Place). StandsFor s b h p (written s v qs x)) (sym (fixed_places s v parameters t constant))
+        (subst (λ (z : ℕ). StandsFor s b h p (written s v (places s no_values t) z)) all (done.stands p v x now is_x)))
 
 -- ---- spans that the code sees
 

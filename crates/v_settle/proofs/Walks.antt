@@ -15,6 +15,7 @@ use Rattle.v_flow.specs.Spans.{is_between, bits_of, bits_in, existing}
 use Rattle.v_masks.proofs.Bits.{set-none}
 use Rattle.v_flow.proofs.Sets.{or_false, or-none, turn, end}
 use Rattle.v_loops.specs.Turns.{as_statements, AreFitToRun}
+use Rattle.v_settle.specs.Drivers.{AreSoundLinks}
 use Rattle.v_settle.specs.OneModule.{AreSound}
 use Rattle.v_settle.specs.Turns.{State, AreVisited}
 use Rattle.v_settle.proofs.Listed.{Links, statements-both}
@@ -42,6 +43,17 @@ sound-both s (x ∷ xs) ys h = let r = sound-both s xs ys h.1 in ((h.0, r.0), r.
 
 pub sound-turn : (s : Scope) (rest xs ys : List Statement) → rest ≡ xs ++ ys → AreSound s rest → AreSound s xs × AreSound s ys
 sound-turn s rest xs ys e h = sound-both s xs ys (subst (AreSound s) e h)
+
+links-both : (s : Scope) (xs ys : Links) → AreSoundLinks s (xs ++ ys) → AreSoundLinks s xs × AreSoundLinks s ys
+links-both s [] ys h = (tt, h)
+links-both s (x ∷ xs) ys h = let r = links-both s xs ys h.1 in ((h.0, r.0), r.1)
+
+pub links-turn : (s : Scope) (rest xs ys : Links) → rest ≡ xs ++ ys → AreSoundLinks s rest → AreSoundLinks s xs × AreSoundLinks s ys
+links-turn s rest xs ys e h = links-both s xs ys (subst (AreSoundLinks s) e h)
+
+-- those of the first, which end with nothing, and the rest
+pub links-front : (xs ys : Links) → xs ++ ys ≡ (xs ++ []) ++ ys
+links-front xs ys = ap (λ zs. zs ++ ys) (sym (append-nil xs))
 
 fit-both : (s : Scope) (xs ys : List Statement) → AreFitToRun s (xs ++ ys) → AreFitToRun s xs × AreFitToRun s ys
 fit-both s [] ys h = (tt, h)

@@ -1,18 +1,22 @@
 -- What the settled valuations of a module are to a design that is this module alone.
-use Rattle.std.specs.Prelude.{◌≡◌, ◌≢◌, ℕ, false, [], Some, IsTrue}
+use Rattle.std.specs.Prelude.{◌≡◌, ◌≢◌, ℕ, true, false, [], Some, IsTrue}
 use Rattle.wb_values.specs.Value.{Name, Valuation}
 use Rattle.verilog_trees.specs.Syntax.{input, Module}
 use Rattle.verilog_meaning.specs.Register.{value_bit}
 use Rattle.verilog_meaning.specs.Hierarchy.{Placed, placed_scope}
 use Rattle.verilog_meaning.specs.Settled.{Design, at_path, IsPlacedIn, IsDeclared, inside, HasPort, IsBitOf, is_counted, IsSettled}
 use Rattle.verilog_meaning.specs.Next.{AreInputs}
+use Rattle.verilog_rules.specs.Expression.{is_unbroken}
+use Rattle.verilog_designs.specs.Expressions.{broken_module_items}
 use Rattle.verilog_settled.specs.Locality.{HasNoConstantMemory}
 use Rattle.verilog_exists.specs.Exists.{IsShapely}
 use Rattle.verilog_exists.specs.Loops.{IsAcceptedButForLoops}
+use Rattle.v_value.specs.Narrow.{HasNarrowObjects}
 use Rattle.v_hier.specs.Instances.{has_parts, module_has_parts}
 use Rattle.v_scopes.specs.Ports.{alone}
 use Rattle.v_lower.specs.Lowered.{Images}
-use Rattle.v_settle.specs.OneModule.{is_driven, IsSettledFrom, HasOneDriver}
+use Rattle.v_loops.specs.Turns.{IsRunnable}
+use Rattle.v_settle.specs.OneModule.{is_driven, IsSettledFrom, HasOneDriver, IsEvaluable}
 
 -- u has what is given to the top from outside: in each bit that counts as a register's what the registers have; in an input but the clock
 -- what the inputs have; and in all other bits of declared names, which nothing drives, 0. Names that are not declared have what v gives
@@ -51,3 +55,11 @@ AcceptedHasOneDriver =
 
 abbrev pub NoParameterIsMemory : Type 0
 NoParameterIsMemory = (d : Design) (p : Placed) → IsPlacedIn d p → HasNoConstantMemory (placed_scope p)
+
+-- A module that is an accepted design by itself can be evaluated, where its names have at most 128 bits and its drivers can be run.
+abbrev pub AcceptedIsEvaluable : Type 0
+AcceptedIsEvaluable =
+    (d : Design) (m : Module) → at_path d [] ≡ Some (alone m) → IsAcceptedButForLoops d → IsShapely d
+    → HasNarrowObjects (placed_scope (alone m)) → is_unbroken (broken_module_items d.source (placed_scope (alone m)) m.items) ≡ true
+    → IsRunnable (placed_scope (alone m)) m.items
+    → IsEvaluable (placed_scope (alone m)) m.items

@@ -14,6 +14,7 @@ use Rattle.v_write.specs.Sound.{IsSoundStatement}
 use Rattle.v_write.specs.Written.{AreOfNames}
 use Rattle.v_depend.specs.Resting.{IsThere}
 use Rattle.v_loops.specs.Turns.{as_statements, IsRunnable}
+use Rattle.v_settle.specs.Drivers.{AreSoundLinks}
 
 -- Some continuous assignment or some combinational block may drive the bit.
 abbrev pub is_driven : Scope → List Item → BitSet
@@ -42,7 +43,7 @@ abbrev pub drivers : List Item → List Statement
 drivers [] = []
 drivers (i ∷ items) = as_statements (assignments (i ∷ [])) ++ (combinational_blocks (i ∷ []) ++ drivers items)
 
--- Each of the statements breaks no rule.
+-- Each of the blocks breaks no rule.
 abbrev pub AreSound : Scope → List Statement → Type 0
 AreSound s [] = Unit {0}
 AreSound s (x ∷ xs) = IsSoundStatement s x × AreSound s xs
@@ -56,6 +57,7 @@ HasOneDriver s items =
 -- The drivers break no rule and can be run, a bit has one of them at most, and no parameter is a memory.
 pub record IsEvaluable (s : Scope) (items : List Item) : Type 0 where
   pub runnable : IsRunnable s items
-  pub sound : AreSound s (drivers items)
+  pub links : AreSoundLinks s (assignments items)
+  pub blocks : AreSound s (combinational_blocks items)
   pub one_driver : HasOneDriver s items
   pub parameters : HasNoConstantMemory s

@@ -2,22 +2,24 @@
 
 ghost use Rattle.std.specs.Prelude.{◌≡◌, ◌∷◌, [], OnOk};
 ghost use Rattle.verilog_trees.specs.Syntax.{blocking};
+ghost use Rattle.verilog_settled.specs.Locality.{HasNoConstantMemory};
 ghost use Rattle.v_syntax.specs.Tree.{tree_of, target_of, statement_of};
 ghost use Rattle.v_value.specs.Scope.{scope_at};
 ghost use Rattle.v_value.specs.Narrow.{HasNarrowObjects};
 ghost use Rattle.v_operators.specs.Meaning.{Grows};
 ghost use Rattle.v_lower.specs.Lowered.{HasImages};
 ghost use Rattle.v_lower.specs.Table.{images_at};
-ghost use Rattle.v_write.specs.Sound.{IsSoundAssignment, IsSoundStatement};
+ghost use Rattle.v_write.specs.Sound.{IsSoundStatement};
 ghost use Rattle.v_masks.specs.Masks.{masked};
 ghost use Rattle.v_depend.specs.Running.{IsFit};
 ghost use Rattle.v_settle.specs.Turns.{state_of, IsOpen, IsVisited};
-ghost use Rattle.v_settle.specs.Drivers.{IsLinkLowered};
+ghost use Rattle.v_settle.specs.Drivers.{IsSoundLink, IsLinkLowered};
 
 use crate::NoMemory;
 use crate::reading::assigned;
 use crate::span::has_more;
 use crate::width::target_width;
+use crate::writing::write_bits;
 use std::alloc::Global;
 use std::collections::BTreeMap;
 use v_depend::{after, meets, take};
@@ -26,12 +28,11 @@ use v_lower::NamedTerms;
 use v_paths::mask::kept_in;
 use v_syntax::tree::{Expression, Statement, Target};
 use v_value::scope::Scope;
-use v_write::{lower_statement, write_target};
+use v_write::lower_statement;
 use wb_terms::Terms;
 
 /// Writes the value of an expression to a target.
 fn lower_link<'s>(
-    alloc: Global,
     target: &Target<'s>,
     value: &Expression<'s>,
     scope: &Scope<'_>,
@@ -39,15 +40,16 @@ fn lower_link<'s>(
     terms: &mut Terms,
 ) -> Result<(), NoMemory>
     requires objects { HasNarrowObjects (scope_at scope.now) }
+    requires parameters { HasNoConstantMemory (scope_at scope.now) }
     requires known { HasImages (scope_at scope.now) (images_at table.old) terms.old }
-    requires sound { IsSoundAssignment (scope_at scope.now) (target_of target.now) (tree_of value.now) }
+    requires sound { IsSoundLink (scope_at scope.now) (target_of target.now) (tree_of value.now) }
     requires fit { IsFit (scope_at scope.now) (blocking (target_of target.now) (tree_of value.now)) }
     ensures grows { Grows terms.old terms.new }
     ensures lowered { OnOk result (IsLinkLowered (scope_at scope.now) (images_at table.old) terms.old (target_of target.now) (tree_of value.now) (images_at table.new) terms.new) }
 {
     let width = target_width(target, scope);
     let number = assigned(scope, table, terms, value, width)?;
-    write_target(alloc, scope, target, number, width, table, terms)?;
+    write_bits(target, scope, table, terms, number, width, 0)?;
     Ok(())
 }
 
@@ -63,8 +65,9 @@ pub(crate) fn visit_link<'s>(
     terms: &mut Terms,
 ) -> Result<(), NoMemory>
     requires objects { HasNarrowObjects (scope_at scope.now) }
+    requires parameters { HasNoConstantMemory (scope_at scope.now) }
     requires opens { IsOpen (scope_at scope.now) (state_of (images_at table.old) (images_at spare.old) terms.old (masked unsettled.old)) }
-    requires sound { IsSoundAssignment (scope_at scope.now) (target_of target.now) (tree_of value.now) }
+    requires sound { IsSoundLink (scope_at scope.now) (target_of target.now) (tree_of value.now) }
     requires fit { IsFit (scope_at scope.now) (blocking (target_of target.now) (tree_of value.now)) }
     ensures grows { Grows terms.old terms.new }
     ensures visited { OnOk result (IsVisited (scope_at scope.now) (blocking (target_of target.now) (tree_of value.now))
@@ -83,7 +86,7 @@ pub(crate) fn visit_link<'s>(
     if !more {
         return Ok(());
     }
-    lower_link(alloc, target, value, scope, table, terms)?;
+    lower_link(target, value, scope, table, terms)?;
     Ok(())
 }
 

@@ -10,6 +10,7 @@ mod reading;
 mod span;
 mod turn;
 mod width;
+mod writing;
 
 pub use module::settle;
 

@@ -1,7 +1,9 @@
 //! Turns over all drivers of a module, in the order of the text.
 
 ghost use Rattle.std.specs.Prelude.{◌≡◌, ◌∷◌, ℕ, [], map, IfOk, OnOk};
-ghost use Rattle.verilog_meaning.specs.Register.{one_may_assign};
+ghost use Rattle.verilog_meaning.specs.Register.{combinational_blocks, one_may_assign};
+ghost use Rattle.verilog_meaning.specs.Settled.{assignments};
+ghost use Rattle.verilog_settled.specs.Locality.{HasNoConstantMemory};
 ghost use Rattle.v_syntax.specs.Source.{item_of};
 ghost use Rattle.v_value.specs.Scope.{scope_at};
 ghost use Rattle.v_value.specs.Narrow.{HasNarrowObjects};
@@ -11,6 +13,7 @@ ghost use Rattle.v_flow.specs.Spans.{bits_in, existing};
 ghost use Rattle.v_masks.specs.Masks.{masked};
 ghost use Rattle.v_drivers.specs.Lists.{links_of, wire_links};
 ghost use Rattle.v_loops.specs.Turns.{as_statements, AreFitToRun};
+ghost use Rattle.v_settle.specs.Drivers.{AreSoundLinks};
 ghost use Rattle.v_settle.specs.OneModule.{drivers, AreSound, IsEvaluable};
 ghost use Rattle.v_settle.specs.Turns.{State, state_of, IsOpen, AreVisited, IsUnderWay, IsFurther};
 
@@ -41,8 +44,9 @@ fn visit_assignments<'s>(
     terms: &mut Terms,
 ) -> Result<(), NoMemory>
     requires objects { HasNarrowObjects (scope_at scope.now) }
+    requires parameters { HasNoConstantMemory (scope_at scope.now) }
     requires opens { IsOpen (scope_at scope.now) (state_of (images_at table.old) (images_at spare.old) terms.old (masked unsettled.old)) }
-    requires sound { AreSound (scope_at scope.now) (as_statements (links_of assignments.now)) }
+    requires sound { AreSoundLinks (scope_at scope.now) (links_of assignments.now) }
     requires fit { AreFitToRun (scope_at scope.now) (as_statements (links_of assignments.now)) }
     ensures grows { Grows terms.old terms.new }
     ensures visited { OnOk result (AreVisited (scope_at scope.now) (as_statements (links_of assignments.now))
@@ -75,8 +79,9 @@ fn visit_wire<'s>(
     terms: &mut Terms,
 ) -> Result<(), NoMemory>
     requires objects { HasNarrowObjects (scope_at scope.now) }
+    requires parameters { HasNoConstantMemory (scope_at scope.now) }
     requires opens { IsOpen (scope_at scope.now) (state_of (images_at table.old) (images_at spare.old) terms.old (masked unsettled.old)) }
-    requires sound { AreSound (scope_at scope.now) (as_statements (wire_links (wire.now ∷ []))) }
+    requires sound { AreSoundLinks (scope_at scope.now) (wire_links (wire.now ∷ [])) }
     requires fit { AreFitToRun (scope_at scope.now) (as_statements (wire_links (wire.now ∷ []))) }
     ensures grows { Grows terms.old terms.new }
     ensures visited { OnOk result (AreVisited (scope_at scope.now) (as_statements (wire_links (wire.now ∷ [])))
@@ -104,8 +109,9 @@ fn visit_wires<'s>(
     terms: &mut Terms,
 ) -> Result<(), NoMemory>
     requires objects { HasNarrowObjects (scope_at scope.now) }
+    requires parameters { HasNoConstantMemory (scope_at scope.now) }
     requires opens { IsOpen (scope_at scope.now) (state_of (images_at table.old) (images_at spare.old) terms.old (masked unsettled.old)) }
-    requires sound { AreSound (scope_at scope.now) (as_statements (wire_links wires.now)) }
+    requires sound { AreSoundLinks (scope_at scope.now) (wire_links wires.now) }
     requires fit { AreFitToRun (scope_at scope.now) (as_statements (wire_links wires.now)) }
     ensures grows { Grows terms.old terms.new }
     ensures visited { OnOk result (AreVisited (scope_at scope.now) (as_statements (wire_links wires.now))
@@ -129,8 +135,10 @@ fn visit_item<'s>(
     terms: &mut Terms,
 ) -> Result<(), NoMemory>
     requires objects { HasNarrowObjects (scope_at scope.now) }
+    requires parameters { HasNoConstantMemory (scope_at scope.now) }
     requires opens { IsOpen (scope_at scope.now) (state_of (images_at table.old) (images_at spare.old) terms.old (masked unsettled.old)) }
-    requires sound { AreSound (scope_at scope.now) (drivers (item_of item.now ∷ [])) }
+    requires links { AreSoundLinks (scope_at scope.now) (assignments (item_of item.now ∷ [])) }
+    requires blocks { AreSound (scope_at scope.now) (combinational_blocks (item_of item.now ∷ [])) }
     requires fit { AreFitToRun (scope_at scope.now) (drivers (item_of item.now ∷ [])) }
     ensures grows { Grows terms.old terms.new }
     ensures visited { OnOk result (AreVisited (scope_at scope.now) (drivers (item_of item.now ∷ []))
@@ -169,8 +177,10 @@ fn turn<'s>(
     terms: &mut Terms,
 ) -> Result<(), NoMemory>
     requires objects { HasNarrowObjects (scope_at scope.now) }
+    requires parameters { HasNoConstantMemory (scope_at scope.now) }
     requires opens { IsOpen (scope_at scope.now) (state_of (images_at table.old) (images_at spare.old) terms.old (masked unsettled.old)) }
-    requires sound { AreSound (scope_at scope.now) (drivers (map item_of items.now)) }
+    requires links { AreSoundLinks (scope_at scope.now) (assignments (map item_of items.now)) }
+    requires blocks { AreSound (scope_at scope.now) (combinational_blocks (map item_of items.now)) }
     requires fit { AreFitToRun (scope_at scope.now) (drivers (map item_of items.now)) }
     ensures grows { Grows terms.old terms.new }
     ensures visited { OnOk result (AreVisited (scope_at scope.now) (drivers (map item_of items.now))

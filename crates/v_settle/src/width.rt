@@ -34,7 +34,7 @@ fn whole_span(object: Object) -> Span
 }
 
 /// The bits that a part of a target takes, its variable indexes read as 0.
-fn part_span(selects: &Selects<'_>, name: &str, scope: &Scope<'_>) -> Span
+pub(crate) fn part_span(selects: &Selects<'_>, name: &str, scope: &Scope<'_>) -> Span
     requires objects { HasNarrowObjects (scope_at scope.now) }
     requires narrow { IsNarrow (scope_at scope.now) (named name.now (selects_of selects.now)) }
     ensures { span_of result ≡ part_bits (scope_at scope.now) (scope_at scope.now name.now) (selects_of selects.now) }
@@ -54,7 +54,7 @@ fn part_span(selects: &Selects<'_>, name: &str, scope: &Scope<'_>) -> Span
 }
 
 /// How many bits a name with selects has.
-fn place_width(selects: &Selects<'_>, name: &str, scope: &Scope<'_>) -> u32
+pub(crate) fn place_width(selects: &Selects<'_>, name: &str, scope: &Scope<'_>) -> u32
     requires objects { HasNarrowObjects (scope_at scope.now) }
     requires narrow { IsNarrow (scope_at scope.now) (named name.now (selects_of selects.now)) }
     ensures { result ≡ selects_width (scope_at scope.now) (scope_at scope.now name.now) (selects_of selects.now) }

@@ -25,8 +25,14 @@ loop-init c =
 pub turn-requires-clause-opens : goal.turn-requires-clause-opens
 turn-requires-clause-opens c = c.loop.invariant.opens
 
-pub turn-requires-clause-sound : goal.turn-requires-clause-sound
-turn-requires-clause-sound c = c.requires.ready.sound
+pub turn-requires-clause-links : goal.turn-requires-clause-links
+turn-requires-clause-links c = c.requires.ready.links
+
+pub turn-requires-clause-blocks : goal.turn-requires-clause-blocks
+turn-requires-clause-blocks c = c.requires.ready.blocks
+
+pub turn-requires-clause-parameters : goal.turn-requires-clause-parameters
+turn-requires-clause-parameters c = c.requires.ready.parameters
 
 pub turn-requires-clause-fit : goal.turn-requires-clause-fit
 turn-requires-clause-fit c = fit-drivers (scope_at c.args.scope.now) (map item_of c.args.items.now) c.requires.ready.runnable

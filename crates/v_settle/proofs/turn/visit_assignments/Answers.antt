@@ -11,7 +11,7 @@ use Rattle.v_masks.specs.Masks.{masked}
 use Rattle.v_loops.specs.Turns.{as_statements}
 use Rattle.v_settle.specs.Turns.{state_of}
 use Rattle.v_settle.proofs.Rounds.{are-open, one-visited}
-use Rattle.v_settle.proofs.Walks.{visits-turn, visits-end, sound-turn, fit-turn}
+use Rattle.v_settle.proofs.Walks.{visits-turn, visits-end, links-turn, fit-turn}
 use Rattle.v_settle.proofs.turn.visit_assignments.Goals as goal
 
 pub loop-assignment-init : goal.loop-assignment-init
@@ -27,9 +27,9 @@ visit_link-requires-clause-sound c =
     let xs = c.args.assignments.now in
     let i = c.loop-assignment.assignment-index in
     let r = c.assignment-item.result in
-    let more = as_statements (links_of (drop (i + 1) xs)) in
-    let rest = ap (λ ys. as_statements (links_of ys)) (rest_is xs i r (omega arith) c.assignment-item.is) in
-    (sound-turn s (as_statements (links_of (drop i xs))) ((blocking (target_of r.target) (tree_of r.value)) ∷ []) more rest c.loop-assignment.invariant.sound).0.0
+    let more = links_of (drop (i + 1) xs) in
+    let rest = ap links_of (rest_is xs i r (omega arith) c.assignment-item.is) in
+    (links-turn s (links_of (drop i xs)) ((target_of r.target, tree_of r.value) ∷ []) more rest c.loop-assignment.invariant.sound).0.0
 
 pub visit_link-requires-clause-fit : goal.visit_link-requires-clause-fit
 visit_link-requires-clause-fit c =
@@ -56,7 +56,7 @@ loop-assignment-preserved c =
     record {
       grows = Grows-trans c.loop-assignment.invariant.grows c.in_ok-visit_link.ensures.grows;
       opens = are-open s ((blocking (target_of r.target) (tree_of r.value)) ∷ []) b n c.loop-assignment.invariant.opens v;
-      sound = (sound-turn s (as_statements (links_of (drop i xs))) ((blocking (target_of r.target) (tree_of r.value)) ∷ []) more rest c.loop-assignment.invariant.sound).1;
+      sound = (links-turn s (links_of (drop i xs)) ((target_of r.target, tree_of r.value) ∷ []) (links_of (drop (i + 1) xs)) (ap links_of (rest_is xs i r (omega arith) c.assignment-item.is)) c.loop-assignment.invariant.sound).1;
       fit = (fit-turn s (as_statements (links_of (drop i xs))) ((blocking (target_of r.target) (tree_of r.value)) ∷ []) more rest c.loop-assignment.invariant.fit).1;
       left = visits-turn s (as_statements (links_of xs)) (as_statements (links_of (drop i xs))) ((blocking (target_of r.target) (tree_of r.value)) ∷ []) more a b n rest c.loop-assignment.invariant.left v;
     }

@@ -11,7 +11,7 @@ use Rattle.v_masks.specs.Masks.{masked}
 use Rattle.v_loops.specs.Turns.{as_statements}
 use Rattle.v_settle.specs.Turns.{state_of}
 use Rattle.v_settle.proofs.Rounds.{are-open}
-use Rattle.v_settle.proofs.Walks.{visits-turn, visits-end, sound-turn, fit-turn, statements-front}
+use Rattle.v_settle.proofs.Walks.{visits-turn, visits-end, links-turn, links-front, fit-turn, statements-front}
 use Rattle.v_settle.proofs.turn.visit_wires.Goals as goal
 
 pub loop-wire-init : goal.loop-wire-init
@@ -27,9 +27,9 @@ visit_wire-requires-clause-sound c =
     let xs = c.args.wires.now in
     let i = c.loop-wire.wire-index in
     let r = c.wire-item.result in
-    let more = as_statements (wire_links (drop (i + 1) xs)) in
-    let rest = ap (λ ys. as_statements (wire_links ys)) (rest_is xs i r (omega arith) c.wire-item.is) ∙ statements-front (wire_assignment r.name.now (boxed_tree_of r.value)) (wire_links (drop (i + 1) xs)) in
-    (sound-turn s (as_statements (wire_links (drop i xs))) (as_statements (wire_links (r ∷ []))) more rest c.loop-wire.invariant.sound).0
+    let more = wire_links (drop (i + 1) xs) in
+    let rest = ap wire_links (rest_is xs i r (omega arith) c.wire-item.is) ∙ links-front (wire_assignment r.name.now (boxed_tree_of r.value)) more in
+    (links-turn s (wire_links (drop i xs)) (wire_links (r ∷ [])) more rest c.loop-wire.invariant.sound).0
 
 pub visit_wire-requires-clause-fit : goal.visit_wire-requires-clause-fit
 visit_wire-requires-clause-fit c =
@@ -56,7 +56,7 @@ loop-wire-preserved c =
     record {
       grows = Grows-trans c.loop-wire.invariant.grows c.in_ok-visit_wire.ensures.grows;
       opens = are-open s (as_statements (wire_links (r ∷ []))) b n c.loop-wire.invariant.opens v;
-      sound = (sound-turn s (as_statements (wire_links (drop i xs))) (as_statements (wire_links (r ∷ []))) more rest c.loop-wire.invariant.sound).1;
+      sound = (links-turn s (wire_links (drop i xs)) (wire_links (r ∷ [])) (wire_links (drop (i + 1) xs)) (ap wire_links (rest_is xs i r (omega arith) c.wire-item.is) ∙ links-front (wire_assignment r.name.now (boxed_tree_of r.value)) (wire_links (drop (i + 1) xs))) c.loop-wire.invariant.sound).1;
       fit = (fit-turn s (as_statements (wire_links (drop i xs))) (as_statements (wire_links (r ∷ []))) more rest c.loop-wire.invariant.fit).1;
       left = visits-turn s (as_statements (wire_links xs)) (as_statements (wire_links (drop i xs))) (as_statements (wire_links (r ∷ []))) more a b n rest c.loop-wire.invariant.left v;
     }
