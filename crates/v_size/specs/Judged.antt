@@ -7,7 +7,7 @@ use Rattle.verilog_meaning.specs.Expression as meaning
 use Rattle.verilog_meaning.specs.Expression.{Scope, Object, object_width, is_memory, width_of, widths_of, sign_of}
 use Rattle.verilog_rules.specs.Expression as rules
 use Rattle.v_syntax.specs.declared.tree.BinaryOperator.{BinaryOperator}
-use Rattle.v_syntax.specs.declared.tree.BinaryOperator.TheVariants.{Power, Divide, Modulo, ShiftLeft, ShiftRight, ArithmeticShiftRight}
+use Rattle.v_syntax.specs.declared.tree.BinaryOperator.TheVariants.{Power, Divide, Modulo, ShiftLeft, ShiftRight, ArithmeticShiftRight, Multiply, Add, Subtract, And, Xor, Xnor, Or}
 use Rattle.v_syntax.specs.declared.tree.TestOperator.{TestOperator}
 use Rattle.v_syntax.specs.declared.tree.Expression.{Expression}
 use Rattle.v_syntax.specs.declared.tree.BinaryLink.{BinaryLink}
