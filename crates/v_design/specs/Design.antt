@@ -8,23 +8,17 @@ use Rattle.verilog_trees.specs.Syntax.{Direction, input, output, Module}
 use Rattle.verilog_meaning.specs.Expression.{Object, object_width, is_memory}
 use Rattle.verilog_meaning.specs.Register.{word_count, value_bit}
 use Rattle.verilog_meaning.specs.Hierarchy.{Placed, placed_scope, dotted}
-use Rattle.verilog_meaning.specs.Settled.{Design, at_path, IsPlacedIn, IsDeclared, IsAddressWidth, HasPort, port_order, port_directions, is_counted, inside, IsSettled}
+use Rattle.verilog_meaning.specs.Settled.{Design, at_path, IsPlacedIn, IsDeclared, IsAddressWidth, HasPort, port_order, port_directions, names_of, is_counted, inside, IsSettled}
 use Rattle.verilog_meaning.specs.Next.{AreRegisters, AreInputs, IsNext}
-use Rattle.v_design.specs.Parts.{Parts, registers_of, inputs_of, value_in, registers_after}
+use Rattle.v_design.specs.Registers.{IsRegister, CountedBits, AreBitsOf}
+use Rattle.v_design.specs.Order.{AreRegisterNames}
+use Rattle.v_design.specs.Parts.{Parts, registers_of, inputs_of, bits_by_name, value_in, registers_after}
 
 -- The sort of the values of a net, variable or memory: a word of its bits, or a memory of its words by ascending address.
 abbrev pub IsSortOf : Object → Sort → Type 0
 IsSortOf o truth = ⊥
 IsSortOf o (word w) = IsTrue (not (is_memory o)) × (w ≡ object_width o)
 IsSortOf o (memory a w) = IsTrue (is_memory o) × IsAddressWidth (word_count o) a × (w ≡ object_width o)
-
--- A register is a net, variable or memory of which a clocked block may assign some bit.
-pub record IsRegister (d : Design) (p : Placed) (n : Name) : Type 0 where
-  pub is_placed : IsPlacedIn d p
-  pub is_declared : IsDeclared p n
-  pub word : ℕ
-  pub bit : ℕ
-  pub counts : IsTrue (is_counted p n word bit)
 
 -- An input of the top, but for the clock, and the sort of its values.
 pub record IsDataInput (d : Design) (n : Name) (s : Sort) : Type 0 where
@@ -83,8 +77,9 @@ pub record IsSettledBy (e : Parts) (registers inputs v : Valuation) (p : Placed)
   pub is_worth : worth e registers inputs id ≡ inside v p n
 
 -- The parts are those of the design.
--- The names of the store, each once, are its registers, and the inputs of its top but for the clock, each with its sort; the outputs are
--- those of its top; and nets and variables have terms of their sorts, and nothing else has.
+-- The names of the store, each once, are its registers, in their order and with the bits that count, and the inputs of its top but for
+-- the clock, each with its sort; the outputs are those of its top; and nets and variables have terms of their sorts, and nothing else
+-- has.
 -- For all registers and inputs that have a settled valuation, the term of each net and variable is worth its value there; and what
 -- counts of each register after the clock's edge is what its term is worth. What does not count stays 0. So bits and words that do not
 -- count have no part in what counts: no settled valuation has them. (What a memory holds in a settled valuation is what counts of the
@@ -94,6 +89,8 @@ pub record IsDesignOf (d : Design) (e : Parts) : Type 0 where
   pub registers_are : (n : Name) (s : Sort) → Contains (registers_of e) (n, s)
       → (p : Placed) × (m : Name) × (n ≡ dotted p.path m) × IsRegister d p m × IsSortOf (placed_scope p m) s
   pub all_registers : (p : Placed) (m : Name) → IsRegister d p m → (s : Sort) × Contains (registers_of e) (dotted p.path m, s)
+  pub in_order : AreRegisterNames d (names_of (registers_of e))
+  pub bits_are : (p : Placed) (m : Name) (c : CountedBits) → IsRegister d p m → Contains (bits_by_name e) (dotted p.path m, c) → AreBitsOf p m c
   pub inputs_are : (n : Name) (s : Sort) → Contains (inputs_of e) (n, s) → IsDataInput d n s
   pub all_inputs : (n : Name) (s : Sort) → IsDataInput d n s → Contains (inputs_of e) (n, s)
   pub outputs_are : (top : Placed) → at_path d [] ≡ Some top → e.outputs ≡ outputs_of top.of_module
