@@ -1,0 +1,10 @@
+mod Bits
+mod Lists
+mod Values
+mod Settings
+mod Named
+mod First
+mod Fed
+mod Shown
+mod Step
+mod Told
