@@ -1,5 +1,5 @@
 -- Numbers by their bits, and lists of numbers by their words.
-use Rattle.std.proofs.Common.{◌≡◌, ◌∙◌, ℕ, zero, suc, ◌^◌, ◌<◌, ◌≤◌, Bool, true, false, ◌&&◌, ◌==◌, nat_lt, List, [], ◌∷◌, length, slice_index, set, map, refl, sym, ap, subst, arith, min, bit_and, ◌/◌, ◌%◌, ◌⊎◌, inl, inr, replicate, mod-lt, pow_pos}
+use Rattle.std.proofs.Common.{◌≡◌, ◌∙◌, ℕ, zero, suc, ◌^◌, ◌<◌, ◌≤◌, Bool, true, false, ◌&&◌, ◌==◌, nat_lt, List, [], ◌∷◌, length, slice_index, set, refl, sym, ap, subst, arith, min, bit_and, ◌/◌, ◌%◌, ◌⊎◌, inl, inr, replicate, mod-lt, pow_pos}
 use Rattle.std.specs.Int.{bit_at}
 use Rattle.std.proofs.lemmas.Bool.{and_parts, and_from, false≢true}
 use Rattle.std.proofs.lemmas.Bool.Decides.{nat_tests}

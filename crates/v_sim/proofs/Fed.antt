@@ -1,24 +1,24 @@
 -- The inputs that a line gives.
-use Rattle.std.proofs.Common.{◌≡◌, ◌≢◌, ◌∙◌, ℕ, zero, suc, ◌<◌, ◌^◌, Bool, true, false, cond, not, ◌&&◌, List, [], ◌∷◌, length, get_or, Option, Some, None, refl, sym, ap, subst, arith, pow_pos, nat_lt}
+use Rattle.std.proofs.Common.{◌≡◌, ◌≢◌, ◌∙◌, ℕ, ◌<◌, ◌^◌, Bool, true, false, cond, not, List, [], ◌∷◌, length, Some, refl, sym, ap, subst, arith, pow_pos, nat_lt}
 use Rattle.std.proofs.lemmas.Bool.{and_parts, false≢true}
 use Rattle.std.proofs.lemmas.Bool.Decides.{nat_tests}
-use Rattle.wb_values.specs.Value.{Name, same_name, Sort, truth, word, memory, Value, truth_value, number, words, Valuation, with_value, Entries}
+use Rattle.wb_values.specs.Value.{Name, same_name, Sort, truth, word, memory, Value, truth_value, number, words, Valuation, with_value}
 use Rattle.verilog_trees.specs.Syntax.{input}
 use Rattle.verilog_meaning.specs.Expression.{Object, object_width, is_memory}
 use Rattle.verilog_meaning.specs.Register.{word_count}
 use Rattle.verilog_meaning.specs.Hierarchy.{Placed, placed_scope}
 use Rattle.verilog_meaning.specs.Settled.{Design, at_path, HasPort, IsValueOf}
 use Rattle.verilog_meaning.specs.Next.{AreInputs}
-use Rattle.scripts.specs.Script.{Settable, with_word, with_sets}
+use Rattle.scripts.specs.Script.{with_word, with_sets}
 use Rattle.design_scripts.specs.Simulation.{no_inputs, line_inputs}
 use Rattle.v_design.specs.Parts.{Parts, registers_of, inputs_of, is_word, are_words, are_bits_for}
-use Rattle.v_design.specs.Design.{IsSortOf, IsDataInput, IsDesignOf}
+use Rattle.v_design.specs.Design.{IsSortOf, IsDesignOf}
 use Rattle.ila_sim.specs.declared.set.Set.{Set}
 use Rattle.ila_sim.specs.Lines.{sets_view}
 use Rattle.ila_sim.specs.Places.{called_at}
-use Rattle.ila_sim.specs.Sets.{suits, suits_at, is_word_of, is_right, are_right}
+use Rattle.ila_sim.specs.Sets.{suits, is_word_of, is_right, are_right}
 use Rattle.v_sim.specs.Names.{word_width, input_settable, input_settables}
-use Rattle.v_sim.proofs.Lists.{name_at, sort_at, same_is, none_or_some, suits_inside, left_part, right_part}
+use Rattle.v_sim.proofs.Lists.{name_at, sort_at, same_is, suits_inside, left_part, right_part}
 use Rattle.v_sim.proofs.Settings.{inputs_named, input_there, same_at, word_at}
 use Rattle.v_sim.proofs.Named.{data_input}
 use Rattle.v_sim.proofs.Values.{address_bits, is_address_bits}

@@ -1,14 +1,13 @@
 -- The registers with which a script begins.
-use Rattle.std.proofs.Common.{◌≡◌, ◌≢◌, ◌∙◌, ℕ, zero, suc, ◌<◌, ◌^◌, Bool, true, false, cond, ◌&&◌, List, [], ◌∷◌, length, get_or, slice_index, map, Option, Some, None, option_map, refl, sym, ap, subst, arith, pow_pos}
+use Rattle.std.proofs.Common.{◌≡◌, ◌∙◌, ℕ, zero, suc, ◌<◌, ◌^◌, Bool, true, false, cond, List, [], ◌∷◌, length, get_or, slice_index, map, option_map, refl, sym, ap, subst, arith, pow_pos}
 use Rattle.std.proofs.lemmas.Bool.{and_parts, false≢true}
 use Rattle.std.proofs.lemmas.List.{length-map}
 use Rattle.wb_values.specs.Value.{Name, same_name, Sort, truth, Value, truth_value, number, words, Entries, Valuation, with_value}
 use Rattle.verilog_meaning.specs.Expression.{Object, object_width}
-use Rattle.verilog_meaning.specs.Register.{is_set, value_bit, word_count}
+use Rattle.verilog_meaning.specs.Register.{is_set, value_bit}
 use Rattle.verilog_meaning.specs.Hierarchy.{Placed, placed_scope, dotted}
-use Rattle.verilog_meaning.specs.Settled.{Design, IsPlacedIn, IsDeclared, IsValueOf, AreWords, is_counted, inside, IsSettled}
+use Rattle.verilog_meaning.specs.Settled.{Design, IsPlacedIn, IsDeclared, IsValueOf, is_counted, IsSettled}
 use Rattle.verilog_meaning.specs.Next.{AreRegisters}
-use Rattle.scripts.specs.Script as meaning
 use Rattle.scripts.specs.Script.{Settable, with_word, with_sets, zero_value}
 use Rattle.design_scripts.specs.Names.{span, HasCountedBits}
 use Rattle.design_scripts.specs.Simulation.{AreZero, HasCycles}
@@ -24,7 +23,7 @@ use Rattle.ila_sim.specs.Sets.{suits, suits_at, is_word_of, is_right, are_right}
 use Rattle.v_sim.specs.Names.{register_settable, register_settables}
 use Rattle.v_sim.specs.Texts.{zeros}
 use Rattle.v_sim.proofs.Bits.{set-none, below_from_bits}
-use Rattle.v_sim.proofs.Lists.{name_at, sort_at, same_is, suits_inside, left_part, right_part, AreNamed, all_set}
+use Rattle.v_sim.proofs.Lists.{name_at, sort_at, same_is, suits_inside, left_part, right_part, all_set}
 use Rattle.v_sim.proofs.Settings.{bits_at, registers_named, register_there}
 use Rattle.v_sim.proofs.Named.{IsRegisterAt, addressed_at, fitting_at, bit_below}
 use Rattle.v_sim.proofs.Values.{set_fits, set_rest, is_zero}

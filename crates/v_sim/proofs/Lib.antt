@@ -8,3 +8,7 @@ mod Fed
 mod Shown
 mod Step
 mod Told
+mod Sorted
+mod Placing
+mod Turn
+mod Answered

@@ -1,9 +1,8 @@
 -- Names at their places, and the values that valuations give them.
-use Rattle.std.proofs.Common.{◌≡◌, ◌≢◌, ◌∙◌, ℕ, zero, suc, ◌<◌, Bool, true, false, cond, ◌&&◌, List, [], ◌∷◌, length, get_or, set, take, drop, map, Option, Some, None, refl, sym, ap, subst, arith}
+use Rattle.std.proofs.Common.{◌≡◌, ◌≢◌, ◌∙◌, ℕ, zero, suc, ◌<◌, Bool, true, false, cond, ◌&&◌, List, [], ◌∷◌, length, get_or, set, take, drop, Some, None, refl, sym, ap, subst, arith}
 use Rattle.std.proofs.lemmas.Bool.{false≢true}
 use Rattle.std.proofs.lemmas.Slice.Eq.{bytes_eq-Decides}
 use Rattle.wb_values.specs.Value.{Name, same_name, Sort, truth, Value, number, Entries, entry_of, Valuation, with_value}
-use Rattle.scripts.specs.Script as meaning
 use Rattle.scripts.specs.Script.{Settable, with_word, with_sets}
 use Rattle.wb_terms.specs.Graph.{HasDistinctNames}
 use Rattle.v_design.specs.Design.{values_under}

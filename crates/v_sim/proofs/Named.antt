@@ -1,22 +1,21 @@
 -- The names by a design's parts are those that a script may set of the design.
-use Rattle.std.proofs.Common.{◌≡◌, ◌≢◌, ◌↔◌, ◌∙◌, ℕ, zero, suc, ◌+◌, ◌<◌, ◌≤◌, ◌^◌, Bool, true, false, not, ◌&&◌, ◌==◌, nat_lt, nat_le, List, [], ◌∷◌, length, get_or, slice_index, map, Option, Some, None, is_some, is_none, unwrap_or, option_map, min, refl, sym, ap, ap₂, subst, arith, bit_and, IsTrue}
+use Rattle.std.proofs.Common.{◌≡◌, ◌↔◌, ◌∙◌, ℕ, ◌<◌, ◌^◌, Bool, true, false, not, nat_lt, List, [], ◌∷◌, length, slice_index, map, Option, Some, None, is_some, unwrap_or, option_map, min, refl, sym, ap, ap₂, subst, arith, bit_and, IsTrue}
 use Rattle.std.specs.Prelude.{Contains}
 use Rattle.std.proofs.lemmas.Bool.{and_parts, and_from, false≢true}
 use Rattle.std.proofs.lemmas.Bool.Decides.{nat_tests}
 use Rattle.wb_values.specs.Value.{Name, Sort, truth, word, memory, Entries}
-use Rattle.verilog_meaning.specs.Expression.{Object, object_width, is_memory, distance}
-use Rattle.verilog_meaning.specs.Register.{word_count, words_between, is_set, is_bit_of}
+use Rattle.verilog_meaning.specs.Expression.{Object, object_width, is_memory}
+use Rattle.verilog_meaning.specs.Register.{word_count, words_between, is_bit_of}
 use Rattle.verilog_meaning.specs.Hierarchy.{Placed, placed_scope, dotted}
-use Rattle.verilog_meaning.specs.Settled.{Design, IsPlacedIn, IsDeclared, is_counted, names_of}
+use Rattle.verilog_meaning.specs.Settled.{Design, is_counted, names_of}
 use Rattle.verilog_registers.specs.Registers.{IsRegister}
 use Rattle.verilog_registers.specs.Order.{AreRegisterNames}
-use Rattle.scripts.specs.Script.{Settable, Settables}
 use Rattle.design_scripts.specs.Names.{span, HasCountedBits, IsSettableRegister, IsSetInput, IsSettableInput, AreSettables}
 use Rattle.v_design.specs.Registers.{CountedBits, AreBitsOf}
 use Rattle.v_design.specs.Parts.{Parts, registers_of, inputs_of, under_names, are_bits_of, are_bits_for, is_word, are_words}
 use Rattle.v_design.specs.Design.{IsSortOf, IsDataInput, IsDesignOf}
 use Rattle.ila_sim.specs.Kinds.{fits_of, addresses_of}
-use Rattle.v_sim.specs.Names.{word_width, kind_of, register_settable, register_settables, input_settable, input_settables, names_by}
+use Rattle.v_sim.specs.Names.{word_width, kind_of, register_settable, register_settables, input_settable, names_by}
 use Rattle.v_sim.proofs.Bits.{within_mask, mask_keeps, itself, below_from_bits}
 use Rattle.v_sim.proofs.Lists.{name_at, sort_at}
 use Rattle.v_sim.proofs.Settings.{bits_at, right_at, bits_named, name_there, same_at, registers_named, register_there, inputs_named, input_there, word_at}

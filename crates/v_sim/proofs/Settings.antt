@@ -1,18 +1,15 @@
 -- The names that a script may set, at their places.
-use Rattle.std.proofs.Common.{◌≡◌, ◌∙◌, ℕ, zero, suc, ◌+◌, ◌<◌, ◌≤◌, ◌^◌, Bool, true, false, cond, not, ◌&&◌, ◌==◌, nat_lt, nat_le, List, [], ◌∷◌, length, get_or, slice_get, slice_index, take, drop, map, Option, Some, None, is_none, is_some, unwrap_or, refl, sym, ap, subst, arith, bit_and}
+use Rattle.std.proofs.Common.{◌≡◌, ℕ, zero, suc, ◌<◌, Bool, true, false, cond, List, [], ◌∷◌, length, get_or, slice_get, Some, None, is_none, refl, sym, ap, subst, arith}
 use Rattle.std.specs.Prelude.{Contains}
 use Rattle.std.proofs.lemmas.Bool.{and_parts, and_from, false≢true}
-use Rattle.std.proofs.lemmas.Bool.Decides.{nat_tests}
-use Rattle.wb_values.specs.Value.{Name, same_name, Sort, truth, word, memory, all_below, Entries, entry_of}
-use Rattle.scripts.specs.Script as meaning
+use Rattle.wb_values.specs.Value.{Name, same_name, Sort, truth, Entries, entry_of}
 use Rattle.scripts.specs.Script.{Settable, settable_named}
 use Rattle.wb_terms.specs.Graph.{HasDistinctNames}
 use Rattle.v_design.specs.Registers.{CountedBits}
 use Rattle.v_design.specs.Parts.{are_bits_of, are_bits_for, under_names, is_word, are_words}
-use Rattle.ila_sim.specs.Kinds.{width_of, end_of, fits_of, addresses_of}
 use Rattle.ila_sim.specs.Names.{are_apart}
 use Rattle.ila_sim.specs.Places.{called_at}
-use Rattle.v_sim.specs.Names.{kind_of, masked_settable, register_settable, register_settables, input_settable, input_settables}
+use Rattle.v_sim.specs.Names.{register_settable, register_settables, input_settable, input_settables}
 use Rattle.v_sim.proofs.Lists.{name_at, sort_at, AreNamed, none_or_some}
 
 abbrev pub no_bits : CountedBits

@@ -1,26 +1,25 @@
 -- One cycle: what the outputs settle to, and the registers after the edge.
-use Rattle.std.proofs.Common.{◌≡◌, ◌≢◌, ◌∙◌, ℕ, zero, suc, ◌<◌, ◌^◌, Bool, true, false, cond, not, ◌&&◌, List, [], ◌∷◌, ◌++◌, length, get_or, map, Option, Some, None, option_map, refl, sym, ap, subst, arith, decimal}
-use Rattle.std.proofs.lemmas.Bool.{and_parts, false≢true}
-use Rattle.std.proofs.lemmas.List.{length-map}
-use Rattle.wb_values.specs.Value.{Name, same_name, Sort, truth, word, memory, Value, truth_value, number, words, numeral_of, Valuation, valuation_of, HasSort, Entries, entry_of}
+use Rattle.std.proofs.Common.{◌≡◌, ◌∙◌, ℕ, suc, ◌<◌, Bool, true, false, cond, not, List, [], ◌∷◌, ◌++◌, length, get_or, Option, Some, None, option_map, refl, sym, ap, subst, arith}
+use Rattle.std.proofs.lemmas.Bool.{false≢true}
+use Rattle.wb_values.specs.Value.{Name, Sort, truth, Value, truth_value, number, words, numeral_of, Valuation, HasSort, Entries, entry_of}
 use Rattle.verilog_trees.specs.Syntax.{Module}
 use Rattle.verilog_meaning.specs.Expression.{Object, is_memory}
 use Rattle.verilog_meaning.specs.Register.{value_bit}
 use Rattle.verilog_meaning.specs.Hierarchy.{Placed, placed_scope, dotted, module_named, constants_of, no_overrides}
-use Rattle.verilog_meaning.specs.Settled.{Design, at_path, IsPlacedIn, IsDeclared, IsValueOf, is_counted, inside, IsSettled, port_directions, port_order}
+use Rattle.verilog_meaning.specs.Settled.{Design, at_path, IsPlacedIn, IsDeclared, IsValueOf, is_counted, inside, IsSettled, port_directions}
 use Rattle.verilog_meaning.specs.Next.{AreRegisters, AreInputs, IsNext}
 use Rattle.verilog_registers.specs.Registers.{IsRegister}
-use Rattle.verilog_registers.specs.Outputs.{is_output, outputs_among, outputs_of}
+use Rattle.verilog_registers.specs.Outputs.{is_output, outputs_among}
 use Rattle.design_scripts.specs.Simulation.{number_text, outputs_text}
 use Rattle.wb_terms.specs.Graph.{HasDistinctNames}
-use Rattle.wb_terms.specs.Environment.{AreOfSorts, values_by_name}
+use Rattle.wb_terms.specs.Environment.{AreOfSorts}
 use Rattle.wb_terms.proofs.EnvironmentLemmas.{length-AreOfSorts, value_at}
 use Rattle.wb_terms.proofs.EnvironmentLemmas as environment
 use Rattle.v_design.specs.Parts.{Parts, registers_of, inputs_of, registers_after, are_bits_for, are_words}
-use Rattle.v_design.specs.Design.{values_under, FitRegisters, after_cycle, IsNet, IsSettledBy, IsDesignOf}
+use Rattle.v_design.specs.Design.{values_under, FitRegisters, after_cycle, IsNet, IsDesignOf}
 use Rattle.v_sim.specs.Texts.{number_in, settled_number, outputs_by}
 use Rattle.v_sim.proofs.Lists.{name_at, sort_at}
-use Rattle.v_sim.proofs.Named.{IsRegisterAt, register_at}
+use Rattle.v_sim.proofs.Named.{register_at}
 use Rattle.v_sim.proofs.Values.{has_sort, same_value}
 use Rattle.v_sim.proofs.Shown.{output_declared}
 

@@ -1,16 +1,15 @@
 -- The text by a design's parts is that of the script on the design.
-use Rattle.std.proofs.Common.{Vec, Global, ◌≡◌, ◌≢◌, ◌∙◌, ℕ, zero, suc, ◌<◌, ◌≤◌, Bool, true, false, ◌&&◌, List, [], ◌∷◌, ◌++◌, length, map, take, drop, Option, Some, None, refl, sym, ap, subst, arith, decimal, append_assoc, IsTrue}
+use Rattle.std.proofs.Common.{Vec, Global, ◌≡◌, ◌∙◌, ℕ, suc, true, List, [], ◌∷◌, ◌++◌, map, refl, sym, ap, subst, decimal, append_assoc}
 use Rattle.std.specs.Prelude.{codes}
 use Rattle.std.specs.List.{list_all}
 use Rattle.std.proofs.lemmas.Bool.{and_parts, and_from, false≢true}
-use Rattle.wb_values.specs.Value.{Name, Sort, Value, words, numeral_of, Valuation, Entries}
+use Rattle.wb_values.specs.Value.{Sort, Value, Valuation, Entries}
 use Rattle.verilog_meaning.specs.Hierarchy.{Placed}
-use Rattle.verilog_meaning.specs.Settled.{Design, at_path, port_directions, port_order}
+use Rattle.verilog_meaning.specs.Settled.{Design, port_order}
 use Rattle.verilog_meaning.specs.Next.{AreRegisters, AreInputs}
 use Rattle.verilog_registers.specs.Outputs.{outputs_of}
-use Rattle.scripts.specs.Script as meaning
 use Rattle.scripts.specs.Script.{Settable, with_sets}
-use Rattle.design_scripts.specs.Simulation.{AreZero, AreCycles, HasCycles, IsTold, no_inputs, line_inputs, outputs_text, cycle_lines, register_text, registers_text, end_line}
+use Rattle.design_scripts.specs.Simulation.{AreCycles, HasCycles, IsTold, no_inputs, line_inputs, outputs_text, cycle_lines, register_text, registers_text, end_line}
 use Rattle.wb_terms.specs.Graph.{HasDistinctNames}
 use Rattle.wb_terms.specs.Environment.{AreOfSorts}
 use Rattle.v_design.specs.Registers.{CountedBits}
@@ -19,11 +18,10 @@ use Rattle.v_design.specs.Design.{values_under, IsDesignOf}
 use Rattle.ila_sim.specs.declared.set.Set.{Set}
 use Rattle.ila_sim.specs.declared.script.Script.{Script}
 use Rattle.ila_sim.specs.Lines.{sets_view}
-use Rattle.ila_sim.specs.Outcomes.{with_all}
 use Rattle.ila_sim.specs.Scripts.{script_view, IsScriptWithin}
 use Rattle.ila_sim.specs.Sets.{are_right}
 use Rattle.v_sim.specs.Names.{register_settable, register_settables, input_settables, names_by}
-use Rattle.v_sim.specs.Texts.{line_values, outputs_by, cycle_line, registers_by, end_by, text_from, input_lines, text_by, first_values, IsSortedRun}
+use Rattle.v_sim.specs.Texts.{line_values, outputs_by, cycle_line, registers_by, text_from, input_lines, text_by, first_values, IsSortedRun}
 use Rattle.v_sim.proofs.Lists.{distinct_take, distinct_drop, all_set}
 use Rattle.v_sim.proofs.Settings.{inputs_named}
 use Rattle.v_sim.proofs.Named.{register_at}

@@ -1,10 +1,10 @@
 -- Values of nets, variables and memories: by their bits, and with a word set.
-use Rattle.std.proofs.Common.{◌≡◌, ◌∙◌, ℕ, zero, suc, ◌+◌, ◌^◌, ◌<◌, ◌≤◌, Bool, true, false, not, ◌&&◌, ◌==◌, nat_lt, nat_le, List, [], ◌∷◌, length, slice_index, set, replicate, Option, Some, None, is_some, option_map, ◌⊎◌, inl, inr, refl, sym, ap, subst, arith, pow_pos, pow_mono, le_antisymm, IsTrue}
+use Rattle.std.proofs.Common.{◌≡◌, ◌∙◌, ℕ, zero, suc, ◌^◌, ◌<◌, ◌≤◌, Bool, true, false, not, ◌==◌, nat_lt, nat_le, List, length, slice_index, set, replicate, Option, Some, None, is_some, option_map, ◌⊎◌, inl, inr, refl, sym, ap, subst, arith, pow_pos, pow_mono, le_antisymm}
 use Rattle.std.proofs.lemmas.Bool.{and_parts, and_from, false≢true, cases_eq, cases_lt}
 use Rattle.std.proofs.lemmas.Bool.Decides.{nat_tests}
 use Rattle.std.proofs.lemmas.List.{length-set, length-replicate}
-use Rattle.wb_values.specs.Value.{Sort, truth, word, memory, Value, truth_value, number, words, all_below, is_of_sort, HasSort}
-use Rattle.verilog_meaning.specs.Expression.{Object, object_width, is_memory, distance}
+use Rattle.wb_values.specs.Value.{Sort, truth, word, memory, Value, truth_value, number, words, all_below, HasSort}
+use Rattle.verilog_meaning.specs.Expression.{Object, object_width, is_memory}
 use Rattle.verilog_meaning.specs.Register.{word_count, words_between, is_set, value_bit}
 use Rattle.verilog_meaning.specs.Settled.{IsAddressWidth, AreWords, IsValueOf}
 use Rattle.scripts.specs.Script.{with_word, zero_value}
