@@ -43,13 +43,16 @@ no_words (x ∷ xs) (suc k) = no_words xs k
 zero_fits : (o : Object) (x : Value) → IsValueOf o x → IsValueOf o (zeroed x)
 zero_fits o (truth_value b) v = absurd v
 zero_fits o (number n) v = (v.0, pow_pos (object_width o))
-zero_fits o (words xs) v = (v.0, record {
-  address_width = v.1.address_width;
-  is_address_width = v.1.is_address_width;
-  all = length-map xs (λ x. 0) ∙ v.1.all;
-  narrow = λ k. subst (λ y. y < 2 ^ object_width o) (sym (no_words xs k)) (pow_pos (object_width o));
-  past = λ k p. no_words xs k;
-})
+zero_fits o (words xs) v = (
+  v.0,
+  record {
+    address_width = v.1.address_width;
+    is_address_width = v.1.is_address_width;
+    all = length-map xs (λ x. 0) ∙ v.1.all;
+    narrow = λ k. subst (λ y. y < 2 ^ object_width o) (sym (no_words xs k)) (pow_pos (object_width o));
+    past = λ k p. no_words xs k;
+  },
+)
 
 zero_bit : (x : Value) (k b : ℕ) → value_bit (zeroed x) k b ≡ false
 zero_bit (truth_value t) zero b = set-none b
@@ -75,11 +78,11 @@ alike (n ∷ ns) f g h = let here = h 0 (omega arith) in let there = alike ns f 
 pub zero_values : (d : Design) (ns : Entries Sort) (cs : List CountedBits) (z : Valuation) → ((k : ℕ) → k < length ns → IsRegisterAt d ns cs k) → AreZero d z → values_under ns z ≡ zeros ns
 zero_values d ns cs z at h =
     alike ns (λ n. z n.0) (λ n. zero_value n.1) (λ k l.
-        let r = at k l in
-        let i = r.is_register in
-        is_zero (placed_scope r.place r.name) (sort_at ns k) (z (name_at ns k)) r.sorted
-        (subst (λ n. IsValueOf (placed_scope r.place r.name) (z n)) (sym r.called) (h.registers_are.fits r.place r.name i.is_placed i.is_declared))
-        (λ j b. ap (λ n. value_bit (z n) j b) r.called ∙ h.zero r.place r.name j b i.is_placed i.is_declared))
+    let r = at k l in
+    let i = r.is_register in
+    is_zero (placed_scope r.place r.name) (sort_at ns k) (z (name_at ns k)) r.sorted
+    (subst (λ n. IsValueOf (placed_scope r.place r.name) (z n)) (sym r.called) (h.registers_are.fits r.place r.name i.is_placed i.is_declared))
+    (λ j b. ap (λ n. value_bit (z n) j b) r.called ∙ h.zero r.place r.name j b i.is_placed i.is_declared))
 
 -- ---- what is set
 
@@ -121,9 +124,10 @@ one_set d ns cs v s runs counting at right h =
     let bits : HasCountedBits r.place r.name s.word s.value = (fitting_at d ns cs s.place r s.word s.value).0 p.1 in
     let old = h.fits r.place r.name i.is_placed i.is_declared in
     let n = dotted r.place.path r.name in
-    let of : IsOf r.place r.name (with_word (v n) s.word s.value) =
-    (set_fits (placed_scope r.place r.name) (v n) s.word s.value old word (below r.place r.name s.word s.value bits),
-    set_rest (placed_scope r.place r.name) (v n) s.word s.value (is_counted r.place r.name) old word bits (λ j e. h.rest_zero r.place r.name j e i.is_placed i.is_declared)) in
+    let of : IsOf r.place r.name (with_word (v n) s.word s.value) = (
+      set_fits (placed_scope r.place r.name) (v n) s.word s.value old word (below r.place r.name s.word s.value bits),
+      set_rest (placed_scope r.place r.name) (v n) s.word s.value (is_counted r.place r.name) old word bits (λ j e. h.rest_zero r.place r.name j e i.is_placed i.is_declared),
+    ) in
     subst (λ c. AreRegisters d (with_value v c (with_word (v c) s.word s.value))) (sym (b.called s.place l ∙ r.called))
     (registers_set d r.place r.name v (with_word (v n) s.word s.value) runs i.is_placed i.is_declared of h)
   where

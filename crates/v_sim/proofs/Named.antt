@@ -76,11 +76,12 @@ pub fitting_at : (d : Design) (ns : Entries Sort) (cs : List CountedBits) (k : �
 fitting_at d ns cs k r j x =
     let o = placed_scope r.place r.name in
     let s = sort_at ns k in
-    let c = bits_at cs k in
-    (λ h b t. sym (r.bits.counted j b) ∙ within_mask x (slice_index c.masks j) (and_parts (fits_of (kind_of s c) j x) _ h).1 b t,
-    λ g. and_from _ _
-    (fits_by o s c j x r.sorted (below_from_bits (object_width o) x (λ b t. bit_below r.place r.name j b (g b t))))
-    (itself (bit_and x (slice_index c.masks j)) x (mask_keeps x (slice_index c.masks j) (λ b t. r.bits.counted j b ∙ g b t))))
+    let c = bits_at cs k in (
+      λ h b t. sym (r.bits.counted j b) ∙ within_mask x (slice_index c.masks j) (and_parts (fits_of (kind_of s c) j x) _ h).1 b t,
+      λ g. and_from _ _
+          (fits_by o s c j x r.sorted (below_from_bits (object_width o) x (λ b t. bit_below r.place r.name j b (g b t))))
+          (itself (bit_and x (slice_index c.masks j)) x (mask_keeps x (slice_index c.masks j) (λ b t. r.bits.counted j b ∙ g b t))),
+    )
 
 pub is_settable : (d : Design) (ns : Entries Sort) (cs : List CountedBits) (k : ℕ) → IsRegisterAt d ns cs k
     → IsSettableRegister d (register_settable (name_at ns k) (sort_at ns k) (bits_at cs k))

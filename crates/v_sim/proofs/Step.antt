@@ -71,10 +71,10 @@ module _ (d : Design) (e : Parts) (meant : IsDesignOf d e) (counting : are_bits_
   pub fit_registers : (r : Valuation) → AreRegisters d r → FitRegisters e r
   fit_registers r h =
       all_sorts (registers_of e) r (λ k l.
-          let a = register_at d e meant counting inputs_words k l in
-          let i = a.is_register in
-          has_sort (placed_scope a.place a.name) (sort_at (registers_of e) k) (r (name_at (registers_of e) k)) a.sorted
-          (subst (λ n. IsValueOf (placed_scope a.place a.name) (r n)) (sym a.called) (h.fits a.place a.name i.is_placed i.is_declared)))
+      let a = register_at d e meant counting inputs_words k l in
+      let i = a.is_register in
+      has_sort (placed_scope a.place a.name) (sort_at (registers_of e) k) (r (name_at (registers_of e) k)) a.sorted
+      (subst (λ n. IsValueOf (placed_scope a.place a.name) (r n)) (sym a.called) (h.fits a.place a.name i.is_placed i.is_declared)))
 
   module _ (r i v : Valuation) (registers_are : AreRegisters d r) (inputs_are : AreInputs d i) (settled : IsSettled d r i v) where
     abbrev rs : List Value

@@ -122,7 +122,6 @@ is_zero o s x h v z = same_value o s x (zero_value s) h (has_sort o s x h v) (ze
 less_from : (x y : ℕ) → nat_lt x y ≡ true → x < y
 less_from x y h = grind (arith, nat_tests)
 
-
 is_count : (ends : Option (ℕ × ℕ)) (k n : ℕ) → n ≡ words_between ends → is_word_of (option_map span ends) k ≡ true → k < n
 is_count None k n e h = grind (arith, nat_tests, e)
 is_count (Some a) k n e h = grind (arith, nat_tests, e)

@@ -29,12 +29,7 @@ fn append_number(out: &mut Vec<u8>, name: &[u8], number: u128) -> Result<(), NoM
 }
 
 /// Appends ` m[5]=7`, where the word is not 0.
-fn append_word(
-    out: &mut Vec<u8>,
-    name: &[u8],
-    address: u128,
-    word: u128,
-) -> Result<(), NoMemory>
+fn append_word(out: &mut Vec<u8>, name: &[u8], address: u128, word: u128) -> Result<(), NoMemory>
     ensures { OnOk result (out.new.items ≡ out.old.items ++ word_text name.now address word) }
 {
     if word == 0 {
@@ -50,12 +45,7 @@ fn append_word(
 }
 
 /// Appends the words of a memory that are not 0, from its least address on.
-fn append_words(
-    out: &mut Vec<u8>,
-    name: &[u8],
-    least: u64,
-    words: &[u128],
-) -> Result<(), NoMemory>
+fn append_words(out: &mut Vec<u8>, name: &[u8], least: u64, words: &[u128]) -> Result<(), NoMemory>
     ensures { OnOk result (out.new.items ≡ out.old.items ++ words_text name.now least words.now) }
 {
     for (place, word) in words.iter().enumerate() {
