@@ -1,10 +1,10 @@
 -- An accepted design has cycles.
-use Rattle.std.proofs.Common.{◌≡◌, ◌∙◌, [], Option, Some, None, option_map, refl, sym, ap, subst}
+use Rattle.std.proofs.Common.{◌≡◌, ◌∙◌, [], Option, Some, None, option_map, refl, sym, ap}
 use Rattle.wb_values.specs.Value.{Name}
 use Rattle.verilog_trees.specs.Syntax.{Module}
 use Rattle.verilog_meaning.specs.Hierarchy.{Placed, module_named, constants_of, no_overrides, dotted}
 use Rattle.verilog_meaning.specs.Settled.{Design, at_path, IsPlacedIn, IsDeclared}
-use Rattle.verilog_designs.specs.Accepted.{IsAccepted, no_top, no_module}
+use Rattle.verilog_designs.specs.Accepted.{no_top, no_module}
 use Rattle.verilog_exists.specs.Exists.{IsOfText}
 use Rattle.verilog_exists.proofs.Dots.{dots_tell}
 use Rattle.verilog_exists.proofs.Spots.{plain_declared, plain_path}
