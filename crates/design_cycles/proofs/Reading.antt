@@ -6,7 +6,7 @@ use Rattle.std.specs.Prelude.{codes}
 use Rattle.wb_values.specs.Value.{Name, same_name}
 use Rattle.verilog_registers.specs.Outputs.{outputs_of}
 use Rattle.scripts.specs.Script.{Settable, Settables, Set, Script, settable_named, at_last, before_bracket, numeral_in, set_named, set_of, set_from, with_set, all_sets, if_distinct, sets_in, line_of_words, line_in, with_input, inputs_in, script_from, script_in, state_line, input_line, is_return, words_of, sets_name, reading_from, is_script, missing_input, bad_line, script_reading, without_skipped, lines_of}
-use Rattle.design_scripts.specs.Simulation.{simulation_text}
+use Rattle.design_scripts.specs.Simulation.{run_text}
 use Rattle.design_cycles.specs.Unique.{OneReading, OneText}
 use Rattle.design_cycles.proofs.Order.{some_same}
 use Rattle.design_cycles.proofs.Names.{one_states, one_input, one_all}
@@ -69,5 +69,5 @@ one_text d names others script text other runs a b t u =
     let run = t.some_run in
     let top = some_same (sym t.is_top ∙ u.is_top) in
     t.each_run run.0 run.1 run.2
-    ∙ (ap₂ (λ p ss. simulation_text (outputs_of p.of_module) ss run.0 run.1) top (one_states d names others runs a b)
+    ∙ (ap₂ (λ p ss. run_text (outputs_of p.of_module) ss run.0 run.1) top (one_states d names others runs a b)
     ∙ sym (u.each_run run.0 run.1 run.2))
