@@ -1,30 +1,26 @@
 -- When terms are those of a design: they are worth what its settled valuations have, and what the clock's edge makes of its registers.
-use Rattle.std.specs.Prelude.{◌≡◌, ◌≢◌, ℕ, Bool, true, false, cond, not, List, [], ◌∷◌, map, Contains, Option, Some, IsTrue}
-use Rattle.wb_values.specs.Value.{Name, Sort, truth, word, memory, Value, Entries, Valuation, valuation_of, entry_of}
+use Rattle.std.specs.Prelude.{◌≡◌, ◌≢◌, ℕ, false, not, List, [], map, Contains, Some, IsTrue}
+use Rattle.wb_values.specs.Value.{Name, Sort, truth, word, memory, Value, Entries, Valuation, valuation_of}
 use Rattle.model_meaning.specs.Term.{sort_of}
 use Rattle.wb_terms.specs.Graph.{HasDistinctNames, tree}
 use Rattle.wb_terms.specs.Environment.{AreOfSorts, values_by_name}
-use Rattle.verilog_trees.specs.Syntax.{Direction, input, output, Module}
+use Rattle.verilog_trees.specs.Syntax.{input}
 use Rattle.verilog_meaning.specs.Expression.{Object, object_width, is_memory}
 use Rattle.verilog_meaning.specs.Register.{word_count, value_bit}
 use Rattle.verilog_meaning.specs.Hierarchy.{Placed, placed_scope, dotted}
-use Rattle.verilog_meaning.specs.Settled.{Design, at_path, IsPlacedIn, IsDeclared, IsAddressWidth, HasPort, port_order, port_directions, is_counted, inside, IsSettled}
+use Rattle.verilog_meaning.specs.Settled.{Design, at_path, IsPlacedIn, IsDeclared, IsAddressWidth, HasPort, names_of, is_counted, inside, IsSettled}
 use Rattle.verilog_meaning.specs.Next.{AreRegisters, AreInputs, IsNext}
-use Rattle.v_design.specs.Parts.{Parts, registers_of, inputs_of, value_in, registers_after}
+use Rattle.verilog_registers.specs.Registers.{IsRegister}
+use Rattle.verilog_registers.specs.Order.{AreRegisterNames}
+pub use Rattle.verilog_registers.specs.Outputs.{is_output, outputs_among, outputs_of}
+use Rattle.v_design.specs.Registers.{CountedBits, AreBitsOf}
+use Rattle.v_design.specs.Parts.{Parts, registers_of, inputs_of, bits_by_name, value_in, registers_after}
 
 -- The sort of the values of a net, variable or memory: a word of its bits, or a memory of its words by ascending address.
 abbrev pub IsSortOf : Object → Sort → Type 0
 IsSortOf o truth = ⊥
 IsSortOf o (word w) = IsTrue (not (is_memory o)) × (w ≡ object_width o)
 IsSortOf o (memory a w) = IsTrue (is_memory o) × IsAddressWidth (word_count o) a × (w ≡ object_width o)
-
--- A register is a net, variable or memory of which a clocked block may assign some bit.
-pub record IsRegister (d : Design) (p : Placed) (n : Name) : Type 0 where
-  pub is_placed : IsPlacedIn d p
-  pub is_declared : IsDeclared p n
-  pub word : ℕ
-  pub bit : ℕ
-  pub counts : IsTrue (is_counted p n word bit)
 
 -- An input of the top, but for the clock, and the sort of its values.
 pub record IsDataInput (d : Design) (n : Name) (s : Sort) : Type 0 where
@@ -33,19 +29,6 @@ pub record IsDataInput (d : Design) (n : Name) (s : Sort) : Type 0 where
   pub is_input : HasPort top.of_module n input
   pub no_clock : n ≢ d.clock
   pub of_sort : IsSortOf (placed_scope top n) s
-
-abbrev pub is_output : Option Direction → Bool
-is_output (Some output) = true
-is_output _ = false
-
--- those of the names that are outputs, in their order
-abbrev pub outputs_among : Entries Direction → List Name → List Name
-outputs_among ds [] = []
-outputs_among ds (n ∷ ns) = cond (is_output (entry_of ds n)) (n ∷ outputs_among ds ns) (outputs_among ds ns)
-
--- the outputs of a module in the order of its ports
-abbrev pub outputs_of : Module → List Name
-outputs_of m = outputs_among (port_directions m) (port_order m)
 
 -- the values that a valuation gives to entries, in their order
 abbrev pub values_under : Entries Sort → Valuation → List Value
@@ -83,8 +66,9 @@ pub record IsSettledBy (e : Parts) (registers inputs v : Valuation) (p : Placed)
   pub is_worth : worth e registers inputs id ≡ inside v p n
 
 -- The parts are those of the design.
--- The names of the store, each once, are its registers, and the inputs of its top but for the clock, each with its sort; the outputs are
--- those of its top; and nets and variables have terms of their sorts, and nothing else has.
+-- The names of the store, each once, are its registers, in their order and with the bits that count, and the inputs of its top but for
+-- the clock, each with its sort; the outputs are those of its top; and nets and variables have terms of their sorts, and nothing else
+-- has.
 -- For all registers and inputs that have a settled valuation, the term of each net and variable is worth its value there; and what
 -- counts of each register after the clock's edge is what its term is worth. What does not count stays 0. So bits and words that do not
 -- count have no part in what counts: no settled valuation has them. (What a memory holds in a settled valuation is what counts of the
@@ -94,6 +78,8 @@ pub record IsDesignOf (d : Design) (e : Parts) : Type 0 where
   pub registers_are : (n : Name) (s : Sort) → Contains (registers_of e) (n, s)
       → (p : Placed) × (m : Name) × (n ≡ dotted p.path m) × IsRegister d p m × IsSortOf (placed_scope p m) s
   pub all_registers : (p : Placed) (m : Name) → IsRegister d p m → (s : Sort) × Contains (registers_of e) (dotted p.path m, s)
+  pub in_order : AreRegisterNames d (names_of (registers_of e))
+  pub bits_are : (p : Placed) (m : Name) (c : CountedBits) → IsRegister d p m → Contains (bits_by_name e) (dotted p.path m, c) → AreBitsOf p m c
   pub inputs_are : (n : Name) (s : Sort) → Contains (inputs_of e) (n, s) → IsDataInput d n s
   pub all_inputs : (n : Name) (s : Sort) → IsDataInput d n s → Contains (inputs_of e) (n, s)
   pub outputs_are : (top : Placed) → at_path d [] ≡ Some top → e.outputs ≡ outputs_of top.of_module

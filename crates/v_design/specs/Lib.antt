@@ -1,4 +1,7 @@
 pub mod Table
+pub mod Registers
+pub mod Order
+pub mod Bits
 pub mod Parts
 pub mod Seen
 pub mod Design

@@ -6,6 +6,7 @@ use Rattle.v_design.specs.declared.design.Design.{Design}
 use Rattle.v_design.specs.declared.values.Registers.{Registers}
 use Rattle.v_design.specs.declared.values.Inputs.{Inputs}
 use Rattle.v_design.specs.Table.{terms_at}
+use Rattle.v_design.specs.Bits.{counted_bits}
 use Rattle.v_design.specs.Parts.{Parts}
 
 abbrev pub parts_of : Design → Parts
@@ -13,6 +14,7 @@ parts_of d = record {
   graph = d.terms;
   register_count = d.register_count;
   next = map (λ id. id.0) d.next.items;
+  bits = map counted_bits d.bits.items;
   settled = terms_at d.settled;
   outputs = map string_bytes d.outputs.items;
 }

@@ -3,8 +3,10 @@
 ghost use Rattle.std.specs.Prelude.{◌≡◌, ◌≤◌, ◌<◌, ◌-◌, [], ℕ, List, IfSome, IsTrue, drop, length, map, option_map, slice_index_or, string_bytes, take};
 ghost use Rattle.wb_values.specs.Value.{truth};
 ghost use Rattle.v_design.specs.Table.{terms_at};
-ghost use Rattle.v_design.specs.Parts.{are_terms_of, are_words, is_within};
+ghost use Rattle.v_design.specs.Bits.{counted_bits};
+ghost use Rattle.v_design.specs.Parts.{are_bits_for, are_terms_of, are_words, is_within};
 
+use crate::bits::RegisterBits;
 use std::collections::BTreeMap;
 use wb_terms::{NameId, TermId, Terms};
 
@@ -17,12 +19,15 @@ pub struct Design {
     pub register_count: usize,
     /// The term of each register's value after the clock's edge, in the order of the registers.
     pub next: Vec<TermId>,
+    /// How the words of each register are addressed, and which of their bits count, in the order of the registers.
+    pub bits: Vec<RegisterBits>,
     /// The term of what each net and variable settles to, by its dotted name.
     pub settled: BTreeMap<String, TermId>,
     /// The outputs of the top, in the order of its ports.
     pub outputs: Vec<String>,
     pub ghost counted: { register_count ≤ length terms.names },
     pub ghost sorted: { IsTrue (are_terms_of terms (take register_count terms.names) (map (λ id. id.0) next.items)) },
+    pub ghost counting: { IsTrue (are_bits_for (take register_count terms.names) (map counted_bits bits.items)) },
     pub ghost words: { IsTrue (are_words (drop register_count terms.names)) },
     pub ghost within: { (n : List ℕ) → IsTrue (is_within terms (terms_at settled n)) },
 }
