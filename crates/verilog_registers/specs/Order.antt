@@ -1,7 +1,7 @@
 -- The order of a design's registers: depth first, and in one module the order of the text.
 use Rattle.std.specs.Prelude.{◌≡◌, Bool, false, cond, List, [], ◌∷◌, ◌++◌, map, Some}
 use Rattle.wb_values.specs.Value.{Name, same_name}
-use Rattle.verilog_trees.specs.Syntax.{Item, instances, Module}
+use Rattle.verilog_trees.specs.Syntax.{Item, port, parameter, wires, variables, assign, always, instances, Module}
 use Rattle.verilog_meaning.specs.Hierarchy.{Declaration, port_declarations, item_declarations, header_ports, instance_step, Placed, dotted}
 use Rattle.verilog_meaning.specs.Settled.{Design, at_path}
 use Rattle.verilog_registers.specs.Registers.{IsRegister}
@@ -13,15 +13,21 @@ pub data Part : Type 0 where
 
 abbrev pub same_part : Part → Part → Bool
 same_part (net m) (net n) = same_name m n
+same_part (net m) (instance n) = false
+same_part (instance m) (net n) = false
 same_part (instance m) (instance n) = same_name m n
-same_part _ _ = false
 
 abbrev pub nets : List Declaration → List Part
 nets ds = map (λ d. net d.of_name) ds
 
 abbrev pub instances_in : Item → List Part
+instances_in (port d) = []
+instances_in (parameter d) = []
+instances_in (wires signed r ws) = []
+instances_in (variables signed r vs) = []
+instances_in (assign ts) = []
+instances_in (always es x) = []
 instances_in (instances m given is) = map (λ i. instance i.0) is
-instances_in _ = []
 
 abbrev pub item_parts : List Item → List Part
 item_parts [] = []
