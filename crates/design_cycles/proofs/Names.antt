@@ -8,7 +8,7 @@ use Rattle.wb_values.specs.Value.{Name, same_name}
 use Rattle.verilog_meaning.specs.Expression.{object_width}
 use Rattle.verilog_meaning.specs.Hierarchy.{placed_scope}
 use Rattle.verilog_meaning.specs.Settled.{Design}
-use Rattle.verilog_registers.specs.Order.{parts_in}
+use Rattle.verilog_registers.specs.Order.{members_in}
 use Rattle.scripts.specs.Script.{Settable, Settables, Set, settable_named, sets_name}
 use Rattle.design_scripts.specs.Names.{span, HasCountedBits, IsSettableRegister, IsSettableInput, AreSettables}
 use Rattle.design_scripts.specs.Simulation.{HasCycles}
@@ -55,7 +55,7 @@ one_list d runs (s ∷ ss) (t ∷ ts) e f g =
 
 pub one_states : (d : Design) (names others : Settables) → HasCycles d → AreSettables d names → AreSettables d others → names.states ≡ others.states
 one_states d names others runs a b =
-    one_list d runs names.states others.states (one_order d runs.top (parts_in runs.top.of_module) _ _ (a.in_order runs.top runs.is_top) (b.in_order runs.top runs.is_top))
+    one_list d runs names.states others.states (one_order d runs.top (members_in runs.top.of_module) _ _ (a.in_order runs.top runs.is_top) (b.in_order runs.top runs.is_top))
     a.registers b.registers
 
 -- ---- inputs
