@@ -30,13 +30,13 @@ instances_in (assign ts) = []
 instances_in (always es x) = []
 instances_in (instances m given is) = map (λ i. instance i.0) is
 
-abbrev pub is_variable : Declaration → Bool
-is_variable d = is_none d.direction && is_reg d.kind
+abbrev pub declares_variable : Declaration → Bool
+declares_variable d = is_none d.direction && is_reg d.kind
 
 -- The name is declared as a variable, other than by its port's declaration.
 abbrev pub is_variable_among : List Declaration → Name → Bool
 is_variable_among [] n = false
-is_variable_among (d ∷ ds) n = (same_name d.of_name n && is_variable d) || is_variable_among ds n
+is_variable_among (d ∷ ds) n = (same_name d.of_name n && declares_variable d) || is_variable_among ds n
 
 -- the declaration of a port that is declared as a variable besides
 abbrev pub is_passed_over : List Declaration → Declaration → Bool
