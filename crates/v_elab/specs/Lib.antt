@@ -1,0 +1,4 @@
+pub mod Kept
+pub mod Start
+pub mod Names
+pub mod Elaborated
