@@ -1,5 +1,5 @@
 -- Names found by their places, and numbers that are too large to fit.
-use Rattle.std.proofs.Common.{◌≡◌, ℕ, zero, suc, ◌+◌, ◌^◌, ◌<◌, ◌≤◌, Bool, true, false, cond, nat_lt, List, [], ◌∷◌, map, length, get_or, Option, Some, None, arith, refl, ap, sym, subst, ◌∙◌, take, drop}
+use Rattle.std.proofs.Common.{Vec, Global, slice_index, bit_and, ◌&&◌, ◌==◌, ◌≡◌, ℕ, zero, suc, ◌+◌, ◌^◌, ◌<◌, ◌≤◌, Bool, true, false, cond, nat_lt, List, [], ◌∷◌, map, length, get_or, Option, Some, None, arith, refl, ap, sym, subst, ◌∙◌, take, drop}
 use Rattle.std.specs.Prelude.{option_map, IfSome, IsTrue}
 use Rattle.std.proofs.lemmas.Bool.Decides.{nat_tests}
 use Rattle.std.proofs.Math.Nat.{pow-le-pow_right}
@@ -14,7 +14,7 @@ use Rattle.ila_sim.specs.Cuts.{below, cut_at}
 use Rattle.ila_sim.specs.declared.set.Set.{Set}
 use Rattle.ila_sim.specs.Sets.{set_at, set_called, suits, suits_at, is_right}
 use Rattle.ila_sim.specs.Kinds.{addresses_of, fits_of, width_of, end_of}
-use Rattle.ila_sim.specs.Names.{settable_of}
+use Rattle.ila_sim.specs.Names.{settable_of, fits_under}
 use Rattle.ila_sim.specs.Places.{place_from, called_at}
 
 pub record IsAt (es : List Settable) (n : Name) (m : ℕ) : Type 0 where
@@ -77,6 +77,10 @@ fits_none Truth limit h k x g = past_two limit x h g
 fits_none (Word w) limit h k x g = below_power w limit x h g
 fits_none (Memory least count w) limit h k x g = below_power w limit x h g
 
+masked_none : (masks : Option (Vec ℕ Global)) (fits : ℕ → ℕ → Bool) (k x : ℕ) → fits k x ≡ false → fits_under masks fits k x ≡ false
+masked_none None fits k x h = h
+masked_none (Some m) fits k x h = ap (λ b. b && (bit_and x (slice_index m.items k) == x)) h
+
 fit_by : (s : meaning.Settable) (k x limit : ℕ) (t : Bool) → nat_lt x limit ≡ t → (limit ≤ x → s.fits k x ≡ false) → fitting s (Some k) (some_if t x) ≡ fitting s (Some k) (Some x)
 fit_by s k x limit true e h = refl
 fit_by s k x limit false e h = rw (h (at_least x limit e)) refl where
@@ -90,7 +94,8 @@ small_value limit e None (Some x) h = shown (nat_lt x limit) where
   shown true = refl
   shown false = refl
 small_value limit e (Some k) None h = refl
-small_value limit e (Some k) (Some x) h = fit_by (settable_of e) k x limit (nat_lt x limit) refl (fits_none e.kind limit h k x)
+small_value limit e (Some k) (Some x) h = fit_by (settable_of e) k x limit (nat_lt x limit) refl
+    (λ g. masked_none e.masks (fits_of e.kind) k x (fits_none e.kind limit h k x g))
 
 outside : (least count limit a : ℕ) (t : Bool) → nat_lt a limit ≡ t → least + count ≤ limit → word_named (Some (least, count)) (Some (some_if t a)) ≡ word_named (Some (least, count)) (Some (Some a))
 outside least count limit a true e h = refl

@@ -31,6 +31,7 @@ pub use running::{simulate, simulated_text};
 pub use script::Script;
 pub use set::Set;
 pub use settables::Names;
-pub use text::simulation_text;
+pub use text::{append_decimal, simulation_text};
+pub use values::{set_all, zero};
 pub use wb_terms::NoMemory;
 pub use whole::{Simulation, simulated};

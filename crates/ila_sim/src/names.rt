@@ -19,6 +19,8 @@ pub enum Kind {
 pub struct Settable {
     pub name: Vec<u8>,
     pub kind: Kind,
+    /// For each word the bits that a value may have, as a number with these bits set; none where a value may have all bits of its kind.
+    pub masks: Option<Vec<u128>>,
     pub ghost narrow: { width_of kind ≤ 128 },
     pub ghost near: { end_of kind ≤ 2 ^ 64 },
 }

@@ -38,7 +38,11 @@ fn settable(alloc: Global, name: &str, sort: Sort) -> Result<Settable, NoMemory>
 {
     let name = Vec::from_slice(alloc, name.as_bytes())?;
     let kind = kind_of(sort);
-    Ok(Settable { name, kind })
+    Ok(Settable {
+        name,
+        kind,
+        masks: None,
+    })
 }
 
 /// The state at a place.

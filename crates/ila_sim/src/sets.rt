@@ -1,10 +1,10 @@
 //! Settings of words to values.
 
-ghost use Rattle.std.specs.Prelude.{◌≡◌, ℕ, ◌<◌, ◌≤◌, ◌^◌, ◌-◌, ◌*◌, ◌+◌, Option, Some, None, option_map, IfOk, IfSome, map, length, IsTrue};
+ghost use Rattle.std.specs.Prelude.{◌≡◌, ℕ, slice_index, ◌<◌, ◌≤◌, ◌^◌, ◌-◌, ◌*◌, ◌+◌, Option, Some, None, option_map, IfOk, IfSome, map, length, IsTrue};
 ghost use Rattle.scripts.specs.Script.{at_last, before_bracket, word_at_address, word_named, fitting, set_of, set_named, set_in, sets_in, all_sets, words_of, settable_named, are_distinct_sets};
 ghost use Rattle.ila_sim.specs.Cuts.{below, cut_at};
 ghost use Rattle.ila_sim.specs.Kinds.{width_of, addresses_of, fits_of};
-ghost use Rattle.ila_sim.specs.Names.{settable_of};
+ghost use Rattle.ila_sim.specs.Names.{settable_of, fits_under};
 ghost use Rattle.ila_sim.specs.Reading.{IsReading};
 ghost use Rattle.ila_sim.specs.Sets.{is_word_of, suits, is_right, are_right, set_called, set_at, key_of, are_distinct_numbers};
 
@@ -27,6 +27,23 @@ fn fits(kind: Kind, value: u128) -> bool
         Kind::Truth => value < 2,
         Kind::Word(width) => value <= mask(width),
         Kind::Memory(_, _, width) => value <= mask(width),
+    }
+}
+
+/// The bits that a word may have.
+fn mask_at(masks: &[u128], word: u64) -> u128
+    ensures { result ≡ slice_index masks.now word }
+{
+    masks.get(word as usize).copied().unwrap_or(0)
+}
+
+/// Whether a value fits a word of a name.
+fn fits_word(settable: &Settable, word: u64, value: u128) -> bool
+    ensures { result ≡ fits_under settable.now.masks (fits_of settable.now.kind) word value }
+{
+    match &settable.masks {
+        None => fits(settable.kind, value),
+        Some(masks) => fits(settable.kind, value) && value & mask_at(masks, word) == value,
     }
 }
 
@@ -70,7 +87,7 @@ fn fitting(
 {
     let word = word_named(settable.kind, address)?;
     let value = value?;
-    if !fits(settable.kind, value) {
+    if !fits_word(settable, word, value) {
         return None;
     }
     Some(Set { place, word, value })

@@ -18,7 +18,7 @@ use std::alloc::Global;
 use wb_terms::{NoMemory, Value};
 
 /// Appends a number in decimal.
-fn append_decimal(out: &mut Vec<u8>, number: u128) -> Result<(), NoMemory>
+pub fn append_decimal(out: &mut Vec<u8>, number: u128) -> Result<(), NoMemory>
     ensures { OnOk result (out.new.items ≡ out.old.items ++ decimal number) }
 {
     let mut buffer = Buffer::new();

@@ -12,7 +12,7 @@ use std::alloc::Global;
 use wb_terms::{NoMemory, Sort, Value};
 
 /// False, the number 0, or a memory whose words are 0.
-pub(crate) fn zero(alloc: Global, sort: Sort) -> Result<Value, NoMemory>
+pub fn zero(alloc: Global, sort: Sort) -> Result<Value, NoMemory>
     requires { IsTrue (is_sort (as_sort sort)) }
     ensures { IfOk result (λ value. as_value value ≡ zero_value (as_sort sort)) }
 {
@@ -79,7 +79,7 @@ fn set(values: &mut Vec<Value>, set: &Set)
 }
 
 /// Makes all settings of a line.
-pub(crate) fn set_all(values: &mut Vec<Value>, sets: &[Set])
+pub fn set_all(values: &mut Vec<Value>, sets: &[Set])
     ensures { map as_value values.new.items ≡ with_all (map as_value values.old.items) sets.now }
 {
     for one in sets {

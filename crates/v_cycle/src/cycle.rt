@@ -1,6 +1,6 @@
 //! One cycle of a design: what its names settle to, and its registers after the clock's edge.
 
-ghost use Rattle.std.specs.Prelude.{◌≡◌, ℕ, List, Some, IfOk};
+ghost use Rattle.std.specs.Prelude.{◌≡◌, ℕ, List, Some, None, IfOk};
 ghost use Rattle.wb_values.specs.Value.{Value, numeral_of};
 ghost use Rattle.wb_terms.specs.Environment.{AreOfSorts};
 ghost use Rattle.v_design.specs.Seen.{input_values, parts_of, register_values};
@@ -71,8 +71,9 @@ impl Cycle {
     /// The number of what a net or variable settled to in the last cycle, by its dotted name. A memory has none: it gives 0.
     pub fn value(&self, design: &Design, path: &str) -> u128
         requires { IsRun (parts_of design.now) self.now }
-        ensures { (rs is : List Value) (id : ℕ) → HasRun (parts_of design.now) self.now rs is → (parts_of design.now).settled path.now ≡ Some id
+        ensures term { (rs is : List Value) (id : ℕ) → HasRun (parts_of design.now) self.now rs is → (parts_of design.now).settled path.now ≡ Some id
             → result ≡ numeral_of (value_in (parts_of design.now) rs is id) }
+        ensures none { (parts_of design.now).settled path.now ≡ None → result ≡ 0 }
     {
         match design.settled(path) {
             Some(id) => self.words.number(&design.terms, &self.env, id),

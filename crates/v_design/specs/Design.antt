@@ -1,17 +1,19 @@
 -- When terms are those of a design: they are worth what its settled valuations have, and what the clock's edge makes of its registers.
-use Rattle.std.specs.Prelude.{◌≡◌, ◌≢◌, ℕ, Bool, true, false, cond, not, List, [], ◌∷◌, map, Contains, Option, Some, IsTrue}
-use Rattle.wb_values.specs.Value.{Name, Sort, truth, word, memory, Value, Entries, Valuation, valuation_of, entry_of}
+use Rattle.std.specs.Prelude.{◌≡◌, ◌≢◌, ℕ, false, not, List, [], map, Contains, Some, IsTrue}
+use Rattle.wb_values.specs.Value.{Name, Sort, truth, word, memory, Value, Entries, Valuation, valuation_of}
 use Rattle.model_meaning.specs.Term.{sort_of}
 use Rattle.wb_terms.specs.Graph.{HasDistinctNames, tree}
 use Rattle.wb_terms.specs.Environment.{AreOfSorts, values_by_name}
-use Rattle.verilog_trees.specs.Syntax.{Direction, input, output, Module}
+use Rattle.verilog_trees.specs.Syntax.{input}
 use Rattle.verilog_meaning.specs.Expression.{Object, object_width, is_memory}
 use Rattle.verilog_meaning.specs.Register.{word_count, value_bit}
 use Rattle.verilog_meaning.specs.Hierarchy.{Placed, placed_scope, dotted}
-use Rattle.verilog_meaning.specs.Settled.{Design, at_path, IsPlacedIn, IsDeclared, IsAddressWidth, HasPort, port_order, port_directions, names_of, is_counted, inside, IsSettled}
+use Rattle.verilog_meaning.specs.Settled.{Design, at_path, IsPlacedIn, IsDeclared, IsAddressWidth, HasPort, names_of, is_counted, inside, IsSettled}
 use Rattle.verilog_meaning.specs.Next.{AreRegisters, AreInputs, IsNext}
-use Rattle.v_design.specs.Registers.{IsRegister, CountedBits, AreBitsOf}
-use Rattle.v_design.specs.Order.{AreRegisterNames}
+use Rattle.verilog_registers.specs.Registers.{IsRegister}
+use Rattle.verilog_registers.specs.Order.{AreRegisterNames}
+pub use Rattle.verilog_registers.specs.Outputs.{is_output, outputs_among, outputs_of}
+use Rattle.v_design.specs.Registers.{CountedBits, AreBitsOf}
 use Rattle.v_design.specs.Parts.{Parts, registers_of, inputs_of, bits_by_name, value_in, registers_after}
 
 -- The sort of the values of a net, variable or memory: a word of its bits, or a memory of its words by ascending address.
@@ -27,19 +29,6 @@ pub record IsDataInput (d : Design) (n : Name) (s : Sort) : Type 0 where
   pub is_input : HasPort top.of_module n input
   pub no_clock : n ≢ d.clock
   pub of_sort : IsSortOf (placed_scope top n) s
-
-abbrev pub is_output : Option Direction → Bool
-is_output (Some output) = true
-is_output _ = false
-
--- those of the names that are outputs, in their order
-abbrev pub outputs_among : Entries Direction → List Name → List Name
-outputs_among ds [] = []
-outputs_among ds (n ∷ ns) = cond (is_output (entry_of ds n)) (n ∷ outputs_among ds ns) (outputs_among ds ns)
-
--- the outputs of a module in the order of its ports
-abbrev pub outputs_of : Module → List Name
-outputs_of m = outputs_among (port_directions m) (port_order m)
 
 -- the values that a valuation gives to entries, in their order
 abbrev pub values_under : Entries Sort → Valuation → List Value

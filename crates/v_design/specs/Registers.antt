@@ -1,17 +1,10 @@
--- Registers of a design, and which of their bits count.
-use Rattle.std.specs.Prelude.{◌≡◌, ℕ, List, length, slice_index, Option, option_map, min, IsTrue}
+-- Which bits of a register count, and how its words are addressed.
+use Rattle.std.specs.Prelude.{◌≡◌, ℕ, List, length, slice_index, Option, option_map, min}
 use Rattle.wb_values.specs.Value.{Name}
 use Rattle.verilog_meaning.specs.Hierarchy.{Placed, placed_scope}
 use Rattle.verilog_meaning.specs.Register.{word_count, is_set}
-use Rattle.verilog_meaning.specs.Settled.{Design, IsPlacedIn, IsDeclared, is_counted}
-
--- A register is a net, variable or memory of which a clocked block may assign some bit.
-pub record IsRegister (d : Design) (p : Placed) (n : Name) : Type 0 where
-  pub is_placed : IsPlacedIn d p
-  pub is_declared : IsDeclared p n
-  pub word : ℕ
-  pub bit : ℕ
-  pub counts : IsTrue (is_counted p n word bit)
+use Rattle.verilog_meaning.specs.Settled.{is_counted}
+pub use Rattle.verilog_registers.specs.Registers.{IsRegister}
 
 -- The least address of a memory; what is no memory has none. For each word, by ascending address, the bits that count, as a number
 -- with these bits set; what is no memory has one word.

@@ -1,4 +1,4 @@
-use Rattle.std.proofs.Common.{◌≡◌, List, map, true, ap, ◌∙◌, subst, option_map, Bool}
+use Rattle.std.proofs.Common.{◌≡◌, map, true, ap, ◌∙◌, subst, option_map}
 use Rattle.std.proofs.lemmas.List.{length-map}
 use Rattle.ila_sim.specs.Marks.{first_unmarked}
 use Rattle.ila_sim.specs.Names.{settable_of}

@@ -1,0 +1,3 @@
+pub mod Registers
+pub mod Order
+pub mod Outputs
