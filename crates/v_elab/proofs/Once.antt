@@ -124,3 +124,10 @@ module _ (s : Scope) (q : List Statement) where
   pub a_register : (ns : List Name) (cs : List Counted) (os : List Name) (n : Name) → AreSplit s q ns cs os → IsAmong ns n → IsRegister s q n → IsAmong (register_names cs) n
   a_register ns cs os n sp h r =
       elim (told ns cs os n sp h) as (λ _. IsAmong (register_names cs) n) [ inl k ↦ k | inr k ↦ absurd ((from_other ns cs os n sp k).1 r) ]
+
+  pub counted_is : (ns : List Name) (cs : List Counted) (os : List Name) (k : Counted) → AreSplit s q ns cs os → IsAmong cs k → IsCounted s q k.of_name k
+  counted_is _ _ _ k AreSplit.end h = absurd h
+  counted_is _ _ _ k (AreSplit.register m ns c cs os is rest) (inl e) =
+      subst (λ (z : Counted). IsCounted s q z.of_name z) e (subst (λ z. IsCounted s q z c) (sym is.named) is)
+  counted_is _ _ _ k (AreSplit.register m ns c cs os is rest) (inr h) = counted_is ns cs os k rest h
+  counted_is _ _ _ k (AreSplit.other m ns cs os is rest) h = counted_is ns cs os k rest h

@@ -1,6 +1,6 @@
 -- What a module is elaborated to: its registers and inputs as names of a store, tables of terms at the start, when nets have settled and
 -- after the clock's edge, and the parts of a design that are taken from them.
-use Rattle.std.specs.Prelude.{◌≡◌, ℕ, Bool, cond, not, ◌&&◌, ◌++◌, min, List, map, length, Option, Some, None, is_some, option_map}
+use Rattle.std.specs.Prelude.{◌≡◌, ℕ, Bool, cond, not, ◌&&◌, ◌++◌, min, List, [], map, length, Option, Some, None, is_some, option_map}
 use Rattle.wb_values.specs.Value.{Name}
 use Rattle.verilog_trees.specs.Syntax.{Statement, Module}
 use Rattle.verilog_meaning.specs.Expression.{Scope, is_memory}
