@@ -1,4 +1,4 @@
-pub mod Once
-pub mod Groups
-pub mod Masks
-pub mod Split
+pub mod FirstNames
+pub mod ByNames
+pub mod WordMasks
+pub mod Splitting

@@ -1,5 +1,5 @@
 -- The registers among names of a module, and which of their bits count.
-use Rattle.std.specs.Prelude.{◌≡◌, ◌<◌, ℕ, List, [], ◌∷◌, ◌++◌, length, slice_index, ◌⊎◌, IsTrue}
+use Rattle.std.specs.Prelude.{◌≡◌, ℕ, List, [], ◌∷◌, ◌++◌, length, slice_index, ◌⊎◌, IsTrue}
 use Rattle.wb_values.specs.Value.{Name}
 use Rattle.verilog_trees.specs.Syntax.{Statement}
 use Rattle.verilog_meaning.specs.Expression.{Scope, is_memory}

@@ -54,16 +54,3 @@ pub(crate) fn grouped<'s>(
     }
     Ok(table)
 }
-
-/// The spans under a name.
-pub(crate) fn spans_of<'t, 's>(
-    table: &'t BTreeMap<&'s str, Vec<Span<'s>>>,
-    name: &str,
-) -> &'t [Span<'s>]
-    ensures { result.now ≡ spans_under table.now name.now }
-{
-    match table.get(name) {
-        Some(spans) => spans,
-        None => &[],
-    }
-}

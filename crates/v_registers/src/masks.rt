@@ -1,6 +1,6 @@
 //! For each word of a name the bits that spans have of it.
 
-ghost use Rattle.std.specs.Prelude.{◌≡◌, ◌<◌, ◌&&◌, ◌||◌, ℕ, length, replicate, slice_index, IfOk};
+ghost use Rattle.std.specs.Prelude.{◌≡◌, ◌<◌, ◌≤◌, ◌&&◌, ◌||◌, ◌⊎◌, ℕ, length, replicate, slice_index, IfOk};
 ghost use Rattle.verilog_meaning.specs.Register.{is_set};
 ghost use Rattle.v_flow.specs.Spans.{is_between, bits_in};
 ghost use Rattle.v_registers.specs.Masks.{is_whole, whole_bit, whole_bits, part_bit, part_bits, has_bits};
@@ -49,13 +49,24 @@ fn copies(alloc: Global, number: u128, count: usize) -> Result<Vec<u128>, NoMemo
     Ok(numbers)
 }
 
+/// The end of words that there are, where a name has so many.
+fn cut(to: u64, count: usize) -> usize
+    ensures within { result ≤ count }
+    ensures cut { (result ≡ to) ⊎ ((result ≡ count) × (count ≤ to)) }
+{
+    if to < count as u64 {
+        to as usize
+    } else {
+        count
+    }
+}
+
 /// Adds bits to some words: those from `from` on, and before `to`.
 fn add_bits(masks: &mut [u128], from: u64, to: u64, bits: u128)
     ensures long { length masks.new ≡ length masks.old }
     ensures bits { (k b : ℕ) → k < length masks.old → is_set (slice_index masks.new k) b ≡ (is_set (slice_index masks.old k) b || (is_between from to k && is_set bits b)) }
 {
-    let count = masks.len();
-    let last = if to < count as u64 { to as usize } else { count };
+    let last = cut(to, masks.len());
     for k in from as usize..last {
         masks[k] = masks[k] | bits;
     }

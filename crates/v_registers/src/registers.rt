@@ -1,6 +1,6 @@
 //! The registers among names of a module.
 
-ghost use Rattle.std.specs.Prelude.{◌≡◌, ◌∷◌, [], map, IfOk, OnOk};
+ghost use Rattle.std.specs.Prelude.{◌≡◌, ◌||◌, ◌∷◌, [], map, IfOk, OnOk};
 ghost use Rattle.verilog_meaning.specs.Expression.{is_memory};
 ghost use Rattle.verilog_meaning.specs.Register.{clocked_blocks, counts, word_count};
 ghost use Rattle.verilog_trees.specs.Syntax.{Statement};
@@ -11,11 +11,12 @@ ghost use Rattle.v_value.specs.Narrow.{HasNarrowObjects};
 ghost use Rattle.v_scopes.specs.Scopes.{scope_in};
 ghost use Rattle.v_drivers.specs.Premises.{AreNarrowBlocks};
 ghost use Rattle.v_registers.specs.Groups.{bits_under};
+ghost use Rattle.v_registers.specs.Masks.{has_bits};
 ghost use Rattle.v_registers.specs.Registers.{AreMasks, AreSplit, IsAdded, counted_of};
 
 use crate::NoMemory;
 use crate::clocked::clocked_spans;
-use crate::groups::{grouped, spans_of};
+use crate::groups::grouped;
 use crate::masks::{has_bits, masks_of};
 use std::alloc::Global;
 use std::collections::BTreeMap;
@@ -62,6 +63,17 @@ fn is_memory(object: Object) -> bool
     object.addresses.is_some()
 }
 
+/// Whether a name with these masks is that of a register.
+fn is_register(masks: &[u128], object: Object) -> bool
+    ensures { result ≡ (has_bits masks.now || is_memory (object_of object)) }
+{
+    if has_bits(masks) {
+        true
+    } else {
+        is_memory(object)
+    }
+}
+
 /// The masks of a name.
 fn masks_under<'s>(
     alloc: Global,
@@ -72,8 +84,16 @@ fn masks_under<'s>(
     ensures { IfOk result (λ v. (clocked : List Statement) → bits_under groups.now ≡ counts (scope_in names.now) clocked → AreMasks (scope_in names.now) clocked name.now v.items) }
 {
     let count = word_count(names.object(name));
-    let masks = masks_of(alloc, spans_of(groups, name), name, count)?;
-    Ok(masks)
+    match groups.get(name) {
+        Some(spans) => {
+            let masks = masks_of(alloc, spans, name, count)?;
+            Ok(masks)
+        }
+        None => {
+            let masks = masks_of(alloc, &[], name, count)?;
+            Ok(masks)
+        }
+    }
 }
 
 /// Adds a name to the registers, if it is that of one, and else to the others.
@@ -89,7 +109,7 @@ fn add_name<'s>(
         (map (λ n. n.now) split.old.others.items) (map (λ n. n.now) split.new.others.items)) }
 {
     let masks = masks_under(alloc, groups, names, name)?;
-    if has_bits(&masks) || is_memory(names.object(name)) {
+    if is_register(&masks, names.object(name)) {
         split.registers.push(Register { name, masks })?;
     } else {
         split.others.push(name)?;

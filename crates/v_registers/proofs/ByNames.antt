@@ -54,5 +54,5 @@ none_grouped t e = λ i q k b. (at q k b) i
     at : (q : Name) (k b : ℕ) → bits_under t q k b ≡ false
     at q k b = ap (λ (es : List (Bor (List ℕ) × Vec Span Global)). bits_in (items_of (lookup (is_at (λ (c : Bor (List ℕ)). slice_cmp nat_cmp q c.now)) es)) q k b) e
 
-pub from_nothing : (t m p : BitSet) → m ≡ no_bits → t ≡ or_in m p → t ≡ p
-from_nothing t m p e h = h ∙ ap (λ (z : BitSet). or_in z p) e
+pub nothing_before : (m p : BitSet) → m ≡ no_bits → p ≡ or_in m p
+nothing_before m p e = ap (λ (z : BitSet). or_in z p) (sym e)

@@ -1,6 +1,13 @@
 -- Names that stand first, told from those before by a set.
 use Rattle.std.proofs.Common.{◌≡◌, ◌∙◌, refl, ap, sym, subst, Bool, true, false, cond, List, [], ◌∷◌, ◌++◌, append_assoc, append-nil}
+use Rattle.std.proofs.Common.{ℕ, Bor}
+use Rattle.std.specs.Ordering.{nat_cmp}
+use Rattle.std.specs.Cmp.Lexicographic.{slice_cmp}
+use Rattle.std.specs.BTreeSet as sorted
+use Rattle.std.specs.BTreeSet.{BTreeSet}
 use Rattle.std.proofs.lemmas.Slice.Eq.{bytes_eq-Decides}
+use Rattle.std.proofs.lemmas.Map.Text.{is_eq-slice_cmp}
+use Rattle.v_hier.specs.Tables.{has_name}
 use Rattle.wb_values.specs.Value.{Name, same_name}
 use Rattle.v_registers.specs.Once.{others, each_once, outside}
 
@@ -62,3 +69,10 @@ once_turn f g n ns found new all h e i = by (f n) refl
 pub none_seen : (f : Name → Bool) → ((q : Name) → f q ≡ false) → (ns : List Name) → outside f ns ≡ ns
 none_seen f h [] = refl
 none_seen f h (n ∷ ns) = chosen (f n) false (outside f ns) (n ∷ outside f ns) (h n) ∙ ap (λ xs. n ∷ xs) (none_seen f h ns)
+
+-- a set with one name more
+pub has_more : (s n : BTreeSet (Bor (List ℕ))) (k : Bor (List ℕ)) (b : Bool) → sorted.Updates (λ x y. slice_cmp nat_cmp x.now y.now) s n k b → (q : Name)
+    → has_name n q ≡ cond (same_name k.now q) b (has_name s q)
+has_more s n k b u q =
+    let at_q : Bor (List ℕ) = record { ref_ptr = (0, 0); now = q } in
+    u.0 at_q ∙ ap (λ t. cond t b (has_name s q)) (is_eq-slice_cmp k.now q)

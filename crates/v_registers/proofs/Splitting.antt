@@ -1,9 +1,14 @@
 -- The names of a module, one after the other told as registers or others.
-use Rattle.std.proofs.Common.{◌≡◌, ◌∙◌, ℕ, ◌<◌, refl, ap, sym, subst, Bool, true, false, ◌⊎◌, inl, inr, List, [], ◌∷◌, ◌++◌, append_assoc, append-nil, length, slice_index, arith}
-use Rattle.std.specs.Prelude.{◌&&◌, ◌||◌, IsTrue, nat_lt}
-use Rattle.std.proofs.lemmas.Bool.{cases_lt, false≢true, and_parts}
+use Rattle.std.proofs.Common.{◌≡◌, ◌∙◌, ℕ, ◌<◌, ◌≤◌, refl, ap, sym, subst, Bool, true, false, ◌⊎◌, inl, inr, List, [], ◌∷◌, ◌++◌, append_assoc, append-nil, length, slice_index, arith}
+use Rattle.std.specs.Prelude.{◌&&◌, ◌||◌, nat_lt}
+use Rattle.std.proofs.Common.{Bor}
+use Rattle.std.specs.Global.{Global}
+use Rattle.std.specs.declared.vec.Vec.{Vec}
+use Rattle.std.specs.BTreeMap.{BTreeMap}
+use Rattle.std.proofs.lemmas.Bool.{cases_lt, false≢true, or_parts}
 use Rattle.std.proofs.lemmas.Bool.Decides.{nat_tests}
-use Rattle.std.proofs.lemmas.List.{get_or_past}
+use Rattle.std.proofs.Common.{◌+◌, drop, get_or, map}
+use Rattle.std.proofs.lemmas.List.{get_or_past, drop_more}
 use Rattle.wb_values.specs.Value.{Name}
 use Rattle.verilog_trees.specs.Syntax.{Statement}
 use Rattle.verilog_trees.specs.Syntax as pure
@@ -12,11 +17,13 @@ use Rattle.verilog_meaning.specs.Register.{clocked_blocks, counts, is_bit_of, ma
 use Rattle.verilog_designs.specs.Reads.{BitSet, no_bits, or_in}
 use Rattle.v_masks.proofs.Bits.{set-none}
 use Rattle.v_flow.proofs.Sets.{or_false, or_assoc}
-use Rattle.v_flow.specs.Spans.{existing}
+use Rattle.v_flow.specs.declared.span.Span.{Span}
+use Rattle.v_flow.specs.Spans.{bits_in, existing}
 use Rattle.v_drivers.proofs.Driving.{clocked-of-items}
+use Rattle.v_registers.specs.Groups.{spans_under, bits_under}
 use Rattle.v_registers.specs.Masks.{has_bits}
-use Rattle.v_registers.specs.Registers.{HasCounted, IsRegister, AreMasks, Counted, IsCounted, AreSplit, IsAdded}
-use Rattle.v_registers.proofs.Masks.{no_bits_in, some_bit_in}
+use Rattle.v_registers.specs.Registers.{HasCounted, IsRegister, AreMasks, Counted, AreSplit, IsAdded}
+use Rattle.v_registers.proofs.WordMasks.{no_bits_in, some_bit_in}
 
 -- ---- the bits of blocks, one after the other
 
@@ -103,3 +110,37 @@ pub split_end : (s : Scope) (q : List Statement) (all rest : List Name) (cs : Li
 split_end s q all rest cs os e f =
     subst (λ xs. AreSplit s q all xs os) (append-nil cs)
     (subst (AreSplit s q all (cs ++ [])) (append-nil os) (f [] [] (subst (λ xs. AreSplit s q xs [] []) (sym e) AreSplit.end)))
+
+pub masks_so : (s : Scope) (q : List Statement) (n : Name) (t : BTreeMap (Bor (List ℕ)) (Vec Span Global)) (masks : List ℕ) (count : ℕ) (spans : List Span)
+    → count ≡ word_count (s n) → spans ≡ spans_under t n → length masks ≡ count → ((k b : ℕ) → k < count → is_set (slice_index masks k) b ≡ bits_in spans n k b)
+    → bits_under t ≡ counts s q → AreMasks s q n masks
+masks_so s q n t masks count spans c is long bits e =
+    are_masks s q n masks (long ∙ c)
+    (λ k b h. bits k b (subst (λ z. k < z) (sym c) h) ∙ ap (λ xs. bits_in xs n k b) is ∙ ap (λ (f : BitSet). f n k b) e)
+
+pub added : (s : Scope) (q : List Statement) (n : Name) (c : Counted) (old new : List Counted) (os os_new : List Name) → c.of_name ≡ n → AreMasks s q n c.masks
+    → (has_bits c.masks || is_memory (s n)) ≡ true → new ≡ old ++ c ∷ [] → os_new ≡ os → IsAdded s q n old new os os_new
+added s q n c old new os os_new named are t is same =
+    inl (c, record { named = named; is_register = by (has_bits c.masks) refl t; masks = are }, is, same)
+  where
+    by : (b : Bool) → has_bits c.masks ≡ b → (b || is_memory (s n)) ≡ true → IsRegister s q n
+    by true e g = inl (by_bits s q n c.masks are e)
+    by false e g = inr g
+
+pub not_added : (s : Scope) (q : List Statement) (n : Name) (masks : List ℕ) (old new : List Counted) (os os_new : List Name) → AreMasks s q n masks
+    → (has_bits masks || is_memory (s n)) ≡ false → new ≡ old → os_new ≡ os ++ n ∷ [] → IsAdded s q n old new os os_new
+not_added s q n masks old new os os_new are t is more =
+    let p = or_parts (has_bits masks) (is_memory (s n)) t in
+    inr (by_none s q n masks are p.0 p.1, is, more)
+
+pub split_start : (s : Scope) (q : List Statement) (all : List Name) (cs : List Counted) (os : List Name) → cs ≡ [] → os ≡ [] → SplitSoFar s q all all cs os
+split_start s q all cs os e f = λ ds ns h.
+    subst (λ xs. AreSplit s q all (xs ++ ds) (os ++ ns)) (sym e) (subst (λ xs. AreSplit s q all ds (xs ++ ns)) (sym f) h)
+
+pub name_turn : (s t : Scope) (q : List Statement) (ns : List (Bor Name)) (i : ℕ) (d : Bor Name) (cs cs_new : List Counted) (os os_new : List Name) → s ≡ t → i < length ns
+    → IsAdded t q (get_or ns i d).now cs cs_new os os_new → SplitSoFar s q (map (λ n. n.now) ns) (map (λ n. n.now) (drop i ns)) cs os
+    → SplitSoFar s q (map (λ n. n.now) ns) (map (λ n. n.now) (drop (i + 1) ns)) cs_new os_new
+name_turn s t q ns i d cs cs_new os os_new e l h f =
+    split_turn s q (map (λ n. n.now) ns) (get_or ns i d).now (map (λ n. n.now) (drop (i + 1) ns)) cs cs_new os os_new
+    (subst (λ xs. SplitSoFar s q (map (λ n. n.now) ns) (map (λ n. n.now) xs) cs os) (drop_more ns i d l) f)
+    (subst (λ (z : Scope). IsAdded z q (get_or ns i d).now cs cs_new os os_new) (sym e) h)

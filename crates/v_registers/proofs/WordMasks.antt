@@ -1,6 +1,8 @@
 -- Masks of the words of a name, from spans that have all words and from the others.
-use Rattle.std.proofs.Common.{◌≡◌, ◌∙◌, ℕ, suc, zero, ◌+◌, ◌<◌, ◌≤◌, refl, ap, sym, Bool, true, false, not, ◌⊎◌, inl, inr, List, [], ◌∷◌, length, slice_index, slice_set, bit_or, arith, get_or-set_same, get_or-set_other}
-use Rattle.std.specs.Prelude.{◌&&◌, ◌||◌, ◌==◌}
+use Rattle.std.proofs.Common.{◌≡◌, ◌∙◌, ℕ, suc, zero, ◌+◌, ◌<◌, ◌≤◌, refl, ap, sym, Bool, true, false, not, ◌⊎◌, inl, inr, List, [], ◌∷◌, ◌++◌, length, take, drop, get_or, replicate, slice_index, slice_set, bit_or, subst, arith, get_or-set_same, get_or-set_other}
+use Rattle.std.proofs.lemmas.List.{drop_more, take_at, length-replicate}
+use Rattle.v_flow.proofs.Sets.{or_assoc}
+use Rattle.std.specs.Prelude.{◌&&◌, ◌||◌, ◌==◌, nat_le}
 use Rattle.std.proofs.lemmas.Bool.{cases_eq, false≢true}
 use Rattle.std.proofs.lemmas.Bool.Decides.{nat_tests}
 use Rattle.wb_values.specs.Value.{Name, same_name}
@@ -126,3 +128,52 @@ some_bit_in (m ∷ ms) h = by (m == 0) refl h (some_bit_in ms)
         → (k : ℕ) × (b : ℕ) × (is_set (slice_index (m ∷ ms) k) b ≡ true)
     by true e g i = let r = i g in (suc r.0, r.1, r.2)
     by false e g i = let r = some-bit m m (at_most m) (some_is m e) in (zero, r.0, r.1)
+
+-- ---- lists of masks
+
+-- the words that were gone through, and those that there are
+between_all : (from k last to count j : ℕ) → j < count → (k ≡ from) ⊎ (k ≤ last) → last ≤ k → (last ≡ to) ⊎ ((last ≡ count) × (count ≤ to))
+    → is_between from k j ≡ is_between from to j
+between_all from k last to count j h (inl a) b (inl c) = grind (arith, nat_tests)
+between_all from k last to count j h (inr a) b (inl c) = grind (arith, nat_tests)
+between_all from k last to count j h (inl a) b (inr c) = at c.0 c.1
+  where
+    at : last ≡ count → count ≤ to → is_between from k j ≡ is_between from to j
+    at p q = grind (arith, nat_tests)
+between_all from k last to count j h (inr a) b (inr c) = at c.0 c.1
+  where
+    at : last ≡ count → count ≤ to → is_between from k j ≡ is_between from to j
+    at p q = grind (arith, nat_tests)
+
+pub all_between : (from k last to count j : ℕ) (c : Bool) → j < count → (k ≡ from) ⊎ (k ≤ last) → last ≤ k → (last ≡ to) ⊎ ((last ≡ count) × (count ≤ to))
+    → (is_between from k j && c) ≡ (is_between from to j && c)
+all_between from k last to count j c h a b d = ap (λ t. t && c) (between_all from k last to count j h a b d)
+
+pub whole_turn : (xs : List Span) (i : ℕ) (d : Span) (n : Name) (count b bits r : ℕ) (all : Bool) → i < length xs → is_set r b ≡ whole_bit (get_or xs i d) n count b
+    → (is_set bits b || whole_bits (drop i xs) n count b) ≡ all → (is_set (bit_or bits r) b || whole_bits (drop (i + 1) xs) n count b) ≡ all
+whole_turn xs i d n count b bits r all h e f =
+    ap (λ t. t || whole_bits (drop (i + 1) xs) n count b) (set-or bits r b ∙ ap (λ t. is_set bits b || t) e)
+    ∙ or_assoc (is_set bits b) (whole_bit (get_or xs i d) n count b) (whole_bits (drop (i + 1) xs) n count b)
+    ∙ ap (λ ys. is_set bits b || whole_bits ys n count b) (sym (drop_more xs i d h)) ∙ f
+
+replicate_at : (n x k : ℕ) → k < n → slice_index (replicate n x) k ≡ x
+replicate_at zero x k h = absurd (omega (arith, h))
+replicate_at (suc n) x zero h = refl
+replicate_at (suc n) x (suc k) h = replicate_at n x k (omega (arith, h))
+
+written_over : (n : ℕ) (xs ys : List ℕ) → length xs ≡ n → take n (xs ++ drop (length xs) ys) ≡ xs
+written_over n xs ys e = ap (λ k. take k (xs ++ drop (length xs) ys)) (sym e) ∙ take_at xs (drop (length xs) ys) (length xs) refl
+
+pub all_masked : (spans : List Span) (n : Name) (count common : ℕ) (items old new : List ℕ) (len : ℕ) → items ≡ replicate count common → old ≡ items → len ≡ length items
+    → length new ≡ length old → ((b : ℕ) → is_set common b ≡ whole_bits spans n count b)
+    → ((k b : ℕ) → k < length old → is_set (slice_index new k) b ≡ (is_set (slice_index old k) b || part_bits spans n (length old) k b))
+    → (k b : ℕ) → k < count → is_set (slice_index (take len (new ++ drop (length new) items)) k) b ≡ bits_in spans n k b
+all_masked spans n count common items old new len is o l long whole part k b h =
+    let m : length old ≡ count = ap length (o ∙ is) ∙ length-replicate count common in
+    ap (λ xs. is_set (slice_index xs k) b) (written_over len new items (long ∙ ap length o ∙ sym l))
+    ∙ part k b (subst (λ c. k < c) (sym m) h)
+    ∙ ap (λ xs. is_set (slice_index xs k) b || part_bits spans n (length old) k b) (o ∙ is)
+    ∙ ap (λ x. is_set x b || part_bits spans n (length old) k b) (replicate_at count common k h)
+    ∙ ap (λ t. t || part_bits spans n (length old) k b) (whole b)
+    ∙ ap (λ c. whole_bits spans n count b || part_bits spans n c k b) m
+    ∙ together spans n count k b h
