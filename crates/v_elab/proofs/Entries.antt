@@ -1,6 +1,5 @@
 -- Entries of names, and the names that they have.
-use Rattle.std.proofs.Common.{◌≡◌, ◌∙◌, ℕ, suc, refl, ap, sym, subst, Bool, true, false, cond, take, drop, length, List, [], ◌∷◌, ◌++◌, ◌⊎◌, inl, inr, Option, Some, None, is_some}
-use Rattle.std.proofs.lemmas.Bool.{false≢true}
+use Rattle.std.proofs.Common.{◌≡◌, ◌∙◌, refl, ap, sym, subst, Bool, true, false, cond, take, drop, length, List, [], ◌∷◌, ◌++◌, inl, inr, Some, is_some}
 use Rattle.wb_values.specs.Value.{Name, same_name, Sort, Entries, entry_of}
 use Rattle.verilog_meaning.specs.Expression.{Scope}
 use Rattle.verilog_meaning.specs.Settled.{names_of}

@@ -1,7 +1,7 @@
 -- What names stand for where entries have values in their order.
-use Rattle.std.proofs.Common.{◌≡◌, ◌∙◌, refl, ap, sym, subst, Bool, true, false, cond, map, List, [], ◌∷◌, ◌++◌, ◌⊎◌, inl, inr, Option, Some, None, is_some}
+use Rattle.std.proofs.Common.{◌≡◌, refl, ap, sym, subst, Bool, true, false, cond, map, List, [], ◌∷◌, ◌++◌, inl, inr, Some, is_some}
 use Rattle.std.proofs.lemmas.Bool.{false≢true}
-use Rattle.wb_values.specs.Value.{Name, same_name, Sort, Value, Entries, entry_of, Valuation, value_or_zero, valuation_of, HasSort}
+use Rattle.wb_values.specs.Value.{Name, same_name, Sort, Value, Entries, entry_of, Valuation, HasSort}
 use Rattle.wb_terms.specs.Environment.{AreOfSorts, values_by_name}
 use Rattle.verilog_unique.proofs.Options.{same_is}
 use Rattle.verilog_unique.proofs.Descent.{IsAmong}

@@ -1,28 +1,28 @@
 -- What the tables at the start stand for, where registers and inputs have some values.
-use Rattle.std.proofs.Common.{◌≡◌, ◌≢◌, ◌∙◌, ℕ, zero, suc, refl, ap, sym, subst, Bool, true, false, cond, ◌&&◌, map, take, drop, length, List, [], ◌∷◌, ◌++◌, ◌⊎◌, inl, inr, Option, Some, None, is_some, Contains}
+use Rattle.std.proofs.Common.{◌≡◌, ◌≢◌, ◌∙◌, ℕ, refl, ap, sym, subst, Bool, true, false, cond, ◌&&◌, take, drop, length, List, [], ◌∷◌, ◌++◌, ◌⊎◌, inl, inr, Option, Some, None, is_some, Contains}
 use Rattle.std.specs.Prelude.{IsTrue}
 use Rattle.std.proofs.lemmas.Bool.{cases_Bool, false≢true, true≢false}
 use Rattle.std.proofs.lemmas.List.{take-append-drop, length-map}
 use Rattle.wb_values.specs.Value.{Name, Sort, Value, Entries, entry_of, Valuation, value_or_zero, HasSort}
 use Rattle.model_meaning.specs.Term.{val}
 use Rattle.verilog_trees.specs.Syntax.{Statement, input, Module}
-use Rattle.verilog_meaning.specs.Expression.{Scope, is_memory}
+use Rattle.verilog_meaning.specs.Expression.{Scope}
 use Rattle.verilog_meaning.specs.Register.{value_bit, counts}
 use Rattle.verilog_meaning.specs.Hierarchy.{declarations}
-use Rattle.verilog_meaning.specs.Settled.{Design, at_path, IsPlacedIn, IsDeclared, IsValueOf, HasPort, is_counted, IsBitOf, IsSettled}
+use Rattle.verilog_meaning.specs.Settled.{Design, at_path, IsDeclared, IsValueOf, HasPort, is_counted, IsBitOf}
 use Rattle.verilog_meaning.specs.Next.{AreInputs}
 use Rattle.verilog_designs.specs.Names.{is_among}
 use Rattle.wb_terms.specs.Graph.{Graph, tree}
-use Rattle.wb_terms.specs.Environment.{AreOfSorts, values_by_name}
+use Rattle.wb_terms.specs.Environment.{values_by_name}
 use Rattle.verilog_unique.proofs.Descent.{IsAmong, among_either, among_contains}
 use Rattle.verilog_unique.proofs.Ports.{port_is_declared}
 use Rattle.v_scopes.specs.Ports.{alone}
-use Rattle.v_lower.specs.Lowered.{Images, IsSortOf, StandsFor}
+use Rattle.v_lower.specs.Lowered.{StandsFor}
 use Rattle.v_settle.specs.OneModule.{is_driven}
 use Rattle.v_settle.specs.Designs.{IsGivenTo}
 use Rattle.v_design.specs.Parts.{Parts, registers_of, inputs_of, at_cycle}
 use Rattle.v_design.specs.Design.{values_under, FitRegisters}
-use Rattle.v_registers.specs.Registers.{IsRegister, HasCounted, Counted}
+use Rattle.v_registers.specs.Registers.{IsRegister}
 use Rattle.v_elab.specs.Kept.{FitsNames, IsKept, IsGiven, IsWorth}
 use Rattle.v_elab.specs.Names.{AreEntriesOf, chosen}
 use Rattle.v_elab.specs.Elaborated.{IsElaborated, scope, clocked, declared, register_names}

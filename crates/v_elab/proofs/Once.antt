@@ -1,5 +1,5 @@
 -- Which names a module declares, each once, and which of them are registers.
-use Rattle.std.proofs.Common.{◌≡◌, ◌∙◌, refl, ap, sym, subst, Bool, true, false, cond, map, List, [], ◌∷◌, ◌++◌, ◌⊎◌, inl, inr}
+use Rattle.std.proofs.Common.{◌≡◌, ◌∙◌, refl, ap, sym, subst, Bool, true, false, cond, List, [], ◌∷◌, ◌⊎◌, inl, inr}
 use Rattle.std.specs.Prelude.{IsTrue, ◌||◌}
 use Rattle.std.proofs.lemmas.Bool.{false≢true}
 use Rattle.wb_values.specs.Value.{Name, same_name}
@@ -8,7 +8,7 @@ use Rattle.verilog_meaning.specs.Expression.{Scope}
 use Rattle.verilog_meaning.specs.Hierarchy.{Declaration}
 use Rattle.verilog_meaning.specs.Settled.{is_declared_among}
 use Rattle.verilog_designs.specs.Names.{is_among}
-use Rattle.verilog_unique.proofs.Options.{same_is, is_same, either_true}
+use Rattle.verilog_unique.proofs.Options.{same_is, is_same}
 use Rattle.verilog_unique.proofs.Descent.{IsAmong}
 use Rattle.v_registers.specs.Once.{others, each_once}
 use Rattle.v_registers.specs.Registers.{IsRegister, Counted, IsCounted, AreSplit}

@@ -1,14 +1,14 @@
 -- The registers of a module without instances stand in the order of its declarations.
-use Rattle.std.proofs.Common.{◌≡◌, ◌∙◌, refl, ap, sym, subst, Bool, true, false, cond, map, List, [], ◌∷◌, ◌++◌, append-nil, append_assoc, ◌⊎◌, inl, inr}
-use Rattle.std.specs.Prelude.{IsTrue, ◌||◌}
+use Rattle.std.proofs.Common.{◌≡◌, ◌∙◌, refl, ap, sym, subst, Bool, true, false, cond, map, List, [], ◌∷◌, ◌++◌, append-nil, ◌⊎◌, inl, inr}
+use Rattle.std.specs.Prelude.{IsTrue}
 use Rattle.std.specs.List.{list_any}
 use Rattle.std.proofs.lemmas.Bool.{false≢true, or_parts}
 use Rattle.std.proofs.lemmas.List.{map-append}
 use Rattle.wb_values.specs.Value.{Name, same_name}
-use Rattle.verilog_trees.specs.Syntax.{Statement, PortDeclaration, Item, port, parameter, wires, variables, assign, always, instances, Module}
+use Rattle.verilog_trees.specs.Syntax.{Item, port, parameter, wires, variables, assign, always, instances, Module}
 use Rattle.verilog_meaning.specs.Expression.{is_memory}
-use Rattle.verilog_meaning.specs.Hierarchy.{Declaration, each_port, wire_declarations, variable_declarations, item_declarations, port_declarations, header_ports, declarations, placed_scope}
-use Rattle.verilog_meaning.specs.Settled.{Design, at_path, IsPlacedIn, IsDeclared}
+use Rattle.verilog_meaning.specs.Hierarchy.{Declaration, each_port, wire_declarations, variable_declarations, item_declarations, port_declarations, header_ports, declarations}
+use Rattle.verilog_meaning.specs.Settled.{Design, IsPlacedIn, IsDeclared}
 use Rattle.verilog_registers.specs.Registers as design
 use Rattle.verilog_registers.specs.Order as order
 use Rattle.verilog_registers.specs.Order.{Part, net, instance, same_part, nets, instances_in, item_parts, parts_in, AreInOrder}
@@ -16,7 +16,7 @@ use Rattle.verilog_unique.proofs.Descent.{IsAmong}
 use Rattle.v_hier.specs.Instances.{is_part, is_any, module_has_parts}
 use Rattle.v_scopes.specs.Ports.{alone}
 use Rattle.v_registers.specs.Once.{others, each_once}
-use Rattle.v_registers.specs.Registers.{HasCounted, IsRegister, Counted, IsCounted, AreSplit}
+use Rattle.v_registers.specs.Registers.{IsRegister, Counted, AreSplit}
 use Rattle.v_elab.specs.Elaborated.{names_in, register_names, scope, clocked, declared}
 
 -- ---- parts that are nets

@@ -1,12 +1,12 @@
 -- Values of nets, variables and memories are of the sorts of their names.
-use Rattle.std.proofs.Common.{◌≡◌, ◌∙◌, ℕ, ◌^◌, ◌<◌, zero, suc, refl, ap, sym, subst, Bool, true, false, cond, ◌&&◌, not, List, [], ◌∷◌, length, slice_index, Option, Some, None, arith, le_antisymm}
-use Rattle.std.specs.Prelude.{IsTrue, nat_lt, ◌==◌}
-use Rattle.std.proofs.lemmas.Bool.{and_from, false≢true}
+use Rattle.std.proofs.Common.{◌≡◌, ◌∙◌, ℕ, ◌^◌, ◌<◌, suc, refl, ap, sym, subst, true, List, [], ◌∷◌, length, slice_index, arith, le_antisymm}
+use Rattle.std.specs.Prelude.{nat_lt, ◌==◌}
+use Rattle.std.proofs.lemmas.Bool.{and_from}
 use Rattle.std.proofs.lemmas.Bool.Decides.{nat_tests}
 use Rattle.wb_values.specs.Value.{Sort, truth, word, memory, all_below, Value, truth_value, number as a_number, words, HasSort}
 use Rattle.verilog_meaning.specs.Expression.{Object, object_width, is_memory}
 use Rattle.verilog_meaning.specs.Register.{word_count}
-use Rattle.verilog_meaning.specs.Settled.{IsAddressWidth, AreWords, IsValueOf}
+use Rattle.verilog_meaning.specs.Settled.{IsAddressWidth, IsValueOf}
 use Rattle.verilog_settled.proofs.Values.{not_both}
 use Rattle.v_lower.specs.Lowered.{IsSortOf}
 

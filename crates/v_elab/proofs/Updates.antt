@@ -1,13 +1,12 @@
 -- A bit after updates: two valuations that have it alike have it alike afterwards, and a bit that no block may assign stays.
-use Rattle.std.proofs.Common.{◌≡◌, ◌∙◌, ℕ, ◌+◌, ◌/◌, ◌%◌, ◌^◌, ◌<◌, ◌≤◌, max, refl, sym, ap, subst, Bool, true, false, cond, ◌&&◌, ◌⊎◌, inl, inr, List, [], ◌∷◌, ◌++◌, slice_index, slice_set, length, arith}
-use Rattle.std.specs.Prelude.{IsTrue}
+use Rattle.std.proofs.Common.{◌≡◌, ◌∙◌, ℕ, ◌/◌, ◌%◌, ◌^◌, ◌<◌, ◌≤◌, max, refl, sym, ap, subst, Bool, true, false, cond, ◌&&◌, ◌⊎◌, inl, inr, List, [], ◌∷◌, ◌++◌, slice_index, slice_set, length}
 use Rattle.std.proofs.Common.{length-set, get_or-set_same, get_or-set_other}
 use Rattle.std.proofs.lemmas.List.{set_past}
 use Rattle.std.proofs.lemmas.Bool.{cases_lt, cases_eq, cases_Bool, and_cases, or_parts, false≢true}
 use Rattle.wb_values.specs.Value.{Name, same_name, Value, truth_value, number as a_number, words, Valuation}
 use Rattle.verilog_trees.specs.Syntax.{Target, place, joined, Targets, no_targets, target, CaseKind, Statement, empty, blocking, nonblocking, if_then, if_else, case, block, Statements, no_statements, statement, CaseItems, no_items, arm, default_arm}
-use Rattle.verilog_meaning.specs.Expression.{Object, Scope, object_width, is_memory, Bits, width_of, sign_of, value_of, is_true, assigned_value}
-use Rattle.verilog_meaning.specs.Statement.{Cell, variable_cell, word_cell, no_cell, Place, places, all_places, places_width, target_width, with_bits, written_cell, written_place, written, Update, Effect, unchanged, items_width, items_signed, any_matches, run, run_all, run_case, with_update, with_updates}
+use Rattle.verilog_meaning.specs.Expression.{Object, Scope, object_width, is_memory, Bits, width_of, sign_of, value_of, is_true}
+use Rattle.verilog_meaning.specs.Statement.{Cell, variable_cell, word_cell, no_cell, Place, places, all_places, places_width, with_bits, written_cell, written_place, written, Update, Effect, unchanged, items_width, items_signed, any_matches, run, run_all, run_case, with_update, with_updates}
 use Rattle.verilog_meaning.specs.Register.{may_mean, may_reach, may_reach_one, may_assign, may_assign_in_all, may_assign_in_case, one_may_assign, value_bit, updates_of_blocks}
 use Rattle.verilog_settled.specs.Locality.{HasNoConstantMemory}
 use Rattle.verilog_settled.proofs.Bits.{with_bits_fits}

@@ -1,10 +1,10 @@
 -- What a module is elaborated to is the design.
-use Rattle.std.proofs.Common.{◌≡◌, ◌≢◌, ◌∙◌, ℕ, ◌<◌, ◌≤◌, zero, suc, refl, ap, sym, subst, Bool, true, false, cond, not, ◌&&◌, map, take, drop, length, slice_index, List, [], ◌∷◌, ◌++◌, ◌⊎◌, inl, inr, Option, Some, None, is_some, option_map, min, Contains, arith}
+use Rattle.std.proofs.Common.{◌≡◌, ◌∙◌, ℕ, ◌<◌, zero, suc, refl, ap, sym, subst, Bool, true, false, cond, not, ◌&&◌, map, drop, slice_index, List, [], ◌∷◌, ◌⊎◌, inl, inr, Option, Some, None, is_some, Contains, arith}
 use Rattle.std.specs.Prelude.{IsTrue}
 use Rattle.std.proofs.lemmas.Bool.{cases_Bool, cases_lt, and_parts, false≢true, true≢false}
 use Rattle.std.proofs.lemmas.Bool.Decides.{nat_tests}
 use Rattle.wb_values.specs.Value.{Name, Sort, truth, word, memory, Value, truth_value, number as a_number, words, Entries, entry_of, Valuation, value_or_zero, HasSort}
-use Rattle.model_meaning.specs.Term.{val, sort_of}
+use Rattle.model_meaning.specs.Term.{val}
 use Rattle.verilog_trees.specs.Syntax.{input, Module}
 use Rattle.verilog_meaning.specs.Expression.{Object, Scope, object_width, is_memory}
 use Rattle.verilog_meaning.specs.Statement.{with_updates}
@@ -15,7 +15,6 @@ use Rattle.verilog_meaning.specs.Next.{AreRegisters, AreInputs, IsNext}
 use Rattle.verilog_registers.specs.Registers as design
 use Rattle.verilog_registers.specs.Order.{AreInOrder, AreRegisterNames, parts_in}
 use Rattle.verilog_designs.specs.Names.{is_among}
-use Rattle.wb_terms.specs.Graph.{Graph, tree}
 use Rattle.wb_terms.specs.Environment.{values_by_name}
 use Rattle.verilog_settled.specs.Locality.{HasNoConstantMemory}
 use Rattle.verilog_settled.proofs.Bits.{unset_past}
@@ -23,28 +22,25 @@ use Rattle.verilog_settled.proofs.Names.{some_word}
 use Rattle.verilog_settled.proofs.Values.{Alike, alike_values}
 use Rattle.verilog_settled.proofs.Cells.{never_spoiled}
 use Rattle.verilog_unique.proofs.Descent.{IsAmong, contains_among, among_contains}
-use Rattle.verilog_unique.proofs.Ports.{port_is_declared}
 use Rattle.v_hier.specs.Instances.{module_has_parts, has_parts}
 use Rattle.v_scopes.specs.Ports.{alone}
-use Rattle.v_operators.specs.Meaning.{Grows}
 use Rattle.v_operators.proofs.Growing.{tree_kept}
 use Rattle.v_lower.specs.Lowered.{Images, IsSortOf, IsImage, StandsFor}
-use Rattle.v_settle.specs.OneModule.{IsSettledFrom}
 use Rattle.v_settle.specs.Designs.{SettlesFromOutside}
 use Rattle.v_design.specs.Registers.{CountedBits, AreBitsOf}
 use Rattle.v_design.specs.Parts.{Parts, registers_of, inputs_of, under_names, bits_by_name, value_in, registers_after}
 use Rattle.v_design.specs.Design as whole
 use Rattle.v_design.specs.Design.{IsDataInput, outputs_of, values_under, FitRegisters, worth, after_cycle, IsTermOfObject, IsNet, IsSettledBy, IsDesignOf}
-use Rattle.v_registers.specs.Registers.{IsRegister, Counted, AreMasks}
+use Rattle.v_registers.specs.Registers.{IsRegister, Counted}
 use Rattle.v_elab.specs.Names.{chosen}
-use Rattle.v_elab.specs.Elaborated.{IsElaborated, scope, clocked, declared, register_names, bits_of, settled_at}
+use Rattle.v_elab.specs.Elaborated.{IsElaborated, scope, clocked, declared, register_names, bits_of}
 use Rattle.v_elab.proofs.Environment.{found, all_sorted}
 use Rattle.v_elab.proofs.Entries.{of_entry, an_entry, is_named, names_are}
 use Rattle.v_elab.proofs.Once.{test_among, among_test, a_register, counted_is}
 use Rattle.v_elab.proofs.Sorts.{of_value, same_sorts}
 use Rattle.v_elab.proofs.Ordered.{to_design, from_design, registers_in_order}
-use Rattle.v_elab.proofs.Updates.{Same, Unset, AllFit, same_updates, unset_updates, blocks_fit, blocks_apart}
-use Rattle.v_elab.proofs.Given.{an_image, AreInputsOf, is_declared, declared_is, first_part, last_part, of_register, of_input, an_input, env, at_register, fits_names, image_of, first_of, given_valuation, first_valuation, given_stands, first_stands, first_bit, is_given_to}
+use Rattle.v_elab.proofs.Updates.{Same, Unset, same_updates, unset_updates, blocks_fit, blocks_apart}
+use Rattle.v_elab.proofs.Given.{an_image, AreInputsOf, is_declared, declared_is, first_part, last_part, of_register, of_input, an_input, env, first_of, given_valuation, first_valuation, given_stands, first_stands, first_bit, is_given_to}
 
 -- ---- sorts
 

@@ -1,5 +1,5 @@
 -- Terms for what is given to a name from outside.
-use Rattle.std.specs.Prelude.{◌≡◌, ◌<◌, ℕ, Bool, true, false, ◌&&◌, List, [], length, slice_index, slice_index_or, Contains}
+use Rattle.std.specs.Prelude.{◌≡◌, ℕ, Bool, true, false, ◌&&◌, List, [], slice_index, slice_index_or, Contains}
 use Rattle.wb_values.specs.Value.{Name, Sort, truth, Valuation, HasSort}
 use Rattle.model_meaning.specs.Term.{val}
 use Rattle.verilog_trees.specs.Syntax.{Statement}

@@ -1,7 +1,6 @@
 -- The names of a store that are declared for those of a module.
-use Rattle.std.specs.Prelude.{◌≡◌, Bool, false, true, cond, not, ◌&&◌, List, [], ◌∷◌, map, ⊤, Option, Some, None}
+use Rattle.std.specs.Prelude.{◌≡◌, Bool, false, cond, not, ◌&&◌, List, [], ◌∷◌, ⊤, Option, Some, None}
 use Rattle.wb_values.specs.Value.{Name, same_name, Sort, Entries}
-use Rattle.verilog_trees.specs.Syntax.{Direction}
 use Rattle.verilog_meaning.specs.Expression.{Scope}
 use Rattle.verilog_designs.specs.Ports.{is_input}
 use Rattle.verilog_designs.specs.Names.{is_among}
