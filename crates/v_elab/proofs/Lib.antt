@@ -6,3 +6,6 @@ pub mod Ordered
 pub mod Sorts
 pub mod Updates
 pub mod Whole
+pub mod Cutting
+pub mod Entering
+pub mod Masked

@@ -1,4 +1,5 @@
 pub mod Kept
 pub mod Start
 pub mod Names
+pub mod Tables
 pub mod Elaborated

@@ -1,13 +1,15 @@
 -- The names of a store that are declared for those of a module.
-use Rattle.std.specs.Prelude.{◌≡◌, Bool, false, cond, not, ◌&&◌, List, [], ◌∷◌, ⊤, Option, Some, None}
+use Rattle.std.specs.Prelude.{◌≡◌, ◌≤◌, ℕ, Bool, false, cond, not, ◌&&◌, List, [], ◌∷◌, length, ⊤, Option, Some, None}
 use Rattle.wb_values.specs.Value.{Name, same_name, Sort, Entries}
-use Rattle.verilog_meaning.specs.Expression.{Scope}
+use Rattle.verilog_meaning.specs.Expression.{Scope, is_memory}
+use Rattle.verilog_meaning.specs.Register.{word_count}
 use Rattle.verilog_designs.specs.Ports.{is_input}
 use Rattle.verilog_designs.specs.Names.{is_among}
 use Rattle.v_scopes.specs.declared.table.ModuleScope.{ModuleScope}
 use Rattle.v_scopes.specs.Rows.{Row}
 use Rattle.v_scopes.specs.Scopes.{declared_in}
 use Rattle.v_lower.specs.Lowered.{IsSortOf}
+use Rattle.v_registers.specs.Registers.{Counted}
 
 -- There is an entry for each name, with the sort of its object.
 abbrev pub AreEntriesOf : Scope → List Name → Entries Sort → Type 0
@@ -37,3 +39,21 @@ chosen f (n ∷ ns) = cond (f n) (n ∷ chosen f ns) (chosen f ns)
 abbrev pub left_out : (Name → Bool) → List Name → List Name
 left_out f [] = []
 left_out f (n ∷ ns) = cond (f n) (left_out f ns) (n ∷ left_out f ns)
+
+-- Addresses of memories are below 65,536.
+abbrev pub HasSmallAddresses : Scope → Type 0
+HasSmallAddresses s = (n : Name) (a : ℕ × ℕ) → (s n).addresses ≡ Some a → (a.0 ≤ 65535) × (a.1 ≤ 65535)
+
+-- so a memory has at most as many words
+abbrev pub HasFewWords : Scope → Type 0
+HasFewWords s = (n : Name) → word_count (s n) ≤ 65536
+
+-- None of the names is that of a memory.
+abbrev pub ArePlain : Scope → List Name → Type 0
+ArePlain s [] = ⊤
+ArePlain s (n ∷ ns) = (is_memory (s n) ≡ false) × ArePlain s ns
+
+-- Each register has a mask for each of its words.
+abbrev pub AreMasksOf : Scope → List Counted → Type 0
+AreMasksOf s [] = ⊤
+AreMasksOf s (c ∷ cs) = (length c.masks ≡ word_count (s c.of_name)) × AreMasksOf s cs

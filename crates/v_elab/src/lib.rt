@@ -1,2 +1,14 @@
 //! From the tree of a Verilog source to the design that it is, for one module without parameters and instances.
 #![tactic(auto)]
+
+mod declaring;
+mod keeping;
+mod memory;
+mod naming;
+mod tables;
+
+pub use v_design::Design;
+pub use v_judged::DesignKind;
+
+/// Out of memory.
+pub type NoMemory = std::alloc::AllocError;

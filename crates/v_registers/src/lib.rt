@@ -9,7 +9,7 @@ mod once;
 mod registers;
 
 pub use once::first_names;
-pub use registers::{Register, Split, registers_among};
+pub use registers::{Register, Split, registers_among, word_count};
 
 /// Out of memory.
 pub type NoMemory = std::alloc::AllocError;

@@ -40,8 +40,8 @@ pub struct Split<'s> {
     pub others: Vec<&'s str>,
 }
 
-/// How many words a name has.
-fn word_count(object: Object) -> usize
+/// How many words a net, variable or memory has: those of a memory, else one.
+pub fn word_count(object: Object) -> usize
     ensures { result ≡ word_count (object_of object) }
 {
     match object.addresses {
