@@ -9,3 +9,4 @@ pub mod Whole
 pub mod Cutting
 pub mod Entering
 pub mod Masked
+pub mod Starting

@@ -35,10 +35,7 @@ fn add_first<'s>(
 }
 
 /// The names of declarations, each where it first stands.
-pub fn first_names<'s>(
-    alloc: Global,
-    declared: &[Declared<'s>],
-) -> Result<Vec<&'s str>, NoMemory>
+pub fn first_names<'s>(alloc: Global, declared: &[Declared<'s>]) -> Result<Vec<&'s str>, NoMemory>
     ensures { IfOk result (λ v. map (λ n. n.now) v.items ≡ each_once (map (λ d. d.name.now) declared.now)) }
 {
     let mut seen = none_seen(alloc);
