@@ -10,3 +10,6 @@ pub mod Cutting
 pub mod Entering
 pub mod Masked
 pub mod Starting
+pub mod Choosing
+pub mod Small
+pub mod Accepted

@@ -3,3 +3,4 @@ pub mod Start
 pub mod Names
 pub mod Tables
 pub mod Elaborated
+pub mod Elaborable

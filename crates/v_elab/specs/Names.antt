@@ -1,8 +1,10 @@
 -- The names of a store that are declared for those of a module.
 use Rattle.std.specs.Prelude.{◌≡◌, ◌≤◌, ℕ, Bool, false, cond, not, ◌&&◌, List, [], ◌∷◌, length, ⊤, Option, Some, None}
-use Rattle.wb_values.specs.Value.{Name, same_name, Sort, Entries}
+use Rattle.wb_values.specs.Value.{Name, same_name, Sort, Entries, entry_of}
+use Rattle.verilog_trees.specs.Syntax.{Module}
 use Rattle.verilog_meaning.specs.Expression.{Scope, is_memory}
 use Rattle.verilog_meaning.specs.Register.{word_count}
+use Rattle.verilog_meaning.specs.Settled.{port_directions}
 use Rattle.verilog_designs.specs.Ports.{is_input}
 use Rattle.verilog_designs.specs.Names.{is_among}
 use Rattle.v_scopes.specs.declared.table.ModuleScope.{ModuleScope}
@@ -30,6 +32,10 @@ is_input_row (Some r) = is_input r.direction
 -- the name is an input port, and not the clock
 abbrev pub is_data_input : ModuleScope → (clock : Name) → Name → Bool
 is_data_input names clock n = not (same_name clock n) && is_input_row (declared_in names n)
+
+-- the same by the module itself
+abbrev pub is_data_port : Module → (clock : Name) → Name → Bool
+is_data_port m clock n = not (same_name clock n) && is_input (entry_of (port_directions m) n)
 
 -- those names of which a test is true
 abbrev pub chosen : (Name → Bool) → List Name → List Name
