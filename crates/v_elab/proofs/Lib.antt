@@ -13,3 +13,5 @@ pub mod Starting
 pub mod Choosing
 pub mod Small
 pub mod Accepted
+pub mod Settling
+pub mod Outputs

@@ -5,6 +5,8 @@ mod declaring;
 mod keeping;
 mod memory;
 mod naming;
+mod parts;
+mod ports;
 mod tables;
 
 pub use v_design::Design;

@@ -74,7 +74,7 @@ pub(crate) fn inputs_among<'s>(
 }
 
 /// Adds names to others.
-fn add_names<'s>(names: &[&'s str], order: &mut Vec<&'s str>) -> Result<(), NoMemory>
+pub(crate) fn add_names<'s>(names: &[&'s str], order: &mut Vec<&'s str>) -> Result<(), NoMemory>
     ensures { OnOk result (map (λ n. n.now) order.new.items ≡ map (λ n. n.now) order.old.items ++ map (λ n. n.now) names.now) }
 {
     for name in names {
