@@ -15,3 +15,5 @@ pub mod Small
 pub mod Accepted
 pub mod Settling
 pub mod Outputs
+pub mod Beginning
+pub mod Lowering

@@ -19,7 +19,7 @@ below x w h = grind (arith, nat_tests)
 same : (a b : ℕ) → a ≡ b → (a == b) ≡ true
 same a b h = grind (arith, nat_tests)
 
-all_narrow : (w : ℕ) (xs : List ℕ) → ((k : ℕ) → slice_index xs k < 2 ^ w) → all_below w xs ≡ true
+pub all_narrow : (w : ℕ) (xs : List ℕ) → ((k : ℕ) → slice_index xs k < 2 ^ w) → all_below w xs ≡ true
 all_narrow w [] h = refl
 all_narrow w (x ∷ xs) h = and_from (nat_lt x (2 ^ w)) (all_below w xs) (below x w (h 0)) (all_narrow w xs (λ k. h (suc k)))
 

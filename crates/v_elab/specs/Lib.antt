@@ -4,3 +4,4 @@ pub mod Names
 pub mod Tables
 pub mod Elaborated
 pub mod Elaborable
+pub mod Begun

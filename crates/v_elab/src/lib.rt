@@ -2,11 +2,13 @@
 #![tactic(auto)]
 
 mod declaring;
+mod design;
 mod keeping;
 mod memory;
 mod naming;
 mod parts;
 mod ports;
+mod start;
 mod tables;
 
 pub use v_design::Design;
