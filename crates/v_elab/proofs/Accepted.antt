@@ -7,14 +7,14 @@ use Rattle.wb_values.specs.Value.{Name, same_name, entry_of}
 use Rattle.verilog_trees.specs.Syntax.{Statement, Range, Direction, input, output, Item, port, parameter, wires, variables, assign, always, instances, Source, Module}
 use Rattle.verilog_meaning.specs.Expression.{Scope, object_or_undeclared, scope_of, is_memory}
 use Rattle.verilog_meaning.specs.Register.{is_clocked, clocked_blocks, counts}
-use Rattle.verilog_meaning.specs.Hierarchy.{Declaration, declarations, declaration_of, ranged_object, declared_object, placed_scope}
+use Rattle.verilog_meaning.specs.Hierarchy.{Declaration, declarations, declaration_of, ranged_object, declared_object, placed_scope, module_named}
 use Rattle.verilog_meaning.specs.Settled.{Design, at_path, port_directions, HasPort}
 use Rattle.verilog_rules.specs.Expression.{is_unbroken}
 use Rattle.verilog_designs.specs.Dependence.{HasLoop}
 use Rattle.verilog_designs.specs.Ports.{is_input}
 use Rattle.verilog_designs.specs.Paths.{has_blocking}
 use Rattle.verilog_designs.specs.Expressions.{broken_range, broken_events, broken_initial_values, broken_statement, broken_module_item, broken_module_items}
-use Rattle.verilog_designs.specs.Accepted.{DesignKind, comb_loop, blocking_in_clocked, IsAccepted}
+use Rattle.verilog_designs.specs.Accepted.{DesignKind, no_top, undeclared, duplicate_name, bad_hierarchy, comb_loop, blocking_in_clocked, HasNoTop, IsAccepted}
 use Rattle.verilog_unique.proofs.Options.{same_is, is_same}
 use Rattle.verilog_exists.specs.Exists.{IsShapely}
 use Rattle.verilog_exists.specs.Loops.{IsAcceptedButForLoops}
@@ -24,6 +24,7 @@ use Rattle.verilog_exists.proofs.Valued.{ranges_known}
 use Rattle.v_value.specs.Narrow.{HasNarrowObjects}
 use Rattle.v_size.proofs.Unbroken.{unbroken-also}
 use Rattle.v_scopes.specs.declared.table.ModuleScope.{ModuleScope}
+use Rattle.v_hier.specs.Instances.{has_parts}
 use Rattle.v_scopes.specs.Ports.{alone}
 use Rattle.v_scopes.specs.Rows.{Row, rows, row_named}
 use Rattle.v_scopes.specs.Scopes.{declared_in}
@@ -36,6 +37,7 @@ use Rattle.v_settle.specs.Designs.{AcceptedIsEvaluable}
 use Rattle.v_edge.specs.Edge.{AreSound}
 use Rattle.v_registers.specs.Registers.{IsRegister}
 use Rattle.v_judged.specs.Laws.{IsReady}
+use Rattle.v_judged.specs.Tops.{IsTopOf}
 use Rattle.v_elab.specs.Names.{is_input_row, is_data_input, is_data_port}
 use Rattle.v_elab.specs.Elaborated.{scope, clocked}
 use Rattle.v_elab.specs.Elaborable.{IsElaborable}
@@ -154,3 +156,12 @@ module _ (d : Design) (m : Module) (clear : IsReady d m) (accepted : IsAccepted 
         no_loop = λ h. accepted comb_loop (loops.1 h);
         apart = no_register;
       }
+
+-- ---- the top of an accepted design
+
+pub is_top_of : (d : Design) (m : Module) → has_parts d.source ≡ false → IsAccepted d → IsShapely d → module_named d.source d.top ≡ Some m → IsTopOf d m
+is_top_of d m whole accepted shapely e =
+    record { names = (whole, accepted no_top, accepted undeclared, accepted duplicate_name, accepted bad_hierarchy); is_top = e; shapely = shapely }
+
+pub has_top : (d : Design) → IsAccepted d → module_named d.source d.top ≡ None → ⊥
+has_top d accepted e = accepted no_top (HasNoTop.no_module e)

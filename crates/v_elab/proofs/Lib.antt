@@ -17,3 +17,4 @@ pub mod Settling
 pub mod Outputs
 pub mod Beginning
 pub mod Lowering
+pub mod Assembling

@@ -5,3 +5,4 @@ pub mod Tables
 pub mod Elaborated
 pub mod Elaborable
 pub mod Begun
+pub mod Answer

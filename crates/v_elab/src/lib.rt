@@ -3,14 +3,17 @@
 
 mod declaring;
 mod design;
+
 mod keeping;
 mod memory;
 mod naming;
 mod parts;
 mod ports;
+mod source;
 mod start;
 mod tables;
 
+pub use source::{Elaborated, elaborate};
 pub use v_design::Design;
 pub use v_judged::DesignKind;
 
