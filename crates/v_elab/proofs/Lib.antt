@@ -18,3 +18,4 @@ pub mod Outputs
 pub mod Beginning
 pub mod Lowering
 pub mod Assembling
+pub mod Answering

@@ -3,7 +3,6 @@
 
 mod declaring;
 mod design;
-
 mod keeping;
 mod memory;
 mod naming;
