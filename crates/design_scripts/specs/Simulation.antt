@@ -31,6 +31,12 @@ AreCycles d r [] (v ∷ vs) last = ⊥
 AreCycles d r (i ∷ is) [] last = ⊥
 AreCycles d r (i ∷ is) (v ∷ vs) last = IsSettled d r i v × (next : Valuation) × IsNext d v next × AreCycles d next is vs last
 
+-- The run of a script: it begins with all registers 0, but for what the script sets, and each line gives the inputs of a cycle.
+pub record IsScriptRun (d : Design) (script : Script) (settled : List Valuation) (last : Valuation) : Type 0 where
+  pub zeros : Valuation
+  pub are_zero : AreZero d zeros
+  pub cycles : AreCycles d (with_sets zeros script.state) (map line_inputs script.inputs) settled last
+
 -- ---- its text
 
 -- ` cnt=7`
@@ -63,17 +69,18 @@ registers_text (s ∷ ss) r = register_text s (r s.called) ++ registers_text ss 
 abbrev pub end_line : List Settable → Valuation → List ℕ
 end_line registers last = codes "end" ++ (registers_text registers last ++ 10 ∷ [])
 
--- The text tells what the design does under the script: it begins with all registers 0, but for what the script sets; the lines of the
--- cycles are numbered from 0, and the last line has the registers after the last edge, or the first ones where there is no cycle.
+-- lines for the cycles, numbered from 0, and the last line
+abbrev pub run_text : (outputs : List Name) → (registers : List Settable) → (settled : List Valuation) → (last : Valuation) → List ℕ
+run_text outputs registers settled last = cycle_lines outputs 0 settled ++ end_line registers last
+
+-- The text tells what the design does under the script: there is a run of it, and the text is that of each such run. (They give each net
+-- and variable the same values.)
 pub record IsTold (d : Design) (names : Settables) (script : Script) (text : List ℕ) : Type 0 where
-  pub zeros : Valuation
-  pub are_zero : AreZero d zeros
-  pub settled : List Valuation
-  pub last : Valuation
-  pub cycles : AreCycles d (with_sets zeros script.state) (map line_inputs script.inputs) settled last
   pub top : Placed
   pub is_top : at_path d [] ≡ Some top
-  pub text_is : text ≡ cycle_lines (outputs_of top.of_module) 0 settled ++ end_line names.states last
+  pub some_run : (settled : List Valuation) × (last : Valuation) × IsScriptRun d script settled last
+  pub each_run : (settled : List Valuation) (last : Valuation) → IsScriptRun d script settled last
+      → text ≡ run_text (outputs_of top.of_module) names.states settled last
 
 -- ---- designs that run
 

@@ -1,9 +1,11 @@
 -- Numbers by their bits, and lists of numbers by their words.
-use Rattle.std.proofs.Common.{◌≡◌, ◌∙◌, ℕ, zero, suc, ◌^◌, ◌<◌, ◌≤◌, Bool, true, false, ◌&&◌, ◌==◌, nat_lt, List, [], ◌∷◌, length, slice_index, set, map, refl, sym, ap, subst, arith, min, bit_and}
+use Rattle.std.proofs.Common.{◌≡◌, ◌∙◌, ℕ, zero, suc, ◌^◌, ◌<◌, ◌≤◌, Bool, true, false, ◌&&◌, ◌==◌, nat_lt, List, [], ◌∷◌, length, slice_index, set, refl, sym, ap, subst, arith, min, bit_and, ◌/◌, ◌%◌, ◌⊎◌, inl, inr, replicate, mod-lt, pow_pos}
 use Rattle.std.specs.Int.{bit_at}
 use Rattle.std.proofs.lemmas.Bool.{and_parts, and_from, false≢true}
 use Rattle.std.proofs.lemmas.Bool.Decides.{nat_tests}
-use Rattle.std.proofs.lemmas.Nat.Bits.{bit_at-lt, bit_at_and, bit_at_above, bit_at-zero, same_from_bits}
+use Rattle.std.proofs.lemmas.Nat.Bits.{bit_at-lt, bit_at_and, bit_at_above, bit_at-zero, bit_at_cat_low, same_from_bits}
+use Rattle.std.proofs.lemmas.Nat.{shr_split}
+use Rattle.std.proofs.lemmas.Bool.{cases_lt}
 use Rattle.verilog_meaning.specs.Register.{is_set}
 use Rattle.wb_values.specs.Value.{all_below}
 
@@ -43,7 +45,16 @@ mask_keeps x m h = same_numbers (bit_and x m) x (λ b. set-and x m b ∙ one (is
 
 -- a number whose bits lie below w is below 2^w
 pub below_from_bits : (w x : ℕ) → ((b : ℕ) → is_set x b ≡ true → b < w) → x < 2 ^ w
-below_from_bits w x h = ?
+below_from_bits w x h = subst (λ y. y < 2 ^ w) (same_numbers (x % 2 ^ w) x (λ b. one b (cases_lt b w))) (mod-lt x (pow_pos w))
+  where
+    unset : (b : ℕ) → (b < w → ⊥) → (t : Bool) → is_set x b ≡ t → t ≡ false
+    unset b n true e = absurd (n (h b e))
+    unset b n false e = refl
+
+    one : (b : ℕ) → (b < w) ⊎ (w ≤ b) → is_set (x % 2 ^ w) b ≡ is_set x b
+    one b (inl l) = ap (λ z. z == 1) (sym (bit_at_cat_low (x / 2 ^ w) w (x % 2 ^ w) b l) ∙ ap (λ y. bit_at y b) (shr_split x w))
+    one b (inr g) =
+        ap (λ z. z == 1) (bit_at_above (x % 2 ^ w) w b (mod-lt x (pow_pos w)) g) ∙ sym (unset b (λ l. omega (arith, l, g)) (is_set x b) refl)
 
 -- lists of one length with the same words
 pub same_words : (xs ys : List ℕ) → length xs ≡ length ys → ((k : ℕ) → slice_index xs k ≡ slice_index ys k) → xs ≡ ys
@@ -82,5 +93,7 @@ other_word (y ∷ xs) (suc k) (suc j) x e = other_word xs k j x (shorter k j e)
     shorter : (i l : ℕ) → (suc i == suc l) ≡ false → (i == l) ≡ false
     shorter i l g = grind (arith, nat_tests)
 
-pub zero_words : (n k : ℕ) → slice_index (zeros n) k ≡ 0
-zero_words n k = ?
+pub zero_words : (n k : ℕ) → slice_index (replicate n 0) k ≡ 0
+zero_words zero k = refl
+zero_words (suc n) zero = refl
+zero_words (suc n) (suc k) = zero_words n k

@@ -1,0 +1,14 @@
+mod Bits
+mod Lists
+mod Values
+mod Settings
+mod Named
+mod First
+mod Fed
+mod Shown
+mod Step
+mod Told
+mod Sorted
+mod Placing
+mod Turn
+mod Answered

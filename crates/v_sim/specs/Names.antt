@@ -1,5 +1,5 @@
 -- What a script may set of a design, by its parts.
-use Rattle.std.specs.Prelude.{ℕ, ◌^◌, ◌==◌, ◌&&◌, nat_lt, List, [], ◌∷◌, map, length, slice_index, Option, None, unwrap_or, bit_and}
+use Rattle.std.specs.Prelude.{ℕ, ◌^◌, ◌==◌, ◌&&◌, nat_lt, List, [], ◌∷◌, map, length, slice_index, None, unwrap_or, bit_and}
 use Rattle.wb_values.specs.Value.{Name, Sort, truth, word, memory, Entries}
 use Rattle.scripts.specs.Script.{Settable, Settables}
 use Rattle.v_design.specs.Registers.{CountedBits}

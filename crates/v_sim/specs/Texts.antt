@@ -3,6 +3,7 @@ use Rattle.std.specs.Prelude.{ℕ, suc, Vec, List, [], ◌∷◌, ◌++◌, map,
 use Rattle.std.specs.Global.{Global}
 use Rattle.wb_values.specs.Value.{Name, Sort, Value, number, numeral_of, Entries}
 use Rattle.scripts.specs.Script.{Settable, zero_value}
+use Rattle.wb_terms.specs.Environment.{AreOfSorts}
 use Rattle.design_scripts.specs.Simulation.{number_text, register_text}
 use Rattle.v_design.specs.Parts.{Parts, registers_of, inputs_of, value_in, registers_after}
 use Rattle.ila_sim.specs.declared.set.Set.{Set}
@@ -61,3 +62,8 @@ input_lines = map (λ ss. ss.items)
 
 abbrev pub text_by : Parts → Script → List ℕ
 text_by e script = text_from e 0 (first_values e script.state.items) (input_lines script.inputs.items)
+
+-- In a run of these lines all registers have values of their sorts.
+abbrev pub IsSortedRun : Parts → List Value → List (List Set) → Type 0
+IsSortedRun e rs [] = AreOfSorts (registers_of e) rs
+IsSortedRun e rs (ss ∷ lines) = AreOfSorts (registers_of e) rs × IsSortedRun e (registers_after e rs (line_values e ss)) lines

@@ -40,7 +40,7 @@ fn register_at(alloc: Global, design: &Design, place: usize) -> Result<Settable,
 {
     let bits = &design.bits[place];
     let kind = kind_of(bits, design.terms.name_sort(NameId(place)));
-    let masks = bits.masks.clone()?;
+    let masks = Vec::from_slice(alloc, &bits.masks)?;
     let name = Vec::from_slice(alloc, design.register_name(place).as_bytes())?;
     Ok(Settable {
         name,
@@ -66,7 +66,8 @@ fn input_at(alloc: Global, design: &Design, place: usize) -> Result<Settable, No
     requires { place < length (inputs_of (parts_of design.now)) }
     ensures { IfOk result (λ s. slice_get (names_by (parts_of design.now)).inputs place ≡ Some (settable_of s)) }
 {
-    let id = NameId(design.register_count + place);
+    let first = design.terms.name_count() as usize - design.input_count();
+    let id = NameId(first + place);
     let width = word_width(design.terms.name_sort(id));
     let name = Vec::from_slice(alloc, design.terms.name(id).as_bytes())?;
     Ok(Settable {
@@ -88,11 +89,12 @@ fn states(alloc: Global, design: &Design) -> Result<Vec<Settable>, NoMemory>
 }
 
 /// What an input line may set.
-fn inputs(alloc: Global, design: &Design) -> Result<Vec<Settable>, NoMemory>
+fn inputs(alloc: Global, design: &Design, count: usize) -> Result<Vec<Settable>, NoMemory>
+    requires { count ≡ length (inputs_of (parts_of design.now)) }
     ensures { IfOk result (λ v. map settable_of v.items ≡ (names_by (parts_of design.now)).inputs) }
 {
     let mut inputs = Vec::new(alloc);
-    for place in 0..design.input_count() {
+    for place in 0..count {
         inputs.push(input_at(alloc, design, place)?)?;
     }
     Ok(inputs)
@@ -103,6 +105,7 @@ pub fn names_of(alloc: Global, design: &Design) -> Result<Names, NoMemory>
     ensures { IfOk result (λ n. settables_view n ≡ names_by (parts_of design.now)) }
 {
     let states = states(alloc, design)?;
-    let inputs = inputs(alloc, design)?;
+    let count = design.terms.name_count() as usize - design.register_count;
+    let inputs = inputs(alloc, design, count)?;
     Ok(Names { states, inputs })
 }

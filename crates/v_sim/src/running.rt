@@ -5,7 +5,7 @@ ghost use Rattle.v_design.specs.Seen.{parts_of};
 ghost use Rattle.ila_sim.specs.Scripts.{IsScriptWithin};
 ghost use Rattle.ila_sim.specs.Settables.{settables_view};
 ghost use Rattle.v_sim.specs.Names.{names_by};
-ghost use Rattle.v_sim.specs.Texts.{text_by};
+ghost use Rattle.v_sim.specs.Texts.{first_values, input_lines, text_by, IsSortedRun};
 
 use crate::beginning::{first_registers, line_inputs};
 use crate::text::{append_end, append_line};
@@ -24,7 +24,8 @@ pub(crate) fn simulated_text(
 ) -> Result<Vec<u8>, NoMemory>
     requires names { settables_view names.now ≡ names_by (parts_of design.now) }
     requires script { IsScriptWithin (names_by (parts_of design.now)) script.now }
-    ensures { IfOk result (λ v. v.items ≡ text_by (parts_of design.now) script.now) }
+    ensures text { IfOk result (λ v. v.items ≡ text_by (parts_of design.now) script.now) }
+    ensures sorted { IfOk result (λ v. IsSortedRun (parts_of design.now) (first_values (parts_of design.now) script.now.state.items) (input_lines script.now.inputs.items)) }
 {
     let registers = first_registers(alloc, design, &script.state)?;
     let mut cycle = Cycle::new(alloc, design, &registers)?;

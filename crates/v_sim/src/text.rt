@@ -1,7 +1,7 @@
 //! The text that tells what a design did.
 
 ghost use Rattle.std.specs.Prelude.{◌≡◌, ◌++◌, ◌+◌, ◌≤◌, List, cond, length, map, OnOk, slice_index_or};
-ghost use Rattle.wb_values.specs.Value.{Value};
+ghost use Rattle.wb_values.specs.Value as meaning;
 ghost use Rattle.wb_terms.specs.Environment.{as_value};
 ghost use Rattle.scripts.specs.Simulation.{words_text};
 ghost use Rattle.design_scripts.specs.Simulation.{least_of, number_text, register_text};
@@ -29,12 +29,7 @@ fn append_number(out: &mut Vec<u8>, name: &[u8], number: u128) -> Result<(), NoM
 }
 
 /// Appends ` m[5]=7`, where the word is not 0.
-fn append_word(
-    out: &mut Vec<u8>,
-    name: &[u8],
-    address: u128,
-    word: u128,
-) -> Result<(), NoMemory>
+fn append_word(out: &mut Vec<u8>, name: &[u8], address: u128, word: u128) -> Result<(), NoMemory>
     ensures { OnOk result (out.new.items ≡ out.old.items ++ word_text name.now address word) }
 {
     if word == 0 {
@@ -50,12 +45,7 @@ fn append_word(
 }
 
 /// Appends the words of a memory that are not 0, from its least address on.
-fn append_words(
-    out: &mut Vec<u8>,
-    name: &[u8],
-    least: u64,
-    words: &[u128],
-) -> Result<(), NoMemory>
+fn append_words(out: &mut Vec<u8>, name: &[u8], least: u64, words: &[u128]) -> Result<(), NoMemory>
     ensures { OnOk result (out.new.items ≡ out.old.items ++ words_text name.now least words.now) }
 {
     for (place, word) in words.iter().enumerate() {
@@ -125,7 +115,7 @@ pub(crate) fn append_end(
 /// What a name settled to in the last cycle.
 fn settled_number(design: &Design, cycle: &Cycle, name: &str) -> u128
     requires { IsRun (parts_of design.now) cycle.now }
-    ensures { (rs is : List Value) → HasRun (parts_of design.now) cycle.now rs is → result ≡ settled_number (parts_of design.now) rs is name.now }
+    ensures { (rs is : List meaning.Value) → HasRun (parts_of design.now) cycle.now rs is → result ≡ settled_number (parts_of design.now) rs is name.now }
 {
     cycle.value(design, name)
 }
@@ -133,7 +123,7 @@ fn settled_number(design: &Design, cycle: &Cycle, name: &str) -> u128
 /// Appends what the outputs settled to in the last cycle.
 fn append_outputs(design: &Design, cycle: &Cycle, out: &mut Vec<u8>) -> Result<(), NoMemory>
     requires { IsRun (parts_of design.now) cycle.now }
-    ensures { OnOk result ((rs is : List Value) → HasRun (parts_of design.now) cycle.now rs is
+    ensures { OnOk result ((rs is : List meaning.Value) → HasRun (parts_of design.now) cycle.now rs is
         → out.new.items ≡ out.old.items ++ outputs_by (parts_of design.now) rs is (parts_of design.now).outputs) }
 {
     for name in &design.outputs {
@@ -151,7 +141,7 @@ pub(crate) fn append_line(
     number: usize,
 ) -> Result<(), NoMemory>
     requires { IsRun (parts_of design.now) cycle.now }
-    ensures { OnOk result ((rs is : List Value) → HasRun (parts_of design.now) cycle.now rs is
+    ensures { OnOk result ((rs is : List meaning.Value) → HasRun (parts_of design.now) cycle.now rs is
         → out.new.items ≡ out.old.items ++ cycle_line (parts_of design.now) number rs is) }
 {
     append_decimal(out, number as u128)?;
