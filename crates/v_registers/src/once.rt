@@ -51,10 +51,7 @@ fn each_once<'s>(alloc: Global, list: &[&'s str]) -> Result<Vec<&'s str>, NoMemo
 
 /// The names of declarations, each once and in the order of the text. A port that is declared as a variable besides stands where that
 /// declaration does.
-pub fn first_names<'s>(
-    alloc: Global,
-    declared: &[Declared<'s>],
-) -> Result<Vec<&'s str>, NoMemory>
+pub fn first_names<'s>(alloc: Global, declared: &[Declared<'s>]) -> Result<Vec<&'s str>, NoMemory>
     ensures { IfOk result (λ v. map (λ n. n.now) v.items ≡ names_in_order (rows_of declared.now)) }
 {
     let variables = variables_among(alloc, declared)?;

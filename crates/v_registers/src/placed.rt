@@ -29,10 +29,7 @@ fn declares_variable(declared: Declared<'_>) -> bool
 }
 
 /// Adds the name of a declaration, if it is that of a variable.
-fn add_variable<'s>(
-    declared: Declared<'s>,
-    names: &mut BTreeSet<&'s str>,
-) -> Result<(), NoMemory>
+fn add_variable<'s>(declared: Declared<'s>, names: &mut BTreeSet<&'s str>) -> Result<(), NoMemory>
     ensures { OnOk result ((q : List ℕ) → has_name names.new q ≡ (has_name names.old q || (same_name declared.entry.name.now q && declares_variable (row_of declared.entry)))) }
 {
     if declares_variable(declared) {
