@@ -9,6 +9,7 @@ ghost use Rattle.v_design.specs.Seen.{parts_of};
 ghost use Rattle.rtl_simulation.specs.Ending.{IsRun, IsEnding};
 ghost use Rattle.rtl_simulation.specs.Seen.{ending_of};
 
+use design_cycles::laws::an_accepted_design_has_cycles;
 use ila_sim::ScriptRefusal;
 use std::alloc::{AllocError, Global};
 use v_design::Design;
@@ -16,9 +17,6 @@ use v_elab::{Elaborated, elaborate};
 use v_judged::DesignKind;
 use v_sim::{Simulation, simulated};
 use v_syntax::module::Tree;
-use verilog_exists::laws::{
-    an_accepted_design_has_a_settled_valuation, an_accepted_design_has_next_registers,
-};
 
 /// What a design does under a script, or why it is not run.
 #[derive(Drop)]
@@ -37,8 +35,7 @@ pub enum RtlSimulation {
 fn run(design: &Design, script: &[u8], alloc: Global) -> Result<RtlSimulation, AllocError>
     ensures { IfOk result (λ r. (d : PureDesign) → IsDesignOf d (parts_of design.now) → IsRun d → IsOfText d → IsEnding d script.now (ending_of r)) }
 {
-    an_accepted_design_has_a_settled_valuation();
-    an_accepted_design_has_next_registers();
+    an_accepted_design_has_cycles();
     match simulated(alloc, design, script)? {
         Simulation::Text(text) => Ok(RtlSimulation::Text(text)),
         Simulation::Refused(refusal) => Ok(RtlSimulation::Script(refusal)),
