@@ -1,7 +1,6 @@
 pub mod Members
 pub mod Parts
 pub mod Reached
-pub mod Plain
 pub mod Laying
 pub mod Nodes
 pub mod Using

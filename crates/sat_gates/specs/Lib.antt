@@ -2,7 +2,6 @@ pub mod Names
 pub mod Encodes
 pub mod Layout
 pub mod Blasting
-pub mod Condition
 pub mod Cone
 pub mod Reading
 pub mod Forms

@@ -2,14 +2,12 @@
 #![tactic(auto)]
 
 mod blasting;
-mod condition;
 mod forms;
 mod formulas;
 mod layout;
 mod reach;
 mod reading;
 
-pub use condition::can_blast;
 pub use formulas::{Blasted, blast};
 pub use layout::BitMap;
 pub use reach::cone;

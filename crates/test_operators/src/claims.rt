@@ -1,4 +1,4 @@
-//! What is known of a claim, a term of truth sort without memories, by its formula, the solver and the checker.
+//! What is known of a claim, a term of truth sort, by its formula, the solver and the checker. Each word of a memory becomes a name first.
 
 ghost use Rattle.std.specs.Prelude.{◌<◌, length};
 ghost use Rattle.wb_terms.specs.Environment.{Fits};
@@ -6,13 +6,10 @@ ghost use Rattle.wb_terms.specs.Environment.{Fits};
 use crate::rows::halves;
 use crate::sheet::Sheet;
 use crate::stores::{small, store_of};
-use sat_gates::can_blast;
+use ob_mem::expand;
 use sat_settle::{Settled, settle};
 use std::alloc::Global;
-use wb_terms::{Env, Scratch, Sort, TermId, Terms, Value, eval};
-
-/// The first term after the names.
-const FIRST: TermId = TermId(3);
+use wb_terms::{Env, Node, Scratch, Sort, TermId, Terms, Value, eval};
 
 fn add_word_or_truth(alloc: Global, value: &Value, out: &mut Sheet) {
     match value {
@@ -26,7 +23,18 @@ fn add_word_or_truth(alloc: Global, value: &Value, out: &mut Sheet) {
     }
 }
 
-/// Adds the values of the names, and the number of the first term after the names under them.
+/// The first term that is no name, or one that there never is.
+fn first_term(terms: &Terms) -> TermId {
+    for place in 0..terms.len() as usize {
+        match *terms.node(TermId(place)) {
+            Node::Name(_) => {}
+            _ => return TermId(place),
+        }
+    }
+    TermId(usize::MAX)
+}
+
+/// Adds the values of the names, and the number of the first term that is no name under them.
 fn add_values(alloc: Global, terms: &Terms, env: &Env, out: &mut Sheet)
     requires fits { Fits terms.now env.now }
 {
@@ -49,17 +57,17 @@ fn add_settled(alloc: Global, terms: &Terms, claim: TermId, budget: u64, out: &m
     requires claim { claim.0 < length terms.now.nodes }
     requires budget { 0 < budget }
 {
-    let Ok(true) = can_blast(alloc, terms, claim) else {
-        return out.add("has memories");
-    };
     let Sort::Truth = terms.sort(claim) else {
         return out.add("is no claim");
     };
-    let Ok(found) = settle(alloc, terms, claim, budget) else {
+    let Ok(expanded) = expand(alloc, terms, claim) else {
+        return out.add("no memory");
+    };
+    let Ok(found) = settle(alloc, &expanded.terms, expanded.goal, budget) else {
         return out.add("no memory");
     };
     match &found {
-        Settled::Breaks(env) => add_values(alloc, terms, env, out),
+        Settled::Breaks(env) => add_values(alloc, &expanded.terms, env, out),
         Settled::Holds(_) => out.add("holds"),
         Settled::Spent(_, _) => out.add("spent"),
     }

@@ -3,7 +3,6 @@
 
 mod assignment;
 mod change;
-mod constant;
 mod copy;
 pub mod laws;
 mod part;

@@ -5,11 +5,11 @@ ghost use Rattle.v_syntax.specs.Tree.{tree_of};
 ghost use Rattle.v_value.specs.Scope.{scope_at};
 ghost use Rattle.v_depend.specs.Copying.{plain_at, parts_plain, has_none};
 
-use crate::constant::are_constant_selects;
+use v_flow::are_constant_selects;
 use v_syntax::tree::{BinaryLink, Choice, Expression, PrefixOperator, TestLink};
 use v_value::scope::Scope;
 
-/// Whether an operand behind operators is plain, where it is by itself.
+/// Whether an operand after operators is plain, where it is by itself.
 fn prefixed(operators: &[PrefixOperator], plain: bool) -> bool
     ensures { result ≡ (has_none operators.now && plain) }
 {
@@ -41,7 +41,7 @@ pub(crate) fn is_plain(expression: &Expression<'_>, scope: &Scope<'_>) -> bool
 {
     match expression {
         Expression::Number(_) => true,
-        Expression::Name(_, selects) => are_constant_selects(selects, scope),
+        Expression::Name(_, selects) => are_constant_selects(scope, selects),
         Expression::Concatenation(parts) => are_plain(parts, scope),
         Expression::Replication(_, parts) => are_plain(parts, scope),
         Expression::AsSigned(_) => false,

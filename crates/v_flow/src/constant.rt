@@ -8,9 +8,9 @@ ghost use Rattle.v_flow.specs.Flow.{constant_at, select_constant_at, selects_con
 use v_syntax::tree::{BinaryLink, Choice, Expression, Select, Selects, TestLink};
 use v_value::scope::Scope;
 
-/// Whether the expression reads parameters and numbers alone.
+/// Whether the expression reads parameters and numbers alone, where names stand for what the scope says.
 #[cycle(constant)]
-pub(crate) fn is_constant(scope: &Scope<'_>, expression: &Expression<'_>) -> bool
+pub fn is_constant(scope: &Scope<'_>, expression: &Expression<'_>) -> bool
     ensures { result ≡ constant_at (scope_at scope.now) (tree_of expression.now) }
 {
     match expression {
@@ -58,7 +58,7 @@ fn are_constant_parts(scope: &Scope<'_>, parts: &[Expression<'_>]) -> bool
     true
 }
 
-/// Whether links are constant behind an operand that may be.
+/// Whether links are constant, after an operand that may be constant.
 #[cycle(constant)]
 fn are_constant_links(scope: &Scope<'_>, first: bool, links: &[BinaryLink<'_>]) -> bool
     ensures { result ≡ (first && links_constant (scope_at scope.now) links.now) }
@@ -128,9 +128,9 @@ pub(crate) fn is_constant_select(scope: &Scope<'_>, select: &Select<'_>) -> bool
     }
 }
 
-/// Whether all indexes behind a name are constant.
+/// Whether all indexes after a name are constant.
 #[cycle(constant)]
-pub(crate) fn are_constant_selects(scope: &Scope<'_>, selects: &Selects<'_>) -> bool
+pub fn are_constant_selects(scope: &Scope<'_>, selects: &Selects<'_>) -> bool
     ensures { result ≡ selects_constant_at (scope_at scope.now) (selects_of selects.now) }
 {
     match selects {

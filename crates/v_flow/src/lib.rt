@@ -11,6 +11,7 @@ pub mod span;
 mod statement;
 
 pub use assigned::add_assigned;
+pub use constant::{are_constant_selects, is_constant};
 pub use reached::{add_reached, add_surely_reached, add_target_reads};
 pub use read::add_reads;
 pub use statement::add_statement_reads;

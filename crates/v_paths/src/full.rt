@@ -11,9 +11,9 @@ ghost use Rattle.v_statement.specs.Effects.{item_list};
 ghost use Rattle.v_flow.specs.Flow.{IsNarrowLabel, AreNarrowItems};
 ghost use Rattle.v_paths.specs.Cases.{full_at, case_width, case_signed, values_at, label_is, one_label_is, item_has, one_item_has, label_width, label_signed, has_number, all_below};
 
-use crate::constant::is_constant;
 use std::alloc::{AllocError, Global};
 use std::collections::BTreeSet;
+use v_flow::is_constant;
 use v_syntax::tree::{CaseItem, CaseKind, Expression};
 use v_value::scope::Scope;
 use v_value::sign::sign_of;

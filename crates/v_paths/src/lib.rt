@@ -1,7 +1,6 @@
 //! What combinational blocks assign on each path and read from outside, and what is refused of them: latches, and lists of events.
 #![tactic(auto)]
 
-mod constant;
 mod event;
 mod full;
 mod item;

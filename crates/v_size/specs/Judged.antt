@@ -7,7 +7,7 @@ use Rattle.verilog_meaning.specs.Expression as meaning
 use Rattle.verilog_meaning.specs.Expression.{Scope, Object, object_width, is_memory, width_of, widths_of, sign_of}
 use Rattle.verilog_rules.specs.Expression as rules
 use Rattle.v_syntax.specs.declared.tree.BinaryOperator.{BinaryOperator}
-use Rattle.v_syntax.specs.declared.tree.BinaryOperator.TheVariants.{Power, Divide, Modulo, ShiftLeft, ShiftRight, ArithmeticShiftRight}
+use Rattle.v_syntax.specs.declared.tree.BinaryOperator.TheVariants.{Power, Divide, Modulo, ShiftLeft, ShiftRight, ArithmeticShiftRight, Multiply, Add, Subtract, And, Xor, Xnor, Or}
 use Rattle.v_syntax.specs.declared.tree.TestOperator.{TestOperator}
 use Rattle.v_syntax.specs.declared.tree.Expression.{Expression}
 use Rattle.v_syntax.specs.declared.tree.BinaryLink.{BinaryLink}
@@ -147,7 +147,13 @@ right_at s p ShiftRight y = itself_at s p y
 right_at s p ArithmeticShiftRight y = itself_at s p y
 right_at s p Divide y = divisor_at s p y
 right_at s p Modulo y = divisor_at s p y
-right_at s p _ y = judged_at s p y
+right_at s p Multiply y = judged_at s p y
+right_at s p Add y = judged_at s p y
+right_at s p Subtract y = judged_at s p y
+right_at s p And y = judged_at s p y
+right_at s p Xor y = judged_at s p y
+right_at s p Xnor y = judged_at s p y
+right_at s p Or y = judged_at s p y
 
 abbrev pub applied : BinaryOperator → Judged → Judged → Judged
 applied o a b = record { broken = both a.broken b.broken; width = cond (leaves_to_left o) a.width (rules.wider a.width b.width); unsized_number = false }
