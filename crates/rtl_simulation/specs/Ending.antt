@@ -27,7 +27,7 @@ pub record IsReadAs (d : Design) (bytes : List ℕ) (names : Settables) (reading
   pub is_reading : script_reading names bytes ≡ reading
 
 -- The lines tell what the design does under the script of these bytes.
-pub record IsTold (d : Design) (bytes lines : List ℕ) : Type 0 where
+pub record IsRunTold (d : Design) (bytes lines : List ℕ) : Type 0 where
   pub names : Settables
   pub script : Script
   pub is_read : IsReadAs d bytes names (is_script script)
@@ -39,4 +39,4 @@ IsEnding d bytes not_yet = has_parts d.source ≡ true
 IsEnding d bytes (broken kind) = (has_parts d.source ≡ false) × IsRefusedBy d kind
 IsEnding d bytes bad_line = IsRun d × (names : Settables) × IsReadAs d bytes names scripts.bad_line
 IsEnding d bytes missing_input = IsRun d × (names : Settables) × IsReadAs d bytes names scripts.missing_input
-IsEnding d bytes (ran lines) = IsRun d × IsTold d bytes lines
+IsEnding d bytes (ran lines) = IsRun d × IsRunTold d bytes lines

@@ -11,7 +11,7 @@ use Rattle.std.proofs.lemmas.Bool.Decides.{nat_tests}
 use Rattle.wb_top.specs.Files.{most_bytes, has_fitting_length, first_long, AreHeld}
 use Rattle.wb_top.specs.Simulated.{Pair, runs, refused, pair_of, IsSimulated, AreSimulated}
 use Rattle.rtl_simulation.specs.Ending.{Ending, not_yet, broken, bad_line, missing_input, ran}
-use Rattle.wb_top.specs.SimulatedRtl.{IsTold, IsSimulatedText, AreRtlSimulated}
+use Rattle.wb_top.specs.SimulatedRtl.{IsWrittenFor, IsSimulatedText, AreRtlSimulated}
 use Rattle.wb_top.specs.Asked.{wanted_names, AskedAll, AskedSome}
 use Rattle.wb_top.specs.Outcome.{Told, IsEnd, IsWithin, IsAnswer, IsAnswered, IsCallOutcome}
 use Rattle.wb_top.specs.declared.status.Status.{Status}
@@ -164,7 +164,7 @@ no_simulation_is_usage (m ∷ []) text h = h
 no_simulation_is_usage (m ∷ s ∷ []) text h = no_pair_is_usage (pair_of m s) text h
 no_simulation_is_usage (m ∷ s ∷ x ∷ xs) text h = h
 
-no_ending_is_usage : (e : Ending) (text : List ℕ) → IsTold e Usage text → ⊥
+no_ending_is_usage : (e : Ending) (text : List ℕ) → IsWrittenFor e Usage text → ⊥
 no_ending_is_usage not_yet text h = h
 no_ending_is_usage (broken kind) text h = h
 no_ending_is_usage bad_line text h = h

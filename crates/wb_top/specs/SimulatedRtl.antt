@@ -13,17 +13,17 @@ use Rattle.wb_top.specs.declared.status.Status.{Status}
 use Rattle.wb_top.specs.declared.status.Status.TheVariants.{Done, Refused}
 
 -- Done: the text of what the design does under the script. Refused: by what keeps it from being run.
-abbrev pub IsTold : Ending → Status → List ℕ → Type 0
-IsTold (ran lines) Done text = text ≡ lines
-IsTold not_yet Refused text = IsRefusalBy (name_of_refusal None) text
-IsTold (broken kind) Refused text = IsRefusalBy (name_of_refusal (Some kind)) text
-IsTold bad_line Refused text = IsRefusalBy (codes "S1 BadLine") text
-IsTold missing_input Refused text = IsRefusalBy (codes "S2 MissingInput") text
-IsTold _ status text = ⊥
+abbrev pub IsWrittenFor : Ending → Status → List ℕ → Type 0
+IsWrittenFor (ran lines) Done text = text ≡ lines
+IsWrittenFor not_yet Refused text = IsRefusalBy (name_of_refusal None) text
+IsWrittenFor (broken kind) Refused text = IsRefusalBy (name_of_refusal (Some kind)) text
+IsWrittenFor bad_line Refused text = IsRefusalBy (codes "S1 BadLine") text
+IsWrittenFor missing_input Refused text = IsRefusalBy (codes "S2 MissingInput") text
+IsWrittenFor _ status text = ⊥
 
 -- What a simulation of the design ends with.
 abbrev pub IsSimulatedDesign : Design → (script : List ℕ) → Status → List ℕ → Type 0
-IsSimulatedDesign d script status text = (e : Ending) × IsEnding d script e × IsTold e status text
+IsSimulatedDesign d script status text = (e : Ending) × IsEnding d script e × IsWrittenFor e status text
 
 -- A kind refuses the Verilog files before their tree is read; where none does, their tree is that of a design.
 abbrev pub IsSimulatedText : (top clock : Name) → (script : List ℕ) → (designs : List (List ℕ)) → Option (List ℕ) → Status → List ℕ → Type 0
