@@ -1,1 +1,4 @@
 mod Cycles
+mod Order
+mod Names
+mod Reading

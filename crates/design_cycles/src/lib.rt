@@ -1,4 +1,4 @@
-//! Laws on the cycles of accepted designs. The functions have no code: each carries a law.
+//! Laws on designs that scripts are run on. The functions have no code: each carries a law.
 #![tactic(auto)]
 
 pub mod laws;

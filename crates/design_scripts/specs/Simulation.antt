@@ -70,8 +70,8 @@ abbrev pub end_line : List Settable → Valuation → List ℕ
 end_line registers last = codes "end" ++ (registers_text registers last ++ 10 ∷ [])
 
 -- lines for the cycles, numbered from 0, and the last line
-abbrev pub simulation_text : (outputs : List Name) → (registers : List Settable) → (settled : List Valuation) → (last : Valuation) → List ℕ
-simulation_text outputs registers settled last = cycle_lines outputs 0 settled ++ end_line registers last
+abbrev pub run_text : (outputs : List Name) → (registers : List Settable) → (settled : List Valuation) → (last : Valuation) → List ℕ
+run_text outputs registers settled last = cycle_lines outputs 0 settled ++ end_line registers last
 
 -- The text tells what the design does under the script: there is a run of it, and the text is that of each such run. (They give each net
 -- and variable the same values.)
@@ -80,7 +80,7 @@ pub record IsTold (d : Design) (names : Settables) (script : Script) (text : Lis
   pub is_top : at_path d [] ≡ Some top
   pub some_run : (settled : List Valuation) × (last : Valuation) × IsScriptRun d script settled last
   pub each_run : (settled : List Valuation) (last : Valuation) → IsScriptRun d script settled last
-      → text ≡ simulation_text (outputs_of top.of_module) names.states settled last
+      → text ≡ run_text (outputs_of top.of_module) names.states settled last
 
 -- ---- designs that run
 

@@ -8,7 +8,7 @@ use Rattle.verilog_meaning.specs.Register.{word_count}
 use Rattle.verilog_meaning.specs.Hierarchy.{PathStep, dotted}
 use Rattle.refinement.specs.Map.{Setting, map_scope}
 use Rattle.refinement.specs.Obligation.{obligations}
-use Rattle.reports.specs.Report.{is_in_order, IsRegister, IsInput, StandsFor, AreEntriesOf}
+use Rattle.reports.specs.Report.{is_in_order, IsTraceRegister, IsInput, StandsFor, AreEntriesOf}
 use Rattle.first_text.specs.Tree.{Port, module_tree}
 use Rattle.wb_first.specs.Names.{First, setting_of, is_register, is_input, is_declared, is_variable, has_direction, port_named, scope_of_first}
 use Rattle.wb_first.specs.Accepted.{is_accepted, is_one_of, all_differ, port_names, is_data, is_source}
@@ -61,7 +61,7 @@ module _ (f : First) (k : Keeps f) where
       let set = may_be_set (scope_of_first f.design) f.design.parts n 0 0 in
       rw bit set
 
-  register_is : (n : Name) → is_register f.design n ≡ true → IsRegister (design_of_first f) n
+  register_is : (n : Name) → is_register f.design n ≡ true → IsTraceRegister (design_of_first f) n
   register_is n h = record {
     place = first_placed f;
     own = n;
@@ -73,7 +73,7 @@ module _ (f : First) (k : Keeps f) where
     is_name = refl;
   }
 
-  is_register_of : (n : Name) → IsRegister (design_of_first f) n → is_register f.design n ≡ true
+  is_register_of : (n : Name) → IsTraceRegister (design_of_first f) n → is_register f.design n ≡ true
   is_register_of n r =
       let only = only_top f k.is_top r.place.path r.place r.is_place in
       let same : n ≡ r.own = r.is_name ∙ ap (λ (q : List PathStep). dotted q r.own) only.0 in
@@ -171,7 +171,7 @@ is_told f accepted j o is_o x values run has =
     record {
       named = refl;
       registers =
-          are_entries (setting_of f) (IsRegister (design_of_first f)) (register_names f) x (run.registers 0)
+          are_entries (setting_of f) (IsTraceRegister (design_of_first f)) (register_names f) x (run.registers 0)
           (parts_in_order f.design.parts [] refl) (λ n h. register_is f k n (sym (registers_among f.design.parts n) ∙ h))
           (λ n h. registers_among f.design.parts n ∙ is_register_of f k n h)
           (λ n h. has_number f x values n (register_source f k n (is_register_of f k n h)))

@@ -84,7 +84,7 @@ is_in_order (n ∷ []) = true
 is_in_order (m ∷ n ∷ ns) = is_before m n && is_in_order (n ∷ ns)
 
 -- A path names a register: a net, variable or memory of which a clocked block may assign a bit.
-pub record IsRegister (d : Design) (n : Name) : Type 0 where
+pub record IsTraceRegister (d : Design) (n : Name) : Type 0 where
   pub place : Placed
   pub own : Name
   pub word : ℕ
@@ -116,7 +116,7 @@ pub record AreEntriesOf (s : Setting) (IsWanted : Name → Type 0) (es : Entries
 -- The trace tells the first registers and the inputs of a run, as far as an obligation speaks of it.
 pub record IsTraceOf (s : Setting) (o : Obligation) (run : Run) (t : Trace) : Type 0 where
   pub named : t.obligation ≡ o.called
-  pub registers : AreEntriesOf s (IsRegister (design_of s)) t.registers (run.registers 0)
+  pub registers : AreEntriesOf s (IsTraceRegister (design_of s)) t.registers (run.registers 0)
   pub cycles : length t.inputs ≡ o.cycles
   pub inputs : (k : ℕ) (es : Entries Value) → slice_get t.inputs k ≡ Some es → AreEntriesOf s (IsInput (design_of s)) es (run.inputs k)
 

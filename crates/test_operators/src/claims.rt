@@ -45,11 +45,12 @@ fn add_values(alloc: Global, terms: &Terms, env: &Env, out: &mut Sheet)
     let Ok(mut scratch) = Scratch::new(alloc, terms) else {
         return out.add(" no memory");
     };
-    if terms.len() <= 3 {
+    let first = first_term(terms);
+    if first.0 as u64 >= terms.len() {
         return out.add(" no term");
     }
     out.add(", ");
-    out.add_number(alloc, eval(terms, env, &mut scratch, FIRST));
+    out.add_number(alloc, eval(terms, env, &mut scratch, first));
 }
 
 /// Adds what is known of a claim with a budget of lemmas: `holds`, `spent`, or `breaks` with the values.

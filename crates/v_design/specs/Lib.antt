@@ -1,6 +1,5 @@
 pub mod Table
 pub mod Registers
-pub mod Order
 pub mod Bits
 pub mod Parts
 pub mod Seen

@@ -164,7 +164,7 @@ module _ (d : Design) (m : Module) (h : IsTopOf d m) where
     objects : HasNarrowObjects (known_module_scope m [])
     objects = module-narrow d.source (alone m) module_unbroken refl
 
-    items_unbroken : is_unbroken (broken_module_items d.source (known_module_scope m []) m.items) ≡ true
+    pub items_unbroken : is_unbroken (broken_module_items d.source (known_module_scope m []) m.items) ≡ true
     items_unbroken =
         let q = unbroken-also (constant_if (has_net_as_constant d.source m)) (also (also (broken_header s m.parameters) (broken_ports s (header_ports m.ports))) (also (broken_declarations s m (declarations m)) (broken_module_items d.source s m.items))) module_unbroken in
         let r = unbroken-also (also (broken_header s m.parameters) (broken_ports s (header_ports m.ports))) (also (broken_declarations s m (declarations m)) (broken_module_items d.source s m.items)) q.1 in

@@ -6,6 +6,7 @@ mod blocks;
 mod design;
 mod drivers;
 mod kind;
+pub mod laws;
 mod rules;
 
 pub use design::design_refusal;

@@ -1,12 +1,9 @@
 -- The outputs of a module in the order of its ports.
-use Rattle.std.specs.Prelude.{Bool, true, false, cond, List, [], ◌∷◌, Option, Some}
+use Rattle.std.specs.Prelude.{cond, List, [], ◌∷◌}
 use Rattle.wb_values.specs.Value.{Name, Entries, entry_of}
-use Rattle.verilog_trees.specs.Syntax.{Direction, output, Module}
+use Rattle.verilog_trees.specs.Syntax.{Direction, Module}
 use Rattle.verilog_meaning.specs.Settled.{port_order, port_directions}
-
-abbrev pub is_output : Option Direction → Bool
-is_output (Some output) = true
-is_output _ = false
+pub use Rattle.verilog_designs.specs.Ports.{is_output}
 
 -- those of the names that are outputs, in their order
 abbrev pub outputs_among : Entries Direction → List Name → List Name

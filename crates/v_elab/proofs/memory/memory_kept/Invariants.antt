@@ -1,0 +1,11 @@
+use Rattle.std.proofs.Common.{◌≡◌}
+use Rattle.v_operators.specs.Meaning.{Grows}
+use Rattle.v_elab.specs.Kept.{named_at}
+use Rattle.v_elab.specs.Tables.{IsCut}
+use Rattle.v_elab.proofs.memory.memory_kept.Given as goal
+
+abbrev pub invariant-loop-address : goal.invariant-loop-address
+invariant-loop-address l = record {
+  grows : Grows l.fn.terms l.terms;
+  cut : IsCut l.terms (named_at l.fn.terms l.fn.place.0).0 l.address_width l.width l.masks l.address l.id.0;
+}

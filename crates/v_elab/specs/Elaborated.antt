@@ -1,0 +1,74 @@
+-- What a module is elaborated to: its registers and inputs as names of a store, tables of terms at the start, when nets have settled and
+-- after the clock's edge, and the parts of a design that are taken from them.
+use Rattle.std.specs.Prelude.{◌≡◌, ℕ, Bool, cond, not, ◌&&◌, ◌++◌, min, List, [], map, length, Option, Some, None, is_some, option_map}
+use Rattle.wb_values.specs.Value.{Name}
+use Rattle.verilog_trees.specs.Syntax.{Statement, Module}
+use Rattle.verilog_meaning.specs.Expression.{Scope, is_memory}
+use Rattle.verilog_meaning.specs.Register.{clocked_blocks}
+use Rattle.verilog_meaning.specs.Hierarchy.{Declaration, declarations, module_scope}
+use Rattle.verilog_designs.specs.Names.{is_among}
+use Rattle.wb_terms.specs.Graph.{Graph, HasDistinctNames}
+use Rattle.v_operators.specs.Meaning.{Grows}
+use Rattle.v_lower.specs.Lowered.{Images}
+use Rattle.v_settle.specs.OneModule.{IsEvaluated}
+use Rattle.v_edge.specs.Edge.{AreUpdated}
+use Rattle.v_design.specs.Registers.{CountedBits}
+use Rattle.v_design.specs.Parts.{Parts}
+use Rattle.v_design.specs.Design.{outputs_of}
+use Rattle.v_registers.specs.Once.{each_once}
+use Rattle.v_registers.specs.Registers.{Counted, AreSplit}
+use Rattle.v_elab.specs.Names.{AreEntriesOf, chosen}
+use Rattle.v_elab.specs.Start.{IsStart}
+
+-- the scope of a module without parameters, and its clocked blocks
+abbrev pub scope : Module → Scope
+scope m = module_scope m []
+
+abbrev pub clocked : Module → List Statement
+clocked m = clocked_blocks m.items
+
+abbrev pub names_in : List Declaration → List Name
+names_in ds = map (λ d. d.of_name) ds
+
+-- the names that a module declares, each where it is first declared
+abbrev pub declared : Module → List Name
+declared m = each_once (names_in (declarations m))
+
+abbrev pub register_names : List Counted → List Name
+register_names cs = map (λ c. c.of_name) cs
+
+abbrev pub bits_of : Scope → Counted → CountedBits
+bits_of s c = record { least = option_map (λ a. min a.0 a.1) (s c.of_name).addresses; masks = c.masks }
+
+-- the term that a name settles to, if it is one that has any
+abbrev pub settled_at : Module → Images → Name → Option ℕ
+settled_at m images n = cond (is_among (declared m) n && not (is_memory (scope m n))) (images n) None
+
+pub record IsElaborated (m : Module) (is_given : Name → Bool) (e : Parts) : Type 0 where
+  pub distinct : HasDistinctNames e.graph.names
+  pub registers : List Counted
+  pub others : List Name
+  pub split : AreSplit (scope m) (clocked m) (declared m) registers others
+  pub entries : AreEntriesOf (scope m) (register_names registers ++ chosen is_given others) e.graph.names
+  pub counted : e.register_count ≡ length registers
+  pub bits : e.bits ≡ map (bits_of (scope m)) registers
+  pub outputs : e.outputs ≡ outputs_of m
+  -- the tables at the start
+  pub start : Graph
+  pub given : Images
+  pub first : Images
+  pub is_start : IsStart (scope m) (clocked m) is_given start given first
+  pub all_given : (n : Name) → is_some (given n) ≡ is_among (declared m) n
+  pub all_first : (n : Name) → is_some (first n) ≡ is_among (declared m) n
+  pub start_names : start.names ≡ e.graph.names
+  -- nets have settled
+  pub middle : Graph
+  pub nets : Images
+  pub evaluated : IsEvaluated (scope m) m.items given start nets middle
+  pub grows : Grows start middle
+  -- after the edge
+  pub after : Images
+  pub next : Images
+  pub updated : AreUpdated (scope m) nets first middle (clocked m) after next e.graph
+  pub settled : (n : Name) → e.settled n ≡ settled_at m after n
+  pub next_terms : map (λ id. Some id) e.next ≡ map next (register_names registers)

@@ -1,0 +1,20 @@
+//! From the tree of a Verilog source to the design that it is, for one module without parameters and instances.
+#![tactic(auto)]
+
+mod declaring;
+mod design;
+mod keeping;
+mod memory;
+mod naming;
+mod parts;
+mod ports;
+mod source;
+mod start;
+mod tables;
+
+pub use source::{Elaborated, elaborate};
+pub use v_design::Design;
+pub use v_judged::DesignKind;
+
+/// Out of memory.
+pub type NoMemory = std::alloc::AllocError;

@@ -1,0 +1,149 @@
+//! The parts of a design that are taken from tables of terms.
+
+ghost use Rattle.std.specs.Prelude.{◌≡◌, ◌++◌, ◌∷◌, ◌&&◌, [], ℕ, List, Some, None, cond, not, map, option_map, min, IfOk, OnOk};
+ghost use Rattle.wb_values.specs.Value.{same_name};
+ghost use Rattle.wb_values.specs.Choice.{first_of};
+ghost use Rattle.verilog_meaning.specs.Expression.{is_memory};
+ghost use Rattle.verilog_designs.specs.Names.{is_among};
+ghost use Rattle.v_value.specs.Scope.{object_of};
+ghost use Rattle.v_scopes.specs.Scopes.{scope_in};
+ghost use Rattle.v_lower.specs.Table.{images_at};
+ghost use Rattle.v_design.specs.Table.{terms_at};
+ghost use Rattle.v_design.specs.Bits.{counted_bits};
+ghost use Rattle.v_registers.specs.Registers.{counted_of};
+ghost use Rattle.v_elab.specs.Elaborated.{bits_of, register_names};
+ghost use Rattle.v_elab.specs.Names.{HaveTerms};
+
+use crate::NoMemory;
+use std::alloc::Global;
+use std::collections::BTreeMap;
+use v_design::RegisterBits;
+use v_lower::NamedTerms;
+use v_registers::Register;
+use v_scopes::ModuleScope;
+use v_value::scope::Object;
+use wb_terms::TermId;
+
+/// The term of a net or variable; a memory has none here.
+fn plain_term(names: &ModuleScope<'_>, table: &NamedTerms<'_>, name: &str) -> Option<TermId>
+    ensures { option_map (λ k. k.0) result ≡ cond (is_memory (scope_in names.now name.now)) None (images_at table.now name.now) }
+{
+    if names.object(name).addresses.is_some() {
+        None
+    } else {
+        table.term(name)
+    }
+}
+
+/// Adds the term of a net or variable, if it has one.
+fn add_settled(
+    alloc: Global,
+    names: &ModuleScope<'_>,
+    table: &NamedTerms<'_>,
+    name: &str,
+    found: &mut BTreeMap<String, TermId>,
+) -> Result<(), NoMemory>
+    ensures { OnOk result ((n : List ℕ) → terms_at found.new n
+        ≡ cond (same_name name.now n) (first_of (cond (is_memory (scope_in names.now name.now)) None (images_at table.now name.now)) (terms_at found.old n)) (terms_at found.old n)) }
+{
+    match plain_term(names, table, name) {
+        Some(id) => {
+            let text = String::from_str(alloc, name)?;
+            found.insert(text, id)?;
+        }
+        None => {}
+    }
+    Ok(())
+}
+
+/// The terms of nets and variables by their names.
+pub(crate) fn settled_of(
+    alloc: Global,
+    names: &ModuleScope<'_>,
+    table: &NamedTerms<'_>,
+    list: &[&str],
+) -> Result<BTreeMap<String, TermId>, NoMemory>
+    ensures { IfOk result (λ t. (n : List ℕ) → terms_at t n
+        ≡ cond (is_among (map (λ k. k.now) list.now) n && not (is_memory (scope_in names.now n))) (images_at table.now n) None) }
+{
+    let mut found = BTreeMap::new(alloc);
+    for name in list {
+        add_settled(alloc, names, table, *name, &mut found)?;
+    }
+    Ok(found)
+}
+
+/// The terms of registers, in their order.
+pub(crate) fn next_of(
+    alloc: Global,
+    table: &NamedTerms<'_>,
+    registers: &[Register<'_>],
+) -> Result<Vec<TermId>, NoMemory>
+    requires { HaveTerms (images_at table.now) (register_names (map counted_of registers.now)) }
+    ensures { IfOk result (λ v. map (λ id. Some id.0) v.items ≡ map (images_at table.now) (register_names (map counted_of registers.now))) }
+{
+    let mut found = Vec::new(alloc);
+    for register in registers {
+        match table.term(register.name) {
+            Some(id) => found.push(id)?,
+            None => unreachable!(),
+        }
+    }
+    Ok(found)
+}
+
+/// The least address of a memory.
+fn least_address(object: Object) -> Option<u64>
+    ensures { result ≡ option_map (λ a. min a.0 a.1) (object_of object).addresses }
+{
+    match object.addresses {
+        None => None,
+        Some((first, last)) => {
+            if first < last {
+                Some(first as u64)
+            } else {
+                Some(last as u64)
+            }
+        }
+    }
+}
+
+/// A copy of masks.
+fn copy_of(alloc: Global, masks: &[u128]) -> Result<Vec<u128>, NoMemory>
+    ensures { IfOk result (λ v. v.items ≡ masks.now) }
+{
+    let mut copy = Vec::new(alloc);
+    for mask in masks {
+        copy.push(*mask)?;
+    }
+    Ok(copy)
+}
+
+/// The bits of a register.
+fn register_bits(
+    alloc: Global,
+    names: &ModuleScope<'_>,
+    register: &Register<'_>,
+) -> Result<RegisterBits, NoMemory>
+    ensures { IfOk result (λ b. counted_bits b ≡ bits_of (scope_in names.now) (counted_of register.now)) }
+{
+    let least = least_address(names.object(register.name));
+    let masks = copy_of(alloc, &register.masks)?;
+    Ok(RegisterBits { least, masks })
+}
+
+/// The bits of registers, in their order.
+pub(crate) fn bits_of(
+    alloc: Global,
+    names: &ModuleScope<'_>,
+    registers: &[Register<'_>],
+) -> Result<Vec<RegisterBits>, NoMemory>
+    ensures { IfOk result (λ v. map counted_bits v.items ≡ map (bits_of (scope_in names.now)) (map counted_of registers.now)) }
+{
+    let mut found = Vec::new(alloc);
+    for register in registers {
+        let bits = register_bits(alloc, names, register)?;
+        found.push(bits)?;
+    }
+    Ok(found)
+}

@@ -1,0 +1,103 @@
+//! The names of a module, its store, and the tables of terms at the start.
+
+ghost use Rattle.std.specs.Prelude.{◌≡◌, [], map, IfOk};
+ghost use Rattle.verilog_meaning.specs.Register.{clocked_blocks};
+ghost use Rattle.v_syntax.specs.Source.{item_of};
+ghost use Rattle.v_value.specs.Scope.{scope_at};
+ghost use Rattle.v_value.specs.Narrow.{HasNarrowObjects};
+ghost use Rattle.v_scopes.specs.Scopes.{scope_in};
+ghost use Rattle.v_drivers.specs.Premises.{AreNarrowBlocks};
+ghost use Rattle.v_lower.specs.Table.{images_at};
+ghost use Rattle.v_registers.specs.Once.{each_once};
+ghost use Rattle.v_registers.specs.Registers.{counted_of};
+ghost use Rattle.v_elab.specs.Names.{is_data_input};
+ghost use Rattle.v_elab.specs.Begun.{AreSorted, CanBegin, HasBegun};
+
+use crate::NoMemory;
+use crate::declaring::store_of;
+use crate::naming::{inputs_among, names_of_store};
+use crate::tables::{enter_inputs, enter_others, enter_registers};
+use std::alloc::Global;
+use v_lower::NamedTerms;
+use v_registers::{Register, first_names, registers_among};
+use v_scopes::ModuleScope;
+use v_syntax::module::Item;
+use v_value::scope::Scope;
+use wb_terms::Terms;
+
+/// The names of a module: all, the registers, those of the store (registers, and then inputs), and the others.
+#[derive(Drop)]
+pub(crate) struct Sorted<'s> {
+    pub(crate) declared: Vec<&'s str>,
+    pub(crate) registers: Vec<Register<'s>>,
+    pub(crate) stored: Vec<&'s str>,
+    pub(crate) others: Vec<&'s str>,
+}
+
+/// The names of a module, a store, the terms of what is given to names, and those of what registers hold.
+#[derive(Drop)]
+pub(crate) struct Begun<'s> {
+    pub(crate) sorted: Sorted<'s>,
+    pub(crate) terms: Terms,
+    pub(crate) table: NamedTerms<'s>,
+    pub(crate) next: NamedTerms<'s>,
+}
+
+/// The names of a module by what they are.
+pub(crate) fn names_by_kind<'s>(
+    alloc: Global,
+    names: &ModuleScope<'s>,
+    scope: &Scope<'_>,
+    items: &[Item<'s>],
+    clock: &str,
+) -> Result<Sorted<'s>, NoMemory>
+    requires objects { HasNarrowObjects (scope_at scope.now) }
+    requires narrow { AreNarrowBlocks (scope_at scope.now) (clocked_blocks (map item_of items.now)) }
+    requires same { scope_at scope.now ≡ scope_in names.now }
+    ensures declared { IfOk result (λ r. map (λ n. n.now) r.declared.items ≡ each_once (map (λ d. d.name.now) names.now.declared.items)) }
+    ensures sorted { IfOk result (λ r. AreSorted (scope_at scope.now) (clocked_blocks (map item_of items.now)) (is_data_input names.now clock.now)
+        (map (λ n. n.now) r.declared.items) (map counted_of r.registers.items) (map (λ n. n.now) r.stored.items) (map (λ n. n.now) r.others.items)) }
+{
+    let declared = first_names(alloc, names.declarations())?;
+    let split = registers_among(alloc, &declared, names, scope, items)?;
+    let found = inputs_among(alloc, names, clock, &split.others)?;
+    let stored = names_of_store(alloc, &split.registers, &found.inputs)?;
+    Ok(Sorted {
+        declared,
+        registers: split.registers,
+        stored,
+        others: found.others,
+    })
+}
+
+/// The names of a module, the store of its registers and inputs, and the tables at the start.
+pub(crate) fn begin<'s>(
+    alloc: Global,
+    names: &ModuleScope<'s>,
+    scope: &Scope<'_>,
+    items: &[Item<'s>],
+    clock: &str,
+) -> Result<Begun<'s>, NoMemory>
+    requires objects { HasNarrowObjects (scope_at scope.now) }
+    requires narrow { AreNarrowBlocks (scope_at scope.now) (clocked_blocks (map item_of items.now)) }
+    requires same { scope_at scope.now ≡ scope_in names.now }
+    requires ready { CanBegin (scope_in names.now) (clocked_blocks (map item_of items.now)) (is_data_input names.now clock.now) }
+    ensures declared { IfOk result (λ r. map (λ n. n.now) r.sorted.declared.items ≡ each_once (map (λ d. d.name.now) names.now.declared.items)) }
+    ensures begun { IfOk result (λ r. HasBegun (scope_in names.now) (clocked_blocks (map item_of items.now)) (is_data_input names.now clock.now)
+        (map (λ n. n.now) r.sorted.declared.items) (map counted_of r.sorted.registers.items) r.terms (images_at r.table) (images_at r.next)) }
+{
+    let sorted = names_by_kind(alloc, names, scope, items, clock)?;
+    let mut terms = store_of(alloc, names, &sorted.stored)?;
+    let mut table = NamedTerms::new(alloc);
+    let mut next = NamedTerms::new(alloc);
+    enter_registers(&mut terms, &mut table, &mut next, names, &sorted.registers)?;
+    let first = sorted.registers.len();
+    enter_inputs(&mut terms, &mut table, &mut next, names, first, &sorted.stored)?;
+    enter_others(&mut terms, &mut table, &mut next, names, &sorted.others)?;
+    Ok(Begun {
+        sorted,
+        terms,
+        table,
+        next,
+    })
+}

@@ -1,0 +1,4 @@
+pub mod FirstNames
+pub mod ByNames
+pub mod WordMasks
+pub mod Splitting

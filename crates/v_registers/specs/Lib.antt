@@ -1,0 +1,4 @@
+pub mod Once
+pub mod Groups
+pub mod Masks
+pub mod Registers
