@@ -19,5 +19,4 @@ ending_of_script MissingInput = missing_input
 abbrev pub ending_of : RtlSimulation → Ending
 ending_of (code.Text text) = ran text.items
 ending_of (code.Design kind) = ending_of_kind (kind_of kind)
-ending_of code.NotYet = not_yet
 ending_of (code.Script refusal) = ending_of_script refusal.kind

@@ -23,10 +23,8 @@ use v_syntax::module::Tree;
 pub enum RtlSimulation {
     /// The lines that tell it.
     Text(Vec<u8>),
-    /// The design breaks the rule of this kind.
+    /// The design breaks the rule of this kind, or has parts that are not read yet.
     Design(DesignKind),
-    /// Some module has a parameter or an instance, which is not read yet.
-    NotYet,
     /// The text is no script for the design.
     Script(ScriptRefusal),
 }
@@ -59,12 +57,11 @@ pub fn simulated_rtl(
     requires { IsOfText (record { source = source_of source.now; top = top.now; clock = clock.now }) }
     ensures { IfOk result (λ r. IsEnding (record { source = source_of source.now; top = top.now; clock = clock.now }) script.now (ending_of r)) }
 {
-    match elaborate(source, top, clock, alloc)? {
+    match elaborate(alloc, source, top, clock)? {
         Elaborated::Design(design) => {
             let answer = run(&design, script, alloc)?;
             Ok(answer)
         }
         Elaborated::Refused(kind) => Ok(RtlSimulation::Design(kind)),
-        Elaborated::NotYet => Ok(RtlSimulation::NotYet),
     }
 }

@@ -91,7 +91,6 @@ fn of_tree(
     match rtl_simulation::simulated_rtl(tree, &design.top, &design.clock, script, alloc)? {
         RtlSimulation::Text(text) => Ok(Outcome::plain(alloc, Status::Done, text)),
         RtlSimulation::Design(kind) => refused_design(alloc, kind),
-        RtlSimulation::NotYet => refused_design(alloc, DesignKind::NotYet),
         RtlSimulation::Script(refusal) => {
             let text = refusal_of_script(alloc, &refusal)?;
             Ok(Outcome::plain(alloc, Status::Refused, text))
