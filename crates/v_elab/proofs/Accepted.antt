@@ -1,20 +1,20 @@
 -- The module of an accepted design can be elaborated.
-use Rattle.std.proofs.Common.{◌≡◌, ◌≢◌, ◌∙◌, ℕ, refl, ap, sym, subst, Bool, true, false, cond, not, ◌&&◌, List, [], ◌∷◌, ◌⊎◌, inl, inr, Option, Some, None, is_some, option_map}
-use Rattle.std.specs.Prelude.{◌||◌, IsTrue, ◌↔◌}
+use Rattle.std.proofs.Common.{◌≡◌, ◌≢◌, ◌∙◌, refl, ap, sym, Bool, true, false, cond, not, ◌&&◌, List, [], ◌∷◌, inl, inr, Option, Some, None, option_map}
+use Rattle.std.specs.Prelude.{◌↔◌}
 use Rattle.std.specs.List.{list_any}
 use Rattle.std.proofs.lemmas.Bool.{false≢true, true≢false, and_parts, and_from}
 use Rattle.wb_values.specs.Value.{Name, same_name, entry_of}
 use Rattle.verilog_trees.specs.Syntax.{Statement, Range, Direction, input, output, Item, port, parameter, wires, variables, assign, always, instances, Source, Module}
-use Rattle.verilog_meaning.specs.Expression.{Scope, object_or_undeclared, scope_of, is_memory}
-use Rattle.verilog_meaning.specs.Register.{is_clocked, clocked_blocks, counts}
+use Rattle.verilog_meaning.specs.Expression.{Scope, object_or_undeclared, scope_of}
+use Rattle.verilog_meaning.specs.Register.{is_clocked, clocked_blocks}
 use Rattle.verilog_meaning.specs.Hierarchy.{Declaration, declarations, declaration_of, ranged_object, declared_object, placed_scope, module_named}
-use Rattle.verilog_meaning.specs.Settled.{Design, at_path, port_directions, HasPort}
+use Rattle.verilog_meaning.specs.Settled.{Design, port_directions, HasPort}
 use Rattle.verilog_rules.specs.Expression.{is_unbroken}
 use Rattle.verilog_designs.specs.Dependence.{HasLoop}
 use Rattle.verilog_designs.specs.Ports.{is_input}
 use Rattle.verilog_designs.specs.Paths.{has_blocking}
-use Rattle.verilog_designs.specs.Expressions.{broken_range, broken_events, broken_initial_values, broken_statement, broken_module_item, broken_module_items}
-use Rattle.verilog_designs.specs.Accepted.{DesignKind, no_top, undeclared, duplicate_name, bad_hierarchy, comb_loop, blocking_in_clocked, HasNoTop, IsAccepted}
+use Rattle.verilog_designs.specs.Expressions.{broken_events, broken_statement, broken_module_item, broken_module_items}
+use Rattle.verilog_designs.specs.Accepted.{no_top, undeclared, duplicate_name, bad_hierarchy, comb_loop, blocking_in_clocked, HasNoTop, IsAccepted}
 use Rattle.verilog_unique.proofs.Options.{same_is, is_same}
 use Rattle.verilog_exists.specs.Exists.{IsShapely}
 use Rattle.verilog_exists.specs.Loops.{IsAcceptedButForLoops}

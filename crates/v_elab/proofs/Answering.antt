@@ -1,5 +1,5 @@
 -- The laws of the crates below, put together: the module of an accepted design can be elaborated, and what it is elaborated to is the design.
-use Rattle.std.proofs.Common.{◌≡◌, ◌∙◌, false, [], Some}
+use Rattle.std.proofs.Common.{◌≡◌, false, [], Some}
 use Rattle.std.specs.Prelude.{◌↔◌}
 use Rattle.verilog_trees.specs.Syntax.{Module}
 use Rattle.verilog_meaning.specs.Hierarchy.{module_named, placed_scope}

@@ -1,6 +1,5 @@
 -- The parts of a design that a lowered module gives, and what holds of them.
-use Rattle.std.proofs.Common.{◌≡◌, ◌∙◌, ◌+◌, ◌^◌, ◌<◌, ◌≤◌, ◌%◌, ◌/◌, ℕ, zero, suc, refl, ap, sym, subst, Bool, true, false, cond, not, ◌&&◌, nat_lt, nat_le, ◌==◌, min, max, ◌-◌, take, drop, length, slice_index, List, [], ◌∷◌, ◌++◌, map, ◌⊎◌, inl, inr, Option, Some, None, is_some, is_none, unwrap_or, option_map, arith, mod-lt, pow_pos}
-use Rattle.std.specs.Prelude.{IsTrue, IsSome}
+use Rattle.std.proofs.Common.{◌≡◌, ◌∙◌, ◌+◌, ◌^◌, ◌<◌, ◌≤◌, ◌%◌, ◌/◌, ℕ, suc, refl, ap, sym, subst, Bool, true, false, cond, not, ◌&&◌, nat_lt, nat_le, ◌==◌, min, take, drop, length, slice_index, List, [], ◌∷◌, ◌++◌, map, ◌⊎◌, inl, inr, Option, Some, None, is_some, is_none, unwrap_or, option_map, arith, mod-lt, pow_pos}
 use Rattle.std.specs.Int.{bit_at}
 use Rattle.std.proofs.lemmas.Bool.{cases_lt, and_parts, and_from, false≢true, true≢false}
 use Rattle.std.proofs.lemmas.Bool.Decides.{nat_tests}
@@ -9,18 +8,18 @@ use Rattle.std.proofs.lemmas.Nat.Bits.{bit_at-lt, bit_at_above, bit_at_cat_low, 
 use Rattle.wb_values.specs.Value.{Name, Sort, truth, word, memory, all_below, Entries, entry_of}
 use Rattle.model_meaning.specs.Term.{sort_of, same_sort}
 use Rattle.verilog_trees.specs.Syntax.{Statement, Module}
-use Rattle.verilog_meaning.specs.Expression.{Object, Scope, object_width, is_memory, distance}
+use Rattle.verilog_meaning.specs.Expression.{Object, Scope, object_width, is_memory}
 use Rattle.verilog_meaning.specs.Register.{word_count, words_between, is_set, is_bit_of, counts, one_may_assign}
 use Rattle.verilog_designs.specs.Names.{is_among}
 use Rattle.verilog_unique.proofs.Descent.{IsAmong}
 use Rattle.wb_terms.specs.Graph.{Graph, tree, HasDistinctNames}
 use Rattle.wb_terms.specs.declared.nodes.TermId.{TermId}
-use Rattle.v_lower.specs.Lowered.{Images, IsSortOf, IsImage, HasImages}
+use Rattle.v_lower.specs.Lowered.{Images, IsSortOf, IsImage}
 use Rattle.v_edge.specs.Edge.{AreUpdated}
 use Rattle.v_design.specs.Registers.{CountedBits}
 use Rattle.v_design.specs.Parts.{Parts, has_sort, is_term_of, are_terms_of, is_within, is_word, are_words, are_bits_of, are_bits_for}
 use Rattle.v_design.specs.Design.{outputs_of}
-use Rattle.v_registers.specs.Registers.{IsRegister, AreMasks, Counted, AreSplit}
+use Rattle.v_registers.specs.Registers.{IsRegister, AreMasks, Counted}
 use Rattle.v_elab.specs.Names.{AreEntriesOf, AreDistinct, ArePlain, HasSmallAddresses, HaveTerms, chosen}
 use Rattle.v_elab.specs.Elaborated.{IsElaborated, scope, clocked, declared, register_names, bits_of, settled_at}
 use Rattle.v_elab.specs.Begun.{IsLowered}

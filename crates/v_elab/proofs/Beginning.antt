@@ -1,12 +1,12 @@
 -- With sorted names, the tables that are filled are those at the start.
-use Rattle.std.proofs.Common.{◌≡◌, ◌∙◌, ℕ, ◌≤◌, zero, suc, refl, ap, sym, subst, Bool, true, Bor, List, [], ◌∷◌, ◌++◌, length, drop, map, Option, None}
+use Rattle.std.proofs.Common.{◌≡◌, ◌∙◌, ℕ, zero, suc, refl, ap, sym, subst, Bool, true, List, [], ◌∷◌, ◌++◌, length, drop, map, None}
 use Rattle.wb_values.specs.Value.{Name}
 use Rattle.verilog_trees.specs.Syntax.{Statement}
 use Rattle.verilog_meaning.specs.Expression.{Scope}
 use Rattle.wb_terms.specs.Graph.{Graph}
 use Rattle.v_lower.specs.Lowered.{Images}
 use Rattle.v_registers.specs.Registers.{IsRegister, Counted}
-use Rattle.v_elab.specs.Names.{AreEntriesOf, AreDistinct, ArePlain, AreMasksOf, chosen, left_out}
+use Rattle.v_elab.specs.Names.{AreEntriesOf, AreDistinct, ArePlain, AreMasksOf, chosen}
 use Rattle.v_elab.specs.Begun.{AreSorted, HasBegun}
 use Rattle.v_elab.specs.Elaborated.{register_names}
 use Rattle.v_elab.specs.Tables.{Row, AreEntered, register_rows, input_rows, other_rows}
@@ -61,10 +61,10 @@ module _ (s : Scope) (q : List Statement) (f : Name → Bool) (ds : List Name) (
     begins b1 k1 h1 b2 k2 h2 b3 k3 h3 e1 e2 e3 =
         let stored : AreEntriesOf s (register_names cs ++ chosen f x.all) g.names = subst (λ ns. AreEntriesOf s ns g.names) x.stored_are entries in
         let start =
-            has_begun s q f ds cs x.all x.split apart g stored a n none none_next b1 k1 h1 b2 k2 h2 b3 k3 h3 e1
-            (subst (λ j. AreEntered s (input_rows j (chosen f x.all)) b1 k1 h1 b2 k2 h2) many
-            (subst (λ ns. AreEntered s (input_rows k ns) b1 k1 h1 b2 k2 h2) (inputs_at k many) e2))
-            (subst (λ ns. AreEntered s (other_rows ns) b2 k2 h2 b3 k3 h3) x.others_are e3) in
+        has_begun s q f ds cs x.all x.split apart g stored a n none none_next b1 k1 h1 b2 k2 h2 b3 k3 h3 e1
+        (subst (λ j. AreEntered s (input_rows j (chosen f x.all)) b1 k1 h1 b2 k2 h2) many
+        (subst (λ ns. AreEntered s (input_rows k ns) b1 k1 h1 b2 k2 h2) (inputs_at k many) e2))
+        (subst (λ ns. AreEntered s (other_rows ns) b2 k2 h2 b3 k3 h3) x.others_are e3) in
         record {
           others = x.all;
           split = x.split;

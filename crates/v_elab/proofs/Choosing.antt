@@ -1,7 +1,7 @@
 -- Names of a store are distinct, and none of the other names is that of a memory.
-use Rattle.std.proofs.Common.{◌≡◌, ◌∙◌, refl, ap, sym, subst, Bool, true, false, cond, List, [], ◌∷◌, ◌++◌, ◌⊎◌, inl, inr}
+use Rattle.std.proofs.Common.{◌≡◌, ◌∙◌, refl, ap, sym, Bool, true, false, cond, List, [], ◌∷◌, ◌++◌, ◌⊎◌, inl, inr}
 use Rattle.std.specs.Prelude.{◌||◌}
-use Rattle.std.proofs.lemmas.Bool.{false≢true, true≢false}
+use Rattle.std.proofs.lemmas.Bool.{true≢false}
 use Rattle.wb_values.specs.Value.{Name, same_name}
 use Rattle.verilog_trees.specs.Syntax.{Statement}
 use Rattle.verilog_meaning.specs.Expression.{Scope}
@@ -9,7 +9,7 @@ use Rattle.verilog_designs.specs.Names.{is_among}
 use Rattle.verilog_unique.proofs.Options.{is_same}
 use Rattle.verilog_unique.proofs.Descent.{IsAmong, among_either, among_left, among_right}
 use Rattle.v_registers.specs.Once.{others, each_once}
-use Rattle.v_registers.specs.Registers.{Counted, IsCounted, AreSplit}
+use Rattle.v_registers.specs.Registers.{Counted, AreSplit}
 use Rattle.v_elab.specs.Names.{AreDistinct, ArePlain, AreMasksOf, chosen, left_out}
 use Rattle.v_elab.specs.Elaborated.{register_names}
 use Rattle.v_elab.proofs.Once.{test_among, among_test, found, from_other}

@@ -1,6 +1,6 @@
 -- Numbers and memories cut to masks.
-use Rattle.std.proofs.Common.{◌≡◌, ◌∙◌, ℕ, ◌+◌, ◌-◌, ◌^◌, ◌<◌, ◌≤◌, suc, zero, refl, ap, sym, subst, Bool, true, false, ◌⊎◌, inl, inr, List, length, slice_index, slice_set, bit_and, arith, Option, Some, eq-eqb, length-set, get_or-set_same, get_or-set_other}
-use Rattle.std.specs.Prelude.{◌&&◌, ◌==◌, nat_lt}
+use Rattle.std.proofs.Common.{◌≡◌, ◌∙◌, ℕ, ◌+◌, ◌-◌, ◌^◌, ◌<◌, ◌≤◌, refl, ap, sym, subst, Bool, true, false, ◌⊎◌, inl, inr, List, length, slice_index, slice_set, bit_and, arith, Option, Some, eq-eqb, length-set, get_or-set_same, get_or-set_other}
+use Rattle.std.specs.Prelude.{◌&&◌, ◌==◌}
 use Rattle.std.proofs.lemmas.Bool.{cases_lt, cases_eq, and_from, false≢true}
 use Rattle.std.proofs.lemmas.Bool.Decides.{nat_tests}
 use Rattle.std.proofs.lemmas.Nat.Bits.{bit_at_ones}
@@ -10,10 +10,10 @@ use Rattle.model_meaning.specs.Term.{val, load, store, load_sort, store_sort, so
 use Rattle.verilog_meaning.specs.Register.{is_set}
 use Rattle.wb_terms.specs.Graph.{Graph, tree}
 use Rattle.verilog_settled.proofs.Bits.{unset_past}
-use Rattle.v_masks.proofs.Bits.{set-and, some-bit}
+use Rattle.v_masks.proofs.Bits.{set-and}
 use Rattle.v_operators.specs.Meaning.{Grows, IsOfSort, HasNumber, Joins}
 use Rattle.v_operators.proofs.Growing.{Grows-trans, number_kept, tree_kept}
-use Rattle.v_elab.specs.Tables.{HasBits, IsWordKept, IsOneCut, AreCut, IsCut, IsWordCut}
+use Rattle.v_elab.specs.Tables.{IsWordKept, IsOneCut, AreCut, IsCut, IsWordCut}
 
 -- ---- numbers
 

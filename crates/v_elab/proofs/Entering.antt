@@ -1,5 +1,5 @@
 -- Tables that are filled name after name.
-use Rattle.std.proofs.Common.{◌≡◌, ◌∙◌, ℕ, suc, zero, ◌+◌, ◌-◌, ◌<◌, ◌≤◌, refl, ap, sym, subst, Bool, true, false, cond, Bor, List, [], ◌∷◌, ◌++◌, length, drop, get_or, map, Option, Some, None, append_assoc, append-nil, arith}
+use Rattle.std.proofs.Common.{◌≡◌, ◌∙◌, ℕ, suc, zero, ◌+◌, ◌<◌, ◌≤◌, refl, ap, sym, subst, Bool, true, false, cond, Bor, List, [], ◌∷◌, ◌++◌, length, drop, get_or, map, Some, None, append_assoc, append-nil, arith}
 use Rattle.std.specs.Prelude.{◌||◌}
 use Rattle.std.proofs.lemmas.Bool.{false≢true}
 use Rattle.verilog_designs.specs.Names.{is_among}
@@ -19,7 +19,6 @@ use Rattle.v_elab.specs.Kept.{named_at}
 use Rattle.v_elab.specs.Names.{AreEntriesOf, AreDistinct, ArePlain, AreMasksOf}
 use Rattle.v_elab.specs.Elaborated.{register_names}
 use Rattle.v_elab.specs.Tables.{kept, given, unset, Row, IsNamed, IsUnset, IsEntered, AreEntered, register_rows, input_rows}
-use Rattle.v_elab.proofs.Entries.{last_entries}
 
 -- whatever the rest of the rows gives, all of them give from the start on
 abbrev pub EnteredSoFar : Scope → (all rest : List Row) → (a n : Images) → Graph → (c l : Images) → Graph → Type 0

@@ -29,6 +29,7 @@ use Rattle.v_elab.specs.Elaborated.{IsElaborated, scope, clocked, declared, regi
 use Rattle.v_elab.proofs.Environment.{found_first, found_second, sorted_at}
 use Rattle.v_elab.proofs.Entries.{first_entries, last_entries, of_entry, an_entry, is_named, not_named}
 use Rattle.v_elab.proofs.Once.{among_once, once_among, test_among, among_test, declared_among, among_declared, told, Found, found, from_other, a_register}
+use Rattle.v_elab.proofs.Placing.{placed_declared, declared_placed}
 use Rattle.v_elab.proofs.Sorts.{of_value}
 
 -- ---- names that are chosen
@@ -79,10 +80,10 @@ module _ (d : Design) (m : Module) (f : Name → Bool) (top : at_path d [] ≡ S
   -- ---- names
 
   pub is_declared : (n : Name) → IsAmong (declared m) n → IsDeclared (alone m) n
-  is_declared n h = among_declared (declarations m) n (once_among _ n h)
+  is_declared n h = among_declared (declarations m) n (placed_declared (declarations m) (declarations m) n (once_among _ n h))
 
   pub declared_is : (n : Name) → IsDeclared (alone m) n → IsAmong (declared m) n
-  declared_is n h = among_once _ n (declared_among (declarations m) n h)
+  declared_is n h = among_once _ n (declared_placed (declarations m) n (declared_among (declarations m) n h))
 
   so_many : e.register_count ≡ length (register_names x.registers)
   so_many = x.counted ∙ sym (length-map x.registers (λ c. c.of_name))

@@ -2,6 +2,7 @@ pub mod Entries
 pub mod Environment
 pub mod Given
 pub mod Once
+pub mod Placing
 pub mod Ordered
 pub mod Sorts
 pub mod Updates

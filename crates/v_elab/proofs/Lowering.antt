@@ -1,45 +1,35 @@
 -- What begins for a module's scope and names begins for the module, and what stands after it is lowered.
-use Rattle.std.proofs.Common.{◌≡◌, ◌∙◌, refl, ap, sym, subst, Bool, true, false, cond, not, ◌&&◌, List, [], ◌∷◌, map, Option, Some, None, is_some, option_map}
-use Rattle.std.specs.Prelude.{ℕ, ◌||◌, IsTrue, IsSome}
+use Rattle.std.proofs.Common.{◌≡◌, ◌∙◌, refl, ap, sym, subst, Bool, true, false, cond, List, [], ◌∷◌, Option, Some, None, is_some, option_map}
+use Rattle.std.specs.Prelude.{◌||◌, IsTrue}
 use Rattle.std.proofs.lemmas.Bool.{and_parts, false≢true}
 use Rattle.wb_values.specs.Value.{Name, same_name}
-use Rattle.verilog_trees.specs.Syntax.{Statement, Range, Item, Module}
-use Rattle.verilog_meaning.specs.Expression.{Object, Scope, object_or_undeclared, scope_of, object_width}
+use Rattle.verilog_trees.specs.Syntax.{Range, Item, Module}
+use Rattle.verilog_meaning.specs.Expression.{Scope, object_or_undeclared, scope_of}
 use Rattle.verilog_meaning.specs.Register.{clocked_blocks}
 use Rattle.verilog_meaning.specs.Hierarchy.{Declaration, declarations, declaration_of, and_later, ranged_object, declared_object}
 use Rattle.verilog_meaning.specs.Settled.{is_declared_among}
 use Rattle.verilog_designs.specs.Names.{is_among}
+use Rattle.verilog_registers.specs.Order.{placed_among}
 use Rattle.wb_terms.specs.Graph.{Graph}
-use Rattle.v_value.specs.Narrow.{HasNarrowObjects}
-use Rattle.v_scopes.specs.declared.row.Declared.{Declared}
 use Rattle.v_scopes.specs.declared.table.ModuleScope.{ModuleScope}
-use Rattle.v_scopes.specs.Rows.{Row, rows, row_of, rows_of}
-use Rattle.v_operators.specs.Meaning.{Grows}
+use Rattle.v_scopes.specs.Rows.{rows_of}
 use Rattle.v_lower.specs.Lowered.{Images, HasImages, has_sort}
 use Rattle.v_ports.specs.Ports.{IsScopeOf}
 use Rattle.v_settle.specs.OneModule.{IsEvaluated}
 use Rattle.v_edge.specs.Edge.{AreUpdated}
-use Rattle.v_registers.specs.Once.{each_once}
+use Rattle.v_registers.specs.Placed.{names_in_order}
 use Rattle.v_registers.specs.Registers.{Counted}
 use Rattle.v_elab.specs.Elaborable.{IsElaborable}
 use Rattle.v_elab.specs.Elaborated.{scope, clocked, names_in, declared}
-use Rattle.v_elab.specs.Begun.{CanBegin, HasBegun, IsLowered}
+use Rattle.v_elab.specs.Begun.{CanBegin, HasBegun}
 use Rattle.v_elab.proofs.Once.{test_among, among_once, declared_among}
+use Rattle.v_elab.proofs.Placing.{in_order, declared_placed}
 use Rattle.v_elab.proofs.Small.{few_words}
 
 -- ---- names
 
-row_names : (ds : List Declared) → map (λ (r : Row). r.of_name) (rows_of ds) ≡ map (λ d. d.name.now) ds
-row_names [] = refl
-row_names (d ∷ ds) = ap (λ ns. d.name.now ∷ ns) (row_names ds)
-
-declared_rows : (s : Scope) (ds : List Declaration) → map (λ (r : Row). r.of_name) (rows s ds) ≡ names_in ds
-declared_rows s [] = refl
-declared_rows s (d ∷ ds) = ap (λ ns. d.of_name ∷ ns) (declared_rows s ds)
-
-pub same_names : (names : ModuleScope) (m : Module) → IsScopeOf names m → each_once (map (λ d. d.name.now) names.declared.items) ≡ declared m
-same_names names m e =
-    ap each_once (sym (row_names names.declared.items) ∙ ap (λ rs. map (λ (r : Row). r.of_name) rs) e ∙ declared_rows (scope_of []) (declarations m))
+pub same_names : (names : ModuleScope) (m : Module) → IsScopeOf names m → names_in_order (rows_of names.declared.items) ≡ declared m
+same_names names m e = ap names_in_order e ∙ in_order (scope_of []) (declarations m)
 
 ranged_declared : (s : Scope) (signed : Bool) (r : Option Range) → (ranged_object s signed r).is_declared ≡ true
 ranged_declared s signed None = refl
@@ -61,8 +51,8 @@ declared_so (d ∷ ds) n h = by (same_name d.of_name n) h (declared_so ds n)
 declared_name : (m : Module) (n : Name) → (scope m n).is_declared ≡ true → is_among (declared m) n ≡ true
 declared_name m n h =
     test_among (declared m) n
-    (among_once (names_in (declarations m)) n
-    (declared_among (declarations m) n (declared_so (declarations m) n (sym (object_declared (declaration_of (declarations m) n)) ∙ h))))
+    (among_once (names_in (placed_among (declarations m) (declarations m))) n
+    (declared_placed (declarations m) n (declared_among (declarations m) n (declared_so (declarations m) n (sym (object_declared (declaration_of (declarations m) n)) ∙ h)))))
 
 -- ---- what can begin
 

@@ -1,18 +1,18 @@
 -- What a name's term with masks is worth, for words and for memories.
-use Rattle.std.proofs.Common.{◌≡◌, ◌∙◌, ℕ, ◌+◌, ◌^◌, ◌<◌, ◌≤◌, suc, zero, refl, ap, sym, subst, Bool, true, false, not, ◌⊎◌, inl, inr, List, [], ◌∷◌, length, slice_index, arith}
-use Rattle.std.specs.Prelude.{◌&&◌, ◌==◌, nat_lt, IsTrue}
-use Rattle.std.proofs.lemmas.Bool.{cases_lt, cases_eq, and_parts, eqb-true, false≢true}
+use Rattle.std.proofs.Common.{◌≡◌, ◌∙◌, ℕ, ◌^◌, ◌<◌, ◌≤◌, suc, zero, refl, ap, sym, subst, Bool, true, false, ◌⊎◌, inl, inr, List, [], ◌∷◌, length, slice_index, arith}
+use Rattle.std.specs.Prelude.{◌&&◌, ◌==◌, nat_lt}
+use Rattle.std.proofs.lemmas.Bool.{cases_lt, and_parts, eqb-true, false≢true}
 use Rattle.std.proofs.lemmas.Bool.Decides.{nat_tests}
 use Rattle.std.proofs.lemmas.Nat.{pow_pos}
 use Rattle.std.proofs.lemmas.List.{get_or_past}
-use Rattle.wb_values.specs.Value.{Name, Sort, truth, word, memory, all_below, Value, truth_value, number, words, Entries, Valuation, HasSort}
+use Rattle.wb_values.specs.Value.{Name, Sort, word, memory, all_below, Value, truth_value, number, words, Valuation, HasSort}
 use Rattle.model_meaning.specs.Term.{val}
-use Rattle.verilog_meaning.specs.Expression.{Object, object_width, is_memory}
+use Rattle.verilog_meaning.specs.Expression.{Object}
 use Rattle.verilog_meaning.specs.Register.{is_set, value_bit, word_count}
 use Rattle.verilog_meaning.specs.Settled.{IsValueOf}
 use Rattle.wb_terms.specs.Graph.{Graph, tree}
 use Rattle.v_masks.proofs.Bits.{set-none, some-bit}
-use Rattle.v_operators.specs.Meaning.{Grows, IsOfSort}
+use Rattle.v_operators.specs.Meaning.{Grows}
 use Rattle.v_lower.specs.Lowered.{IsSortOf}
 use Rattle.v_elab.specs.Kept.{named_at, IsMasked}
 use Rattle.v_elab.specs.Tables.{IsWordKept, IsCut, AreCut}
@@ -113,14 +113,16 @@ module _ (o : Object) (masks : List ℕ) (g h : Graph) (place a w id : ℕ) (gro
       let parts = and_parts (length xs == 2 ^ a) (all_below w xs) s in
       let long : length xs ≡ 2 ^ a = eqb-true (length xs) (2 ^ a) parts.0 in
       let c = cut.value p xs e long (narrow w xs parts.1) in (
-        subst (IsValueOf o) (sym c.is_worth)
-            (of_memory.0, record {
-              address_width = a;
-              is_address_width = of_memory.1;
-              all = c.long ∙ long;
-              narrow = λ k. subst (λ z. slice_index c.now k < 2 ^ z) of_memory.2 (c.narrow k);
-              past = λ k l. no_bits (slice_index c.now k) (λ b. cut_bits p xs c long k b ∙ outside xs k b l);
-            }),
+        subst (IsValueOf o) (sym c.is_worth) (
+          of_memory.0,
+          record {
+            address_width = a;
+            is_address_width = of_memory.1;
+            all = c.long ∙ long;
+            narrow = λ k. subst (λ z. slice_index c.now k < 2 ^ z) of_memory.2 (c.narrow k);
+            past = λ k l. no_bits (slice_index c.now k) (λ b. cut_bits p xs c long k b ∙ outside xs k b l);
+          },
+        ),
         λ k b. ap (λ y. value_bit y k b) c.is_worth ∙ cut_bits p xs c long k b,
       )
     where

@@ -11,15 +11,16 @@ use Rattle.verilog_meaning.specs.Hierarchy.{Declaration, each_port, wire_declara
 use Rattle.verilog_meaning.specs.Settled.{Design, IsPlacedIn, IsDeclared}
 use Rattle.verilog_registers.specs.Registers as design
 use Rattle.verilog_registers.specs.Order as order
-use Rattle.verilog_registers.specs.Order.{Part, net, instance, same_part, nets, instances_in, item_parts, parts_in, AreInOrder}
+use Rattle.verilog_registers.specs.Order.{Member, net, instance, same_member, nets, instances_in, placed_among, item_members, members_in, AreInOrder}
 use Rattle.verilog_unique.proofs.Descent.{IsAmong}
 use Rattle.v_hier.specs.Instances.{is_part, is_any, module_has_parts}
 use Rattle.v_scopes.specs.Ports.{alone}
 use Rattle.v_registers.specs.Once.{others, each_once}
 use Rattle.v_registers.specs.Registers.{IsRegister, Counted, AreSplit}
+use Rattle.v_elab.proofs.Placing.{placed_append}
 use Rattle.v_elab.specs.Elaborated.{names_in, register_names, scope, clocked, declared}
 
--- ---- parts that are nets
+-- ---- members that are nets
 
 nets_are : (ds : List Declaration) → nets ds ≡ map (λ n. net n) (names_in ds)
 nets_are [] = refl
@@ -58,24 +59,29 @@ no_instances (assign ts) h = refl
 no_instances (always es x) h = refl
 no_instances (instances k given is) h = absurd (false≢true (sym h))
 
-items_are : (items : List Item) → list_any is_part items ≡ false → item_parts items ≡ nets (item_declarations items)
-items_are [] h = refl
-items_are (i ∷ items) h =
+items_are : (all : List Declaration) (items : List Item) → list_any is_part items ≡ false → item_members all items ≡ nets (placed_among all (item_declarations items))
+items_are all [] h = refl
+items_are all (i ∷ items) h =
     let g = or_parts (is_part i) (list_any is_part items) h in
-    ap (λ xs. (nets (item_declarations (i ∷ [])) ++ xs) ++ item_parts items) (no_instances i g.0)
-    ∙ ap (λ xs. xs ++ item_parts items) (append-nil (nets (item_declarations (i ∷ []))))
-    ∙ ap (λ xs. nets (item_declarations (i ∷ [])) ++ xs) (items_are items g.1)
-    ∙ sym (map-append (λ d. net d.of_name) (item_declarations (i ∷ [])) (item_declarations items))
-    ∙ ap nets (sym (one_item i items))
+    ap (λ xs. (nets (placed_among all (item_declarations (i ∷ []))) ++ xs) ++ item_members all items) (no_instances i g.0)
+    ∙ ap (λ xs. xs ++ item_members all items) (append-nil (nets (placed_among all (item_declarations (i ∷ [])))))
+    ∙ ap (λ xs. nets (placed_among all (item_declarations (i ∷ []))) ++ xs) (items_are all items g.1)
+    ∙ sym (map-append (λ d. net d.of_name) (placed_among all (item_declarations (i ∷ []))) (placed_among all (item_declarations items)))
+    ∙ ap nets (sym (placed_append all (item_declarations (i ∷ [])) (item_declarations items)))
+    ∙ ap (λ ds. nets (placed_among all ds)) (sym (one_item i items))
 
 -- ---- the order
 
-parts_are : (m : Module) → module_has_parts m ≡ false → parts_in m ≡ map (λ n. net n) (declared m)
-parts_are m h =
+members_are : (m : Module) → module_has_parts m ≡ false → members_in m ≡ map (λ n. net n) (declared m)
+members_are m h =
     let g = or_parts (is_any m.parameters) (list_any is_part m.items) h in
-    ap (λ xs. order.each_once (nets (port_declarations (header_ports m.ports)) ++ xs)) (items_are m.items g.1)
-    ∙ ap order.each_once (sym (map-append (λ d. net d.of_name) (port_declarations (header_ports m.ports)) (item_declarations m.items)) ∙ nets_are (declarations m))
-    ∙ once_are (names_in (declarations m))
+    let ports : List Declaration = port_declarations (header_ports m.ports) in
+    ap (λ xs. order.each_once (nets (placed_among (declarations m) ports) ++ xs)) (items_are (declarations m) m.items g.1)
+    ∙ ap order.each_once
+    (sym (map-append (λ d. net d.of_name) (placed_among (declarations m) ports) (placed_among (declarations m) (item_declarations m.items)))
+    ∙ ap nets (sym (placed_append (declarations m) ports (item_declarations m.items)))
+    ∙ nets_are (placed_among (declarations m) (declarations m)))
+    ∙ once_are (names_in (placed_among (declarations m) (declarations m)))
 
 module _ (d : Design) (m : Module) (top : IsPlacedIn d (alone m)) where
   pub to_design : (n : Name) → IsDeclared (alone m) n → IsRegister (scope m) (clocked m) n → design.IsRegister d (alone m) n
@@ -100,5 +106,5 @@ module _ (d : Design) (m : Module) (top : IsPlacedIn d (alone m)) where
       AreInOrder.other (alone m) n (map (λ k. net k) ns) (register_names cs) (λ r. is (from_design n r)) (in_order ns cs os (λ k g. f k (inr g)) rest)
 
   pub registers_in_order : module_has_parts m ≡ false → (cs : List Counted) (os : List Name) → ((n : Name) → IsAmong (declared m) n → IsDeclared (alone m) n)
-      → AreSplit (scope m) (clocked m) (declared m) cs os → AreInOrder d (alone m) (parts_in m) (register_names cs)
-  registers_in_order own cs os f h = subst (λ ps. AreInOrder d (alone m) ps (register_names cs)) (sym (parts_are m own)) (in_order (declared m) cs os f h)
+      → AreSplit (scope m) (clocked m) (declared m) cs os → AreInOrder d (alone m) (members_in m) (register_names cs)
+  registers_in_order own cs os f h = subst (λ ps. AreInOrder d (alone m) ps (register_names cs)) (sym (members_are m own)) (in_order (declared m) cs os f h)

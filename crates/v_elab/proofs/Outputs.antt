@@ -1,5 +1,5 @@
 -- The outputs of a module by what its scope says of its ports.
-use Rattle.std.proofs.Common.{◌≡◌, ◌∙◌, refl, ap, Bool, true, false, cond, List, [], ◌∷◌, Option, Some, None}
+use Rattle.std.proofs.Common.{◌≡◌, ◌∙◌, refl, ap, cond, List, [], ◌∷◌, Option, Some, None}
 use Rattle.wb_values.specs.Value.{Name, Entries, entry_of}
 use Rattle.verilog_trees.specs.Syntax.{Direction, Module}
 use Rattle.verilog_meaning.specs.Expression.{scope_of}

@@ -1,10 +1,9 @@
 -- Addresses of a module's memories are below 65,536.
-use Rattle.std.proofs.Common.{◌≡◌, ◌∙◌, ◌≤◌, ℕ, refl, ap, sym, subst, Bool, true, false, nat_le, List, [], Option, Some, None, option_map, arith}
+use Rattle.std.proofs.Common.{◌≡◌, ◌∙◌, ◌≤◌, ℕ, refl, ap, sym, subst, Bool, true, false, nat_le, [], Option, Some, None, option_map, arith}
 use Rattle.std.specs.Prelude.{ℤ, pos, negsuc, option_and_then, unwrap_or, ⊤}
-use Rattle.std.proofs.lemmas.Bool.{false≢true}
 use Rattle.std.proofs.lemmas.Bool.Decides.{nat_tests}
 use Rattle.wb_values.specs.Value.{Name}
-use Rattle.wb_values.specs.Choice.{first_of, some_if}
+use Rattle.wb_values.specs.Choice.{some_if}
 use Rattle.verilog_trees.specs.Syntax.{Range, Module}
 use Rattle.verilog_meaning.specs.Expression.{Object, Scope, object_or_undeclared, scope_of}
 use Rattle.verilog_meaning.specs.Register.{words_between}

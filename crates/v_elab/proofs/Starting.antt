@@ -1,6 +1,6 @@
 -- The tables that are filled are those with which evaluation begins.
 use Rattle.std.proofs.Common.{◌≡◌, ◌∙◌, ◌<◌, ◌^◌, ℕ, zero, suc, refl, ap, sym, subst, Bool, true, false, cond, not, ◌&&◌, drop, length, slice_index, List, [], ◌∷◌, ◌++◌, ◌⊎◌, inl, inr, Option, Some, None, is_some, Contains, arith}
-use Rattle.std.specs.Prelude.{◌||◌, IsTrue, slice_index_or, nat_lt, ⊤}
+use Rattle.std.specs.Prelude.{◌||◌, slice_index_or, nat_lt, ⊤}
 use Rattle.std.proofs.lemmas.Bool.{false≢true, true≢false}
 use Rattle.std.proofs.lemmas.Bool.Decides.{nat_tests}
 use Rattle.std.proofs.lemmas.List.{length-map}
@@ -14,12 +14,12 @@ use Rattle.verilog_designs.specs.Names.{is_among}
 use Rattle.verilog_settled.proofs.Bits.{unset_past}
 use Rattle.verilog_unique.proofs.Options.{same_is}
 use Rattle.verilog_unique.proofs.Descent.{IsAmong, contains_among, among_contains}
-use Rattle.wb_terms.specs.Graph.{Graph, tree}
+use Rattle.wb_terms.specs.Graph.{Graph}
 use Rattle.v_operators.specs.Meaning.{Grows}
 use Rattle.v_operators.proofs.Growing.{Grows-refl, Grows-trans, IsOfSort-kept, tree_kept}
 use Rattle.v_lower.specs.Lowered.{Images, IsSortOf, IsImage}
 use Rattle.v_lower.proofs.Wholes.{zero_below}
-use Rattle.v_registers.specs.Registers.{HasCounted, IsRegister, AreMasks, Counted, IsCounted, AreSplit}
+use Rattle.v_registers.specs.Registers.{IsRegister, AreMasks, Counted, AreSplit}
 use Rattle.v_elab.specs.Kept.{named_at, FitsNames, IsKept, IsGiven, IsWorth, IsMasked}
 use Rattle.v_elab.specs.Names.{AreEntriesOf, chosen, left_out}
 use Rattle.v_elab.specs.Start.{IsStart}
@@ -27,7 +27,7 @@ use Rattle.v_elab.specs.Elaborated.{register_names}
 use Rattle.v_elab.specs.Tables.{Origin, kept, given, unset, IsNamed, IsUnset, IsPut, Row, IsEntered, AreEntered, register_rows, input_rows, other_rows}
 use Rattle.v_elab.proofs.Entries.{last_entries}
 use Rattle.v_elab.proofs.Once.{test_among, among_test, found, from_other, told}
-use Rattle.v_elab.proofs.Given.{chosen_among, among_chosen}
+use Rattle.v_elab.proofs.Given.{chosen_among}
 
 -- ---- values of words
 
@@ -142,15 +142,18 @@ module _ (s : Scope) (q : List Statement) (f : Name → Bool) where
       }
 
   put_worth : (g : Graph) (b : Bool) (o : Origin) (n : Name) (id : ℕ) → IsOrigin g.names b o n → IsPut (s n) g o id → IsImage s g n id × IsWorth s q g b n id
-  put_worth g b (kept place masks) n id r h =
-      (record { sort = h.sort; of_name = h.of_object; of_sort = h.of_sort },
-      subst (λ z. IsWorth s q g z n id) (sym r.0) (kept_put g place masks n id r.1 r.2 h))
-  put_worth g b (given place) n id r h =
-      (record { sort = h.sort; of_name = h.of_object; of_sort = h.of_sort },
-      subst (λ z. IsWorth s q g z n id) (sym r.0) (given_put g place n id r.1 r.2 h))
-  put_worth g b unset n id r h =
-      (record { sort = word (object_width (s n)); of_name = (ap not h.plain, refl); of_sort = h.of_sort },
-      subst (λ z. IsWorth s q g z n id) (sym r.0) (unset_put g n id r.1 h))
+  put_worth g b (kept place masks) n id r h = (
+    record { sort = h.sort; of_name = h.of_object; of_sort = h.of_sort },
+    subst (λ z. IsWorth s q g z n id) (sym r.0) (kept_put g place masks n id r.1 r.2 h),
+  )
+  put_worth g b (given place) n id r h = (
+    record { sort = h.sort; of_name = h.of_object; of_sort = h.of_sort },
+    subst (λ z. IsWorth s q g z n id) (sym r.0) (given_put g place n id r.1 r.2 h),
+  )
+  put_worth g b unset n id r h = (
+    record { sort = word (object_width (s n)); of_name = (ap not h.plain, refl); of_sort = h.of_sort },
+    subst (λ z. IsWorth s q g z n id) (sym r.0) (unset_put g n id r.1 h),
+  )
 
   -- ---- rows
 
@@ -205,7 +208,7 @@ module _ (s : Scope) (q : List Statement) (f : Name → Bool) where
   entered_all es (r ∷ rs) a n g b k h (c, l, i, one, rest) same rows x =
       let names : i.names ≡ es = one.grows.names ∙ same in
       let more = entered_all es rs c l i b k h rest names rows.1
-          (entered_start r a n g c l i one (subst (λ z. IsRowOf z r) (sym names) rows.0) x) in
+      (entered_start r a n g c l i one (subst (λ z. IsRowOf z r) (sym names) rows.0) x) in
       record {
         is_start = more.is_start;
         grows = Grows-trans one.grows more.grows;
@@ -379,10 +382,10 @@ module _ (s : Scope) (q : List Statement) (f : Name → Bool) (ns : List Name) (
     has_begun b1 k1 h1 b2 k2 h2 b3 k3 h3 e1 e2 e3 =
         let known = registers_of_split s q f apart ns cs os split in
         let last : AreEntriesOf s (chosen f os) (drop (length cs) g.names) =
-            subst (λ z. AreEntriesOf s (chosen f os) (drop z g.names)) (length-map cs (λ c. c.of_name)) (last_entries s (register_names cs) (chosen f os) g.names entries) in
+        subst (λ z. AreEntriesOf s (chosen f os) (drop z g.names)) (length-map cs (λ c. c.of_name)) (last_entries s (register_names cs) (chosen f os) g.names entries) in
         let x1 = entered_all s q f g.names (register_rows 0 cs) a n g b1 k1 h1 e1 refl (register_rows_are s q f g.names 0 cs (chosen f os) entries known.0) empty in
         let x2 = entered_all s q f g.names (input_rows (length cs) (chosen f os)) b1 k1 h1 b2 k2 h2 e2 x1.grows.names
-            (input_rows_are s q f g.names (length cs) os last known.1) x1.is_start in
+        (input_rows_are s q f g.names (length cs) os last known.1) x1.is_start in
         let x3 = entered_all s q f g.names (other_rows (left_out f os)) b2 k2 h2 b3 k3 h3 e3 (x2.grows.names ∙ x1.grows.names) (other_rows_are s q f g.names os known.1) x2.is_start in
         record {
           is_start = x3.is_start;

@@ -13,7 +13,7 @@ use Rattle.verilog_meaning.specs.Hierarchy.{Placed, placed_scope, PathStep, dott
 use Rattle.verilog_meaning.specs.Settled.{Design, at_path, IsPlacedIn, IsDeclared, IsValueOf, HasPort, names_of, is_counted, inside, IsSettled}
 use Rattle.verilog_meaning.specs.Next.{AreRegisters, AreInputs, IsNext}
 use Rattle.verilog_registers.specs.Registers as design
-use Rattle.verilog_registers.specs.Order.{AreInOrder, AreRegisterNames, parts_in}
+use Rattle.verilog_registers.specs.Order.{AreInOrder, AreRegisterNames, members_in}
 use Rattle.verilog_designs.specs.Names.{is_among}
 use Rattle.wb_terms.specs.Environment.{values_by_name}
 use Rattle.verilog_settled.specs.Locality.{HasNoConstantMemory}
@@ -154,8 +154,8 @@ module _ (d : Design) (m : Module) (f : Name → Bool) (clear : has_parts d.sour
 
   ordered : AreRegisterNames d (names_of (registers_of e))
   ordered q at =
-      subst (λ (p : Placed). AreInOrder d p (parts_in p.of_module) (names_of (registers_of e))) (sym (placed [] q at))
-      (subst (AreInOrder d (alone m) (parts_in m)) (sym names_of_registers)
+      subst (λ (p : Placed). AreInOrder d p (members_in p.of_module) (names_of (registers_of e))) (sym (placed [] q at))
+      (subst (AreInOrder d (alone m) (members_in m)) (sym names_of_registers)
       (registers_in_order d m top own x.registers x.others (is_declared d m f top ports e x) x.split))
 
   here_bits : (n : Name) (c : CountedBits) → Contains (bits_by_name e) (n, c) → AreBitsOf (alone m) n c

@@ -1,10 +1,10 @@
 -- What stands when names are sorted, when the tables are filled, and when the module is lowered.
-use Rattle.std.specs.Prelude.{◌≡◌, ◌≤◌, ℕ, Bool, true, ◌++◌, List, is_some}
+use Rattle.std.specs.Prelude.{◌≡◌, ◌≤◌, Bool, true, ◌++◌, List, is_some}
 use Rattle.wb_values.specs.Value.{Name}
 use Rattle.verilog_trees.specs.Syntax.{Statement, Module}
 use Rattle.verilog_meaning.specs.Expression.{Scope, object_width}
 use Rattle.verilog_designs.specs.Names.{is_among}
-use Rattle.wb_terms.specs.Graph.{Graph, HasDistinctNames}
+use Rattle.wb_terms.specs.Graph.{Graph}
 use Rattle.v_operators.specs.Meaning.{Grows}
 use Rattle.v_lower.specs.Lowered.{Images}
 use Rattle.v_settle.specs.OneModule.{IsEvaluated}

@@ -7,6 +7,7 @@ use Rattle.verilog_meaning.specs.Expression.{Scope, is_memory}
 use Rattle.verilog_meaning.specs.Register.{clocked_blocks}
 use Rattle.verilog_meaning.specs.Hierarchy.{Declaration, declarations, module_scope}
 use Rattle.verilog_designs.specs.Names.{is_among}
+use Rattle.verilog_registers.specs.Order.{placed_among}
 use Rattle.wb_terms.specs.Graph.{Graph, HasDistinctNames}
 use Rattle.v_operators.specs.Meaning.{Grows}
 use Rattle.v_lower.specs.Lowered.{Images}
@@ -30,9 +31,9 @@ clocked m = clocked_blocks m.items
 abbrev pub names_in : List Declaration → List Name
 names_in ds = map (λ d. d.of_name) ds
 
--- the names that a module declares, each where it is first declared
+-- the names that a module declares, in the order of the text
 abbrev pub declared : Module → List Name
-declared m = each_once (names_in (declarations m))
+declared m = each_once (names_in (placed_among (declarations m) (declarations m)))
 
 abbrev pub register_names : List Counted → List Name
 register_names cs = map (λ c. c.of_name) cs

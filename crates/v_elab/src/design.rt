@@ -51,7 +51,14 @@ fn lowered<'s>(
         // Bits of an accepted module do not depend on themselves.
         unreachable!();
     }
-    lower_edge(alloc, scope, &within.items, &mut table, &mut next, &mut terms)?;
+    lower_edge(
+        alloc,
+        scope,
+        &within.items,
+        &mut table,
+        &mut next,
+        &mut terms,
+    )?;
     Ok(Begun {
         sorted: begun.sorted,
         terms,
@@ -61,11 +68,7 @@ fn lowered<'s>(
 }
 
 /// The design of a module.
-pub(crate) fn design_of(
-    alloc: Global,
-    within: &Module<'_>,
-    clock: &str,
-) -> Result<Design, NoMemory>
+pub(crate) fn design_of(alloc: Global, within: &Module<'_>, clock: &str) -> Result<Design, NoMemory>
     requires { IsElaborable (module_of within.now) (is_data_port (module_of within.now) clock.now) }
     ensures { IfOk result (λ r. IsElaborated (module_of within.now) (is_data_port (module_of within.now) clock.now) (parts_of r)) }
 {

@@ -32,12 +32,7 @@ pub(crate) fn name_term(terms: &mut Terms, place: NameId) -> Result<TermId, NoMe
 }
 
 /// The term of a name that is a word, cut to a mask.
-fn word_kept(
-    terms: &mut Terms,
-    place: NameId,
-    width: u32,
-    bits: u128,
-) -> Result<TermId, NoMemory>
+fn word_kept(terms: &mut Terms, place: NameId, width: u32, bits: u128) -> Result<TermId, NoMemory>
     requires place { place.0 < length terms.old.names }
     requires named { (named_at terms.old place.0).1 ≡ word width }
     requires some_bits { 1 ≤ width }

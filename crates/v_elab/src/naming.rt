@@ -84,10 +84,7 @@ pub(crate) fn add_names<'s>(names: &[&'s str], order: &mut Vec<&'s str>) -> Resu
 }
 
 /// Adds the names of registers.
-fn add_registers<'s>(
-    registers: &[Register<'s>],
-    order: &mut Vec<&'s str>,
-) -> Result<(), NoMemory>
+fn add_registers<'s>(registers: &[Register<'s>], order: &mut Vec<&'s str>) -> Result<(), NoMemory>
     ensures { OnOk result (map (λ n. n.now) order.new.items ≡ map (λ n. n.now) order.old.items ++ register_names (map counted_of registers.now)) }
 {
     for register in registers {

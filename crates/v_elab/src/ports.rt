@@ -14,10 +14,7 @@ use v_scopes::ModuleScope;
 use v_syntax::module::{Direction, Module, PortDeclaration, Ports};
 
 /// Adds the names of declarations of ports.
-fn add_declared<'s>(
-    ports: &[PortDeclaration<'s>],
-    order: &mut Vec<&'s str>,
-) -> Result<(), NoMemory>
+fn add_declared<'s>(ports: &[PortDeclaration<'s>], order: &mut Vec<&'s str>) -> Result<(), NoMemory>
     ensures { OnOk result (map (λ n. n.now) order.new.items ≡ map (λ n. n.now) order.old.items ++ names_of (declared_ports (map port_of ports.now))) }
 {
     for port in ports {

@@ -5,10 +5,11 @@ ghost use Rattle.verilog_meaning.specs.Register.{clocked_blocks};
 ghost use Rattle.v_syntax.specs.Source.{item_of};
 ghost use Rattle.v_value.specs.Scope.{scope_at};
 ghost use Rattle.v_value.specs.Narrow.{HasNarrowObjects};
+ghost use Rattle.v_scopes.specs.Rows.{rows_of};
 ghost use Rattle.v_scopes.specs.Scopes.{scope_in};
 ghost use Rattle.v_drivers.specs.Premises.{AreNarrowBlocks};
 ghost use Rattle.v_lower.specs.Table.{images_at};
-ghost use Rattle.v_registers.specs.Once.{each_once};
+ghost use Rattle.v_registers.specs.Placed.{names_in_order};
 ghost use Rattle.v_registers.specs.Registers.{counted_of};
 ghost use Rattle.v_elab.specs.Names.{is_data_input};
 ghost use Rattle.v_elab.specs.Begun.{AreSorted, CanBegin, HasBegun};
@@ -54,7 +55,7 @@ pub(crate) fn names_by_kind<'s>(
     requires objects { HasNarrowObjects (scope_at scope.now) }
     requires narrow { AreNarrowBlocks (scope_at scope.now) (clocked_blocks (map item_of items.now)) }
     requires same { scope_at scope.now ≡ scope_in names.now }
-    ensures declared { IfOk result (λ r. map (λ n. n.now) r.declared.items ≡ each_once (map (λ d. d.name.now) names.now.declared.items)) }
+    ensures declared { IfOk result (λ r. map (λ n. n.now) r.declared.items ≡ names_in_order (rows_of names.now.declared.items)) }
     ensures sorted { IfOk result (λ r. AreSorted (scope_at scope.now) (clocked_blocks (map item_of items.now)) (is_data_input names.now clock.now)
         (map (λ n. n.now) r.declared.items) (map counted_of r.registers.items) (map (λ n. n.now) r.stored.items) (map (λ n. n.now) r.others.items)) }
 {
@@ -82,7 +83,7 @@ pub(crate) fn begin<'s>(
     requires narrow { AreNarrowBlocks (scope_at scope.now) (clocked_blocks (map item_of items.now)) }
     requires same { scope_at scope.now ≡ scope_in names.now }
     requires ready { CanBegin (scope_in names.now) (clocked_blocks (map item_of items.now)) (is_data_input names.now clock.now) }
-    ensures declared { IfOk result (λ r. map (λ n. n.now) r.sorted.declared.items ≡ each_once (map (λ d. d.name.now) names.now.declared.items)) }
+    ensures declared { IfOk result (λ r. map (λ n. n.now) r.sorted.declared.items ≡ names_in_order (rows_of names.now.declared.items)) }
     ensures begun { IfOk result (λ r. HasBegun (scope_in names.now) (clocked_blocks (map item_of items.now)) (is_data_input names.now clock.now)
         (map (λ n. n.now) r.sorted.declared.items) (map counted_of r.sorted.registers.items) r.terms (images_at r.table) (images_at r.next)) }
 {
@@ -92,7 +93,14 @@ pub(crate) fn begin<'s>(
     let mut next = NamedTerms::new(alloc);
     enter_registers(&mut terms, &mut table, &mut next, names, &sorted.registers)?;
     let first = sorted.registers.len();
-    enter_inputs(&mut terms, &mut table, &mut next, names, first, &sorted.stored)?;
+    enter_inputs(
+        &mut terms,
+        &mut table,
+        &mut next,
+        names,
+        first,
+        &sorted.stored,
+    )?;
     enter_others(&mut terms, &mut table, &mut next, names, &sorted.others)?;
     Ok(Begun {
         sorted,

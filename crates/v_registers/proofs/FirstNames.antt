@@ -1,6 +1,7 @@
 -- Names that stand first, told from those before by a set.
 use Rattle.std.proofs.Common.{◌≡◌, ◌∙◌, refl, ap, sym, subst, Bool, true, false, cond, List, [], ◌∷◌, ◌++◌, append_assoc, append-nil}
-use Rattle.std.proofs.Common.{ℕ, Bor}
+use Rattle.std.proofs.Common.{ℕ, Bor, ◌&&◌}
+use Rattle.std.specs.Prelude.{◌||◌}
 use Rattle.std.specs.Ordering.{nat_cmp}
 use Rattle.std.specs.Cmp.Lexicographic.{slice_cmp}
 use Rattle.std.specs.BTreeSet as sorted
@@ -76,3 +77,9 @@ pub has_more : (s n : BTreeSet (Bor (List ℕ))) (k : Bor (List ℕ)) (b : Bool)
 has_more s n k b u q =
     let at_q : Bor (List ℕ) = record { ref_ptr = (0, 0); now = q } in
     u.0 at_q ∙ ap (λ t. cond t b (has_name s q)) (is_eq-slice_cmp k.now q)
+
+pub with_variable : (t o d : Bool) → d ≡ true → cond t true o ≡ (o || (t && d))
+with_variable true true d h = refl
+with_variable true false d h = sym h
+with_variable false true d h = refl
+with_variable false false d h = refl

@@ -1,4 +1,5 @@
 pub mod Once
+pub mod Placed
 pub mod Groups
 pub mod Masks
 pub mod Registers

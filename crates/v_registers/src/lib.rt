@@ -6,6 +6,7 @@ mod clocked;
 mod groups;
 mod masks;
 mod once;
+mod placed;
 mod registers;
 
 pub use once::first_names;

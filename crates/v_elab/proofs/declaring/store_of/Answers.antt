@@ -1,4 +1,4 @@
-use Rattle.std.proofs.Common.{◌∙◌, map, ap, subst, sym, arith}
+use Rattle.std.proofs.Common.{◌∙◌, map, ap, subst, arith}
 use Rattle.std.proofs.lemmas.List.{at_drop_all}
 use Rattle.verilog_meaning.specs.Expression.{Object}
 use Rattle.wb_terms.specs.Graph.{Graph}

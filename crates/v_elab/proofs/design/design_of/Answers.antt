@@ -1,4 +1,4 @@
-use Rattle.std.proofs.Common.{◌∙◌, ◌≡◌, Some, Bor, map, length, ap, sym, subst, List, ℕ, refl}
+use Rattle.std.proofs.Common.{◌∙◌, Bor, map, ap, sym, subst, List, ℕ, refl}
 use Rattle.std.proofs.lemmas.List.{length-map}
 use Rattle.v_syntax.specs.Source.{module_of}
 use Rattle.v_scopes.specs.Scopes.{scope_in}

@@ -1,4 +1,3 @@
-use Rattle.std.proofs.Common.{◌≡◌}
 use Rattle.v_operators.specs.Meaning.{Grows}
 use Rattle.v_elab.specs.Kept.{named_at}
 use Rattle.v_elab.specs.Tables.{IsCut}

@@ -19,5 +19,5 @@ pub returns : goal.returns
 returns c = λ n.
     sym (c.loop-name.invariant n
     ∙ at_drop_all (λ ys. after_names (images_at c.args.table.now) (λ k. is_memory (scope_in c.args.names.now k)) n (map (λ k. k.now) ys) (terms_at c.loop-name.found n))
-      c.args.list.now c.loop-name.name-index c.loop-name-test.false)
+    c.args.list.now c.loop-name.name-index c.loop-name-test.false)
     ∙ all_none (images_at c.args.table.now) (λ k. is_memory (scope_in c.args.names.now k)) n (map (λ k. k.now) c.args.list.now)

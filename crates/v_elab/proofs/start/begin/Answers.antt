@@ -1,12 +1,8 @@
-use Rattle.std.proofs.Common.{◌∙◌, ◌≡◌, ℕ, List, Bor, length, drop, map, ap, sym, subst}
+use Rattle.std.proofs.Common.{◌∙◌, ℕ, List, Bor, drop, map, ap, sym, subst}
 use Rattle.std.proofs.lemmas.List.{length-map}
-use Rattle.wb_values.specs.Value.{Name}
-use Rattle.verilog_meaning.specs.Register.{clocked_blocks}
-use Rattle.v_syntax.specs.Source.{item_of}
 use Rattle.v_scopes.specs.Scopes.{scope_in}
-use Rattle.v_lower.specs.Table.{images_at}
 use Rattle.v_registers.specs.Registers.{counted_of}
-use Rattle.v_elab.specs.Names.{is_data_input, AreEntriesOf, AreDistinct, ArePlain, AreMasksOf}
+use Rattle.v_elab.specs.Names.{AreEntriesOf, AreDistinct, ArePlain, AreMasksOf}
 use Rattle.v_elab.specs.Tables.{register_rows, input_rows, other_rows}
 use Rattle.v_elab.proofs.Choosing.{once_distinct}
 use Rattle.v_elab.proofs.Beginning.{drop_mapped, entered_names, same_rows, same_begun, are_distinct, have_masks, inputs_plain, others_plain, begins}

@@ -1,11 +1,10 @@
-use Rattle.std.proofs.Common.{◌∙◌, ◌<◌, ◌+◌, length, drop, get_or, map, sym, ap, subst, arith}
-use Rattle.std.proofs.lemmas.List.{drop_more, length-map, at_drop_all}
-use Rattle.wb_values.specs.Value.{Sort, Entries}
+use Rattle.std.proofs.Common.{drop, map, arith}
+use Rattle.std.proofs.lemmas.List.{at_drop_all}
 use Rattle.v_scopes.specs.Scopes.{scope_in}
 use Rattle.v_lower.specs.Table.{images_at}
 use Rattle.v_operators.proofs.Growing.{Grows-refl, Grows-trans}
 use Rattle.v_elab.specs.Tables.{input_rows}
-use Rattle.v_elab.proofs.Entering.{so_far_start, so_far_end, input_turn, entries_length, entry_now, plain_now, plain_rest, stored_below}
+use Rattle.v_elab.proofs.Entering.{so_far_start, so_far_end, input_turn, entry_now, plain_now, plain_rest, stored_below}
 use Rattle.v_elab.proofs.tables.enter_inputs.Goals as goal
 
 pub loop-place-init : goal.loop-place-init

@@ -1,5 +1,4 @@
-use Rattle.std.proofs.Common.{◌≡◌, ℕ, map, drop}
-use Rattle.wb_terms.specs.Graph.{Graph}
+use Rattle.std.proofs.Common.{map, drop}
 use Rattle.v_scopes.specs.Scopes.{scope_in}
 use Rattle.v_lower.specs.Table.{images_at}
 use Rattle.v_elab.specs.Tables.{other_rows}

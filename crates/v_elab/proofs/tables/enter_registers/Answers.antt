@@ -1,14 +1,14 @@
-use Rattle.std.proofs.Common.{◌≡◌, ◌∙◌, map, sym, ap, subst, get_or, length, arith}
+use Rattle.std.proofs.Common.{◌≡◌, map, sym, subst, length, arith}
 use Rattle.verilog_meaning.specs.Register.{word_count}
 use Rattle.v_scopes.specs.Scopes.{scope_in}
 use Rattle.v_lower.specs.Table.{images_at}
-use Rattle.v_operators.proofs.Growing.{Grows-refl, Grows-trans}
+use Rattle.v_operators.proofs.Growing.{Grows-refl}
 use Rattle.v_registers.specs.declared.registers.Register.{Register}
 use Rattle.v_registers.specs.Registers.{counted_of}
 use Rattle.v_lower.specs.Lowered.{IsSortOf}
 use Rattle.v_elab.specs.Kept.{named_at}
 use Rattle.v_elab.specs.Tables.{register_rows}
-use Rattle.v_elab.proofs.Entering.{so_far_start, register_turn, register_below, register_now, masks_at}
+use Rattle.v_elab.proofs.Entering.{so_far_start, register_below, register_now, masks_at}
 use Rattle.v_elab.proofs.tables.enter_registers.Goals as goal
 
 pub loop-place-init : goal.loop-place-init

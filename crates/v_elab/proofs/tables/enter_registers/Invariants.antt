@@ -1,4 +1,4 @@
-use Rattle.std.proofs.Common.{◌≡◌, ℕ, map, drop}
+use Rattle.std.proofs.Common.{map, drop}
 use Rattle.v_scopes.specs.Scopes.{scope_in}
 use Rattle.v_lower.specs.Table.{images_at}
 use Rattle.v_operators.specs.Meaning.{Grows}
