@@ -2,7 +2,7 @@
 
 use crate::sheet::Sheet;
 use std::alloc::Global;
-use wb_words::{Request, WordsStop, request};
+use wb_words::{Request, SimulateRtl, WordsStop, request};
 
 /// The words of a line. One for which no memory is left is wanting.
 fn words_of(alloc: Global, line: &str) -> Vec<String> {
@@ -38,6 +38,21 @@ fn add_request(request: &Request<'_>, alloc: Global, out: &mut Sheet) {
             out.add(" ");
             out.add(files.script);
         }
+        Request::SimulateRtl(design) => add_design(design, out),
+    }
+}
+
+/// Adds a simulation of a design as a line.
+fn add_design(design: &SimulateRtl<'_>, out: &mut Sheet) {
+    out.add("simulate-rtl ");
+    out.add(design.top);
+    out.add(" ");
+    out.add(design.clock);
+    out.add(" ");
+    out.add(design.script);
+    for file in design.designs.iter() {
+        out.add(" ");
+        out.add(file);
     }
 }
 

@@ -23,7 +23,7 @@ use Rattle.verilog_text.specs.Token.{Token}
 use Rattle.verilog_trees.specs.Syntax.{Source, Module}
 use Rattle.verilog_text.specs.Text.{Refusal, tokens_in}
 use Rattle.verilog_text.specs.Grammar.{IsSource, IsTreeOf}
-use Rattle.wb_top.specs.Files.{IsKindOfText, IsFirstKind, IsKind, IsCaseOf, text_kind}
+use Rattle.wb_top.specs.Files.{IsKindOfText, IsKindByMap, IsKindOfVerilog, IsFirstKind, IsKind, IsCaseOf, text_kind}
 use Rattle.wb_top.specs.Outcome.{Told, IsChecked, IsReported}
 use Rattle.wb_top.specs.Texts.{not_yet_text}
 use Rattle.wb_top.specs.Judged.{obstacle_of, IsOutside}
@@ -128,7 +128,7 @@ outside_together m p ds ms model map design count is_model is_map is_tree is_des
 )
 
 -- Files outside the profile that no kind refuses are refused by what keeps them outside.
-pub refused_outside : (m p : List ℕ) (ds : List (List ℕ)) (place : Place) (budget : ℕ) (told : Told) → IsOutside m p ds place → IsKind m ds None
+pub refused_outside : (m p : List ℕ) (ds : List (List ℕ)) (place : Place) (budget : ℕ) (told : Told) → IsOutside m p ds place → IsKind m p ds None
     → told.text ≡ not_yet_text (obstacle_of place) → told.spent ≡ [] → IsChecked budget (m ∷ p ∷ ds) Refused told
 refused_outside m p ds place budget told outside unbroken is nothing = (None, unbroken, (outside.0, obstacle_of place, outside.1, is), nothing)
 
@@ -145,7 +145,7 @@ is_case m p ds ms f is_model is_map count is_tree is_design within accepted = re
 }
 
 -- a report of a case answers the check of its files
-pub answered : (m p : List ℕ) (ds : List (List ℕ)) (f : First) (budget : ℕ) (status : Status) (text : Told) → IsCaseOf m p ds f → IsKind m ds None
+pub answered : (m p : List ℕ) (ds : List (List ℕ)) (f : First) (budget : ℕ) (status : Status) (text : Told) → IsCaseOf m p ds f → IsKind m p ds None
     → IsReported f budget status text → IsChecked budget (m ∷ p ∷ ds) status text
 answered m p ds f budget Done text case unbroken reported = (f, case, reported, unbroken)
 answered m p ds f budget Failed text case unbroken reported = (f, case, reported, unbroken)
@@ -157,24 +157,33 @@ answered m p ds f budget WriteFault text case unbroken reported = absurd reporte
 answered m p ds f budget NoMemory text case unbroken reported = absurd reported
 answered m p ds f budget Limit text case unbroken reported = absurd reported
 
--- the kind that refuses: of the model file, of the Verilog files' text, of their tokens, none
-pub kind_of_model : (m : List ℕ) (ds : List (List ℕ)) (rule : ModelRule) → ◌≡◌ {A = Option ModelRule} (Some rule) (refusal_in (model_reading m)) → IsKind m ds (Some (rule_name rule))
+-- the kind that refuses: of the model file, of the Verilog files' text, of their tokens, of their design, none
+pub kind_of_model : (m p : List ℕ) (ds : List (List ℕ)) (rule : ModelRule) → ◌≡◌ {A = Option ModelRule} (Some rule) (refusal_in (model_reading m))
+    → IsKind m p ds (Some (rule_name rule))
 unfolding IsKind
-kind_of_model m ds rule is = subst (λ (o : Option ModelRule). IsFirstKind o (tokens_in ds) (Some (rule_name rule))) is refl
+kind_of_model m p ds rule is = subst (λ (o : Option ModelRule). IsFirstKind o (map_of_bytes p) ds (Some (rule_name rule))) is refl
 
-first_kind_by : (m : List ℕ) (ds : List (List ℕ)) (o : Result (List Token) Refusal) (kind : Option (List ℕ)) → refusal_in (model_reading m) ≡ None → tokens_in ds ≡ o
-    → IsKindOfText o kind → IsKind m ds kind
+after_model : (m p : List ℕ) (ds : List (List ℕ)) (kind : Option (List ℕ)) → refusal_in (model_reading m) ≡ None → IsKindOfVerilog (map_of_bytes p) ds kind
+    → IsKind m p ds kind
 unfolding IsKind
-first_kind_by m ds o kind unbroken is h =
-    subst (λ (r : Option ModelRule). IsFirstKind r (tokens_in ds) kind) (sym unbroken)
-    (subst (λ (t : Result (List Token) Refusal). IsKindOfText t kind) (sym is) h)
+after_model m p ds kind unbroken h = subst (λ (o : Option ModelRule). IsFirstKind o (map_of_bytes p) ds kind) (sym unbroken) h
 
-pub kind_of_text : (m : List ℕ) (ds : List (List ℕ)) (r : Refusal) → refusal_in (model_reading m) ≡ None → tokens_in ds ≡ Err r → IsKind m ds (Some (text_kind r))
-kind_of_text m ds r unbroken is = first_kind_by m ds (Err r) (Some (text_kind r)) unbroken is refl
+of_text : (ds : List (List ℕ)) (o : Result (List Token) Refusal) (kind : Option (List ℕ)) → tokens_in ds ≡ o → IsKindOfText o kind
+    → IsKindOfText (tokens_in ds) kind
+of_text ds o kind is h = subst (λ (t : Result (List Token) Refusal). IsKindOfText t kind) (sym is) h
 
-pub kind_of_tokens : (m : List ℕ) (ds : List (List ℕ)) (text : List Token) → refusal_in (model_reading m) ≡ None → tokens_in ds ≡ Ok text
-    → ((ms : Source) → ¬ IsSource ms text) → IsKind m ds (Some (codes "V6 Syntax"))
-kind_of_tokens m ds text unbroken is none = first_kind_by m ds (Ok text) (Some (codes "V6 Syntax")) unbroken is (refl, none)
+pub kind_of_text : (m p : List ℕ) (ds : List (List ℕ)) (r : Refusal) → refusal_in (model_reading m) ≡ None → tokens_in ds ≡ Err r
+    → IsKind m p ds (Some (text_kind r))
+kind_of_text m p ds r unbroken is =
+    after_model m p ds (Some (text_kind r)) unbroken (Some (text_kind r), of_text ds (Err r) (Some (text_kind r)) is refl, refl)
 
-pub no_kind : (m : List ℕ) (ds : List (List ℕ)) (text : List Token) (ms : Source) → refusal_in (model_reading m) ≡ None → tokens_in ds ≡ Ok text → IsSource ms text → IsKind m ds None
-no_kind m ds text ms unbroken is source = first_kind_by m ds (Ok text) None unbroken is (ms, source)
+pub kind_of_tokens : (m p : List ℕ) (ds : List (List ℕ)) (text : List Token) → refusal_in (model_reading m) ≡ None → tokens_in ds ≡ Ok text
+    → ((ms : Source) → ¬ IsSource ms text) → IsKind m p ds (Some (codes "V6 Syntax"))
+kind_of_tokens m p ds text unbroken is none =
+    after_model m p ds (Some (codes "V6 Syntax")) unbroken
+    (Some (codes "V6 Syntax"), of_text ds (Ok text) (Some (codes "V6 Syntax")) is (refl, none), refl)
+
+pub kind_of_tree : (m p : List ℕ) (ds : List (List ℕ)) (ms : Source) (kind : Option (List ℕ)) → refusal_in (model_reading m) ≡ None → IsTreeOf ds ms
+    → IsKindByMap (map_of_bytes p) ms kind → IsKind m p ds kind
+kind_of_tree m p ds ms kind unbroken tree h =
+    after_model m p ds kind unbroken (None, of_text ds (Ok tree.tokens) None tree.are_tokens (ms, tree.is_source), (ms, tree, h))

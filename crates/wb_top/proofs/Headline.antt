@@ -2,10 +2,9 @@
 use Rattle.std.proofs.Common.{◌≡◌, ◌≢◌, ◌∙◌, ℕ, List, ap, sym, subst, Some, None}
 use Rattle.std.specs.declared.option.Option.{Option}
 use Rattle.wb_values.specs.Value.{Name}
-use Rattle.wb_top.specs.declared.verb.Verb.TheVariants.{Check}
 use Rattle.wb_top.specs.declared.status.Status.{Status}
 use Rattle.wb_top.specs.declared.status.Status.TheVariants.{Done, WriteFault, Limit}
-use Rattle.wb_top.specs.Words.{Command}
+use Rattle.wb_top.specs.Words.{Command, check}
 use Rattle.wb_top.specs.Files.{first_long}
 use Rattle.wb_top.specs.Outcome.{Told, IsWithin, IsAnswer, IsCallOutcome, AskForCheck, Headline}
 
@@ -24,10 +23,10 @@ same_command a b h = ap (λ o. value_or a o) h
     value_or z (Some w) = w
 
 pub headline_of : (held : Option (Name → Option (List ℕ))) (words : List Name) (text : Told) → IsCallOutcome held words Done text → AskForCheck words → Headline held words
-headline_of held words text (c, is, contents, are, answer) (check, is_check, budget, verb) =
-    within (first_long 0 contents) (subst (λ v. IsAnswer v contents Done text) (ap (λ d. d.verb) (same_command c check (sym is ∙ is_check)) ∙ verb) answer)
+headline_of held words text (c, is, contents, are, answer) (d, is_check, budget, verb) =
+    within (first_long 0 contents) (subst (λ v. IsAnswer v contents Done text) (ap (λ e. e.verb) (same_command c d (sym is ∙ is_check)) ∙ verb) answer)
   where
-    within : (o : Option ℕ) → IsWithin o (Check budget) contents Done text → Headline held words
+    within : (o : Option ℕ) → IsWithin o (check budget) contents Done text → Headline held words
     within None (f, case, reported, unbroken) = (c, is, contents, are, f, case, reported.1)
     within (Some k) long = absurd (done_is_no_limit long.0)
 

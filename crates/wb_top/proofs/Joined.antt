@@ -4,16 +4,17 @@ use Rattle.std.proofs.lemmas.List.{append_assoc}
 use Rattle.wb_top.specs.Files.{IsKind}
 use Rattle.wb_top.specs.Judged.{IsInProfile, IsJudged}
 use Rattle.wb_top.specs.declared.judged.Judged.{Judged}
-use Rattle.wb_top.specs.declared.judged.Judged.TheVariants.{Case, Outside, Refused, RefusedText, RefusedTree}
+use Rattle.wb_top.specs.declared.judged.Judged.TheVariants.{Case, Outside, Refused, RefusedText, RefusedTree, RefusedDesign}
 
-judged_of : (m p : List ℕ) (ds : List (List ℕ)) (j : Judged) → IsKind m ds None → IsInProfile m p ds j → IsJudged m p ds j
+judged_of : (m p : List ℕ) (ds : List (List ℕ)) (j : Judged) → IsKind m p ds None → IsInProfile m p ds j → IsJudged m p ds j
 judged_of m p ds (Case c) unbroken h = (h, unbroken)
 judged_of m p ds (Outside place) unbroken h = (h, unbroken)
 judged_of m p ds (Refused r) unbroken h = absurd h
 judged_of m p ds (RefusedText r) unbroken h = absurd h
 judged_of m p ds (RefusedTree note) unbroken h = absurd h
+judged_of m p ds (RefusedDesign kind) unbroken h = absurd h
 
-pub judged_in_profile : {E : Type 0} (m p : List ℕ) (ds : List (List ℕ)) (r : Result Judged E) → IsKind m ds None
+pub judged_in_profile : {E : Type 0} (m p : List ℕ) (ds : List (List ℕ)) (r : Result Judged E) → IsKind m p ds None
     → IfOk r (IsInProfile m p ds) → IfOk r (IsJudged m p ds)
 judged_in_profile m p ds (Ok j) unbroken h = judged_of m p ds j unbroken h
 judged_in_profile m p ds (Err e) unbroken h = tt

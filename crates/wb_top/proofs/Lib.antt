@@ -1,4 +1,6 @@
 pub mod Cases
+pub mod Designs
+pub mod Read
 pub mod Joined
 pub mod Lines
 pub mod Told

@@ -1,14 +1,26 @@
 -- Notes of model files and of scripts are notes of refusals.
-use Rattle.std.proofs.Common.{◌≡◌, ◌<◌, ◌≤◌, ◌∙◌, ◌++◌, ℕ, List, [], ◌∷◌, Result, Ok, Err, IfOk, Vec, Global, ap, sym, subst, codes, length, map, take, IsTrue, arith}
+use Rattle.std.proofs.Common.{◌≡◌, ◌<◌, ◌≤◌, ◌∙◌, ◌++◌, ◌&&◌, ℕ, Bool, true, false, true≢false, List, [], ◌∷◌, Result, Ok, Err, IfOk, Vec, Global, refl, ap, sym, subst, codes, length, map, take, IsTrue, arith}
+use Rattle.std.proofs.lemmas.Bool.{leb-true, ltb-true}
 use Rattle.std.specs.List.{list_all}
 use Rattle.v_lex.specs.Notes.{shown}
-use Rattle.wb_top.specs.Texts.{is_printable, IsNote, IsRefusalBy}
+use Rattle.wb_top.specs.Texts.{is_printable, fits_note, IsNote, IsRefusalBy}
 
 some_first : (b : ℕ) (bs : List ℕ) → 0 < length (map shown (take 80 (b ∷ bs)))
 some_first b bs = omega arith
 
 pub is_note : (text : List ℕ) → 0 < length text → length text ≤ 80 → IsTrue (list_all is_printable text) → IsNote text
 is_note text some short printable = record { some = some; short = short; printable = printable }
+
+both : (a b : Bool) → (a && b) ≡ true → (a ≡ true) × (b ≡ true)
+both true b h = (refl, h)
+both false b h = absurd (true≢false (sym h))
+
+-- a text that passes the test of notes is one
+pub noted : (text : List ℕ) → IsTrue (fits_note text) → IsNote text
+noted text h =
+    let all = both _ _ h in
+    let length_fits = both _ _ all.0 in
+    is_note text (ltb-true 0 (length text) length_fits.0) (leb-true (length text) 80 length_fits.1) all.1
 
 -- a note with a name before it is never empty
 pub some_named : (text name note : List ℕ) → text ≡ map shown (take 80 (name ++ 32 ∷ note)) → 0 < length text

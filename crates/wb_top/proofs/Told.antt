@@ -6,12 +6,12 @@ use Rattle.std.specs.declared.option.Option.{Option}
 use Rattle.std.specs.Option.{option_map}
 use Rattle.wb_values.specs.Value.{Name}
 use Rattle.wb_outside.specs.Outside.{with_appended, GrewByPrefix, AreStartsOf}
-use Rattle.wb_top.specs.declared.verb.Verb.{Verb}
-use Rattle.wb_top.specs.declared.verb.Verb.TheVariants.{Check, Simulate}
-use Rattle.wb_top.specs.Words.{Command, command_of}
+use Rattle.wb_top.specs.Words.{Verb, check, simulate, simulate_rtl, Command, command_of}
 use Rattle.std.proofs.lemmas.Bool.Decides.{nat_tests}
 use Rattle.wb_top.specs.Files.{most_bytes, has_fitting_length, first_long, AreHeld}
 use Rattle.wb_top.specs.Simulated.{Pair, runs, refused, pair_of, IsSimulated, AreSimulated}
+use Rattle.rtl_simulation.specs.Ending.{Ending, not_yet, broken, bad_line, missing_input, ran}
+use Rattle.wb_top.specs.SimulatedRtl.{IsWrittenFor, IsSimulatedText, AreRtlSimulated}
 use Rattle.wb_top.specs.Asked.{wanted_names, AskedAll, AskedSome}
 use Rattle.wb_top.specs.Outcome.{Told, IsEnd, IsWithin, IsAnswer, IsAnswered, IsCallOutcome}
 use Rattle.wb_top.specs.declared.status.Status.{Status}
@@ -164,10 +164,27 @@ no_simulation_is_usage (m ∷ []) text h = h
 no_simulation_is_usage (m ∷ s ∷ []) text h = no_pair_is_usage (pair_of m s) text h
 no_simulation_is_usage (m ∷ s ∷ x ∷ xs) text h = h
 
+no_ending_is_usage : (e : Ending) (text : List ℕ) → IsWrittenFor e Usage text → ⊥
+no_ending_is_usage not_yet text h = h
+no_ending_is_usage (broken kind) text h = h
+no_ending_is_usage bad_line text h = h
+no_ending_is_usage missing_input text h = h
+no_ending_is_usage (ran lines) text h = h
+
+no_design_is_usage : (top clock : Name) (script : List ℕ) (designs : List (List ℕ)) (kind : Option (List ℕ)) (text : List ℕ)
+    → IsSimulatedText top clock script designs kind Usage text → ⊥
+no_design_is_usage top clock script designs (Some kind) text h = h
+no_design_is_usage top clock script designs None text h = no_ending_is_usage h.2.0 text h.2.2
+
+no_rtl_is_usage : (top clock : Name) (contents : List (List ℕ)) (text : List ℕ) → AreRtlSimulated top clock contents Usage text → ⊥
+no_rtl_is_usage top clock [] text h = h
+no_rtl_is_usage top clock (script ∷ designs) text h = no_design_is_usage top clock script designs h.kind text h.is_simulated
+
 no_end_is_usage : (o : Option ℕ) (verb : Verb) (contents : List (List ℕ)) (text : Told) → IsWithin o verb contents Usage text → ⊥
 no_end_is_usage (Some k) verb contents text h = usage_is_no_limit h.0
-no_end_is_usage None (Check budget) contents text h = h.2
-no_end_is_usage None Simulate contents text h = no_simulation_is_usage contents text.text h.0
+no_end_is_usage None (check budget) contents text h = h.2
+no_end_is_usage None simulate contents text h = no_simulation_is_usage contents text.text h.0
+no_end_is_usage None (simulate_rtl top clock) contents text h = no_rtl_is_usage top clock contents text.text h.0
 
 -- an answer on files is never about the words
 answered_outcome : (held : Option (Name → Option (List ℕ))) (words : List Name) (status : Status) (text : Told)

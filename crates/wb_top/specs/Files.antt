@@ -1,11 +1,15 @@
 -- How files are refused, and which model, map and module the bytes of files stand for in the first profile.
-use Rattle.std.specs.Prelude.{◌≡◌, ℕ, suc, Bool, cond, nat_le, List, [], ◌∷◌, length, map, Option, Some, None, Result, Ok, Err, codes, IfSome, IsTrue}
+use Rattle.std.specs.Prelude.{◌≡◌, ◌⊎◌, ℕ, suc, Bool, true, false, cond, nat_le, List, [], ◌∷◌, length, map, Option, Some, None, Result, Ok, Err, codes, IfSome, IsTrue}
 use Rattle.wb_values.specs.Value.{Name}
 use Rattle.model_files.specs.Meaning.{ModelRule, model_reading}
 use Rattle.verilog_text.specs.Token.{Token}
 use Rattle.verilog_text.specs.Text.{Refusal, not_text, bad_token, bad_directive, unsupported, too_deep, tokens_in}
 use Rattle.verilog_trees.specs.Syntax.{Source}
 use Rattle.verilog_text.specs.Grammar.{IsSource, IsTreeOf}
+use Rattle.verilog_meaning.specs.Settled.{Design}
+use Rattle.verilog_designs.specs.Accepted.{DesignKind, IsAccepted, IsRefusedBy}
+use Rattle.v_hier.specs.Instances.{has_parts}
+use Rattle.refinement.specs.Map.{Map}
 use Rattle.ila_rules.specs.Rule.{rule_name}
 use Rattle.ila_json.specs.Reading.{refusal_in}
 use Rattle.first_text.specs.Tree.{module_tree}
@@ -14,6 +18,7 @@ use Rattle.first_json.specs.MapFile.{map_of_bytes}
 use Rattle.first_model.specs.Profile.{model_of_bytes}
 use Rattle.wb_first.specs.Names.{First}
 use Rattle.wb_first.specs.Accepted.{is_accepted}
+use Rattle.wb_top.specs.Kinds.{kind_name}
 
 -- a file has at most so many bytes
 abbrev pub most_bytes : ℕ
@@ -41,18 +46,37 @@ IsKindOfText (Err r) kind = kind ≡ Some (text_kind r)
 IsKindOfText (Ok tokens) (Some kind) = (kind ≡ codes "V6 Syntax") × ((ms : Source) → ¬ IsSource ms tokens)
 IsKindOfText (Ok tokens) None = (ms : Source) × IsSource ms tokens
 
+-- The kind by which a design is refused, if there is one. None refuses a design that is accepted; nor, so far, one of a source with a
+-- parameter or an instance.
+abbrev pub IsKindOfDesign : Design → Option (List ℕ) → Type 0
+IsKindOfDesign d (Some kind) = (k : DesignKind) × (has_parts d.source ≡ false) × IsRefusedBy d k × (kind ≡ kind_name k)
+IsKindOfDesign d None = (has_parts d.source ≡ true) ⊎ IsAccepted d
+
+-- The design has the top and the clock that a map names, where the map is one of the profile.
+abbrev pub IsKindByMap : Option Map → Source → Option (List ℕ) → Type 0
+IsKindByMap (Some named) ms kind = IsKindOfDesign (record { source = ms; top = named.top; clock = named.clock }) kind
+IsKindByMap None ms kind = kind ≡ None
+
+-- The first kind that refuses Verilog files: one of their text comes before one of the design that they are.
+abbrev pub IsKindAfter : (of_text : Option (List ℕ)) → Option Map → List (List ℕ) → Option (List ℕ) → Type 0
+IsKindAfter (Some k) named ds kind = kind ≡ Some k
+IsKindAfter None named ds kind = (ms : Source) × IsTreeOf ds ms × IsKindByMap named ms kind
+
+abbrev pub IsKindOfVerilog : Option Map → List (List ℕ) → Option (List ℕ) → Type 0
+IsKindOfVerilog named ds kind = (k : Option (List ℕ)) × IsKindOfText (tokens_in ds) k × IsKindAfter k named ds kind
+
 -- The first kind: a rule that the model file breaks comes before all that refuses the Verilog files.
-abbrev pub IsFirstKind : Option ModelRule → Result (List Token) Refusal → Option (List ℕ) → Type 0
-IsFirstKind (Some rule) tokens kind = kind ≡ Some (rule_name rule)
-IsFirstKind None tokens kind = IsKindOfText tokens kind
+abbrev pub IsFirstKind : Option ModelRule → Option Map → List (List ℕ) → Option (List ℕ) → Type 0
+IsFirstKind (Some rule) named ds kind = kind ≡ Some (rule_name rule)
+IsFirstKind None named ds kind = IsKindOfVerilog named ds kind
 
 -- the first kind that refuses a model file or the Verilog files, if there is one
-unfoldable pub IsKind : (model_bytes : List ℕ) → (designs : List (List ℕ)) → Option (List ℕ) → Type 0
-IsKind m ds kind = IsFirstKind (refusal_in (model_reading m)) (tokens_in ds) kind
+unfoldable pub IsKind : (model_bytes map_bytes : List ℕ) → (designs : List (List ℕ)) → Option (List ℕ) → Type 0
+IsKind m p ds kind = IsFirstKind (refusal_in (model_reading m)) (map_of_bytes p) ds kind
 
 -- of the files of a check
 abbrev pub IsRefusingKind : List (List ℕ) → Option (List ℕ) → Type 0
-IsRefusingKind (m ∷ p ∷ ds) kind = IsKind m ds kind
+IsRefusingKind (m ∷ p ∷ ds) kind = IsKind m p ds kind
 IsRefusingKind _ kind = ⊥
 
 -- The bytes stand for this model, this map and this module, which the profile accepts together: there is one Verilog file, and its

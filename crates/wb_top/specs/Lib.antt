@@ -1,9 +1,12 @@
 pub mod Words
+pub mod Verbs
 pub mod Wanted
+pub mod Kinds
 pub mod Files
 pub mod Profile
 pub mod Texts
 pub mod Simulated
+pub mod SimulatedRtl
 pub mod Outcome
 pub mod Showing
 pub mod StatusNumber

@@ -8,11 +8,10 @@ use Rattle.reports.specs.Report.{IsReport, all_proved, some_unknown, some_failed
 use Rattle.refinement.specs.Soundness.{EveryRunRefines}
 use Rattle.wb_outside.specs.Outside.{with_appended, GrewByPrefix}
 use Rattle.wb_first.specs.Names.{First, setting_of}
-use Rattle.wb_top.specs.declared.verb.Verb.{Verb}
-use Rattle.wb_top.specs.declared.verb.Verb.TheVariants.{Check, Simulate}
-use Rattle.wb_top.specs.Words.{Command, command_of}
+use Rattle.wb_top.specs.Words.{Verb, check, simulate, simulate_rtl, Command, command_of}
 use Rattle.wb_top.specs.Files.{first_long, IsRefusingKind, IsCase, AreHeld}
 use Rattle.wb_top.specs.Simulated.{AreSimulated}
+use Rattle.wb_top.specs.SimulatedRtl.{AreRtlSimulated}
 use Rattle.wb_top.specs.Profile.{Obstacle, KeepFilesOutside}
 use Rattle.wb_top.specs.Texts.{usage_text, limit_text, IsRefusalBy, not_yet_text}
 use Rattle.wb_top.specs.declared.status.Status.{Status}
@@ -46,8 +45,9 @@ IsChecked budget contents status t = (f : First) × IsCase contents f × IsRepor
 
 -- what a command ends with on files of which none is too long
 abbrev pub IsEnd : Verb → List (List ℕ) → Status → Told → Type 0
-IsEnd (Check budget) contents status t = IsChecked budget contents status t
-IsEnd Simulate contents status t = AreSimulated contents status t.text × (t.spent ≡ [])
+IsEnd (check budget) contents status t = IsChecked budget contents status t
+IsEnd simulate contents status t = AreSimulated contents status t.text × (t.spent ≡ [])
+IsEnd (simulate_rtl top clock) contents status t = AreRtlSimulated top clock contents status t.text × (t.spent ≡ [])
 
 -- A file that is too long is answered before any is read as text: by the number of the first such, from 0.
 abbrev pub IsWithin : Option ℕ → Verb → List (List ℕ) → Status → Told → Type 0
@@ -81,7 +81,7 @@ WrotePrefix held words spent before after =
 
 -- the words ask for a check
 abbrev pub AskForCheck : List Name → Type 0
-AskForCheck words = (c : Command) × (command_of words ≡ Some c) × (budget : ℕ) × (c.verb ≡ Check budget)
+AskForCheck words = (c : Command) × (command_of words ≡ Some c) × (budget : ℕ) × (c.verb ≡ check budget)
 
 -- Every run of the design refines the model, for the model, the map and the module that the contents of the files named in the words
 -- stand for: those that are held, where it is told what is held.

@@ -1,5 +1,5 @@
 -- Files that no kind refuses and that stand for no case: what keeps them outside the first profile.
-use Rattle.std.specs.Prelude.{◌≡◌, ◌<◌, ℕ, false, List, [], ◌∷◌, length, Option, Some, None, is_some, codes, IsTrue}
+use Rattle.std.specs.Prelude.{◌≡◌, ◌<◌, ℕ, false, List, [], ◌∷◌, length, Some, None, is_some, codes, IsTrue}
 use Rattle.first_text.specs.Tree.{FirstModule, module_tree}
 use Rattle.first_tree.specs.Profile.{IsWithinProfile}
 use Rattle.first_json.specs.MapFile.{map_of_bytes}

@@ -1,5 +1,5 @@
 -- The texts that a call writes beside reports.
-use Rattle.std.specs.Prelude.{◌≡◌, ◌<◌, ◌≤◌, ℕ, Bool, ◌&&◌, nat_le, List, [], ◌∷◌, ◌++◌, length, codes, decimal, IsTrue}
+use Rattle.std.specs.Prelude.{◌≡◌, ◌<◌, ◌≤◌, ℕ, Bool, ◌&&◌, nat_le, nat_lt, List, [], ◌∷◌, ◌++◌, length, codes, decimal, IsTrue}
 use Rattle.std.specs.List.{list_all}
 use Rattle.wb_top.specs.Profile.{Obstacle, obstacle_text}
 
@@ -19,6 +19,10 @@ pub record IsNote (text : List ℕ) : Type 0 where
   pub some : 0 < length text
   pub short : length text ≤ 80
   pub printable : IsTrue (list_all is_printable text)
+
+-- the same as a test
+abbrev pub fits_note : List ℕ → Bool
+fits_note text = nat_lt 0 (length text) && nat_le (length text) 80 && list_all is_printable text
 
 -- A refusal by a rule: its name, and a note that leads to the place.
 abbrev pub IsRefusalBy : List ℕ → List ℕ → Type 0

@@ -1,19 +1,26 @@
 -- The words of a command, and the files that it names.
 use Rattle.std.specs.Prelude.{ℕ, Bool, ◌&&◌, ◌==◌, nat_le, nat_lt, List, [], ◌∷◌, Option, option_map}
 use Rattle.wb_values.specs.Value.{Name}
-use Rattle.wb_words.specs.Requests.{Request, check, simulate, request_of}
-use Rattle.wb_top.specs.declared.verb.Verb.{Verb}
-use Rattle.wb_top.specs.declared.verb.Verb.TheVariants.{Check, Simulate}
+use Rattle.wb_words.specs.Requests as asked
+use Rattle.wb_words.specs.Requests.{Request, request_of}
+
+-- what is asked for: a check with its budget, a simulation of a model, or one of a design, by the names of its top and its clock
+pub data Verb : Type 0 where
+  check : (budget : ℕ) → Verb
+  simulate : Verb
+  simulate_rtl : (top clock : Name) → Verb
 
 -- what is asked for, and the names of the files in the order in which they are read
 pub record Command : Type 0 where
   pub verb : Verb
   pub files : List Name
 
--- A check reads the model file, the map file and each Verilog file; a simulation the model file and the script.
+-- A check reads the model file, the map file and each Verilog file; a simulation of a model the model file and the script; one of a
+-- design the script and each Verilog file.
 abbrev pub command_for : Request → Command
-command_for (check model map budget designs) = record { verb = Check budget; files = model ∷ map ∷ designs }
-command_for (simulate model script) = record { verb = Simulate; files = model ∷ script ∷ [] }
+command_for (asked.check model map budget designs) = record { verb = check budget; files = model ∷ map ∷ designs }
+command_for (asked.simulate model script) = record { verb = simulate; files = model ∷ script ∷ [] }
+command_for (asked.simulate_rtl top clock script designs) = record { verb = simulate_rtl top clock; files = script ∷ designs }
 
 -- the command that words ask for
 abbrev pub command_of : List Name → Option Command
@@ -21,5 +28,6 @@ command_of words = option_map command_for (request_of words)
 
 -- a command reads so many files, and a check has a budget
 abbrev pub is_command : Verb → ℕ → Bool
-is_command (Check budget) n = nat_le 3 n && nat_lt 0 budget
-is_command Simulate n = n == 2
+is_command (check budget) n = nat_le 3 n && nat_lt 0 budget
+is_command simulate n = n == 2
+is_command (simulate_rtl top clock) n = nat_le 2 n

@@ -4,15 +4,19 @@ ghost use Rattle.std.specs.Prelude.{◌≡◌, ◌<◌, [], ◌∷◌, IfOk, IsT
 ghost use Rattle.wb_first.specs.CaseView.{case_of};
 ghost use Rattle.wb_top.specs.Files.{first_long};
 ghost use Rattle.wb_top.specs.Words.{is_command};
+ghost use Rattle.wb_top.specs.Verbs.{verb_view};
 ghost use Rattle.wb_top.specs.Showing.{told_of, status_by};
 ghost use Rattle.wb_top.specs.Outcome.{IsAnswer, IsEnd, IsChecked, IsReported};
 
 use crate::judged::{Judged, judge};
 use crate::length::first_long;
+use crate::rtl::simulated_rtl;
 use crate::simulation::simulated;
 use crate::status::Status;
 use crate::stop::NoMemory;
-use crate::texts::{limit, refusal, refusal_by, refusal_of_text, refusal_of_tree};
+use crate::texts::{
+    limit, refusal, refusal_by, refusal_of_design, refusal_of_text, refusal_of_tree,
+};
 use crate::verb::Verb;
 use first_check::BitName;
 use first_report::{Ending, Spent, check};
@@ -48,12 +52,12 @@ impl Outcome {
 /// too long the first bytes past the limit are enough.
 pub(crate) fn answer(
     alloc: Global,
-    verb: Verb,
+    verb: &Verb,
     names: &[String],
     contents: &[Vec<u8>],
 ) -> Result<Outcome, NoMemory>
-    requires { IsTrue (is_command verb (length contents.now)) }
-    ensures { IfOk result (λ o. IsAnswer verb (map (λ bytes. bytes.items) contents.now) o.status (told_of o)) }
+    requires { IsTrue (is_command (verb_view verb.now) (length contents.now)) }
+    ensures { IfOk result (λ o. IsAnswer (verb_view verb.now) (map (λ bytes. bytes.items) contents.now) o.status (told_of o)) }
 {
     match first_long(contents) {
         Some(number) => {
@@ -70,25 +74,39 @@ pub(crate) fn answer(
 /// The answer to a command on files of which none is too long.
 fn ended(
     alloc: Global,
-    verb: Verb,
+    verb: &Verb,
     names: &[String],
     contents: &[Vec<u8>],
 ) -> Result<Outcome, NoMemory>
-    requires { IsTrue (is_command verb (length contents.now)) }
-    ensures { IfOk result (λ o. IsEnd verb (map (λ bytes. bytes.items) contents.now) o.status (told_of o)) }
+    requires { IsTrue (is_command (verb_view verb.now) (length contents.now)) }
+    ensures { IfOk result (λ o. IsEnd (verb_view verb.now) (map (λ bytes. bytes.items) contents.now) o.status (told_of o)) }
 {
     match verb {
         Verb::Check(budget) => match contents {
-            [model, map, designs @ ..] => checked(alloc, names, model, map, designs, budget),
+            [model, map, designs @ ..] => {
+                checked(alloc, names_after(names, 2), model, map, designs, *budget)
+            }
             _ => unreachable!(),
         },
         Verb::Simulate => match contents {
             [model, script] => simulated(alloc, model, script),
             _ => unreachable!(),
         },
+        Verb::SimulateRtl(design) => match contents {
+            [script, designs @ ..] => {
+                simulated_rtl(alloc, names_after(names, 1), design, script, designs)
+            }
+            _ => unreachable!(),
+        },
     }
 }
 
+/// The names of the Verilog files: those after the first names.
+fn names_after(names: &[String], count: usize) -> &[String] {
+    &names[count.min(names.len())..]
+}
+
+/// A check of files of which none is too long, with the names of its Verilog files.
 fn checked(
     alloc: Global,
     names: &[String],
@@ -120,6 +138,10 @@ fn checked(
         }
         Judged::RefusedTree(note) => {
             let text = refusal_of_tree(alloc, names, &note)?;
+            Ok(Outcome::plain(alloc, Status::Refused, text))
+        }
+        Judged::RefusedDesign(kind) => {
+            let text = refusal_of_design(alloc, kind)?;
             Ok(Outcome::plain(alloc, Status::Refused, text))
         }
     }

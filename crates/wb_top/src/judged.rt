@@ -1,28 +1,37 @@
 //! Whether files are a case of the first profile, and which kind refuses the model file or the Verilog files.
 
-ghost use Rattle.std.specs.Prelude.{◌≡◌, ◌<◌, ◌∷◌, [], None, Ok, IfOk, IfSome, IfNone, map, length, option_map};
+ghost use Rattle.std.specs.Prelude.{◌≡◌, ◌<◌, ◌∷◌, [], None, Ok, IfOk, IfSome, IfNone, is_some, map, length, option_map};
 ghost use Rattle.model_files.specs.Meaning.{model_reading};
 ghost use Rattle.verilog_text.specs.Text.{tokens_in};
 ghost use Rattle.verilog_text.specs.Grammar.{IsTreeOf};
 ghost use Rattle.first_text.specs.Tree.{FirstModule as PureModule, module_tree};
 ghost use Rattle.first_text.specs.View.{first_module_of};
 ghost use Rattle.first_tree.specs.Profile.{IsWithinProfile};
+ghost use Rattle.first_json.specs.MapFile.{map_of_bytes};
 ghost use Rattle.first_json.specs.ModelView.{first_model_of};
+ghost use Rattle.first_json.specs.View.{map_of};
 ghost use Rattle.first_model.specs.Profile.{model_of_bytes};
 ghost use Rattle.ila_json.specs.Reading.{refusal_in};
 ghost use Rattle.v_token.specs.View.{tokens_of};
 ghost use Rattle.v_syntax.specs.Source.{source_of};
-ghost use Rattle.wb_top.specs.Judged.{IsJudged, IsInProfile};
+ghost use Rattle.verilog_meaning.specs.Settled.{Design};
+ghost use Rattle.verilog_exists.specs.Exists.{IsShapely};
+ghost use Rattle.v_judged.specs.Refusal.{kind_of};
+ghost use Rattle.wb_top.specs.Files.{IsKindByMap};
+ghost use Rattle.wb_top.specs.Kinds.{name_of_refusal};
+ghost use Rattle.wb_top.specs.Judged.{IsJudged, IsInProfile, told_kind};
 
 use crate::stop::NoMemory;
+use designs_of_texts::laws::trees_are_of_texts;
 use first_accept::accept;
-use first_json::{FirstModel, read_map};
+use first_json::{FirstMap, FirstModel, read_map};
 use first_model::read_first_model;
 use first_text::FirstModule;
 use first_tree::{first_module, one_module};
 use ila_json::ModelStop;
 use ila_rules::ModelRefusal;
 use std::alloc::{AllocError, Global};
+use v_judged::{DesignKind, design_refusal};
 use v_lex::{LexRefusal, LexStop, Note, note_at, tokens};
 use v_parse::laws::one_source;
 use v_parse::{ParseStop, parse};
@@ -56,6 +65,8 @@ pub(crate) enum Judged {
     RefusedText(LexRefusal),
     /// The tokens of the Verilog files have no tree.
     RefusedTree(Note),
+    /// The design of the Verilog files breaks a rule.
+    RefusedDesign(DesignKind),
 }
 
 /// Judges the bytes of a model file, a map file and Verilog files.
@@ -111,7 +122,7 @@ fn of_tokens(
     ensures { IfOk result (IsJudged model.now map_file.now (map (λ d. d.items) designs.now)) }
 {
     match parse(alloc, tokens) {
-        Ok(tree) => in_profile(alloc, model, first, map_file, designs, &tree),
+        Ok(tree) => of_tree(alloc, model, first, map_file, designs, &tree),
         Err(ParseStop::Refused(left)) => {
             let token = tokens.get(tokens.len().saturating_sub(left)).copied();
             match note_at(alloc, designs, token) {
@@ -124,7 +135,7 @@ fn of_tokens(
 }
 
 /// The same of files whose Verilog files have this tree.
-fn in_profile(
+fn of_tree(
     alloc: Global,
     model: &[u8],
     first: Option<FirstModel>,
@@ -133,14 +144,81 @@ fn in_profile(
     tree: &Tree<'_>,
 ) -> Result<Judged, NoMemory>
     requires some { 0 < length designs.now }
+    requires unbroken { refusal_in (model_reading model.now) ≡ None }
     requires is_read { option_map first_model_of first ≡ model_of_bytes model.now }
+    requires is_tree { IsTreeOf (map (λ d. d.items) designs.now) (source_of tree.now) }
+    ensures { IfOk result (IsJudged model.now map_file.now (map (λ d. d.items) designs.now)) }
+{
+    let map = read_map(alloc, map_file)?;
+    trees_are_of_texts();
+    match broken_rule(tree, alloc, &map)? {
+        Some(kind) => Ok(Judged::RefusedDesign(kind)),
+        None => in_profile(alloc, model, first, map_file, map, designs, tree),
+    }
+}
+
+/// Whether a kind is that of a broken rule: a source with parameters or instances breaks none so far.
+fn is_rule(kind: DesignKind) -> bool
+    ensures { result ≡ is_some (kind_of kind) }
+{
+    kind != DesignKind::NotYet
+}
+
+/// What the rules of designs say of the design with the top and the clock of a map, where that was read.
+fn kind_by_map(
+    tree: &Tree<'_>,
+    alloc: Global,
+    map: &Option<FirstMap>,
+) -> Result<Option<DesignKind>, NoMemory>
+    requires { (d : Design) → d.source ≡ source_of tree.now → IsShapely d }
+    ensures { IfOk result (λ k. IsKindByMap (option_map map_of map.now) (source_of tree.now) (told_kind k)) }
+{
+    match map {
+        Some(map) => design_refusal(alloc, tree, &map.top, &map.clock),
+        None => Ok(None),
+    }
+}
+
+/// The kind of the rule that the design with the top and the clock of a map breaks, if it breaks one.
+fn broken_rule(
+    tree: &Tree<'_>,
+    alloc: Global,
+    map: &Option<FirstMap>,
+) -> Result<Option<DesignKind>, NoMemory>
+    requires { (d : Design) → d.source ≡ source_of tree.now → IsShapely d }
+    ensures { IfOk result (λ k. IsKindByMap (option_map map_of map.now) (source_of tree.now) (option_map (λ k. name_of_refusal (kind_of k)) k)) }
+{
+    match kind_by_map(tree, alloc, map)? {
+        Some(kind) => {
+            if is_rule(kind) {
+                return Ok(Some(kind));
+            }
+            Ok(None)
+        }
+        None => Ok(None),
+    }
+}
+
+/// Judges files that no kind refuses.
+fn in_profile(
+    alloc: Global,
+    model: &[u8],
+    first: Option<FirstModel>,
+    map_file: &[u8],
+    mapping: Option<FirstMap>,
+    designs: &[Vec<u8>],
+    tree: &Tree<'_>,
+) -> Result<Judged, NoMemory>
+    requires some { 0 < length designs.now }
+    requires is_read { option_map first_model_of first ≡ model_of_bytes model.now }
+    requires is_map { option_map map_of mapping ≡ map_of_bytes map_file.now }
     requires is_tree { IsTreeOf (map (λ d. d.items) designs.now) (source_of tree.now) }
     ensures { IfOk result (IsInProfile model.now map_file.now (map (λ d. d.items) designs.now)) }
 {
     if designs.len() != 1 {
         return Ok(Judged::Outside(Place::Designs));
     }
-    one_in_profile(alloc, model, first, map_file, designs, tree)
+    one_in_profile(alloc, model, first, map_file, mapping, designs, tree)
 }
 
 /// The same of files of which one is a Verilog file.
@@ -149,18 +227,20 @@ fn one_in_profile(
     model: &[u8],
     first: Option<FirstModel>,
     map_file: &[u8],
+    mapping: Option<FirstMap>,
     designs: &[Vec<u8>],
     tree: &Tree<'_>,
 ) -> Result<Judged, NoMemory>
     requires one { length designs.now ≡ 1 }
     requires is_read { option_map first_model_of first ≡ model_of_bytes model.now }
+    requires is_map { option_map map_of mapping ≡ map_of_bytes map_file.now }
     requires is_tree { IsTreeOf (map (λ d. d.items) designs.now) (source_of tree.now) }
     ensures { IfOk result (IsInProfile model.now map_file.now (map (λ d. d.items) designs.now)) }
 {
     let Some(model) = first else {
         return Ok(Judged::Outside(Place::Model));
     };
-    let Some(map) = read_map(alloc, map_file)? else {
+    let Some(map) = mapping else {
         return Ok(Judged::Outside(Place::Map));
     };
     one_source();

@@ -37,7 +37,7 @@ pub(crate) fn outcome<S: Shelf>(
     match wanted(alloc, words)? {
         Some(wanted) => {
             let contents = read_all(shelf, alloc, &wanted.files, MOST_BYTES)?;
-            let outcome = answer(alloc, wanted.verb, &wanted.files, &contents)?;
+            let outcome = answer(alloc, &wanted.verb, &wanted.files, &contents)?;
             Ok(outcome)
         }
         None => {

@@ -1,12 +1,14 @@
 //! The texts that a call writes beside reports.
 
-ghost use Rattle.std.specs.Prelude.{◌≡◌, ◌<◌, ◌++◌, ◌∷◌, [], codes, length, IfOk};
+ghost use Rattle.std.specs.Prelude.{◌≡◌, ◌<◌, ◌++◌, ◌∷◌, [], codes, length, IfOk, IsTrue};
 ghost use Rattle.ila_rules.specs.Rule.{rule_view, rule_name};
 ghost use Rattle.ila_sim.specs.Scripts.{name_of_kind};
 ghost use Rattle.v_lex.specs.Reading.{refusal_of};
 ghost use Rattle.wb_top.specs.Files.{text_kind};
 ghost use Rattle.wb_top.specs.Judged.{obstacle_of};
-ghost use Rattle.wb_top.specs.Texts.{usage_text, limit_text, IsRefusalBy, not_yet_text};
+ghost use Rattle.v_judged.specs.Refusal.{kind_of};
+ghost use Rattle.wb_top.specs.Kinds.{name_of_refusal};
+ghost use Rattle.wb_top.specs.Texts.{usage_text, limit_text, fits_note, IsRefusalBy, not_yet_text};
 
 use crate::judged::Place;
 use crate::stop::NoMemory;
@@ -14,6 +16,7 @@ use ila_rules::ModelRefusal;
 use ila_sim::ScriptRefusal;
 use itoa::Buffer;
 use std::alloc::{AllocError, Global};
+use v_judged::DesignKind;
 use v_lex::{LexKind, LexRefusal, Note};
 
 /// The text for words that ask for nothing that the program does.
@@ -58,7 +61,7 @@ const MOST_OF_NAME: usize = 32;
 
 /// The name of a Verilog file as a note shows it, by its number among the Verilog files: the end of a long name.
 fn shown_name(names: &[String], number: u32) -> &[u8] {
-    match names.get((number as usize).saturating_add(2)) {
+    match names.get(number as usize) {
         Some(name) => {
             let bytes = name.as_bytes();
             &bytes[bytes.len().saturating_sub(MOST_OF_NAME)..]
@@ -67,8 +70,7 @@ fn shown_name(names: &[String], number: u32) -> &[u8] {
     }
 }
 
-/// The note with the name of its file before it. The names are those of all files that are read: of the model, of the map, and then
-/// of each Verilog file.
+/// The note with the name of its file before it. The names are those of the Verilog files.
 fn with_name(alloc: Global, names: &[String], note: &Note) -> Result<Note, NoMemory>
     ensures { IfOk result (λ n. 0 < length n.text.items) }
 {
@@ -112,6 +114,76 @@ fn text_kind(kind: LexKind) -> &'static str
         LexKind::BadDirective => "V3 BadDirective",
         LexKind::Unsupported => "V4 Unsupported",
         LexKind::TooDeep => "V5 TooDeep",
+    }
+}
+
+/// The text for a design that breaks a rule, or that is not read yet.
+pub(crate) fn refusal_of_design(alloc: Global, kind: DesignKind) -> Result<Vec<u8>, NoMemory>
+    ensures { IfOk result (λ text. IsRefusalBy (name_of_refusal (kind_of kind)) text.items) }
+{
+    refusal_text_by(
+        alloc,
+        design_kind(kind).as_bytes(),
+        design_note(kind).as_bytes(),
+    )
+}
+
+/// The name of a kind by which designs are refused.
+fn design_kind(kind: DesignKind) -> &'static str
+    ensures { result.now ≡ name_of_refusal (kind_of kind) }
+{
+    match kind {
+        DesignKind::NotYet => "N1 NotYet",
+        DesignKind::NoTop => "V7 NoTop",
+        DesignKind::Undeclared => "V8 Undeclared",
+        DesignKind::DuplicateName => "V9 DuplicateName",
+        DesignKind::HasXz => "V11 HasXZ",
+        DesignKind::BadPort => "V12 BadPort",
+        DesignKind::BadConstant => "V13 BadConstant",
+        DesignKind::WidthOver128 => "V14 WidthOver128",
+        DesignKind::BadSelect => "V15 BadSelect",
+        DesignKind::MemoryUse => "V16 MemoryUse",
+        DesignKind::ClockAsData => "V17 ClockAsData",
+        DesignKind::BadEventList => "V18 BadEventList",
+        DesignKind::BlockingInClocked => "V19 BlockingInClocked",
+        DesignKind::NonblockingInComb => "V20 NonblockingInComb",
+        DesignKind::Latch => "V21 Latch",
+        DesignKind::BadDriver => "V22 BadDriver",
+        DesignKind::Undriven => "V23 Undriven",
+        DesignKind::CombLoop => "V24 CombLoop",
+    }
+}
+
+/// The rule of a kind in a line. Where in the text it is broken is not told yet.
+fn design_note(kind: DesignKind) -> &'static str
+    ensures { IsTrue (fits_note result.now) }
+{
+    match kind {
+        DesignKind::NotYet => "modules with parameters or instances are not read yet",
+        DesignKind::NoTop => "no module has the top's name, or the clock is no one-bit input of it",
+        DesignKind::Undeclared => "a net, a variable, a parameter or a module is not declared",
+        DesignKind::DuplicateName => "two modules share a name, or two declarations of one module",
+        DesignKind::HasXz => "a number has an x, z or ? digit where none may stand",
+        DesignKind::BadPort =>
+            "a port lacks a direction or a place in the list, or is declared two ways",
+        DesignKind::BadConstant =>
+            "a constant has no value or is out of range, or a divisor is no constant",
+        DesignKind::WidthOver128 =>
+            "a net, a number, an expression or a target has more than 128 bits",
+        DesignKind::BadSelect =>
+            "a select that its name does not have, or against the declared range",
+        DesignKind::MemoryUse =>
+            "a memory without an index, too large, or written outside a clocked block",
+        DesignKind::ClockAsData => "the clock stands elsewhere than as an event",
+        DesignKind::BadEventList =>
+            "a block's events are none that a clocked or a combinational block may have",
+        DesignKind::BlockingInClocked => "a blocking assignment in a clocked block",
+        DesignKind::NonblockingInComb => "a nonblocking assignment in a combinational block",
+        DesignKind::Latch => "a combinational block leaves a bit unassigned, or reads it before",
+        DesignKind::BadDriver => "a bit has two drivers, or a name is assigned where it may not be",
+        DesignKind::Undriven =>
+            "a bit that is read, or a bit of an output of the top, has no driver",
+        DesignKind::CombLoop => "a bit depends on itself, with no register between",
     }
 }
 

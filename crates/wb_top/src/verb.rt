@@ -1,10 +1,21 @@
 //! What words may ask for.
 
+/// The design that is meant: a module of the Verilog files.
+#[derive(Drop)]
+pub(crate) struct Top {
+    /// The name of the top module.
+    pub(crate) top: String,
+    /// The name of the top's input that is the clock.
+    pub(crate) clock: String,
+}
+
 /// A command of the program.
-#[derive(Clone, Copy, PartialEq, Eq, Debug)]
+#[derive(Drop)]
 pub(crate) enum Verb {
     /// Does the design refine the model, under the map? With so many lemmas for each line, more than none.
     Check(u64),
     /// What does the model do under the script?
     Simulate,
+    /// What does the design do under the script?
+    SimulateRtl(Top),
 }

@@ -2,6 +2,7 @@
 
 ghost use Rattle.std.specs.Prelude.{IsTrue, length};
 ghost use Rattle.wb_top.specs.Words.{is_command};
+ghost use Rattle.wb_top.specs.Verbs.{verb_view};
 
 use crate::verb::Verb;
 
@@ -10,5 +11,5 @@ use crate::verb::Verb;
 pub(crate) struct Wanted {
     pub(crate) verb: Verb,
     pub(crate) files: Vec<String>,
-    pub(crate) ghost counted: { IsTrue (is_command verb (length files.items)) },
+    pub(crate) ghost counted: { IsTrue (is_command (verb_view verb) (length files.items)) },
 }

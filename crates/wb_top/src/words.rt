@@ -8,10 +8,10 @@ ghost use Rattle.wb_top.specs.Words.{command_for, command_of};
 ghost use Rattle.wb_top.specs.Wanted.{command_view};
 
 use crate::stop::NoMemory;
-use crate::verb::Verb;
+use crate::verb::{Top, Verb};
 use crate::wanted::Wanted;
 use std::alloc::{AllocError, Global};
-use wb_words::{Check, Request, Simulate, WordsStop, request};
+use wb_words::{Check, Request, Simulate, SimulateRtl, WordsStop, request};
 
 /// What the words ask for, if it is a command.
 pub(crate) fn wanted(alloc: Global, words: &[String]) -> Result<Option<Wanted>, NoMemory>
@@ -46,6 +46,14 @@ fn wanted_by(alloc: Global, request: &Request<'_>) -> Result<Wanted, NoMemory>
                 files,
             })
         }
+        Request::SimulateRtl(simulate) => {
+            let files = files_of_rtl(alloc, simulate)?;
+            let design = top_of(alloc, simulate)?;
+            Ok(Wanted {
+                verb: Verb::SimulateRtl(design),
+                files,
+            })
+        }
     }
 }
 
@@ -70,4 +78,26 @@ fn files_of_simulation(alloc: Global, simulate: &Simulate<'_>) -> Result<Vec<Str
     names.push(String::from_str(alloc, simulate.model)?)?;
     names.push(String::from_str(alloc, simulate.script)?)?;
     Ok(names)
+}
+
+/// The names of the files that a simulation of a design reads: of the script, of each Verilog file.
+fn files_of_rtl(alloc: Global, simulate: &SimulateRtl<'_>) -> Result<Vec<String>, NoMemory>
+    ensures { IfOk result (λ names. map string_bytes names.items ≡ simulate.now.script.now ∷ map (λ s. s.now) simulate.now.designs.items) }
+{
+    let mut names = Vec::new(alloc);
+    names.push(String::from_str(alloc, simulate.script)?)?;
+    for design in &simulate.designs {
+        names.push(String::from_str(alloc, design)?)?;
+    }
+    Ok(names)
+}
+
+/// The design that is simulated.
+fn top_of(alloc: Global, simulate: &SimulateRtl<'_>) -> Result<Top, NoMemory>
+    ensures top { IfOk result (λ d. string_bytes d.top ≡ simulate.now.top.now) }
+    ensures clock { IfOk result (λ d. string_bytes d.clock ≡ simulate.now.clock.now) }
+{
+    let top = String::from_str(alloc, simulate.top)?;
+    let clock = String::from_str(alloc, simulate.clock)?;
+    Ok(Top { top, clock })
 }

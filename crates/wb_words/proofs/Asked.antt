@@ -20,8 +20,8 @@ use Rattle.clap.specs.declared.parser.matches.ValueSource.{ValueSource}
 use Rattle.clap.specs.declared.parser.matches.ValueSource.TheVariants.{DefaultValue}
 use Rattle.clap.specs.declared.builder.value_parser.Reading.{Reading}
 use Rattle.clap.specs.declared.builder.value_parser.Reading.TheVariants as reading
-use Rattle.wb_words.specs.Application.{check_command, simulate_command, workbench_app}
-use Rattle.wb_words.specs.Requests.{budget_in, check_of, designs_in, request_in, request_of, simulate_of}
+use Rattle.wb_words.specs.Application.{check_command, simulate_command, simulate_rtl_command, workbench_app}
+use Rattle.wb_words.specs.Requests.{budget_in, check_of, designs_in, request_in, request_of, simulate_of, simulate_rtl_of}
 use Rattle.wb_words.proofs.Filled.{Every, Holds, Leaves, every_found, first_part, is_count, level_holds, second_part}
 
 -- the values of a row: one or more, and those of a budget numbers in its range, read as they are written
@@ -92,7 +92,7 @@ budget_given rows good e =
       ap (λ h. budget_in (read_as h v)) written ∙ rw (first_part (is_unsigned_in 1 1000000000 v) _ numbers) refl,
     )
 
--- the rows of a check, and of a simulation, ask for it
+-- the rows of a check, and of each simulation, ask for it
 check_rows : (rows : List Row) → Every (Holds IsGood) rows → is_given (codes "model") rows ≡ true → is_given (codes "map") rows ≡ true
     → is_given (codes "designs") rows ≡ true → has_row (codes "budget") rows ≡ true → is_some (request_in (codes "check") rows) ≡ true
 unfolding request_in
@@ -117,6 +117,20 @@ simulate_rows rows good m t =
   where
     asks : (om os : Option Text) (m t : Text) → om ≡ Some m → os ≡ Some t → is_some (simulate_of om os) ≡ true
     asks om os m t e f = rw (e, f) refl
+
+simulate_rtl_rows : (rows : List Row) → Every (Holds IsGood) rows → is_given (codes "top") rows ≡ true → is_given (codes "clock") rows ≡ true
+    → is_given (codes "script") rows ≡ true → is_given (codes "designs") rows ≡ true → is_some (request_in (codes "simulate-rtl") rows) ≡ true
+unfolding request_in
+simulate_rtl_rows rows good t c s d =
+    let top = all_given rows good (codes "top") t in
+    let clock = all_given rows good (codes "clock") c in
+    let script = all_given rows good (codes "script") s in
+    let designs = all_given rows good (codes "designs") d in
+    asks _ _ _ _ _ _ _ _ top.3 clock.3 script.3 (ap (option_and_then designs_in) designs.2)
+  where
+    asks : (ot oc os : Option Text) (od : Option (List Text)) (t c s : Text) (ds : List Text) → ot ≡ Some t → oc ≡ Some c → os ≡ Some s → od ≡ Some ds
+        → is_some (simulate_rtl_of ot oc os od) ≡ true
+    asks ot oc os od t c s ds e f g h = rw (e, f, g, h) refl
 
 -- ---- what the arguments leave
 
@@ -259,6 +273,9 @@ check_built = built_leaf (inherited (record (new_shape (codes "wb")) { subcomman
 abbrev simulate_built : Shape
 simulate_built = built_leaf (inherited (record (new_shape (codes "wb")) { subcommand_required = true; disable_help_subcommand = true; is_leaf = false; is_built = true }) simulate_command)
 
+abbrev simulate_rtl_built : Shape
+simulate_rtl_built = built_leaf (inherited (record (new_shape (codes "wb")) { subcommand_required = true; disable_help_subcommand = true; is_leaf = false; is_built = true }) simulate_rtl_command)
+
 check_leaves : Every (Leaves IsGood false) check_built.rules
 check_leaves = (
   plain_leaves false _ refl refl refl refl,
@@ -273,6 +290,18 @@ check_leaves = (
 
 simulate_leaves : Every (Leaves IsGood false) simulate_built.rules
 simulate_leaves = (plain_leaves false _ refl refl refl refl, (plain_leaves false _ refl refl refl refl, (help_leaves false _ refl refl, tt)))
+
+simulate_rtl_leaves : Every (Leaves IsGood false) simulate_rtl_built.rules
+simulate_rtl_leaves = (
+  plain_leaves false _ refl refl refl refl,
+  (
+    plain_leaves false _ refl refl refl refl,
+    (
+      plain_leaves false _ refl refl refl refl,
+      (plain_leaves false _ refl refl refl refl, (help_leaves false _ refl refl, tt)),
+    ),
+  ),
+)
 
 check_asks : Asks check_built
 check_asks words e =
@@ -292,6 +321,16 @@ simulate_asks words e =
     let all = given simulate_built words e in
     let rest = second_part (is_given (codes "model") rows) _ all in
     simulate_rows rows good (first_part _ _ all) (first_part _ _ rest)
+
+simulate_rtl_asks : Asks simulate_rtl_built
+simulate_rtl_asks words e =
+    let rows = rows_after simulate_rtl_built.rules [] words in
+    let good = level_holds IsGood joins simulate_rtl_built [] words false simulate_rtl_leaves e in
+    let all = given simulate_rtl_built words e in
+    let rest = second_part (is_given (codes "top") rows) _ all in
+    let more = second_part (is_given (codes "clock") rows) _ rest in
+    let last = second_part (is_given (codes "script") rows) _ more in
+    simulate_rtl_rows rows good (first_part _ _ all) (first_part _ _ rest) (first_part _ _ more) (first_part _ _ last)
 
 app_asks : (a : App) (words : List Text) → Every Asks a.subs → a.top.subcommand_required ≡ true → built_takes a nothing_held words ≡ true
     → is_some (option_and_then (λ p. request_in p.0 p.1) (entered a (stop_after a.top.rules (names_of a) words))) ≡ true
@@ -320,4 +359,4 @@ app_asks a words asks wanted e =
 pub taken_asks : (words : List Text) → takes workbench_app words ≡ true → is_some (request_of words) ≡ true
 unfolding request_of workbench_app
 taken_asks words e =
-    rw e (app_asks (built workbench_app) (argument_words workbench_app words) (check_asks, (simulate_asks, tt)) refl (second_part (is_simple workbench_app) _ e))
+    rw e (app_asks (built workbench_app) (argument_words workbench_app words) (check_asks, (simulate_asks, (simulate_rtl_asks, tt))) refl (second_part (is_simple workbench_app) _ e))

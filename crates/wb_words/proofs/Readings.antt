@@ -16,7 +16,7 @@ use Rattle.clap.proofs.WalkLemmas.{one_text-rows, raw_values-rows}
 use Rattle.clap.specs.declared.builder.value_parser.ValueParser.TheVariants as vp
 use Rattle.clap.proofs.ValueTestLemmas.{accepts-Accepts}
 use Rattle.std.specs.Str.{bytes_eq}
-use Rattle.wb_words.specs.Requests.{budget_in, check_of, designs_in, request_in, simulate_of}
+use Rattle.wb_words.specs.Requests.{budget_in, check_of, designs_in, request_in, simulate_of, simulate_rtl_of}
 use Rattle.wb_words.specs.View.{IsAnswer, request_view}
 use Rattle.wb_words.specs.declared.requests.Request.{Request}
 use Rattle.wb_words.specs.declared.stop.WordsStop.{WordsStop}
@@ -85,9 +85,17 @@ module _ (name : Text) (rows : List Row) where
   unfolding request_in
   asks_simulate r first is h = rw (first, is) h
 
-  pub asks_nothing : bytes_eq name (codes "check") ≡ false → bytes_eq name (codes "simulate") ≡ false → request_in name rows ≡ None
+  pub asks_simulate_rtl : (r : Result Request WordsStop) → bytes_eq name (codes "check") ≡ false → bytes_eq name (codes "simulate") ≡ false
+      → bytes_eq name (codes "simulate-rtl") ≡ true
+      → IsAnswer request_view r (simulate_rtl_of (first_of (codes "top") rows) (first_of (codes "clock") rows) (first_of (codes "script") rows) (option_and_then designs_in (all_of (codes "designs") rows)))
+      → IsAnswer request_view r (request_in name rows)
   unfolding request_in
-  asks_nothing first second = rw (first, second) refl
+  asks_simulate_rtl r first second is h = rw (first, second, is) h
+
+  pub asks_nothing : bytes_eq name (codes "check") ≡ false → bytes_eq name (codes "simulate") ≡ false → bytes_eq name (codes "simulate-rtl") ≡ false
+      → request_in name rows ≡ None
+  unfolding request_in
+  asks_nothing first second third = rw (first, second, third) refl
 
 -- the designs that the getter gives
 module _ (f : Found) (id : Text) (o : Option (Bor (List (Bor Text)))) (got : option_map (λ s. map (λ v. v.now) s.now) o ≡ option_map raw_values (matched_of f id)) where

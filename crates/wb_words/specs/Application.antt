@@ -37,7 +37,14 @@ simulate_command = record (new_shape (codes "simulate")) {
   rules = required_option (codes "model") ∷ required_option (codes "script") ∷ [];
 }
 
--- the program, with one of its two commands
+-- `simulate-rtl --top T --clock C --script S RTL...`
+abbrev pub simulate_rtl_command : Shape
+simulate_rtl_command = record (new_shape (codes "simulate-rtl")) {
+  rules = required_option (codes "top") ∷ required_option (codes "clock") ∷ required_option (codes "script")
+      ∷ designs_argument ∷ [];
+}
+
+-- the program, with one of its commands
 unfoldable pub workbench_app : App
 workbench_app = record {
   top = record (new_shape (codes "wb")) {
@@ -45,5 +52,5 @@ workbench_app = record {
     subcommand_required = true;
     disable_help_subcommand = true;
   };
-  subs = check_command ∷ simulate_command ∷ [];
+  subs = check_command ∷ simulate_command ∷ simulate_rtl_command ∷ [];
 }

@@ -8,11 +8,13 @@ use Rattle.clap.specs.Simple.{subcommand_of}
 use Rattle.clap.specs.Takes.{takes}
 use Rattle.wb_words.specs.Application.{workbench_app}
 
--- a command with the names of its files in the order in which they are read: a check of a model, a
--- map and designs, with its budget, or a simulation of a model and a script
+-- a command with the names of its files: a check of a model, a map and designs, with its budget; a
+-- simulation of a model and a script; or a simulation of a design, its top and its clock by their
+-- names, with a script and the design's files
 pub data Request : Type 0 where
   check : Text → Text → ℕ → List Text → Request
   simulate : Text → Text → Request
+  simulate_rtl : (top clock script : Text) → List Text → Request
 
 -- the number that a text of decimal digits stands for, from 1 to 1,000,000,000
 abbrev pub budget_in : Text → Option ℕ
@@ -35,6 +37,12 @@ abbrev pub simulate_of : Option Text → Option Text → Option Request
 simulate_of (Some model) (Some script) = Some (simulate model script)
 simulate_of _ _ = None
 
+-- a simulation of a design, where each of its parts is there
+abbrev pub simulate_rtl_of : Option Text → Option Text → Option Text → Option (List Text) → Option Request
+simulate_rtl_of (Some top) (Some clock) (Some script) (Some designs) =
+    Some (simulate_rtl top clock script designs)
+simulate_rtl_of _ _ _ _ = None
+
 -- what a subcommand asks for, by its name and the values of its options
 unfoldable pub request_in : Text → List Row → Option Request
 request_in name rows = if bytes_eq name (codes "check")
@@ -43,7 +51,10 @@ request_in name rows = if bytes_eq name (codes "check")
     (option_and_then designs_in (all_of (codes "designs") rows))
     else (if bytes_eq name (codes "simulate")
     then simulate_of (first_of (codes "model") rows) (first_of (codes "script") rows)
-    else None)
+    else (if bytes_eq name (codes "simulate-rtl")
+    then simulate_rtl_of (first_of (codes "top") rows) (first_of (codes "clock") rows)
+    (first_of (codes "script") rows) (option_and_then designs_in (all_of (codes "designs") rows))
+    else None))
 
 -- what the words ask for: where clap takes them, what their subcommand asks for
 unfoldable pub request_of : List Text → Option Request

@@ -13,6 +13,8 @@ abbrev pub request_view : Request → pure.Request
 request_view (kind.Check c) =
     pure.check c.model.now c.map.now c.budget (map (λ s. s.now) c.designs.items)
 request_view (kind.Simulate s) = pure.simulate s.model.now s.script.now
+request_view (kind.SimulateRtl s) =
+    pure.simulate_rtl s.top.now s.clock.now s.script.now (map (λ d. d.now) s.designs.items)
 
 -- the result is what is asked for, or refuses where nothing is, unless memory ran out
 abbrev pub IsAnswer : {T A : Type 0} → (T → A) → Result T WordsStop → Option A → Type 0

@@ -3,7 +3,7 @@
 ghost use Rattle.std.specs.Prelude.{◌≡◌, false, IfOk};
 ghost use Rattle.clap.specs.Words.{app_of, rule_of};
 ghost use Rattle.clap.specs.declared.builder.command.Command.TheViews.{out-Command};
-ghost use Rattle.wb_words.specs.Application.{budget_option, check_command, designs_argument, simulate_command, required_option, workbench_app};
+ghost use Rattle.wb_words.specs.Application.{budget_option, check_command, designs_argument, simulate_command, simulate_rtl_command, required_option, workbench_app};
 
 use clap::{Arg, Command, value_parser};
 use std::alloc::{AllocError, Global};
@@ -14,11 +14,13 @@ pub(crate) fn workbench<'a>(alloc: Global) -> Result<Command<'a>, AllocError>
 {
     let check = check_command(alloc)?;
     let simulate = simulate_command(alloc)?;
+    let simulate_rtl = simulate_rtl_command(alloc)?;
     Command::new(alloc, "wb")
         .subcommand_required(true)
         .disable_help_subcommand(true)
         .subcommand(check)?
-        .subcommand(simulate)
+        .subcommand(simulate)?
+        .subcommand(simulate_rtl)
 }
 
 fn check_command<'a>(alloc: Global) -> Result<Command<'a>, AllocError>
@@ -39,6 +41,17 @@ fn simulate_command<'a>(alloc: Global) -> Result<Command<'a>, AllocError>
     Command::new(alloc, "simulate")
         .arg(required_option(alloc, "model"))?
         .arg(required_option(alloc, "script"))
+}
+
+fn simulate_rtl_command<'a>(alloc: Global) -> Result<Command<'a>, AllocError>
+    ensures app { IfOk result (λ c. (app_of c).top ≡ simulate_rtl_command) }
+    ensures local { IfOk result (λ c. (out-Command c).has_globals ≡ false) }
+{
+    Command::new(alloc, "simulate-rtl")
+        .arg(required_option(alloc, "top"))?
+        .arg(required_option(alloc, "clock"))?
+        .arg(required_option(alloc, "script"))?
+        .arg(designs_argument(alloc))
 }
 
 fn required_option<'a>(alloc: Global, name: &'a str) -> Arg<'a>

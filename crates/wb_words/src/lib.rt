@@ -7,6 +7,6 @@ mod requests;
 mod stop;
 mod words;
 
-pub use requests::{Check, Request, Simulate};
+pub use requests::{Check, Request, Simulate, SimulateRtl};
 pub use stop::WordsStop;
 pub use words::request;

@@ -2,10 +2,10 @@
 
 ghost use Rattle.std.specs.Prelude.{◌≡◌, ◌≤◌, IfOk, IfSome, codes, length, map, option_and_then};
 ghost use Rattle.clap.specs.Words.{all_of, first_of, found_of, one_of, rows_of, subcommand_rows_of};
-ghost use Rattle.wb_words.specs.Requests.{budget_in, check_of, designs_in, request_in, simulate_of};
+ghost use Rattle.wb_words.specs.Requests.{budget_in, check_of, designs_in, request_in, simulate_of, simulate_rtl_of};
 ghost use Rattle.wb_words.specs.View.{IsAnswer, request_view};
 
-use crate::requests::{Check, Request, Simulate};
+use crate::requests::{Check, Request, Simulate, SimulateRtl};
 use crate::stop::WordsStop;
 use clap::ArgMatches;
 use std::alloc::Global;
@@ -28,6 +28,9 @@ fn named<'a>(alloc: Global, name: &str, matches: &ArgMatches<'a>) -> Result<Requ
     }
     if name == "simulate" {
         return simulate(matches);
+    }
+    if name == "simulate-rtl" {
+        return simulate_rtl(alloc, matches);
     }
     Err(WordsStop::Usage)
 }
@@ -61,6 +64,26 @@ fn simulate<'a>(matches: &ArgMatches<'a>) -> Result<Request<'a>, WordsStop>
     let model = value(matches, "model")?;
     let script = value(matches, "script")?;
     Ok(Request::Simulate(Simulate { model, script }))
+}
+
+/// A simulation of the design that was named.
+fn simulate_rtl<'a>(alloc: Global, matches: &ArgMatches<'a>) -> Result<Request<'a>, WordsStop>
+    ensures { IsAnswer request_view result (simulate_rtl_of
+        (first_of (codes "top") (rows_of (found_of matches.now)))
+        (first_of (codes "clock") (rows_of (found_of matches.now)))
+        (first_of (codes "script") (rows_of (found_of matches.now)))
+        (option_and_then designs_in (all_of (codes "designs") (rows_of (found_of matches.now))))) }
+{
+    let top = value(matches, "top")?;
+    let clock = value(matches, "clock")?;
+    let script = value(matches, "script")?;
+    let designs = designs(alloc, matches)?;
+    Ok(Request::SimulateRtl(SimulateRtl {
+        top,
+        clock,
+        script,
+        designs,
+    }))
 }
 
 /// The value of an option.

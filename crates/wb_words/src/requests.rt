@@ -30,6 +30,21 @@ pub struct Simulate<'a> {
     pub script: &'a str,
 }
 
+/// What does the design do under the script?
+#[derive(Drop)]
+pub struct SimulateRtl<'a> {
+    /// The name of the top module.
+    pub top: &'a str,
+    /// The name of the top's input that is the clock.
+    pub clock: &'a str,
+    /// The name of the script.
+    pub script: &'a str,
+    /// The names of the Verilog files.
+    pub designs: Vec<&'a str>,
+    /// There is a design.
+    pub ghost some_design: { 1 ≤ length designs.items },
+}
+
 /// A command, with the names of the files that it reads.
 #[derive(Drop)]
 pub enum Request<'a> {
@@ -37,4 +52,6 @@ pub enum Request<'a> {
     Check(Check<'a>),
     /// `simulate`
     Simulate(Simulate<'a>),
+    /// `simulate-rtl`
+    SimulateRtl(SimulateRtl<'a>),
 }

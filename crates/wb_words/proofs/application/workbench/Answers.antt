@@ -1,7 +1,7 @@
 use Rattle.std.proofs.Common.{◌≡◌, ◌∙◌, ap, ap₂, codes, true}
 use Rattle.std.proofs.lemmas.Result.{IfOk-weaker}
 use Rattle.clap.specs.Simple.{App, Shape, app_of, app_of_fields, new_app, on_top, with_subcommand}
-use Rattle.wb_words.specs.Application.{check_command, workbench_app}
+use Rattle.wb_words.specs.Application.{check_command, simulate_command, workbench_app}
 use Rattle.wb_words.proofs.application.workbench.Goals as goal
 
 abbrev wanting : App → App
@@ -18,4 +18,6 @@ returns c =
     let start : app_of c.disable_help_subcommand.result ≡ without_help (wanting (new_app (codes "wb"))) = second ∙ ap without_help (first ∙ ap wanting c.new.ensures.app) in
     let one : app_of c.in_ok-subcommand.field-0 ≡ with_subcommand (without_help (wanting (new_app (codes "wb")))) check_command =
     c.in_ok-subcommand.ensures.shape c.in_ok-check.ensures.local ∙ ap₂ with_subcommand start c.in_ok-check.ensures.app in
-    IfOk-weaker c.subcommand-2.result _ _ (λ r h. h.shape c.in_ok-simulate.ensures.local ∙ ap₂ with_subcommand one c.in_ok-simulate.ensures.app) c.subcommand-2.ensures
+    let two : app_of c.in_ok-subcommand-2.field-0 ≡ with_subcommand (with_subcommand (without_help (wanting (new_app (codes "wb")))) check_command) simulate_command =
+    c.in_ok-subcommand-2.ensures.shape c.in_ok-simulate.ensures.local ∙ ap₂ with_subcommand one c.in_ok-simulate.ensures.app in
+    IfOk-weaker c.subcommand-3.result _ _ (λ r h. h.shape c.in_ok-simulate_rtl.ensures.local ∙ ap₂ with_subcommand two c.in_ok-simulate_rtl.ensures.app) c.subcommand-3.ensures

@@ -1,6 +1,6 @@
 use Rattle.std.proofs.Common.{◌∙◌, sym}
 use Rattle.clap.specs.Words.{found_of, rows_of}
-use Rattle.wb_words.proofs.Readings.{asks_check, asks_nothing, asks_simulate}
+use Rattle.wb_words.proofs.Readings.{asks_check, asks_nothing, asks_simulate, asks_simulate_rtl}
 use Rattle.wb_words.proofs.matches.named.Goals as goal
 
 pub returns-then-eq : goal.returns-then-eq
@@ -9,5 +9,11 @@ returns-then-eq c = asks_check c.args.name.now (rows_of (found_of c.args.matches
 pub returns-then-eq-2 : goal.returns-then-eq-2
 returns-then-eq-2 c = asks_simulate c.args.name.now (rows_of (found_of c.args.matches.now)) c.simulate.result (sym c.eq.ensures ∙ c.if-eq.false) (sym c.eq-2.ensures ∙ c.if-eq-2.true) c.simulate.ensures
 
+pub returns-then-eq-3 : goal.returns-then-eq-3
+returns-then-eq-3 c =
+    asks_simulate_rtl c.args.name.now (rows_of (found_of c.args.matches.now)) c.simulate_rtl.result (sym c.eq.ensures ∙ c.if-eq.false) (sym c.eq-2.ensures ∙ c.if-eq-2.false)
+    (sym c.eq-3.ensures ∙ c.if-eq-3.true) c.simulate_rtl.ensures
+
 pub returns : goal.returns
-returns c = asks_nothing c.args.name.now (rows_of (found_of c.args.matches.now)) (sym c.eq.ensures ∙ c.if-eq.false) (sym c.eq-2.ensures ∙ c.if-eq-2.false)
+returns c =
+    asks_nothing c.args.name.now (rows_of (found_of c.args.matches.now)) (sym c.eq.ensures ∙ c.if-eq.false) (sym c.eq-2.ensures ∙ c.if-eq-2.false) (sym c.eq-3.ensures ∙ c.if-eq-3.false)

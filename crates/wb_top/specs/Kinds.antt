@@ -1,0 +1,28 @@
+-- The names of the kinds by which designs are refused.
+use Rattle.std.specs.Prelude.{ℕ, List, Option, Some, None, codes}
+use Rattle.verilog_designs.specs.Accepted.{DesignKind, no_top, undeclared, duplicate_name, bad_hierarchy, has_xz, bad_port, bad_constant, width_over_128, bad_select, memory_use, clock_as_data, bad_event_list, blocking_in_clocked, nonblocking_in_comb, latch, bad_driver, undriven, comb_loop}
+
+abbrev pub kind_name : DesignKind → List ℕ
+kind_name no_top = codes "V7 NoTop"
+kind_name undeclared = codes "V8 Undeclared"
+kind_name duplicate_name = codes "V9 DuplicateName"
+kind_name bad_hierarchy = codes "V10 BadHierarchy"
+kind_name has_xz = codes "V11 HasXZ"
+kind_name bad_port = codes "V12 BadPort"
+kind_name bad_constant = codes "V13 BadConstant"
+kind_name width_over_128 = codes "V14 WidthOver128"
+kind_name bad_select = codes "V15 BadSelect"
+kind_name memory_use = codes "V16 MemoryUse"
+kind_name clock_as_data = codes "V17 ClockAsData"
+kind_name bad_event_list = codes "V18 BadEventList"
+kind_name blocking_in_clocked = codes "V19 BlockingInClocked"
+kind_name nonblocking_in_comb = codes "V20 NonblockingInComb"
+kind_name latch = codes "V21 Latch"
+kind_name bad_driver = codes "V22 BadDriver"
+kind_name undriven = codes "V23 Undriven"
+kind_name comb_loop = codes "V24 CombLoop"
+
+-- the kind's name; without a kind the design has parts that are not read yet
+abbrev pub name_of_refusal : Option DesignKind → List ℕ
+name_of_refusal (Some kind) = kind_name kind
+name_of_refusal None = codes "N1 NotYet"
