@@ -78,7 +78,7 @@ fn answer_in(alloc: Global, scope: &Scope<'_>, items: &[Item<'_>]) -> Result<Str
     if !are_objects_narrow(scope) {
         return String::from_str(alloc, "wide");
     }
-    if !are_no_memories(&scope.declarations) {
+    if !are_no_memories(scope.declarations()) {
         return String::from_str(alloc, "memory");
     }
     let names = Names { scope };

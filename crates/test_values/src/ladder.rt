@@ -67,9 +67,7 @@ fn told(alloc: Global, values: &Values<'_>, waiting: usize) -> Result<String, Al
 fn run_told(statement: &Statement<'_>, alloc: Global) -> Result<String, AllocError>
     requires { IsSmallStatement statement.now }
 {
-    let scope = Scope {
-        declarations: Vec::new(alloc),
-    };
+    let scope = Scope::new(alloc);
     let mut values = Values {
         entries: Vec::new(alloc),
     };

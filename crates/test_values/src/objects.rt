@@ -14,9 +14,7 @@ pub struct Names<'s> {
 /// No names.
 pub fn no_names<'s>(alloc: Global) -> Names<'s> {
     Names {
-        scope: Scope {
-            declarations: Vec::new(alloc),
-        },
+        scope: Scope::new(alloc),
         values: Values {
             entries: Vec::new(alloc),
         },
@@ -80,14 +78,19 @@ fn value_of(alloc: Global, text: &str) -> Result<Option<Value>, AllocError> {
 
 impl<'s> Names<'s> {
     /// Declares a name: `NAME OBJECT`. False where the text is no declaration.
-    pub fn declare(&mut self, text: &'s str) -> Result<bool, AllocError> {
+    pub fn declare(&mut self, alloc: Global, text: &'s str) -> Result<bool, AllocError> {
         let Some((name, rest)) = text.split_once(" ") else {
             return Ok(false);
         };
         let Some(object) = object_of(rest) else {
             return Ok(false);
         };
-        self.scope.declarations.push(Declaration { name, object })?;
+        let mut declarations = Vec::new(alloc);
+        for each in self.scope.declarations() {
+            declarations.push(*each)?;
+        }
+        declarations.push(Declaration { name, object })?;
+        self.scope = Scope::of(alloc, declarations)?;
         Ok(true)
     }
 

@@ -97,7 +97,8 @@ fn declared(alloc: Global, left: u32, right: u32) -> Result<Scope<'static>, Allo
     };
     let mut declarations = Vec::new(alloc);
     declarations.push(Declaration { name: "q", object })?;
-    Ok(Scope { declarations })
+    let scope = Scope::of(alloc, declarations)?;
+    Ok(scope)
 }
 
 /// The number under the last name.

@@ -58,7 +58,7 @@ impl<'s> Table<'s> {
     fn is_taken(&mut self, alloc: Global, line: &'s str) -> Result<bool, AllocError> {
         let (kind, text) = halves(line, " ");
         match kind {
-            "object" => self.names.declare(text),
+            "object" => self.names.declare(alloc, text),
             "values" => self.names.set(alloc, text),
             "clear" => {
                 self.names = no_names(alloc);

@@ -32,15 +32,14 @@ fn shaped_scope<'s>(
 ) -> Result<Scope<'s>, AllocError>
     ensures { IfOk result (λ s. objects_of s.declarations.items ≡ objects_by (λ n. shape nets (scope_in names.now n)) (rows_of declared.now)) }
 {
-    let mut scope = Scope {
-        declarations: Vec::new(alloc),
-    };
+    let mut list = Vec::new(alloc);
     for each in declared {
-        scope.declarations.push(Declaration {
+        list.push(Declaration {
             name: each.name,
             object: shape(nets, names.object(each.name)),
         })?;
     }
+    let scope = Scope::of(alloc, list)?;
     Ok(scope)
 }
 

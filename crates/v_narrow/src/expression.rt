@@ -170,7 +170,7 @@ pub fn is_narrow(scope: &Scope<'_>, expression: &Expression<'_>) -> bool
 {
     let checked = Checked {
         scope,
-        objects: are_declared_narrow(scope, &scope.declarations),
+        objects: are_declared_narrow(scope, scope.declarations()),
     };
     narrow(checked, expression)
 }

@@ -114,7 +114,7 @@ pub fn are_objects_narrow(scope: &Scope<'_>) -> bool
     ensures objects { IsTrue result → HasNarrowObjects (scope_at scope.now) }
     ensures exact { HasNarrowObjects (scope_at scope.now) → IsTrue result }
 {
-    are_declared_narrow(scope, &scope.declarations)
+    are_declared_narrow(scope, scope.declarations())
 }
 
 /// Whether the values fit their objects: a number, and each word of a memory, has no more bits than the object.

@@ -18,7 +18,5 @@ pub struct Constants<'s, 't> {
 pub(crate) fn no_constants<'t>(alloc: Global) -> Scope<'t>
     ensures { result.declarations.items ≡ [] }
 {
-    Scope {
-        declarations: Vec::new(alloc),
-    }
+    Scope::new(alloc)
 }

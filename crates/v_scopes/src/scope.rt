@@ -187,12 +187,13 @@ fn list_of<'s>(
 ) -> Result<Scope<'s>, AllocError>
     ensures { IfOk result (λ s. objects_of s.declarations.items ≡ objects_by (scope_in names.now) (rows_of declared.now)) }
 {
-    let mut scope = no_constants(alloc);
+    let mut list = Vec::new(alloc);
     for each in declared {
-        scope.declarations.push(Declaration {
+        list.push(Declaration {
             name: each.name,
             object: names.object(each.name),
         })?;
     }
+    let scope = Scope::of(alloc, list)?;
     Ok(scope)
 }

@@ -40,7 +40,7 @@ pub(crate) fn copied<'s>(
     ensures all { IfOk result (λ t. (n : Name) → (scope_at scope.now n).is_declared ≡ true → is_some (images_at table.now n) ≡ true → is_some (images_at t n) ≡ true) }
 {
     let mut copy = NamedTerms::new(alloc);
-    for declaration in &scope.declarations {
+    for declaration in scope.declarations() {
         copy_name(declaration.name, table, &mut copy)?;
     }
     Ok(copy)

@@ -9,3 +9,4 @@ pub mod Steps
 pub mod Bits
 pub mod Selected
 pub mod Taking
+pub mod Objects

@@ -1,3 +1,4 @@
+pub mod Objects
 pub mod Scope
 pub mod Links
 pub mod Operators

@@ -3,29 +3,12 @@ use Rattle.std.specs.Prelude.{List, [], ◌∷◌}
 use Rattle.wb_values.specs.Value.{Name, number, words, Valuation, Entries, valuation_of}
 use Rattle.wb_values.specs.Value as pure
 use Rattle.verilog_meaning.specs.Expression as meaning
-use Rattle.v_value.specs.declared.scope.Object.{Object}
-use Rattle.v_value.specs.declared.scope.Declaration.{Declaration}
+pub use Rattle.v_value.specs.Objects.{object_of, objects_of, object_at}
 use Rattle.v_value.specs.declared.scope.Scope.{Scope}
 use Rattle.v_value.specs.declared.scope.Value.{Value}
 use Rattle.v_value.specs.declared.scope.Value.TheVariants.{Number, Words}
 use Rattle.v_value.specs.declared.scope.Entry.{Entry}
 use Rattle.v_value.specs.declared.scope.Values.{Values}
-
-abbrev pub object_of : Object → meaning.Object
-object_of o =
-    record {
-      is_declared = o.is_declared;
-      signed = o.signed;
-      has_range = o.has_range;
-      left = o.left;
-      right = o.right;
-      addresses = o.addresses;
-      constant = o.constant;
-    }
-
-abbrev pub objects_of : List Declaration → Entries meaning.Object
-objects_of [] = []
-objects_of (d ∷ ds) = (d.name.now, object_of d.object) ∷ objects_of ds
 
 abbrev pub scope_at : Scope → meaning.Scope
 scope_at s = meaning.scope_of (objects_of s.declarations.items)

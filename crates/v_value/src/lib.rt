@@ -3,6 +3,7 @@
 
 mod arithmetic;
 pub mod expression;
+mod lookup;
 pub mod scope;
 pub mod select;
 pub mod sign;

@@ -1,7 +1,10 @@
-//! What names stand for: objects by name, and values by name, each found by a linear look-up.
-ghost use Rattle.std.specs.Prelude.{◌≡◌, slice_index};
-ghost use Rattle.wb_values.specs.Value.{as_number, as_words};
-ghost use Rattle.v_value.specs.Scope.{object_of, scope_at, valuation_at};
+//! What names stand for: objects by name, and values by name.
+ghost use Rattle.std.specs.Prelude.{◌≡◌, ℕ, List};
+ghost use Rattle.wb_values.specs.Value.{entry_of};
+ghost use Rattle.v_value.specs.Objects.{objects_of, object_at};
+
+use std::collections::BTreeMap;
+
 
 /// What a name of a module stands for: whether it is declared, its sign, whether it has a range, its bits `[left:right]`, for a memory
 /// its addresses `[first:last]`, and for a parameter its number. A parameter always has a range, perhaps that of its value.
@@ -23,10 +26,13 @@ pub struct Declaration<'s> {
     pub object: Object,
 }
 
-/// The objects of a module's names. A name that is not declared is read as one unsigned bit.
+/// The objects of a module's names. A name that is not declared is read as one unsigned bit, and of two declarations of one name the first
+/// counts.
 #[derive(Drop)]
 pub struct Scope<'s> {
-    pub declarations: Vec<Declaration<'s>>,
+    pub(crate) declarations: Vec<Declaration<'s>>,
+    pub(crate) table: BTreeMap<&'s str, Object>,
+    pub(crate) ghost holds: { (q : List ℕ) → object_at table q ≡ entry_of (objects_of declarations.items) q },
 }
 
 /// A value: a number, or the words of a memory by ascending address.
@@ -47,67 +53,4 @@ pub struct Entry<'s> {
 #[derive(Drop)]
 pub struct Values<'s> {
     pub entries: Vec<Entry<'s>>,
-}
-
-impl Scope<'_> {
-    /// What the name stands for.
-    pub fn object(&self, name: &str) -> Object
-        ensures { object_of result ≡ scope_at self.now name.now }
-    {
-        for declaration in &self.declarations {
-            if declaration.name == name {
-                return declaration.object;
-            }
-        }
-        Object {
-            is_declared: false,
-            signed: false,
-            has_range: false,
-            left: 0,
-            right: 0,
-            addresses: None,
-            constant: None,
-        }
-    }
-}
-
-/// The number under a name, 0 where there is none.
-pub(crate) fn number_at(entries: &[Entry<'_>], name: &str) -> u128
-    ensures { result ≡ as_number (valuation_at entries.now name.now) }
-{
-    for entry in entries {
-        if entry.name == name {
-            return match &entry.value {
-                Value::Number(number) => *number,
-                Value::Words(_) => 0,
-            };
-        }
-    }
-    0
-}
-
-/// The word with this number of the memory under a name, 0 where there is none.
-pub(crate) fn word_at(entries: &[Entry<'_>], name: &str, number: u128) -> u128
-    ensures { result ≡ slice_index (as_words (valuation_at entries.now name.now)) number }
-{
-    for entry in entries {
-        if entry.name == name {
-            return match &entry.value {
-                Value::Number(_) => 0,
-                Value::Words(words) => word_of(words, number),
-            };
-        }
-    }
-    0
-}
-
-/// The word with this number, 0 past the end.
-fn word_of(words: &[u128], number: u128) -> u128
-    ensures { result ≡ slice_index words.now number }
-{
-    if number < words.len() as u128 {
-        words[number as usize]
-    } else {
-        0
-    }
 }

@@ -10,7 +10,8 @@ ghost use Rattle.v_value.specs.Links.{has_reduction, leaves_to_left, AreLinksNar
 ghost use Rattle.v_value.specs.Evaluation.{named_width, named_value, selects_width_at, selected_at, count_at, width_at, value_at, self_at, links_value, AreLinksWithin, applied, run_width, run_value, prefixes_value, is_logical, context_width, context_sign, said, compared_said, tests_value, sign_at, choices_value, AreChoicesWithin, parts_value, parts_width};
 
 use crate::arithmetic::natural;
-use crate::scope::{Entry, Scope, number_at, word_at};
+use crate::lookup::{number_at, word_at};
+use crate::scope::{Entry, Scope};
 use crate::select::{Integer, bits_of, word_number};
 use crate::sign::{is_reduction, leaves_to_left, reduces, sign_of};
 use crate::taken::{index_of, taken_by};

@@ -6,9 +6,9 @@ use Rattle.v_modules.proofs.module.shaped_scope.Goals as goal
 
 pub loop-each-preserved : goal.loop-each-preserved
 loop-each-preserved c =
-    object_turn (λ n. shape c.args.nets (scope_in c.args.names.now n)) c.args.declared.now c.loop-each.each-index _ c.loop-each.scope.declarations.items c.push.new.self.items _ _ (omega arith)
+    object_turn (λ n. shape c.args.nets (scope_in c.args.names.now n)) c.args.declared.now c.loop-each.each-index _ c.loop-each.list.items c.push.new.self.items _ _ (omega arith)
     c.in_ok-push.ensures.items refl (c.shape.ensures ∙ ap (shape c.args.nets) c.object.ensures) c.loop-each.invariant
 
 pub returns : goal.returns
 returns c =
-    list_end (λ n. shape c.args.nets (scope_in c.args.names.now n)) c.args.declared.now c.loop-each.each-index c.loop-each.scope.declarations.items _ (omega (arith, c.loop-each-test.false)) c.loop-each.invariant
+    list_end (λ n. shape c.args.nets (scope_in c.args.names.now n)) c.args.declared.now c.loop-each.each-index c.loop-each.list.items _ (omega (arith, c.loop-each-test.false)) c.loop-each.invariant

@@ -7,4 +7,4 @@ use Rattle.v_modules.proofs.module.shaped_scope.Given as goal
 
 abbrev pub invariant-loop-each : goal.invariant-loop-each
 invariant-loop-each l =
-    objects_of l.scope.declarations.items ++ objects_by (λ n. shape l.nets (scope_in l.names n)) (rows_of (drop l.each-index l.declared)) ≡ objects_by (λ n. shape l.nets (scope_in l.names n)) (rows_of l.declared)
+    objects_of l.list.items ++ objects_by (λ n. shape l.nets (scope_in l.names n)) (rows_of (drop l.each-index l.declared)) ≡ objects_by (λ n. shape l.nets (scope_in l.names n)) (rows_of l.declared)

@@ -5,9 +5,9 @@ use Rattle.v_scopes.proofs.scope.list_of.Goals as goal
 
 pub loop-each-preserved : goal.loop-each-preserved
 loop-each-preserved c =
-    object_turn (scope_in c.args.names.now) c.args.declared.now c.loop-each.each-index _ c.loop-each.scope.declarations.items c.push.new.self.items _ _ (omega arith)
+    object_turn (scope_in c.args.names.now) c.args.declared.now c.loop-each.each-index _ c.loop-each.list.items c.push.new.self.items _ _ (omega arith)
     c.in_ok-push.ensures.items refl c.object.ensures c.loop-each.invariant
 
 pub returns : goal.returns
 returns c =
-    list_end (scope_in c.args.names.now) c.args.declared.now c.loop-each.each-index c.loop-each.scope.declarations.items _ (omega (arith, c.loop-each-test.false)) c.loop-each.invariant
+    list_end (scope_in c.args.names.now) c.args.declared.now c.loop-each.each-index c.loop-each.list.items _ (omega (arith, c.loop-each-test.false)) c.loop-each.invariant

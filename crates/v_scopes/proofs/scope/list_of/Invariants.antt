@@ -6,4 +6,4 @@ use Rattle.v_scopes.proofs.scope.list_of.Given as goal
 
 abbrev pub invariant-loop-each : goal.invariant-loop-each
 invariant-loop-each l =
-    objects_of l.scope.declarations.items ++ objects_by (scope_in l.names) (rows_of (drop l.each-index l.declared)) ≡ objects_by (scope_in l.names) (rows_of l.declared)
+    objects_of l.list.items ++ objects_by (scope_in l.names) (rows_of (drop l.each-index l.declared)) ≡ objects_by (scope_in l.names) (rows_of l.declared)

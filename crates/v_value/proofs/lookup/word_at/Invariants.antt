@@ -1,7 +1,7 @@
 use Rattle.std.proofs.Common.{◌≡◌, drop}
 use Rattle.wb_values.specs.Value.{entry_of}
 use Rattle.v_value.specs.Scope.{values_of}
-use Rattle.v_value.proofs.scope.number_at.Given as goal
+use Rattle.v_value.proofs.lookup.word_at.Given as goal
 
 abbrev pub invariant-loop-entry : goal.invariant-loop-entry
 invariant-loop-entry l =
