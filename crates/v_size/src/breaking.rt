@@ -1,7 +1,7 @@
 //! The rules that expressions, constants and assigned names break, for the rules on what they stand in.
 ghost use Rattle.std.specs.Prelude.{◌≡◌, ◌&&◌, nat_le};
 ghost use Rattle.wb_values.specs.Choice.{some_if};
-ghost use Rattle.verilog_meaning.specs.Expression.{object_width, selects_width};
+ghost use Rattle.verilog_meaning.specs.Expression.{object_width, selects_width, width_of};
 ghost use Rattle.verilog_rules.specs.Expression as rules;
 ghost use Rattle.v_value.specs.Scope.{object_of, scope_at};
 ghost use Rattle.v_syntax.specs.Tree.{tree_of, selects_of};
@@ -19,6 +19,19 @@ pub fn broken_in(names: Names<'_, '_>, expression: &Expression<'_>) -> Broken
 {
     let judged = judge(names, Position::Anywhere, expression);
     judged.broken
+}
+
+/// The rules that an expression breaks in this place, and its width, where that has a value.
+pub fn judged_in(
+    names: Names<'_, '_>,
+    place: Position,
+    expression: &Expression<'_>,
+) -> (Broken, Option<u32>)
+    ensures broken { result.0 ≡ coded (rules.broken (scope_at names.entry.scope.now) (position_of place) (tree_of expression.now)) }
+    ensures width { result.1 ≡ some_if (rules.has_width (scope_at names.entry.scope.now) (tree_of expression.now)) (width_of (scope_at names.entry.scope.now) (tree_of expression.now)) }
+{
+    let judged = judge(names, place, expression);
+    (judged.broken, judged.width)
 }
 
 /// A constant: the rules that it breaks in the context of its own width and sign, and its number, where it breaks none.

@@ -9,7 +9,7 @@ mod select;
 mod sizing;
 mod total;
 
-pub use breaking::{broken_in, constant_in, place_in};
+pub use breaking::{broken_in, constant_in, judged_in, place_in};
 pub use constant::constant_number;
 pub use judged::{ConstantNumber, Names};
 pub use rule::{Broken, Kind, Position, also, constant_if, is_unbroken, nothing, width_if};
