@@ -23,13 +23,14 @@ after o d q = first_of o (cond (same_name d.name.now q) (Some (object_of d.objec
 pub stays : (t : BTreeMap (Bor (List ℕ)) Object) (d : Declaration) (x : meaning.Object) (q : Name) → object_at t d.name.now ≡ Some x → object_at t q ≡ after (object_at t q) d q
 stays t d x q e =
     (elim (same_name d.name.now q) as (λ b. same_name d.name.now q ≡ b
-        → object_at t q ≡ first_of (object_at t q) (cond b (Some (object_of d.object)) None)) [
+    → object_at t q ≡ first_of (object_at t q) (cond b (Some (object_of d.object)) None)) [
       | true ↦ λ h. found (ap (object_at t) (sym ((bytes_eq-Decides d.name.now q).0 h)) ∙ e)
       | false ↦ λ h. no_more (object_at t q)
     ]) refl
   where
     found : object_at t q ≡ Some x → object_at t q ≡ first_of (object_at t q) (Some (object_of d.object))
     found f = f ∙ sym (ap (λ o. first_of o (Some (object_of d.object))) f)
+
     no_more : (o : Option meaning.Object) → o ≡ first_of o None
     no_more None = refl
     no_more (Some y) = refl
@@ -45,13 +46,14 @@ stands old new d e u q =
     ap (option_map object_of) (btree_map_updates_str d.name.now old new (Some d.object) u q)
     ∙ (mapped_cond (same_name d.name.now q) d.object (get_by (λ k. slice_cmp nat_cmp q k.now) old)
     ∙ (elim (same_name d.name.now q) as (λ b. same_name d.name.now q ≡ b
-        → cond b (Some (object_of d.object)) (object_at old q) ≡ first_of (object_at old q) (cond b (Some (object_of d.object)) None)) [
+    → cond b (Some (object_of d.object)) (object_at old q) ≡ first_of (object_at old q) (cond b (Some (object_of d.object)) None)) [
       | true ↦ λ h. absent (ap (object_at old) (sym ((bytes_eq-Decides d.name.now q).0 h)) ∙ e)
       | false ↦ λ h. no_more (object_at old q)
     ]) refl)
   where
     absent : object_at old q ≡ None → Some (object_of d.object) ≡ first_of (object_at old q) (Some (object_of d.object))
     absent f = sym (ap (λ o. first_of o (Some (object_of d.object))) f)
+
     no_more : (o : Option meaning.Object) → o ≡ first_of o None
     no_more None = refl
     no_more (Some y) = refl

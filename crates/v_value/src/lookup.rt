@@ -52,10 +52,7 @@ impl<'s> Scope<'s> {
     }
 
     /// The scope of these declarations.
-    pub fn of(
-        alloc: Global,
-        declarations: Vec<Declaration<'s>>,
-    ) -> Result<Scope<'s>, AllocError>
+    pub fn of(alloc: Global, declarations: Vec<Declaration<'s>>) -> Result<Scope<'s>, AllocError>
         ensures { IfOk result (λ s. s.declarations.items ≡ declarations.entry.items) }
     {
         let table = table_of(alloc, &declarations)?;

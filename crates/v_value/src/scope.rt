@@ -5,7 +5,6 @@ ghost use Rattle.v_value.specs.Objects.{objects_of, object_at};
 
 use std::collections::BTreeMap;
 
-
 /// What a name of a module stands for: whether it is declared, its sign, whether it has a range, its bits `[left:right]`, for a memory
 /// its addresses `[first:last]`, and for a parameter its number. A parameter always has a range, perhaps that of its value.
 #[derive(Clone, Copy, PartialEq, Eq, Debug)]

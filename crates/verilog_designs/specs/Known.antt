@@ -1,12 +1,13 @@
 -- Which constants of a module have values: the bounds of a range, a parameter, and with them the range of a name. A constant has
--- none where a rule on expressions is broken in it, where it is a bound outside 0 to 65,535, or where it rests on one that has none.
-use Rattle.std.specs.Prelude.{ℕ, ◌+◌, Bool, true, false, cond, ◌&&◌, nat_le, List, [], ◌∷◌, ◌++◌, Option, Some, None, is_some, option_map, option_and_then, unwrap_or, ℤ, pos, negsuc}
+-- none where a rule on expressions is broken in it, where it is a bound outside 0 to 65,535, where it is a parameter of more than 128
+-- bits, or where it rests on one that has none.
+use Rattle.std.specs.Prelude.{ℕ, ◌+◌, Bool, true, false, cond, ◌&&◌, nat_le, List, [], ◌∷◌, ◌++◌, Option, Some, None, option_map, option_and_then, unwrap_or, ℤ, pos, negsuc}
 use Rattle.wb_values.specs.Value.{Name, Entries, entry_of}
 use Rattle.wb_values.specs.Choice.{first_of, some_if}
 use Rattle.verilog_trees.specs.Syntax.{Expression, Range, ParameterDeclaration, Connections, Module, Source}
 use Rattle.verilog_meaning.specs.Expression.{Object, Scope, undeclared, object_or_undeclared, scope_of, distance, width_of, sign_of}
 use Rattle.verilog_meaning.specs.Hierarchy.{parameter_object, overridden_object, all_parameters, Declaration, declarations, declaration_of, PathStep, Placed, module_named, Instance, instance_reached, connected, overridable}
-use Rattle.verilog_rules.specs.Expression.{is_unbroken, Position, constant, broken, has_width, wider, as_constant, constant_number}
+use Rattle.verilog_rules.specs.Expression.{is_unbroken, Position, constant, broken, has_width, wider, as_constant, constant_number, is_at_most_128}
 
 -- the value of a bound of a range: from 0 to 65,535
 abbrev pub as_bound : Option ℤ → Option ℕ
@@ -41,9 +42,10 @@ abbrev pub value_position : Scope → Option Range → Expression → Position
 value_position s None e = as_constant s (has_width s e) e
 value_position s (Some r) e = constant (wider (known_range_width s r) (some_if (has_width s e) (width_of s e))) (sign_of s e)
 
+-- A range has a value, of at most 128 bits.
 abbrev pub range_is_known : Scope → Option Range → Bool
 range_is_known s None = true
-range_is_known s (Some r) = is_some (known_range s r)
+range_is_known s (Some r) = is_at_most_128 (known_range_width s r)
 
 -- a parameter of this value, where it has one
 abbrev pub known_parameter : Scope → Bool → Option Range → Expression → Option Object

@@ -127,14 +127,15 @@ module _ (source : Source) (m : Module) (given : KnownOverrides) (are : AreValue
 
   one_value : (d : ParameterDeclaration) (v : Name × Expression) (known : Entries Object) → AllDeclared known → Grows known all
       → ((n : Name) → IsAmong (names_in_range d.range) n → HasEntry known n) → ((n : Name) → IsAmong (names_in v.1) n → HasEntry known n)
-      → Good (broken_range module_scope d.range) → Good (broken module_scope (value_position module_scope d.range v.1) v.1)
+      → Good (broken_range module_scope d.range) → Good (broken_width module_scope d.range)
+      → Good (broken module_scope (value_position module_scope d.range v.1) v.1)
       → (o : Object) × (one_known_parameter (scope_of known) d v.1 (cond d.is_local None (given v.0)) ≡ Some o) × IsTrue (o.is_declared)
-  one_value d v known declared grows in_range in_value good_range good_value = by_local d.is_local
+  one_value d v known declared grows in_range in_value good_range good_width good_value = by_local d.is_local
     where
       plain : (o : Object) × (known_parameter (scope_of known) d.signed d.range v.1 ≡ Some o) × IsTrue (o.is_declared)
       plain = (
         parameter_object (scope_of known) d.signed d.range v.1,
-        parameter_known m known all declared grows d.signed d.range v.1 in_range in_value good_range good_value,
+        parameter_known m known all declared grows d.signed d.range v.1 in_range in_value good_range good_width good_value,
         object_declared (scope_of known) d.signed d.range v.1,
       )
 
@@ -144,7 +145,7 @@ module _ (source : Source) (m : Module) (given : KnownOverrides) (are : AreValue
       by_given (Some y) e =
           let r = are.some v.0 y e in (
             overridden_object (scope_of known) d.signed d.range r.0,
-            ap (λ z. known_override (scope_of known) d.signed d.range z) r.1 ∙ override_known m known all declared grows d.signed d.range r.0 in_range good_range,
+            ap (λ z. known_override (scope_of known) d.signed d.range z) r.1 ∙ override_known m known all declared grows d.signed d.range r.0 in_range good_range good_width,
             override_declared (scope_of known) d.signed d.range r.0 r.2,
           )
 
@@ -155,26 +156,26 @@ module _ (source : Source) (m : Module) (given : KnownOverrides) (are : AreValue
   walk_values : (d : ParameterDeclaration) (vs : List (Name × Expression)) (before : List Name) (known : Entries Object) (rest : List Mention)
       → Reached before known → uses_unknown m before (value_mentions vs ++ rest) ≡ false
       → Grows (with_known_values d given vs known) all → ((n : Name) → IsAmong (names_in_range d.range) n → HasEntry known n)
-      → Good (broken_range module_scope d.range) → ((v : Name × Expression) → IsAmong vs v → IsGoodValue d v)
+      → Good (broken_range module_scope d.range) → Good (broken_width module_scope d.range) → ((v : Name × Expression) → IsAmong vs v → IsGoodValue d v)
       → After (value_names vs) rest (with_known_values d given vs known)
   unfolding IsGoodValue
-  walk_values d [] before known rest reached e grows in_range good_range good =
+  walk_values d [] before known rest reached e grows in_range good_range good_width good =
       record { before = before; mentions_rest = e; reached = reached; entries = λ n h. absurd h }
-  walk_values d (v ∷ vs) before known rest reached e grows in_range good_range good =
+  walk_values d (v ∷ vs) before known rest reached e grows in_range good_range good_width good =
       let front = used_front m before (names_in v.1) ((declares v.0 ∷ value_mentions vs) ++ rest)
       (subst (λ l. uses_unknown m before l ≡ false) (append_assoc (uses (names_in v.1)) (declares v.0 ∷ value_mentions vs) rest) e) in
       let here : IsGoodValue d v = good v (inl refl) in
       let old : Grows known all = λ n t.
       grows n (still known (with_known_values d given (v ∷ vs) known) (values_grow d given (v ∷ vs) known) n t) ∙ values_grow d given (v ∷ vs) known n t in
       let one = one_value d v known reached.declared old in_range
-      (λ n h. reached.has n (before_if_constant source m before n constant (here.1 n h) (front.0 n h))) good_range here.0 in
+      (λ n h. reached.has n (before_if_constant source m before n constant (here.1 n h) (front.0 n h))) good_range good_width here.0 in
       let new : Entries Object = known ++ (v.0, one.0) ∷ [] in
       let same : known_entry v.0 (one_known_parameter (scope_of known) d v.1 (cond d.is_local None (given v.0))) ≡ (v.0, one.0) ∷ [] = ap (known_entry v.0) one.1 in
       let r : After (value_names vs) rest (with_known_values d given vs new) =
       walk_values d vs (v.0 ∷ before) new rest
       (record { has = λ n t. more n one.0 t; declared = declared_more known v.0 one.0 reached.declared one.2 }) front.1
       (subst (λ es. Grows (with_known_values d given vs (known ++ es)) all) same grows)
-      (λ n h. subst (λ x. IsTrue (is_some x)) (sym (append_first known ((v.0, one.0) ∷ []) n (in_range n h))) (in_range n h)) good_range
+      (λ n h. subst (λ x. IsTrue (is_some x)) (sym (append_first known ((v.0, one.0) ∷ []) n (in_range n h))) (in_range n h)) good_range good_width
       (λ w h. good w (inr h)) in
       subst (λ es. After (value_names (v ∷ vs)) rest (with_known_values d given vs (known ++ es))) (sym same)
       (record {
@@ -228,6 +229,7 @@ module _ (source : Source) (m : Module) (given : KnownOverrides) (are : AreValue
       walk_values d d.values before known rest reached front.1 grows
       (λ n h. reached.has n (before_if_constant source m before n constant (good.in_range n h) (front.0 n h)))
       (good_left (broken_range module_scope d.range) (also (broken_width module_scope d.range) (broken_values module_scope d.range d.values)) good.rules)
+      (good_left (broken_width module_scope d.range) (broken_values module_scope d.range d.values) inner)
       (λ v h. good_value d d.values v h (good_right (broken_width module_scope d.range) (broken_values module_scope d.range d.values) inner) good.in_values)
 
   -- those of the header, with these behind them

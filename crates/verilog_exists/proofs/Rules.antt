@@ -1,19 +1,24 @@
 -- Where no rule is broken, constants whose names are known have values.
-use Rattle.std.proofs.Common.{◌≡◌, ℕ, Bool, true, false, cond, not, ◌&&◌, List, [], ◌∷◌, refl, sym, ap, ◌∙◌, subst, Option, Some, None, ℤ, IsTrue}
+use Rattle.std.proofs.Common.{◌≡◌, ℕ, nat_lt, nat_le, arith, Bool, true, false, cond, not, ◌&&◌, List, [], ◌∷◌, refl, sym, ap, ◌∙◌, subst, Option, Some, None, ℤ, IsTrue}
 use Rattle.std.specs.Prelude.{◌+◌, is_some, is_none, option_map, option_and_then}
+use Rattle.std.proofs.lemmas.Bool.Decides.{nat_tests}
 use Rattle.std.proofs.lemmas.Bool.{and_from, false≢true}
 use Rattle.wb_values.specs.Value.{Name, same_name, Entries, entry_of}
 use Rattle.wb_values.specs.Choice.{first_of, some_if}
 use Rattle.verilog_trees.specs.Syntax.{Expression, Range, Module}
 use Rattle.verilog_meaning.specs.Expression.{Object, Scope, object_or_undeclared, scope_of, distance, width_of, sign_of, no_values, integer_of}
 use Rattle.verilog_meaning.specs.Hierarchy.{parameter_object, overridden_object, declarations, declaration_of}
-use Rattle.verilog_rules.specs.Expression.{Broken, also, is_unbroken, constant_if, Position, constant, wider, as_constant, broken, has_width, broken_constant, constant_number}
+use Rattle.verilog_rules.specs.Expression.{Broken, also, is_unbroken, constant_if, Position, constant, wider, as_constant, broken, has_width, broken_constant, constant_number, is_at_most_128, is_over_128}
 use Rattle.verilog_designs.specs.Known.{as_bound, known_bound, both_bounds, known_range, known_range_width, value_position, range_is_known, known_parameter, known_override, known_declaration, known_module_scope}
 use Rattle.verilog_designs.specs.Names.{names_in, names_in_range}
-use Rattle.verilog_designs.specs.Expressions.{is_outside, broken_bound, broken_range}
+use Rattle.verilog_designs.specs.Expressions.{is_outside, broken_bound, broken_range, broken_width}
 use Rattle.verilog_unique.proofs.Options.{first_false, second_false}
 use Rattle.verilog_unique.proofs.Descent.{IsAmong, among_left, among_right}
 use Rattle.verilog_exists.proofs.Scopes.{SameIn, same_in, constant_same, all_declared}
+
+-- no more than 128 bits
+at_most : (w : ℕ) → nat_lt 128 w ≡ false → nat_le w 128 ≡ true
+at_most w h = grind (arith, nat_tests, h)
 
 -- ---- no rule is broken but that on names
 
@@ -164,22 +169,30 @@ module _ (m : Module) (known all : Entries Object) (declared : AllDeclared known
       ∙ ap (λ a. constant (wider (known_range_width whole r) (some_if (has_width whole e) a)) (sign_of here e)) i.width
       ∙ ap (constant (wider (known_range_width whole r) (some_if (has_width whole e) (width_of whole e)))) i.sign
 
-  known_range_test : (r : Option Range) → ((n : Name) → IsAmong (names_in_range r) n → HasEntry known n) → Good (broken_range whole r) → range_is_known here r ≡ true
-  known_range_test None f g = refl
-  known_range_test (Some r) f g = range_known r f g
+  known_range_test : (r : Option Range) → ((n : Name) → IsAmong (names_in_range r) n → HasEntry known n) → Good (broken_range whole r) → Good (broken_width whole r)
+      → range_is_known here r ≡ true
+  known_range_test None f g w = refl
+  known_range_test (Some r) f g w =
+      narrow (known_range here r) (range_known r f g)
+      (ap (λ (o : Option (ℕ × ℕ)). is_over_128 (option_map (λ (b : ℕ × ℕ). distance b.0 b.1 + 1) o)) (range_same r f) ∙ w.widths)
+    where
+      narrow : (o : Option (ℕ × ℕ)) → IsTrue (is_some o) → is_over_128 (option_map (λ (b : ℕ × ℕ). distance b.0 b.1 + 1) o) ≡ false
+          → is_at_most_128 (option_map (λ (b : ℕ × ℕ). distance b.0 b.1 + 1) o) ≡ true
+      narrow None h k = absurd (false≢true h)
+      narrow (Some b) h k = at_most (distance b.0 b.1 + 1) k
 
   pub parameter_known : (signed : Bool) (r : Option Range) (e : Expression) → ((n : Name) → IsAmong (names_in_range r) n → HasEntry known n)
-      → ((n : Name) → IsAmong (names_in e) n → HasEntry known n) → Good (broken_range whole r) → Good (broken whole (value_position whole r e) e)
-      → known_parameter here signed r e ≡ Some (parameter_object here signed r e)
+      → ((n : Name) → IsAmong (names_in e) n → HasEntry known n) → Good (broken_range whole r) → Good (broken_width whole r)
+      → Good (broken whole (value_position whole r e) e) → known_parameter here signed r e ≡ Some (parameter_object here signed r e)
   unfolding AreKnown
-  parameter_known signed r e f h g k =
+  parameter_known signed r e f h g w k =
       ap (λ b. some_if b (parameter_object here signed r e))
       (and_from (is_unbroken (broken here (value_position here r e) e)) (range_is_known here r)
-      (is_unbroken_at e (value_position here r e) (value_position whole r e) (position_same r e f h) h k) (known_range_test r f g))
+      (is_unbroken_at e (value_position here r e) (value_position whole r e) (position_same r e f h) h k) (known_range_test r f g w))
 
   pub override_known : (signed : Bool) (r : Option Range) (o : Object) → ((n : Name) → IsAmong (names_in_range r) n → HasEntry known n)
-      → Good (broken_range whole r) → known_override here signed r (Some o) ≡ Some (overridden_object here signed r o)
-  override_known signed r o f g = ap (λ b. some_if b (overridden_object here signed r o)) (known_range_test r f g)
+      → Good (broken_range whole r) → Good (broken_width whole r) → known_override here signed r (Some o) ≡ Some (overridden_object here signed r o)
+  override_known signed r o f g w = ap (λ b. some_if b (overridden_object here signed r o)) (known_range_test r f g w)
 
 -- a value that is given to a parameter, in the whole scope around it
 pub own_known : (m : Module) (all : Entries Object) → AllDeclared all → (e : Expression) → ((n : Name) → IsAmong (names_in e) n → HasEntry all n)
