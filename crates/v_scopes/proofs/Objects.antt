@@ -116,6 +116,36 @@ pub list_so : (s : ModuleScope) (ds : List Declared) (xs : List CodeDeclaration)
     → scope_of (objects_of xs) ≡ scope_in s
 list_so s ds xs h e = ap scope_of (e ∙ ap (λ ys. objects_by (scope_in s) (rows_of ys)) h) ∙ objects_so (rows_of s.declared.items)
 
+-- ---- with constants
+
+-- the declared objects after constants
+with_constants : (known : Entries Object) (xs : Entries Object) (n : Name)
+    → object_or_undeclared (entry_of (known ++ xs) n) ≡ unwrap_or (entry_of known n) (object_or_undeclared (entry_of xs n))
+with_constants [] xs n = refl
+with_constants (k ∷ ks) xs n = by (same_name k.0 n) (with_constants ks xs n)
+  where
+    by : (b : Bool) → object_or_undeclared (entry_of (ks ++ xs) n) ≡ unwrap_or (entry_of ks n) (object_or_undeclared (entry_of xs n))
+        → object_or_undeclared (cond b (Some k.1) (entry_of (ks ++ xs) n)) ≡ unwrap_or (cond b (Some k.1) (entry_of ks n)) (object_or_undeclared (entry_of xs n))
+    by true h = refl
+    by false h = h
+
+first_or : (x y : Option Object) → unwrap_or x (object_or_undeclared y) ≡ object_or_undeclared (first_of x y)
+first_or None y = refl
+first_or (Some o) y = refl
+
+pub whole_so : (m : Module) (known : Entries Object) (rs : List Row) (xs : Entries Object) → rs ≡ rows (scope_of known) (declarations m)
+    → xs ≡ known ++ objects_by (scope_by rs) rs → scope_of xs ≡ known_module_scope m known
+whole_so m known rs xs e h =
+    fun_ext (λ n.
+    ap (λ es. object_or_undeclared (entry_of es n)) h
+    ∙ (with_constants known (objects_by (scope_by rs) rs) n
+    ∙ (ap (λ o. unwrap_or (entry_of known n) o) (ap (λ s. s n) (objects_so rs) ∙ (ap (λ zs. object_from (row_named zs n)) e ∙ (ap object_from (sym (named_so (scope_of known) (declarations m) n))
+    ∙ ap object_or_undeclared (from_row (scope_of known) (declaration_of (declarations m) n)))))
+    ∙ first_or (entry_of known n) (option_and_then (known_declaration (scope_of known)) (declaration_of (declarations m) n)))))
+
+pub constants_first : (ds es : List CodeDeclaration) (x : Entries Object) → objects_of ds ≡ objects_of es ++ x → objects_of ds ≡ objects_of es ++ x
+constants_first ds es x h = h
+
 -- ---- the design
 
 placed_alone : (d : Design) (m : Module) (s : Scope) → IsWhole d → module_named d.source d.top ≡ Some m → s ≡ known_module_scope m []

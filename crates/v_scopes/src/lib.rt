@@ -17,6 +17,6 @@ pub use constant::Constants;
 pub use range::{Bounds, bounds_of};
 pub use refusal::{ScopesKind, names_refusal};
 pub use row::{Declared, declared_rows};
-pub use scope::module_scope;
+pub use scope::{declared_scope, module_scope, placed_scope};
 pub use scopes_of::{DesignScopes, ScopesRefusal, ScopesStop, scopes};
 pub use table::ModuleScope;

@@ -1,6 +1,7 @@
 //! The scope of a module, made of its declarations, and what its names stand for.
-ghost use Rattle.std.specs.Prelude.{◌≡◌, ℕ, List, [], option_map, cond, Some, IfOk, OnOk};
+ghost use Rattle.std.specs.Prelude.{◌≡◌, ◌++◌, ℕ, List, [], option_map, cond, Some, IfOk, OnOk};
 ghost use Rattle.wb_values.specs.Value.{same_name};
+ghost use Rattle.verilog_trees.specs.Syntax as pure;
 ghost use Rattle.verilog_meaning.specs.Expression.{undeclared, object_or_undeclared, scope_of};
 ghost use Rattle.verilog_meaning.specs.Hierarchy.{declarations};
 ghost use Rattle.verilog_designs.specs.Known.{known_module_scope};
@@ -83,15 +84,28 @@ fn table_of<'s>(
     Ok(table)
 }
 
+/// What a module declares besides its parameters, where these have the values of a scope. A name whose range has no value is not declared
+/// in it.
+pub fn declared_scope<'s>(
+    alloc: Global,
+    constants: Constants<'_, '_>,
+    within: &Module<'s>,
+) -> Result<ModuleScope<'s>, AllocError>
+    ensures { IfOk result (λ s. rows_of s.declared.items ≡ rows (scope_at constants.entry.scope.now) (declarations (module_of within.now))) }
+{
+    let declared = declared_rows(alloc, constants, within)?;
+    let table = table_of(alloc, &declared)?;
+    Ok(ModuleScope { declared, table })
+}
+
 /// The scope of a module that has no parameters. A name whose range has no value is not declared in it.
 pub fn module_scope<'s>(alloc: Global, within: &Module<'s>) -> Result<ModuleScope<'s>, AllocError>
     ensures declared { IfOk result (λ s. rows_of s.declared.items ≡ rows (scope_of []) (declarations (module_of within.now))) }
     ensures scope { IfOk result (λ s. scope_in s ≡ known_module_scope (module_of within.now) []) }
 {
     let scope = no_constants(alloc);
-    let declared = declared_rows(alloc, Constants { scope: &scope }, within)?;
-    let table = table_of(alloc, &declared)?;
-    Ok(ModuleScope { declared, table })
+    let names = declared_scope(alloc, Constants { scope: &scope }, within)?;
+    Ok(names)
 }
 
 /// The addresses of a memory. Those without a value count as those of one word.
@@ -179,6 +193,23 @@ impl<'s> ModuleScope<'s> {
     }
 }
 
+/// Adds the names of declarations with their objects.
+fn add_objects<'s>(
+    names: &ModuleScope<'s>,
+    declared: &[Declared<'s>],
+    list: &mut Vec<Declaration<'s>>,
+) -> Result<(), AllocError>
+    ensures { OnOk result (objects_of list.new.items ≡ objects_of list.old.items ++ objects_by (scope_in names.now) (rows_of declared.now)) }
+{
+    for each in declared {
+        list.push(Declaration {
+            name: each.name,
+            object: names.object(each.name),
+        })?;
+    }
+    Ok(())
+}
+
 /// The names of declarations with their objects.
 fn list_of<'s>(
     alloc: Global,
@@ -188,12 +219,37 @@ fn list_of<'s>(
     ensures { IfOk result (λ s. objects_of s.declarations.items ≡ objects_by (scope_in names.now) (rows_of declared.now)) }
 {
     let mut list = Vec::new(alloc);
-    for each in declared {
-        list.push(Declaration {
-            name: each.name,
-            object: names.object(each.name),
-        })?;
+    add_objects(names, declared, &mut list)?;
+    let scope = Scope::of(alloc, list)?;
+    Ok(scope)
+}
+
+/// Adds declarations.
+fn add_declarations<'s>(
+    declarations: &[Declaration<'s>],
+    list: &mut Vec<Declaration<'s>>,
+) -> Result<(), AllocError>
+    ensures { OnOk result (list.new.items ≡ list.old.items ++ declarations.now) }
+{
+    for each in declarations {
+        list.push(*each)?;
     }
+    Ok(())
+}
+
+/// The scope of a module whose parameters have such values: these, and else what is declared besides. It is said of each module of which
+/// that is all that it declares.
+pub fn placed_scope<'s>(
+    alloc: Global,
+    names: &ModuleScope<'s>,
+    constants: &Scope<'s>,
+) -> Result<Scope<'s>, AllocError>
+    ensures { IfOk result (λ s. (m : pure.Module) → rows_of names.now.declared.items ≡ rows (scope_at constants.now) (declarations m)
+        → scope_at s ≡ known_module_scope m (objects_of constants.now.declarations.items)) }
+{
+    let mut list = Vec::new(alloc);
+    add_declarations(constants.declarations(), &mut list)?;
+    add_objects(names, &names.declared, &mut list)?;
     let scope = Scope::of(alloc, list)?;
     Ok(scope)
 }

@@ -1,5 +1,5 @@
 -- The table of a scope has under each name what its first declaration says.
-use Rattle.std.proofs.Common.{◌≡◌, ◌∙◌, refl, ap, sym, ℕ, ◌+◌, ◌<◌, Bool, true, false, cond, List, [], ◌∷◌, length, drop, get_or, Bor, Option, Some, None, option_map, add-one, drop-cons}
+use Rattle.std.proofs.Common.{◌≡◌, ◌∙◌, refl, ap, sym, ℕ, ◌+◌, ◌<◌, Bool, true, false, cond, List, [], ◌∷◌, ◌++◌, length, drop, get_or, Bor, Option, Some, None, option_map, add-one, drop-cons}
 use Rattle.std.specs.Ordering.{nat_cmp}
 use Rattle.std.specs.Cmp.Lexicographic.{slice_cmp}
 use Rattle.std.specs.BTreeMap as tree
@@ -79,3 +79,17 @@ turn ds i d old new all q h u e =
     ap (λ o. first_of o rest) u
     ∙ (one_more (same_name x.name.now q) old rest (object_of x.object)
     ∙ (ap (λ xs. first_of old (entry_of xs q)) (sym (objects_drop ds i d h)) ∙ e))
+
+-- a declaration behind others
+pub one_behind : (ds : List Declaration) (d : Declaration) (q : Name)
+    → entry_of (objects_of (ds ++ d ∷ [])) q ≡ first_of (entry_of (objects_of ds) q) (cond (same_name d.name.now q) (Some (object_of d.object)) None)
+one_behind [] d q = refl
+one_behind (e ∷ ds) d q = by (same_name e.name.now q) (one_behind ds d q)
+  where
+    last : Option meaning.Object
+    last = cond (same_name d.name.now q) (Some (object_of d.object)) None
+
+    by : (b : Bool) → entry_of (objects_of (ds ++ d ∷ [])) q ≡ first_of (entry_of (objects_of ds) q) last
+        → cond b (Some (object_of e.object)) (entry_of (objects_of (ds ++ d ∷ [])) q) ≡ first_of (cond b (Some (object_of e.object)) (entry_of (objects_of ds) q)) last
+    by true h = refl
+    by false h = h

@@ -1,5 +1,5 @@
 //! Look-ups of names: of objects in a sorted table, and of values one after the other.
-ghost use Rattle.std.specs.Prelude.{◌≡◌, ℕ, List, [], cond, Some, None, slice_index, IfOk, OnOk};
+ghost use Rattle.std.specs.Prelude.{◌≡◌, ◌++◌, ◌∷◌, ℕ, List, [], cond, Some, None, slice_index, IfOk, OnOk};
 ghost use Rattle.wb_values.specs.Value.{same_name, entry_of, as_number, as_words};
 ghost use Rattle.wb_values.specs.Choice.{first_of};
 ghost use Rattle.v_value.specs.Objects.{object_of, objects_of, object_at};
@@ -56,6 +56,20 @@ impl<'s> Scope<'s> {
         ensures { IfOk result (λ s. s.declarations.items ≡ declarations.entry.items) }
     {
         let table = table_of(alloc, &declarations)?;
+        Ok(Scope {
+            declarations,
+            table,
+        })
+    }
+
+    /// The scope with one declaration more.
+    pub fn with(self, declaration: Declaration<'s>) -> Result<Scope<'s>, AllocError>
+        ensures { IfOk result (λ s. s.declarations.items ≡ self.entry.declarations.items ++ declaration.entry ∷ []) }
+    {
+        let mut declarations = self.declarations;
+        let mut table = self.table;
+        declare(&mut table, declaration)?;
+        declarations.push(declaration)?;
         Ok(Scope {
             declarations,
             table,

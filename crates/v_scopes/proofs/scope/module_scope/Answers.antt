@@ -9,9 +9,9 @@ use Rattle.v_scopes.proofs.scope.module_scope.Goals as goal
 
 pub returns-clause-declared : goal.returns-clause-declared
 returns-clause-declared c =
-    c.in_ok-declared.ensures ∙ ap (λ ds. rows (scope_of (objects_of ds)) (declarations (module_of c.args.within.now))) c.no_constants-scope.ensures
+    c.in_ok-names.ensures ∙ ap (λ ds. rows (scope_of (objects_of ds)) (declarations (module_of c.args.within.now))) c.no_constants-scope.ensures
 
 pub returns-clause-scope : goal.returns-clause-scope
 returns-clause-scope c =
-    scope_so (module_of c.args.within.now) (rows_of c.in_ok-declared.declared.items)
-    (c.in_ok-declared.ensures ∙ ap (λ ds. rows (scope_of (objects_of ds)) (declarations (module_of c.args.within.now))) c.no_constants-scope.ensures)
+    scope_so (module_of c.args.within.now) (rows_of c.in_ok-names.names.declared.items)
+    (c.in_ok-names.ensures ∙ ap (λ ds. rows (scope_of (objects_of ds)) (declarations (module_of c.args.within.now))) c.no_constants-scope.ensures)

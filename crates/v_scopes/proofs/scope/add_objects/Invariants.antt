@@ -2,8 +2,8 @@ use Rattle.std.proofs.Common.{◌≡◌, ◌++◌, drop}
 use Rattle.v_value.specs.Scope.{objects_of}
 use Rattle.v_scopes.specs.Rows.{rows_of, objects_by}
 use Rattle.v_scopes.specs.Scopes.{scope_in}
-use Rattle.v_scopes.proofs.scope.list_of.Given as goal
+use Rattle.v_scopes.proofs.scope.add_objects.Given as goal
 
 abbrev pub invariant-loop-each : goal.invariant-loop-each
 invariant-loop-each l =
-    objects_of l.list.items ++ objects_by (scope_in l.names) (rows_of (drop l.each-index l.declared)) ≡ objects_by (scope_in l.names) (rows_of l.declared)
+    objects_of l.list.items ++ objects_by (scope_in l.names) (rows_of (drop l.each-index l.declared)) ≡ objects_of l.args.list.now.items ++ objects_by (scope_in l.names) (rows_of l.declared)

@@ -1,7 +1,7 @@
 use Rattle.std.proofs.Common.{refl, arith}
 use Rattle.v_scopes.specs.Scopes.{scope_in}
 use Rattle.v_scopes.proofs.Objects.{object_turn, list_end}
-use Rattle.v_scopes.proofs.scope.list_of.Goals as goal
+use Rattle.v_scopes.proofs.scope.add_objects.Goals as goal
 
 pub loop-each-preserved : goal.loop-each-preserved
 loop-each-preserved c =
