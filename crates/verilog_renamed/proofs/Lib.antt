@@ -1,3 +1,4 @@
 pub mod Paths
 pub mod Expressions
+pub mod Statements
 pub mod Meaning

@@ -1,7 +1,8 @@
 -- What is made of equal parts is equal; tests that rest on names; and what is seen through a function of names.
 use Rattle.std.proofs.Common.{◌≡◌, ℕ, Bool, true, false, ◌&&◌, ◌||◌, ◌⊎◌, inl, inr, refl, ap, ◌∙◌, IsTrue}
 use Rattle.std.proofs.lemmas.Bool.{and_parts}
-use Rattle.wb_values.specs.Value.{Name}
+use Rattle.std.proofs.lemmas.Slice.Eq.{bytes_eq-Decides}
+use Rattle.wb_values.specs.Value.{Name, same_name}
 
 pub ap2 : {A B C : Type 0} (g : A → B → C) {a b : A} {c d : B} → a ≡ b → c ≡ d → g a c ≡ g b d
 ap2 g {a} {b} {c} {d} e h = ap (λ x. g x c) e ∙ ap (g b) h
@@ -12,3 +13,10 @@ ap3 g {a} {b} {c} {d} {x} {y} e h k = ap (λ z. g z c x) e ∙ ap (λ z. g b z x
 -- what a function of names says of the new name, as one of the old name
 abbrev pub through : {A : Type 0} → (Name → Name) → (Name → A) → Name → A
 through f t n = t (f n)
+
+-- names that are the same are equal
+pub is_name : (m n : Name) → same_name m n ≡ true → m ≡ n
+is_name m n h = (bytes_eq-Decides m n).0 h
+
+pub name_itself : (n : Name) → same_name n n ≡ true
+name_itself n = (bytes_eq-Decides n n).1 refl

@@ -1,6 +1,6 @@
 -- What trees with other names mean: the same, under the new names.
 use Rattle.std.specs.Prelude.{◌≡◌, ℕ, Bool}
-use Rattle.wb_values.specs.Value.{Name, Value, Valuation}
+use Rattle.wb_values.specs.Value.{Name, same_name, Value, Valuation}
 use Rattle.verilog_trees.specs.Syntax.{Expression, Expressions, Select, Selects}
 use Rattle.verilog_meaning.specs.Expression.{Object, Scope, sign_of, width_of, widths_of, selects_width, value_of, joined_value, selected, select_index, select_bits, self_value, integer_of, is_true, assigned_value}
 use Rattle.verilog_renamed.specs.Renamed.{renamed_expression, renamed_expressions, renamed_select, renamed_selects}
@@ -8,6 +8,15 @@ use Rattle.verilog_renamed.specs.Renamed.{renamed_expression, renamed_expression
 -- `new` says of each new name what `old` says of the old one: two scopes, or two valuations.
 abbrev pub AreRenamed : {A : Type 0} → (Name → Name) → (old new : Name → A) → Type 0
 AreRenamed f old new = (n : Name) → new (f n) ≡ old n
+
+-- Different names get different new names.
+abbrev pub IsOneToOne : (Name → Name) → Type 0
+IsOneToOne f = (m n : Name) → same_name (f m) (f n) ≡ same_name m n
+
+-- It is the new name of some name.
+pub record IsNew (f : Name → Name) (n : Name) : Type 0 where
+  pub old : Name
+  pub is_new : f old ≡ n
 
 -- ---- expressions
 
