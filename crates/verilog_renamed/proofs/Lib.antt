@@ -1,4 +1,6 @@
 pub mod Paths
 pub mod Expressions
 pub mod Statements
+pub mod Registers
+pub mod Settled
 pub mod Meaning

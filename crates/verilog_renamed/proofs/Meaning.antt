@@ -1,12 +1,17 @@
--- The laws of expressions, for any two scopes and valuations of which the one has the new names.
-use Rattle.std.proofs.Common.{◌≡◌, ℕ, max, ◌%◌, ◌^◌, Bool, ap, ◌∙◌}
+-- The laws, for any two scopes and valuations of which the one has the new names.
+use Rattle.std.proofs.Common.{◌≡◌, ℕ, Bool, true, false, refl, ap, ◌∙◌, subst}
 use Rattle.wb_values.specs.Value.{Name, Valuation}
-use Rattle.verilog_trees.specs.Syntax.{Expression}
 use Rattle.verilog_meaning.specs.Expression.{Scope, sign_of, width_of, value_of, self_value, integer_of, is_true, assigned_value}
-use Rattle.verilog_renamed.specs.Renamed.{renamed_expression}
-use Rattle.verilog_renamed.specs.Laws.{AreRenamed, MeansTheSame, ExpressionsMeanTheSame}
+use Rattle.verilog_meaning.specs.Statement.{places, target_width, written, Effect, run, with_updates}
+use Rattle.verilog_meaning.specs.Register.{is_constant, selects_are_constant, may_mean, after_edge}
+use Rattle.verilog_settled.specs.Locality.{has_constant_selects}
+use Rattle.verilog_renamed.specs.Renamed.{renamed_target, renamed_statement, renamed_blocks, renamed_places, renamed_updates}
+use Rattle.verilog_renamed.specs.Laws.{AreRenamed, IsNew, ExpressionsMeanTheSame, TargetsNameTheSame, ChangesTheSame, WritesChangeTheSame, UpdatesChangeTheSame, DoesTheSame, RunsDoTheSame, EdgesChangeTheSame, ConstantsAreTheSame, OtherNamesHaveNoBits, MayAssignTheSame, AssignedBitsAreTheSame, HoldsTheSame, EquationsHoldTheSame, TargetsAreRenamed, ConstantTargetsAreTheSame, IsConstantTheSame}
 use Rattle.verilog_renamed.proofs.Paths.{ap2, through}
 use Rattle.verilog_renamed.proofs.Expressions.{Same, same, self, integer, condition, assigned}
+use Rattle.verilog_renamed.proofs.Statements.{SameEffect, same_places, same_target_width, same_written, same_updated, written_keeps, updated_keeps, same_run}
+use Rattle.verilog_renamed.proofs.Registers.{same_constant, same_selects_constant, same_may_mean, same_reach, same_reach_any, same_assign, same_assign_any, same_counts, same_edge, edge_keeps}
+use Rattle.verilog_renamed.proofs.Settled.{has_same, has_same_assigned, has_same_run, has_same_runs, same_as_target, same_constant_selects}
 
 -- two functions of names that say the same
 pub seen : {A : Type 0} (f : Name → Name) (old new : Name → A) → AreRenamed f old new → through f new ≡ old
@@ -26,3 +31,78 @@ expressions_mean_the_same f s t v w e a b =
       condition = condition f t e w ∙ ap2 (λ r u. is_true r u e) p q;
       assigned = λ m. assigned f t e w m ∙ ap2 (λ r u. assigned_value r u m e) p q;
     }
+
+-- What holds of the scope and the valuation that are seen through f holds of those that say the same.
+moved : (f : Name → Name) (s t : Scope) (v w : Valuation) (P : Scope → Valuation → Type 0) → AreRenamed f s t → AreRenamed f v w
+    → P (through f t) (through f w) → P s v
+moved f s t v w P a b h = subst (λ r. P r v) (seen f s t a) (subst (P (through f t)) (seen f v w b) h)
+
+moved_scope : (f : Name → Name) (s t : Scope) (P : Scope → Type 0) → AreRenamed f s t → P (through f t) → P s
+moved_scope f s t P a h = subst P (seen f s t a) h
+
+pub targets_name_the_same : TargetsNameTheSame
+targets_name_the_same f s t v w x a b =
+    record {
+      width = same_target_width f t x ∙ ap (λ r. target_width r x) (seen f s t a);
+      places = same_places f t w x ∙ ap2 (λ r u. renamed_places f (places r u x)) (seen f s t a) (seen f v w b);
+    }
+
+pub writes_change_the_same : WritesChangeTheSame
+writes_change_the_same f s t v w ps x apart a b =
+    moved f s t v w (λ r u. ChangesTheSame f w (written r u ps x) (written t w (renamed_places f ps) x)) a b
+    (record { valuation = λ n i. same_written f apart t w ps x i n; others = written_keeps f t w ps x })
+
+pub updates_change_the_same : UpdatesChangeTheSame
+updates_change_the_same f s t v w us apart a b =
+    moved f s t v w (λ r u. ChangesTheSame f w (with_updates r u us) (with_updates t w (renamed_updates f us))) a b
+    (record { valuation = λ n i. same_updated f apart t w us i n; others = updated_keeps f t w us })
+
+pub runs_do_the_same : RunsDoTheSame
+runs_do_the_same f s t v w x apart a b =
+    let h : SameEffect f w (run t (renamed_statement f x) w) (run (through f t) x (through f w)) = same_run f apart t x w in
+    moved f s t v w (λ r u. DoesTheSame f w (run r x u) (run t (renamed_statement f x) w)) a b
+    (record { changes = record { valuation = λ n i. h.valuation i n; others = h.kept }; updates = h.updates })
+
+pub edges_change_the_same : EdgesChangeTheSame
+edges_change_the_same f s t v w xs apart a b =
+    moved f s t v w (λ r u. ChangesTheSame f w (after_edge r xs u) (after_edge t (renamed_blocks f xs) w)) a b
+    (record { valuation = λ n i. same_edge f apart t w xs i n; others = edge_keeps f apart t w xs })
+
+pub constants_are_the_same : ConstantsAreTheSame
+constants_are_the_same f s t a =
+    moved_scope f s t (λ r. IsConstantTheSame f r t) a
+    (record { expression = same_constant f t; selects = same_selects_constant f t; may_mean = same_may_mean f t })
+
+pub assigned_bits_are_the_same : AssignedBitsAreTheSame
+assigned_bits_are_the_same f s t apart a =
+    moved_scope f s t (λ r. MayAssignTheSame f r t) a
+    (record {
+      targets = same_reach f apart t;
+      assignments = same_reach_any f apart t;
+      statements = same_assign f apart t;
+      blocks = same_assign_any f apart t;
+      registers = same_counts f apart t;
+    })
+
+pub other_names_have_no_bits : OtherNamesHaveNoBits
+other_names_have_no_bits f old new n k b h other = by_test (new n k b) refl
+  where
+    by_test : (c : Bool) → new n k b ≡ c → c ≡ false
+    by_test true e = absurd (other (h.only n k b e))
+    by_test false e = refl
+
+pub equations_hold_the_same : EquationsHoldTheSame
+equations_hold_the_same f s t v w apart a b =
+    moved f s t v w (λ r u. HoldsTheSame f r t u w) a b
+    (record {
+      targets = has_same f apart t w;
+      assignments = has_same_assigned f apart t w;
+      runs = has_same_run f apart t w;
+      blocks = has_same_runs f apart t w;
+    })
+
+pub targets_are_renamed : TargetsAreRenamed
+targets_are_renamed = same_as_target
+
+pub constant_targets_are_the_same : ConstantTargetsAreTheSame
+constant_targets_are_the_same f s t x a = same_constant_selects f t x ∙ ap (λ r. has_constant_selects r x) (seen f s t a)

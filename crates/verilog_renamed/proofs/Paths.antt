@@ -20,3 +20,14 @@ is_name m n h = (bytes_eq-Decides m n).0 h
 
 pub name_itself : (n : Name) → same_name n n ≡ true
 name_itself n = (bytes_eq-Decides n n).1 refl
+
+-- one of two tests holds
+pub either_way : {P : Type 0} (a b : Bool) → (a || b) ≡ true → (a ≡ true → P) → (b ≡ true → P) → P
+either_way true b h f g = f refl
+either_way false b h f g = g h
+
+pub first_of_both : (a b : Bool) → (a && b) ≡ true → a ≡ true
+first_of_both a b h = (and_parts a b h).0
+
+pub second_of_both : (a b : Bool) → (a && b) ≡ true → b ≡ true
+second_of_both a b h = (and_parts a b h).1

@@ -6,7 +6,7 @@ use Rattle.verilog_trees.specs.Syntax.{Expression, number, name, concatenation, 
 use Rattle.verilog_meaning.specs.Expression.{Object, Scope, is_memory, Bits, sign_of, width_of, value_of, selects_width, select_index, select_bits, is_true, assigned_value, natural_of}
 use Rattle.verilog_meaning.specs.Statement.{Cell, variable_cell, Place, indexed_cell, all_bits, named_place, places, all_places, places_width, target_width, targets_width, written_cell, written_place, written, Update, Effect, unchanged, after_updates, followed_by, greatest_width, all_signed, items_width, items_signed, wild_bits, matches, any_matches, run, run_all, run_case, with_update, with_updates}
 use Rattle.verilog_renamed.specs.Renamed.{renamed_expression, renamed_expressions, renamed_select, renamed_selects, renamed_target, renamed_targets, renamed_statement, renamed_statements, renamed_case_items, renamed_place, renamed_places, renamed_update, renamed_updates}
-use Rattle.verilog_renamed.specs.Laws.{IsOneToOne, IsNew}
+use Rattle.verilog_renamed.specs.Laws.{IsOneToOne, IsNew, KeepsOthers}
 use Rattle.verilog_renamed.proofs.Paths.{ap2, ap3, through, is_name}
 use Rattle.verilog_renamed.proofs.Expressions.{Same, SameSelect, SameSelects, same, same_select, same_selects, condition, assigned}
 
@@ -77,10 +77,6 @@ module _ (f : Name → Name) (apart : IsOneToOne f) (t : Scope) where
   same_updated w (u ∷ us) =
       same_updated (with_update t w (renamed_update f u)) us
       ∙ ap (λ z. with_updates (through f t) z us) (same_written w u.places u.value)
-
--- each name is a new one, or has what it had
-abbrev pub KeepsOthers : (Name → Name) → (before after : Valuation) → Type 0
-KeepsOthers f v w = (n : Name) → IsNew f n ⊎ (w n ≡ v n)
 
 pub keeps_then : (f : Name → Name) (v w u : Valuation) → KeepsOthers f v w → KeepsOthers f w u → KeepsOthers f v u
 keeps_then f v w u h k n = by_second (h n) (k n)
@@ -172,7 +168,7 @@ by_condition f w b c x y z u e h k = subst (λ d. SameEffect f w (cond b x y) (c
     chosen false = k
 
 module _ (f : Name → Name) (apart : IsOneToOne f) (t : Scope) where
-  value_given : (w : Valuation) (x : Target) (e : Expression)
+  pub value_given : (w : Valuation) (x : Target) (e : Expression)
       → assigned_value t w (target_width t (renamed_target f x)) (renamed_expression f e)
       ≡ assigned_value (through f t) (through f w) (target_width (through f t) x) e
   value_given w x e =

@@ -1,9 +1,14 @@
 -- What trees with other names mean: the same, under the new names.
-use Rattle.std.specs.Prelude.{◌≡◌, ℕ, Bool}
-use Rattle.wb_values.specs.Value.{Name, same_name, Value, Valuation}
-use Rattle.verilog_trees.specs.Syntax.{Expression, Expressions, Select, Selects}
-use Rattle.verilog_meaning.specs.Expression.{Object, Scope, sign_of, width_of, widths_of, selects_width, value_of, joined_value, selected, select_index, select_bits, self_value, integer_of, is_true, assigned_value}
-use Rattle.verilog_renamed.specs.Renamed.{renamed_expression, renamed_expressions, renamed_select, renamed_selects}
+use Rattle.std.specs.Prelude.{◌≡◌, ◌⊎◌, ◌↔◌, ℕ, Bool, false, List, option_map, IsTrue}
+use Rattle.wb_values.specs.Value.{Name, same_name, Valuation}
+use Rattle.verilog_trees.specs.Syntax.{Expression, Selects, Target, Statement}
+use Rattle.verilog_meaning.specs.Expression.{Object, Scope, sign_of, width_of, value_of, self_value, integer_of, is_true, assigned_value}
+use Rattle.verilog_meaning.specs.Statement.{Place, places, target_width, written, Update, Effect, run, with_updates}
+use Rattle.verilog_meaning.specs.Register.{is_constant, selects_are_constant, may_mean, may_reach, may_assign, one_may_assign, counts, after_edge}
+use Rattle.verilog_meaning.specs.Settled.{Has, HasAssigned, HasRun, HasRunAll, as_target, one_may_reach}
+use Rattle.verilog_designs.specs.Reads.{BitSet}
+use Rattle.verilog_settled.specs.Locality.{has_constant_selects}
+use Rattle.verilog_renamed.specs.Renamed.{renamed_expression, renamed_selects, renamed_target, renamed_statement, renamed_assignments, renamed_blocks, renamed_places, renamed_updates}
 
 -- `new` says of each new name what `old` says of the old one: two scopes, or two valuations.
 abbrev pub AreRenamed : {A : Type 0} → (Name → Name) → (old new : Name → A) → Type 0
@@ -32,3 +37,99 @@ pub record MeansTheSame (f : Name → Name) (s t : Scope) (v w : Valuation) (e :
 
 abbrev pub ExpressionsMeanTheSame : Type 0
 ExpressionsMeanTheSame = (f : Name → Name) (s t : Scope) (v w : Valuation) (e : Expression) → AreRenamed f s t → AreRenamed f v w → MeansTheSame f s t v w e
+
+-- ---- targets and statements
+
+-- The renamed target has the same width, and means the same places under the new names.
+pub record NamesTheSame (f : Name → Name) (s t : Scope) (v w : Valuation) (x : Target) : Type 0 where
+  pub width : target_width t (renamed_target f x) ≡ target_width s x
+  pub places : places t w (renamed_target f x) ≡ renamed_places f (places s v x)
+
+abbrev pub TargetsNameTheSame : Type 0
+TargetsNameTheSame = (f : Name → Name) (s t : Scope) (v w : Valuation) (x : Target) → AreRenamed f s t → AreRenamed f v w → NamesTheSame f s t v w x
+
+-- Each name is a new one, or has what it had before.
+abbrev pub KeepsOthers : (Name → Name) → (before after : Valuation) → Type 0
+KeepsOthers f v w = (n : Name) → IsNew f n ⊎ (w n ≡ v n)
+
+-- Of `before` came `new`: under each new name what `old` has under the old one, and under every other name what was there before.
+pub record ChangesTheSame (f : Name → Name) (before old new : Valuation) : Type 0 where
+  pub valuation : AreRenamed f old new
+  pub others : KeepsOthers f before new
+
+abbrev pub WritesChangeTheSame : Type 0
+WritesChangeTheSame =
+    (f : Name → Name) (s t : Scope) (v w : Valuation) (ps : List Place) (x : ℕ) → IsOneToOne f → AreRenamed f s t → AreRenamed f v w
+    → ChangesTheSame f w (written s v ps x) (written t w (renamed_places f ps) x)
+
+abbrev pub UpdatesChangeTheSame : Type 0
+UpdatesChangeTheSame =
+    (f : Name → Name) (s t : Scope) (v w : Valuation) (us : List Update) → IsOneToOne f → AreRenamed f s t → AreRenamed f v w
+    → ChangesTheSame f w (with_updates s v us) (with_updates t w (renamed_updates f us))
+
+-- So does a run, and its updates are the same under the new names.
+pub record DoesTheSame (f : Name → Name) (before : Valuation) (old new : Effect) : Type 0 where
+  pub changes : ChangesTheSame f before old.valuation new.valuation
+  pub updates : new.updates ≡ renamed_updates f old.updates
+
+abbrev pub RunsDoTheSame : Type 0
+RunsDoTheSame =
+    (f : Name → Name) (s t : Scope) (v w : Valuation) (x : Statement) → IsOneToOne f → AreRenamed f s t → AreRenamed f v w
+    → DoesTheSame f w (run s x v) (run t (renamed_statement f x) w)
+
+-- ---- registers
+
+abbrev pub EdgesChangeTheSame : Type 0
+EdgesChangeTheSame =
+    (f : Name → Name) (s t : Scope) (v w : Valuation) (clocked : List Statement) → IsOneToOne f → AreRenamed f s t → AreRenamed f v w
+    → ChangesTheSame f w (after_edge s clocked v) (after_edge t (renamed_blocks f clocked) w)
+
+-- What is constant is so under other names, and a select may mean the same words and bits.
+pub record IsConstantTheSame (f : Name → Name) (s t : Scope) : Type 0 where
+  pub expression : (e : Expression) → is_constant t (renamed_expression f e) ≡ is_constant s e
+  pub selects : (x : Selects) → selects_are_constant t (renamed_selects f x) ≡ selects_are_constant s x
+  pub may_mean : (o : Object) (x : Selects) (k b : ℕ) → may_mean t o (renamed_selects f x) k b ≡ may_mean s o x k b
+
+abbrev pub ConstantsAreTheSame : Type 0
+ConstantsAreTheSame = (f : Name → Name) (s t : Scope) → AreRenamed f s t → IsConstantTheSame f s t
+
+-- The bits of `new` are those of `old` under the new names: at each new name the same, and of no other name any.
+pub record AreRenamedBits (f : Name → Name) (old new : BitSet) : Type 0 where
+  pub same : (n : Name) (k b : ℕ) → new (f n) k b ≡ old n k b
+  pub only : (n : Name) (k b : ℕ) → IsTrue (new n k b) → IsNew f n
+
+abbrev pub OtherNamesHaveNoBits : Type 0
+OtherNamesHaveNoBits =
+    (f : Name → Name) (old new : BitSet) (n : Name) (k b : ℕ) → AreRenamedBits f old new → ¬ IsNew f n → new n k b ≡ false
+
+-- The bits that may be assigned.
+pub record MayAssignTheSame (f : Name → Name) (s t : Scope) : Type 0 where
+  pub targets : (x : Target) → AreRenamedBits f (may_reach s x) (may_reach t (renamed_target f x))
+  pub assignments : (xs : List (Target × Expression)) → AreRenamedBits f (one_may_reach s xs) (one_may_reach t (renamed_assignments f xs))
+  pub statements : (x : Statement) → AreRenamedBits f (may_assign s x) (may_assign t (renamed_statement f x))
+  pub blocks : (xs : List Statement) → AreRenamedBits f (one_may_assign s xs) (one_may_assign t (renamed_blocks f xs))
+  pub registers : (xs : List Statement) → AreRenamedBits f (counts s xs) (counts t (renamed_blocks f xs))
+
+abbrev pub AssignedBitsAreTheSame : Type 0
+AssignedBitsAreTheSame = (f : Name → Name) (s t : Scope) → IsOneToOne f → AreRenamed f s t → MayAssignTheSame f s t
+
+-- ---- settled valuations
+
+-- Equations on the valuation of the new names hold where they hold on the other one.
+pub record HoldsTheSame (f : Name → Name) (s t : Scope) (v w : Valuation) : Type 0 where
+  pub targets : (x : Target) (y : ℕ) → Has t w (renamed_target f x) y ↔ Has s v x y
+  pub assignments : (xs : List (Target × Expression)) → HasAssigned t w (renamed_assignments f xs) ↔ HasAssigned s v xs
+  pub runs : (x : Statement) → HasRun t w (renamed_statement f x) ↔ HasRun s v x
+  pub blocks : (xs : List Statement) → HasRunAll t w (renamed_blocks f xs) ↔ HasRunAll s v xs
+
+abbrev pub EquationsHoldTheSame : Type 0
+EquationsHoldTheSame =
+    (f : Name → Name) (s t : Scope) (v w : Valuation) → IsOneToOne f → AreRenamed f s t → AreRenamed f v w → HoldsTheSame f s t v w
+
+-- An expression that is a target as well is so under other names.
+abbrev pub TargetsAreRenamed : Type 0
+TargetsAreRenamed = (f : Name → Name) (e : Expression) → as_target (renamed_expression f e) ≡ option_map (renamed_target f) (as_target e)
+
+abbrev pub ConstantTargetsAreTheSame : Type 0
+ConstantTargetsAreTheSame =
+    (f : Name → Name) (s t : Scope) (x : Target) → AreRenamed f s t → has_constant_selects t (renamed_target f x) ≡ has_constant_selects s x
