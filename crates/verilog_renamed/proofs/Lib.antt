@@ -3,4 +3,5 @@ pub mod Expressions
 pub mod Statements
 pub mod Registers
 pub mod Settled
+pub mod ReadBits
 pub mod Meaning
