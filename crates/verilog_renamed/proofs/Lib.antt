@@ -4,4 +4,5 @@ pub mod Statements
 pub mod Registers
 pub mod Settled
 pub mod ReadBits
+pub mod Dependence
 pub mod Meaning

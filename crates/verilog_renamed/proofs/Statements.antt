@@ -13,7 +13,7 @@ use Rattle.verilog_renamed.proofs.Expressions.{Same, SameSelect, SameSelects, sa
 -- ---- targets
 
 module _ (f : Name → Name) (t : Scope) where
-  named_same : (v : Valuation) (n : Name) (x : Selects)
+  pub named_same : (v : Valuation) (n : Name) (x : Selects)
       → named_place t v (f n) (renamed_selects f x) ≡ renamed_place f (named_place (through f t) (through f v) n x)
   named_same v n whole = refl
   named_same v n (one x) =
@@ -47,7 +47,7 @@ module _ (f : Name → Name) (t : Scope) where
     same_target_width (place n x) = (same_selects f t x).width (t (f n))
     same_target_width (joined xs) = same_targets_width xs
 
-    same_targets_width : (xs : Targets) → targets_width t (renamed_targets f xs) ≡ targets_width (through f t) xs
+    pub same_targets_width : (xs : Targets) → targets_width t (renamed_targets f xs) ≡ targets_width (through f t) xs
     same_targets_width no_targets = refl
     same_targets_width (target x xs) = ap2 (λ a b. a + b) (same_target_width x) (same_targets_width xs)
 
