@@ -1,15 +1,15 @@
 -- What a bit depends on by an assignment or a block with other names.
-use Rattle.std.proofs.Common.{◌≡◌, ℕ, ◌-◌, ◌%◌, Bool, true, false, cond, not, ◌&&◌, ◌||◌, nat_lt, ◌⊎◌, inl, inr, refl, sym, ap, ◌∙◌, subst, Option, Some, None, option_map, is_none, ℤ, pos, ◌+ℤ◌, ◌-ℤ◌, IsTrue}
+use Rattle.std.proofs.Common.{◌≡◌, ℕ, ◌-◌, ◌%◌, Bool, true, false, cond, not, ◌&&◌, ◌||◌, nat_lt, ◌⊎◌, inl, inr, refl, sym, ap, ◌∙◌, subst, Option, Some, None, option_map, is_none, pos, ◌+ℤ◌, ◌-ℤ◌, IsTrue}
 use Rattle.std.proofs.lemmas.Bool.{false≢true}
 use Rattle.std.specs.Prelude.{⊤}
 use Rattle.wb_values.specs.Value.{Name, same_name}
 use Rattle.wb_values.specs.Choice.{some_if}
 use Rattle.verilog_trees.specs.Syntax.{Expression, number, name, concatenation, replication, as_signed, as_unsigned, unary, reduction, binary, shift, power, comparison, logical, conditional, Expressions, no_expressions, expression, Selects, Target, place, joined, Targets, no_targets, target, Statement, empty, blocking, nonblocking, if_then, if_else, case, block, Statements, no_statements, statement, CaseItems, no_items, arm, default_arm}
 use Rattle.verilog_meaning.specs.Expression.{Object, Scope, no_values, sign_of, width_of, widths_of, selects_width}
-use Rattle.verilog_meaning.specs.Statement.{Place, named_place, target_width, targets_width}
+use Rattle.verilog_meaning.specs.Statement.{Place, named_place, targets_width}
 use Rattle.verilog_meaning.specs.Register.{selects_are_constant, is_bit_of, may_reach, may_assign, may_assign_in_case}
 use Rattle.verilog_designs.specs.Reads.{BitSet, reads, or_in, selects_read, items_read, surely_reaches, is_full}
-use Rattle.verilog_designs.specs.Dependence.{Bit, is_in, is_plain, are_plain, word_of_cell, natural_in, bit_in, bit_at, widened_bit, copied, copied_in, is_same_cell, part_takes, takes, one_takes, index_reads, one_index_reads, IsGivenBy, Dependences, at_start, ThroughReads, AfterAssignment, AfterChoice, NoArm, After, AfterAll, AfterArms}
+use Rattle.verilog_designs.specs.Dependence.{Bit, is_in, is_plain, are_plain, word_of_cell, natural_in, bit_in, bit_at, widened_bit, copied, copied_in, is_same_cell, takes, one_takes, index_reads, one_index_reads, IsGivenBy, Dependences, ThroughReads, AfterAssignment, AfterChoice, NoArm, After, AfterAll, AfterArms}
 use Rattle.verilog_renamed.specs.Renamed.{renamed_expression, renamed_expressions, renamed_selects, renamed_target, renamed_targets, renamed_statement, renamed_statements, renamed_case_items, renamed_bit}
 use Rattle.verilog_renamed.specs.Laws.{IsOneToOne, IsNew, AreRenamedBits}
 use Rattle.verilog_renamed.proofs.Paths.{ap2, ap3, through, is_name, name_itself, either_way, first_of_both, second_of_both}
@@ -24,7 +24,7 @@ use Rattle.verilog_renamed.proofs.ReadBits.{same_reads, same_selects_read, same_
 pub one_bit : (f : Name → Name) → IsOneToOne f → (u y : Bit) → renamed_bit f u ≡ renamed_bit f y → u ≡ y
 one_bit f apart u y e =
     let names : same_name (f u.of_name) (f y.of_name) ≡ true
-        = ap (λ (z : Bit). same_name (f u.of_name) z.of_name) (sym e) ∙ name_itself (f u.of_name) in
+    = ap (λ (z : Bit). same_name (f u.of_name) z.of_name) (sym e) ∙ name_itself (f u.of_name) in
     let n : u.of_name ≡ y.of_name = is_name u.of_name y.of_name (sym (apart u.of_name y.of_name) ∙ names) in
     λ i. record { of_name = n i; word = ap (λ (z : Bit). z.word) e i; place = ap (λ (z : Bit). z.place) e i }
 
@@ -271,7 +271,7 @@ module _ (f g : Name → Name) (apart : IsOneToOne f) (inner_apart : IsOneToOne 
   given_back u y (IsGivenBy.computed p k i) =
       let h : HasOld g (λ z. ⊤) y = old_bit g y ((same_reads g inner_apart r e).only y.of_name y.word y.place i) in
       let there : IsTrue (is_in (reads r (renamed_expression g e)) (renamed_bit g h.old))
-          = subst (λ z. IsTrue (is_in (reads r (renamed_expression g e)) z)) (sym h.is_new) i in
+      = subst (λ z. IsTrue (is_in (reads r (renamed_expression g e)) z)) (sym h.is_new) i in
       record {
         old = h.old;
         is_new = h.is_new;

@@ -1,5 +1,5 @@
 -- An expression with other names has the same sign, width and value.
-use Rattle.std.proofs.Common.{◌≡◌, ℕ, ◌+◌, ◌*◌, ◌^◌, max, ◌%◌, Bool, true, false, cond, ◌&&◌, ◌||◌, refl, ap, ◌∙◌}
+use Rattle.std.proofs.Common.{◌≡◌, ℕ, ◌+◌, ◌*◌, ◌^◌, max, ◌%◌, Bool, cond, ◌&&◌, refl, ap, ◌∙◌}
 use Rattle.wb_values.specs.Value.{Name, Value, Valuation}
 use Rattle.verilog_trees.specs.Syntax.{Expression, number, name, concatenation, replication, as_signed, as_unsigned, unary, reduction, binary, shift, power, comparison, logical, conditional, Expressions, no_expressions, expression, Select, index, part, part_up, part_down, Selects, whole, one, two}
 use Rattle.verilog_meaning.specs.Expression.{Object, Scope, is_memory, Bits, place_of_bit, bits_taken, widened, integer_from, natural_of, bit, is_nonzero, side_by_side, unary_value, reduction_value, binary_value, shift_value, power_value, comparison_value, logical_value, selects_sign, sign_of, no_values, whole_value, indexed_word, bits_between, bits_upward, bits_downward, object_width, width_of, widths_of, selects_width, value_of, joined_value, selected, select_index, select_bits, self_value, integer_of, is_true, assigned_value}

@@ -1,16 +1,16 @@
 -- The bits that expressions and statements with other names read, and those that they assign on each path.
-use Rattle.std.proofs.Common.{◌≡◌, ℕ, zero, suc, ◌<◌, ◌^◌, max, Bool, true, false, cond, not, ◌&&◌, ◌||◌, ◌==◌, nat_le, ◌⊎◌, inl, inr, refl, sym, ap, ◌∙◌, subst, IsTrue, is_none, arith}
+use Rattle.std.proofs.Common.{◌≡◌, ℕ, zero, suc, ◌<◌, ◌^◌, max, Bool, true, false, cond, not, ◌&&◌, ◌||◌, ◌==◌, nat_le, ◌⊎◌, inl, inr, refl, sym, ◌∙◌, subst, IsTrue, is_none, arith}
 use Rattle.std.proofs.lemmas.Bool.{false≢true}
 use Rattle.std.proofs.lemmas.Nat.{pow_pos}
 use Rattle.wb_values.specs.Value.{Name, same_name}
 use Rattle.verilog_trees.specs.Syntax.{Expression, number, name, concatenation, replication, as_signed, as_unsigned, unary, reduction, binary, shift, power, comparison, logical, conditional, Expressions, no_expressions, expression, Select, index, part, part_up, part_down, Selects, whole, one, two, Target, place, joined, Targets, no_targets, target, CaseKind, exact_case, wild_case, Statement, empty, blocking, nonblocking, if_then, if_else, case, block, Statements, no_statements, statement, CaseItems, no_items, arm, default_arm}
-use Rattle.verilog_meaning.specs.Expression.{Scope, no_values, width_of, sign_of, value_of}
+use Rattle.verilog_meaning.specs.Expression.{Scope, no_values, width_of, sign_of}
 use Rattle.verilog_meaning.specs.Statement.{items_width, items_signed}
-use Rattle.verilog_meaning.specs.Register.{is_constant, selects_are_constant, may_mean, is_bit_of}
-use Rattle.verilog_designs.specs.Reads.{BitSet, no_bits, or_in, and_in, but_not_in, name_reads, reads, reads_in_all, select_reads, selects_read, target_reads, targets_read, items_read, surely_reaches, one_surely_reaches, has_default, one_is, items_have, items_have_all, is_full, surely_assigns, one_surely_assigns, each_arm_assigns, reads_after, all_read_after, arms_read_after}
+use Rattle.verilog_meaning.specs.Register.{selects_are_constant, may_mean, is_bit_of}
+use Rattle.verilog_designs.specs.Reads.{BitSet, no_bits, or_in, but_not_in, name_reads, reads, reads_in_all, select_reads, selects_read, target_reads, targets_read, items_read, surely_reaches, one_surely_reaches, has_default, one_is, items_have, items_have_all, is_full, surely_assigns, one_surely_assigns, each_arm_assigns, reads_after, all_read_after, arms_read_after}
 use Rattle.verilog_renamed.specs.Renamed.{renamed_expression, renamed_expressions, renamed_select, renamed_selects, renamed_target, renamed_targets, renamed_statement, renamed_statements, renamed_case_items}
 use Rattle.verilog_renamed.specs.Laws.{IsOneToOne, IsNew, AreRenamedBits}
-use Rattle.verilog_renamed.proofs.Paths.{ap2, ap3, through, is_name, either_way, first_of_both, second_of_both}
+use Rattle.verilog_renamed.proofs.Paths.{ap2, ap3, through, is_name, first_of_both}
 use Rattle.verilog_renamed.proofs.Expressions.{same}
 use Rattle.verilog_renamed.proofs.Statements.{same_items_width, same_items_signed}
 use Rattle.verilog_renamed.proofs.Registers.{same_constant, same_selects_constant, same_may_mean, none_renamed, or_renamed, and_renamed}
@@ -82,7 +82,7 @@ module _ (f : Name → Name) (apart : IsOneToOne f) (t : Scope) where
   same_items_read (arm es x items) = or_renamed f (same_all_read es) (same_items_read items)
   same_items_read (default_arm x items) = same_items_read items
 
--- ---- what is assigned on each path
+  -- ---- what is assigned on each path
 
   mutual
     pub same_surely : (x : Target) → AreRenamedBits f (surely_reaches (through f t) x) (surely_reaches t (renamed_target f x))
@@ -106,7 +106,7 @@ module _ (f : Name → Name) (apart : IsOneToOne f) (t : Scope) where
     same_one_surely no_targets = record { same = λ n k b. refl; only = λ n k b h. absurd (false≢true h) }
     same_one_surely (target x xs) =
         let h : AreRenamedBits f (or_in (surely_reaches (through f t) x) (one_surely_reaches (through f t) xs))
-            (or_in (surely_reaches t (renamed_target f x)) (one_surely_reaches t (renamed_targets f xs))) = or_renamed f (same_surely x) (same_one_surely xs) in
+        (or_in (surely_reaches t (renamed_target f x)) (one_surely_reaches t (renamed_targets f xs))) = or_renamed f (same_surely x) (same_one_surely xs) in
         record { same = h.same; only = h.only }
 
 -- ---- full cases
@@ -192,7 +192,7 @@ module _ (f : Name → Name) (apart : IsOneToOne f) (t : Scope) where
               (each_arm_assigns (through f t) items) (each_arm_assigns t (renamed_case_items f items)) (same_full f t kind e items) h.same;
           only = λ n k b g.
               let both : (is_full t kind (renamed_expression f e) (renamed_case_items f items) ≡ true)
-                  × IsTrue (each_arm_assigns t (renamed_case_items f items) n k b) = in_full _ _ n k b g in
+              × IsTrue (each_arm_assigns t (renamed_case_items f items) n k b) = in_full _ _ n k b g in
               by_items kind e items n both.0 (h.only n k b both.1);
         }
       where
@@ -201,7 +201,7 @@ module _ (f : Name → Name) (apart : IsOneToOne f) (t : Scope) where
         by_items kd d is n g (inl i) = i
         by_items kd d is n g (inr i) =
             let none : is_full t kd (renamed_expression f d) no_items ≡ true
-                = subst (λ z. is_full t kd (renamed_expression f d) (renamed_case_items f z) ≡ true) i g in
+            = subst (λ z. is_full t kd (renamed_expression f d) (renamed_case_items f z) ≡ true) i g in
             absurd (false≢true (sym (none_full t kd (renamed_expression f d)) ∙ none))
     same_surely_assigns (block n xs) = same_one_assigns xs
 

@@ -1,19 +1,19 @@
 -- What is constant, and which bits a statement with other names may assign.
-use Rattle.std.proofs.Common.{◌≡◌, ℕ, Bool, true, false, cond, ◌&&◌, ◌||◌, List, [], ◌∷◌, ◌++◌, map, refl, sym, ap, ◌∙◌, subst, IsTrue, is_some, option_and_then}
+use Rattle.std.proofs.Common.{◌≡◌, ℕ, true, cond, ◌&&◌, ◌||◌, List, [], ◌∷◌, ◌++◌, refl, sym, ap, ◌∙◌, subst, is_some, option_and_then}
 use Rattle.std.proofs.lemmas.Bool.{false≢true}
 use Rattle.std.proofs.lemmas.List.{map-append}
 use Rattle.wb_values.specs.Value.{Name, same_name, Valuation}
 use Rattle.verilog_trees.specs.Syntax.{Expression, number, name, concatenation, replication, as_signed, as_unsigned, unary, reduction, binary, shift, power, comparison, logical, conditional, Expressions, no_expressions, expression, Select, index, part, part_up, part_down, Selects, whole, one, two, Target, place, joined, Targets, no_targets, target, Statement, empty, blocking, nonblocking, if_then, if_else, case, block, Statements, no_statements, statement, CaseItems, no_items, arm, default_arm}
-use Rattle.verilog_meaning.specs.Expression.{Object, Scope, is_memory, Bits, word_number, no_values, select_index, select_bits}
-use Rattle.verilog_meaning.specs.Statement.{Update, Effect, run, with_updates}
+use Rattle.verilog_meaning.specs.Expression.{Object, Scope, is_memory, word_number, no_values}
+use Rattle.verilog_meaning.specs.Statement.{run, with_updates}
 use Rattle.verilog_meaning.specs.Register.{is_constant, are_constant, select_is_constant, selects_are_constant, is_within, may_mean_bit, is_word_number, may_mean_word, may_mean, may_reach, may_reach_one, may_assign, may_assign_in_all, may_assign_in_case, is_bit_of, one_may_assign, counts, updates_of_blocks, after_edge}
 use Rattle.verilog_meaning.specs.Settled.{one_may_reach}
-use Rattle.verilog_designs.specs.Reads.{BitSet, no_bits, or_in, and_in, but_not_in}
+use Rattle.verilog_designs.specs.Reads.{BitSet, no_bits, or_in, and_in}
 use Rattle.verilog_renamed.specs.Renamed.{renamed_expression, renamed_expressions, renamed_select, renamed_selects, renamed_target, renamed_targets, renamed_statement, renamed_statements, renamed_case_items, renamed_assignments, renamed_blocks, renamed_update, renamed_updates}
-use Rattle.verilog_renamed.specs.Laws.{IsOneToOne, IsNew, KeepsOthers, AreRenamedBits}
+use Rattle.verilog_renamed.specs.Laws.{IsOneToOne, KeepsOthers, AreRenamedBits}
 use Rattle.verilog_renamed.proofs.Paths.{ap2, ap3, through, is_name, either_way, first_of_both, second_of_both}
-use Rattle.verilog_renamed.proofs.Expressions.{SameSelect, same_select}
-use Rattle.verilog_renamed.proofs.Statements.{SameEffect, same_run, same_updated, updated_keeps}
+use Rattle.verilog_renamed.proofs.Expressions.{same_select}
+use Rattle.verilog_renamed.proofs.Statements.{same_run, same_updated, updated_keeps}
 
 -- ---- constants
 
@@ -101,14 +101,14 @@ module _ (f : Name → Name) (apart : IsOneToOne f) (t : Scope) where
     same_reach_one no_targets = record { same = λ n k b. refl; only = λ n k b h. absurd (false≢true h) }
     same_reach_one (target x xs) =
         let h : AreRenamedBits f (or_in (may_reach (through f t) x) (may_reach_one (through f t) xs))
-            (or_in (may_reach t (renamed_target f x)) (may_reach_one t (renamed_targets f xs))) = or_renamed f (same_reach x) (same_reach_one xs) in
+        (or_in (may_reach t (renamed_target f x)) (may_reach_one t (renamed_targets f xs))) = or_renamed f (same_reach x) (same_reach_one xs) in
         record { same = h.same; only = h.only }
 
   pub same_reach_any : (xs : List (Target × Expression)) → AreRenamedBits f (one_may_reach (through f t) xs) (one_may_reach t (renamed_assignments f xs))
   same_reach_any [] = record { same = λ n k b. refl; only = λ n k b h. absurd (false≢true h) }
   same_reach_any (x ∷ xs) =
       let h : AreRenamedBits f (or_in (may_reach (through f t) x.0) (one_may_reach (through f t) xs))
-          (or_in (may_reach t (renamed_target f x.0)) (one_may_reach t (renamed_assignments f xs))) = or_renamed f (same_reach x.0) (same_reach_any xs) in
+      (or_in (may_reach t (renamed_target f x.0)) (one_may_reach t (renamed_assignments f xs))) = or_renamed f (same_reach x.0) (same_reach_any xs) in
       record { same = h.same; only = h.only }
 
   mutual
@@ -125,7 +125,7 @@ module _ (f : Name → Name) (apart : IsOneToOne f) (t : Scope) where
         record { same = h.same; only = h.only }
     same_assign (if_else c x y) =
         let h : AreRenamedBits f (or_in (may_assign (through f t) x) (may_assign (through f t) y))
-            (or_in (may_assign t (renamed_statement f x)) (may_assign t (renamed_statement f y))) = or_renamed f (same_assign x) (same_assign y) in
+        (or_in (may_assign t (renamed_statement f x)) (may_assign t (renamed_statement f y))) = or_renamed f (same_assign x) (same_assign y) in
         record { same = h.same; only = h.only }
     same_assign (case kind e items) =
         let h : AreRenamedBits f (may_assign_in_case (through f t) items) (may_assign_in_case t (renamed_case_items f items)) = same_assign_in_case items in
@@ -138,25 +138,25 @@ module _ (f : Name → Name) (apart : IsOneToOne f) (t : Scope) where
     same_assign_in_all no_statements = record { same = λ n k b. refl; only = λ n k b h. absurd (false≢true h) }
     same_assign_in_all (statement x xs) =
         let h : AreRenamedBits f (or_in (may_assign (through f t) x) (may_assign_in_all (through f t) xs))
-            (or_in (may_assign t (renamed_statement f x)) (may_assign_in_all t (renamed_statements f xs))) = or_renamed f (same_assign x) (same_assign_in_all xs) in
+        (or_in (may_assign t (renamed_statement f x)) (may_assign_in_all t (renamed_statements f xs))) = or_renamed f (same_assign x) (same_assign_in_all xs) in
         record { same = h.same; only = h.only }
 
     pub same_assign_in_case : (items : CaseItems) → AreRenamedBits f (may_assign_in_case (through f t) items) (may_assign_in_case t (renamed_case_items f items))
     same_assign_in_case no_items = record { same = λ n k b. refl; only = λ n k b h. absurd (false≢true h) }
     same_assign_in_case (arm es x items) =
         let h : AreRenamedBits f (or_in (may_assign (through f t) x) (may_assign_in_case (through f t) items))
-            (or_in (may_assign t (renamed_statement f x)) (may_assign_in_case t (renamed_case_items f items))) = or_renamed f (same_assign x) (same_assign_in_case items) in
+        (or_in (may_assign t (renamed_statement f x)) (may_assign_in_case t (renamed_case_items f items))) = or_renamed f (same_assign x) (same_assign_in_case items) in
         record { same = h.same; only = h.only }
     same_assign_in_case (default_arm x items) =
         let h : AreRenamedBits f (or_in (may_assign (through f t) x) (may_assign_in_case (through f t) items))
-            (or_in (may_assign t (renamed_statement f x)) (may_assign_in_case t (renamed_case_items f items))) = or_renamed f (same_assign x) (same_assign_in_case items) in
+        (or_in (may_assign t (renamed_statement f x)) (may_assign_in_case t (renamed_case_items f items))) = or_renamed f (same_assign x) (same_assign_in_case items) in
         record { same = h.same; only = h.only }
 
   pub same_assign_any : (xs : List Statement) → AreRenamedBits f (one_may_assign (through f t) xs) (one_may_assign t (renamed_blocks f xs))
   same_assign_any [] = record { same = λ n k b. refl; only = λ n k b h. absurd (false≢true h) }
   same_assign_any (x ∷ xs) =
       let h : AreRenamedBits f (or_in (may_assign (through f t) x) (one_may_assign (through f t) xs))
-          (or_in (may_assign t (renamed_statement f x)) (one_may_assign t (renamed_blocks f xs))) = or_renamed f (same_assign x) (same_assign_any xs) in
+      (or_in (may_assign t (renamed_statement f x)) (one_may_assign t (renamed_blocks f xs))) = or_renamed f (same_assign x) (same_assign_any xs) in
       record { same = h.same; only = h.only }
 
   pub same_counts : (xs : List Statement) → AreRenamedBits f (counts (through f t) xs) (counts t (renamed_blocks f xs))
@@ -167,7 +167,7 @@ module _ (f : Name → Name) (apart : IsOneToOne f) (t : Scope) where
         only = λ n k b e. h.only n k b (second_of_both (is_bit_of (t n) k b) (one_may_assign t (renamed_blocks f xs) n k b) e);
       }
 
--- ---- the clock's edge
+  -- ---- the clock's edge
 
   same_block_updates : (w : Valuation) (xs : List Statement)
       → updates_of_blocks t w (renamed_blocks f xs) ≡ renamed_updates f (updates_of_blocks (through f t) (through f w) xs)

@@ -1,14 +1,14 @@
 -- Targets and statements with other names do the same, under the new names.
-use Rattle.std.proofs.Common.{◌≡◌, ℕ, ◌+◌, ◌*◌, ◌/◌, ◌%◌, ◌^◌, max, Bool, true, false, cond, ◌&&◌, ◌||◌, List, [], ◌∷◌, ◌++◌, map, ◌⊎◌, inl, inr, refl, sym, ap, ◌∙◌, subst}
+use Rattle.std.proofs.Common.{◌≡◌, ℕ, ◌+◌, ◌/◌, ◌%◌, ◌^◌, max, Bool, true, false, cond, ◌&&◌, ◌||◌, List, [], ◌∷◌, ◌++◌, ◌⊎◌, inl, inr, refl, sym, ap, ◌∙◌, subst}
 use Rattle.std.proofs.lemmas.List.{map-append}
-use Rattle.wb_values.specs.Value.{Name, same_name, Value, Valuation, with_value}
-use Rattle.verilog_trees.specs.Syntax.{Expression, number, name, concatenation, replication, as_signed, as_unsigned, unary, reduction, binary, shift, power, comparison, logical, conditional, Expressions, no_expressions, expression, Select, Selects, whole, one, two, Target, place, joined, Targets, no_targets, target, CaseKind, Statement, empty, blocking, nonblocking, if_then, if_else, case, block, Statements, no_statements, statement, CaseItems, no_items, arm, default_arm}
-use Rattle.verilog_meaning.specs.Expression.{Object, Scope, is_memory, Bits, sign_of, width_of, value_of, selects_width, select_index, select_bits, is_true, assigned_value, natural_of}
-use Rattle.verilog_meaning.specs.Statement.{Cell, variable_cell, Place, indexed_cell, all_bits, named_place, places, all_places, places_width, target_width, targets_width, written_cell, written_place, written, Update, Effect, unchanged, after_updates, followed_by, greatest_width, all_signed, items_width, items_signed, wild_bits, matches, any_matches, run, run_all, run_case, with_update, with_updates}
-use Rattle.verilog_renamed.specs.Renamed.{renamed_expression, renamed_expressions, renamed_select, renamed_selects, renamed_target, renamed_targets, renamed_statement, renamed_statements, renamed_case_items, renamed_place, renamed_places, renamed_update, renamed_updates}
+use Rattle.wb_values.specs.Value.{Name, same_name, Valuation}
+use Rattle.verilog_trees.specs.Syntax.{Expression, number, name, concatenation, replication, as_signed, as_unsigned, unary, reduction, binary, shift, power, comparison, logical, conditional, Expressions, no_expressions, expression, Selects, whole, one, two, Target, place, joined, Targets, no_targets, target, CaseKind, Statement, empty, blocking, nonblocking, if_then, if_else, case, block, Statements, no_statements, statement, CaseItems, no_items, arm, default_arm}
+use Rattle.verilog_meaning.specs.Expression.{Scope, is_memory, sign_of, width_of, value_of, assigned_value}
+use Rattle.verilog_meaning.specs.Statement.{variable_cell, Place, indexed_cell, all_bits, named_place, places, all_places, places_width, target_width, targets_width, written_cell, written_place, written, Update, Effect, unchanged, greatest_width, all_signed, items_width, items_signed, wild_bits, matches, any_matches, run, run_all, run_case, with_update, with_updates}
+use Rattle.verilog_renamed.specs.Renamed.{renamed_expression, renamed_expressions, renamed_selects, renamed_target, renamed_targets, renamed_statement, renamed_statements, renamed_case_items, renamed_place, renamed_places, renamed_update, renamed_updates}
 use Rattle.verilog_renamed.specs.Laws.{IsOneToOne, IsNew, KeepsOthers}
 use Rattle.verilog_renamed.proofs.Paths.{ap2, ap3, through, is_name}
-use Rattle.verilog_renamed.proofs.Expressions.{Same, SameSelect, SameSelects, same, same_select, same_selects, condition, assigned}
+use Rattle.verilog_renamed.proofs.Expressions.{SameSelect, same, same_select, same_selects, condition, assigned}
 
 -- ---- targets
 

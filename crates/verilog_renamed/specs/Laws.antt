@@ -1,14 +1,15 @@
 -- What trees with other names mean: the same, under the new names.
 use Rattle.std.specs.Prelude.{◌≡◌, ◌⊎◌, ◌↔◌, ℕ, Bool, false, List, option_map, IsTrue}
-use Rattle.wb_values.specs.Value.{Name, same_name, Valuation}
-use Rattle.verilog_trees.specs.Syntax.{Expression, Selects, Target, Statement}
-use Rattle.verilog_meaning.specs.Expression.{Object, Scope, sign_of, width_of, value_of, self_value, integer_of, is_true, assigned_value}
+use Rattle.wb_values.specs.Value.{Name, same_name, Value, Valuation}
+use Rattle.verilog_trees.specs.Syntax.{Expression, Expressions, Select, Selects, Target, CaseKind, Statement, CaseItems}
+use Rattle.verilog_meaning.specs.Expression.{Object, Scope, selects_sign, sign_of, width_of, widths_of, selects_width, value_of, joined_value, selected, select_index, select_bits, self_value, integer_of, is_true, assigned_value}
 use Rattle.verilog_meaning.specs.Statement.{Place, places, target_width, written, Update, Effect, run, with_updates}
 use Rattle.verilog_meaning.specs.Register.{is_constant, selects_are_constant, may_mean, may_reach, may_assign, one_may_assign, counts, after_edge}
 use Rattle.verilog_meaning.specs.Settled.{Has, HasAssigned, HasRun, HasRunAll, as_target, one_may_reach}
-use Rattle.verilog_designs.specs.Reads.{BitSet}
+use Rattle.verilog_designs.specs.Reads.{BitSet, reads, target_reads, items_read, surely_reaches, surely_assigns, has_default, is_full, reads_after, reads_outside}
+use Rattle.verilog_designs.specs.Dependence.{Bit, IsGivenBy, at_start, After}
 use Rattle.verilog_settled.specs.Locality.{has_constant_selects}
-use Rattle.verilog_renamed.specs.Renamed.{renamed_expression, renamed_selects, renamed_target, renamed_statement, renamed_assignments, renamed_blocks, renamed_places, renamed_updates}
+use Rattle.verilog_renamed.specs.Renamed.{renamed_expression, renamed_expressions, renamed_select, renamed_selects, renamed_target, renamed_statement, renamed_case_items, renamed_assignments, renamed_blocks, renamed_places, renamed_updates, renamed_bit}
 
 -- `new` says of each new name what `old` says of the old one: two scopes, or two valuations.
 abbrev pub AreRenamed : {A : Type 0} → (Name → Name) → (old new : Name → A) → Type 0
@@ -37,6 +38,19 @@ pub record MeansTheSame (f : Name → Name) (s t : Scope) (v w : Valuation) (e :
 
 abbrev pub ExpressionsMeanTheSame : Type 0
 ExpressionsMeanTheSame = (f : Name → Name) (s t : Scope) (v w : Valuation) (e : Expression) → AreRenamed f s t → AreRenamed f v w → MeansTheSame f s t v w e
+
+-- So do parts side by side, and selects after a name.
+pub record PartsMeanTheSame (f : Name → Name) (s t : Scope) (v w : Valuation) : Type 0 where
+  pub widths : (es : Expressions) → widths_of t (renamed_expressions f es) ≡ widths_of s es
+  pub joined : (es : Expressions) → joined_value t w (renamed_expressions f es) ≡ joined_value s v es
+  pub index : (x : Select) → select_index t w (renamed_select f x) ≡ select_index s v x
+  pub bits : (o : Object) (x : Select) → select_bits t w o (renamed_select f x) ≡ select_bits s v o x
+  pub selects_sign : (o : Object) (x : Selects) → selects_sign o (renamed_selects f x) ≡ selects_sign o x
+  pub selects_width : (o : Object) (x : Selects) → selects_width t o (renamed_selects f x) ≡ selects_width s o x
+  pub selected : (o : Object) (y : Value) (x : Selects) → selected t w o y (renamed_selects f x) ≡ selected s v o y x
+
+abbrev pub PartsDoMeanTheSame : Type 0
+PartsDoMeanTheSame = (f : Name → Name) (s t : Scope) (v w : Valuation) → AreRenamed f s t → AreRenamed f v w → PartsMeanTheSame f s t v w
 
 -- ---- targets and statements
 
@@ -133,3 +147,51 @@ TargetsAreRenamed = (f : Name → Name) (e : Expression) → as_target (renamed_
 abbrev pub ConstantTargetsAreTheSame : Type 0
 ConstantTargetsAreTheSame =
     (f : Name → Name) (s t : Scope) (x : Target) → AreRenamed f s t → has_constant_selects t (renamed_target f x) ≡ has_constant_selects s x
+
+-- ---- what is read
+
+pub record ReadsTheSame (f : Name → Name) (s t : Scope) : Type 0 where
+  pub expressions : (e : Expression) → AreRenamedBits f (reads s e) (reads t (renamed_expression f e))
+  pub targets : (x : Target) → AreRenamedBits f (target_reads s x) (target_reads t (renamed_target f x))
+  pub items : (is : CaseItems) → AreRenamedBits f (items_read s is) (items_read t (renamed_case_items f is))
+  -- of a statement, where the same bits were assigned before
+  pub statements : (x : Statement) (old new : BitSet) → ((n : Name) (k b : ℕ) → new (f n) k b ≡ old n k b)
+      → AreRenamedBits f (reads_after s old x) (reads_after t new (renamed_statement f x))
+  pub outside : (x : Statement) → AreRenamedBits f (reads_outside s x) (reads_outside t (renamed_statement f x))
+
+abbrev pub ReadBitsAreTheSame : Type 0
+ReadBitsAreTheSame = (f : Name → Name) (s t : Scope) → IsOneToOne f → AreRenamed f s t → ReadsTheSame f s t
+
+-- What is assigned on each path, and which cases are full.
+pub record SurelyAssignsTheSame (f : Name → Name) (s t : Scope) : Type 0 where
+  pub targets : (x : Target) → AreRenamedBits f (surely_reaches s x) (surely_reaches t (renamed_target f x))
+  pub statements : (x : Statement) → AreRenamedBits f (surely_assigns s x) (surely_assigns t (renamed_statement f x))
+  pub defaults : (is : CaseItems) → has_default (renamed_case_items f is) ≡ has_default is
+  pub full : (kind : CaseKind) (e : Expression) (is : CaseItems)
+      → is_full t kind (renamed_expression f e) (renamed_case_items f is) ≡ is_full s kind e is
+
+abbrev pub SurelyAssignedBitsAreTheSame : Type 0
+SurelyAssignedBitsAreTheSame = (f : Name → Name) (s t : Scope) → IsOneToOne f → AreRenamed f s t → SurelyAssignsTheSame f s t
+
+-- ---- what rests on what
+
+-- A bit gets its value from the same bits, the names of the target replaced by f and those of the right side by g, as those of the two
+-- sides of a connection are; and no bit of another name gets or gives a value.
+pub record IsGivenByTheSame (f g : Name → Name) (around new_around inner new_inner : Scope) (x : Target) (e : Expression) : Type 0 where
+  pub same : (u y : Bit)
+      → IsGivenBy new_around (renamed_target f x) new_inner (renamed_expression g e) (renamed_bit f u) (renamed_bit g y) ↔ IsGivenBy around x inner e u y
+  pub only : (u y : Bit) → IsGivenBy new_around (renamed_target f x) new_inner (renamed_expression g e) u y → IsNew f u.of_name × IsNew g y.of_name
+
+abbrev pub GivenBitsAreTheSame : Type 0
+GivenBitsAreTheSame =
+    (f g : Name → Name) (around new_around inner new_inner : Scope) (x : Target) (e : Expression) → IsOneToOne f → IsOneToOne g
+    → AreRenamed f around new_around → AreRenamed g inner new_inner → IsGivenByTheSame f g around new_around inner new_inner x e
+
+-- After the statement a bit of a new name depends on the same bits as before, all of new names, and a bit of another name on itself alone.
+pub record DependsOnTheSame (f : Name → Name) (s t : Scope) (x : Statement) : Type 0 where
+  pub same : (u y : Bit) → After t at_start (renamed_statement f x) (renamed_bit f u) (renamed_bit f y) ↔ After s at_start x u y
+  pub only : (u y : Bit) → After t at_start (renamed_statement f x) (renamed_bit f u) y → IsNew f y.of_name
+  pub others : (u y : Bit) → After t at_start (renamed_statement f x) u y → IsNew f u.of_name ⊎ (u ≡ y)
+
+abbrev pub DependencesAreTheSame : Type 0
+DependencesAreTheSame = (f : Name → Name) (s t : Scope) (x : Statement) → IsOneToOne f → AreRenamed f s t → DependsOnTheSame f s t x
