@@ -11,7 +11,7 @@ use Rattle.verilog_meaning.specs.Register.{selects_are_constant, is_bit_of, may_
 use Rattle.verilog_designs.specs.Reads.{BitSet, reads, or_in, selects_read, items_read, surely_reaches, is_full}
 use Rattle.verilog_designs.specs.Dependence.{Bit, is_in, is_plain, are_plain, word_of_cell, natural_in, bit_in, bit_at, widened_bit, copied, copied_in, is_same_cell, takes, one_takes, index_reads, one_index_reads, IsGivenBy, Dependences, ThroughReads, AfterAssignment, AfterChoice, NoArm, After, AfterAll, AfterArms}
 use Rattle.verilog_renamed.specs.Renamed.{renamed_expression, renamed_expressions, renamed_selects, renamed_target, renamed_targets, renamed_statement, renamed_statements, renamed_case_items, renamed_bit}
-use Rattle.verilog_renamed.specs.Laws.{IsOneToOne, IsNew, AreRenamedBits}
+use Rattle.verilog_renamed.specs.Laws.{IsOneToOne, IsNewName, AreRenamedBits}
 use Rattle.verilog_renamed.proofs.Paths.{ap2, ap3, through, is_name, name_itself, either_way, first_of_both, second_of_both}
 use Rattle.verilog_renamed.proofs.Expressions.{same, same_parts, same_selects}
 use Rattle.verilog_renamed.proofs.Statements.{named_same, same_target_width, same_targets_width}
@@ -38,7 +38,7 @@ pub old_so : (f : Name → Name) (P Q : Bit → Type 0) (y : Bit) → ((z : Bit)
 old_so f P Q y k h = record { old = h.old; is_new = h.is_new; is_so = k h.old h.is_so }
 
 -- a bit of a new name
-pub old_bit : (f : Name → Name) (y : Bit) → IsNew f y.of_name → HasOld f (λ z. ⊤) y
+pub old_bit : (f : Name → Name) (y : Bit) → IsNewName f y.of_name → HasOld f (λ z. ⊤) y
 old_bit f y h =
     record {
       old = record { of_name = h.old; word = y.word; place = y.place };
@@ -46,7 +46,7 @@ old_bit f y h =
       is_so = tt;
     }
 
-new_name : (f : Name → Name) (P : Bit → Type 0) (y : Bit) → HasOld f P y → IsNew f y.of_name
+new_name : (f : Name → Name) (P : Bit → Type 0) (y : Bit) → HasOld f P y → IsNewName f y.of_name
 new_name f P y h = record { old = h.old.of_name; is_new = ap (λ (z : Bit). z.of_name) h.is_new }
 
 -- ---- what is copied
@@ -143,16 +143,16 @@ module _ (f : Name → Name) (t : Scope) where
 
 record TakesTheSame (f : Name → Name) (t : Scope) (x : Target) : Type 0 where
   same : (u : Bit) (j : ℕ) → takes t (renamed_target f x) (renamed_bit f u) j ≡ takes (through f t) x u j
-  only : (u : Bit) (j : ℕ) → IsTrue (takes t (renamed_target f x) u j) → IsNew f u.of_name
+  only : (u : Bit) (j : ℕ) → IsTrue (takes t (renamed_target f x) u j) → IsNewName f u.of_name
 
 record OneTakesTheSame (f : Name → Name) (t : Scope) (xs : Targets) : Type 0 where
   same : (u : Bit) (j : ℕ) → one_takes t (renamed_targets f xs) (renamed_bit f u) j ≡ one_takes (through f t) xs u j
-  only : (u : Bit) (j : ℕ) → IsTrue (one_takes t (renamed_targets f xs) u j) → IsNew f u.of_name
+  only : (u : Bit) (j : ℕ) → IsTrue (one_takes t (renamed_targets f xs) u j) → IsNewName f u.of_name
 
 -- the bits of indexes, for the new bit of u, and for any
 record IndexesTheSame (f : Name → Name) (old new : Bit → BitSet) : Type 0 where
   same : (u : Bit) → AreRenamedBits f (old u) (new (renamed_bit f u))
-  reached : (u : Bit) (n : Name) (k b : ℕ) → IsTrue (new u n k b) → IsNew f u.of_name
+  reached : (u : Bit) (n : Name) (k b : ℕ) → IsTrue (new u n k b) → IsNewName f u.of_name
 
 module _ (f : Name → Name) (apart : IsOneToOne f) (t : Scope) where
   mutual
@@ -280,11 +280,11 @@ module _ (f g : Name → Name) (apart : IsOneToOne f) (inner_apart : IsOneToOne 
             (sym ((same_reads g inner_apart r e).same h.old.of_name h.old.word h.old.place) ∙ there);
       }
 
-  pub given_new : (u y : Bit) → IsGivenBy t (renamed_target f x) r (renamed_expression g e) u y → IsNew f u.of_name
+  pub given_new : (u y : Bit) → IsGivenBy t (renamed_target f x) r (renamed_expression g e) u y → IsNewName f u.of_name
   given_new u y (IsGivenBy.copied_to j p l k c) = (same_takes f apart t x).only u j k
   given_new u y (IsGivenBy.computed p k i) = (same_reach f apart t x).only u.of_name u.word u.place k
 
-  pub given_from : (u y : Bit) → IsGivenBy t (renamed_target f x) r (renamed_expression g e) u y → IsNew g y.of_name
+  pub given_from : (u y : Bit) → IsGivenBy t (renamed_target f x) r (renamed_expression g e) u y → IsNewName g y.of_name
   given_from u y h =
       let k : HasOld f (λ z. ⊤) u = old_bit f u (given_new u y h) in
       new_name g (IsGivenBy (through f t) x (through g r) e k.old) y
@@ -329,7 +329,7 @@ choice_back f b c P Q R X Y Z y e i j k h = by_test b (subst (λ d. AfterChoice 
     by_test true (inr l) = old_so f Q (λ z. P z ⊎ Q z) y (λ z m. inr m) (j l)
     by_test false l = k l
 
-choice_new : (f : Name → Name) (n : Name) (c : Bool) (X Y Z : Type 0) → (IsTrue c → IsNew f n) → AfterChoice c X Y Z → IsNew f n ⊎ Z
+choice_new : (f : Name → Name) (n : Name) (c : Bool) (X Y Z : Type 0) → (IsTrue c → IsNewName f n) → AfterChoice c X Y Z → IsNewName f n ⊎ Z
 choice_new f n true X Y Z k h = inl (k refl)
 choice_new f n false X Y Z k h = inr h
 
@@ -382,7 +382,7 @@ module _ (f : Name → Name) (apart : IsOneToOne f) (t : Scope) where
       (reads_back f B C (index_reads (through f t) x u) (index_reads t (renamed_target f x) (renamed_bit f u)) ((same_indexes f apart t x).same u) come y h)
 
   assignment_new : (x : Target) (e : Expression) (C : Dependences) (u y : Bit) → AfterAssignment t C (renamed_target f x) (renamed_expression f e) u y
-      → IsNew f u.of_name ⊎ C u y
+      → IsNewName f u.of_name ⊎ C u y
   assignment_new x e C u y (AfterAssignment.kept n b) = inr b
   assignment_new x e C u y (AfterAssignment.given z i b) = inl (given_new f f apart apart t t x e u z i)
   assignment_new x e C u y (AfterAssignment.indexed h) = inl ((same_indexes f apart t x).reached u h.0.of_name h.0.word h.0.place h.1)
@@ -468,7 +468,7 @@ module _ (f : Name → Name) (apart : IsOneToOne f) (t : Scope) where
 
   -- a bit of another name is what it was
   mutual
-    pub after_new : (x : Statement) (C : Dependences) (u y : Bit) → After t C (renamed_statement f x) u y → IsNew f u.of_name ⊎ C u y
+    pub after_new : (x : Statement) (C : Dependences) (u y : Bit) → After t C (renamed_statement f x) u y → IsNewName f u.of_name ⊎ C u y
     after_new empty C u y h = inr h
     after_new (blocking x e) C u y h = assignment_new x e C u y h
     after_new (nonblocking x e) C u y h = inr h
@@ -477,7 +477,7 @@ module _ (f : Name → Name) (apart : IsOneToOne f) (t : Scope) where
     after_new (case kind e items) C u y h = choice_new f u.of_name _ _ _ _ ((same_assign f apart t (case kind e items)).only u.of_name u.word u.place) h
     after_new (block n xs) C u y h = all_new xs C u y h
 
-    all_new : (xs : Statements) (C : Dependences) (u y : Bit) → AfterAll t C (renamed_statements f xs) u y → IsNew f u.of_name ⊎ C u y
+    all_new : (xs : Statements) (C : Dependences) (u y : Bit) → AfterAll t C (renamed_statements f xs) u y → IsNewName f u.of_name ⊎ C u y
     all_new no_statements C u y h = inr h
     all_new (statement x xs) C u y h = by_rest (all_new xs (After t C (renamed_statement f x)) u y h) (after_new x C u y)
       where

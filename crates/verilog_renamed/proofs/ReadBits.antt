@@ -9,7 +9,7 @@ use Rattle.verilog_meaning.specs.Statement.{items_width, items_signed}
 use Rattle.verilog_meaning.specs.Register.{selects_are_constant, may_mean, is_bit_of}
 use Rattle.verilog_designs.specs.Reads.{BitSet, no_bits, or_in, but_not_in, name_reads, reads, reads_in_all, select_reads, selects_read, target_reads, targets_read, items_read, surely_reaches, one_surely_reaches, has_default, one_is, items_have, items_have_all, is_full, surely_assigns, one_surely_assigns, each_arm_assigns, reads_after, all_read_after, arms_read_after}
 use Rattle.verilog_renamed.specs.Renamed.{renamed_expression, renamed_expressions, renamed_select, renamed_selects, renamed_target, renamed_targets, renamed_statement, renamed_statements, renamed_case_items}
-use Rattle.verilog_renamed.specs.Laws.{IsOneToOne, IsNew, AreRenamedBits}
+use Rattle.verilog_renamed.specs.Laws.{IsOneToOne, IsNewName, AreRenamedBits}
 use Rattle.verilog_renamed.proofs.Paths.{ap2, ap3, through, is_name, first_of_both}
 use Rattle.verilog_renamed.proofs.Expressions.{same}
 use Rattle.verilog_renamed.proofs.Statements.{same_items_width, same_items_signed}
@@ -163,7 +163,7 @@ none_full t exact_case e =
 -- the bits that each arm assigns, where there is one
 record AreArmBits (f : Name → Name) (items : CaseItems) (old new : BitSet) : Type 0 where
   same : (n : Name) (k b : ℕ) → new (f n) k b ≡ old n k b
-  only : (n : Name) (k b : ℕ) → IsTrue (new n k b) → IsNew f n ⊎ (items ≡ no_items)
+  only : (n : Name) (k b : ℕ) → IsTrue (new n k b) → IsNewName f n ⊎ (items ≡ no_items)
 
 in_full : (c : Bool) (p : BitSet) (n : Name) (k b : ℕ) → IsTrue ((cond c p no_bits) n k b) → (c ≡ true) × IsTrue (p n k b)
 in_full true p n k b h = (refl, h)
@@ -197,7 +197,7 @@ module _ (f : Name → Name) (apart : IsOneToOne f) (t : Scope) where
         }
       where
         by_items : (kd : CaseKind) (d : Expression) (is : CaseItems) (n : Name) → is_full t kd (renamed_expression f d) (renamed_case_items f is) ≡ true
-            → IsNew f n ⊎ (is ≡ no_items) → IsNew f n
+            → IsNewName f n ⊎ (is ≡ no_items) → IsNewName f n
         by_items kd d is n g (inl i) = i
         by_items kd d is n g (inr i) =
             let none : is_full t kd (renamed_expression f d) no_items ≡ true

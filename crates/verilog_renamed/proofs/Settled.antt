@@ -7,7 +7,7 @@ use Rattle.verilog_meaning.specs.Statement.{places, target_width, written, run}
 use Rattle.verilog_meaning.specs.Settled.{Has, HasAssigned, HasRun, HasRunAll, as_target, all_as_targets}
 use Rattle.verilog_settled.specs.Locality.{has_constant_selects, all_have_constant_selects}
 use Rattle.verilog_renamed.specs.Renamed.{renamed_expression, renamed_expressions, renamed_target, renamed_targets, renamed_statement, renamed_assignments, renamed_blocks}
-use Rattle.verilog_renamed.specs.Laws.{IsOneToOne, IsNew, KeepsOthers}
+use Rattle.verilog_renamed.specs.Laws.{IsOneToOne, IsNewName, KeepsOthers}
 use Rattle.verilog_renamed.proofs.Paths.{ap2, through}
 use Rattle.verilog_renamed.proofs.Statements.{SameEffect, same_places, same_written, written_keeps, value_given, same_run}
 use Rattle.verilog_renamed.proofs.Registers.{same_selects_constant}
@@ -16,7 +16,7 @@ use Rattle.verilog_renamed.proofs.Registers.{same_selects_constant}
 gives_back : (f : Name → Name) (w u x : Valuation) → through f u ≡ x → KeepsOthers f w u → ((n : Name) → u n ≡ w n) ↔ ((n : Name) → x n ≡ w (f n))
 gives_back f w u x e kept = (λ h n. sym (λ i. e i n) ∙ h (f n), λ h n. by_name h n (kept n))
   where
-    by_name : ((m : Name) → x m ≡ w (f m)) → (n : Name) → IsNew f n ⊎ (u n ≡ w n) → u n ≡ w n
+    by_name : ((m : Name) → x m ≡ w (f m)) → (n : Name) → IsNewName f n ⊎ (u n ≡ w n) → u n ≡ w n
     by_name h n (inl k) = subst (λ m. u m ≡ w m) k.is_new ((λ i. e i k.old) ∙ h k.old)
     by_name h n (inr k) = k
 

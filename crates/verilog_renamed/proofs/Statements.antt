@@ -6,7 +6,7 @@ use Rattle.verilog_trees.specs.Syntax.{Expression, number, name, concatenation, 
 use Rattle.verilog_meaning.specs.Expression.{Scope, is_memory, sign_of, width_of, value_of, assigned_value}
 use Rattle.verilog_meaning.specs.Statement.{variable_cell, Place, indexed_cell, all_bits, named_place, places, all_places, places_width, target_width, targets_width, written_cell, written_place, written, Update, Effect, unchanged, greatest_width, all_signed, items_width, items_signed, wild_bits, matches, any_matches, run, run_all, run_case, with_update, with_updates}
 use Rattle.verilog_renamed.specs.Renamed.{renamed_expression, renamed_expressions, renamed_selects, renamed_target, renamed_targets, renamed_statement, renamed_statements, renamed_case_items, renamed_place, renamed_places, renamed_update, renamed_updates}
-use Rattle.verilog_renamed.specs.Laws.{IsOneToOne, IsNew, KeepsOthers}
+use Rattle.verilog_renamed.specs.Laws.{IsOneToOne, IsNewName, KeepsOthers}
 use Rattle.verilog_renamed.proofs.Paths.{ap2, ap3, through, is_name}
 use Rattle.verilog_renamed.proofs.Expressions.{SameSelect, same, same_select, same_selects, condition, assigned}
 
@@ -81,7 +81,7 @@ module _ (f : Name → Name) (apart : IsOneToOne f) (t : Scope) where
 pub keeps_then : (f : Name → Name) (v w u : Valuation) → KeepsOthers f v w → KeepsOthers f w u → KeepsOthers f v u
 keeps_then f v w u h k n = by_second (h n) (k n)
   where
-    by_second : IsNew f n ⊎ (w n ≡ v n) → IsNew f n ⊎ (u n ≡ w n) → IsNew f n ⊎ (u n ≡ v n)
+    by_second : IsNewName f n ⊎ (w n ≡ v n) → IsNewName f n ⊎ (u n ≡ w n) → IsNewName f n ⊎ (u n ≡ v n)
     by_second (inl a) b = inl a
     by_second (inr a) (inl b) = inl b
     by_second (inr a) (inr b) = inr (b ∙ a)
@@ -91,7 +91,7 @@ module _ (f : Name → Name) (t : Scope) where
   place_keeps w p x n = by_test (same_name (f p.of_name) n) refl
     where
       by_test : (b : Bool) → same_name (f p.of_name) n ≡ b
-          → IsNew f n ⊎ (cond b (written_cell (t (f p.of_name)) (w (f p.of_name)) p.cell p.bits x) (w n) ≡ w n)
+          → IsNewName f n ⊎ (cond b (written_cell (t (f p.of_name)) (w (f p.of_name)) p.cell p.bits x) (w n) ≡ w n)
       by_test true e = inl (record { old = p.of_name; is_new = is_name (f p.of_name) n e })
       by_test false e = inr refl
 

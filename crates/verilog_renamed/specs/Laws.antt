@@ -20,7 +20,7 @@ abbrev pub IsOneToOne : (Name → Name) → Type 0
 IsOneToOne f = (m n : Name) → same_name (f m) (f n) ≡ same_name m n
 
 -- It is the new name of some name.
-pub record IsNew (f : Name → Name) (n : Name) : Type 0 where
+pub record IsNewName (f : Name → Name) (n : Name) : Type 0 where
   pub old : Name
   pub is_new : f old ≡ n
 
@@ -64,7 +64,7 @@ TargetsNameTheSame = (f : Name → Name) (s t : Scope) (v w : Valuation) (x : Ta
 
 -- Each name is a new one, or has what it had before.
 abbrev pub KeepsOthers : (Name → Name) → (before after : Valuation) → Type 0
-KeepsOthers f v w = (n : Name) → IsNew f n ⊎ (w n ≡ v n)
+KeepsOthers f v w = (n : Name) → IsNewName f n ⊎ (w n ≡ v n)
 
 -- Of `before` came `new`: under each new name what `old` has under the old one, and under every other name what was there before.
 pub record ChangesTheSame (f : Name → Name) (before old new : Valuation) : Type 0 where
@@ -110,11 +110,11 @@ ConstantsAreTheSame = (f : Name → Name) (s t : Scope) → AreRenamed f s t →
 -- The bits of `new` are those of `old` under the new names: at each new name the same, and of no other name any.
 pub record AreRenamedBits (f : Name → Name) (old new : BitSet) : Type 0 where
   pub same : (n : Name) (k b : ℕ) → new (f n) k b ≡ old n k b
-  pub only : (n : Name) (k b : ℕ) → IsTrue (new n k b) → IsNew f n
+  pub only : (n : Name) (k b : ℕ) → IsTrue (new n k b) → IsNewName f n
 
 abbrev pub OtherNamesHaveNoBits : Type 0
 OtherNamesHaveNoBits =
-    (f : Name → Name) (old new : BitSet) (n : Name) (k b : ℕ) → AreRenamedBits f old new → ¬ IsNew f n → new n k b ≡ false
+    (f : Name → Name) (old new : BitSet) (n : Name) (k b : ℕ) → AreRenamedBits f old new → ¬ IsNewName f n → new n k b ≡ false
 
 -- The bits that may be assigned.
 pub record MayAssignTheSame (f : Name → Name) (s t : Scope) : Type 0 where
@@ -180,7 +180,7 @@ SurelyAssignedBitsAreTheSame = (f : Name → Name) (s t : Scope) → IsOneToOne 
 pub record IsGivenByTheSame (f g : Name → Name) (around new_around inner new_inner : Scope) (x : Target) (e : Expression) : Type 0 where
   pub same : (u y : Bit)
       → IsGivenBy new_around (renamed_target f x) new_inner (renamed_expression g e) (renamed_bit f u) (renamed_bit g y) ↔ IsGivenBy around x inner e u y
-  pub only : (u y : Bit) → IsGivenBy new_around (renamed_target f x) new_inner (renamed_expression g e) u y → IsNew f u.of_name × IsNew g y.of_name
+  pub only : (u y : Bit) → IsGivenBy new_around (renamed_target f x) new_inner (renamed_expression g e) u y → IsNewName f u.of_name × IsNewName g y.of_name
 
 abbrev pub GivenBitsAreTheSame : Type 0
 GivenBitsAreTheSame =
@@ -190,8 +190,8 @@ GivenBitsAreTheSame =
 -- After the statement a bit of a new name depends on the same bits as before, all of new names, and a bit of another name on itself alone.
 pub record DependsOnTheSame (f : Name → Name) (s t : Scope) (x : Statement) : Type 0 where
   pub same : (u y : Bit) → After t at_start (renamed_statement f x) (renamed_bit f u) (renamed_bit f y) ↔ After s at_start x u y
-  pub only : (u y : Bit) → After t at_start (renamed_statement f x) (renamed_bit f u) y → IsNew f y.of_name
-  pub others : (u y : Bit) → After t at_start (renamed_statement f x) u y → IsNew f u.of_name ⊎ (u ≡ y)
+  pub only : (u y : Bit) → After t at_start (renamed_statement f x) (renamed_bit f u) y → IsNewName f y.of_name
+  pub others : (u y : Bit) → After t at_start (renamed_statement f x) u y → IsNewName f u.of_name ⊎ (u ≡ y)
 
 abbrev pub DependencesAreTheSame : Type 0
 DependencesAreTheSame = (f : Name → Name) (s t : Scope) (x : Statement) → IsOneToOne f → AreRenamed f s t → DependsOnTheSame f s t x
