@@ -1,2 +1,0 @@
-pub mod NewNames
-pub mod Copies
