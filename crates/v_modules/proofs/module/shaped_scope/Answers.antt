@@ -1,4 +1,5 @@
 use Rattle.std.proofs.Common.{refl, ap, ◌∙◌, arith}
+use Rattle.v_value.specs.Scope.{objects_of}
 use Rattle.v_scopes.specs.Scopes.{scope_in}
 use Rattle.v_scopes.proofs.Objects.{object_turn, list_end}
 use Rattle.v_modules.specs.Combined.{shape}
@@ -11,4 +12,5 @@ loop-each-preserved c =
 
 pub returns : goal.returns
 returns c =
-    list_end (λ n. shape c.args.nets (scope_in c.args.names.now n)) c.args.declared.now c.loop-each.each-index c.loop-each.list.items _ (omega (arith, c.loop-each-test.false)) c.loop-each.invariant
+    ap objects_of c.in_ok-scope.ensures
+    ∙ list_end (λ n. shape c.args.nets (scope_in c.args.names.now n)) c.args.declared.now c.loop-each.each-index c.loop-each.list.items _ (omega (arith, c.loop-each-test.false)) c.loop-each.invariant
