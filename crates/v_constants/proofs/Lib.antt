@@ -1,0 +1,6 @@
+pub mod Alike
+pub mod Ranges
+mod Narrow
+mod Entered
+mod Gathered
+mod Lists

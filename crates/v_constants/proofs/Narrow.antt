@@ -1,0 +1,71 @@
+-- Parameters have at most 128 bits, which their numbers fit.
+use Rattle.std.proofs.Common.{◌≡◌, ◌≤◌, ◌<◌, ◌^◌, ℕ, ◌+◌, ◌-◌, ◌%◌, max, Bool, true, false, cond, ◌||◌, refl, ap, sym, subst, ◌∙◌, arith, List, [], ◌∷◌, ◌++◌, Option, Some, None, option_map}
+use Rattle.std.specs.Prelude.{IfSome}
+use Rattle.wb_values.specs.Value.{Name, same_name, Entries, entry_of}
+use Rattle.wb_values.specs.Choice.{first_of}
+use Rattle.verilog_trees.specs.Syntax as pure
+use Rattle.verilog_meaning.specs.Expression.{Object, Scope, undeclared, object_or_undeclared, scope_of, distance, object_width, no_values, width_of, sign_of, value_of}
+use Rattle.verilog_meaning.specs.Hierarchy.{constant_object}
+use Rattle.verilog_designs.specs.Known.{known_entry}
+use Rattle.v_value.specs.declared.scope.Declaration.{Declaration}
+use Rattle.v_value.specs.Scope.{object_of, objects_of}
+use Rattle.v_value.specs.Narrow.{IsWidth, IsNarrow, IsNarrowObject, HasNarrowObjects}
+use Rattle.v_value.proofs.Narrows.{narrow_width}
+use Rattle.v_constants.specs.Values.{numbered, own_at, ranged_at}
+use Rattle.v_constants.proofs.Ranges.{entry_append}
+
+-- ---- objects
+
+-- that of a value without a range
+own_width : (w : ℕ) → 1 ≤ w → distance (w - 1) 0 + 1 ≡ w
+own_width w h = omega arith
+
+pub own_narrow : (s : Scope) (e : pure.Expression) (signed : Bool) (w x : ℕ) → IsNarrow s e → w ≡ width_of s e → x < 2 ^ w → IsNarrowObject (numbered signed (w - 1, 0) x)
+own_narrow s e signed w x h i f =
+    let k : IsWidth w = subst IsWidth (sym i) (narrow_width s e h) in
+    let same : distance (w - 1) 0 + 1 ≡ w = own_width w k.0 in
+    (subst (λ n. n ≤ 128) (sym same) k.1, subst (λ n. x < 2 ^ n) (sym same) f)
+
+pub own_so : (s : Scope) (e : pure.Expression) (signed t : Bool) (w x : ℕ) → w ≡ width_of s e → t ≡ sign_of s e → x ≡ value_of s no_values e w t
+    → numbered (signed || t) (w - 1, 0) x ≡ own_at s signed e
+unfolding own_at
+own_so s e signed t w x i j k =
+    ap (constant_object (signed || t) w) k
+    ∙ (ap (λ n. constant_object (signed || t) n (value_of s no_values e n t)) i
+    ∙ ap (λ g. constant_object (signed || g) (width_of s e) (value_of s no_values e (width_of s e) g)) j)
+
+-- that of a value with one
+pub ranged_narrow : (signed : Bool) (l r x : ℕ) → distance l r + 1 ≤ 128 → x < 2 ^ (distance l r + 1) → IsNarrowObject (numbered signed (l, r) x)
+ranged_narrow signed l r x h f = (h, f)
+
+pub ranged_so : (s : Scope) (e : pure.Expression) (signed t : Bool) (l r own w x y : ℕ) → w ≡ distance l r + 1 → own ≡ width_of s e → t ≡ sign_of s e
+    → x ≡ value_of s no_values e (max w own) t → y ≡ x % 2 ^ w → numbered signed (l, r) y ≡ ranged_at s signed l r e
+unfolding ranged_at
+ranged_so s e signed t l r own w x y h i j k f =
+    ap (numbered signed (l, r))
+    (f ∙ (ap (λ n. n % 2 ^ w) k
+    ∙ (ap (λ n. value_of s no_values e (max w n) t % 2 ^ w) i
+    ∙ (ap (λ g. value_of s no_values e (max w (width_of s e)) g % 2 ^ w) j
+    ∙ ap (λ n. value_of s no_values e (max n (width_of s e)) (sign_of s e) % 2 ^ n) h))))
+
+pub most : (s : Scope) (e : pure.Expression) (w : ℕ) → IsNarrow s e → w ≡ width_of s e → w ≤ 128
+most s e w h i = subst (λ n. n ≤ 128) (sym i) (narrow_width s e h).1
+
+-- ---- one more in a scope
+
+at_name : (b : Bool) (o : Option Object) (n : Object) → IsNarrowObject (object_or_undeclared o) → IsNarrowObject n
+    → IsNarrowObject (object_or_undeclared (first_of o (cond b (Some n) None)))
+at_name b (Some o) n h k = h
+at_name true None n h k = k
+at_name false None n h k = h
+
+pub more_narrow : (known : Entries Object) (m : Name) (o : Object) → HasNarrowObjects (scope_of known) → IsNarrowObject o → HasNarrowObjects (scope_of (known ++ (m, o) ∷ []))
+more_narrow known m o h k n =
+    subst (λ e. IsNarrowObject (object_or_undeclared e)) (sym (entry_append known ((m, o) ∷ []) n)) (at_name (same_name m n) (entry_of known n) o (h n) k)
+
+pub objects_append : (ds : List Declaration) (d : Declaration) → objects_of (ds ++ d ∷ []) ≡ objects_of ds ++ (d.name.now, object_of d.object) ∷ []
+objects_append [] d = refl
+objects_append (e ∷ ds) d = ap (λ es. (e.name.now, object_of e.object) ∷ es) (objects_append ds d)
+
+pub none_narrow : HasNarrowObjects (scope_of [])
+none_narrow n = (omega arith, tt)
