@@ -64,14 +64,14 @@ one_more false None p x = refl
 one_more false (Some y) p x = refl
 
 -- a turn that puts an override into the table
-pub turn : (os : List Override) (i : ℕ) (d : Override) (old new all : Given) (q : Name) → i < length os
-    → new ≡ after old (get_or os i d) q → first_of old (given_of (drop i os) q) ≡ all → first_of new (given_of (drop (i + 1) os) q) ≡ all
-turn os i d old new all q h u e =
-    let x : Override = get_or os i d in
+pub turn : (os : List Override) (i : ℕ) (d : Override) (old new all : Given) (q : Name) → i < length os → d ≡ get_or os i d
+    → new ≡ after old d q → first_of old (given_of (drop i os) q) ≡ all → first_of new (given_of (drop (i + 1) os) q) ≡ all
+turn os i d old new all q h g u e =
     let rest : Given = given_of (drop (i + 1) os) q in
     ap (λ o. first_of o rest) u
-    ∙ (one_more (same_name x.name.now q) old rest (value_of x)
-    ∙ (ap (λ xs. first_of old (entry_of xs q)) (sym (given_drop os i d h)) ∙ e))
+    ∙ (one_more (same_name d.name.now q) old rest (value_of d)
+    ∙ (ap (λ x. first_of old (cond (same_name x.name.now q) (Some (value_of x)) rest)) g
+    ∙ (ap (λ xs. first_of old (entry_of xs q)) (sym (given_drop os i d h)) ∙ e)))
 
 -- an override behind others
 pub one_behind : (os : List Override) (d : Override) (q : Name) → given_of (os ++ d ∷ []) q ≡ after (given_of os q) d q

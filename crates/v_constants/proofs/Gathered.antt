@@ -1,10 +1,12 @@
 -- Overrides are gathered connection by connection.
-use Rattle.std.proofs.Common.{◌≡◌, ◌∙◌, refl, ap, sym, subst, ℕ, ◌+◌, ◌<◌, ◌≤◌, Bool, true, false, true≢false, cond, List, [], ◌∷◌, ◌++◌, length, drop, get_or, Bor, Option, Some, None, option_map, map, add-one, drop-cons, arith, min, nat_le, ◌⊎◌, inl, inr}
+use Rattle.std.proofs.Common.{◌≡◌, ◌∙◌, refl, ap, sym, subst, ℕ, suc, ◌+◌, ◌<◌, ◌≤◌, Bool, true, false, true≢false, cond, List, [], ◌∷◌, ◌++◌, length, drop, get_or, Bor, Option, Some, None, option_map, map, add-one, drop-cons, arith, min, nat_le, ◌⊎◌, inl, inr}
 use Rattle.std.proofs.lemmas.Bool.Decides.{nat_tests}
 use Rattle.std.specs.Ordering.{nat_cmp}
 use Rattle.std.specs.Cmp.Lexicographic.{slice_cmp}
 use Rattle.std.specs.BTreeSet as sorted
 use Rattle.std.specs.BTreeSet.{BTreeSet}
+use Rattle.std.specs.List.{list_any}
+use Rattle.std.specs.BTreeMap.{is_at}
 use Rattle.std.proofs.lemmas.Slice.Eq.{bytes_eq-Decides}
 use Rattle.std.proofs.lemmas.Map.Text.{is_eq-slice_cmp}
 use Rattle.std.proofs.lemmas.List.{drop_all}
@@ -105,8 +107,11 @@ pub gathered_by : (met : Name → Bool) (list : List Override) (r q all : KnownO
 gathered_by met list r q all e h = record { whole = λ n. ap (cond (met n) (given_of list n)) (e n) ∙ h.whole n; unmet = h.unmet }
 
 -- nothing is gathered yet
-pub begun : (met : Name → Bool) (list : List Override) (all : KnownOverrides) → ((n : Name) → met n ≡ false) → list ≡ [] → IsGathered met list all all
-begun met list all f e = record { whole = λ n. ap (λ b. cond b (given_of list n) (all n)) (f n); unmet = λ n h. ap (λ ds. given_of ds n) e }
+pub begun : (s : BTreeSet (Bor (List ℕ))) (list : List Override) (all : KnownOverrides) → s.keys ≡ [] → list ≡ [] → IsGathered (has_name s) list all all
+begun s list all f e = record { whole = λ n. ap (λ b. cond b (given_of list n) (all n)) (none n); unmet = λ n h. ap (λ ds. given_of ds n) e }
+  where
+    none : (n : Name) → has_name s n ≡ false
+    none n = ap (λ ks. list_any (is_at (λ k. slice_cmp nat_cmp n k.now)) ks) f
 
 -- all is gathered
 pub ended : (met : Name → Bool) (list : List Override) (rest all : KnownOverrides) → ((n : Name) → rest n ≡ None) → IsGathered met list rest all → (n : Name) → given_of list n ≡ all n
@@ -133,7 +138,7 @@ named_turn s cs i c h e n =
     sym (ap (λ ds. named_given s (by_names ds) n) split ∙ named_before s (same_name c.name.now n) (optional_tree_of c.value) (entry_of (by_names rest) n))
   where
     parted : drop i cs ≡ c ∷ drop (i + 1) cs
-    parted = rw (add-one, drop-cons cs i c h) (ap (λ d. d ∷ drop (i + 1) cs) (sym e))
+    parted = rw (add-one, drop-cons cs i c h) (ap (λ d. d ∷ drop (suc i) cs) (sym e))
 
 pub named_end : (s : Scope) (cs : List NamedConnection) (i : ℕ) → length cs ≤ i → (n : Name) → named_given s (by_names (drop i cs)) n ≡ None
 named_end s cs i h n = ap (λ ds. named_given s (by_names ds) n) (drop_all i cs h)
@@ -148,19 +153,25 @@ order_before s true e o = refl
 order_before s false e o = refl
 
 pub order_turn : (s : Scope) (es : List (Option Expression)) (ms : List (Bor (List ℕ))) (i : ℕ) (e : Option Expression) (m : Bor (List ℕ)) → i < length es → i < length ms
-    → e ≡ get_or es i e → m ≡ get_or ms i m
-    → (n : Name) → before m.now (gives s (optional_tree_of e)) (ordered_given s (map optional_tree_of (drop (i + 1) es)) (names_of (drop (i + 1) ms))) n
+    → e ≡ get_or es i e
+    → (n : Name) → before (get_or ms i m).now (gives s (optional_tree_of e)) (ordered_given s (map optional_tree_of (drop (i + 1) es)) (names_of (drop (i + 1) ms))) n
     ≡ ordered_given s (map optional_tree_of (drop i es)) (names_of (drop i ms)) n
-order_turn s es ms i e m h k p q n =
+order_turn s es ms i e m h k p n =
     sym (ap (λ ds. ordered_given s (map optional_tree_of ds) (names_of (drop i ms)) n) one
     ∙ (ap (λ ds. ordered_given s (optional_tree_of e ∷ map optional_tree_of (drop (i + 1) es)) (names_of ds) n) two
-    ∙ order_before s (same_name m.now n) (optional_tree_of e) (in_order (map optional_tree_of (drop (i + 1) es)) (names_of (drop (i + 1) ms)) n)))
+    ∙ order_before s (same_name (get_or ms i m).now n) (optional_tree_of e) (in_order (map optional_tree_of (drop (i + 1) es)) (names_of (drop (i + 1) ms)) n)))
   where
     one : drop i es ≡ e ∷ drop (i + 1) es
-    one = rw (add-one, drop-cons es i e h) (ap (λ d. d ∷ drop (i + 1) es) (sym p))
+    one = rw (add-one, drop-cons es i e h) (ap (λ d. d ∷ drop (suc i) es) (sym p))
 
-    two : drop i ms ≡ m ∷ drop (i + 1) ms
-    two = rw (add-one, drop-cons ms i m k) (ap (λ d. d ∷ drop (i + 1) ms) (sym q))
+    two : drop i ms ≡ get_or ms i m ∷ drop (i + 1) ms
+    two = rw (add-one, drop-cons ms i m k) refl
+
+pub first_left : (i e a b : ℕ) → i < e → e ≡ min a b → i < a
+first_left i e a b h k = omega (arith, h, k)
+
+pub second_left : (i e a b : ℕ) → i < e → e ≡ min a b → i < b
+second_left i e a b h k = omega (arith, h, k)
 
 no_names : (s : Scope) (es : List (Option pure.Expression)) (n : Name) → ordered_given s es [] n ≡ None
 no_names s [] n = refl

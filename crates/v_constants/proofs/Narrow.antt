@@ -1,17 +1,18 @@
 -- Parameters have at most 128 bits, which their numbers fit.
-use Rattle.std.proofs.Common.{◌≡◌, ◌≤◌, ◌<◌, ◌^◌, ℕ, ◌+◌, ◌-◌, ◌%◌, max, Bool, true, false, cond, ◌||◌, refl, ap, sym, subst, ◌∙◌, arith, List, [], ◌∷◌, ◌++◌, Option, Some, None, option_map}
+use Rattle.std.proofs.Common.{◌≡◌, ◌≤◌, ◌<◌, ◌^◌, ℕ, ◌+◌, ◌-◌, ◌%◌, max, Bool, true, false, cond, ◌||◌, refl, ap, sym, subst, ◌∙◌, arith, List, [], ◌∷◌, ◌++◌, Option, Some, None, option_map, unwrap_or}
 use Rattle.std.specs.Prelude.{IfSome}
+use Rattle.std.proofs.lemmas.Nat.{pow_pos}
 use Rattle.wb_values.specs.Value.{Name, same_name, Entries, entry_of}
 use Rattle.wb_values.specs.Choice.{first_of}
 use Rattle.verilog_trees.specs.Syntax as pure
-use Rattle.verilog_meaning.specs.Expression.{Object, Scope, undeclared, object_or_undeclared, scope_of, distance, object_width, no_values, width_of, sign_of, value_of}
+use Rattle.verilog_meaning.specs.Expression.{Object, Scope, undeclared, object_or_undeclared, scope_of, distance, object_width, no_values, widened, width_of, sign_of, value_of}
 use Rattle.verilog_meaning.specs.Hierarchy.{constant_object}
 use Rattle.verilog_designs.specs.Known.{known_entry}
 use Rattle.v_value.specs.declared.scope.Declaration.{Declaration}
 use Rattle.v_value.specs.Scope.{object_of, objects_of}
 use Rattle.v_value.specs.Narrow.{IsWidth, IsNarrow, IsNarrowObject, HasNarrowObjects}
 use Rattle.v_value.proofs.Narrows.{narrow_width}
-use Rattle.v_constants.specs.Values.{numbered, own_at, ranged_at}
+use Rattle.v_constants.specs.Values.{numbered, own_at, ranged_at, carried}
 use Rattle.v_constants.proofs.Ranges.{entry_append}
 
 -- ---- objects
@@ -50,6 +51,37 @@ ranged_so s e signed t l r own w x y h i j k f =
 
 pub most : (s : Scope) (e : pure.Expression) (w : ℕ) → IsNarrow s e → w ≡ width_of s e → w ≤ 128
 most s e w h i = subst (λ n. n ≤ 128) (sym i) (narrow_width s e h).1
+
+-- an object that is made of these
+module _ (s : Scope) (e : pure.Expression) (signed t g : Bool) (w l x : ℕ) (o : Object) (made : o ≡ numbered g (l, 0) x) (low : l ≡ w - 1) (own : w ≡ width_of s e) where
+  pub own_made : g ≡ signed || t → t ≡ sign_of s e → x ≡ value_of s no_values e w t → o ≡ own_at s signed e
+  own_made i j k =
+      made ∙ (ap (λ h. numbered h (l, 0) x) i ∙ (ap (λ n. numbered (signed || t) (n, 0) x) low ∙ own_so s e signed t w x own j k))
+
+  pub own_made_narrow : IsNarrow s e → x < 2 ^ w → IsNarrowObject o
+  own_made_narrow h f =
+      subst IsNarrowObject (sym (made ∙ ap (λ n. numbered g (n, 0) x) low)) (own_narrow s e g w x h own f)
+
+pub ranged_made_narrow : (signed : Bool) (l r x : ℕ) (o : Object) (v w : ℕ) → o ≡ numbered signed (l, r) x → distance l r + 1 ≤ 128 → v ≡ w → w ≡ distance l r + 1 → x < 2 ^ v → IsNarrowObject o
+ranged_made_narrow signed l r x o v w made h i j f =
+    subst IsNarrowObject (sym made) (ranged_narrow signed l r x h (subst (λ n. x < 2 ^ n) (i ∙ j) f))
+
+-- the number of an overriding value
+pub number_fits : (c : Option ℕ) (w : ℕ) → IfSome c (λ x. x < 2 ^ w) → unwrap_or c 0 < 2 ^ w
+number_fits None w h = pow_pos w
+number_fits (Some x) w h = h
+
+pub carried_so : (g : Object) (own wide width a b : ℕ) → own ≡ object_width g → wide ≡ max own width → a ≡ widened g.signed own wide (unwrap_or g.constant 0) → b ≡ a % 2 ^ width → b ≡ carried g width
+carried_so g own wide width a b i j k f =
+    f ∙ (ap (λ n. n % 2 ^ width) k
+    ∙ (ap (λ n. widened g.signed own n (unwrap_or g.constant 0) % 2 ^ width) j
+    ∙ ap (λ n. widened g.signed n (max n width) (unwrap_or g.constant 0) % 2 ^ width) i))
+
+pub both_most : (m w own : ℕ) → m ≡ max w own → {b : ℕ} → w ≡ b → b ≤ 128 → own ≤ 128 → m ≤ 128
+both_most m w own i {b} j h k = omega (arith, i, j, h, k)
+
+pub own_within : (m w own width : ℕ) → m ≡ max w own → own ≡ width → width ≤ m
+own_within m w own width i j = omega (arith, i, j)
 
 -- ---- one more in a scope
 

@@ -12,7 +12,8 @@ ghost use Rattle.v_value.specs.Narrow.{IsNarrowObject, HasNarrowObjects};
 ghost use Rattle.v_constants.specs.Given.{given_of, given_at};
 ghost use Rattle.v_constants.specs.Values.{fitting, one_by, override_by, values_by};
 
-use crate::given::{Override, override_of, table_of};
+use crate::given::Override;
+use crate::table::{override_of, table_of};
 use crate::value::{Form, fitting, one};
 use std::alloc::{AllocError, Global};
 use std::collections::BTreeMap;
@@ -62,9 +63,9 @@ fn with_one<'s>(
 }
 
 /// What a parameter stands for, where those before it have these values.
-fn value_for(
+fn value_for<'g>(
     value: &ParameterValue<'_>,
-    given: &BTreeMap<&str, Override<'_>>,
+    given: &BTreeMap<&'g str, Override<'g>>,
     form: Form,
     before: &Valued<'_>,
 ) -> Option<Object>
@@ -79,9 +80,9 @@ fn value_for(
 }
 
 /// A parameter after those before it.
-fn with_value<'s>(
+fn with_value<'s, 'g>(
     value: &ParameterValue<'s>,
-    given: &BTreeMap<&str, Override<'_>>,
+    given: &BTreeMap<&'g str, Override<'g>>,
     form: Form,
     before: Valued<'s>,
 ) -> Result<Valued<'s>, AllocError>
@@ -92,9 +93,9 @@ fn with_value<'s>(
 }
 
 /// The parameters of a declaration after those before it.
-fn with_values<'s>(
+fn with_values<'s, 'g>(
     values: &[ParameterValue<'s>],
-    given: &BTreeMap<&str, Override<'_>>,
+    given: &BTreeMap<&'g str, Override<'g>>,
     form: Form,
     before: Valued<'s>,
 ) -> Result<Valued<'s>, AllocError>
@@ -125,9 +126,9 @@ fn form_of(declaration: &ParameterDeclaration<'_>, before: &Valued<'_>) -> Form
 
 /// The parameters of a declaration after those before it. Its range is evaluated once: it has the same value for all of them, or none
 /// of them has a value.
-fn with_declaration<'s>(
+fn with_declaration<'s, 'g>(
     declaration: &ParameterDeclaration<'s>,
-    given: &BTreeMap<&str, Override<'_>>,
+    given: &BTreeMap<&'g str, Override<'g>>,
     before: Valued<'s>,
 ) -> Result<Valued<'s>, AllocError>
     ensures { IfOk result (λ v. objects_of v.scope.declarations.items ≡ with_known_values (parameter_of declaration.now) (given_at given.now) (parameter_of declaration.now).values (objects_of before.entry.scope.declarations.items)) }
@@ -138,9 +139,9 @@ fn with_declaration<'s>(
 }
 
 /// The parameters of the header.
-fn with_header<'s>(
+fn with_header<'s, 'g>(
     declarations: &[ParameterDeclaration<'s>],
-    given: &BTreeMap<&str, Override<'_>>,
+    given: &BTreeMap<&'g str, Override<'g>>,
     before: Valued<'s>,
 ) -> Result<Valued<'s>, AllocError>
     ensures { IfOk result (λ v. objects_of v.scope.declarations.items ≡ with_known_parameters (map parameter_of declarations.now) (given_at given.now) (objects_of before.entry.scope.declarations.items)) }
@@ -153,9 +154,9 @@ fn with_header<'s>(
 }
 
 /// The parameters that an item declares.
-fn with_item<'s>(
+fn with_item<'s, 'g>(
     item: &Item<'s>,
-    given: &BTreeMap<&str, Override<'_>>,
+    given: &BTreeMap<&'g str, Override<'g>>,
     before: Valued<'s>,
 ) -> Result<Valued<'s>, AllocError>
     ensures { IfOk result (λ v. (rest : List pure.Item) → with_known_parameters (body_parameters (item_of item.now ∷ rest)) (given_at given.now) (objects_of before.entry.scope.declarations.items)
@@ -176,9 +177,9 @@ fn with_item<'s>(
 }
 
 /// The parameters of the body.
-fn with_items<'s>(
+fn with_items<'s, 'g>(
     items: &[Item<'s>],
-    given: &BTreeMap<&str, Override<'_>>,
+    given: &BTreeMap<&'g str, Override<'g>>,
     before: Valued<'s>,
 ) -> Result<Valued<'s>, AllocError>
     ensures { IfOk result (λ v. objects_of v.scope.declarations.items ≡ with_known_parameters (body_parameters (map item_of items.now)) (given_at given.now) (objects_of before.entry.scope.declarations.items)) }

@@ -5,6 +5,7 @@
 mod constants;
 mod given;
 mod overrides;
+mod table;
 mod value;
 
 pub use constants::constants_of;

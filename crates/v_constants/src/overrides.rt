@@ -26,7 +26,7 @@ fn override_by<'s>(
     around: Constants<'_, '_>,
     name: &'s str,
 ) -> Override<'s>
-    ensures name { result.name ≡ name }
+    ensures name { result.name ≡ name.entry }
     ensures value { value_of result ≡ known_parameter (scope_at around.entry.scope.now) false None (tree_of value.now) }
 {
     let names = Names {

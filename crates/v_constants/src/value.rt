@@ -2,6 +2,7 @@
 ghost use Rattle.std.specs.Prelude.{◌≡◌, ◌||◌, ◌≤◌, ◌+◌, max, IfSome, option_map, true, Some};
 ghost use Rattle.verilog_meaning.specs.Expression.{object_width, no_values, widened, distance, assigned_value};
 ghost use Rattle.verilog_meaning.specs.Hierarchy.{parameter_object};
+ghost use Rattle.verilog_rules.specs.Expression.{wider};
 ghost use Rattle.v_value.specs.Scope.{object_of, scope_at};
 ghost use Rattle.v_value.specs.Narrow.{IsNarrow, IsNarrowObject};
 ghost use Rattle.v_syntax.specs.Tree.{tree_of};
@@ -61,14 +62,25 @@ fn bits_of(left: u32, right: u32) -> u32
     left.max(right) - left.min(right) + 1
 }
 
+/// The wider of two widths, where the second is there.
+fn wider(width: u32, own: Option<u32>) -> Option<u32>
+    ensures { result ≡ wider (Some width) own }
+{
+    match own {
+        Some(own) => Some(width.max(own)),
+        None => None,
+    }
+}
+
 /// The width of the context of a parameter's value whose own width is this, if it has one.
 fn context_width(range: Bounds, own: Option<u32>) -> Option<u32>
     requires { range_width range ≤ 128 }
     ensures { result ≡ context_width range own }
 {
-    match (range, own) {
-        (Bounds::Known(left, right), Some(own)) => Some(own.max(bits_of(left, right))),
-        _ => own,
+    match range {
+        Bounds::Absent => own,
+        Bounds::Unknown => own,
+        Bounds::Known(left, right) => wider(bits_of(left, right), own),
     }
 }
 

@@ -1,0 +1,5 @@
+pub mod Below
+pub mod Places
+pub mod Walk
+pub mod Added
+pub mod Views
