@@ -1,0 +1,4 @@
+//! Laws on trees with other names. The functions have no code: each carries laws.
+#![tactic(auto)]
+
+pub mod laws;
