@@ -1,13 +1,13 @@
 -- A constant that breaks no rule is the same in each scope that says the same of all constants.
-use Rattle.std.proofs.Common.{◌≡◌, ℕ, Bool, true, false, true≢false, cond, ◌&&◌, ◌⊎◌, inl, inr, refl, ap, sym, ◌∙◌, List, [], ◌∷◌, ◌++◌, Option, Some, None, option_map, option_and_then}
-use Rattle.wb_values.specs.Value.{Name, same_name, Entries, entry_of}
+use Rattle.std.proofs.Common.{◌≡◌, ℕ, Bool, true, false, true≢false, ◌&&◌, ◌⊎◌, inl, inr, refl, ap, sym, ◌∙◌, Option, Some, None, option_map, option_and_then}
+use Rattle.wb_values.specs.Value.{Name, Entries, entry_of}
 use Rattle.wb_values.specs.Choice.{first_of, some_if}
 use Rattle.verilog_trees.specs.Syntax.{Expression, Range, Connections, Module}
 use Rattle.verilog_meaning.specs.Expression.{Object, Scope, undeclared, object_or_undeclared, scope_of, no_values, width_of, sign_of, value_of, self_value}
 use Rattle.verilog_meaning.specs.Hierarchy.{constant_object, parameter_object, Declaration, declarations, declaration_of, connected, overridable, all_parameters}
 use Rattle.verilog_rules.specs.Expression.{is_unbroken, constant, broken, has_width, broken_constant}
 use Rattle.verilog_designs.specs.Names.{names_in}
-use Rattle.verilog_designs.specs.Known.{known_object, with_known_addresses, known_declaration, known_module_scope, known_parameter, known_overrides, both_bounds, known_range, with_range}
+use Rattle.verilog_designs.specs.Known.{known_object, with_known_addresses, known_declaration, known_module_scope, known_parameter, known_overrides, known_range, with_range}
 use Rattle.verilog_unique.proofs.Descent.{IsAmong}
 use Rattle.verilog_exists.proofs.Scopes.{SameIn, same_in, constant_rules}
 use Rattle.verilog_constants.specs.Alike.{HaveSameConstants}

@@ -1,5 +1,5 @@
 -- Overrides are gathered connection by connection.
-use Rattle.std.proofs.Common.{◌≡◌, ◌∙◌, refl, ap, sym, subst, ℕ, suc, ◌+◌, ◌<◌, ◌≤◌, Bool, true, false, true≢false, cond, List, [], ◌∷◌, ◌++◌, length, drop, get_or, Bor, Option, Some, None, option_map, map, add-one, drop-cons, arith, min, nat_le, ◌⊎◌, inl, inr}
+use Rattle.std.proofs.Common.{◌≡◌, ◌∙◌, refl, ap, sym, ℕ, suc, ◌+◌, ◌<◌, ◌≤◌, Bool, true, false, true≢false, cond, List, [], ◌∷◌, ◌++◌, length, drop, get_or, Bor, Option, Some, None, map, add-one, drop-cons, arith, min, nat_le, ◌⊎◌, inl, inr}
 use Rattle.std.proofs.lemmas.Bool.Decides.{nat_tests}
 use Rattle.std.specs.Ordering.{nat_cmp}
 use Rattle.std.specs.Cmp.Lexicographic.{slice_cmp}
@@ -65,7 +65,7 @@ module _ (s t : BTreeSet (Bor (List ℕ))) (k : Bor (List ℕ)) (u : sorted.Upda
       whole_at n true q =
           let old_met : has_name s n ≡ false = ap (has_name s) (sym ((bytes_eq-Decides k.now n).0 q)) ∙ absent in
           let given : given_of new n ≡ g
-              = f n ∙ (ap (λ b. first_of (given_of old n) (cond b g None)) q ∙ ap (λ o. first_of o g) (h.unmet n old_met)) in
+          = f n ∙ (ap (λ b. first_of (given_of old n) (cond b g None)) q ∙ ap (λ o. first_of o g) (h.unmet n old_met)) in
           ap (λ b. cond b (given_of new n) (rest n)) (met_after n true q)
           ∙ (given
           ∙ (sym (ap (λ b. cond b (given_of old n) (cond (same_name k.now n) g (rest n))) old_met ∙ ap (λ b. cond b g (rest n)) q)

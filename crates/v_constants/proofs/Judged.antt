@@ -1,7 +1,7 @@
 -- A parameter's value as it is judged, and parameters of one declaration as the code has them.
-use Rattle.std.proofs.Common.{◌≡◌, ◌∙◌, ap, sym, Bool, false, None, Option, true, ◌&&◌}
+use Rattle.std.proofs.Common.{◌≡◌, ◌∙◌, ap, sym, Bool, false, None}
 use Rattle.verilog_trees.specs.Syntax.{Expression}
-use Rattle.verilog_meaning.specs.Expression.{Object, Scope}
+use Rattle.verilog_meaning.specs.Expression.{Scope}
 use Rattle.verilog_rules.specs.Expression.{Position, is_unbroken, broken}
 use Rattle.verilog_designs.specs.Known.{known_parameter}
 use Rattle.v_scopes.specs.declared.range.Bounds.{Bounds}

@@ -1,8 +1,8 @@
 -- Parameters, and names of parameters, that stand one after the other.
-use Rattle.std.proofs.Common.{◌≡◌, ◌∙◌, refl, ap, sym, Bool, true, false, cond, List, [], ◌∷◌, ◌++◌, append_assoc}
+use Rattle.std.proofs.Common.{◌≡◌, ◌∙◌, refl, ap, sym, cond, List, [], ◌∷◌, ◌++◌, append_assoc}
 use mathlib.Core.Path.{fun_ext}
 use Rattle.wb_values.specs.Value.{Name, Entries}
-use Rattle.verilog_trees.specs.Syntax.{ParameterDeclaration, Expression}
+use Rattle.verilog_trees.specs.Syntax.{ParameterDeclaration}
 use Rattle.verilog_meaning.specs.Expression.{Object}
 use Rattle.verilog_meaning.specs.Hierarchy.{value_names, overridable}
 use Rattle.verilog_designs.specs.Known.{KnownOverrides, with_known_values, with_known_parameters}

@@ -1,13 +1,12 @@
 -- Parameters have at most 128 bits, which their numbers fit.
-use Rattle.std.proofs.Common.{◌≡◌, ◌≤◌, ◌<◌, ◌^◌, ℕ, ◌+◌, ◌-◌, ◌%◌, max, Bool, true, false, cond, ◌||◌, refl, ap, sym, subst, ◌∙◌, arith, List, [], ◌∷◌, ◌++◌, Option, Some, None, option_map, unwrap_or}
+use Rattle.std.proofs.Common.{◌≡◌, ◌≤◌, ◌<◌, ◌^◌, ℕ, ◌+◌, ◌-◌, ◌%◌, max, Bool, true, false, cond, ◌||◌, refl, ap, sym, subst, ◌∙◌, arith, List, [], ◌∷◌, ◌++◌, Option, Some, None, unwrap_or}
 use Rattle.std.specs.Prelude.{IfSome}
 use Rattle.std.proofs.lemmas.Nat.{pow_pos}
 use Rattle.wb_values.specs.Value.{Name, same_name, Entries, entry_of}
 use Rattle.wb_values.specs.Choice.{first_of}
 use Rattle.verilog_trees.specs.Syntax as pure
-use Rattle.verilog_meaning.specs.Expression.{Object, Scope, undeclared, object_or_undeclared, scope_of, distance, object_width, no_values, widened, width_of, sign_of, value_of}
+use Rattle.verilog_meaning.specs.Expression.{Object, Scope, object_or_undeclared, scope_of, distance, object_width, no_values, widened, width_of, sign_of, value_of}
 use Rattle.verilog_meaning.specs.Hierarchy.{constant_object}
-use Rattle.verilog_designs.specs.Known.{known_entry}
 use Rattle.v_value.specs.declared.scope.Declaration.{Declaration}
 use Rattle.v_value.specs.Scope.{object_of, objects_of}
 use Rattle.v_value.specs.Narrow.{IsWidth, IsNarrow, IsNarrowObject, HasNarrowObjects}

@@ -1,5 +1,5 @@
 -- Parameters by the value of their range, which is the same for all that one declaration declares.
-use Rattle.std.proofs.Common.{◌≡◌, ℕ, ◌+◌, Bool, true, false, true≢false, cond, ◌&&◌, nat_le, nat_lt, ◌⊎◌, inl, inr, refl, ap, sym, ◌∙◌, arith, List, [], ◌∷◌, ◌++◌, append-nil, Option, Some, None, option_map, option_and_then, unwrap_or, ℤ, pos, negsuc}
+use Rattle.std.proofs.Common.{◌≡◌, ℕ, ◌+◌, Bool, true, false, true≢false, cond, ◌&&◌, nat_le, nat_lt, ◌⊎◌, inl, inr, refl, ap, sym, ◌∙◌, arith, List, [], ◌∷◌, ◌++◌, append-nil, Option, Some, None, option_map, unwrap_or, ℤ, pos, negsuc}
 use Rattle.std.specs.Prelude.{is_some}
 use Rattle.std.proofs.lemmas.Bool.Decides.{nat_tests}
 use Rattle.wb_values.specs.Value.{Name, same_name, Entries, entry_of}
@@ -7,13 +7,13 @@ use Rattle.wb_values.specs.Choice.{first_of, some_if}
 use Rattle.verilog_trees.specs.Syntax.{Expression, Range, ParameterDeclaration}
 use Rattle.verilog_meaning.specs.Expression.{Object, Scope, object_or_undeclared, scope_of, distance, no_values, natural_of, integer_of, width_of, sign_of, assigned_value}
 use Rattle.verilog_meaning.specs.Hierarchy.{bound_of, parameter_object, overridden_object}
-use Rattle.verilog_rules.specs.Expression.{is_unbroken, constant, wider, broken, has_width, is_at_most_128, broken_constant, constant_number}
-use Rattle.verilog_designs.specs.Known.{as_bound, known_bound, both_bounds, known_range, known_range_width, value_position, range_is_known, known_parameter, known_override, KnownOverrides, one_known_parameter, known_entry, with_known_values}
+use Rattle.verilog_rules.specs.Expression.{is_unbroken, constant, wider, broken, has_width, is_at_most_128, broken_constant}
+use Rattle.verilog_designs.specs.Known.{as_bound, known_bound, both_bounds, known_range, value_position, range_is_known, known_parameter, known_override, KnownOverrides, one_known_parameter, known_entry, with_known_values}
 use Rattle.verilog_exists.proofs.Scopes.{constant_same}
 use Rattle.v_scopes.specs.declared.range.Bounds.{Bounds}
-use Rattle.v_scopes.specs.declared.range.Bounds.TheVariants.{Absent, Unknown, Known}
+use Rattle.v_scopes.specs.declared.range.Bounds.TheVariants.{Unknown, Known}
 use Rattle.v_scopes.specs.Bounds.{bound_at, known_bounds, bounds}
-use Rattle.v_constants.specs.Values.{fitting, place_at, numbered, own_at, ranged_at, valued_at, is_right_at, parameter_at, carried, overridden_by, replaced, one_by, override_by, values_by}
+use Rattle.v_constants.specs.Values.{fitting, place_at, numbered, own_at, ranged_at, is_right_at, parameter_at, carried, overridden_by, replaced, one_by, override_by, values_by}
 use Rattle.v_constants.proofs.Alike.{unchanged}
 
 -- ---- plain facts
@@ -198,7 +198,7 @@ values_from d given [] known b h = refl
 values_from d given (v ∷ vs) known b h =
     let g : Option (Option Object) = override_by d.is_local given v.0 in
     let same : one_known_parameter (scope_of known) d v.1 g ≡ one_by (scope_of known) d.signed b v.1 g
-        = one_so (scope_of known) d v.1 g ∙ ap (λ c. one_by (scope_of known) d.signed c v.1 g) h in
+    = one_so (scope_of known) d v.1 g ∙ ap (λ c. one_by (scope_of known) d.signed c v.1 g) h in
     ap (λ o. with_known_values d given vs (known ++ known_entry v.0 o)) same
     ∙ values_from d given vs (known ++ known_entry v.0 (one_by (scope_of known) d.signed b v.1 g)) b
     (stays known v.0 (one_by (scope_of known) d.signed b v.1 g) d.range b h (none_unknown (scope_of known) d.signed v.1 g b))

@@ -39,7 +39,11 @@ fn none<'s>(alloc: Global) -> Valued<'s>
 }
 
 /// These and one more.
-fn with_object<'s>(before: Valued<'s>, name: &'s str, object: Object) -> Result<Valued<'s>, AllocError>
+fn with_object<'s>(
+    before: Valued<'s>,
+    name: &'s str,
+    object: Object,
+) -> Result<Valued<'s>, AllocError>
     requires { IsNarrowObject (object_of object) }
     ensures { IfOk result (λ v. objects_of v.scope.declarations.items ≡ objects_of before.entry.scope.declarations.items ++ known_entry name.now (Some (object_of object))) }
 {

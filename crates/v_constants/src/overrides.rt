@@ -21,11 +21,7 @@ use v_syntax::module::{
 use v_syntax::tree::Expression;
 
 /// What an expression overrides a parameter with.
-fn override_by<'s>(
-    value: &Expression<'_>,
-    around: Constants<'_, '_>,
-    name: &'s str,
-) -> Override<'s>
+fn override_by<'s>(value: &Expression<'_>, around: Constants<'_, '_>, name: &'s str) -> Override<'s>
     ensures name { result.name ≡ name.entry }
     ensures value { value_of result ≡ known_parameter (scope_at around.entry.scope.now) false None (tree_of value.now) }
 {
@@ -96,10 +92,7 @@ fn by_order<'s>(
 }
 
 /// Adds the names of parameters.
-fn add_names<'s>(
-    values: &[ParameterValue<'s>],
-    list: &mut Vec<&'s str>,
-) -> Result<(), AllocError>
+fn add_names<'s>(values: &[ParameterValue<'s>], list: &mut Vec<&'s str>) -> Result<(), AllocError>
     ensures { OnOk result (map (λ n. n.now) list.new.items ≡ map (λ n. n.now) list.old.items ++ value_names (map (λ v. (v.name.now, tree_of v.value)) values.now)) }
 {
     for value in values {

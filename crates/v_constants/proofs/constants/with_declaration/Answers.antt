@@ -1,8 +1,8 @@
-use Rattle.std.proofs.Common.{◌∙◌, ap, map}
+use Rattle.std.proofs.Common.{◌∙◌, map}
 use Rattle.v_syntax.specs.Source.{parameter_of}
 use Rattle.v_syntax.specs.declared.module.ParameterValue.{ParameterValue}
 use Rattle.v_syntax.specs.Tree.{tree_of}
-use Rattle.v_value.specs.Scope.{objects_of, scope_at}
+use Rattle.v_value.specs.Scope.{objects_of}
 use Rattle.v_constants.specs.Given.{given_at}
 use Rattle.v_constants.specs.Values.{values_by}
 use Rattle.v_constants.proofs.Ranges.{values_so}

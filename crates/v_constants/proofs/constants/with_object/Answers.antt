@@ -1,4 +1,4 @@
-use Rattle.std.proofs.Common.{◌∙◌, ap, sym, subst, ◌++◌, ◌∷◌, []}
+use Rattle.std.proofs.Common.{◌∙◌, ap, sym, subst}
 use Rattle.verilog_meaning.specs.Expression.{scope_of}
 use Rattle.v_value.specs.Scope.{objects_of, object_of}
 use Rattle.v_value.specs.Narrow.{HasNarrowObjects}

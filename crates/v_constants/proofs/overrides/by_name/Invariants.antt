@@ -1,4 +1,4 @@
-use Rattle.std.proofs.Common.{◌≡◌, drop}
+use Rattle.std.proofs.Common.{drop}
 use Rattle.v_value.specs.Scope.{scope_at}
 use Rattle.v_constants.specs.Given.{has_name, IsGathered, named_given}
 use Rattle.v_constants.proofs.Gathered.{by_names}

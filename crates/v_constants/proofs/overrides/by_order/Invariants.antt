@@ -1,4 +1,4 @@
-use Rattle.std.proofs.Common.{◌≡◌, drop, map}
+use Rattle.std.proofs.Common.{drop, map}
 use Rattle.v_value.specs.Scope.{scope_at}
 use Rattle.v_syntax.specs.Source.{optional_tree_of}
 use Rattle.v_constants.specs.Given.{has_name, IsGathered, ordered_given}

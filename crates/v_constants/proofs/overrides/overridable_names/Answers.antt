@@ -1,4 +1,4 @@
-use Rattle.std.proofs.Common.{ap, ◌∙◌, ◌++◌, sym, map, [], Bor, List, ℕ}
+use Rattle.std.proofs.Common.{ap, ◌∙◌, ◌++◌, map, [], Bor, List, ℕ}
 use Rattle.verilog_meaning.specs.Hierarchy.{overridable, body_parameters}
 use Rattle.v_syntax.specs.Source.{parameter_of, item_of}
 use Rattle.v_constants.proofs.Lists.{two_parts, overridable_append}

@@ -1,6 +1,6 @@
 use Rattle.std.proofs.Common.{ap, sym, option_map}
 use Rattle.v_constants.specs.Given.{value_of}
-use Rattle.v_constants.proofs.Entered.{stays, stands}
+use Rattle.v_constants.proofs.Entered.{stands}
 use Rattle.v_constants.proofs.table.enter.Goals as goal
 
 pub returns-in_ok-insert-in-None : goal.returns-in_ok-insert-in-None

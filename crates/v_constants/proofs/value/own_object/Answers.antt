@@ -1,4 +1,4 @@
-use Rattle.v_value.specs.Scope.{scope_at, object_of}
+use Rattle.v_value.specs.Scope.{scope_at}
 use Rattle.v_syntax.specs.Tree.{tree_of}
 use Rattle.v_constants.proofs.Narrow.{most, own_made, own_made_narrow}
 use Rattle.v_constants.proofs.value.own_object.Goals as goal

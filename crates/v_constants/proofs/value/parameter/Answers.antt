@@ -1,5 +1,4 @@
 use Rattle.std.proofs.Common.{ap, sym, ◌∙◌, cond, None}
-use Rattle.verilog_rules.specs.Expression.{is_unbroken, broken}
 use Rattle.v_value.specs.Scope.{scope_at}
 use Rattle.v_syntax.specs.Tree.{tree_of}
 use Rattle.v_size.specs.Rule.{unbroken, position_of}

@@ -1,6 +1,6 @@
 use Rattle.std.proofs.Common.{ap, ◌∙◌}
 use Rattle.verilog_meaning.specs.Expression.{no_values, value_of}
-use Rattle.v_value.specs.Scope.{scope_at, object_of}
+use Rattle.v_value.specs.Scope.{scope_at}
 use Rattle.v_syntax.specs.Tree.{tree_of}
 use Rattle.v_constants.proofs.Narrow.{most, both_most, own_within, ranged_so, ranged_made_narrow}
 use Rattle.v_constants.proofs.value.ranged_object.Goals as goal

@@ -1,9 +1,0 @@
-pub mod Modules
-pub mod Spots
-pub mod Walked
-pub mod Bounds
-mod Turns
-mod Results
-mod Rooms
-mod Parts
-mod Named

@@ -1,4 +1,0 @@
-use Rattle.v_places.proofs.below.given_below.Goals as goal
-
-pub returns : goal.returns
-returns c = ?

@@ -1,5 +1,0 @@
-pub mod Below
-pub mod Places
-pub mod Walk
-pub mod Added
-pub mod Views
