@@ -1,0 +1,5 @@
+mod Names
+mod Modules
+mod Shapes
+mod Repeats
+mod Fitting
