@@ -101,9 +101,9 @@ first_none (Some x) = refl
 pub entry_both : {A : Type 0} (xs ys : Entries A) (q : Name) → entry_of (xs ++ ys) q ≡ first_of (entry_of xs q) (entry_of ys q)
 entry_both [] ys q = refl
 entry_both (x ∷ xs) ys q = (elim (same_name x.0 q) as (λ b. cond b (Some x.1) (entry_of (xs ++ ys) q) ≡ first_of (cond b (Some x.1) (entry_of xs q)) (entry_of ys q)) [
-    | true ↦ refl
-    | false ↦ entry_both xs ys q
-  ])
+  | true ↦ refl
+  | false ↦ entry_both xs ys q
+])
 
 -- a direction is put under a name that has none
 no_value : {A : Type 0} (x : Option A) → is_some x ≡ false → x ≡ None

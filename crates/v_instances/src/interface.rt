@@ -166,10 +166,7 @@ fn directions_of<'s>(
 }
 
 /// Adds the names of parameters.
-fn add_values<'s>(
-    values: &[ParameterValue<'s>],
-    order: &mut Vec<&'s str>,
-) -> Result<(), AllocError>
+fn add_values<'s>(values: &[ParameterValue<'s>], order: &mut Vec<&'s str>) -> Result<(), AllocError>
     ensures { OnOk result (texts order.new.items ≡ texts order.old.items ++ value_names (map (λ v. (v.name.now, tree_of v.value)) values.now)) }
 {
     for value in values {

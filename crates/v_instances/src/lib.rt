@@ -1,5 +1,4 @@
-//! Instances and parameters of a module: which connections do not fit the module below, and which of the rules on expressions they
-//! break.
+//! Instances of a module: which overrides and connections do not fit the module below.
 #![tactic(auto)]
 
 pub mod interface;

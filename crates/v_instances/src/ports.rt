@@ -133,11 +133,7 @@ fn is_bad_named(interface: &Interface<'_>, connection: &NamedConnection<'_>) -> 
 }
 
 /// Whether the entry at this place connects an output to what is no target.
-fn is_bad_numbered(
-    interface: &Interface<'_>,
-    place: usize,
-    entry: &Option<Expression<'_>>,
-) -> bool
+fn is_bad_numbered(interface: &Interface<'_>, place: usize, entry: &Option<Expression<'_>>) -> bool
     ensures { result ≡ is_bad_at interface.now (port_numbered place) (optional_tree_of entry.now) }
 {
     match entry {
