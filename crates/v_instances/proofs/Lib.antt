@@ -3,3 +3,6 @@ mod Modules
 mod Shapes
 mod Repeats
 mod Fitting
+mod Written
+mod Told
+mod Declared
