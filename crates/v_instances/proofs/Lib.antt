@@ -6,3 +6,4 @@ mod Fitting
 mod Written
 mod Told
 mod Declared
+mod Whole

@@ -4,6 +4,7 @@
 
 mod connection;
 pub mod interface;
+pub mod laws;
 pub mod listing;
 mod output;
 mod parameter;
