@@ -1,6 +1,6 @@
 -- What the rules say of declarations of parameters, one after the other, is what they say of them together.
-use Rattle.std.proofs.Common.{◌≡◌, ◌∙◌, refl, ap, sym, ℕ, ◌+◌, Bool, false, List, [], ◌∷◌, ◌++◌, Option, Some, None, option_map}
-use Rattle.std.specs.Prelude.{ℤ, nat_lt}
+use Rattle.std.proofs.Common.{◌≡◌, ◌∙◌, refl, ap, sym, ℕ, ◌+◌, Bool, List, [], ◌∷◌, ◌++◌, Option, Some, None, option_map}
+use Rattle.std.specs.Prelude.{ℤ}
 use Rattle.wb_values.specs.Value.{Name}
 use Rattle.wb_values.specs.Choice.{some_if}
 use Rattle.verilog_trees.specs.Syntax.{Expression, Range, ParameterDeclaration, Item, port, parameter, wires, variables, assign, always, instances}
@@ -10,13 +10,12 @@ use Rattle.verilog_rules.specs.Expression as rules
 use Rattle.verilog_designs.specs.Known.{as_bound, both_bounds, known_bound, known_range_width, value_position}
 use Rattle.verilog_designs.specs.Expressions as designs
 use Rattle.v_size.specs.declared.rule.Broken.{Broken}
-use Rattle.v_size.specs.declared.rule.Position.{Position}
-use Rattle.v_size.specs.Rule.{coded, both, position_of}
+use Rattle.v_size.specs.Rule.{coded, both}
 use Rattle.v_size.proofs.Chains.{both-none, both-assoc}
 use Rattle.v_instances.specs.declared.parameter.Bound.{Bound}
 use Rattle.v_instances.specs.declared.parameter.RangeWidth.{RangeWidth}
 use Rattle.v_instances.specs.Outputs.{none}
-use Rattle.v_instances.specs.Parameters.{bound_at, width_between, of_width, is_wide, range_at, value_place, value_at, values_from, declaration_at, declarations_from, parameter_item_at, parameter_items_from}
+use Rattle.v_instances.specs.Parameters.{bound_at, width_between, of_width, is_wide, range_at, value_place, value_at, values_from, declaration_at, declarations_from, parameter_items_from}
 
 abbrev made : Broken → Option ℕ → Bound
 made b v = record { broken = b; value = v }

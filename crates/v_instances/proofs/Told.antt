@@ -13,9 +13,9 @@ use Rattle.v_size.specs.Rule.{coded, both}
 use Rattle.v_size.proofs.Chains.{both-none, both-assoc}
 use Rattle.v_instances.specs.declared.interface.Interface.{Interface}
 use Rattle.v_instances.specs.declared.interface.Interfaces.{Interfaces}
-use Rattle.v_instances.specs.Interface.{IsInterfaceOf, IsInterfaceIfAny, interface_in, AreInterfacesOf}
+use Rattle.v_instances.specs.Interface.{IsInterfaceIfAny, interface_in, AreInterfacesOf}
 use Rattle.v_instances.specs.Outputs.{none, expression_at, output_at, constant_at}
-use Rattle.v_instances.specs.Connected.{is_output_to, connected_at, connection_at, named_from, ordered_from, connections_at, instances_from, override_at, named_values_from, ordered_values_from, overrides_at, instance_item_at, instance_items_from}
+use Rattle.v_instances.specs.Connected.{is_output_to, connected_at, connection_at, named_from, ordered_from, connections_at, instances_from, named_values_from, ordered_values_from, overrides_at, instance_item_at, instance_items_from}
 use Rattle.v_instances.specs.Rules.{broken_instance_item, broken_instance_items}
 use Rattle.v_instances.proofs.Fitting.{output_so}
 

@@ -1,6 +1,5 @@
 -- What the rules say of a module's items: of those that are neither parameters nor instances, of the parameters, and of the instances.
 use Rattle.std.proofs.Common.{◌≡◌, ◌∙◌, refl, ap, sym, Bool, true, false, ◌||◌, List, [], ◌∷◌}
-use Rattle.std.specs.List.{list_any}
 use Rattle.verilog_trees.specs.Syntax.{Item, port, parameter, wires, variables, assign, always, instances, Module, Source}
 use Rattle.verilog_meaning.specs.Expression.{Scope}
 use Rattle.verilog_meaning.specs.Hierarchy.{all_parameters, body_parameters}

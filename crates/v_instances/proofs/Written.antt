@@ -1,5 +1,5 @@
 -- Expressions that are targets as well, and what the rules say of them.
-use Rattle.std.proofs.Common.{◌≡◌, ◌∙◌, refl, ap, sym, ℕ, ◌+◌, min, Bool, true, false, cond, ◌&&◌, ◌||◌, nat_le, List, [], ◌∷◌, Option, Some, None, option_map, arith}
+use Rattle.std.proofs.Common.{◌≡◌, ◌∙◌, refl, ap, sym, ℕ, ◌+◌, min, Bool, true, false, ◌&&◌, ◌||◌, nat_le, List, [], ◌∷◌, Option, Some, None, option_map, arith}
 use Rattle.std.specs.Prelude.{is_some, unwrap_or, option_and_then}
 use Rattle.std.proofs.lemmas.Bool.{false≢true}
 use Rattle.std.specs.declared.boxed.Box.{Box}
@@ -24,14 +24,14 @@ use Rattle.v_syntax.specs.declared.tree.Selects.{Selects}
 use Rattle.v_syntax.specs.declared.tree.Expression.{Expression, Number, Name as NameOf, Concatenation, Replication, AsSigned, AsUnsigned, Prefix, Binary, Test, Conditional}
 use Rattle.v_syntax.specs.Tree.{tree_of, selects_of, all_prefixed, prefixed, combined, tested, expressions_of}
 use Rattle.v_syntax.specs.Chain.{linked, test_linked, chosen}
-use Rattle.v_syntax.proofs.Trees.{tree_of-Concatenation, tree_of-Replication, tree_of-Binary, tree_of-Test, tree_of-Conditional}
+use Rattle.v_syntax.proofs.Trees.{tree_of-Concatenation, tree_of-Binary, tree_of-Test, tree_of-Conditional}
 use Rattle.v_size.specs.declared.rule.Broken.{Broken}
 use Rattle.v_size.specs.Rule.{coded, both}
 use Rattle.v_size.specs.Judged.{capped, added}
 use Rattle.v_size.proofs.Chains.{both-none, both-assoc, total-capped}
 use Rattle.v_instances.specs.declared.output.Written.{Written}
 use Rattle.v_instances.specs.Connections.{are_none}
-use Rattle.v_instances.specs.Outputs.{none, written_at, no_part, with_part, whole, found_at, with_found, found_from, found_alone, in_net, output_at}
+use Rattle.v_instances.specs.Outputs.{written_at, no_part, with_part, whole, found_at, with_found, found_from, found_alone, in_net, output_at}
 use Rattle.v_instances.proofs.Shapes.{prefixed-none, combined-none, tested-none, linked-none, test_linked-none}
 
 abbrev made : Broken → Option ℕ → Bool → Written

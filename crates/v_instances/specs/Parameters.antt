@@ -1,11 +1,11 @@
 -- What the rules say of declarations of parameters, one after the other.
-use Rattle.std.specs.Prelude.{ℕ, ◌+◌, Bool, false, nat_lt, List, [], ◌∷◌, Option, Some, None, option_map}
+use Rattle.std.specs.Prelude.{ℕ, ◌+◌, Bool, false, nat_lt, List, [], ◌∷◌, Option, Some, None}
 use Rattle.wb_values.specs.Value.{Name}
 use Rattle.wb_values.specs.Choice.{some_if}
 use Rattle.verilog_trees.specs.Syntax.{Expression, Range, ParameterDeclaration, Item, port, parameter, wires, variables, assign, always, instances}
 use Rattle.verilog_meaning.specs.Expression.{Scope, distance, sign_of, width_of}
 use Rattle.verilog_rules.specs.Expression as rules
-use Rattle.verilog_designs.specs.Known.{known_bound, known_range_width}
+use Rattle.verilog_designs.specs.Known.{known_bound}
 use Rattle.verilog_designs.specs.Expressions as designs
 use Rattle.v_size.specs.declared.rule.Broken.{Broken}
 use Rattle.v_size.specs.Rule.{coded, both}

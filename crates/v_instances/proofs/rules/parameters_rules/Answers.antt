@@ -1,8 +1,6 @@
 use Rattle.std.proofs.Common.{◌∙◌, ap, map}
-use Rattle.verilog_meaning.specs.Hierarchy.{body_parameters}
 use Rattle.v_value.specs.Scope.{scope_at}
 use Rattle.v_syntax.specs.Source.{item_of, parameter_of}
-use Rattle.v_size.specs.Rule.{both}
 use Rattle.v_instances.specs.Outputs.{none}
 use Rattle.v_instances.specs.Parameters.{declarations_from, parameter_items_from}
 use Rattle.v_instances.proofs.Declared.{parameters-told}
