@@ -1,0 +1,9 @@
+mod Names
+mod Modules
+mod Shapes
+mod Repeats
+mod Fitting
+mod Written
+mod Told
+mod Declared
+mod Whole
