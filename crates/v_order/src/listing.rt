@@ -3,8 +3,8 @@
 ghost use Rattle.std.specs.Prelude.{◌≡◌, ◌++◌, ◌∷◌, [], map, IfOk, OnOk};
 ghost use Rattle.v_syntax.specs.Source.{item_of};
 ghost use Rattle.v_drivers.specs.Lists.{links_of, wire_links};
-ghost use Rattle.v_order.specs.Drivers.{as_statements, drivers};
-ghost use Rattle.v_order.specs.Lists.{statements_in};
+ghost use Rattle.v_order.specs.Drivers.{all_links, drivings, drivers};
+ghost use Rattle.v_order.specs.Lists.{drivings_in, statements_in};
 
 use crate::driver::Driver;
 use std::alloc::{AllocError, Global};
@@ -16,7 +16,7 @@ fn add_assignments<'t, 's>(
     assignments: &'t [Assignment<'s>],
     found: &mut Vec<Driver<'t, 's>>,
 ) -> Result<(), AllocError>
-    ensures { OnOk result (statements_in found.new.items ≡ statements_in found.old.items ++ as_statements (links_of assignments.now)) }
+    ensures { OnOk result (drivings_in found.new.items ≡ drivings_in found.old.items ++ all_links (links_of assignments.now)) }
 {
     for assignment in assignments {
         found.push(Driver::Link(&assignment.target, &assignment.value))?;
@@ -26,7 +26,7 @@ fn add_assignments<'t, 's>(
 
 /// Adds a net that its declaration gives a value.
 fn add_wire<'t, 's>(wire: &'t Wire<'s>, found: &mut Vec<Driver<'t, 's>>) -> Result<(), AllocError>
-    ensures { OnOk result (statements_in found.new.items ≡ statements_in found.old.items ++ as_statements (wire_links (wire.now ∷ []))) }
+    ensures { OnOk result (drivings_in found.new.items ≡ drivings_in found.old.items ++ all_links (wire_links (wire.now ∷ []))) }
 {
     match &wire.value {
         Some(value) => {
@@ -42,7 +42,7 @@ fn add_wires<'t, 's>(
     wires: &'t [Wire<'s>],
     found: &mut Vec<Driver<'t, 's>>,
 ) -> Result<(), AllocError>
-    ensures { OnOk result (statements_in found.new.items ≡ statements_in found.old.items ++ as_statements (wire_links wires.now)) }
+    ensures { OnOk result (drivings_in found.new.items ≡ drivings_in found.old.items ++ all_links (wire_links wires.now)) }
 {
     for wire in wires {
         add_wire(wire, found)?;
@@ -52,7 +52,7 @@ fn add_wires<'t, 's>(
 
 /// Adds the drivers of an item.
 fn add_item<'t, 's>(item: &'t Item<'s>, found: &mut Vec<Driver<'t, 's>>) -> Result<(), AllocError>
-    ensures { OnOk result (statements_in found.new.items ≡ statements_in found.old.items ++ drivers (item_of item.now ∷ [])) }
+    ensures { OnOk result (drivings_in found.new.items ≡ drivings_in found.old.items ++ drivings (item_of item.now ∷ [])) }
 {
     match item {
         Item::Wires(_, _, wires) => {
@@ -82,7 +82,8 @@ pub fn drivers_of<'t, 's>(
     alloc: Global,
     items: &'t [Item<'s>],
 ) -> Result<Vec<Driver<'t, 's>>, AllocError>
-    ensures { IfOk result (λ v. statements_in v.items ≡ drivers (map item_of items.now)) }
+    ensures drivings { IfOk result (λ v. drivings_in v.items ≡ drivings (map item_of items.now)) }
+    ensures statements { IfOk result (λ v. statements_in v.items ≡ drivers (map item_of items.now)) }
 {
     let mut found = Vec::new(alloc);
     for item in items {
