@@ -4,6 +4,7 @@ use mathlib.Core.Path.{fun_ext}
 use Rattle.std.proofs.lemmas.List.{drop_all}
 use Rattle.std.proofs.lemmas.Slice.Eq.{bytes_eq-Decides}
 use Rattle.wb_values.specs.Value.{Name, same_name, Entries, entry_of}
+use Rattle.wb_values.specs.Choice.{first_of}
 use Rattle.verilog_trees.specs.Syntax.{Range, Module, Source}
 use Rattle.verilog_meaning.specs.Expression.{Object, Scope, undeclared, object_or_undeclared, scope_of}
 use Rattle.verilog_meaning.specs.Hierarchy.{Declaration, declarations, declaration_of, module_named, PathStep, Placed}
@@ -142,9 +143,6 @@ whole_so m known rs xs e h =
     ∙ (ap (λ o. unwrap_or (entry_of known n) o) (ap (λ s. s n) (objects_so rs) ∙ (ap (λ zs. object_from (row_named zs n)) e ∙ (ap object_from (sym (named_so (scope_of known) (declarations m) n))
     ∙ ap object_or_undeclared (from_row (scope_of known) (declaration_of (declarations m) n)))))
     ∙ first_or (entry_of known n) (option_and_then (known_declaration (scope_of known)) (declaration_of (declarations m) n)))))
-
-pub constants_first : (ds es : List CodeDeclaration) (x : Entries Object) → objects_of ds ≡ objects_of es ++ x → objects_of ds ≡ objects_of es ++ x
-constants_first ds es x h = h
 
 -- ---- the design
 

@@ -6,4 +6,4 @@ use Rattle.v_scopes.proofs.scope.add_objects.Given as goal
 
 abbrev pub invariant-loop-each : goal.invariant-loop-each
 invariant-loop-each l =
-    objects_of l.list.items ++ objects_by (scope_in l.names) (rows_of (drop l.each-index l.declared)) ≡ objects_of l.args.list.now.items ++ objects_by (scope_in l.names) (rows_of l.declared)
+    objects_of l.list.items ++ objects_by (scope_in l.names) (rows_of (drop l.each-index l.declared)) ≡ objects_of l.initial.list.items ++ objects_by (scope_in l.names) (rows_of l.declared)

@@ -1,0 +1,3 @@
+mod Tables
+mod Adding
+mod Whole
