@@ -1,4 +1,4 @@
-mod Steps
+pub mod Steps
 mod Stages
 mod Covered
 mod Local
@@ -6,7 +6,7 @@ pub mod Listed
 pub mod Driven
 mod Adding
 mod Removing
-mod Sharing
+pub mod Sharing
 mod Passing
 mod Turning
 mod Answering

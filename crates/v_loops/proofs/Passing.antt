@@ -48,11 +48,11 @@ module _ (s : Scope) (x : Statement) (p spans : BitSet) (is_spans : spans ≡ ex
         rests = λ u there h m k. absurd (true≢false (sym (f.1 (u, has-assigned u there m, h)) ∙ e));
       }
 
-  pub are-settled : (m open start q : BitSet) → TellsWhereAssigned p s x m → open ≡ and_in spans p → start ≡ no_bits → q ≡ or_in start (but_not_in open m) → AreSettled p s x q
-  are-settled m open start q f is_open none is = record { settled = there; rests = rests }
+  pub are-settled : (m unsettled start q : BitSet) → TellsWhereAssigned p s x m → unsettled ≡ and_in spans p → start ≡ no_bits → q ≡ or_in start (but_not_in unsettled m) → AreSettled p s x q
+  are-settled m unsettled start q f is_open none is = record { settled = there; rests = rests }
     where
       is_q : q ≡ but_not_in (and_in spans p) m
-      is_q = is ∙ ap (λ (z : BitSet). or_in z (but_not_in open m)) none ∙ ap (λ (z : BitSet). but_not_in z m) is_open
+      is_q = is ∙ ap (λ (z : BitSet). or_in z (but_not_in unsettled m)) none ∙ ap (λ (z : BitSet). but_not_in z m) is_open
 
       there : (u : Bit) → IsTrue (is_in q u) → Settles p s x u
       there u h =
@@ -62,10 +62,10 @@ module _ (s : Scope) (x : Statement) (p spans : BitSet) (is_spans : spans ≡ ex
           record { there = a.0; was = both.1; assigned = a.1; rests = λ r. both-ways (is_in m u) all.1 ((f u a.0 a.1).1 r) }
 
       rests : (u : Bit) → IsThere s u → IsTrue (is_in p u) → IsTrue (may_assign s x u.of_name u.word u.place) → is_in q u ≡ false → RestsAfter p s x u
-      rests u there h m k =
-          (f u there m).0
+      rests u at h may k =
+          (f u at may).0
           (kept-out (is_in (and_in spans p) u) (is_in m u)
-          (and_from (is_in spans u) (is_in p u) (has-assigned u there m) h)
+          (and_from (is_in spans u) (is_in p u) (has-assigned u at may) h)
           (ap (λ (z : BitSet). is_in z u) (sym is_q) ∙ k))
 
 -- ---- one driver
@@ -85,7 +85,7 @@ visited s x before after shared settled own start none f wordless empty is_own i
         let zero_word = in-first s before u none there u.word u.place h in
         let out = kept-out (is_in before u) (own u.of_name 0 u.place) h (ap (λ (z : BitSet). is_in z u) (sym is) ∙ g) in
         let all = and_parts (settled u.of_name 0 u.place) (not (shared u.of_name 0 u.place))
-            (subst (λ (z : BitSet). z u.of_name 0 u.place ≡ true) (is_own ∙ ap (λ (z : BitSet). or_in z (but_not_in settled shared)) empty) out) in (
+        (subst (λ (z : BitSet). z u.of_name 0 u.place ≡ true) (is_own ∙ ap (λ (z : BitSet). or_in z (but_not_in settled shared)) empty) out) in (
           f.settled u (subst (λ k. settled u.of_name k u.place ≡ true) (sym zero_word) all.0),
           sym (wordless u 0) ∙ false_from_ne_true (shared u.of_name 0 u.place) (both-ways (shared u.of_name 0 u.place) all.1),
         )

@@ -152,7 +152,7 @@ one-there all p s (x ∷ xs) u (inr h) = let o = one-there all p s xs u h in (o.
 abbrev Links : Type 0
 Links = List (Target × Expression)
 
-as-statement : (links : Links) (a : Target × Expression) → IsAmong links a → IsAmong (as_statements links) (blocking a.0 a.1)
+pub as-statement : (links : Links) (a : Target × Expression) → IsAmong links a → IsAmong (as_statements links) (blocking a.0 a.1)
 as-statement [] a h = absurd h
 as-statement (b ∷ links) a (inl e) = inl (ap (λ (z : Target × Expression). blocking z.0 z.1) e)
 as-statement (b ∷ links) a (inr h) = inr (as-statement links a h)

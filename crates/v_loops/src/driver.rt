@@ -129,8 +129,8 @@ pub fn settled_by<'s>(
     if !some {
         return Ok(settled);
     }
-    let open = kept_in(alloc, unsettled, &spans)?;
+    let waiting = kept_in(alloc, unsettled, &spans)?;
     let table = resting(alloc, driver, scope, unsettled)?;
-    add_left(&table, &open, &mut settled)?;
+    add_left(&table, &waiting, &mut settled)?;
     Ok(settled)
 }

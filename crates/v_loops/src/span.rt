@@ -15,10 +15,7 @@ use v_masks::mask_under;
 use v_paths::mask::{add_left, first_word, masks_of, without};
 
 /// Adds spans.
-pub(crate) fn append<'s>(
-    spans: &[Span<'s>],
-    found: &mut Vec<Span<'s>>,
-) -> Result<(), AllocError>
+pub(crate) fn append<'s>(spans: &[Span<'s>], found: &mut Vec<Span<'s>>) -> Result<(), AllocError>
     ensures { OnOk result (bits_in found.new.items ≡ or_in (bits_in found.old.items) (bits_in spans.now)) }
 {
     for span in spans {
@@ -28,10 +25,7 @@ pub(crate) fn append<'s>(
 }
 
 /// Takes the bits of a span out of a table.
-fn remove_span<'s>(
-    span: Span<'s>,
-    table: &mut BTreeMap<&'s str, u128>,
-) -> Result<(), AllocError>
+fn remove_span<'s>(span: Span<'s>, table: &mut BTreeMap<&'s str, u128>) -> Result<(), AllocError>
     ensures { OnOk result (masked table.new ≡ but_not_in (masked table.old) (spread (bits_of span.entry))) }
 {
     let mask = without(mask_under(table, span.name), first_word(span));
@@ -40,10 +34,7 @@ fn remove_span<'s>(
 }
 
 /// Takes the bits of spans out of a table.
-pub fn remove<'s>(
-    spans: &[Span<'s>],
-    table: &mut BTreeMap<&'s str, u128>,
-) -> Result<(), AllocError>
+pub fn remove<'s>(spans: &[Span<'s>], table: &mut BTreeMap<&'s str, u128>) -> Result<(), AllocError>
     ensures { OnOk result (masked table.new ≡ but_not_in (masked table.old) (spread (bits_in spans.now))) }
 {
     for span in spans {

@@ -27,6 +27,6 @@ returns c =
     let x = statement_in c.args.driver in
     are-settled s x (masked c.args.unsettled.now) (bits_in c.deref-2.result.now)
     (ap bits_in c.deref-2.ensures.value ∙ c.in_ok-add_driven.ensures ∙ ap (λ ys. or_in (bits_in ys) (existing s (may_assign s x))) c.new-spans.ensures.items)
-    (masked c.in_ok-table.table) (bits_in c.in_ok-open.open.items) (bits_in c.new-settled.result.items) (bits_in c.add_left.new.found.items)
-    c.in_ok-table.ensures c.in_ok-open.ensures (ap bits_in c.new-settled.ensures.items)
+    (masked c.in_ok-table.table) (bits_in c.in_ok-waiting.waiting.items) (bits_in c.new-settled.result.items) (bits_in c.add_left.new.found.items)
+    c.in_ok-table.ensures c.in_ok-waiting.ensures (ap bits_in c.new-settled.ensures.items)
     (c.in_ok-add_left.ensures ∙ ap (λ ys. or_in (bits_in c.new-settled.result.items) (but_not_in (bits_in ys) (masked c.in_ok-table.table))) c.deref-3.ensures.value)

@@ -7,8 +7,8 @@ use Rattle.v_loops.proofs.pass.pass.Goals as goal
 pub loop-index-init : goal.loop-index-init
 loop-index-init c = none-passed (scope_at c.args.scope.now) (statements_in c.args.drivers.now) (masked c.args.unsettled.now)
 
-pub visit_at-settled-requires-clause-variables : goal.visit_at-settled-requires-clause-variables
-visit_at-settled-requires-clause-variables c =
+pub visit_at-requires-clause-variables : goal.visit_at-requires-clause-variables
+visit_at-requires-clause-variables c =
     passed-free (scope_at c.args.scope.now) (statements_in c.args.drivers.now) (masked c.args.unsettled.now) (masked c.loop-index.unsettled) c.loop-index.invariant c.requires.variables
 
 pub loop-index-preserved : goal.loop-index-preserved
