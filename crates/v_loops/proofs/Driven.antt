@@ -1,6 +1,5 @@
 -- All bits that are driven: the first stage.
-use Rattle.std.proofs.Common.{◌≡◌, ◌∙◌, ℕ, sym, subst, true, List, [], ◌∷◌}
-use Rattle.std.specs.Prelude.{IsTrue}
+use Rattle.std.proofs.Common.{◌≡◌, ◌∙◌, sym, subst, true, List, [], ◌∷◌}
 use Rattle.std.proofs.lemmas.Bool.{true≢false, false_from_ne_true, and_parts, and_from}
 use Rattle.verilog_trees.specs.Syntax.{Statement, Item}
 use Rattle.verilog_meaning.specs.Expression.{Scope}

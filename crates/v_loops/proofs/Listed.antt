@@ -1,9 +1,9 @@
 -- The drivers of a module as one list: which they are, what holds of each, and what they drive.
-use Rattle.std.proofs.Common.{◌≡◌, ℕ, refl, ap, sym, subst, Bool, true, false, List, [], ◌∷◌, ◌++◌, Contains, ◌⊎◌, inl, inr}
+use Rattle.std.proofs.Common.{◌≡◌, ℕ, refl, sym, subst, true, List, [], ◌∷◌, ◌++◌, ◌⊎◌, inl, inr}
 use Rattle.std.specs.Prelude.{IsTrue}
 use Rattle.std.proofs.lemmas.Bool.{false≢true, or_cases, or_left, or_right}
 use Rattle.wb_values.specs.Value.{Name}
-use Rattle.verilog_trees.specs.Syntax.{Expression, Target, Statement, blocking, Item}
+use Rattle.verilog_trees.specs.Syntax.{Statement, blocking, Item}
 use Rattle.verilog_meaning.specs.Expression.{Scope}
 use Rattle.verilog_meaning.specs.Register.{may_assign, one_may_assign, combinational_blocks}
 use Rattle.verilog_meaning.specs.Settled.{assignments}

@@ -1,21 +1,17 @@
 -- Passes: what a driver settles is no bit of a loop, where it is the bit's one driver.
-use Rattle.std.proofs.Common.{◌≡◌, ◌∙◌, ℕ, refl, ap, sym, subst, Bool, true, false, not, List, [], ◌∷◌, ◌⊎◌, inl, inr, Option, Some, None}
+use Rattle.std.proofs.Common.{◌≡◌, ◌∙◌, ℕ, refl, ap, sym, subst, Bool, true, false, not, List, ◌⊎◌, inl, inr}
 use Rattle.std.specs.Prelude.{IsTrue, ◌↔◌, ◌&&◌}
 use Rattle.std.proofs.lemmas.Bool.{true≢false, false≢true, false_from_ne_true, and_parts, and_from, cases_Bool}
-use Rattle.wb_values.specs.Value.{Name}
 use Rattle.verilog_trees.specs.Syntax.{Statement, Item}
 use Rattle.verilog_meaning.specs.Expression.{Scope}
 use Rattle.verilog_meaning.specs.Register.{is_bit_of, may_assign}
 use Rattle.verilog_unique.proofs.Descent.{IsAmong, contains_among}
 use Rattle.verilog_designs.specs.Reads.{BitSet, no_bits, or_in, and_in, but_not_in}
 use Rattle.verilog_designs.specs.Dependence.{Bit, is_in, at_start, After}
-use Rattle.v_flow.specs.declared.span.Span.{Span}
-use Rattle.v_flow.specs.Spans.{bits_in, existing}
+use Rattle.v_flow.specs.Spans.{existing}
 use Rattle.v_masks.specs.Masks.{spread}
 use Rattle.v_paths.specs.Premises.{HasNoMemory}
 use Rattle.v_depend.specs.Resting.{IsThere, OneIsUnsettled, RestsAfter}
-use Rattle.v_order.specs.Drivers.{drivers}
-use Rattle.v_loops.specs.OneModule.{DependsFarIn}
 use Rattle.v_loops.specs.Turns.{TellsWhereAssigned, Settles, AreSettled, AreApartBut, IsVisited, IsPassed, AreOf, HasAllLoops}
 use Rattle.v_loops.proofs.Steps.{RestsWhereItDepends, in-first}
 use Rattle.v_loops.proofs.Stages.{first-step, turned}

@@ -1,5 +1,5 @@
 -- Spans that are taken out of a table.
-use Rattle.std.proofs.Common.{◌≡◌, ◌∙◌, ℕ, ◌+◌, ◌<◌, refl, ap, sym, Bool, true, false, cond, not, List, [], ◌∷◌, length, drop, get_or, Bor, Some, unwrap_or}
+use Rattle.std.proofs.Common.{◌≡◌, ◌∙◌, ℕ, ◌+◌, ◌<◌, refl, ap, sym, Bool, true, false, cond, not, List, [], length, drop, get_or, Bor, Some, unwrap_or}
 use Rattle.std.specs.Prelude.{◌&&◌, ◌||◌}
 use Rattle.std.specs.Ordering.{nat_cmp}
 use Rattle.std.specs.Cmp.Lexicographic.{slice_cmp}
@@ -10,7 +10,7 @@ use Rattle.std.proofs.lemmas.Map.Text.{btree_map_updates_str}
 use Rattle.std.proofs.lemmas.List.{drop_more}
 use Rattle.wb_values.specs.Value.{Name, same_name}
 use Rattle.verilog_meaning.specs.Register.{is_set}
-use Rattle.verilog_designs.specs.Reads.{BitSet, or_in, but_not_in}
+use Rattle.verilog_designs.specs.Reads.{BitSet, but_not_in}
 use Rattle.v_flow.specs.declared.span.Span.{Span}
 use Rattle.v_flow.specs.Spans.{is_between, bits_of, bits_in}
 use Rattle.v_hier.specs.Tables.{under_name}

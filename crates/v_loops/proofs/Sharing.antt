@@ -1,6 +1,6 @@
 -- Bits that more than one driver may assign.
 use Rattle.std.proofs.Common.{◌≡◌, ◌∙◌, ◌+◌, ◌<◌, ◌≤◌, ℕ, zero, suc, arith, refl, ap, sym, subst, Bool, true, false, List, [], ◌∷◌, ◌++◌, ◌⊎◌, inl, inr, drop, append-nil, length, get_or, Option, Some, Bor}
-use Rattle.std.specs.Prelude.{IsTrue, ◌&&◌, MatchOption}
+use Rattle.std.specs.Prelude.{IsTrue, MatchOption}
 use Rattle.std.specs.List.{HoldsAt}
 use Rattle.std.proofs.lemmas.Bool.{true≢false, and_from, or_left, or_right}
 use Rattle.std.proofs.lemmas.List.{append_assoc}
@@ -18,7 +18,7 @@ use Rattle.v_depend.specs.Running.{IsFit}
 use Rattle.v_order.specs.declared.driver.Driver.{Driver}
 use Rattle.v_order.specs.Lists.{statement_in, statements_in}
 use Rattle.v_loops.specs.Turns.{AreFitToRun, AreApartBut}
-use Rattle.v_loops.proofs.Steps.{in-first, there-spread}
+use Rattle.v_loops.proofs.Steps.{there-spread}
 
 pub fit-turn : (s : Scope) (ds : List Driver) (i : ℕ) (r : Driver) → drop i ds ≡ r ∷ drop (i + 1) ds → AreFitToRun s (statements_in (drop i ds))
     → IsFit s (statement_in r) × AreFitToRun s (statements_in (drop (i + 1) ds))

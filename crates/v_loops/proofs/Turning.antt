@@ -1,5 +1,5 @@
 -- Turns: bits of loops stay, and chains grow by a step.
-use Rattle.std.proofs.Common.{◌≡◌, ◌∙◌, ℕ, suc, ◌+◌, ap, sym, subst, arith, true, false, List, ◌⊎◌, inl, inr}
+use Rattle.std.proofs.Common.{◌≡◌, ◌∙◌, ℕ, suc, ◌+◌, ap, sym, subst, arith, true, false, List, inl, inr}
 use Rattle.std.specs.Prelude.{Bool, ◌&&◌, IsTrue, ◌↔◌}
 use Rattle.std.proofs.lemmas.Bool.{and_parts, and_from}
 use Rattle.wb_values.specs.Value.{Name}

@@ -1,8 +1,6 @@
 use Rattle.std.proofs.Common.{subst, sym}
 use Rattle.std.specs.Prelude.{◌↔◌, IsTrue}
-use Rattle.verilog_trees.specs.Syntax.{blocking}
 use Rattle.verilog_designs.specs.Dependence.{Bit, is_in}
-use Rattle.v_syntax.specs.Tree.{tree_of, target_of, statement_of}
 use Rattle.v_value.specs.Scope.{scope_at}
 use Rattle.v_masks.specs.Masks.{masked}
 use Rattle.v_depend.specs.Resting.{IsThere, RestsAfter}

@@ -1,11 +1,9 @@
-use Rattle.std.proofs.Common.{◌∙◌, ap, subst}
-use Rattle.std.specs.Prelude.{◌↔◌, IsTrue}
+use Rattle.std.proofs.Common.{◌∙◌, ap}
 use Rattle.verilog_meaning.specs.Register.{may_assign}
-use Rattle.verilog_designs.specs.Reads.{or_in, and_in, but_not_in}
+use Rattle.verilog_designs.specs.Reads.{or_in, but_not_in}
 use Rattle.v_value.specs.Scope.{scope_at}
 use Rattle.v_flow.specs.Spans.{bits_in, existing}
 use Rattle.v_masks.specs.Masks.{masked}
-use Rattle.v_depend.specs.Resting.{OneIsUnsettled}
 use Rattle.v_order.specs.Lists.{statement_in}
 use Rattle.v_loops.proofs.Passing.{none-settled, are-settled}
 use Rattle.v_loops.proofs.driver.settled_by.Goals as goal

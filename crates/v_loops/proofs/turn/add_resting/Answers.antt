@@ -1,6 +1,6 @@
 use Rattle.std.proofs.Common.{◌∙◌, ap}
 use Rattle.verilog_meaning.specs.Register.{may_assign}
-use Rattle.verilog_designs.specs.Reads.{or_in, and_in}
+use Rattle.verilog_designs.specs.Reads.{or_in}
 use Rattle.v_value.specs.Scope.{scope_at}
 use Rattle.v_flow.specs.Spans.{bits_in, existing}
 use Rattle.v_masks.specs.Masks.{masked}
