@@ -16,7 +16,8 @@ use Rattle.v_drivers.specs.Premises.{HaveNarrowTargets, AreNarrowBlocks, AreNarr
 use Rattle.v_undriven.specs.Premises.{AreNarrowValues, AreNarrowReads}
 use Rattle.v_depend.specs.Running.{IsFit}
 use Rattle.v_paths.specs.Modules.{AreFitItems}
-use Rattle.v_loops.specs.Turns.{as_statements, AreFitToRun, HaveConstantSelects, IsRunnable}
+use Rattle.v_order.specs.Drivers.{as_statements}
+use Rattle.v_loops.specs.Turns.{AreFitToRun, HaveConstantSelects, IsRunnable}
 use Rattle.v_fitting.specs.Wires.{AreNoMemories, HasPlainWires, HavePlainWires}
 use Rattle.v_fitting.proofs.Targets.{target-constant, statement-targets}
 use Rattle.v_fitting.proofs.Memories.{unwritten, plain-target, plain-statement}

@@ -1,7 +1,13 @@
-mod Steps
+pub mod Steps
 mod Stages
 mod Covered
 mod Local
+pub mod Listed
+pub mod Driven
 mod Adding
+mod Removing
+pub mod Sharing
+mod Passing
+mod Turning
 mod Answering
 mod OneModule

@@ -4,20 +4,12 @@ use Rattle.std.specs.Prelude.{IsTrue, ◌↔◌}
 use Rattle.verilog_trees.specs.Syntax.{Item}
 use Rattle.verilog_meaning.specs.Expression.{Scope}
 use Rattle.verilog_designs.specs.Reads.{BitSet}
-use Rattle.verilog_designs.specs.Dependence.{Bit}
+use Rattle.verilog_designs.specs.Dependence.{Bit, is_in}
 use Rattle.verilog_unique.proofs.Descent.{IsAmong, without, length_without, split}
 use Rattle.v_paths.specs.Premises.{HasNoMemory}
 use Rattle.v_loops.specs.OneModule.{DependsIn, DependsFarIn, HasLoopIn}
-use Rattle.v_loops.specs.Turns.{HasFirst, Stage, IsStage, IsLasting}
-use Rattle.v_loops.proofs.Steps.{depends-driven, stage-there, in-first}
-
-abbrev pub later : ℕ → ℕ → ℕ
-later zero j = j
-later (suc i) j = suc (later i j)
-
-pub later-least : (i j : ℕ) → i ≤ later i j
-later-least zero j = omega arith
-later-least (suc i) j = let l = later-least i j in omega (arith, l)
+use Rattle.v_loops.specs.Turns.{HasFirst, Stage, HasAllLoops, IsLasting}
+use Rattle.v_loops.proofs.Steps.{from-there, depends-driven, stage-driven, in-first}
 
 module _ (s : Scope) (items : List Item) where
   -- one step more at the end
@@ -26,29 +18,25 @@ module _ (s : Scope) (items : List Item) where
   and-then _ _ y (DependsFarIn.further z x u a f) b = DependsFarIn.further z x y a (and-then x u y f b)
 
   -- the first step of several, and what is left
-  first-step : (u y : Bit) → DependsFarIn s items u y → (x : Bit) × DependsIn s items u x × ((x ≡ y) ⊎ DependsFarIn s items x y)
+  pub first-step : (u y : Bit) → DependsFarIn s items u y → (x : Bit) × DependsIn s items u x × ((x ≡ y) ⊎ DependsFarIn s items x y)
   first-step _ _ (DependsFarIn.step u y a) = (y, a, inl refl)
   first-step _ _ (DependsFarIn.further u x y a f) = (x, a, inr f)
 
   -- a loop may begin at its second bit
-  turned : (u x : Bit) → DependsIn s items u x → (x ≡ u) ⊎ DependsFarIn s items x u → DependsFarIn s items x x
+  pub turned : (u x : Bit) → DependsIn s items u x → (x ≡ u) ⊎ DependsFarIn s items x u → DependsFarIn s items x x
   turned u x a (inl e) = DependsFarIn.step x x (subst (λ (z : Bit). DependsIn s items z x) (sym e) a)
   turned u x a (inr f) = and-then x u x f a
 
   -- A bit of a loop is never settled.
-  stays : (k : ℕ) (u : Bit) → DependsFarIn s items u u → Stage s items k u
+  pub stays : (k : ℕ) (u : Bit) → DependsFarIn s items u u → Stage s items k u
   stays zero u h = let f = first-step u u h in depends-driven s items u f.0 f.1
   stays (suc k) u h = let f = first-step u u h in (f.0, f.1, stays k f.0 (turned u f.0 f.1 f.2))
 
-  -- ---- lasting stages
+  -- ---- sets that last
 
-  lasting : (j : ℕ) → IsLasting s items j → (i : ℕ) → IsLasting s items (later i j)
-  lasting j f zero u h = f u h
-  lasting j f (suc i) u h = (h.0, h.1, lasting j f i h.0 h.2)
-
-  pub goes-on : (j : ℕ) → IsLasting s items j → (i : ℕ) (u : Bit) → Stage s items j u → Stage s items (later i j) u
-  goes-on j f zero u h = h
-  goes-on j f (suc i) u h = lasting j f i u (goes-on j f i u h)
+  pub goes-on : (p : BitSet) (j : ℕ) → IsLasting s items p → ((u : Bit) → IsTrue (is_in p u) → Stage s items j u) → (k : ℕ) (u : Bit) → IsTrue (is_in p u) → Stage s items k u
+  goes-on p j f g zero u h = stage-driven s items j u (g u h)
+  goes-on p j f g (suc k) u h = let o = f u h in (o.0, o.1, goes-on p j f g k o.0 o.2)
 
   -- ---- more turns than bits
 
@@ -90,19 +78,20 @@ module _ (s : Scope) (items : List Item) where
 
   -- ---- the answer
 
-  -- At a stage from which a chain leads on further than there are bits, a bit is left exactly where there is a loop.
-  pub left-loops : (bits : List Bit) → ((k : ℕ) (u : Bit) → Stage s items k u → IsAmong bits u) → (p : BitSet) → HasNoMemory s p → (j : ℕ) → IsStage s items j p
-      → (n : ℕ) → length bits ≤ n → ((u : Bit) → Stage s items j u → Stage s items n u) → HasFirst p ↔ HasLoopIn s items
-  left-loops bits covers p none j is n l far = (there, back)
+  -- a loop has a bit of a word 0 in each set that has all bits of loops
+  pub loop-first : (p : BitSet) → HasNoMemory s p → HasAllLoops s items p → HasLoopIn s items → HasFirst p
+  loop-first p none all h =
+      let u = h.bit in
+      let has = all u h.loops in
+      let f = first-step u u h.loops in
+      (u.of_name, u.place, subst (λ k. IsTrue (p u.of_name k u.place)) (in-first s p u none (from-there s items u f.0 f.1) u.word u.place has) has)
+
+  -- Where from each bit that is left a chain leads on further than there are bits, some are left exactly where there is a loop.
+  pub left-loops : (bits : List Bit) → ((k : ℕ) (u : Bit) → Stage s items k u → IsAmong bits u) → (p : BitSet) → HasNoMemory s p → HasAllLoops s items p
+      → (n : ℕ) → length bits ≤ n → ((u : Bit) → IsTrue (is_in p u) → Stage s items n u) → HasFirst p ↔ HasLoopIn s items
+  left-loops bits covers p none all n l far = (there, loop-first p none all)
     where
       there : HasFirst p → HasLoopIn s items
       there h =
           let u : Bit = record { of_name = h.0; word = 0; place = h.1 } in
-          loop-from bits covers n l u (far u ((is u).0 h.2))
-
-      back : HasLoopIn s items → HasFirst p
-      back h =
-          let u = h.bit in
-          let st = stays j u h.loops in
-          let has = (is u).1 st in
-          (u.of_name, u.place, subst (λ k. IsTrue (p u.of_name k u.place)) (in-first s p u none (stage-there s items j u st) u.word u.place has) has)
+          loop-from bits covers n l u (far u h.2)

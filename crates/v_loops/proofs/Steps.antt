@@ -19,8 +19,9 @@ use Rattle.v_masks.specs.Masks.{spread}
 use Rattle.v_paths.specs.Premises.{HasNoMemory}
 use Rattle.v_depend.specs.Resting.{IsThere, RestsAfter}
 use Rattle.v_depend.specs.Running.{IsFit}
+use Rattle.v_order.specs.Drivers.{as_statements}
 use Rattle.v_loops.specs.OneModule.{DependsIn}
-use Rattle.v_loops.specs.Turns.{as_statements, AreFitToRun, HaveConstantSelects, IsRunnable, RestsBy, OneRests, RestsInTurn, Stage, IsStage}
+use Rattle.v_loops.specs.Turns.{AreFitToRun, HaveConstantSelects, RestsBy, OneRests, RestsInTurn, Stage}
 
 -- ---- constants read nothing
 
@@ -151,7 +152,7 @@ one-there all p s (x ∷ xs) u (inr h) = let o = one-there all p s xs u h in (o.
 abbrev Links : Type 0
 Links = List (Target × Expression)
 
-as-statement : (links : Links) (a : Target × Expression) → IsAmong links a → IsAmong (as_statements links) (blocking a.0 a.1)
+pub as-statement : (links : Links) (a : Target × Expression) → IsAmong links a → IsAmong (as_statements links) (blocking a.0 a.1)
 as-statement [] a h = absurd h
 as-statement (b ∷ links) a (inl e) = inl (ap (λ (z : Target × Expression). blocking z.0 z.1) e)
 as-statement (b ∷ links) a (inr h) = inr (as-statement links a h)
@@ -233,11 +234,11 @@ RestsWhereItDepends =
     (unsettled : BitSet) (s : Scope) (x : Statement) (u : Bit) → IsThere s u
     → RestsAfter unsettled s x u ↔ (y : Bit) × IsTrue (is_in unsettled y) × After s at_start x u y
 
-abbrev OnUnsettled : Scope → List Item → BitSet → Bit → Type 0
+abbrev pub OnUnsettled : Scope → List Item → BitSet → Bit → Type 0
 OnUnsettled s items p u = (y : Bit) × DependsIn s items u y × IsTrue (is_in p y)
 
 module _ (law : RestsWhereItDepends) (s : Scope) (items : List Item) (p : BitSet) (constant : HaveConstantSelects s (assignments items)) (none : HasNoMemory s p) where
-  turn-depends : (u : Bit) → RestsInTurn false p s items u → OnUnsettled s items p u
+  pub turn-depends : (u : Bit) → RestsInTurn false p s items u → OnUnsettled s items p u
   turn-depends u (inl h) =
       let o = one-there false p s (as_statements (assignments items)) u h in
       let l = as-link s (assignments items) o.0 constant o.1 in
@@ -258,7 +259,7 @@ module _ (law : RestsWhereItDepends) (s : Scope) (items : List Item) (p : BitSet
         spread-there s p r.0 none there r.1,
       )
 
-  depends-turn : (u y : Bit) → DependsIn s items u y → IsTrue (is_in p y) → RestsInTurn false p s items u
+  pub depends-turn : (u y : Bit) → DependsIn s items u y → IsTrue (is_in p y) → RestsInTurn false p s items u
   depends-turn _ _ (DependsIn.by_assignment a u y c h g) k =
       let r = (law (spread p) s (blocking a.0 a.1) u h).1 (y, there-spread s p y none (after-there s (blocking a.0 a.1) u y h (given y g refl)) k, given y g refl) in
       inl (one-here false p s (as_statements (assignments items)) (blocking a.0 a.1) u
@@ -267,13 +268,9 @@ module _ (law : RestsWhereItDepends) (s : Scope) (items : List Item) (p : BitSet
       let r = (law (spread p) s x u h).1 (y, there-spread s p y none (after-there s x u y h a) k, a) in
       inr (one-here false p s (combinational_blocks items) x u (among_contains (combinational_blocks items) x c) (h, m, r))
 
-  pub next-stage : (q : BitSet) → ((u : Bit) → IsTrue (is_in q u) ↔ RestsInTurn false p s items u) → (k : ℕ) → IsStage s items k p → IsStage s items (suc k) q
-  next-stage q f k g u =
-      ((λ h. let r = turn-depends u ((f u).0 h) in (r.0, r.1, (g r.0).0 r.2)), (λ h. (f u).1 (depends-turn u h.0 h.1 ((g h.0).1 h.2))))
-
 -- ---- no memory
 
-fit-among : (s : Scope) (xs : List Statement) (x : Statement) → AreFitToRun s xs → IsAmong xs x → IsFit s x
+pub fit-among : (s : Scope) (xs : List Statement) (x : Statement) → AreFitToRun s xs → IsAmong xs x → IsFit s x
 fit-among s [] x f h = absurd h
 fit-among s (y ∷ xs) x f (inl e) = subst (IsFit s) e f.0
 fit-among s (y ∷ xs) x f (inr h) = fit-among s xs x f.1 h
@@ -285,23 +282,9 @@ no-memory-of all p s xs u f m h =
     (sym (and_from (is_bit_of (s u.of_name) u.word u.place) (may_assign s o.0 u.of_name u.word u.place) o.2.0 o.2.1)
     ∙ (fit-among s xs o.0 f o.1).plain u.of_name u.word u.place m)
 
-pub turn-free : (all : Bool) (p q : BitSet) (s : Scope) (items : List Item) → IsRunnable s items
-    → ((u : Bit) → IsTrue (is_in q u) ↔ RestsInTurn all p s items u) → HasNoMemory s q
-turn-free all p q s items f g n k b m = false_from_ne_true (q n k b) (λ h. at ((g (record { of_name = n; word = k; place = b })).0 h))
-  where
-    at : RestsInTurn all p s items (record { of_name = n; word = k; place = b }) → ⊥
-    at (inl h) = no-memory-of all p s (as_statements (assignments items)) (record { of_name = n; word = k; place = b }) f.links m h
-    at (inr h) = no-memory-of all p s (combinational_blocks items) (record { of_name = n; word = k; place = b }) f.blocks m h
-
--- in the first turn it is all the same what is unsettled
-all-same : (p q : BitSet) (s : Scope) (xs : List Statement) (u : Bit) → OneRests true p s xs u → OneRests true q s xs u
-all-same p q s [] u h = h
-all-same p q s (x ∷ xs) u (inl h) = inl h
-all-same p q s (x ∷ xs) u (inr h) = inr (all-same p q s xs u h)
-
-turn-same : (p q : BitSet) (s : Scope) (items : List Item) (u : Bit) → RestsInTurn true p s items u → RestsInTurn true q s items u
-turn-same p q s items u (inl h) = inl (all-same p q s (as_statements (assignments items)) u h)
-turn-same p q s items u (inr h) = inr (all-same p q s (combinational_blocks items) u h)
-
-pub first-stage : (p q : BitSet) (s : Scope) (items : List Item) → ((u : Bit) → IsTrue (is_in q u) ↔ RestsInTurn true p s items u) → IsStage s items 0 q
-first-stage p q s items f u = ((λ h. turn-same p no_bits s items u ((f u).0 h)), (λ h. (f u).1 (turn-same no_bits p s items u h)))
+pub turn-free : (all : Bool) (p q : BitSet) (s : Scope) (xs : List Statement) → AreFitToRun s xs
+    → ((u : Bit) → IsTrue (is_in q u) ↔ OneRests all p s xs u) → HasNoMemory s q
+turn-free all p q s xs f g n k b m =
+    false_from_ne_true (q n k b) (λ h.
+    let u : Bit = record { of_name = n; word = k; place = b } in
+    no-memory-of all p s xs u f m ((g u).0 h))

@@ -1,7 +1,7 @@
 -- What turns over the drivers of a module leave unsettled.
-use Rattle.std.specs.Prelude.{◌↔◌, ◌⊎◌, ℕ, zero, suc, ◌+◌, Bool, true, false, List, [], ◌∷◌, IsTrue}
+use Rattle.std.specs.Prelude.{◌≡◌, ◌↔◌, ◌⊎◌, ℕ, zero, suc, ◌+◌, Bool, true, false, List, [], ◌∷◌, Contains, IsTrue}
 use Rattle.wb_values.specs.Value.{Name}
-use Rattle.verilog_trees.specs.Syntax.{Expression, Target, Statement, blocking, Item}
+use Rattle.verilog_trees.specs.Syntax.{Expression, Target, Statement, Item}
 use Rattle.verilog_meaning.specs.Expression.{Scope}
 use Rattle.verilog_meaning.specs.Register.{may_assign, combinational_blocks}
 use Rattle.verilog_meaning.specs.Settled.{assignments}
@@ -11,12 +11,8 @@ use Rattle.verilog_designs.specs.Dependence.{Bit, is_in}
 use Rattle.v_masks.specs.Masks.{spread}
 use Rattle.v_depend.specs.Resting.{IsThere, RestsAfter}
 use Rattle.v_depend.specs.Running.{IsFit}
-use Rattle.v_loops.specs.OneModule.{DependsIn}
-
--- continuous assignments as statements
-abbrev pub as_statements : List (Target × Expression) → List Statement
-as_statements [] = []
-as_statements (a ∷ links) = blocking a.0 a.1 ∷ as_statements links
+use Rattle.v_order.specs.Drivers.{as_statements, drivers}
+use Rattle.v_loops.specs.OneModule.{DependsIn, DependsFarIn}
 
 -- Each of the statements has values that fit words, and assigns no memory.
 abbrev pub AreFitToRun : Scope → List Statement → Type 0
@@ -72,11 +68,60 @@ Stage s items (suc k) u = (y : Bit) × DependsIn s items u y × Stage s items k 
 abbrev pub IsStage : Scope → List Item → ℕ → BitSet → Type 0
 IsStage s items k p = (u : Bit) → IsTrue (is_in p u) ↔ Stage s items k u
 
--- Nothing is settled by a further turn.
-abbrev pub IsLasting : Scope → List Item → ℕ → Type 0
-IsLasting s items k = (u : Bit) → Stage s items k u → Stage s items (suc k) u
+-- Bits that depend on themselves are in the set.
+abbrev pub HasAllLoops : Scope → List Item → BitSet → Type 0
+HasAllLoops s items p = (u : Bit) → DependsFarIn s items u u → IsTrue (is_in p u)
 
--- a stage that lasts, or that after so many turns more
+-- After k turns: bits of loops are left, and from each that is left a chain of k steps leads on.
+pub record IsLeft (s : Scope) (items : List Item) (k : ℕ) (p : BitSet) : Type 0 where
+  pub loops : HasAllLoops s items p
+  pub chains : (u : Bit) → IsTrue (is_in p u) → Stage s items k u
+
+-- Each bit of the set depends on one of them, so a further turn settles none.
+abbrev pub IsLasting : Scope → List Item → BitSet → Type 0
+IsLasting s items p = (u : Bit) → IsTrue (is_in p u) → (y : Bit) × DependsIn s items u y × IsTrue (is_in p y)
+
+-- what lasts, or what is left after so many turns more
 abbrev pub IsLater : (lasts : Bool) → Scope → List Item → (turns k : ℕ) → BitSet → Type 0
-IsLater true s items turns k p = (j : ℕ) × IsStage s items j p × IsLasting s items j
-IsLater false s items turns k p = IsStage s items (turns + k) p
+IsLater true s items turns k p = (j : ℕ) × IsLeft s items j p × IsLasting s items p
+IsLater false s items turns k p = IsLeft s items (turns + k) p
+
+-- The statements are the drivers of these items, which can be run.
+pub record AreOf (s : Scope) (items : List Item) (xs : List Statement) : Type 0 where
+  pub same : drivers items ≡ xs
+  pub runnable : IsRunnable s items
+
+-- ---- passes
+
+-- of the bits that the statement may assign a set has those that rest on an unsettled one after it
+abbrev pub TellsWhereAssigned : (unsettled : BitSet) → Scope → Statement → BitSet → Type 0
+TellsWhereAssigned p s x m =
+    (u : Bit) → IsThere s u → IsTrue (may_assign s x u.of_name u.word u.place) → IsTrue (is_in m u) ↔ RestsAfter p s x u
+
+-- an unsettled bit that the statement may assign, and that rests on no unsettled one after it
+pub record Settles (unsettled : BitSet) (s : Scope) (x : Statement) (u : Bit) : Type 0 where
+  pub there : IsThere s u
+  pub was : IsTrue (is_in unsettled u)
+  pub assigned : IsTrue (may_assign s x u.of_name u.word u.place)
+  pub rests : ¬ RestsAfter unsettled s x u
+
+-- The set has just these bits: of the unsettled ones that the statement may assign, the others rest.
+pub record AreSettled (unsettled : BitSet) (s : Scope) (x : Statement) (p : BitSet) : Type 0 where
+  pub settled : (u : Bit) → IsTrue (is_in p u) → Settles unsettled s x u
+  pub rests : (u : Bit) → IsThere s u → IsTrue (is_in unsettled u) → IsTrue (may_assign s x u.of_name u.word u.place) → is_in p u ≡ false → RestsAfter unsettled s x u
+
+-- Statements that may assign one bit are the same, but for bits of a set.
+abbrev pub AreApartBut : Scope → List Statement → BitSet → Type 0
+AreApartBut s xs p =
+    (x y : Statement) (u : Bit) → Contains xs x → Contains xs y → IsThere s u → IsTrue (may_assign s x u.of_name u.word u.place)
+    → IsTrue (may_assign s y u.of_name u.word u.place) → is_in p u ≡ false → x ≡ y
+
+-- A driver was visited: none is unsettled that was not, and a bit that is settled now was settled by the driver, and is no shared one.
+pub record IsVisited (shared : BitSet) (s : Scope) (x : Statement) (before after : BitSet) : Type 0 where
+  pub fewer : (n : Name) (k b : ℕ) → after n k b ≡ true → before n k b ≡ true
+  pub settled : (u : Bit) → IsThere s u → IsTrue (is_in before u) → is_in after u ≡ false → Settles before s x u × (is_in shared u ≡ false)
+
+-- Drivers were visited: none is unsettled that was not, and bits of loops are left.
+pub record IsPassed (s : Scope) (xs : List Statement) (before after : BitSet) : Type 0 where
+  pub fewer : (n : Name) (k b : ℕ) → after n k b ≡ true → before n k b ≡ true
+  pub loops : (items : List Item) → AreOf s items xs → HasAllLoops s items before → HasAllLoops s items after

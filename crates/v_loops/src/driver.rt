@@ -1,27 +1,31 @@
-//! The bits of one driver that rest on bits that are not settled yet. Each driver is looked at with a table of the bits alone that it reads or
-//! may assign.
+//! What a driver leaves resting on bits that are not settled yet, and what it settles. Each driver is looked at with a table of the bits alone
+//! that it reads or may assign.
 
-ghost use Rattle.std.specs.Prelude.{◌≡◌, ◌∷◌, [], IfOk, OnOk};
-ghost use Rattle.verilog_trees.specs.Syntax.{blocking};
+ghost use Rattle.std.specs.Prelude.{◌≡◌, ◌↔◌, IsTrue, IfOk, OnOk};
+ghost use Rattle.verilog_trees.specs.Syntax.{whole, place, blocking};
+ghost use Rattle.verilog_meaning.specs.Register.{may_assign};
 ghost use Rattle.verilog_designs.specs.Reads.{and_in};
-ghost use Rattle.v_syntax.specs.Tree.{tree_of, target_of, statement_of};
+ghost use Rattle.verilog_designs.specs.Dependence.{Bit, is_in};
+ghost use Rattle.v_syntax.specs.Tree.{tree_of};
 ghost use Rattle.v_value.specs.Scope.{scope_at};
 ghost use Rattle.v_value.specs.Narrow.{HasNarrowObjects};
-ghost use Rattle.v_flow.specs.Spans.{bits_in};
+ghost use Rattle.v_flow.specs.Spans.{bits_in, existing};
 ghost use Rattle.v_masks.specs.Masks.{masked, spread};
 ghost use Rattle.v_paths.specs.Premises.{HasNoMemory};
+ghost use Rattle.v_depend.specs.Resting.{IsThere, RestsAfter};
 ghost use Rattle.v_depend.specs.Running.{IsFit};
-ghost use Rattle.v_loops.specs.Turns.{Adds};
+ghost use Rattle.v_order.specs.Lists.{statement_in};
+ghost use Rattle.v_loops.specs.Turns.{TellsWhereAssigned, AreSettled};
 
-use crate::span::add_kept;
 use std::alloc::{AllocError, Global};
 use std::collections::BTreeMap;
 use v_depend::laws::rests_where_it_depends;
-use v_depend::{after, take};
+use v_depend::{after, meets, take};
 use v_flow::span::Span;
-use v_flow::{add_assigned, add_reached, add_reads, add_statement_reads, add_target_reads};
-use v_paths::mask::{kept_in, masks_of};
-use v_syntax::tree::{Expression, Statement, Target};
+use v_order::driver::Driver;
+use v_order::{add_driven, add_read};
+use v_paths::mask::{add_left, kept_in, masks_of};
+use v_syntax::tree::{Expression, Selects, Target};
 use v_value::scope::Scope;
 
 /// The bits of spans that a table has, as a table.
@@ -37,57 +41,96 @@ fn part_of<'s>(
     Ok(part)
 }
 
-/// Adds the bits of a continuous assignment, all of them or those that rest on an unsettled one.
-pub(crate) fn add_link<'s>(
+/// Leaves in the table the bits that rest on its bits after a net got the value of its declaration.
+fn run_net<'s>(
     alloc: Global,
-    target: &Target<'s>,
-    value: &Expression<'s>,
+    name: &'s str,
+    value: &Expression<'_>,
     scope: &Scope<'_>,
-    all: bool,
-    unsettled: &BTreeMap<&'s str, u128>,
-    found: &mut Vec<Span<'s>>,
+    unsettled: &mut BTreeMap<&'s str, u128>,
 ) -> Result<(), AllocError>
     requires objects { HasNarrowObjects (scope_at scope.now) }
-    requires fit { IsFit (scope_at scope.now) (blocking (target_of target.now) (tree_of value.now)) }
-    requires variables { HasNoMemory (scope_at scope.now) (masked unsettled.now) }
-    ensures { OnOk result (Adds all (masked unsettled.now) (scope_at scope.now) (blocking (target_of target.now) (tree_of value.now) ∷ [])
-        (bits_in found.old.items) (bits_in found.new.items)) }
+    requires fit { IsFit (scope_at scope.now) (blocking (place name.now whole) (tree_of value.now)) }
+    requires variables { HasNoMemory (scope_at scope.now) (existing (scope_at scope.now) (masked unsettled.old)) }
+    ensures { OnOk result ((u : Bit) → IsThere (scope_at scope.now) u
+        → IsTrue (is_in (masked unsettled.new) u) ↔ RestsAfter (masked unsettled.old) (scope_at scope.now) (blocking (place name.now whole) (tree_of value.now)) u) }
 {
-    rests_where_it_depends();
-    let mut spans = Vec::new(alloc);
-    add_reached(scope, target, &mut spans)?;
-    let mut needed = Vec::new(alloc);
-    add_reads(scope, value, &mut needed)?;
-    add_target_reads(scope, target, &mut needed)?;
-    add_reached(scope, target, &mut needed)?;
-    let mut table = part_of(alloc, unsettled, &needed)?;
-    take(alloc, target, value, scope, &mut table)?;
-    add_kept(alloc, all, &table, &spans, found)?;
+    let target = Target::Place(name, Selects::Whole);
+    take(alloc, &target, value, scope, unsettled)?;
     Ok(())
 }
 
-/// The same of a combinational block.
-pub(crate) fn add_block<'s>(
+/// Leaves in the table the bits that rest on its bits after a driver.
+fn run<'s>(
     alloc: Global,
-    block: &Statement<'s>,
+    driver: Driver<'_, 's>,
     scope: &Scope<'_>,
-    all: bool,
-    unsettled: &BTreeMap<&'s str, u128>,
-    found: &mut Vec<Span<'s>>,
+    unsettled: &mut BTreeMap<&'s str, u128>,
 ) -> Result<(), AllocError>
     requires objects { HasNarrowObjects (scope_at scope.now) }
-    requires fit { IsFit (scope_at scope.now) (statement_of block.now) }
+    requires fit { IsFit (scope_at scope.now) (statement_in driver) }
+    requires variables { HasNoMemory (scope_at scope.now) (existing (scope_at scope.now) (masked unsettled.old)) }
+    ensures { OnOk result ((u : Bit) → IsThere (scope_at scope.now) u
+        → IsTrue (is_in (masked unsettled.new) u) ↔ RestsAfter (masked unsettled.old) (scope_at scope.now) (statement_in driver.entry) u) }
+{
+    match driver {
+        Driver::Link(target, value) => {
+            take(alloc, target, value, scope, unsettled)?;
+            Ok(())
+        }
+        Driver::Net(name, value) => {
+            run_net(alloc, name, value, scope, unsettled)?;
+            Ok(())
+        }
+        Driver::Block(block) => {
+            after(alloc, block, scope, unsettled)?;
+            Ok(())
+        }
+    }
+}
+
+/// A table that has of the bits which a driver may assign those that rest on an unsettled one after it.
+pub(crate) fn resting<'s>(
+    alloc: Global,
+    driver: Driver<'_, 's>,
+    scope: &Scope<'_>,
+    unsettled: &BTreeMap<&'s str, u128>,
+) -> Result<BTreeMap<&'s str, u128>, AllocError>
+    requires objects { HasNarrowObjects (scope_at scope.now) }
+    requires fit { IsFit (scope_at scope.now) (statement_in driver) }
     requires variables { HasNoMemory (scope_at scope.now) (masked unsettled.now) }
-    ensures { OnOk result (Adds all (masked unsettled.now) (scope_at scope.now) (statement_of block.now ∷ []) (bits_in found.old.items) (bits_in found.new.items)) }
+    ensures { IfOk result (λ t. TellsWhereAssigned (masked unsettled.now) (scope_at scope.now) (statement_in driver.entry) (masked t)) }
 {
     rests_where_it_depends();
-    let mut spans = Vec::new(alloc);
-    add_assigned(scope, block, &mut spans)?;
     let mut needed = Vec::new(alloc);
-    add_statement_reads(scope, block, &mut needed)?;
-    add_assigned(scope, block, &mut needed)?;
+    add_read(scope, driver, &mut needed)?;
+    add_driven(scope, driver, &mut needed)?;
     let mut table = part_of(alloc, unsettled, &needed)?;
-    after(alloc, block, scope, &mut table)?;
-    add_kept(alloc, all, &table, &spans, found)?;
-    Ok(())
+    run(alloc, driver, scope, &mut table)?;
+    Ok(table)
+}
+
+/// The unsettled bits that a driver settles: it may assign them, and they rest on no unsettled bit after it.
+pub fn settled_by<'s>(
+    alloc: Global,
+    driver: Driver<'_, 's>,
+    scope: &Scope<'_>,
+    unsettled: &BTreeMap<&'s str, u128>,
+) -> Result<Vec<Span<'s>>, AllocError>
+    requires objects { HasNarrowObjects (scope_at scope.now) }
+    requires fit { IsFit (scope_at scope.now) (statement_in driver) }
+    requires variables { HasNoMemory (scope_at scope.now) (masked unsettled.now) }
+    ensures { IfOk result (λ v. AreSettled (masked unsettled.now) (scope_at scope.now) (statement_in driver.entry) (bits_in v.items)) }
+{
+    let mut spans = Vec::new(alloc);
+    add_driven(scope, driver, &mut spans)?;
+    let mut settled = Vec::new(alloc);
+    let some = meets(&spans, unsettled);
+    if !some {
+        return Ok(settled);
+    }
+    let waiting = kept_in(alloc, unsettled, &spans)?;
+    let table = resting(alloc, driver, scope, unsettled)?;
+    add_left(&table, &waiting, &mut settled)?;
+    Ok(settled)
 }

@@ -7,9 +7,12 @@ ghost use Rattle.v_value.specs.Narrow.{HasNarrowObjects};
 ghost use Rattle.v_loops.specs.OneModule.{HasLoopIn};
 ghost use Rattle.v_loops.specs.Turns.{IsRunnable};
 
+use crate::pass::passes;
 use crate::span::has_bits;
-use crate::turn::{first, turns};
+use crate::turn::turns;
 use std::alloc::{AllocError, Global};
+use v_order::{all_driven, drivers_of};
+use v_paths::mask::{kept_in, masks_of};
 use v_syntax::module::Item;
 use v_value::scope::Scope;
 
@@ -20,15 +23,23 @@ pub fn has_loop(alloc: Global, items: &[Item<'_>], scope: &Scope<'_>) -> Result<
     requires fit { IsRunnable (scope_at scope.now) (map item_of items.now) }
     ensures { IfOk result (λ r. IsTrue r ↔ HasLoopIn (scope_at scope.now) (map item_of items.now)) }
 {
-    let mut unsettled = first(alloc, items, scope)?;
-    let count = unsettled.len();
+    let drivers = drivers_of(alloc, items)?;
+    let driven = all_driven(alloc, scope, &drivers)?;
+    let mut unsettled = masks_of(alloc, &driven)?;
+    passes(alloc, &drivers, scope, &driven, &mut unsettled)?;
+    let mut left = kept_in(alloc, &unsettled, &driven)?;
+    let some = has_bits(alloc, &left)?;
+    if !some {
+        return Ok(false);
+    }
+    let count = driven.len();
     for _ in 0..count {
-        let lasts = turns(alloc, items, scope, &mut unsettled)?;
+        let lasts = turns(alloc, &drivers, scope, &mut left)?;
         if lasts {
-            let left = has_bits(alloc, &unsettled)?;
-            return Ok(left);
+            let stay = has_bits(alloc, &left)?;
+            return Ok(stay);
         }
     }
-    let left = has_bits(alloc, &unsettled)?;
-    Ok(left)
+    let stay = has_bits(alloc, &left)?;
+    Ok(stay)
 }

@@ -1,20 +1,21 @@
-//! Lists of spans: joined, cut, and compared.
+//! Lists of spans: joined, compared, and taken out of tables.
 
-ghost use Rattle.std.specs.Prelude.{◌≡◌, ◌↔◌, ℕ, cond, true, IsTrue, IfOk, OnOk};
+ghost use Rattle.std.specs.Prelude.{◌≡◌, ◌↔◌, ℕ, true, IsTrue, IfOk, OnOk};
 ghost use Rattle.wb_values.specs.Value.{Name};
-ghost use Rattle.verilog_designs.specs.Reads.{or_in, and_in};
-ghost use Rattle.v_flow.specs.Spans.{bits_in};
-ghost use Rattle.v_masks.specs.Masks.{masked};
+ghost use Rattle.verilog_designs.specs.Reads.{or_in, but_not_in};
+ghost use Rattle.v_flow.specs.Spans.{bits_of, bits_in};
+ghost use Rattle.v_masks.specs.Masks.{masked, spread};
 ghost use Rattle.v_loops.specs.Turns.{HasFirst};
 
 use std::alloc::{AllocError, Global};
 use std::collections::BTreeMap;
 use v_depend::meets;
 use v_flow::span::Span;
-use v_paths::mask::{add_left, kept_in, masks_of};
+use v_masks::mask_under;
+use v_paths::mask::{add_left, first_word, masks_of, without};
 
 /// Adds spans.
-fn append<'s>(spans: &[Span<'s>], found: &mut Vec<Span<'s>>) -> Result<(), AllocError>
+pub(crate) fn append<'s>(spans: &[Span<'s>], found: &mut Vec<Span<'s>>) -> Result<(), AllocError>
     ensures { OnOk result (bits_in found.new.items ≡ or_in (bits_in found.old.items) (bits_in spans.now)) }
 {
     for span in spans {
@@ -23,22 +24,22 @@ fn append<'s>(spans: &[Span<'s>], found: &mut Vec<Span<'s>>) -> Result<(), Alloc
     Ok(())
 }
 
-/// Adds spans, all of them or their bits that the table has.
-pub(crate) fn add_kept<'s>(
-    alloc: Global,
-    all: bool,
-    table: &BTreeMap<&'s str, u128>,
-    spans: &[Span<'s>],
-    found: &mut Vec<Span<'s>>,
-) -> Result<(), AllocError>
-    ensures { OnOk result (bits_in found.new.items ≡ or_in (bits_in found.old.items) (cond all (bits_in spans.now) (and_in (bits_in spans.now) (masked table.now)))) }
+/// Takes the bits of a span out of a table.
+fn remove_span<'s>(span: Span<'s>, table: &mut BTreeMap<&'s str, u128>) -> Result<(), AllocError>
+    ensures { OnOk result (masked table.new ≡ but_not_in (masked table.old) (spread (bits_of span.entry))) }
 {
-    if all {
-        append(spans, found)?;
-        return Ok(());
+    let mask = without(mask_under(table, span.name), first_word(span));
+    table.insert(span.name, mask)?;
+    Ok(())
+}
+
+/// Takes the bits of spans out of a table.
+pub fn remove<'s>(spans: &[Span<'s>], table: &mut BTreeMap<&'s str, u128>) -> Result<(), AllocError>
+    ensures { OnOk result (masked table.new ≡ but_not_in (masked table.old) (spread (bits_in spans.now))) }
+{
+    for span in spans {
+        remove_span(*span, table)?;
     }
-    let kept = kept_in(alloc, table, spans)?;
-    append(&kept, found)?;
     Ok(())
 }
 

@@ -1,97 +1,87 @@
 //! Turns over all drivers of a module: what is left of the bits that are not settled yet.
 
-ghost use Rattle.std.specs.Prelude.{◌≡◌, ◌↔◌, ℕ, suc, true, false, map, IsTrue, IfOk, OnOk};
-ghost use Rattle.verilog_meaning.specs.Register.{combinational_blocks};
-ghost use Rattle.verilog_meaning.specs.Settled.{assignments};
+ghost use Rattle.std.specs.Prelude.{◌≡◌, ◌↔◌, ◌∷◌, ℕ, suc, false, [], List, IsTrue, IfOk, OnOk};
+ghost use Rattle.verilog_trees.specs.Syntax.{Item};
 ghost use Rattle.verilog_designs.specs.Dependence.{Bit, is_in};
-ghost use Rattle.v_syntax.specs.Source.{item_of};
 ghost use Rattle.v_value.specs.Scope.{scope_at};
 ghost use Rattle.v_value.specs.Narrow.{HasNarrowObjects};
 ghost use Rattle.v_flow.specs.Spans.{bits_in};
+ghost use Rattle.v_masks.specs.Masks.{masked};
 ghost use Rattle.v_paths.specs.Premises.{HasNoMemory};
-ghost use Rattle.v_loops.specs.Turns.{IsRunnable, RestsInTurn, IsStage, IsLater};
+ghost use Rattle.v_depend.specs.Running.{IsFit};
+ghost use Rattle.v_order.specs.Lists.{statement_in, statements_in};
+ghost use Rattle.v_loops.specs.Turns.{AreFitToRun, AreOf, OneRests, Adds, IsLeft, IsLater};
 
-use crate::block::add_blocks;
-use crate::link::add_links;
-use crate::span::has_all;
+use crate::driver::resting;
+use crate::span::{append, has_all};
 use std::alloc::{AllocError, Global};
+use std::collections::BTreeMap;
 use v_depend::laws::rests_where_it_depends;
 use v_flow::span::Span;
-use v_paths::mask::masks_of;
-use v_syntax::module::Item;
+use v_order::add_driven;
+use v_order::driver::Driver;
+use v_paths::mask::{kept_in, masks_of};
 use v_value::scope::Scope;
 
-/// The bits of all drivers, or those that rest on an unsettled one.
+/// Adds the bits that a driver may assign and that rest on an unsettled one after it.
+fn add_resting<'s>(
+    alloc: Global,
+    driver: Driver<'_, 's>,
+    scope: &Scope<'_>,
+    unsettled: &BTreeMap<&'s str, u128>,
+    found: &mut Vec<Span<'s>>,
+) -> Result<(), AllocError>
+    requires objects { HasNarrowObjects (scope_at scope.now) }
+    requires fit { IsFit (scope_at scope.now) (statement_in driver) }
+    requires variables { HasNoMemory (scope_at scope.now) (masked unsettled.now) }
+    ensures { OnOk result (Adds false (masked unsettled.now) (scope_at scope.now) (statement_in driver.entry ∷ []) (bits_in found.old.items) (bits_in found.new.items)) }
+{
+    let mut spans = Vec::new(alloc);
+    add_driven(scope, driver, &mut spans)?;
+    let table = resting(alloc, driver, scope, unsettled)?;
+    let kept = kept_in(alloc, &table, &spans)?;
+    append(&kept, found)?;
+    Ok(())
+}
+
+/// The bits that rest on an unsettled one by some driver.
 fn turn<'s>(
     alloc: Global,
-    items: &[Item<'s>],
+    drivers: &[Driver<'_, 's>],
     scope: &Scope<'_>,
-    all: bool,
     unsettled: &[Span<'s>],
 ) -> Result<Vec<Span<'s>>, AllocError>
     requires objects { HasNarrowObjects (scope_at scope.now) }
-    requires fit { IsRunnable (scope_at scope.now) (map item_of items.now) }
+    requires fit { AreFitToRun (scope_at scope.now) (statements_in drivers.now) }
     requires variables { HasNoMemory (scope_at scope.now) (bits_in unsettled.now) }
-    ensures { IfOk result (λ v. (u : Bit) → IsTrue (is_in (bits_in v.items) u) ↔ RestsInTurn all (bits_in unsettled.now) (scope_at scope.now) (map item_of items.now) u) }
+    ensures { IfOk result (λ v. (u : Bit) → IsTrue (is_in (bits_in v.items) u) ↔ OneRests false (bits_in unsettled.now) (scope_at scope.now) (statements_in drivers.now) u) }
 {
     let table = masks_of(alloc, unsettled)?;
     let mut found = Vec::new(alloc);
-    add_links(alloc, items, scope, all, &table, &mut found)?;
-    add_blocks(alloc, items, scope, all, &table, &mut found)?;
+    for driver in drivers {
+        add_resting(alloc, *driver, scope, &table, &mut found)?;
+    }
     Ok(found)
-}
-
-/// The bits that are driven: at first none of them is settled.
-pub(crate) fn first<'s>(
-    alloc: Global,
-    items: &[Item<'s>],
-    scope: &Scope<'_>,
-) -> Result<Vec<Span<'s>>, AllocError>
-    requires objects { HasNarrowObjects (scope_at scope.now) }
-    requires fit { IsRunnable (scope_at scope.now) (map item_of items.now) }
-    ensures stage { IfOk result (λ v. IsStage (scope_at scope.now) (map item_of items.now) 0 (bits_in v.items)) }
-    ensures variables { IfOk result (λ v. HasNoMemory (scope_at scope.now) (bits_in v.items)) }
-{
-    let none = Vec::new(alloc);
-    let driven = turn(alloc, items, scope, true, &none)?;
-    Ok(driven)
-}
-
-/// The bits that depend on an unsettled one.
-fn next<'s>(
-    alloc: Global,
-    items: &[Item<'s>],
-    scope: &Scope<'_>,
-    unsettled: &[Span<'s>],
-) -> Result<Vec<Span<'s>>, AllocError>
-    requires objects { HasNarrowObjects (scope_at scope.now) }
-    requires fit { IsRunnable (scope_at scope.now) (map item_of items.now) }
-    requires variables { HasNoMemory (scope_at scope.now) (bits_in unsettled.now) }
-    ensures stage { IfOk result (λ v. (k : ℕ) → IsStage (scope_at scope.now) (map item_of items.now) k (bits_in unsettled.now)
-        → IsStage (scope_at scope.now) (map item_of items.now) (suc k) (bits_in v.items)) }
-    ensures variables { IfOk result (λ v. HasNoMemory (scope_at scope.now) (bits_in v.items)) }
-{
-    rests_where_it_depends();
-    let rests = turn(alloc, items, scope, false, unsettled)?;
-    Ok(rests)
 }
 
 /// Makes up to 128 turns. Answers whether nothing was settled by the last one.
 pub(crate) fn turns<'s>(
     alloc: Global,
-    items: &[Item<'s>],
+    drivers: &[Driver<'_, 's>],
     scope: &Scope<'_>,
     unsettled: &mut Vec<Span<'s>>,
 ) -> Result<bool, AllocError>
     requires objects { HasNarrowObjects (scope_at scope.now) }
-    requires fit { IsRunnable (scope_at scope.now) (map item_of items.now) }
+    requires fit { AreFitToRun (scope_at scope.now) (statements_in drivers.now) }
     requires variables { HasNoMemory (scope_at scope.now) (bits_in unsettled.old.items) }
-    ensures stage { IfOk result (λ lasts. (k : ℕ) → IsStage (scope_at scope.now) (map item_of items.now) k (bits_in unsettled.old.items)
-        → IsLater lasts (scope_at scope.now) (map item_of items.now) 128 k (bits_in unsettled.new.items)) }
+    ensures left { IfOk result (λ lasts. (items : List Item) (k : ℕ) → AreOf (scope_at scope.now) items (statements_in drivers.now)
+        → IsLeft (scope_at scope.now) items k (bits_in unsettled.old.items)
+        → IsLater lasts (scope_at scope.now) items 128 k (bits_in unsettled.new.items)) }
     ensures variables { OnOk result (HasNoMemory (scope_at scope.now) (bits_in unsettled.new.items)) }
 {
+    rests_where_it_depends();
     for _ in 0..128_usize {
-        let rests = next(alloc, items, scope, unsettled)?;
+        let rests = turn(alloc, drivers, scope, unsettled)?;
         let lasts = has_all(alloc, &rests, unsettled)?;
         *unsettled = rests;
         if lasts {

@@ -1,5 +1,5 @@
 -- What a module that stands by itself settles to, where some bits are given to it from outside.
-use Rattle.std.specs.Prelude.{◌≡◌, ℕ, false, ◌||◌, ◌++◌, List, [], ◌∷◌, Contains, Some, IsTrue}
+use Rattle.std.specs.Prelude.{◌≡◌, ℕ, false, ◌||◌, List, [], ◌∷◌, Contains, Some, IsTrue}
 use Rattle.wb_values.specs.Value.{Name, Valuation}
 use Rattle.verilog_trees.specs.Syntax.{Statement, Item}
 use Rattle.verilog_meaning.specs.Expression.{Scope}
@@ -13,7 +13,8 @@ use Rattle.v_lower.specs.Lowered.{Images, HasImages, StandsFor}
 use Rattle.v_write.specs.Sound.{IsSoundStatement}
 use Rattle.v_write.specs.Written.{AreOfNames}
 use Rattle.v_depend.specs.Resting.{IsThere}
-use Rattle.v_loops.specs.Turns.{as_statements, IsRunnable}
+use Rattle.v_order.specs.Drivers.{drivers}
+use Rattle.v_loops.specs.Turns.{IsRunnable}
 use Rattle.v_settle.specs.Drivers.{AreSoundLinks}
 
 -- Some continuous assignment or some combinational block may drive the bit.
@@ -37,11 +38,6 @@ pub record IsEvaluated (s : Scope) (items : List Item) (a : Images) (g : Graph) 
   pub stands : (p u v : Valuation) → StandsFor s a g p u → IsSettledFrom s items a u v → StandsFor s b h p v
 
 -- ---- what is asked of the module
-
--- The drivers of a module as statements, in the order of the text: continuous assignments as blocking ones, and combinational blocks.
-abbrev pub drivers : List Item → List Statement
-drivers [] = []
-drivers (i ∷ items) = as_statements (assignments (i ∷ [])) ++ (combinational_blocks (i ∷ []) ++ drivers items)
 
 -- Each of the blocks breaks no rule.
 abbrev pub AreSound : Scope → List Statement → Type 0

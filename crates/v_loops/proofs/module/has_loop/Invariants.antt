@@ -4,11 +4,11 @@ use Rattle.v_syntax.specs.Source.{item_of}
 use Rattle.v_value.specs.Scope.{scope_at}
 use Rattle.v_flow.specs.Spans.{bits_in}
 use Rattle.v_paths.specs.Premises.{HasNoMemory}
-use Rattle.v_loops.specs.Turns.{IsStage}
+use Rattle.v_loops.specs.Turns.{IsLeft}
 use Rattle.v_loops.proofs.module.has_loop.Given as goal
 
 abbrev pub invariant-loop : goal.invariant-loop
 invariant-loop l = record {
-  stage : IsStage (scope_at l.scope) (map item_of l.items) (l.counter * 128) (bits_in l.unsettled.items);
-  variables : HasNoMemory (scope_at l.scope) (bits_in l.unsettled.items);
+  stays : IsLeft (scope_at l.scope) (map item_of l.items) (l.counter * 128) (bits_in l.left.items);
+  variables : HasNoMemory (scope_at l.scope) (bits_in l.left.items);
 }

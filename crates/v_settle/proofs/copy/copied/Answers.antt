@@ -8,13 +8,13 @@ pub loop-declaration-init : goal.loop-declaration-init
 loop-declaration-init c =
     record {
       within = none-within (images_at c.args.table.now) (images_at c.new-copy.result) c.new-copy.ensures;
-      all = none-copied c.args.scope.now.declarations.items c.deref-declaration-items.result.now (images_at c.args.table.now) (images_at c.new-copy.result)
-          c.deref-declaration-items.ensures.value;
+      all = none-copied c.args.scope.now.declarations.items c.declarations-declaration-items.result.now (images_at c.args.table.now) (images_at c.new-copy.result)
+          c.declarations-declaration-items.ensures;
     }
 
 pub loop-declaration-preserved : goal.loop-declaration-preserved
 loop-declaration-preserved c =
-    let ds = c.deref-declaration-items.result.now in
+    let ds = c.declarations-declaration-items.result.now in
     let i = c.loop-declaration.declaration-index in
     record {
       within = c.in_ok-copy_name.ensures.within c.loop-declaration.invariant.within;
@@ -28,7 +28,7 @@ returns-clause-within c = c.loop-declaration.invariant.within
 
 pub returns-clause-all : goal.returns-clause-all
 returns-clause-all c =
-    let ds = c.deref-declaration-items.result.now in
+    let ds = c.declarations-declaration-items.result.now in
     let i = c.loop-declaration.declaration-index in
     copied-end c.args.scope.now.declarations.items (drop i ds) (images_at c.args.table.now) (images_at c.loop-declaration.copy)
     (at_drop_all (λ ys. ys) ds i c.loop-declaration-test.false) c.loop-declaration.invariant.all

@@ -1,0 +1,13 @@
+use Rattle.std.proofs.Common.{drop}
+use Rattle.v_value.specs.Scope.{scope_at}
+use Rattle.v_masks.specs.Masks.{masked}
+use Rattle.v_order.specs.Lists.{statements_in}
+use Rattle.v_loops.specs.Turns.{AreFitToRun}
+use Rattle.v_loops.proofs.Sharing.{IsLeftToKnow}
+use Rattle.v_loops.proofs.shared.shared.Given as goal
+
+abbrev pub invariant-loop-driver : goal.invariant-loop-driver
+invariant-loop-driver l = record {
+  known : IsLeftToKnow (scope_at l.scope) (statements_in l.drivers) (statements_in (drop l.driver-index l.drivers)) (masked l.once) (masked l.twice);
+  fit : AreFitToRun (scope_at l.scope) (statements_in (drop l.driver-index l.drivers));
+}

@@ -1,0 +1,27 @@
+use Rattle.std.proofs.Common.{◌∙◌, ap}
+use Rattle.verilog_meaning.specs.Register.{may_assign}
+use Rattle.verilog_designs.specs.Reads.{or_in}
+use Rattle.v_value.specs.Scope.{scope_at}
+use Rattle.v_flow.specs.Spans.{bits_in, existing}
+use Rattle.v_masks.specs.Masks.{masked}
+use Rattle.v_order.specs.Lists.{statement_in}
+use Rattle.v_loops.proofs.Adding.{driver-adds}
+use Rattle.v_loops.proofs.turn.add_resting.Goals as goal
+
+pub add_driven-requires-clause-narrow : goal.add_driven-requires-clause-narrow
+add_driven-requires-clause-narrow c = c.requires.fit.narrow
+
+pub resting-requires-clause-fit : goal.resting-requires-clause-fit
+resting-requires-clause-fit c = c.requires.fit
+
+pub resting-requires-clause-variables : goal.resting-requires-clause-variables
+resting-requires-clause-variables c = c.requires.variables
+
+pub returns : goal.returns
+returns c =
+    let s = scope_at c.args.scope.now in
+    let x = statement_in c.args.driver in
+    driver-adds s x (masked c.args.unsettled.now) (masked c.in_ok-table.table) (bits_in c.deref.result.now) (bits_in c.args.found.now.items) (bits_in c.append.new.found.items)
+    c.in_ok-table.ensures
+    (ap bits_in c.deref.ensures.value ∙ c.in_ok-add_driven.ensures ∙ ap (λ ys. or_in (bits_in ys) (existing s (may_assign s x))) c.new-spans.ensures.items)
+    (c.in_ok-append.ensures ∙ ap (λ p. or_in (bits_in c.args.found.now.items) p) (ap bits_in c.deref-2.ensures.value ∙ c.in_ok-kept.ensures))

@@ -1,0 +1,3 @@
+pub mod Growing
+mod Each
+pub mod Driven
