@@ -1,2 +1,4 @@
 pub mod Renamed
 pub mod Laws
+pub mod EachName
+pub mod Agreement

@@ -1,4 +1,5 @@
 //! Laws on trees with other names. The functions have no code: each carries laws.
 #![tactic(auto)]
 
+pub mod agreement;
 pub mod laws;
