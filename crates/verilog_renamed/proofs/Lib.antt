@@ -12,3 +12,4 @@ pub mod AgreedStatements
 pub mod AgreedBits
 pub mod AgreedDependence
 pub mod AgreedMeaning
+pub mod KnownNames

@@ -2,3 +2,4 @@ pub mod Renamed
 pub mod Laws
 pub mod EachName
 pub mod Agreement
+pub mod KnownNames
