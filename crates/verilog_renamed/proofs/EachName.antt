@@ -1,12 +1,13 @@
 -- What holds of each name that stands in a tree.
-use Rattle.std.proofs.Common.{Bool, true, false, cond, ℕ, List, [], ◌∷◌, ◌++◌, refl, arith, Contains}
+use Rattle.std.proofs.Common.{◌≡◌, Option, Some, None, option_map, option_and_then, IfSome, subst, Bool, true, false, cond, ℕ, List, [], ◌∷◌, ◌++◌, refl, arith, Contains}
 use Rattle.std.proofs.lemmas.List.Elements.{Contains-append_left, Contains-append_right}
 use Rattle.wb_values.specs.Value.{Name, Valuation}
 use Rattle.verilog_trees.specs.Syntax.{Expression, number, name, concatenation, replication, as_signed, as_unsigned, unary, reduction, binary, shift, power, comparison, logical, conditional, Expressions, no_expressions, expression, Select, index, part, part_up, part_down, Selects, whole, one, two, Target, place, joined, Targets, no_targets, target, CaseKind, Statement, empty, blocking, nonblocking, if_then, if_else, case, block, Statements, no_statements, statement, CaseItems, no_items, arm, default_arm}
 use Rattle.verilog_meaning.specs.Expression.{Scope, is_memory, is_true}
 use Rattle.verilog_meaning.specs.Statement.{Place, places, all_places, Update, Effect, unchanged, any_matches, run, run_all, run_case}
-use Rattle.verilog_designs.specs.Names.{names_in, names_in_all, names_in_select, names_in_selects, names_in_target, names_in_targets, names_in_statement, names_in_statements, names_in_items}
-use Rattle.verilog_renamed.specs.EachName.{EachIn, EachInAll, EachInSelect, EachInSelects, EachInTarget, EachInTargets, EachInStatement, EachInStatements, EachInItems, EachPlaced, EachUpdated}
+use Rattle.verilog_meaning.specs.Settled.{as_target, all_as_targets}
+use Rattle.verilog_designs.specs.Names.{names_in, names_in_all, names_in_select, names_in_selects, names_in_target, names_in_targets, names_in_statement, names_in_statements, names_in_items, names_in_assignments}
+use Rattle.verilog_renamed.specs.EachName.{EachIn, EachInAll, EachInSelect, EachInSelects, EachInTarget, EachInTargets, EachInStatement, EachInStatements, EachInItems, EachInAssignments, EachInBlocks, EachPlaced, EachUpdated}
 
 -- ---- what follows for each name
 
@@ -163,6 +164,55 @@ module _ (P : Name → Type 0) where
     items_listed (arm es x items) h =
         three (names_in_all es) (names_in_statement x) (names_in_items items) (all_listed es) (statement_listed x) (items_listed items) h
     items_listed (default_arm x items) h = both (names_in_statement x) (names_in_items items) (statement_listed x) (items_listed items) h
+
+  pub assignments_listed : (xs : List (Target × Expression)) → EachOf P (names_in_assignments xs) → EachInAssignments P xs
+  assignments_listed [] h = tt
+  assignments_listed (x ∷ xs) h =
+      let front : EachOf P (names_in_target x.0 ++ names_in x.1) = first_part (names_in_target x.0 ++ names_in x.1) (names_in_assignments xs) h in (
+        both (names_in_target x.0) (names_in x.1) (target_listed x.0) (each_listed x.1) front,
+        assignments_listed xs (second_part (names_in_target x.0 ++ names_in x.1) (names_in_assignments xs) h),
+      )
+
+  pub blocks_listed : (xs : List Statement) → ((x : Statement) → Contains xs x → EachInStatement P x) → EachInBlocks P xs
+  blocks_listed [] h = tt
+  blocks_listed (x ∷ xs) h = (h x (0, omega arith, refl), blocks_listed xs (λ y c. h y (Contains-append_right (x ∷ []) xs y c)))
+
+-- ---- expressions that are targets
+
+module _ (P : Name → Type 0) where
+  joined_named : (o : Option Targets) → IfSome o (EachInTargets P) → IfSome (option_map joined o) (EachInTarget P)
+  joined_named None a = tt
+  joined_named (Some xs) a = a
+
+  first_named : (o : Option Target) (r : Option Targets) → IfSome o (EachInTarget P) → IfSome r (EachInTargets P)
+      → IfSome (option_and_then (λ x. option_map (target x) r) o) (EachInTargets P)
+  first_named None r a b = tt
+  first_named (Some x) None a b = tt
+  first_named (Some x) (Some xs) a b = (a, b)
+
+  mutual
+    target_if_any : (e : Expression) → EachIn P e → IfSome (as_target e) (EachInTarget P)
+    target_if_any (number k) a = tt
+    target_if_any (name n x) a = a
+    target_if_any (concatenation es) a = joined_named (all_as_targets es) (targets_if_any es a)
+    target_if_any (replication k es) a = tt
+    target_if_any (as_signed x) a = tt
+    target_if_any (as_unsigned x) a = tt
+    target_if_any (unary op x) a = tt
+    target_if_any (reduction op x) a = tt
+    target_if_any (binary op x y) a = tt
+    target_if_any (shift op x n) a = tt
+    target_if_any (power x n) a = tt
+    target_if_any (comparison op x y) a = tt
+    target_if_any (logical op x y) a = tt
+    target_if_any (conditional c x y) a = tt
+
+    targets_if_any : (es : Expressions) → EachInAll P es → IfSome (all_as_targets es) (EachInTargets P)
+    targets_if_any no_expressions a = tt
+    targets_if_any (expression e es) a = first_named (as_target e) (all_as_targets es) (target_if_any e a.0) (targets_if_any es a.1)
+
+  pub as_target_named : (e : Expression) (x : Target) → EachIn P e → as_target e ≡ Some x → EachInTarget P x
+  as_target_named e x a h = subst (λ o. IfSome o (EachInTarget P)) h (target_if_any e a)
 
 -- ---- places and updates
 

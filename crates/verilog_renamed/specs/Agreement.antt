@@ -1,13 +1,13 @@
 -- What trees mean rests on what a scope says of the names that stand in them: scopes that agree on those give a tree one meaning,
 -- whatever they say of other names.
-use Rattle.std.specs.Prelude.{◌≡◌, ◌↔◌, ℕ, Bool, List, Contains}
+use Rattle.std.specs.Prelude.{◌≡◌, ◌↔◌, ℕ, Bool, List, Contains, Some}
 use Rattle.wb_values.specs.Value.{Name, Value, Valuation}
 use Rattle.verilog_trees.specs.Syntax.{Expression, Expressions, Select, Selects, Target, CaseKind, Statement, CaseItems}
 use Rattle.verilog_meaning.specs.Expression.{Object, Scope, sign_of, width_of, widths_of, selects_width, value_of, joined_value, selected, select_index, select_bits, self_value, integer_of, is_true, assigned_value}
 use Rattle.verilog_meaning.specs.Statement.{Place, places, target_width, written, Update, run, with_updates}
 use Rattle.verilog_meaning.specs.Register.{is_constant, selects_are_constant, may_mean, may_reach, may_assign, one_may_assign, counts, after_edge}
-use Rattle.verilog_meaning.specs.Settled.{Has, HasAssigned, HasRun, HasRunAll, one_may_reach}
-use Rattle.verilog_designs.specs.Names.{names_in, names_in_target, names_in_statement}
+use Rattle.verilog_meaning.specs.Settled.{Has, HasAssigned, HasRun, HasRunAll, as_target, one_may_reach}
+use Rattle.verilog_designs.specs.Names.{names_in, names_in_target, names_in_statement, names_in_assignments}
 use Rattle.verilog_designs.specs.Reads.{BitSet, reads, target_reads, items_read, surely_reaches, surely_assigns, is_full, reads_after, reads_outside}
 use Rattle.verilog_designs.specs.Dependence.{Bit, IsGivenBy, at_start, After}
 use Rattle.verilog_settled.specs.Locality.{has_constant_selects}
@@ -136,6 +136,21 @@ NamesInTargets = (s t : Scope) (x : Target) → ((n : Name) → Contains (names_
 
 abbrev pub NamesInStatements : Type 0
 NamesInStatements = (s t : Scope) (x : Statement) → ((n : Name) → Contains (names_in_statement x) n → Agree s t n) → EachInStatement (Agree s t) x
+
+abbrev pub NamesInAssignments : Type 0
+NamesInAssignments =
+    (s t : Scope) (xs : List (Target × Expression)) → ((n : Name) → Contains (names_in_assignments xs) n → Agree s t n)
+    → EachInAssignments (Agree s t) xs
+
+-- Those that agree on each name in each block agree on each name in the blocks.
+abbrev pub NamesInBlocks : Type 0
+NamesInBlocks =
+    (s t : Scope) (xs : List Statement) → ((x : Statement) → Contains xs x → EachInStatement (Agree s t) x) → EachInBlocks (Agree s t) xs
+
+-- An expression that is a target as well has the target's names.
+abbrev pub TargetsHaveTheirNames : Type 0
+TargetsHaveTheirNames =
+    (s t : Scope) (e : Expression) (x : Target) → EachIn (Agree s t) e → as_target e ≡ Some x → EachInTarget (Agree s t) x
 
 -- A target means places of names in it alone, and the updates of a run are to names in the statement.
 abbrev pub PlacesAreInTargets : Type 0

@@ -1,5 +1,5 @@
 //! Laws on scopes that agree on the names of a tree, each the contract of a function without code.
-ghost use Rattle.verilog_renamed.specs.Agreement.{ExpressionsAreAgreedOn, PartsAreAgreedOn, EachSelectIsAgreedOn, SelectsAreAgreedOn, TargetsAreAgreedOn, WritesAreAgreedOn, UpdatesAreAgreedOn, StatementsAreAgreedOn, CaseItemsAreAgreedOn, FullCasesAreAgreedOn, AssignmentsAreAgreedOn, BlocksAreAgreedOn, GivenBitsAreAgreedOn, NamesInExpressions, NamesInTargets, NamesInStatements, PlacesAreInTargets, UpdatesAreInStatements};
+ghost use Rattle.verilog_renamed.specs.Agreement.{ExpressionsAreAgreedOn, PartsAreAgreedOn, EachSelectIsAgreedOn, SelectsAreAgreedOn, TargetsAreAgreedOn, WritesAreAgreedOn, UpdatesAreAgreedOn, StatementsAreAgreedOn, CaseItemsAreAgreedOn, FullCasesAreAgreedOn, AssignmentsAreAgreedOn, BlocksAreAgreedOn, GivenBitsAreAgreedOn, NamesInExpressions, NamesInTargets, NamesInStatements, NamesInAssignments, NamesInBlocks, TargetsHaveTheirNames, PlacesAreInTargets, UpdatesAreInStatements};
 
 /// Scopes that agree on each name of a tree's list of names agree on each name in the tree, and on those of the places and updates that
 /// it means.
@@ -7,6 +7,9 @@ pub fn names_stand_in_trees()
     ensures expressions { NamesInExpressions }
     ensures targets { NamesInTargets }
     ensures statements { NamesInStatements }
+    ensures assignments { NamesInAssignments }
+    ensures blocks { NamesInBlocks }
+    ensures as_targets { TargetsHaveTheirNames }
     ensures places { PlacesAreInTargets }
     ensures updates { UpdatesAreInStatements }
 {}
