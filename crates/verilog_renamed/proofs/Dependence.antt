@@ -312,7 +312,7 @@ reads_back f B C p q s come y h =
     old_so f (B k.old) (ThroughReads B p) y (λ z b. (k.old, sym (s.same k.old.of_name k.old.word k.old.place) ∙ there, b))
     (come k.old y (subst (λ z. C z y) (sym k.is_new) h.2))
 
-choice_there : (b c : Bool) (P Q R X Y Z : Type 0) → c ≡ b → (P → X) → (Q → Y) → (R → Z) → AfterChoice b P Q R → AfterChoice c X Y Z
+pub choice_there : (b c : Bool) (P Q R X Y Z : Type 0) → c ≡ b → (P → X) → (Q → Y) → (R → Z) → AfterChoice b P Q R → AfterChoice c X Y Z
 choice_there b c P Q R X Y Z e i j k h = subst (λ d. AfterChoice d X Y Z) (sym e) (by_test b h)
   where
     by_test : (d : Bool) → AfterChoice d P Q R → AfterChoice d X Y Z
@@ -333,7 +333,7 @@ choice_new : (f : Name → Name) (n : Name) (c : Bool) (X Y Z : Type 0) → (IsT
 choice_new f n true X Y Z k h = inl (k refl)
 choice_new f n false X Y Z k h = inr h
 
-no_arm_there : (b c : Bool) (P X : Type 0) → c ≡ b → (P → X) → NoArm b P → NoArm c X
+pub no_arm_there : (b c : Bool) (P X : Type 0) → c ≡ b → (P → X) → NoArm b P → NoArm c X
 no_arm_there b c P X e k h = subst (λ d. NoArm d X) (sym e) (by_test b h)
   where
     by_test : (d : Bool) → NoArm d P → NoArm d X
@@ -348,7 +348,7 @@ no_arm_back f b c P X y e k h = by_test b (subst (λ d. NoArm d X) e h)
     by_test true l = absurd l
     by_test false l = k l
 
-sum_there : (P Q X Y : Type 0) → (P → X) → (Q → Y) → P ⊎ Q → X ⊎ Y
+pub sum_there : (P Q X Y : Type 0) → (P → X) → (Q → Y) → P ⊎ Q → X ⊎ Y
 sum_there P Q X Y i j (inl h) = inl (i h)
 sum_there P Q X Y i j (inr h) = inr (j h)
 

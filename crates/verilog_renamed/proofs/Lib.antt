@@ -6,3 +6,10 @@ pub mod Settled
 pub mod ReadBits
 pub mod Dependence
 pub mod Meaning
+pub mod EachName
+pub mod AgreedExpressions
+pub mod AgreedStatements
+pub mod AgreedBits
+pub mod AgreedDependence
+pub mod AgreedMeaning
+pub mod KnownNames

@@ -1,2 +1,5 @@
 pub mod Renamed
 pub mod Laws
+pub mod EachName
+pub mod Agreement
+pub mod KnownNames
