@@ -161,24 +161,28 @@ module _ (d : Design) (good : ¬ HasUndeclared d) (p : Placed) (at : IsPlacedIn 
           only m (inr g) = absurd g
       found n (inr k) = inl (declared_right (port_declarations (header_ports p.of_module.ports)) (item_declarations p.of_module.items) n k)
 
+  pub right_side_name : (a : Target × Expression) → IsAmong (assignments p.of_module.items) a → (n : Name) → IsAmong (names_in a.1) n → IsNameOf p n
+  right_side_name a h n k = used_name (names_in a.1) (assignment_used p.of_module.items a h) n k
+
   pub in_right_side : (a : Target × Expression) → IsAmong (assignments p.of_module.items) a → EachIn (IsNameOf p) a.1
-  in_right_side a h =
-      each_listed (IsNameOf p) a.1 (λ n c. used_name (names_in a.1) (assignment_used p.of_module.items a h) n (among_contains (names_in a.1) n c))
+  in_right_side a h = each_listed (IsNameOf p) a.1 (λ n c. right_side_name a h n (among_contains (names_in a.1) n c))
+
+  pub block_name : (x : Statement) → IsAmong (combinational_blocks p.of_module.items) x → (n : Name) → IsAmong (names_in_statement x) n → IsNameOf p n
+  block_name x h n k = used_name (names_in_statement x) (block_used p.of_module.items x h) n k
 
   pub in_block : (x : Statement) → IsAmong (combinational_blocks p.of_module.items) x → EachInStatement (IsNameOf p) x
-  in_block x h =
-      statement_listed (IsNameOf p) x
-      (λ n c. used_name (names_in_statement x) (block_used p.of_module.items x h) n (among_contains (names_in_statement x) n c))
+  in_block x h = statement_listed (IsNameOf p) x (λ n c. block_name x h n (among_contains (names_in_statement x) n c))
 
   pub in_clocked : (x : Statement) → IsAmong (clocked_blocks p.of_module.items) x → EachInStatement (IsNameOf p) x
   in_clocked x h =
       statement_listed (IsNameOf p) x
       (λ n c. used_name (names_in_statement x) (clocked_used p.of_module.items x h) n (among_contains (names_in_statement x) n c))
 
+  pub connection_name : (c : Connection) → IsAmong (port_connections p.of_module.items) c → (n : Name) → IsAmong (names_in c.expression) n → IsNameOf p n
+  connection_name c h n k = used_name (names_in c.expression) (connection_used p.of_module.items c h) n k
+
   pub in_connection : (c : Connection) → IsAmong (port_connections p.of_module.items) c → EachIn (IsNameOf p) c.expression
-  in_connection c h =
-      each_listed (IsNameOf p) c.expression
-      (λ n k. used_name (names_in c.expression) (connection_used p.of_module.items c h) n (among_contains (names_in c.expression) n k))
+  in_connection c h = each_listed (IsNameOf p) c.expression (λ n k. connection_name c h n (among_contains (names_in c.expression) n k))
 
   pub in_output : (c : Connection) (t : Target) → IsAmong (port_connections p.of_module.items) c → as_target c.expression ≡ Some t
       → EachInTarget (IsNameOf p) t

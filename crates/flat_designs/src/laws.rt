@@ -1,5 +1,6 @@
 //! The laws, each the contract of a function without code.
 ghost use Rattle.flat_designs.specs.Laws.{SettledSolvesTheFlat, FlatSolvesEachModule, BitsAreDrivenTheSame};
+ghost use Rattle.flat_designs.specs.Depending.{BitsDependOnTheSame};
 
 /// The equations of the flat drivers hold exactly where those of all modules that stand in the design do; so a settled valuation solves
 /// them.
@@ -11,4 +12,10 @@ pub fn flat_equations_are_those_of_the_modules()
 /// A bit of a module is driven by the flat drivers as it is in the design.
 pub fn flat_drivers_drive_the_same_bits()
     ensures driven { BitsAreDrivenTheSame }
+{}
+
+/// Bits of modules depend on each other through the flat drivers as they do in the design, and there is a loop among the flat drivers
+/// exactly where the design has one.
+pub fn bits_depend_on_the_same_bits()
+    ensures depend { BitsDependOnTheSame }
 {}
