@@ -2,3 +2,4 @@ pub mod Known
 pub mod Settled
 pub mod Driven
 pub mod Depending
+pub mod Edge

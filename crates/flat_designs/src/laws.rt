@@ -1,6 +1,7 @@
 //! The laws, each the contract of a function without code.
 ghost use Rattle.flat_designs.specs.Laws.{SettledSolvesTheFlat, FlatSolvesEachModule, BitsAreDrivenTheSame};
 ghost use Rattle.flat_designs.specs.Depending.{BitsDependOnTheSame};
+ghost use Rattle.flat_designs.specs.Edge.{EdgeLeavesTheSame, ModulesInTurnAreInOrder};
 
 /// The equations of the flat drivers hold exactly where those of all modules that stand in the design do; so a settled valuation solves
 /// them.
@@ -18,4 +19,11 @@ pub fn flat_drivers_drive_the_same_bits()
 /// exactly where the design has one.
 pub fn bits_depend_on_the_same_bits()
     ensures depend { BitsDependOnTheSame }
+{}
+
+/// At the clock's edge the flat clocked blocks leave under each name of a module what the module's own do, where each module's stand in
+/// the order of its text; so they do where the modules stand one after the other.
+pub fn the_edge_leaves_the_same()
+    ensures edge { EdgeLeavesTheSame }
+    ensures in_turn { ModulesInTurnAreInOrder }
 {}
