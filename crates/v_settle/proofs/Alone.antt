@@ -23,11 +23,10 @@ use Rattle.v_scopes.specs.Ports.{alone}
 use Rattle.v_scopes.proofs.Parts.{some_is, none_some, nothing_below}
 use Rattle.v_assigned.proofs.OneModule.{no-connections, second}
 use Rattle.v_depend.specs.Resting.{IsThere}
-use Rattle.v_order.specs.Drivers.{as_statements, drivers}
-use Rattle.v_settle.specs.OneModule.{is_driven}
+use Rattle.v_order.specs.Drivers.{as_statements}
+use Rattle.v_settle.specs.OneModule.{is_driven, drivers}
 use Rattle.v_settle.specs.Designs.{IsGivenTo, SettlesFromOutside, AcceptedHasOneDriver, NoParameterIsMemory}
-use Rattle.v_loops.proofs.Listed.{kind-of}
-use Rattle.v_settle.proofs.Listed.{Links}
+use Rattle.v_settle.proofs.Listed.{Links, kind-of}
 
 -- ---- what settles
 

@@ -2,6 +2,7 @@
 #![tactic(auto)]
 
 mod copy;
+mod driven;
 mod driver;
 pub mod laws;
 mod module;

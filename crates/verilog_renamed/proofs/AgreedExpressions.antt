@@ -4,7 +4,7 @@ use Rattle.wb_values.specs.Value.{Value, Valuation}
 use Rattle.verilog_trees.specs.Syntax.{Expression, number, name, concatenation, replication, as_signed, as_unsigned, unary, reduction, binary, shift, power, comparison, logical, conditional, Expressions, no_expressions, expression, Select, index, part, part_up, part_down, Selects, whole, one, two}
 use Rattle.verilog_meaning.specs.Expression.{Object, Scope, is_memory, place_of_bit, bits_taken, widened, integer_from, natural_of, bit, is_nonzero, side_by_side, unary_value, reduction_value, binary_value, shift_value, power_value, comparison_value, logical_value, selects_sign, sign_of, no_values, whole_value, indexed_word, bits_between, bits_upward, bits_downward, object_width, width_of, widths_of, selects_width, value_of, joined_value, selected, select_index, select_bits, self_value, integer_of, is_true, assigned_value}
 use Rattle.verilog_renamed.specs.EachName.{EachIn, EachInAll, EachInSelect, EachInSelects}
-use Rattle.verilog_renamed.specs.Agreement.{Agree}
+use Rattle.verilog_renamed.specs.Agreement.{IsSameIn}
 
 pub record Agreed (s t : Scope) (e : Expression) : Type 0 where
   pub sign : sign_of t e ≡ sign_of s e
@@ -31,7 +31,7 @@ module _ (s t : Scope) where
   agreed_integer e v h = λ i. integer_from (h.sign i) (h.width i) (agreed_self e v h i)
 
   mutual
-    pub agreed : (e : Expression) → EachIn (Agree s t) e → Agreed s t e
+    pub agreed : (e : Expression) → EachIn (IsSameIn s t) e → Agreed s t e
     agreed (number k) a = record { sign = refl; width = refl; value = λ v w g. refl }
     agreed (name n x) a =
         let h : AgreedSelects s t x = agreed_selects x a.1 in
@@ -109,7 +109,7 @@ module _ (s t : Scope) where
           value = λ v w g i. cond (is_nonzero (agreed_self c v z i)) (h.value v w g i) (k.value v w g i);
         }
 
-    pub agreed_parts : (es : Expressions) → EachInAll (Agree s t) es → AgreedParts s t es
+    pub agreed_parts : (es : Expressions) → EachInAll (IsSameIn s t) es → AgreedParts s t es
     agreed_parts no_expressions a = record { widths = refl; joined = λ v. refl }
     agreed_parts (expression e es) a =
         let h : Agreed s t e = agreed e a.0 in
@@ -119,7 +119,7 @@ module _ (s t : Scope) where
           joined = λ v i. agreed_self e v h i * 2 ^ k.widths i + k.joined v i;
         }
 
-    pub agreed_select : (x : Select) → EachInSelect (Agree s t) x → AgreedSelect s t x
+    pub agreed_select : (x : Select) → EachInSelect (IsSameIn s t) x → AgreedSelect s t x
     agreed_select (index j) a =
         let h : Agreed s t j = agreed j a in
         record { place = λ v. agreed_integer j v h; bits = λ v o i. record { low = place_of_bit o (agreed_integer j v h i); count = 1 } }
@@ -136,7 +136,7 @@ module _ (s t : Scope) where
         let k : Agreed s t c = agreed c a.1 in
         record { place = λ v. refl; bits = λ v o i. bits_downward o (agreed_integer b v h i) (natural_of (agreed_integer c no_values k i)) }
 
-    pub agreed_selects : (x : Selects) → EachInSelects (Agree s t) x → AgreedSelects s t x
+    pub agreed_selects : (x : Selects) → EachInSelects (IsSameIn s t) x → AgreedSelects s t x
     agreed_selects whole a = record { width = λ o. refl; value = λ v o y. refl }
     agreed_selects (one x) a =
         let h : AgreedSelect s t x = agreed_select x a in

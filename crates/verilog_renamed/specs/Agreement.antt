@@ -14,8 +14,8 @@ use Rattle.verilog_settled.specs.Locality.{has_constant_selects}
 use Rattle.verilog_renamed.specs.EachName.{EachIn, EachInAll, EachInSelect, EachInSelects, EachInTarget, EachInStatement, EachInItems, EachInAssignments, EachInBlocks, EachPlaced, EachUpdated}
 
 -- Both scopes say the same of the name.
-abbrev pub Agree : (s t : Scope) → Name → Type 0
-Agree s t n = t n ≡ s n
+abbrev pub IsSameIn : (s t : Scope) → Name → Type 0
+IsSameIn s t n = t n ≡ s n
 
 -- ---- expressions
 
@@ -31,7 +31,7 @@ pub record AgreeOnExpression (s t : Scope) (e : Expression) : Type 0 where
   pub reads : reads t e ≡ reads s e
 
 abbrev pub ExpressionsAreAgreedOn : Type 0
-ExpressionsAreAgreedOn = (s t : Scope) (e : Expression) → EachIn (Agree s t) e → AgreeOnExpression s t e
+ExpressionsAreAgreedOn = (s t : Scope) (e : Expression) → EachIn (IsSameIn s t) e → AgreeOnExpression s t e
 
 -- parts side by side
 pub record AgreeOnParts (s t : Scope) (es : Expressions) : Type 0 where
@@ -39,7 +39,7 @@ pub record AgreeOnParts (s t : Scope) (es : Expressions) : Type 0 where
   pub joined : (v : Valuation) → joined_value t v es ≡ joined_value s v es
 
 abbrev pub PartsAreAgreedOn : Type 0
-PartsAreAgreedOn = (s t : Scope) (es : Expressions) → EachInAll (Agree s t) es → AgreeOnParts s t es
+PartsAreAgreedOn = (s t : Scope) (es : Expressions) → EachInAll (IsSameIn s t) es → AgreeOnParts s t es
 
 -- selects, after a name that stands for any object
 pub record AgreeOnSelect (s t : Scope) (x : Select) : Type 0 where
@@ -47,7 +47,7 @@ pub record AgreeOnSelect (s t : Scope) (x : Select) : Type 0 where
   pub bits : (v : Valuation) (o : Object) → select_bits t v o x ≡ select_bits s v o x
 
 abbrev pub EachSelectIsAgreedOn : Type 0
-EachSelectIsAgreedOn = (s t : Scope) (x : Select) → EachInSelect (Agree s t) x → AgreeOnSelect s t x
+EachSelectIsAgreedOn = (s t : Scope) (x : Select) → EachInSelect (IsSameIn s t) x → AgreeOnSelect s t x
 
 pub record AgreeOnSelects (s t : Scope) (x : Selects) : Type 0 where
   pub width : (o : Object) → selects_width t o x ≡ selects_width s o x
@@ -56,7 +56,7 @@ pub record AgreeOnSelects (s t : Scope) (x : Selects) : Type 0 where
   pub may_mean : (o : Object) (k b : ℕ) → may_mean t o x k b ≡ may_mean s o x k b
 
 abbrev pub SelectsAreAgreedOn : Type 0
-SelectsAreAgreedOn = (s t : Scope) (x : Selects) → EachInSelects (Agree s t) x → AgreeOnSelects s t x
+SelectsAreAgreedOn = (s t : Scope) (x : Selects) → EachInSelects (IsSameIn s t) x → AgreeOnSelects s t x
 
 -- ---- targets, writes and updates
 
@@ -70,13 +70,13 @@ pub record AgreeOnTarget (s t : Scope) (x : Target) : Type 0 where
   pub reads : target_reads t x ≡ target_reads s x
 
 abbrev pub TargetsAreAgreedOn : Type 0
-TargetsAreAgreedOn = (s t : Scope) (x : Target) → EachInTarget (Agree s t) x → AgreeOnTarget s t x
+TargetsAreAgreedOn = (s t : Scope) (x : Target) → EachInTarget (IsSameIn s t) x → AgreeOnTarget s t x
 
 abbrev pub WritesAreAgreedOn : Type 0
-WritesAreAgreedOn = (s t : Scope) (v : Valuation) (ps : List Place) (x : ℕ) → EachPlaced (Agree s t) ps → written t v ps x ≡ written s v ps x
+WritesAreAgreedOn = (s t : Scope) (v : Valuation) (ps : List Place) (x : ℕ) → EachPlaced (IsSameIn s t) ps → written t v ps x ≡ written s v ps x
 
 abbrev pub UpdatesAreAgreedOn : Type 0
-UpdatesAreAgreedOn = (s t : Scope) (v : Valuation) (us : List Update) → EachUpdated (Agree s t) us → with_updates t v us ≡ with_updates s v us
+UpdatesAreAgreedOn = (s t : Scope) (v : Valuation) (us : List Update) → EachUpdated (IsSameIn s t) us → with_updates t v us ≡ with_updates s v us
 
 -- ---- statements
 
@@ -91,14 +91,14 @@ pub record AgreeOnStatement (s t : Scope) (x : Statement) : Type 0 where
   pub rests_on : (u y : Bit) → After t at_start x u y ↔ After s at_start x u y
 
 abbrev pub StatementsAreAgreedOn : Type 0
-StatementsAreAgreedOn = (s t : Scope) (x : Statement) → EachInStatement (Agree s t) x → AgreeOnStatement s t x
+StatementsAreAgreedOn = (s t : Scope) (x : Statement) → EachInStatement (IsSameIn s t) x → AgreeOnStatement s t x
 
 abbrev pub CaseItemsAreAgreedOn : Type 0
-CaseItemsAreAgreedOn = (s t : Scope) (items : CaseItems) → EachInItems (Agree s t) items → items_read t items ≡ items_read s items
+CaseItemsAreAgreedOn = (s t : Scope) (items : CaseItems) → EachInItems (IsSameIn s t) items → items_read t items ≡ items_read s items
 
 abbrev pub FullCasesAreAgreedOn : Type 0
 FullCasesAreAgreedOn =
-    (s t : Scope) (kind : CaseKind) (e : Expression) (items : CaseItems) → EachIn (Agree s t) e → EachInItems (Agree s t) items
+    (s t : Scope) (kind : CaseKind) (e : Expression) (items : CaseItems) → EachIn (IsSameIn s t) e → EachInItems (IsSameIn s t) items
     → is_full t kind e items ≡ is_full s kind e items
 
 -- ---- the assignments and blocks of a module
@@ -108,7 +108,7 @@ pub record AgreeOnAssignments (s t : Scope) (xs : List (Target × Expression)) :
   pub has : (v : Valuation) → HasAssigned t v xs ↔ HasAssigned s v xs
 
 abbrev pub AssignmentsAreAgreedOn : Type 0
-AssignmentsAreAgreedOn = (s t : Scope) (xs : List (Target × Expression)) → EachInAssignments (Agree s t) xs → AgreeOnAssignments s t xs
+AssignmentsAreAgreedOn = (s t : Scope) (xs : List (Target × Expression)) → EachInAssignments (IsSameIn s t) xs → AgreeOnAssignments s t xs
 
 pub record AgreeOnBlocks (s t : Scope) (xs : List Statement) : Type 0 where
   pub may_assign : one_may_assign t xs ≡ one_may_assign s xs
@@ -117,45 +117,45 @@ pub record AgreeOnBlocks (s t : Scope) (xs : List Statement) : Type 0 where
   pub has_run : (v : Valuation) → HasRunAll t v xs ↔ HasRunAll s v xs
 
 abbrev pub BlocksAreAgreedOn : Type 0
-BlocksAreAgreedOn = (s t : Scope) (xs : List Statement) → EachInBlocks (Agree s t) xs → AgreeOnBlocks s t xs
+BlocksAreAgreedOn = (s t : Scope) (xs : List Statement) → EachInBlocks (IsSameIn s t) xs → AgreeOnBlocks s t xs
 
 -- The sides of an assignment may have scopes of their own, as those of a connection have.
 abbrev pub GivenBitsAreAgreedOn : Type 0
 GivenBitsAreAgreedOn =
-    (around new_around inner new_inner : Scope) (x : Target) (e : Expression) (u y : Bit) → EachInTarget (Agree around new_around) x
-    → EachIn (Agree inner new_inner) e → IsGivenBy new_around x new_inner e u y ↔ IsGivenBy around x inner e u y
+    (around new_around inner new_inner : Scope) (x : Target) (e : Expression) (u y : Bit) → EachInTarget (IsSameIn around new_around) x
+    → EachIn (IsSameIn inner new_inner) e → IsGivenBy new_around x new_inner e u y ↔ IsGivenBy around x inner e u y
 
 -- ---- which names stand where
 
 -- Scopes that agree on each name of the list of names agree on each name in the tree.
 abbrev pub NamesInExpressions : Type 0
-NamesInExpressions = (s t : Scope) (e : Expression) → ((n : Name) → Contains (names_in e) n → Agree s t n) → EachIn (Agree s t) e
+NamesInExpressions = (s t : Scope) (e : Expression) → ((n : Name) → Contains (names_in e) n → IsSameIn s t n) → EachIn (IsSameIn s t) e
 
 abbrev pub NamesInTargets : Type 0
-NamesInTargets = (s t : Scope) (x : Target) → ((n : Name) → Contains (names_in_target x) n → Agree s t n) → EachInTarget (Agree s t) x
+NamesInTargets = (s t : Scope) (x : Target) → ((n : Name) → Contains (names_in_target x) n → IsSameIn s t n) → EachInTarget (IsSameIn s t) x
 
 abbrev pub NamesInStatements : Type 0
-NamesInStatements = (s t : Scope) (x : Statement) → ((n : Name) → Contains (names_in_statement x) n → Agree s t n) → EachInStatement (Agree s t) x
+NamesInStatements = (s t : Scope) (x : Statement) → ((n : Name) → Contains (names_in_statement x) n → IsSameIn s t n) → EachInStatement (IsSameIn s t) x
 
 abbrev pub NamesInAssignments : Type 0
 NamesInAssignments =
-    (s t : Scope) (xs : List (Target × Expression)) → ((n : Name) → Contains (names_in_assignments xs) n → Agree s t n)
-    → EachInAssignments (Agree s t) xs
+    (s t : Scope) (xs : List (Target × Expression)) → ((n : Name) → Contains (names_in_assignments xs) n → IsSameIn s t n)
+    → EachInAssignments (IsSameIn s t) xs
 
 -- Those that agree on each name in each block agree on each name in the blocks.
 abbrev pub NamesInBlocks : Type 0
 NamesInBlocks =
-    (s t : Scope) (xs : List Statement) → ((x : Statement) → Contains xs x → EachInStatement (Agree s t) x) → EachInBlocks (Agree s t) xs
+    (s t : Scope) (xs : List Statement) → ((x : Statement) → Contains xs x → EachInStatement (IsSameIn s t) x) → EachInBlocks (IsSameIn s t) xs
 
 -- An expression that is a target as well has the target's names.
 abbrev pub TargetsHaveTheirNames : Type 0
 TargetsHaveTheirNames =
-    (s t : Scope) (e : Expression) (x : Target) → EachIn (Agree s t) e → as_target e ≡ Some x → EachInTarget (Agree s t) x
+    (s t : Scope) (e : Expression) (x : Target) → EachIn (IsSameIn s t) e → as_target e ≡ Some x → EachInTarget (IsSameIn s t) x
 
 -- A target means places of names in it alone, and the updates of a run are to names in the statement.
 abbrev pub PlacesAreInTargets : Type 0
-PlacesAreInTargets = (s t r : Scope) (v : Valuation) (x : Target) → EachInTarget (Agree s t) x → EachPlaced (Agree s t) (places r v x)
+PlacesAreInTargets = (s t r : Scope) (v : Valuation) (x : Target) → EachInTarget (IsSameIn s t) x → EachPlaced (IsSameIn s t) (places r v x)
 
 abbrev pub UpdatesAreInStatements : Type 0
 UpdatesAreInStatements =
-    (s t r : Scope) (v : Valuation) (x : Statement) → EachInStatement (Agree s t) x → EachUpdated (Agree s t) (run r x v).updates
+    (s t r : Scope) (v : Valuation) (x : Statement) → EachInStatement (IsSameIn s t) x → EachUpdated (IsSameIn s t) (run r x v).updates
