@@ -21,7 +21,7 @@ use Rattle.verilog_renamed.specs.Laws.{IsGivenByTheSame, DependsOnTheSame}
 use Rattle.verilog_renamed.specs.EachName.{EachIn, EachInTarget}
 use Rattle.verilog_renamed.proofs.Dependence.{old_bit}
 use Rattle.verilog_renamed.proofs.KnownNames.{known_statement_bits, known_given, known_dependences}
-use Rattle.flat_designs.specs.Flat.{IsNameOf, into_input, out_of_output, IsLink, to_input, of_output, IsFlatAssignment, of_module, of_connection, IsFlatBlock, of_block, IsFlat}
+use Rattle.flat_designs.specs.Flat.{IsNameOf, into_input, out_of_output, IsLink, to_input, of_output, IsFlatLink, of_module, of_connection, IsFlatBlock, of_block, IsFlat}
 use Rattle.flat_designs.specs.Depending.{IsBitAmong, DependsFlat, DependsFlatFar, HasFlatLoop, dotted_bit, DependsTheSame, BitsDependOnTheSame}
 use Rattle.flat_designs.proofs.Known.{dotted_apart, in_assigned, in_right_side, right_side_name, in_block, block_name, in_connection, connection_name, in_output, one_place, reached_named, assigned_named}
 use Rattle.flat_designs.proofs.Settled.{leads_to, target_known, expression_known, statement_known}
@@ -206,7 +206,7 @@ module _ (d : Design) (good : ¬ HasUndeclared d) (dotless : NamesHaveNoDots d.s
         is_so = Depends.by_output p below c n t f.bit f.other at k to e f.in_range f.given;
       }
 
-  assignment_back : (a : Target × Expression) (u y : Bit) → IsFlatAssignment d a → IsBitAmong s u → IsGivenBy s a.0 s a.1 u y → HasBits d (Depends d) u y
+  assignment_back : (a : Target × Expression) (u y : Bit) → IsFlatLink d a → IsBitAmong s u → IsGivenBy s a.0 s a.1 u y → HasBits d (Depends d) u y
   assignment_back _ u y (of_module p a at c) h g =
       let among = among_contains (assignments p.of_module.items) a c in
       let f = link_back p p a.0 a.1 at at (in_assigned d good p at a among) (in_right_side d good p at a among) u y (right_side_name d good p at a among) h g in

@@ -20,8 +20,8 @@ use Rattle.verilog_renamed.specs.Renamed.{renamed_target, renamed_assignment, re
 use Rattle.verilog_renamed.specs.Laws.{AreRenamedBits}
 use Rattle.verilog_renamed.specs.EachName.{EachInTarget, EachInStatement}
 use Rattle.verilog_renamed.proofs.KnownNames.{known_target_bits, known_statement_bits}
-use Rattle.flat_designs.specs.Flat.{IsNameOf, into_input, out_of_output, IsLink, to_input, of_output, IsFlatAssignment, of_module, of_connection, IsFlatBlock, of_block, IsFlatClocked, of_clocked, IsFlat}
-use Rattle.flat_designs.specs.Laws.{IsDrivenByLink, IsDataInput, IsDrivenTheSame, BitsAreDrivenTheSame}
+use Rattle.flat_designs.specs.Flat.{IsNameOf, into_input, out_of_output, IsLink, to_input, of_output, IsFlatLink, of_module, of_connection, IsFlatBlock, of_block, IsFlatClocked, of_clocked, IsFlat}
+use Rattle.flat_designs.specs.Laws.{IsDrivenByLink, IsInputOfTop, IsDrivenTheSame, BitsAreDrivenTheSame}
 use Rattle.flat_designs.proofs.Known.{dotted_apart, in_assigned, in_block, in_clocked, in_output, one_place, reached_named, assigned_named}
 use Rattle.flat_designs.proofs.Settled.{leads_to, target_known, statement_known}
 
@@ -85,7 +85,7 @@ module _ (d : Design) (good : ¬ HasUndeclared d) (dotless : NamesHaveNoDots d.s
       subst (λ z. Contains (port_connections z.of_module.items) c → IsConnectedTo d z c below m output → IsTrue (may_reach (placed_scope z) x n k b) → IsDrivenByLink d p n k b)
       (sym r.0) (λ g i j. IsDrivenByLink.by_output c below m x g i e j) h to r.1
 
-  linked : (a : Target × Expression) → IsFlatAssignment d a → IsTrue (may_reach s a.0 (dotted p.path n) k b) → IsDrivenByLink d p n k b
+  linked : (a : Target × Expression) → IsFlatLink d a → IsTrue (may_reach s a.0 (dotted p.path n) k b) → IsDrivenByLink d p n k b
   linked _ (of_module q a at_q c) t =
       let h = among_contains (assignments q.of_module.items) a c in
       let named = in_assigned d good q at_q a h in
@@ -169,7 +169,7 @@ module _ (d : Design) (good : ¬ HasUndeclared d) (dotless : NamesHaveNoDots d.s
   abbrev IsFlatDriven : Type 0
   IsFlatDriven =
       IsTrue (counts s clocked (dotted p.path n) k b) ⊎ (IsTrue (one_may_assign s blocks (dotted p.path n) k b)
-      ⊎ (IsTrue (one_may_reach s links (dotted p.path n) k b) ⊎ IsDataInput d p n))
+      ⊎ (IsTrue (one_may_reach s links (dotted p.path n) k b) ⊎ IsInputOfTop d p n))
 
   to_flat : IsDriven d p n k b → IsFlatDriven
   to_flat (IsDriven.by_clock t) = inl (same_counted ∙ t)

@@ -19,7 +19,7 @@ use Rattle.verilog_renamed.specs.KnownNames.{IsRenamed}
 use Rattle.verilog_renamed.proofs.EachName.{statement_follows, each_updated}
 use Rattle.verilog_renamed.proofs.KnownNames.{known_updates, known_runs}
 use Rattle.flat_designs.specs.Flat.{IsNameOf, IsFlatClocked, of_clocked, IsFlat}
-use Rattle.flat_designs.specs.Edge.{StandInOrder, EdgeLeavesTheSame, clocked_in_turn, StandApart, ModulesInTurnAreInOrder}
+use Rattle.flat_designs.specs.Edge.{StandInOrder, EdgeLeavesTheSame, clocked_in_turn, StandApart, ModulesInTurnAreInTextOrder}
 use Rattle.flat_designs.proofs.Known.{dotted_apart, in_clocked, one_place}
 use Rattle.flat_designs.proofs.Settled.{statement_known}
 
@@ -192,7 +192,7 @@ turn_complete q x (r ∷ ps) (inr h) k =
     among_right (renamed_blocks (dotted r.path) (clocked_blocks r.of_module.items)) (clocked_in_turn ps) (renamed_statement (dotted q.path) x)
     (turn_complete q x ps h k)
 
-pub modules_in_turn_are_in_order : ModulesInTurnAreInOrder
+pub modules_in_turn_are_in_order : ModulesInTurnAreInTextOrder
 modules_in_turn_are_in_order d ps placed = (
   λ p at. in_turn d p ps stand placed.apart (among_contains ps p ((placed.are_placed p).1 at)),
   λ x. (λ c. turn_sound d ps stand x (among_contains (clocked_in_turn ps) x c), complete x),

@@ -16,7 +16,7 @@ use Rattle.verilog_renamed.specs.KnownNames.{IsRenamed}
 use Rattle.verilog_renamed.specs.EachName.{EachIn, EachInTarget, EachInStatement}
 use Rattle.verilog_renamed.proofs.EachName.{each_follows, target_follows, statement_follows}
 use Rattle.verilog_renamed.proofs.KnownNames.{known_expressions, known_targets, known_has, known_assigned, known_has_run}
-use Rattle.flat_designs.specs.Flat.{IsNameOf, into_input, out_of_output, IsLink, to_input, of_output, IsFlatAssignment, of_module, of_connection, IsFlatBlock, of_block, IsFlat}
+use Rattle.flat_designs.specs.Flat.{IsNameOf, into_input, out_of_output, IsLink, to_input, of_output, IsFlatLink, of_module, of_connection, IsFlatBlock, of_block, IsFlat}
 use Rattle.flat_designs.specs.Laws.{SettledSolvesTheFlat, HasEquations, FlatSolvesEachModule}
 use Rattle.flat_designs.proofs.Known.{dotted_apart, in_assigned, in_right_side, in_block, in_connection, in_output}
 
@@ -144,7 +144,7 @@ module _ (d : Design) (good : ¬ HasUndeclared d) (s : Scope) (links : List (Tar
             (output_holds p below c n t at h to e).1
             ((one_connected d v p (port_connections p.of_module.items) c (each p at).connections h).from_output below n t to e)
 
-        of_assignment : (a : Target × Expression) → IsFlatAssignment d a → HasOne s v a
+        of_assignment : (a : Target × Expression) → IsFlatLink d a → HasOne s v a
         of_assignment _ (of_module p a at c) =
             let h = among_contains (assignments p.of_module.items) a c in
             (own p a at h).1 (one_assigned (placed_scope p) (inside v p) (assignments p.of_module.items) a (each p at).assigned h)
@@ -176,7 +176,7 @@ module _ (d : Design) (good : ¬ HasUndeclared d) (s : Scope) (links : List (Tar
               ((flat.are_blocks (renamed_statement (dotted p.path) x)).1 (of_block p x at (contains_among (combinational_blocks p.of_module.items) x h))))));
         }
       where
-        link : (a : Target × Expression) → IsFlatAssignment d a → HasOne s v a
+        link : (a : Target × Expression) → IsFlatLink d a → HasOne s v a
         link a is = one_assigned s v links a assigned (among_contains links a ((flat.are_links a).1 is))
 
 pub flat_solves_each_module : FlatSolvesEachModule

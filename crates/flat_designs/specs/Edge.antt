@@ -19,14 +19,14 @@ pub data StandInOrder (d : Design) (p : Placed) : (own all : List Statement) →
       → Contains (clocked_blocks q.of_module.items) y → StandInOrder d p xs ys → StandInOrder d p xs (renamed_statement (dotted q.path) y ∷ ys)
 
 -- Each module's clocked blocks stand in the list in the order of its text. (Those of different modules may stand in any order.)
-abbrev pub AreInOrder : Design → List Statement → Type 0
-AreInOrder d clocked = (p : Placed) → IsPlacedIn d p → StandInOrder d p (clocked_blocks p.of_module.items) clocked
+abbrev pub AreInTextOrder : Design → List Statement → Type 0
+AreInTextOrder d clocked = (p : Placed) → IsPlacedIn d p → StandInOrder d p (clocked_blocks p.of_module.items) clocked
 
 -- Then at the clock's edge each name of a module gets what the module's own clocked blocks leave there.
 abbrev pub EdgeLeavesTheSame : Type 0
 EdgeLeavesTheSame =
     (d : Design) (s : Scope) (links : List (Target × Expression)) (blocks clocked : List Statement) (v : Valuation) (p : Placed) (n : Name)
-    → ¬ Breaks d undeclared → NamesHaveNoDots d.source → IsFlat d s links blocks clocked → AreInOrder d clocked → IsPlacedIn d p → IsDeclared p n
+    → ¬ Breaks d undeclared → NamesHaveNoDots d.source → IsFlat d s links blocks clocked → AreInTextOrder d clocked → IsPlacedIn d p → IsDeclared p n
     → after_edge s clocked v (dotted p.path n) ≡ after_edge (placed_scope p) (clocked_blocks p.of_module.items) (inside v p) n
 
 -- ---- one module after the other
@@ -47,7 +47,7 @@ pub record AreThePlaced (d : Design) (ps : List Placed) : Type 0 where
   pub apart : StandApart ps
 
 -- Of such a list the clocked blocks are those of the design, and each module's stand in order.
-abbrev pub ModulesInTurnAreInOrder : Type 0
-ModulesInTurnAreInOrder =
+abbrev pub ModulesInTurnAreInTextOrder : Type 0
+ModulesInTurnAreInTextOrder =
     (d : Design) (ps : List Placed) → AreThePlaced d ps
-    → AreInOrder d (clocked_in_turn ps) × ((x : Statement) → Contains (clocked_in_turn ps) x ↔ IsFlatClocked d x)
+    → AreInTextOrder d (clocked_in_turn ps) × ((x : Statement) → Contains (clocked_in_turn ps) x ↔ IsFlatClocked d x)

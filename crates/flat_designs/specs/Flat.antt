@@ -33,11 +33,11 @@ pub data IsLink (d : Design) (p : Placed) (c : Connection) : Target × Expressio
 -- ---- the drivers of a design
 
 -- It is an assignment of a module that stands in the design, or a connection there.
-pub data IsFlatAssignment (d : Design) : Target × Expression → Type 0 where
+pub data IsFlatLink (d : Design) : Target × Expression → Type 0 where
   of_module : (p : Placed) (a : Target × Expression) → IsPlacedIn d p → Contains (assignments p.of_module.items) a
-      → IsFlatAssignment d (renamed_assignment (dotted p.path) a)
+      → IsFlatLink d (renamed_assignment (dotted p.path) a)
   of_connection : (p : Placed) (c : Connection) (a : Target × Expression) → IsPlacedIn d p → Contains (port_connections p.of_module.items) c
-      → IsLink d p c a → IsFlatAssignment d a
+      → IsLink d p c a → IsFlatLink d a
 
 -- It is a combinational block of a module that stands in the design.
 pub data IsFlatBlock (d : Design) : Statement → Type 0 where
@@ -53,6 +53,6 @@ pub data IsFlatClocked (d : Design) : Statement → Type 0 where
 -- any order.
 pub record IsFlat (d : Design) (s : Scope) (links : List (Target × Expression)) (blocks clocked : List Statement) : Type 0 where
   pub says_the_same : (p : Placed) (n : Name) → IsPlacedIn d p → IsNameOf p n → s (dotted p.path n) ≡ placed_scope p n
-  pub are_links : (a : Target × Expression) → Contains links a ↔ IsFlatAssignment d a
+  pub are_links : (a : Target × Expression) → Contains links a ↔ IsFlatLink d a
   pub are_blocks : (x : Statement) → Contains blocks x ↔ IsFlatBlock d x
   pub are_clocked : (x : Statement) → Contains clocked x ↔ IsFlatClocked d x

@@ -42,8 +42,8 @@ pub data IsDrivenByLink (d : Design) (p : Placed) (n : Name) (k b : ℕ) : Type 
       → IsConnectedTo d p c below m output → as_target c.expression ≡ Some t → IsTrue (may_reach (placed_scope p) t n k b)
       → IsDrivenByLink d p n k b
 
--- The name is an input of the top, and no clock.
-pub record IsDataInput (d : Design) (p : Placed) (n : Name) : Type 0 where
+-- The name is an input of the top, and not the clock.
+pub record IsInputOfTop (d : Design) (p : Placed) (n : Name) : Type 0 where
   pub at_top : p.path ≡ []
   pub is_port : HasPort p.of_module n input
   pub no_clock : n ≢ d.clock
@@ -55,7 +55,7 @@ pub record IsDrivenTheSame (d : Design) (s : Scope) (links : List (Target × Exp
   pub counted : counts s clocked (dotted p.path n) k b ≡ is_counted p n k b
   pub driven : IsDriven d p n k b
       ↔ (IsTrue (counts s clocked (dotted p.path n) k b) ⊎ (IsTrue (one_may_assign s blocks (dotted p.path n) k b)
-      ⊎ (IsTrue (one_may_reach s links (dotted p.path n) k b) ⊎ IsDataInput d p n)))
+      ⊎ (IsTrue (one_may_reach s links (dotted p.path n) k b) ⊎ IsInputOfTop d p n)))
 
 abbrev pub BitsAreDrivenTheSame : Type 0
 BitsAreDrivenTheSame =

@@ -1,7 +1,7 @@
 //! The laws, each the contract of a function without code.
 ghost use Rattle.flat_designs.specs.Laws.{SettledSolvesTheFlat, FlatSolvesEachModule, BitsAreDrivenTheSame};
 ghost use Rattle.flat_designs.specs.Depending.{BitsDependOnTheSame};
-ghost use Rattle.flat_designs.specs.Edge.{EdgeLeavesTheSame, ModulesInTurnAreInOrder};
+ghost use Rattle.flat_designs.specs.Edge.{EdgeLeavesTheSame, ModulesInTurnAreInTextOrder};
 
 /// The equations of the flat drivers hold exactly where those of all modules that stand in the design do; so a settled valuation solves
 /// them.
@@ -25,5 +25,5 @@ pub fn bits_depend_on_the_same_bits()
 /// the order of its text; so they do where the modules stand one after the other.
 pub fn the_edge_leaves_the_same()
     ensures edge { EdgeLeavesTheSame }
-    ensures in_turn { ModulesInTurnAreInOrder }
+    ensures in_turn { ModulesInTurnAreInTextOrder }
 {}
