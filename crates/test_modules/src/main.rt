@@ -12,12 +12,14 @@ use std::alloc::{AllocError, Global};
 use std::{fs, io};
 use v_assigned::has_bad_name;
 use v_blocks::{first_blocking_in_clocked, first_nonblocking_in_combinational};
+use v_constants::constants_of;
 use v_hier::{has_clock_as_data, top_of};
+use v_instances::interface::interfaces_of;
 use v_lex::tokens;
 use v_modules::{first_rule, module_rule};
 use v_parse::parse;
 use v_ports::has_bad_port;
-use v_scopes::module_scope;
+use v_scopes::{Constants, declared_scope, module_scope};
 use v_size::Kind;
 use v_syntax::module::{Module, Tree};
 use v_token::token::Token;
@@ -59,7 +61,7 @@ fn answer_of_tokens(alloc: Global, tokens: &[Token<'_>]) -> Result<String, Alloc
 
 fn answer_of_tree(alloc: Global, tree: &Tree<'_>) -> Result<String, AllocError> {
     match top_of(tree, "t") {
-        Some(within) => kinds_of(alloc, within),
+        Some(within) => kinds_of(alloc, tree, within),
         None => drivers_of(alloc, tree),
     }
 }
@@ -86,13 +88,17 @@ fn loops_of(alloc: Global, tree: &Tree<'_>) -> Result<String, AllocError> {
     }
 }
 
-/// The kinds, in their order, and the first of those on digits, constants, widths, selects and memories.
-fn kinds_of(alloc: Global, within: &Module<'_>) -> Result<String, AllocError> {
-    let names = module_scope(alloc, within)?;
-    let broken = module_rule(alloc, within)?;
+/// The kinds, in their order, and the first of those on digits, constants, widths, selects and memories. The parameters of the module
+/// have the values that it gives them.
+fn kinds_of(alloc: Global, tree: &Tree<'_>, within: &Module<'_>) -> Result<String, AllocError> {
+    let interfaces = interfaces_of(alloc, tree)?;
+    let parameters = constants_of(alloc, within, &[])?;
+    let constants = Constants { scope: &parameters };
+    let names = declared_scope(alloc, constants, within)?;
+    let broken = module_rule(alloc, within, constants, &interfaces)?;
     let kinds = [
         (broken.has_xz, " V11"),
-        (has_bad_port(alloc, &names, within)?, " V12"),
+        (has_bad_port(alloc, &names, within, &interfaces)?, " V12"),
         (broken.bad_constant, " V13"),
         (broken.width_over_128, " V14"),
         (broken.bad_select, " V15"),

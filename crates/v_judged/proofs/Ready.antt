@@ -35,8 +35,6 @@ use Rattle.v_paths.specs.Modules.{AreFitItems}
 use Rattle.v_undriven.specs.Premises.{AreNarrowReads}
 use Rattle.v_loops.specs.Turns.{IsRunnable}
 use Rattle.v_assigned.proofs.OneModule.{any-there, one-of}
-use Rattle.v_ports.specs.Ports.{ports_are_bad}
-use Rattle.v_ports.proofs.OneModule.{bad_ports}
 use Rattle.v_modules.specs.Kinds.{kinds}
 use Rattle.v_fitting.proofs.Wires.{wires-plain}
 use Rattle.v_fitting.proofs.Items.{items-narrow, reads-narrow, items-runnable, items-fit}
@@ -104,11 +102,11 @@ module _ (d : Design) (m : Module) (h : IsTopOf d m) where
       (step d memory_use [] MemoryUse (r.memory_use) None refl (some d m h (λ p. (broken_module d.source p).memory_use)) (no_other d m h (λ p. (broken_module d.source p).memory_use))
       refl)))))
 
-  pub rules_first : (b : Broken) (ports : Bool) → b ≡ coded (kinds (broken_module d.source (alone m))) → ports ≡ ports_are_bad (scope_of []) m
+  pub rules_first : (b : Broken) (ports : Bool) → b ≡ coded (kinds (broken_module d.source (alone m))) → ports ≡ is_bad_port d.source (alone m)
       → IsFirst d rule_kinds (first_rule b ports)
   rules_first b ports e f =
       subst (λ x. IsFirst d rule_kinds (first_rule x ports)) (sym e)
-      (subst (λ x. IsFirst d rule_kinds (first_rule (coded (kinds (broken_module d.source (alone m)))) x)) (sym (f ∙ sym (bad_ports d.source m (own d m h)))) by_rules)
+      (subst (λ x. IsFirst d rule_kinds (first_rule (coded (kinds (broken_module d.source (alone m)))) x)) (sym f) by_rules)
 
   -- ---- what the later rules ask for
 

@@ -5,6 +5,8 @@ use Rattle.verilog_meaning.specs.Hierarchy.{module_named}
 use Rattle.verilog_meaning.specs.Settled.{Design}
 use Rattle.verilog_exists.specs.Exists.{IsShapely}
 use Rattle.v_scopes.specs.Refusals.{IsNamesRefusal}
+use Rattle.v_instances.specs.declared.interface.Interfaces.{Interfaces}
+use Rattle.v_instances.specs.Interface.{AreInterfacesOf}
 
 -- The module is the top of the design, none of whose names is refused, and whose tree is one of a text.
 pub record IsTopOf (d : Design) (m : Module) : Type 0 where
@@ -12,6 +14,6 @@ pub record IsTopOf (d : Design) (m : Module) : Type 0 where
   pub is_top : module_named d.source d.top ≡ Some m
   pub shapely : IsShapely d
 
--- the top of some such design
-abbrev pub IsTop : Module → Type 0
-IsTop m = (d : Design) × IsTopOf d m
+-- the top of some such design, whose modules have these interfaces
+abbrev pub IsTop : Interfaces → Module → Type 0
+IsTop t m = (d : Design) × IsTopOf d m × AreInterfacesOf t d.source

@@ -4,6 +4,7 @@ ghost use Rattle.verilog_meaning.specs.Settled.{Design};
 ghost use Rattle.verilog_exists.specs.Exists.{IsShapely};
 ghost use Rattle.v_syntax.specs.Source.{module_of, source_of};
 ghost use Rattle.v_scopes.specs.Refusals.{IsNamesRefusal};
+ghost use Rattle.v_instances.specs.Interface.{AreInterfacesOf};
 ghost use Rattle.v_judged.specs.First.{IsFirst, later_kinds};
 ghost use Rattle.v_judged.specs.Refusal.{of_names, IsDesignRefusal};
 ghost use Rattle.v_judged.specs.Tops.{IsTopOf, IsTop};
@@ -14,6 +15,7 @@ use crate::kind::DesignKind;
 use crate::rules::rules_refusal;
 use std::alloc::{AllocError, Global};
 use v_hier::top_of;
+use v_instances::interface::{Interfaces, interfaces_of};
 use v_scopes::{ScopesKind, module_scope, names_refusal};
 use v_syntax::module::{Module, Tree};
 
@@ -33,13 +35,14 @@ fn of_names(kind: ScopesKind) -> DesignKind
 fn top_refusal(
     alloc: Global,
     within: &Module<'_>,
+    interfaces: &Interfaces<'_>,
     clock: &str,
 ) -> Result<Option<DesignKind>, AllocError>
-    requires { IsTop (module_of within.now) }
-    ensures { IfOk result (λ k. (d : Design) → IsTopOf d (module_of within.now) → d.clock ≡ clock.now → IsFirst d later_kinds k) }
+    requires { IsTop interfaces.now (module_of within.now) }
+    ensures { IfOk result (λ k. (d : Design) → IsTopOf d (module_of within.now) → AreInterfacesOf interfaces.now d.source → d.clock ≡ clock.now → IsFirst d later_kinds k) }
 {
     let names = module_scope(alloc, within)?;
-    let rules = rules_refusal(alloc, within, &names)?;
+    let rules = rules_refusal(alloc, within, &names, interfaces)?;
     if rules.is_some() {
         return Ok(rules);
     }
@@ -65,7 +68,8 @@ fn named_refusal(
 {
     match top_of(tree, top) {
         Some(within) => {
-            let kind = top_refusal(alloc, within, clock)?;
+            let interfaces = interfaces_of(alloc, tree)?;
+            let kind = top_refusal(alloc, within, &interfaces, clock)?;
             Ok(kind)
         }
         // Such a design has a top.

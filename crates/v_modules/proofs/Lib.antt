@@ -1,4 +1,5 @@
 pub mod Shapes
 pub mod Memories
 pub mod Named
+pub mod Nets
 pub mod Assembled

@@ -12,7 +12,7 @@ use Rattle.v_size.specs.declared.rule.Broken.{Broken}
 use Rattle.v_size.specs.Rule.{coded, both}
 use Rattle.v_size.proofs.Chains.{both-none, both-assoc}
 use Rattle.v_rules.specs.Judging.{none}
-use Rattle.v_modules.specs.Combined.{name_broken, names_from, one_unvalued}
+use Rattle.v_modules.specs.Combined.{is_net_object, name_broken, names_from, one_other}
 use Rattle.v_sound.proofs.Objects.{any_wide}
 use Rattle.v_modules.proofs.Memories.{any_memory, any_port, is_port_of}
 
@@ -25,17 +25,17 @@ names-turn s ds i d t a b r o p h is_o is_p is_b is_r so =
     ∙ ap (λ z. names_from s z (rows_of (drop (i + 1) ds)))
     (sym (is_r ∙ ap (both a) (is_b ∙ ap (λ z. name_broken z p) is_o ∙ ap (name_broken (s (get_or ds i d).name.now)) is_p)))
 
-module _ (s : Scope) (ds : List Declared) (i : ℕ) (d : Declared) (t u : Bool) (o : Object) (h : i < length ds) (is_o : o ≡ s (get_or ds i d).name.now) (is_u : u ≡ not o.is_declared)
-    (so : t ≡ one_unvalued s (rows_of (drop i ds))) where
-  first-or-later : t ≡ u || one_unvalued s (rows_of (drop (i + 1) ds))
+module _ (s : Scope) (ds : List Declared) (i : ℕ) (d : Declared) (t u : Bool) (o : Object) (h : i < length ds) (is_o : o ≡ s (get_or ds i d).name.now) (is_u : u ≡ is_net_object o)
+    (so : t ≡ one_other s (rows_of (drop i ds))) where
+  first-or-later : t ≡ not u || one_other s (rows_of (drop (i + 1) ds))
   first-or-later =
-      so ∙ ap (one_unvalued s) (rows_drop ds i d h) ∙ ap (λ b. b || one_unvalued s (rows_of (drop (i + 1) ds))) (sym (is_u ∙ ap (λ (z : Object). not z.is_declared) is_o))
+      so ∙ ap (one_other s) (rows_drop ds i d h) ∙ ap (λ b. not b || one_other s (rows_of (drop (i + 1) ds))) (sym (is_u ∙ ap is_net_object is_o))
 
-  pub unvalued-here : u ≡ true → true ≡ t
-  unvalued-here e = sym (first-or-later ∙ ap (λ b. b || one_unvalued s (rows_of (drop (i + 1) ds))) e)
+  pub other-here : u ≡ false → true ≡ t
+  other-here e = sym (first-or-later ∙ ap (λ b. not b || one_other s (rows_of (drop (i + 1) ds))) e)
 
-  pub unvalued-later : u ≡ false → t ≡ one_unvalued s (rows_of (drop (i + 1) ds))
-  unvalued-later e = first-or-later ∙ ap (λ b. b || one_unvalued s (rows_of (drop (i + 1) ds))) e
+  pub other-later : u ≡ true → t ≡ one_other s (rows_of (drop (i + 1) ds))
+  other-later e = first-or-later ∙ ap (λ b. not b || one_other s (rows_of (drop (i + 1) ds))) e
 
 -- ---- declared names
 

@@ -1,10 +1,12 @@
-//! Which rules on expressions, targets, statements and declarations a module breaks that has no parameters and no instances.
+//! Which rules on expressions, targets, statements, declarations and connections a module breaks, where its parameters have such values.
 #![tactic(auto)]
 
 mod first;
 mod module;
 mod name;
 mod object;
+mod parameter;
+mod scope;
 
 pub use first::first_rule;
 pub use module::module_rule;

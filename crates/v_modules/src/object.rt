@@ -1,8 +1,8 @@
 //! What names stand for where all of them have at most 128 bits.
-ghost use Rattle.std.specs.Prelude.{◌≡◌, ◌+◌, cond, not, nat_lt};
+ghost use Rattle.std.specs.Prelude.{◌≡◌, ◌+◌, cond, nat_lt};
 ghost use Rattle.verilog_meaning.specs.Expression.{object_width, is_memory};
 ghost use Rattle.v_value.specs.Scope.{object_of};
-ghost use Rattle.v_modules.specs.Combined.{narrowed, as_net, shape};
+ghost use Rattle.v_modules.specs.Combined.{is_net_object, narrowed, as_net};
 
 use v_value::scope::Object;
 
@@ -27,11 +27,11 @@ pub(crate) fn is_memory(object: Object) -> bool
     object.addresses.is_some()
 }
 
-/// Whether the object is that of a name without value.
-pub(crate) fn is_unvalued(object: Object) -> bool
-    ensures { result ≡ not (object_of object).is_declared }
+/// Whether the object is that of a net, a variable or a memory.
+pub(crate) fn is_net(object: Object) -> bool
+    ensures { result ≡ is_net_object (object_of object) }
 {
-    !object.is_declared
+    object.is_declared && object.constant.is_none()
 }
 
 /// The right bound of a range of one bit, which descends, or of one of two bits, which does not.
@@ -42,7 +42,7 @@ fn right_bound(descends: bool) -> u32
 }
 
 /// The same object, where it is wide with two bits at most, in the same direction.
-fn narrowed(object: Object) -> Object
+pub(crate) fn narrowed(object: Object) -> Object
     ensures { object_of result ≡ narrowed (object_of object) }
 {
     if is_wide(object) {
@@ -77,12 +77,9 @@ fn as_net(object: Object) -> Object
     }
 }
 
-/// What a name stands for where all names have at most 128 bits, and where, if `nets` says so, all have values.
-pub(crate) fn shape(nets: bool, object: Object) -> Object
-    ensures { object_of result ≡ shape nets (object_of object) }
+/// A net of at most 128 bits, also where the name has no value.
+pub(crate) fn net_of(object: Object) -> Object
+    ensures { object_of result ≡ as_net (narrowed (object_of object)) }
 {
-    if nets {
-        return as_net(narrowed(object));
-    }
-    narrowed(object)
+    as_net(narrowed(object))
 }

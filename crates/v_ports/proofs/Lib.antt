@@ -1,5 +1,0 @@
-pub mod Directions
-pub mod Differing
-pub mod Whole
-pub mod Names
-pub mod OneModule

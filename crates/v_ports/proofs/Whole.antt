@@ -4,7 +4,7 @@ use Rattle.std.specs.Prelude.{is_none, is_some, Result, Ok, Err, IfOk}
 use Rattle.std.specs.List.{list_any}
 use Rattle.wb_values.specs.Value.{Name, entry_of}
 use Rattle.verilog_trees.specs.Syntax.{Direction, Module}
-use Rattle.verilog_meaning.specs.Expression.{scope_of}
+use Rattle.verilog_meaning.specs.Expression.{Scope}
 use Rattle.verilog_meaning.specs.Hierarchy.{declarations}
 use Rattle.verilog_meaning.specs.Settled.{port_directions, port_order, names_of}
 use Rattle.verilog_designs.specs.Ports.{lacks_direction, lacks_port, has_reg_input, has_unequal_ranges}
@@ -12,7 +12,7 @@ use Rattle.verilog_designs.specs.Names.{is_among}
 use Rattle.v_scopes.specs.declared.table.ModuleScope.{ModuleScope}
 use Rattle.v_scopes.specs.Rows.{rows, rows_of, row_named}
 use Rattle.v_scopes.specs.Scopes.{declared_in}
-use Rattle.v_ports.specs.Ports.{IsScopeOf, direction_in, is_reg_input_row, some_port_is}
+use Rattle.v_ports.specs.Ports.{IsScopeIn, direction_in, is_reg_input_row, some_port_is}
 use Rattle.v_ports.specs.Ranges.{differs_after}
 use Rattle.v_ports.proofs.Directions.{direction_named, some_port, reg_named}
 use Rattle.v_ports.proofs.Differing.{ranges_differ}
@@ -26,22 +26,22 @@ not_some : (o : Option Direction) → not (is_some o) ≡ is_none o
 not_some None = refl
 not_some (Some w) = refl
 
-pub direction_rule : (m : Module) → list_any (λ n. not (is_some (direction_in (row_named (rows (scope_of []) (declarations m)) n)))) (port_order m) ≡ lacks_direction m
-direction_rule m =
-    any_same _ _ (λ n. ap (λ o. not (is_some o)) (direction_named (scope_of []) n m) ∙ not_some (entry_of (port_directions m) n)) (port_order m)
+pub direction_rule : (s : Scope) (m : Module) → list_any (λ n. not (is_some (direction_in (row_named (rows s (declarations m)) n)))) (port_order m) ≡ lacks_direction m
+direction_rule s m =
+    any_same _ _ (λ n. ap (λ o. not (is_some o)) (direction_named s n m) ∙ not_some (entry_of (port_directions m) n)) (port_order m)
 
-pub port_rule : (m : Module) (has : Name → Bool) → ((q : Name) → has q ≡ is_among (port_order m) q)
-    → some_port_is (λ n. not (has n)) (rows (scope_of []) (declarations m)) ≡ lacks_port m
-port_rule m has h =
-    some_port (scope_of []) (λ n. not (has n)) m ∙ any_same _ _ (λ n. ap not (h n)) (names_of (port_directions m))
+pub port_rule : (s : Scope) (m : Module) (has : Name → Bool) → ((q : Name) → has q ≡ is_among (port_order m) q)
+    → some_port_is (λ n. not (has n)) (rows s (declarations m)) ≡ lacks_port m
+port_rule s m has h =
+    some_port s (λ n. not (has n)) m ∙ any_same _ _ (λ n. ap not (h n)) (names_of (port_directions m))
 
-pub reg_rule : (m : Module) → list_any (λ n. is_reg_input_row (row_named (rows (scope_of []) (declarations m)) n)) (port_order m) ≡ has_reg_input m
-reg_rule m = any_same _ _ (λ n. reg_named (scope_of []) (declarations m) n) (port_order m)
+pub reg_rule : (s : Scope) (m : Module) → list_any (λ n. is_reg_input_row (row_named (rows s (declarations m)) n)) (port_order m) ≡ has_reg_input m
+reg_rule s m = any_same _ _ (λ n. reg_named s (declarations m) n) (port_order m)
 
-pub range_rule : (m : Module) → some_port_is (differs_after None (rows (scope_of []) (declarations m))) (rows (scope_of []) (declarations m)) ≡ has_unequal_ranges (scope_of []) m
-range_rule m =
-    some_port (scope_of []) (differs_after None (rows (scope_of []) (declarations m))) m
-    ∙ any_same _ _ (λ n. sym (ranges_differ (scope_of []) None (declarations m) n)) (names_of (port_directions m))
+pub range_rule : (s : Scope) (m : Module) → some_port_is (differs_after None (rows s (declarations m))) (rows s (declarations m)) ≡ has_unequal_ranges s m
+range_rule s m =
+    some_port s (differs_after None (rows s (declarations m))) m
+    ∙ any_same _ _ (λ n. sym (ranges_differ s None (declarations m) n)) (names_of (port_directions m))
 
 -- the first rule that is broken decides
 pub first_bad : (a b c d : Bool) → a ≡ true → true ≡ ((a || b) || (c || d))
@@ -58,28 +58,28 @@ last_bad a b c d e f g = sym (ap (λ x. (x || b) || (c || d)) e ∙ ap (λ x. x 
 
 -- ---- the same over a module's table of names
 
-pub no_direction : (names : ModuleScope) (m : Module) (order : List Name) → IsScopeOf names m → order ≡ port_order m
+pub no_direction : (s : Scope) (names : ModuleScope) (m : Module) (order : List Name) → IsScopeIn s names m → order ≡ port_order m
     → list_any (λ n. not (is_some (direction_in (declared_in names n)))) order ≡ lacks_direction m
-no_direction names m order h e =
+no_direction s names m order h e =
     ap (λ o. list_any (λ n. not (is_some (direction_in (row_named (rows_of names.declared.items) n)))) o) e
     ∙ ap (λ rs. list_any (λ n. not (is_some (direction_in (row_named rs n)))) (port_order m)) h
-    ∙ direction_rule m
+    ∙ direction_rule s m
 
-pub no_port : (names : ModuleScope) (m : Module) (order : List Name) (has : Name → Bool) → IsScopeOf names m → order ≡ port_order m
+pub no_port : (s : Scope) (names : ModuleScope) (m : Module) (order : List Name) (has : Name → Bool) → IsScopeIn s names m → order ≡ port_order m
     → ((q : Name) → has q ≡ is_among order q) → some_port_is (λ n. not (has n)) (rows_of names.declared.items) ≡ lacks_port m
-no_port names m order has h e f =
-    ap (λ rs. some_port_is (λ n. not (has n)) rs) h ∙ port_rule m has (λ q. f q ∙ ap (λ ns. is_among ns q) e)
+no_port s names m order has h e f =
+    ap (λ rs. some_port_is (λ n. not (has n)) rs) h ∙ port_rule s m has (λ q. f q ∙ ap (λ ns. is_among ns q) e)
 
-pub reg_input : (names : ModuleScope) (m : Module) (order : List Name) → IsScopeOf names m → order ≡ port_order m
+pub reg_input : (s : Scope) (names : ModuleScope) (m : Module) (order : List Name) → IsScopeIn s names m → order ≡ port_order m
     → list_any (λ n. is_reg_input_row (declared_in names n)) order ≡ has_reg_input m
-reg_input names m order h e =
+reg_input s names m order h e =
     ap (λ o. list_any (λ n. is_reg_input_row (row_named (rows_of names.declared.items) n)) o) e
     ∙ ap (λ rs. list_any (λ n. is_reg_input_row (row_named rs n)) (port_order m)) h
-    ∙ reg_rule m
+    ∙ reg_rule s m
 
-pub unequal : (names : ModuleScope) (m : Module) → IsScopeOf names m
-    → some_port_is (differs_after None (rows_of names.declared.items)) (rows_of names.declared.items) ≡ has_unequal_ranges (scope_of []) m
-unequal names m h = ap (λ rs. some_port_is (differs_after None rs) rs) h ∙ range_rule m
+pub unequal : (s : Scope) (names : ModuleScope) (m : Module) → IsScopeIn s names m
+    → some_port_is (differs_after None (rows_of names.declared.items)) (rows_of names.declared.items) ≡ has_unequal_ranges s m
+unequal s names m h = ap (λ rs. some_port_is (differs_after None rs) rs) h ∙ range_rule s m
 
 pub if_ok_then : {A E : Type 0} (r : Result A E) (P Q : A → Type 0) → ((a : A) → P a → Q a) → IfOk r P → IfOk r Q
 if_ok_then (Ok a) P Q f h = f a h

@@ -1,4 +1,4 @@
--- The rules on the ports of a module that has no instances, over what its declarations say.
+-- The rules on the ports of a module, but for those on connections, over what its declarations say.
 use Rattle.std.specs.Prelude.{◌≡◌, Bool, false, ◌&&◌, ◌||◌, List, [], ◌∷◌, Option, Some, None, is_some}
 use Rattle.wb_values.specs.Value.{Name}
 use Rattle.verilog_trees.specs.Syntax.{Direction, Module}
@@ -12,9 +12,13 @@ use Rattle.v_scopes.specs.Rows.{Row, rows, rows_of}
 abbrev pub ports_are_bad : Scope → Module → Bool
 ports_are_bad s m = (lacks_direction m || lacks_port m) || (has_reg_input m || has_unequal_ranges s m)
 
--- The scope has the declarations of the module, which has no parameters.
+-- The scope has the declarations of the module, where its parameters have the values of another scope.
+abbrev pub IsScopeIn : Scope → ModuleScope → Module → Type 0
+IsScopeIn s names m = rows_of names.declared.items ≡ rows s (declarations m)
+
+-- The same of a module without parameters.
 abbrev pub IsScopeOf : ModuleScope → Module → Type 0
-IsScopeOf names m = rows_of names.declared.items ≡ rows (scope_of []) (declarations m)
+IsScopeOf names m = IsScopeIn (scope_of []) names m
 
 -- ---- rows
 

@@ -1,7 +1,6 @@
-//! What is refused of the ports of a module (IEEE 1364-2005, 12.3). Connections of instances are left for later.
+//! What is refused of the ports of a module (IEEE 1364-2005, 12.3).
 #![tactic(auto)]
 
-pub mod laws;
 mod ports;
 mod ranges;
 

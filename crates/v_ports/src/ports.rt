@@ -2,20 +2,24 @@
 ghost use Rattle.std.specs.Prelude.{◌≡◌, ◌++◌, ℕ, List, [], not, map, option_map, is_none, is_some, IfOk, OnOk};
 ghost use Rattle.std.specs.List.{list_any};
 ghost use Rattle.wb_values.specs.Value.{entry_of};
-ghost use Rattle.verilog_meaning.specs.Expression.{scope_of};
-ghost use Rattle.verilog_meaning.specs.Hierarchy.{declarations};
+ghost use Rattle.verilog_trees.specs.Syntax.{Source};
+ghost use Rattle.verilog_meaning.specs.Expression.{Scope, scope_of};
+ghost use Rattle.verilog_meaning.specs.Hierarchy.{Placed, declarations};
 ghost use Rattle.verilog_meaning.specs.Settled.{declared_ports, header_names, names_of, port_directions, port_order};
 ghost use Rattle.verilog_designs.specs.Names.{is_among};
-ghost use Rattle.verilog_designs.specs.Ports.{lacks_direction, lacks_port, has_reg_input};
+ghost use Rattle.verilog_designs.specs.Ports.{lacks_direction, lacks_port, has_reg_input, has_bad_port as is_bad_port};
 ghost use Rattle.v_syntax.specs.Source.{direction_of, module_of, port_of, ports_of};
 ghost use Rattle.v_hier.specs.Tables.{has_name};
 ghost use Rattle.v_scopes.specs.Rows.{row_of, rows_of};
 ghost use Rattle.v_scopes.specs.Scopes.{declared_in};
-ghost use Rattle.v_ports.specs.Ports.{IsScopeOf, ports_are_bad, direction_in, is_reg_input_row, some_port_is};
+ghost use Rattle.v_instances.specs.Interface.{AreInterfacesOf};
+ghost use Rattle.v_ports.specs.Ports.{IsScopeIn, ports_are_bad, direction_in, is_reg_input_row, some_port_is};
 
 use crate::ranges::has_unequal_ranges;
 use std::alloc::{AllocError, Global};
 use std::collections::BTreeSet;
+use v_instances::has_bad_instance;
+use v_instances::interface::Interfaces;
 use v_scopes::{Declared, ModuleScope};
 use v_syntax::module::{Direction, Module, NetKind, PortDeclaration, Ports};
 
@@ -124,16 +128,14 @@ fn lacks_port(declared: &[Declared<'_>], listed: &BTreeSet<&str>) -> bool
     false
 }
 
-/// Whether the ports of a module without parameters and instances break the rule on ports: a listed port without a direction or a
-/// direction without a port in the list, an input that is declared `reg`, or two unequal ranges of one port. A range without a value
-/// says nothing.
-pub fn has_bad_port<'s>(
+/// Whether what the module declares breaks the rule on ports: a listed port has no direction, or a direction no port in the list, an
+/// input is declared `reg`, or two ranges of one port are unequal. A range without a value says nothing.
+fn has_bad_declaration<'s>(
     alloc: Global,
     names: &ModuleScope<'s>,
     within: &Module<'s>,
 ) -> Result<bool, AllocError>
-    requires { IsScopeOf names.now (module_of within.now) }
-    ensures { IfOk result (λ b. b ≡ ports_are_bad (scope_of []) (module_of within.now)) }
+    ensures { IfOk result (λ b. (s : Scope) → IsScopeIn s names.now (module_of within.now) → b ≡ ports_are_bad s (module_of within.now)) }
 {
     let order = order_of(alloc, &within.ports)?;
     if lacks_direction(names, &order) {
@@ -147,4 +149,22 @@ pub fn has_bad_port<'s>(
         return Ok(true);
     }
     has_unequal_ranges(alloc, names, names.declarations())
+}
+
+/// Whether a module breaks the rule on ports, which stands in a design with some of its parameters known: in what it declares, or by an
+/// instance whose connections or overrides do not fit the module below. It is said of each such module whose declarations are these.
+pub fn has_bad_port<'s>(
+    alloc: Global,
+    names: &ModuleScope<'s>,
+    within: &Module<'s>,
+    interfaces: &Interfaces<'_>,
+) -> Result<bool, AllocError>
+    ensures { IfOk result (λ b. (source : Source) (p : Placed) → AreInterfacesOf interfaces.now source → p.of_module ≡ module_of within.now
+        → IsScopeIn (scope_of p.constants) names.now (module_of within.now) → b ≡ is_bad_port source p) }
+{
+    if has_bad_declaration(alloc, names, within)? {
+        return Ok(true);
+    }
+    let bad = has_bad_instance(alloc, interfaces, &within.items)?;
+    Ok(bad)
 }

@@ -8,6 +8,8 @@ ghost use Rattle.v_hier.specs.Instances.{is_part};
 ghost use Rattle.v_value.specs.Scope.{scope_at};
 ghost use Rattle.v_syntax.specs.Source.{ports_of, item_of};
 ghost use Rattle.v_size.specs.Rule.{coded};
+ghost use Rattle.v_rules.specs.Judging.{none};
+ghost use Rattle.v_rules.specs.Items.{module_items_from};
 
 use crate::item::{broken_header, broken_items};
 use v_size::{Broken, Names};
@@ -20,9 +22,10 @@ pub fn ports_rules(names: Names<'_, '_>, ports: &Ports<'_>) -> Broken
     broken_header(names, ports)
 }
 
-/// All rules that items break which are no parameters and no instances.
+/// All rules that items break which are no parameters and no instances. Of parameters and instances nothing is said.
 pub fn items_rules(names: Names<'_, '_>, items: &[Item<'_>]) -> Broken
-    ensures { (source : Source) → list_any is_part (map item_of items.now) ≡ false
+    ensures plain { result ≡ module_items_from (scope_at names.entry.scope.now) none (map item_of items.now) }
+    ensures alone { (source : Source) → list_any is_part (map item_of items.now) ≡ false
         → result ≡ coded (broken_module_items source (scope_at names.entry.scope.now) (map item_of items.now)) }
 {
     broken_items(names, items)

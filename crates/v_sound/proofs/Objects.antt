@@ -30,7 +30,7 @@ declared-constant : (s : Scope) (signed : Bool) (r a : Option Range) → (object
 declared-constant s signed None a = addressed-constant s a (record undeclared { is_declared = true; signed = signed })
 declared-constant s signed (Some r) a = ranged-constant (known_range s r) s signed a
 
-found-constant : (s : Scope) (d : Option Declaration) → (object_or_undeclared (option_and_then (known_declaration s) d)).constant ≡ None
+pub found-constant : (s : Scope) (d : Option Declaration) → (object_or_undeclared (option_and_then (known_declaration s) d)).constant ≡ None
 found-constant s None = refl
 found-constant s (Some d) = declared-constant s d.signed d.range d.addresses
 
@@ -53,14 +53,14 @@ declared-valued : (s : Scope) (signed : Bool) (r a : Option Range) → IsValued 
 declared-valued s signed None a = addressed-valued s a (record undeclared { is_declared = true; signed = signed }) refl
 declared-valued s signed (Some r) a = ranged-valued (known_range s r) s signed a
 
-found-valued : (s : Scope) (d : Option Declaration) → IsValued (object_or_undeclared (option_and_then (known_declaration s) d))
+pub found-valued : (s : Scope) (d : Option Declaration) → IsValued (object_or_undeclared (option_and_then (known_declaration s) d))
 found-valued s None = inr refl
 found-valued s (Some d) = declared-valued s d.signed d.range d.addresses
 
 pub valued : (m : Module) (n : Name) → IsValued (known_module_scope m [] n)
 valued m n = found-valued (scope_of []) (declaration_of (declarations m) n)
 
-none-declared : (ds : List Declaration) (n : Name) → is_declared_among ds n ≡ false → declaration_of ds n ≡ None
+pub none-declared : (ds : List Declaration) (n : Name) → is_declared_among ds n ≡ false → declaration_of ds n ≡ None
 none-declared [] n h = refl
 none-declared (d ∷ ds) n h =
     let p = neither (same_name d.of_name n) (is_declared_among ds n) h in
@@ -76,7 +76,7 @@ abbrev pub any_wide : Scope → List Declaration → Bool
 any_wide s [] = false
 any_wide s (d ∷ ds) = nat_lt 128 (object_width (s d.of_name)) || any_wide s ds
 
-declared-narrow : (s : Scope) (n : Name) (ds : List Declaration) → any_wide s ds ≡ false → is_declared_among ds n ≡ true → nat_lt 128 (object_width (s n)) ≡ false
+pub declared-narrow : (s : Scope) (n : Name) (ds : List Declaration) → any_wide s ds ≡ false → is_declared_among ds n ≡ true → nat_lt 128 (object_width (s n)) ≡ false
 declared-narrow s n [] h g = absurd (false≢true g)
 declared-narrow s n (d ∷ ds) h g =
     let p = neither (nat_lt 128 (object_width (s d.of_name))) (any_wide s ds) h in

@@ -1,22 +1,26 @@
 -- Whether a net stands where a constant must, told by the rule on constants in two scopes: one that says what the names of a module
 -- stand for, and one in which all its nets are declared, also those whose ranges have no value.
-use Rattle.std.proofs.Common.{◌≡◌, ℕ, ◌∙◌, refl, sym, ap, Bool, true, false, cond, ◌&&◌, ◌||◌, List, [], ◌∷◌, ◌++◌, Option, Some, None, pos}
+use Rattle.std.proofs.Common.{◌≡◌, ℕ, ◌+◌, ◌∙◌, ◌⊎◌, inl, inr, option_map, refl, sym, ap, Bool, true, false, cond, ◌&&◌, ◌||◌, List, [], ◌∷◌, ◌++◌, Option, Some, None, pos}
 use Rattle.std.proofs.lemmas.Bool.{false≢true}
 use Rattle.std.specs.List.{list_any}
 use Rattle.wb_values.specs.Value.{Name}
 use Rattle.wb_values.specs.Choice.{some_if}
-use Rattle.verilog_trees.specs.Syntax.{Expression, number, name, concatenation, replication, as_signed, as_unsigned, unary, reduction, binary, shift, power, comparison, logical, conditional, Expressions, no_expressions, expression, Select, index, part, part_up, part_down, Selects, whole, one, two, Target, place, joined, Targets, no_targets, target, CaseKind, Statement, empty, blocking, nonblocking, if_then, if_else, case, block, Statements, no_statements, statement, CaseItems, no_items, arm, default_arm, Event, Events, any_change, on_events, Range, PortDeclaration, Item, port, parameter, wires, variables, assign, always, instances, Source}
-use Rattle.verilog_meaning.specs.Expression.{Object, Scope, is_memory, widths_of}
+use Rattle.verilog_trees.specs.Syntax.{Connections, by_name as by_names, by_order, ParameterDeclaration, Module, Expression, number, name, concatenation, replication, as_signed, as_unsigned, unary, reduction, binary, shift, power, comparison, logical, conditional, Expressions, no_expressions, expression, Select, index, part, part_up, part_down, Selects, whole, one, two, Target, place, joined, Targets, no_targets, target, CaseKind, Statement, empty, blocking, nonblocking, if_then, if_else, case, block, Statements, no_statements, statement, CaseItems, no_items, arm, default_arm, Event, Events, any_change, on_events, Range, PortDeclaration, Item, port, parameter, wires, variables, assign, always, instances, Source}
+use Rattle.verilog_meaning.specs.Expression.{Object, Scope, is_memory, distance, width_of, widths_of, sign_of}
+use Rattle.verilog_meaning.specs.Hierarchy.{module_named}
+use Rattle.verilog_meaning.specs.Settled.{as_target, Connection, instance_connections, port_meant}
 use Rattle.verilog_meaning.specs.Statement.{targets_width}
 use Rattle.verilog_meaning.specs.Register.{is_clocked}
-use Rattle.verilog_rules.specs.Expression.{Broken, nothing, anywhere, is_below, by_total, copies, is_unsized, divides, broken, broken_parts, broken_selects, broken_select, broken_bits, have_widths, broken_constant, constant_number}
-use Rattle.verilog_designs.specs.Names.{names_in, names_in_select, names_in_selects, names_in_range, names_in_ports, names_in_addresses}
-use Rattle.verilog_designs.specs.Constants.{constant_names, constant_names_in_all, constant_names_in_select, constant_names_in_selects, constant_names_in_target, constant_names_in_targets, index_names, index_names_in_all, constant_names_in_statement, constant_names_in_statements, constant_names_in_items, constant_names_in_initial, constant_names_in_assignments, constant_names_in_item, constant_names_in_module_items}
-use Rattle.verilog_designs.specs.Expressions.{is_outside, broken_bound, broken_range, broken_ports, targets_have_width, broken_target, broken_targets, by_constants, broken_item, broken_items, broken_block_target, broken_statement, broken_statements, broken_arms, broken_event_list, broken_events, broken_assignments, broken_initial_values, broken_addresses, broken_module_item, broken_module_items}
-use Rattle.v_hier.specs.Instances.{is_part}
+use Rattle.verilog_rules.specs.Expression.{Broken, nothing, anywhere, constant, wider, has_width, is_below, by_total, copies, is_unsized, divides, broken, broken_parts, broken_selects, broken_select, broken_bits, have_widths, broken_constant, constant_number}
+use Rattle.verilog_designs.specs.Names.{names_in, names_in_select, names_in_selects, names_in_range, names_in_values, names_in_parameters, names_in_ports, names_in_addresses, names_in_named, names_in_ordered, names_in_connections}
+use Rattle.verilog_designs.specs.Constants.{constant_names, constant_names_in_all, constant_names_in_select, constant_names_in_selects, constant_names_in_target, constant_names_in_targets, index_names, index_names_in_all, constant_names_in_statement, constant_names_in_statements, constant_names_in_items, constant_names_in_initial, constant_names_in_assignments, constant_names_in_output, constant_names_in_connection, constant_names_in_connections, constant_names_in_instances, constant_names_in_item, constant_names_in_module_items}
+use Rattle.verilog_designs.specs.Expressions.{is_outside, broken_bound, broken_range, broken_ports, targets_have_width, broken_target, broken_targets, by_constants, broken_item, broken_items, broken_block_target, broken_statement, broken_statements, broken_arms, broken_event_list, broken_events, broken_assignments, broken_initial_values, broken_addresses, broken_values, broken_width, broken_parameters, broken_header, broken_output, broken_connection, broken_connections, broken_instances, broken_named_values, broken_ordered_values, broken_overrides, broken_module_item, broken_module_items}
+use Rattle.verilog_designs.specs.Known.{as_bound, both_bounds, known_range_width, value_position}
+use Rattle.verilog_designs.specs.Ports.{is_output, port_direction}
+use Rattle.verilog_exists.proofs.Scopes.{SameIn}
 use Rattle.v_sound.specs.Alike.{IsNet}
 use Rattle.v_sound.proofs.Widths.{total-bad, bits-bad, or-nothing-bad}
-use Rattle.v_sound.proofs.Constants.{neither, or-right, any-append, net-in-constant, same-rules, same-number}
+use Rattle.v_sound.proofs.Constants.{neither, or-left, or-right, either, any-append, net-within, net-in-constant, same-constant, same-rules, same-number}
 
 -- Where the rule is not broken in the first scope, it is broken in the second exactly where z holds.
 pub record IsTold (x y z : Bool) : Type 0 where
@@ -244,18 +248,137 @@ module _ (s t : Scope) (k : Name → Bool) (same : (n : Name) → k n ≡ false 
   told-addresses [] = told-same false
   told-addresses (v ∷ vs) = told-append (names_in_range v.1) (names_in_addresses vs) (told-range v.1) (told-addresses vs)
 
-  module _ (source : Source) where
-    told-item : (i : Item) → is_part i ≡ false → IsTold (broken_module_item source s i).bad_constant (broken_module_item source t i).bad_constant (list_any k (constant_names_in_item source i))
-    told-item (port d) h = told-range d.range
-    told-item (parameter d) h = absurd (false≢true (sym h))
-    told-item (wires signed r ws) h = told-append (names_in_range r) (constant_names_in_initial ws) (told-range r) (told-initial ws)
-    told-item (variables signed r vs) h = told-append (names_in_range r) (names_in_addresses vs) (told-range r) (told-addresses vs)
-    told-item (assign xs) h = told-assignments xs
-    told-item (always es x) h = told-or (told-none (events-bad s es) (events-bad t es)) (told-statement (is_clocked es) x)
-    told-item (instances m given is) h = absurd (false≢true (sym h))
+  -- ---- parameters
 
-    pub told-items : (items : List Item) → list_any is_part items ≡ false → IsTold (broken_module_items source s items).bad_constant (broken_module_items source t items).bad_constant (list_any k (constant_names_in_module_items source items))
-    told-items [] h = told-same false
-    told-items (i ∷ items) h =
-        told-append (constant_names_in_item source i) (constant_names_in_module_items source items) (told-item i (neither (is_part i) (list_any is_part items) h).0)
-        (told-items items (neither (is_part i) (list_any is_part items) h).1)
+  in-either : (ns ms : List Name) → list_any k (ns ++ ms) ≡ true → (list_any k ns ≡ true) ⊎ (list_any k ms ≡ true)
+  in-either ns ms h = either (list_any k ns) (list_any k ms) (sym (any-append k ns ms) ∙ h)
+
+  in-neither : (ns ms : List Name) → list_any k (ns ++ ms) ≡ false → (list_any k ns ≡ false) × (list_any k ms ≡ false)
+  in-neither ns ms h = neither (list_any k ns) (list_any k ms) (sym (any-append k ns ms) ∙ h)
+
+  net-in-bound : (e : Expression) → list_any k (names_in e) ≡ true → (broken_bound t e).bad_constant ≡ true
+  net-in-bound e h = or-right (is_outside (constant_number t e)) (broken_constant t e).bad_constant (net-in-constant t k nets e h)
+
+  net-in-range : (r : Option Range) → list_any k (names_in_range r) ≡ true → (broken_range t r).bad_constant ≡ true
+  net-in-range None h = absurd (false≢true h)
+  net-in-range (Some r) h = elim (in-either (names_in r.left) (names_in r.right) h) as (λ _. (broken_range t (Some r)).bad_constant ≡ true) [
+    | inl a ↦ or-left (broken_bound t r.left).bad_constant (broken_bound t r.right).bad_constant (net-in-bound r.left a)
+    | inr a ↦ or-right (broken_bound t r.left).bad_constant (broken_bound t r.right).bad_constant (net-in-bound r.right a)
+  ]
+
+  net-in-value : (r : Option Range) (e : Expression) → list_any k (names_in e) ≡ true → (broken t (value_position t r e) e).bad_constant ≡ true
+  net-in-value None e h = net-in-constant t k nets e h
+  net-in-value (Some r) e h = net-within t k nets e h (wider (known_range_width t r) (some_if (has_width t e) (width_of t e))) (sign_of t e)
+
+  net-in-values : (r : Option Range) (vs : List (Name × Expression)) → list_any k (names_in_values vs) ≡ true → (broken_values t r vs).bad_constant ≡ true
+  net-in-values r [] h = absurd (false≢true h)
+  net-in-values r (v ∷ vs) h = elim (in-either (names_in v.1) (names_in_values vs) h) as (λ _. (broken_values t r (v ∷ vs)).bad_constant ≡ true) [
+    | inl a ↦ or-left (broken t (value_position t r v.1) v.1).bad_constant (broken_values t r vs).bad_constant (net-in-value r v.1 a)
+    | inr a ↦ or-right (broken t (value_position t r v.1) v.1).bad_constant (broken_values t r vs).bad_constant (net-in-values r vs a)
+  ]
+
+  same-bound : (e : Expression) → list_any k (names_in e) ≡ false → (broken_bound s e).bad_constant ≡ (broken_bound t e).bad_constant
+  same-bound e h = λ i. is_outside (same-number s t k same e h i) || (same-rules s t k same e h i).bad_constant
+
+  same-range : (r : Option Range) → list_any k (names_in_range r) ≡ false → (broken_range s r).bad_constant ≡ (broken_range t r).bad_constant
+  same-range None h = refl
+  same-range (Some r) h =
+      let p = in-neither (names_in r.left) (names_in r.right) h in
+      λ i. same-bound r.left p.0 i || same-bound r.right p.1 i
+
+  same-width : (r : Range) → list_any k (names_in_range (Some r)) ≡ false → known_range_width s r ≡ known_range_width t r
+  same-width r h =
+      let p = in-neither (names_in r.left) (names_in r.right) h in
+      λ i. option_map (λ b. distance b.0 b.1 + 1) (both_bounds (as_bound (same-number s t k same r.left p.0 i)) (as_bound (same-number s t k same r.right p.1 i)))
+
+  same-value : (r : Option Range) (e : Expression) → list_any k (names_in_range r) ≡ false → list_any k (names_in e) ≡ false
+      → broken s (value_position s r e) e ≡ broken t (value_position t r e) e
+  same-value None e g h = same-rules s t k same e h
+  same-value (Some r) e g h =
+      let q : SameIn s t e = same-constant s t k same e h in
+      q.rules (value_position s (Some r) e) ∙ (λ i. broken t (constant (wider (same-width r g i) (some_if (q.has i) (q.width i))) (q.sign i)) e)
+
+  same-values : (r : Option Range) (vs : List (Name × Expression)) → list_any k (names_in_range r) ≡ false → list_any k (names_in_values vs) ≡ false
+      → (broken_values s r vs).bad_constant ≡ (broken_values t r vs).bad_constant
+  same-values r [] g h = refl
+  same-values r (v ∷ vs) g h =
+      let p = in-neither (names_in v.1) (names_in_values vs) h in
+      λ i. (same-value r v.1 g p.0 i).bad_constant || same-values r vs g p.1 i
+
+  width-bad : (q : Scope) (r : Option Range) → (broken_width q r).bad_constant ≡ false
+  width-bad q None = refl
+  width-bad q (Some r) = refl
+
+  -- the values rest on the range, so both are told together
+  told-parameters : (d : ParameterDeclaration) → IsTold (broken_parameters s d).bad_constant (broken_parameters t d).bad_constant (list_any k (names_in_range d.range ++ names_in_values d.values))
+  told-parameters d = told-by (broken_parameters s d).bad_constant (broken_parameters t d).bad_constant (list_any k (names_in_range d.range ++ names_in_values d.values)) found not-found
+    where
+      found : list_any k (names_in_range d.range ++ names_in_values d.values) ≡ true → (broken_parameters t d).bad_constant ≡ true
+      found h = elim (in-either (names_in_range d.range) (names_in_values d.values) h) as (λ _. (broken_parameters t d).bad_constant ≡ true) [
+        | inl a ↦ or-left (broken_range t d.range).bad_constant ((broken_width t d.range).bad_constant || (broken_values t d.range d.values).bad_constant) (net-in-range d.range a)
+        | inr a ↦ or-right (broken_range t d.range).bad_constant ((broken_width t d.range).bad_constant || (broken_values t d.range d.values).bad_constant)
+            (or-right (broken_width t d.range).bad_constant (broken_values t d.range d.values).bad_constant (net-in-values d.range d.values a))
+      ]
+
+      not-found : list_any k (names_in_range d.range ++ names_in_values d.values) ≡ false → (broken_parameters t d).bad_constant ≡ (broken_parameters s d).bad_constant
+      not-found h =
+          let p = in-neither (names_in_range d.range) (names_in_values d.values) h in
+          let w = width-bad s d.range ∙ sym (width-bad t d.range) in
+          sym (λ i. same-range d.range p.0 i || (w i || same-values d.range d.values p.0 p.1 i))
+
+  pub told-header : (ds : List ParameterDeclaration) → IsTold (broken_header s ds).bad_constant (broken_header t ds).bad_constant (list_any k (names_in_parameters ds))
+  told-header [] = told-same false
+  told-header (d ∷ ds) = told-append (names_in_range d.range ++ names_in_values d.values) (names_in_parameters ds) (told-parameters d) (told-header ds)
+
+  -- ---- instances
+
+  told-named : (cs : List (Name × Option Expression)) → IsTold (broken_named_values s cs).bad_constant (broken_named_values t cs).bad_constant (list_any k (names_in_named cs))
+  told-named [] = told-same false
+  told-named ((n, None) ∷ cs) = told-named cs
+  told-named ((n, Some e) ∷ cs) = told-append (names_in e) (names_in_named cs) (told-constant e) (told-named cs)
+
+  told-ordered : (es : List (Option Expression)) → IsTold (broken_ordered_values s es).bad_constant (broken_ordered_values t es).bad_constant (list_any k (names_in_ordered es))
+  told-ordered [] = told-same false
+  told-ordered (None ∷ es) = told-ordered es
+  told-ordered (Some e ∷ es) = told-append (names_in e) (names_in_ordered es) (told-constant e) (told-ordered es)
+
+  told-overrides : (given : Connections) → IsTold (broken_overrides s given).bad_constant (broken_overrides t given).bad_constant (list_any k (names_in_connections given))
+  told-overrides (by_names cs) = told-named cs
+  told-overrides (by_order es) = told-ordered es
+
+  -- an expression that is connected to an output, where b holds
+  told-connected : (b : Bool) (e : Expression) (x : Option Target)
+      → IsTold (cond b (broken_output s e x) (broken s anywhere e)).bad_constant (cond b (broken_output t e x) (broken t anywhere e)).bad_constant (list_any k (cond b (constant_names_in_output e x) (constant_names e)))
+  told-connected true e None = told-expression e
+  told-connected true e (Some x) = told-net x
+  told-connected false e x = told-expression e
+
+  told-connection : (below : Option Module) (c : Connection) → IsTold (broken_connection s below c).bad_constant (broken_connection t below c).bad_constant (list_any k (constant_names_in_connection below c))
+  told-connection None c = told-expression c.expression
+  told-connection (Some below) c = told-connected (is_output (port_direction below (port_meant below c.to_port))) c.expression (as_target c.expression)
+
+  told-connections : (below : Option Module) (cs : List Connection) → IsTold (broken_connections s below cs).bad_constant (broken_connections t below cs).bad_constant (list_any k (constant_names_in_connections below cs))
+  told-connections below [] = told-same false
+  told-connections below (c ∷ cs) = told-append (constant_names_in_connection below c) (constant_names_in_connections below cs) (told-connection below c) (told-connections below cs)
+
+  told-instances : (below : Option Module) (is : List (Name × Connections)) → IsTold (broken_instances s below is).bad_constant (broken_instances t below is).bad_constant (list_any k (constant_names_in_instances below is))
+  told-instances below [] = told-same false
+  told-instances below (i ∷ is) =
+      told-append (constant_names_in_connections below (instance_connections i.0 i.1)) (constant_names_in_instances below is) (told-connections below (instance_connections i.0 i.1)) (told-instances below is)
+
+  -- ---- all items
+
+  module _ (source : Source) where
+    told-item : (i : Item) → IsTold (broken_module_item source s i).bad_constant (broken_module_item source t i).bad_constant (list_any k (constant_names_in_item source i))
+    told-item (port d) = told-range d.range
+    told-item (parameter d) = told-parameters d
+    told-item (wires signed r ws) = told-append (names_in_range r) (constant_names_in_initial ws) (told-range r) (told-initial ws)
+    told-item (variables signed r vs) = told-append (names_in_range r) (names_in_addresses vs) (told-range r) (told-addresses vs)
+    told-item (assign xs) = told-assignments xs
+    told-item (always es x) = told-or (told-none (events-bad s es) (events-bad t es)) (told-statement (is_clocked es) x)
+    told-item (instances m given is) =
+        told-append (names_in_connections given) (constant_names_in_instances (module_named source m) is) (told-overrides given) (told-instances (module_named source m) is)
+
+    pub told-items : (items : List Item) → IsTold (broken_module_items source s items).bad_constant (broken_module_items source t items).bad_constant (list_any k (constant_names_in_module_items source items))
+    told-items [] = told-same false
+    told-items (i ∷ items) = told-append (constant_names_in_item source i) (constant_names_in_module_items source items) (told-item i) (told-items items)

@@ -1,19 +1,22 @@
 -- What is broken in two scopes whose nets differ in width alone: the same rules, but for those on widths.
-use Rattle.std.proofs.Common.{◌≡◌, ℕ, ◌∙◌, refl, sym, ap, Bool, true, false, cond, not, ◌&&◌, ◌||◌, List, [], ◌∷◌, Option, Some, None, is_some, ℤ, pos, int_lt}
-use Rattle.std.proofs.lemmas.Bool.{false≢true}
+use Rattle.std.proofs.Common.{◌≡◌, ℕ, ◌+◌, ◌∙◌, option_map, refl, sym, ap, Bool, true, false, cond, not, ◌&&◌, ◌||◌, List, [], ◌∷◌, Option, Some, None, is_some, ℤ, pos, int_lt}
 use Rattle.std.specs.List.{list_any}
 use Rattle.wb_values.specs.Value.{Name}
 use Rattle.wb_values.specs.Choice.{some_if}
-use Rattle.verilog_trees.specs.Syntax.{Expression, number, name, concatenation, replication, as_signed, as_unsigned, unary, reduction, binary, shift, power, comparison, logical, conditional, Expressions, no_expressions, expression, Select, index, part, part_up, part_down, Selects, whole, one, two, Target, place, joined, Targets, no_targets, target, CaseKind, Statement, empty, blocking, nonblocking, if_then, if_else, case, block, Statements, no_statements, statement, CaseItems, no_items, arm, default_arm, Event, Events, any_change, on_events, Range, PortDeclaration, Item, port, parameter, wires, variables, assign, always, instances, Source}
-use Rattle.verilog_meaning.specs.Expression.{Object, Scope, is_memory, width_of, widths_of, sign_of}
+use Rattle.verilog_trees.specs.Syntax.{Connections, by_name as by_names, by_order, ParameterDeclaration, Module, Expression, number, name, concatenation, replication, as_signed, as_unsigned, unary, reduction, binary, shift, power, comparison, logical, conditional, Expressions, no_expressions, expression, Select, index, part, part_up, part_down, Selects, whole, one, two, Target, place, joined, Targets, no_targets, target, CaseKind, Statement, empty, blocking, nonblocking, if_then, if_else, case, block, Statements, no_statements, statement, CaseItems, no_items, arm, default_arm, Event, Events, any_change, on_events, Range, PortDeclaration, Item, port, parameter, wires, variables, assign, always, instances, Source}
+use Rattle.verilog_meaning.specs.Expression.{Object, Scope, is_memory, distance, width_of, widths_of, sign_of}
+use Rattle.verilog_meaning.specs.Hierarchy.{module_named}
+use Rattle.verilog_meaning.specs.Settled.{as_target, Connection, instance_connections, port_meant}
 use Rattle.verilog_meaning.specs.Statement.{targets_width}
 use Rattle.verilog_meaning.specs.Register.{is_clocked}
-use Rattle.verilog_rules.specs.Expression.{Broken, nothing, also, constant_if, Position, anywhere, in_context, wider, has_bad_select, lacks_index, has_many_words, by_name, is_below, by_total, copies, runs_against, is_unsized, divides, by_itself, as_constant, broken, broken_parts, broken_selects, broken_select, broken_bits, has_width, have_widths, broken_constant, constant_number}
+use Rattle.verilog_rules.specs.Expression.{Broken, nothing, also, constant_if, Position, anywhere, constant, in_context, wider, has_bad_select, lacks_index, has_many_words, by_name, is_below, by_total, copies, runs_against, is_unsized, divides, by_itself, as_constant, broken, broken_parts, broken_selects, broken_select, broken_bits, has_width, have_widths, broken_constant, constant_number}
 use Rattle.verilog_designs.specs.Names.{names_in}
-use Rattle.verilog_designs.specs.Expressions.{memory_if, is_outside, broken_bound, broken_range, broken_ports, targets_have_width, broken_target, broken_targets, by_constants, writes_memory, one_writes_memory, broken_net_target, judged_item, broken_items, broken_block_target, broken_statement, broken_statements, broken_arms, broken_event_list, broken_events, broken_assignments, broken_initial_values, broken_addresses, broken_module_item, broken_module_items}
-use Rattle.v_hier.specs.Instances.{is_part}
+use Rattle.verilog_designs.specs.Expressions.{memory_if, is_outside, broken_bound, broken_range, broken_ports, targets_have_width, broken_target, broken_targets, by_constants, writes_memory, one_writes_memory, broken_net_target, judged_item, broken_items, broken_block_target, broken_statement, broken_statements, broken_arms, broken_event_list, broken_events, broken_assignments, broken_initial_values, broken_addresses, broken_values, broken_width, broken_parameters, broken_header, broken_output, broken_connection, broken_connections, broken_instances, broken_named_values, broken_ordered_values, broken_overrides, broken_module_item, broken_module_items}
+use Rattle.verilog_designs.specs.Known.{as_bound, both_bounds, known_range_width, value_position}
+use Rattle.verilog_designs.specs.Ports.{is_output, port_direction}
+use Rattle.verilog_exists.proofs.Scopes.{SameIn}
 use Rattle.v_sound.specs.Alike.{IsNet, AreAlike, five}
-use Rattle.v_sound.proofs.Constants.{neither, net-in-constant, no-number, same-rules, same-number}
+use Rattle.v_sound.proofs.Constants.{net-within, net-in-constant, no-number, same-constant, same-rules, same-number}
 
 ap2 : {A B C : Type 0} (f : A → B → C) {a b : A} {c d : B} → a ≡ b → c ≡ d → f a c ≡ f b d
 ap2 f {a} {b} {c} {d} e g = ap (λ x. f x c) e ∙ ap (f b) g
@@ -300,16 +303,91 @@ module _ (s t : Scope) (w : Name → Bool) (same : (n : Name) → w n ≡ false 
   addresses-five [] = refl
   addresses-five (v ∷ vs) = ap2 also (range-five v.1) (addresses-five vs)
 
-  module _ (source : Source) where
-    item-five : (i : Item) → is_part i ≡ false → five (broken_module_item source s i) ≡ five (broken_module_item source t i)
-    item-five (port d) h = range-five d.range
-    item-five (parameter d) h = absurd (false≢true (sym h))
-    item-five (wires signed r ws) h = ap2 also (range-five r) (initial-five ws)
-    item-five (variables signed r vs) h = ap2 also (range-five r) (addresses-five vs)
-    item-five (assign xs) h = assignments-five xs
-    item-five (always es x) h = ap2 also (events-five es) (statement-five (is_clocked es) x)
-    item-five (instances m given is) h = absurd (false≢true (sym h))
+  -- ---- parameters
 
-    pub items-five : (items : List Item) → list_any is_part items ≡ false → five (broken_module_items source s items) ≡ five (broken_module_items source t items)
-    items-five [] h = refl
-    items-five (i ∷ items) h = ap2 also (item-five i (neither (is_part i) (list_any is_part items) h).0) (items-five items (neither (is_part i) (list_any is_part items) h).1)
+  range-width-alike : (r : Range) → known_range_width s r ≡ known_range_width t r
+  range-width-alike r = λ i. option_map (λ b. distance b.0 b.1 + 1) (both_bounds (as_bound (number-alike r.left i)) (as_bound (number-alike r.right i)))
+
+  net-in-value : (q : Scope) → ((n : Name) → w n ≡ true → IsNet (q n)) → (r : Option Range) (e : Expression) → list_any w (names_in e) ≡ true → (broken q (value_position q r e) e).bad_constant ≡ true
+  net-in-value q nets None e h = net-in-constant q w nets e h
+  net-in-value q nets (Some r) e h = net-within q w nets e h (wider (known_range_width q r) (some_if (has_width q e) (width_of q e))) (sign_of q e)
+
+  same-value : (r : Option Range) (e : Expression) → list_any w (names_in e) ≡ false → broken s (value_position s r e) e ≡ broken t (value_position t r e) e
+  same-value None e h = same-rules s t w same e h
+  same-value (Some r) e h =
+      let q : SameIn s t e = same-constant s t w same e h in
+      q.rules (value_position s (Some r) e) ∙ (λ i. broken t (constant (wider (range-width-alike r i) (some_if (q.has i) (q.width i))) (q.sign i)) e)
+
+  value-bad : (r : Option Range) (e : Expression) → (broken s (value_position s r e) e).bad_constant ≡ (broken t (value_position t r e) e).bad_constant
+  value-bad r e = (elim (list_any w (names_in e)) as (λ b. list_any w (names_in e) ≡ b → (broken s (value_position s r e) e).bad_constant ≡ (broken t (value_position t r e) e).bad_constant) [
+    | true ↦ λ h. net-in-value s nets-left r e h ∙ sym (net-in-value t nets-right r e h)
+    | false ↦ λ h. ap (λ (b : Broken). b.bad_constant) (same-value r e h)
+  ]) refl
+
+  value-five : (r : Option Range) (e : Expression) → five (broken s (value_position s r e) e) ≡ five (broken t (value_position t r e) e)
+  value-five r e = λ i. record (expression-four e (value_position s r e) (value_position t r e) i) { bad_constant = value-bad r e i }
+
+  all-values-five : (r : Option Range) (vs : List (Name × Expression)) → five (broken_values s r vs) ≡ five (broken_values t r vs)
+  all-values-five r [] = refl
+  all-values-five r (v ∷ vs) = ap2 also (value-five r v.1) (all-values-five r vs)
+
+  width-five : (r : Option Range) → five (broken_width s r) ≡ five (broken_width t r)
+  width-five None = refl
+  width-five (Some r) = refl
+
+  parameters-five : (d : ParameterDeclaration) → five (broken_parameters s d) ≡ five (broken_parameters t d)
+  parameters-five d = ap2 also (range-five d.range) (ap2 also (width-five d.range) (all-values-five d.range d.values))
+
+  pub header-five : (ds : List ParameterDeclaration) → five (broken_header s ds) ≡ five (broken_header t ds)
+  header-five [] = refl
+  header-five (d ∷ ds) = ap2 also (parameters-five d) (header-five ds)
+
+  -- ---- instances
+
+  named-five : (cs : List (Name × Option Expression)) → five (broken_named_values s cs) ≡ five (broken_named_values t cs)
+  named-five [] = refl
+  named-five ((n, None) ∷ cs) = named-five cs
+  named-five ((n, Some e) ∷ cs) = ap2 also (constant-five e) (named-five cs)
+
+  ordered-five : (es : List (Option Expression)) → five (broken_ordered_values s es) ≡ five (broken_ordered_values t es)
+  ordered-five [] = refl
+  ordered-five (None ∷ es) = ordered-five es
+  ordered-five (Some e ∷ es) = ap2 also (constant-five e) (ordered-five es)
+
+  overrides-five : (given : Connections) → five (broken_overrides s given) ≡ five (broken_overrides t given)
+  overrides-five (by_names cs) = named-five cs
+  overrides-five (by_order es) = ordered-five es
+
+  -- an expression that is connected to an output, where b holds
+  connected-five : (b : Bool) (e : Expression) (x : Option Target) → five (cond b (broken_output s e x) (broken s anywhere e)) ≡ five (cond b (broken_output t e x) (broken t anywhere e))
+  connected-five true e None = expression-five e
+  connected-five true e (Some x) = net-five by_constants selects-constant x
+  connected-five false e x = expression-five e
+
+  connection-five : (below : Option Module) (c : Connection) → five (broken_connection s below c) ≡ five (broken_connection t below c)
+  connection-five None c = expression-five c.expression
+  connection-five (Some below) c = connected-five (is_output (port_direction below (port_meant below c.to_port))) c.expression (as_target c.expression)
+
+  connections-five : (below : Option Module) (cs : List Connection) → five (broken_connections s below cs) ≡ five (broken_connections t below cs)
+  connections-five below [] = refl
+  connections-five below (c ∷ cs) = ap2 also (connection-five below c) (connections-five below cs)
+
+  instances-five : (below : Option Module) (is : List (Name × Connections)) → five (broken_instances s below is) ≡ five (broken_instances t below is)
+  instances-five below [] = refl
+  instances-five below (i ∷ is) = ap2 also (connections-five below (instance_connections i.0 i.1)) (instances-five below is)
+
+  -- ---- all items
+
+  module _ (source : Source) where
+    item-five : (i : Item) → five (broken_module_item source s i) ≡ five (broken_module_item source t i)
+    item-five (port d) = range-five d.range
+    item-five (parameter d) = parameters-five d
+    item-five (wires signed r ws) = ap2 also (range-five r) (initial-five ws)
+    item-five (variables signed r vs) = ap2 also (range-five r) (addresses-five vs)
+    item-five (assign xs) = assignments-five xs
+    item-five (always es x) = ap2 also (events-five es) (statement-five (is_clocked es) x)
+    item-five (instances m given is) = ap2 also (overrides-five given) (instances-five (module_named source m) is)
+
+    pub items-five : (items : List Item) → five (broken_module_items source s items) ≡ five (broken_module_items source t items)
+    items-five [] = refl
+    items-five (i ∷ items) = ap2 also (item-five i) (items-five items)

@@ -10,7 +10,6 @@ ghost use Rattle.verilog_rules.specs.Expression.{Position, anywhere, broken, is_
 ghost use Rattle.verilog_designs.specs.Constants.{constant_names_in_module_items};
 ghost use Rattle.verilog_designs.specs.Known.{known_scope};
 ghost use Rattle.verilog_designs.specs.Expressions.{by_constants, broken_target, broken_net_target, broken_statement, broken_assignments, broken_module_item, broken_module_items, broken_module};
-ghost use Rattle.v_hier.specs.Instances.{is_part};
 ghost use Rattle.v_value.specs.Narrow.{IsNarrow, HasNarrowObjects};
 ghost use Rattle.v_flow.specs.Narrow.{HasNarrowParts, IsNarrowFlow};
 ghost use Rattle.v_sound.specs.Alike.{IsNet, AreAlike, five};
@@ -58,14 +57,14 @@ pub fn narrow_statements()
 /// one in which they are narrow.
 pub fn rules_but_widths()
     ensures { (s t : Scope) (other : Name → Bool) → ((n : Name) → other n ≡ false → s n ≡ t n) → ((n : Name) → other n ≡ true → IsNet (s n)) → ((n : Name) → other n ≡ true → IsNet (t n))
-        → ((n : Name) → AreAlike (s n) (t n)) → (source : Source) (items : List Item) → list_any is_part items ≡ false
+        → ((n : Name) → AreAlike (s n) (t n)) → (source : Source) (items : List Item)
         → five (broken_module_items source s items) ≡ five (broken_module_items source t items) }
 {}
 
 /// Where some names are nets in a second scope, that one of them stands where a constant must is told by the rule on constants in
 /// both. So it is found without a walk of its own, also of names that are not declared in the first, since their ranges have no values.
 pub fn nets_as_constants()
-    ensures { (s t : Scope) (net : Name → Bool) → ((n : Name) → net n ≡ false → s n ≡ t n) → ((n : Name) → net n ≡ true → IsNet (t n)) → (source : Source) (items : List Item) → list_any is_part items ≡ false
+    ensures { (s t : Scope) (net : Name → Bool) → ((n : Name) → net n ≡ false → s n ≡ t n) → ((n : Name) → net n ≡ true → IsNet (t n)) → (source : Source) (items : List Item)
         → ((broken_module_items source s items).bad_constant || (broken_module_items source t items).bad_constant)
         ≡ ((broken_module_items source s items).bad_constant || list_any net (constant_names_in_module_items source items)) }
 {}

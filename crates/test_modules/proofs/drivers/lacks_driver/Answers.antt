@@ -8,9 +8,9 @@ use Rattle.test_modules.proofs.drivers.lacks_driver.Goals as goal
 pub has_undriven-requires-clause-targets : goal.has_undriven-requires-clause-targets
 has_undriven-requires-clause-targets c =
     items-narrow [] (scope_at c.args.names.scope.now) c.args.names.narrow (map item_of c.args.items.now)
-    (sym (ap unbroken (c.items_rules-broken.ensures [] c.requires.alone)) ∙ sym c.is_unbroken.ensures ∙ c.if-not-is_unbroken.false)
+    (sym (ap unbroken (c.items_rules-broken.ensures.alone [] c.requires.alone)) ∙ sym c.is_unbroken.ensures ∙ c.if-not-is_unbroken.false)
 
 pub has_undriven-requires-clause-values : goal.has_undriven-requires-clause-values
 has_undriven-requires-clause-values c =
     reads-narrow [] (scope_at c.args.names.scope.now) c.args.names.narrow (map item_of c.args.items.now)
-    (sym (ap unbroken (c.items_rules-broken.ensures [] c.requires.alone)) ∙ sym c.is_unbroken.ensures ∙ c.if-not-is_unbroken.false)
+    (sym (ap unbroken (c.items_rules-broken.ensures.alone [] c.requires.alone)) ∙ sym c.is_unbroken.ensures ∙ c.if-not-is_unbroken.false)

@@ -8,4 +8,4 @@ use Rattle.test_modules.proofs.loops.items_loop.Goals as goal
 pub has_loop-requires-clause-fit : goal.has_loop-requires-clause-fit
 has_loop-requires-clause-fit c =
     items-runnable [] (scope_at c.args.names.scope.now) c.args.names.narrow (map item_of c.args.items.now) c.requires.plain
-    (sym (ap unbroken (c.items_rules-broken.ensures [] c.requires.alone)) ∙ sym c.is_unbroken.ensures ∙ c.if-not-is_unbroken.false)
+    (sym (ap unbroken (c.items_rules-broken.ensures.alone [] c.requires.alone)) ∙ sym c.is_unbroken.ensures ∙ c.if-not-is_unbroken.false)

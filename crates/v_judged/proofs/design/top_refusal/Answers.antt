@@ -16,65 +16,65 @@ pub blocks_refusal-requires-clause-objects : goal.blocks_refusal-requires-clause
 blocks_refusal-requires-clause-objects c =
     let m = module_of c.args.within.now in
     let d = c.requires.0 in
-    let none = subst (IsFirst d rule_kinds) (none_is c.in_ok-rules.rules (sym c.is_some.ensures ∙ c.if-is_some.false)) (c.in_ok-rules.ensures d c.requires.1) in
+    let none = subst (IsFirst d rule_kinds) (none_is c.in_ok-rules.rules (sym c.is_some.ensures ∙ c.if-is_some.false)) (c.in_ok-rules.ensures d c.requires.1 c.requires.2) in
     objects_at d m c.requires.1 none (scope_at c.in_ok-scope.scope) (c.in_ok-scope.ensures ∙ c.in_ok-names.ensures.scope)
 
 pub blocks_refusal-requires-clause-fit : goal.blocks_refusal-requires-clause-fit
 blocks_refusal-requires-clause-fit c =
     let m = module_of c.args.within.now in
     let d = c.requires.0 in
-    let none = subst (IsFirst d rule_kinds) (none_is c.in_ok-rules.rules (sym c.is_some.ensures ∙ c.if-is_some.false)) (c.in_ok-rules.ensures d c.requires.1) in
+    let none = subst (IsFirst d rule_kinds) (none_is c.in_ok-rules.rules (sym c.is_some.ensures ∙ c.if-is_some.false)) (c.in_ok-rules.ensures d c.requires.1 c.requires.2) in
     fit_at d m c.requires.1 none (scope_at c.in_ok-scope.scope) (c.in_ok-scope.ensures ∙ c.in_ok-names.ensures.scope)
 
 pub blocks_refusal-requires-clause-same : goal.blocks_refusal-requires-clause-same
 blocks_refusal-requires-clause-same c =
     let m = module_of c.args.within.now in
     let d = c.requires.0 in
-    let none = subst (IsFirst d rule_kinds) (none_is c.in_ok-rules.rules (sym c.is_some.ensures ∙ c.if-is_some.false)) (c.in_ok-rules.ensures d c.requires.1) in
+    let none = subst (IsFirst d rule_kinds) (none_is c.in_ok-rules.rules (sym c.is_some.ensures ∙ c.if-is_some.false)) (c.in_ok-rules.ensures d c.requires.1 c.requires.2) in
     c.in_ok-scope.ensures ∙ c.in_ok-names.ensures.scope ∙ scope_so d m c.requires.1 none
 
 pub drivers_refusal-requires-clause-objects : goal.drivers_refusal-requires-clause-objects
 drivers_refusal-requires-clause-objects c =
     let m = module_of c.args.within.now in
     let d = c.requires.0 in
-    let none = subst (IsFirst d rule_kinds) (none_is c.in_ok-rules.rules (sym c.is_some.ensures ∙ c.if-is_some.false)) (c.in_ok-rules.ensures d c.requires.1) in
+    let none = subst (IsFirst d rule_kinds) (none_is c.in_ok-rules.rules (sym c.is_some.ensures ∙ c.if-is_some.false)) (c.in_ok-rules.ensures d c.requires.1 c.requires.2) in
     objects_at d m c.requires.1 none (scope_at c.in_ok-scope.scope) (c.in_ok-scope.ensures ∙ c.in_ok-names.ensures.scope)
 
 pub drivers_refusal-requires-clause-targets : goal.drivers_refusal-requires-clause-targets
 drivers_refusal-requires-clause-targets c =
     let m = module_of c.args.within.now in
     let d = c.requires.0 in
-    let none = subst (IsFirst d rule_kinds) (none_is c.in_ok-rules.rules (sym c.is_some.ensures ∙ c.if-is_some.false)) (c.in_ok-rules.ensures d c.requires.1) in
+    let none = subst (IsFirst d rule_kinds) (none_is c.in_ok-rules.rules (sym c.is_some.ensures ∙ c.if-is_some.false)) (c.in_ok-rules.ensures d c.requires.1 c.requires.2) in
     subst (λ xs. AreNarrowItems (scope_at c.in_ok-scope.scope) (map item_of xs)) (sym c.deref.ensures.value) (narrow_at d m c.requires.1 none (scope_at c.in_ok-scope.scope) (c.in_ok-scope.ensures ∙ c.in_ok-names.ensures.scope))
 
 pub drivers_refusal-requires-clause-values : goal.drivers_refusal-requires-clause-values
 drivers_refusal-requires-clause-values c =
     let m = module_of c.args.within.now in
     let d = c.requires.0 in
-    let none = subst (IsFirst d rule_kinds) (none_is c.in_ok-rules.rules (sym c.is_some.ensures ∙ c.if-is_some.false)) (c.in_ok-rules.ensures d c.requires.1) in
+    let none = subst (IsFirst d rule_kinds) (none_is c.in_ok-rules.rules (sym c.is_some.ensures ∙ c.if-is_some.false)) (c.in_ok-rules.ensures d c.requires.1 c.requires.2) in
     subst (λ xs. AreNarrowReads (scope_at c.in_ok-scope.scope) (map item_of xs)) (sym c.deref.ensures.value) (reads_at d m c.requires.1 none (scope_at c.in_ok-scope.scope) (c.in_ok-scope.ensures ∙ c.in_ok-names.ensures.scope))
 
 pub drivers_refusal-requires-clause-runnable : goal.drivers_refusal-requires-clause-runnable
 drivers_refusal-requires-clause-runnable c =
     let m = module_of c.args.within.now in
     let d = c.requires.0 in
-    let none = subst (IsFirst d rule_kinds) (none_is c.in_ok-rules.rules (sym c.is_some.ensures ∙ c.if-is_some.false)) (c.in_ok-rules.ensures d c.requires.1) in
+    let none = subst (IsFirst d rule_kinds) (none_is c.in_ok-rules.rules (sym c.is_some.ensures ∙ c.if-is_some.false)) (c.in_ok-rules.ensures d c.requires.1 c.requires.2) in
     subst (λ xs. IsRunnable (scope_at c.in_ok-scope.scope) (map item_of xs)) (sym c.deref.ensures.value) (runnable_at d m c.requires.1 none (scope_at c.in_ok-scope.scope) (c.in_ok-scope.ensures ∙ c.in_ok-names.ensures.scope))
 
 pub returns-then-is_some : goal.returns-then-is_some
-returns-then-is_some c = λ d h k.
-    kept d rule_kinds (block_kinds ++ driver_kinds) c.in_ok-rules.rules (sym c.is_some.ensures ∙ c.if-is_some.true) (c.in_ok-rules.ensures d h)
+returns-then-is_some c = λ d h i k.
+    kept d rule_kinds (block_kinds ++ driver_kinds) c.in_ok-rules.rules (sym c.is_some.ensures ∙ c.if-is_some.true) (c.in_ok-rules.ensures d h i)
 
 pub returns-then-is_some-2 : goal.returns-then-is_some-2
-returns-then-is_some-2 c = λ d h k.
-    let none = subst (IsFirst d rule_kinds) (none_is c.in_ok-rules.rules (sym c.is_some.ensures ∙ c.if-is_some.false)) (c.in_ok-rules.ensures d h) in
+returns-then-is_some-2 c = λ d h i k.
+    let none = subst (IsFirst d rule_kinds) (none_is c.in_ok-rules.rules (sym c.is_some.ensures ∙ c.if-is_some.false)) (c.in_ok-rules.ensures d h i) in
     joined d rule_kinds (block_kinds ++ driver_kinds) c.in_ok-blocks.blocks none
     (kept d block_kinds driver_kinds c.in_ok-blocks.blocks (sym c.is_some-2.ensures ∙ c.if-is_some-2.true) (c.in_ok-blocks.ensures d h k))
 
 pub returns : goal.returns
-returns c = λ d h k.
+returns c = λ d h i k.
     let m = module_of c.args.within.now in
-    let none = subst (IsFirst d rule_kinds) (none_is c.in_ok-rules.rules (sym c.is_some.ensures ∙ c.if-is_some.false)) (c.in_ok-rules.ensures d h) in
+    let none = subst (IsFirst d rule_kinds) (none_is c.in_ok-rules.rules (sym c.is_some.ensures ∙ c.if-is_some.false)) (c.in_ok-rules.ensures d h i) in
     let clear = subst (IsFirst d block_kinds) (none_is c.in_ok-blocks.blocks (sym c.is_some-2.ensures ∙ c.if-is_some-2.false)) (c.in_ok-blocks.ensures d h k) in
     joined d rule_kinds (block_kinds ++ driver_kinds) c.in_ok-drivers.drivers none
     (joined d block_kinds driver_kinds c.in_ok-drivers.drivers clear
