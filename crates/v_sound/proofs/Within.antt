@@ -1,5 +1,5 @@
 -- What the rules say of a module says as much of each of its parts.
-use Rattle.std.proofs.Common.{◌≡◌, ◌≤◌, sym, subst, ◌∙◌, true, ◌&&◌, List, [], ◌∷◌, inl, inr}
+use Rattle.std.proofs.Common.{◌≡◌, ◌≤◌, sym, subst, true, List, [], ◌∷◌, inl, inr}
 use Rattle.std.specs.Prelude.{Contains}
 use Rattle.verilog_trees.specs.Syntax.{Expression, Target, Item, Module, Source}
 use Rattle.verilog_meaning.specs.Expression.{Scope}
