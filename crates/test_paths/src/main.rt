@@ -13,6 +13,7 @@ ghost use Rattle.v_paths.specs.Modules.{AreFitItems};
 
 use crate::fit::{are_no_memories, items_fit};
 use std::alloc::{AllocError, Global};
+use std::collections::BTreeSet;
 use std::{fs, io};
 use v_hier::top_of;
 use v_lex::tokens;
@@ -93,7 +94,9 @@ fn kinds(alloc: Global, scope: &Scope<'_>, items: &[Item<'_>]) -> Result<String,
     requires objects { HasNarrowObjects (scope_at scope.now) }
     requires fit { AreFitItems (scope_at scope.now) (map item_of items.now) }
 {
-    let bad = has_bad_event_list(alloc, scope, "c", items)?;
+    let mut clocks = BTreeSet::new(alloc);
+    clocks.insert("c")?;
+    let bad = has_bad_event_list(alloc, scope, &clocks, items)?;
     let latched = has_latch(alloc, scope, items)?;
     words_of(alloc, bad, latched)
 }

@@ -40,8 +40,10 @@ use Rattle.v_judged.specs.Laws.{IsReady}
 use Rattle.v_judged.specs.Tops.{IsTopOf}
 use Rattle.v_elab.specs.Names.{is_input_row, is_data_input, is_data_port}
 use Rattle.v_elab.specs.Elaborated.{scope, clocked}
-use Rattle.v_elab.specs.Elaborable.{IsElaborable}
-use Rattle.v_elab.proofs.Given.{AreInputsOf}
+use Rattle.v_elab.specs.Elaborable.{IsElaborableModule}
+use Rattle.v_elab.proofs.Whole.{AreInputsOf}
+use Rattle.v_elab.proofs.Lowering.{declared_name}
+use Rattle.v_elab.proofs.Choosing.{once_distinct}
 use Rattle.v_elab.proofs.Small.{small_in}
 
 -- ---- inputs
@@ -143,18 +145,22 @@ module _ (d : Design) (m : Module) (clear : IsReady d m) (accepted : IsAccepted 
           absurd (accepted blocking_in_clocked (record { place = alone m; statement = o.element; is_placed = clear.top; stands = o.stands; blocks = o.so }))
       by false e = refl
 
-  pub can_be_elaborated : UnbrokenIsSound → AcceptedIsEvaluable → LoopsOfOneModule d m → IsElaborable m (is_data_port m d.clock)
+  pub can_be_elaborated : UnbrokenIsSound → AcceptedIsEvaluable → LoopsOfOneModule d m → IsElaborableModule m (is_data_port m d.clock)
   can_be_elaborated law evaluable loops =
       record {
         same_scope = clear.same_scope;
-        objects = clear.objects;
-        small = small_in m (scope m) clear.same_scope;
-        narrow = clear.narrow.clocked;
-        evaluable = evaluable d m clear.top but_loops shapely clear.objects clear.unbroken clear.runnable;
-        sound = items_sound law d.source (scope m) clear.objects (no_parameter m) m.items clear.unbroken;
-        waits = none_blocks;
-        no_loop = λ h. accepted comb_loop (loops.1 h);
-        apart = no_register;
+        elaborable = record {
+          objects = clear.objects;
+          small = small_in m (scope m) clear.same_scope;
+          narrow = clear.narrow.clocked;
+          evaluable = evaluable d m clear.top but_loops shapely clear.objects clear.unbroken clear.runnable;
+          sound = items_sound law d.source (scope m) clear.objects (no_parameter m) m.items clear.unbroken;
+          waits = none_blocks;
+          no_loop = λ h. accepted comb_loop (loops.1 h);
+          distinct = once_distinct _;
+          all_declared = λ n h c. declared_name m n (and_parts (scope m n).is_declared _ h).0;
+          apart = no_register;
+        };
       }
 
 -- ---- the top of an accepted design

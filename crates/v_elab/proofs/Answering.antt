@@ -11,13 +11,13 @@ use Rattle.v_hier.specs.Instances.{has_parts, module_has_parts}
 use Rattle.v_scopes.specs.Ports.{alone}
 use Rattle.v_write.specs.Soundness.{UnbrokenIsSound}
 use Rattle.v_loops.specs.OneModule.{HasLoopIn}
-use Rattle.v_settle.specs.Designs.{SettlesFromOutside, NoParameterIsMemory, AcceptedIsEvaluable}
+use Rattle.v_settle.specs.Designs.{NoParameterIsMemory, AcceptedIsEvaluable}
 use Rattle.v_design.specs.Parts.{Parts}
-use Rattle.v_design.specs.Design.{IsDesignOf}
+use Rattle.v_design.specs.Design.{outputs_of, IsDesignOf}
 use Rattle.v_judged.specs.Laws.{IsReady, AcceptedIsReady}
 use Rattle.v_elab.specs.Names.{is_data_port}
-use Rattle.v_elab.specs.Elaborable.{IsElaborable}
-use Rattle.v_elab.specs.Elaborated.{IsElaborated}
+use Rattle.v_elab.specs.Elaborable.{IsElaborableModule}
+use Rattle.v_elab.specs.Elaborated.{IsElaborated, body_of}
 use Rattle.v_elab.proofs.Accepted.{is_top_of, inputs_of_top, can_be_elaborated}
 use Rattle.v_elab.proofs.Whole as whole
 
@@ -31,9 +31,9 @@ module _ (ready : AcceptedIsReady) (d : Design) (m : Module) (no_parts : has_par
   clear : IsReady d m
   clear = ready d m (is_top_of d m no_parts accepted shapely e) accepted
 
-  pub elaborable : UnbrokenIsSound → AcceptedIsEvaluable → HasLoopsOfModules → IsElaborable m (is_data_port m d.clock)
+  pub elaborable : UnbrokenIsSound → AcceptedIsEvaluable → HasLoopsOfModules → IsElaborableModule m (is_data_port m d.clock)
   elaborable sound evaluable loops = can_be_elaborated d m clear accepted shapely sound evaluable (loops d m clear.whole clear.own clear.top)
 
-  pub is_answer : SettlesFromOutside → NoParameterIsMemory → (p : Parts) → IsElaborated m (is_data_port m d.clock) p → IsDesignOf d p
-  is_answer settles none p x =
-      whole.is_design d m (is_data_port m d.clock) clear.whole clear.own clear.top clear.placed (none d (alone m) clear.top) settles (inputs_of_top d m clear accepted shapely) p x
+  pub is_answer : NoParameterIsMemory → (p : Parts) → IsElaborated (body_of m) (is_data_port m d.clock) (outputs_of m) p → IsDesignOf d p
+  is_answer none p x =
+      whole.is_design d m (is_data_port m d.clock) clear.whole clear.own clear.top clear.placed (none d (alone m) clear.top) (inputs_of_top d m clear accepted shapely) p x

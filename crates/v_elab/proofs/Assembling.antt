@@ -7,9 +7,9 @@ use Rattle.std.proofs.lemmas.Nat.{shr_split}
 use Rattle.std.proofs.lemmas.Nat.Bits.{bit_at-lt, bit_at_above, bit_at_cat_low, same_from_bits}
 use Rattle.wb_values.specs.Value.{Name, Sort, truth, word, memory, all_below, Entries, entry_of}
 use Rattle.model_meaning.specs.Term.{sort_of, same_sort}
-use Rattle.verilog_trees.specs.Syntax.{Statement, Module}
+use Rattle.verilog_trees.specs.Syntax.{Statement}
 use Rattle.verilog_meaning.specs.Expression.{Object, Scope, object_width, is_memory}
-use Rattle.verilog_meaning.specs.Register.{word_count, words_between, is_set, is_bit_of, counts, one_may_assign}
+use Rattle.verilog_meaning.specs.Register.{word_count, words_between, is_set, is_bit_of, counts, one_may_assign, clocked_blocks}
 use Rattle.verilog_designs.specs.Names.{is_among}
 use Rattle.verilog_unique.proofs.Descent.{IsAmong}
 use Rattle.wb_terms.specs.Graph.{Graph, tree, HasDistinctNames}
@@ -18,15 +18,14 @@ use Rattle.v_lower.specs.Lowered.{Images, IsSortOf, IsImage}
 use Rattle.v_edge.specs.Edge.{AreUpdated}
 use Rattle.v_design.specs.Registers.{CountedBits}
 use Rattle.v_design.specs.Parts.{Parts, has_sort, is_term_of, are_terms_of, is_within, is_word, are_words, are_bits_of, are_bits_for}
-use Rattle.v_design.specs.Design.{outputs_of}
 use Rattle.v_registers.specs.Registers.{IsRegister, AreMasks, Counted}
 use Rattle.v_elab.specs.Names.{AreEntriesOf, AreDistinct, ArePlain, HasSmallAddresses, HaveTerms, chosen}
-use Rattle.v_elab.specs.Elaborated.{IsElaborated, scope, clocked, declared, register_names, bits_of, settled_at}
+use Rattle.v_elab.specs.Elaborated.{Body, IsElaborated, register_names, bits_of, settled_at}
 use Rattle.v_elab.specs.Begun.{IsLowered}
 use Rattle.v_elab.proofs.Entries.{first_entries, last_entries, not_named}
 use Rattle.v_elab.proofs.Once.{test_among, found}
 use Rattle.v_elab.proofs.Sorts.{same_sorts, all_narrow}
-use Rattle.v_elab.proofs.Choosing.{once_distinct, store_distinct, chosen_plain}
+use Rattle.v_elab.proofs.Choosing.{store_distinct, chosen_plain}
 use Rattle.v_elab.proofs.Starting.{AreRegistersOf, AreUncounted, registers_of_split}
 
 -- ---- tests
@@ -195,40 +194,34 @@ many_names : (cs : List Counted) → length (register_names cs) ≡ length cs
 many_names [] = refl
 many_names (c ∷ cs) = ap suc (many_names cs)
 
--- ---- what the code's tables and lists say, for the module
+-- ---- what the code's tables and lists say
 
 pub some_of : (ids : List TermId) → map (λ (i : ℕ). Some i) (map (λ (id : TermId). id.0) ids) ≡ map (λ (id : TermId). Some id.0) ids
 some_of [] = refl
 some_of (id ∷ ids) = ap (λ xs. Some id.0 ∷ xs) (some_of ids)
 
-pub settled_same : (m : Module) (s : Scope) (ds : List Name) (after : Images) (n : Name) (o : Option ℕ) → s ≡ scope m → ds ≡ declared m
-    → o ≡ cond (is_among ds n && not (is_memory (s n))) (after n) None → o ≡ settled_at m after n
-settled_same m s ds after n o e d h =
-    h
-    ∙ ap (λ (z : Scope). cond (is_among ds n && not (is_memory (z n))) (after n) None) e
-    ∙ ap (λ z. cond (is_among z n && not (is_memory (scope m n))) (after n) None) d
+pub settled_same : (b : Body) (ds : List Name) (after : Images) (n : Name) (o : Option ℕ) → ds ≡ b.declared
+    → o ≡ cond (is_among ds n && not (is_memory (b.scope n))) (after n) None → o ≡ settled_at b after n
+settled_same b ds after n o d h = h ∙ ap (λ z. cond (is_among z n && not (is_memory (b.scope n))) (after n) None) d
 
-pub bits_same : (m : Module) (s : Scope) (cs : List Counted) (bits : List CountedBits) → s ≡ scope m → bits ≡ map (bits_of s) cs → bits ≡ map (bits_of (scope m)) cs
-bits_same m s cs bits e h = h ∙ ap (λ (z : Scope). map (bits_of z) cs) e
+-- ---- what is lowered
 
--- ---- a lowered module
-
-module _ (m : Module) (f : Name → Bool) (cs : List Counted) (g : Graph) (after next : Images) (x : IsLowered m f cs g after next) where
+module _ (b : Body) (f : Name → Bool) (cs : List Counted) (g : Graph) (after next : Images) (x : IsLowered b f cs g after next) where
   same_store : g.names ≡ x.start.names
   same_store = x.grows_more.names ∙ x.grows.names
 
-  entries : AreEntriesOf (scope m) (register_names cs ++ chosen f x.has_begun.others) g.names
-  entries = subst (AreEntriesOf (scope m) (register_names cs ++ chosen f x.has_begun.others)) (sym same_store) x.has_begun.entries
+  entries : AreEntriesOf b.scope (register_names cs ++ chosen f x.has_begun.others) g.names
+  entries = subst (AreEntriesOf b.scope (register_names cs ++ chosen f x.has_begun.others)) (sym same_store) x.has_begun.entries
 
-  first_names : AreEntriesOf (scope m) (register_names cs) (take (length cs) g.names)
+  first_names : AreEntriesOf b.scope (register_names cs) (take (length cs) g.names)
   first_names =
-      subst (λ k. AreEntriesOf (scope m) (register_names cs) (take k g.names)) (many_names cs)
-      (first_entries (scope m) (register_names cs) (chosen f x.has_begun.others) g.names entries)
+      subst (λ k. AreEntriesOf b.scope (register_names cs) (take k g.names)) (many_names cs)
+      (first_entries b.scope (register_names cs) (chosen f x.has_begun.others) g.names entries)
 
-  last_names : AreEntriesOf (scope m) (chosen f x.has_begun.others) (drop (length cs) g.names)
+  last_names : AreEntriesOf b.scope (chosen f x.has_begun.others) (drop (length cs) g.names)
   last_names =
-      subst (λ k. AreEntriesOf (scope m) (chosen f x.has_begun.others) (drop k g.names)) (many_names cs)
-      (last_entries (scope m) (register_names cs) (chosen f x.has_begun.others) g.names entries)
+      subst (λ k. AreEntriesOf b.scope (chosen f x.has_begun.others) (drop k g.names)) (many_names cs)
+      (last_entries b.scope (register_names cs) (chosen f x.has_begun.others) g.names entries)
 
   -- registers have terms in the second table
   have_terms : (ks : List Counted) → ((n : Name) → IsAmong (register_names ks) n → is_some (next n) ≡ true) → HaveTerms next (register_names ks)
@@ -239,55 +232,55 @@ module _ (m : Module) (f : Name → Bool) (cs : List Counted) (g : Graph) (after
   next_terms =
       have_terms cs
       (λ n k. x.updated.names_next n ∙ x.has_begun.all_first n
-      ∙ test_among (declared m) n (found (scope m) (clocked m) (declared m) cs x.has_begun.others n x.has_begun.split k).name)
+      ∙ test_among b.declared n (found b.scope (clocked_blocks b.items) b.declared cs x.has_begun.others n x.has_begun.split k).name)
 
   pub counted_so : (k : ℕ) → k ≡ length cs → k ≤ length g.names
   counted_so k e =
-      let l : length g.names ≡ length (register_names cs ++ chosen f x.has_begun.others) = length_entries (scope m) (register_names cs ++ chosen f x.has_begun.others) g.names entries in
+      let l : length g.names ≡ length (register_names cs ++ chosen f x.has_begun.others) = length_entries b.scope (register_names cs ++ chosen f x.has_begun.others) g.names entries in
       let r : length cs ≤ length (register_names cs ++ chosen f x.has_begun.others) = long_so cs (chosen f x.has_begun.others) in
       omega (arith, e, l, r)
 
   pub terms_so : (k : ℕ) (ids : List ℕ) → k ≡ length cs → map (λ id. Some id) ids ≡ map next (register_names cs) → are_terms_of g (take k g.names) ids ≡ true
   terms_so k ids e h =
       ap (λ j. are_terms_of g (take j g.names) ids) e
-      ∙ terms_of (scope m) g next x.updated.known_next.image (take (length cs) g.names) (register_names cs) ids first_names h
+      ∙ terms_of b.scope g next x.updated.known_next.image (take (length cs) g.names) (register_names cs) ids first_names h
 
-  pub within_so : (o : Option ℕ) (n : Name) → o ≡ settled_at m after n → is_within g o ≡ true
-  within_so o n e = ap (is_within g) e ∙ by (is_among (declared m) n && not (is_memory (scope m n)))
+  pub within_so : (o : Option ℕ) (n : Name) → o ≡ settled_at b after n → is_within g o ≡ true
+  within_so o n e = ap (is_within g) e ∙ by (is_among b.declared n && not (is_memory (b.scope n)))
     where
       by : (t : Bool) → is_within g (cond t (after n) None) ≡ true
-      by true = inside (scope m) g after x.updated.known.image (after n) n refl
+      by true = inside b.scope g after x.updated.known.image (after n) n refl
       by false = refl
 
-  module _ (apart : (n : Name) → f n ≡ true → ¬ IsRegister (scope m) (clocked m) n) where
-    known : AreRegistersOf (scope m) (clocked m) f cs × AreUncounted (scope m) (clocked m) f x.has_begun.others
-    known = registers_of_split (scope m) (clocked m) f apart (declared m) cs x.has_begun.others x.has_begun.split
+  module _ (apart : (n : Name) → f n ≡ true → ¬ IsRegister b.scope (clocked_blocks b.items) n) where
+    known : AreRegistersOf b.scope (clocked_blocks b.items) f cs × AreUncounted b.scope (clocked_blocks b.items) f x.has_begun.others
+    known = registers_of_split b.scope (clocked_blocks b.items) f apart b.declared cs x.has_begun.others x.has_begun.split
 
-    pub bits_are : HasSmallAddresses (scope m) → (k : ℕ) (bits : List CountedBits) → k ≡ length cs → bits ≡ map (bits_of (scope m)) cs
+    pub bits_are : HasSmallAddresses b.scope → (k : ℕ) (bits : List CountedBits) → k ≡ length cs → bits ≡ map (bits_of b.scope) cs
         → are_bits_for (take k g.names) bits ≡ true
     bits_are small k bits e h =
         ap (λ j. are_bits_for (take j g.names) bits) e
         ∙ ap (are_bits_for (take (length cs) g.names)) h
-        ∙ bits_for (scope m) (clocked m) small f (take (length cs) g.names) cs first_names known.0
+        ∙ bits_for b.scope (clocked_blocks b.items) small f (take (length cs) g.names) cs first_names known.0
 
     pub words_are : (k : ℕ) → k ≡ length cs → are_words (drop k g.names) ≡ true
     words_are k e =
         ap (λ j. are_words (drop j g.names)) e
-        ∙ words_of (scope m) (drop (length cs) g.names) (chosen f x.has_begun.others) last_names (chosen_plain (scope m) (clocked m) f x.has_begun.others known.1)
+        ∙ words_of b.scope (drop (length cs) g.names) (chosen f x.has_begun.others) last_names (chosen_plain b.scope (clocked_blocks b.items) f x.has_begun.others known.1)
 
-  pub elaborated : (e : Parts) → e.graph ≡ g → e.register_count ≡ length cs → e.bits ≡ map (bits_of (scope m)) cs → e.outputs ≡ outputs_of m
-      → ((n : Name) → e.settled n ≡ settled_at m after n) → map (λ id. Some id) e.next ≡ map next (register_names cs) → IsElaborated m f e
-  elaborated e same count bits outputs settled terms =
+  pub elaborated : (e : Parts) (outputs : List Name) → AreDistinct b.declared → e.graph ≡ g → e.register_count ≡ length cs → e.bits ≡ map (bits_of b.scope) cs → e.outputs ≡ outputs
+      → ((n : Name) → e.settled n ≡ settled_at b after n) → map (λ id. Some id) e.next ≡ map next (register_names cs) → IsElaborated b f outputs e
+  elaborated e outputs distinct same count bits outputs_are settled terms =
       record {
-        distinct = distinct_of (scope m) e.graph.names (register_names cs ++ chosen f x.has_begun.others) stored
-            (store_distinct (scope m) (clocked m) f (declared m) cs x.has_begun.others x.has_begun.split (once_distinct _));
+        distinct = distinct_of b.scope e.graph.names (register_names cs ++ chosen f x.has_begun.others) stored
+            (store_distinct b.scope (clocked_blocks b.items) f b.declared cs x.has_begun.others x.has_begun.split distinct);
         registers = cs;
         others = x.has_begun.others;
         split = x.has_begun.split;
         entries = stored;
         counted = count;
         bits = bits;
-        outputs = outputs;
+        outputs_are = outputs_are;
         start = x.start;
         given = x.given;
         first = x.first;
@@ -301,10 +294,10 @@ module _ (m : Module) (f : Name → Bool) (cs : List Counted) (g : Graph) (after
         grows = x.grows;
         after = after;
         next = next;
-        updated = subst (AreUpdated (scope m) x.nets x.first x.middle (clocked m) after next) (sym same) x.updated;
+        updated = subst (AreUpdated b.scope x.nets x.first x.middle (clocked_blocks b.items) after next) (sym same) x.updated;
         settled = settled;
         next_terms = terms;
       }
     where
-      stored : AreEntriesOf (scope m) (register_names cs ++ chosen f x.has_begun.others) e.graph.names
-      stored = subst (λ (z : Graph). AreEntriesOf (scope m) (register_names cs ++ chosen f x.has_begun.others) z.names) (sym same) entries
+      stored : AreEntriesOf b.scope (register_names cs ++ chosen f x.has_begun.others) e.graph.names
+      stored = subst (λ (z : Graph). AreEntriesOf b.scope (register_names cs ++ chosen f x.has_begun.others) z.names) (sym same) entries

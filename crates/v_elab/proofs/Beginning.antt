@@ -29,10 +29,6 @@ entered_names s (r ∷ rs) a n g b k h (c, l, i, one, rest) = entered_names s rs
 pub same_rows : (s : Scope) (rs ts : List Row) → rs ≡ ts → (a n : Images) (g : Graph) (b k : Images) (h : Graph) → AreEntered s rs a n g b k h → AreEntered s ts a n g b k h
 same_rows s rs ts e a n g b k h x = subst (λ us. AreEntered s us a n g b k h) e x
 
-pub same_begun : (s t : Scope) (q : List Statement) (f : Name → Bool) (ds : List Name) (cs : List Counted) (xs os : List Name) → s ≡ t
-    → AreSorted s q f ds cs xs os → AreSorted t q f ds cs xs os
-same_begun s t q f ds cs xs os e x = subst (λ z. AreSorted z q f ds cs xs os) e x
-
 module _ (s : Scope) (q : List Statement) (f : Name → Bool) (ds : List Name) (cs : List Counted) (xs os : List Name) (x : AreSorted s q f ds cs xs os)
     (apart : (n : Name) → f n ≡ true → ¬ IsRegister s q n) where
   known : AreRegistersOf s q f cs × AreUncounted s q f x.all

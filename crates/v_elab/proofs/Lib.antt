@@ -6,6 +6,7 @@ pub mod Placing
 pub mod Ordered
 pub mod Sorts
 pub mod Updates
+pub mod Cycled
 pub mod Whole
 pub mod Cutting
 pub mod Entering

@@ -1,7 +1,7 @@
--- What begins for a module's scope and names begins for the module, and what stands after it is lowered.
+-- What the code's scope and names stand for, and what stands when tables are filled.
 use Rattle.std.proofs.Common.{◌≡◌, ◌∙◌, refl, ap, sym, subst, Bool, true, false, cond, List, [], ◌∷◌, Option, Some, None, is_some, option_map}
 use Rattle.std.specs.Prelude.{◌||◌, IsTrue}
-use Rattle.std.proofs.lemmas.Bool.{and_parts, false≢true}
+use Rattle.std.proofs.lemmas.Bool.{false≢true}
 use Rattle.wb_values.specs.Value.{Name, same_name}
 use Rattle.verilog_trees.specs.Syntax.{Range, Item, Module}
 use Rattle.verilog_meaning.specs.Expression.{Scope, object_or_undeclared, scope_of}
@@ -13,18 +13,16 @@ use Rattle.verilog_registers.specs.Order.{placed_among}
 use Rattle.wb_terms.specs.Graph.{Graph}
 use Rattle.v_scopes.specs.declared.table.ModuleScope.{ModuleScope}
 use Rattle.v_scopes.specs.Rows.{rows_of}
-use Rattle.v_lower.specs.Lowered.{Images, HasImages, has_sort}
+use Rattle.v_lower.specs.Lowered.{Images, HasImages}
 use Rattle.v_ports.specs.Ports.{IsScopeOf}
-use Rattle.v_settle.specs.OneModule.{IsEvaluated}
-use Rattle.v_edge.specs.Edge.{AreUpdated}
 use Rattle.v_registers.specs.Placed.{names_in_order}
 use Rattle.v_registers.specs.Registers.{Counted}
 use Rattle.v_elab.specs.Elaborable.{IsElaborable}
-use Rattle.v_elab.specs.Elaborated.{scope, clocked, names_in, declared}
-use Rattle.v_elab.specs.Begun.{CanBegin, HasBegun}
+use Rattle.v_design.specs.Parts.{Parts}
+use Rattle.v_elab.specs.Elaborated.{Body, body_in, scope, names_in, declared, body_of, IsElaborated}
+use Rattle.v_elab.specs.Begun.{HasBegun}
 use Rattle.v_elab.proofs.Once.{test_among, among_once, declared_among}
 use Rattle.v_elab.proofs.Placing.{in_order, declared_placed}
-use Rattle.v_elab.proofs.Small.{few_words}
 
 -- ---- names
 
@@ -48,51 +46,37 @@ declared_so (d ∷ ds) n h = by (same_name d.of_name n) h (declared_so ds n)
     by true h g = refl
     by false h g = g h
 
-declared_name : (m : Module) (n : Name) → (scope m n).is_declared ≡ true → is_among (declared m) n ≡ true
+pub declared_name : (m : Module) (n : Name) → (scope m n).is_declared ≡ true → is_among (declared m) n ≡ true
 declared_name m n h =
     test_among (declared m) n
     (among_once (names_in (placed_among (declarations m) (declarations m))) n
     (declared_placed (declarations m) n (declared_among (declarations m) n (declared_so (declarations m) n (sym (object_declared (declaration_of (declarations m) n)) ∙ h)))))
 
--- ---- what can begin
+-- what is elaborated for the scope, items and names that the code has of a module
+pub same_body : (m : Module) (s : Scope) (items : List Item) (ds : List Name) → s ≡ scope m → items ≡ m.items → ds ≡ declared m → body_in s items ds ≡ body_of m
+same_body m s items ds e i h = ap (λ t. body_in t items ds) e ∙ ap (λ xs. body_in (scope m) xs ds) i ∙ ap (body_in (scope m) m.items) h
 
-pub begins_with : (m : Module) (f g : Name → Bool) (s : Scope) (items : List Item) → s ≡ scope m → items ≡ m.items → g ≡ f → IsElaborable m f → CanBegin s (clocked_blocks items) g
-begins_with m f g s items e i h x =
-    subst (λ z. CanBegin z (clocked_blocks items) g) (sym e)
-    (subst (λ z. CanBegin (scope m) (clocked_blocks z) g) (sym i)
-    (subst (CanBegin (scope m) (clocked m)) (sym h) (record { narrow = λ n. (x.objects n).0; few = few_words (scope m) x.small; apart = x.apart })))
+pub elaborable_in : (b k : Body) (f g : Name → Bool) → b ≡ k → f ≡ g → IsElaborable k g → IsElaborable b f
+elaborable_in b k f g e h x = subst (IsElaborable b) (sym h) (subst (λ z. IsElaborable z g) (sym e) x)
 
-pub begun_with : (m : Module) (f g : Name → Bool) (s : Scope) (items : List Item) (ds : List Name) (cs : List Counted) (h : Graph) (a n : Images)
-    → s ≡ scope m → items ≡ m.items → g ≡ f → ds ≡ declared m → HasBegun s (clocked_blocks items) g ds cs h a n → HasBegun (scope m) (clocked m) f (declared m) cs h a n
-begun_with m f g s items ds cs h a n e i k d x =
-    subst (λ z. HasBegun (scope m) (clocked m) f z cs h a n) d
-    (subst (λ z. HasBegun (scope m) (clocked m) z ds cs h a n) k
-    (subst (λ z. HasBegun (scope m) (clocked_blocks z) g ds cs h a n) i (subst (λ z. HasBegun z (clocked_blocks items) g ds cs h a n) e x)))
+pub elaborated_in : (b k : Body) (f g : Name → Bool) (os ps : List Name) (e : Parts) → b ≡ k → f ≡ g → os ≡ ps → IsElaborated b f os e → IsElaborated k g ps e
+elaborated_in b k f g os ps e i h o x =
+    subst (λ z. IsElaborated k g z e) o (subst (λ z. IsElaborated k z os e) h (subst (λ z. IsElaborated z f os e) i x))
 
-module _ (m : Module) (f : Name → Bool) (cs : List Counted) (g : Graph) (a n : Images) (x : HasBegun (scope m) (clocked m) f (declared m) cs g a n) where
-  is_declared : (k : Name) → IsTrue (has_sort (scope m k)) → is_among (declared m) k ≡ true
-  is_declared k h = declared_name m k (and_parts (scope m k).is_declared _ h).0
+-- ---- what has begun
 
-  pub known : HasImages (scope m) a g
+module _ (b : Body) (f : Name → Bool) (cs : List Counted) (g : Graph) (a n : Images) (can : IsElaborable b f)
+    (x : HasBegun b.scope (clocked_blocks b.items) f b.declared cs g a n) where
+  pub known : HasImages b.scope a g
   known =
       record {
-        some = λ k h c. x.all_given k ∙ is_declared k h;
+        some = λ k h c. x.all_given k ∙ can.all_declared k h c;
         image = λ k id at. (x.is_start.image k id at).0;
       }
 
-  pub known_next : HasImages (scope m) n g
+  pub known_next : HasImages b.scope n g
   known_next =
       record {
-        some = λ k h c. x.all_first k ∙ is_declared k h;
+        some = λ k h c. x.all_first k ∙ can.all_declared k h c;
         image = λ k id at. (x.is_start.next_image k id at).0;
       }
-
--- what is evaluated and updated for the scope that the code has, and for the items that it reads
-pub evaluated_in : (m : Module) (s : Scope) (items : List Item) (a : Images) (g : Graph) (b : Images) (h : Graph) → s ≡ scope m → items ≡ m.items
-    → IsEvaluated s items a g b h → IsEvaluated (scope m) m.items a g b h
-evaluated_in m s items a g b h e i x = subst (λ z. IsEvaluated (scope m) z a g b h) i (subst (λ z. IsEvaluated z items a g b h) e x)
-
-pub updated_in : (m : Module) (s : Scope) (items : List Item) (a n : Images) (g : Graph) (b k : Images) (h : Graph) → s ≡ scope m → items ≡ m.items
-    → AreUpdated s a n g (clocked_blocks items) b k h → AreUpdated (scope m) a n g (clocked m) b k h
-updated_in m s items a n g b k h e i x =
-    subst (λ z. AreUpdated (scope m) a n g (clocked_blocks z) b k h) i (subst (λ z. AreUpdated z a n g (clocked_blocks items) b k h) e x)

@@ -1,8 +1,9 @@
 -- What stands when names are sorted, when the tables are filled, and when the module is lowered.
 use Rattle.std.specs.Prelude.{◌≡◌, ◌≤◌, Bool, true, ◌++◌, List, is_some}
 use Rattle.wb_values.specs.Value.{Name}
-use Rattle.verilog_trees.specs.Syntax.{Statement, Module}
+use Rattle.verilog_trees.specs.Syntax.{Statement}
 use Rattle.verilog_meaning.specs.Expression.{Scope, object_width}
+use Rattle.verilog_meaning.specs.Register.{clocked_blocks}
 use Rattle.verilog_designs.specs.Names.{is_among}
 use Rattle.wb_terms.specs.Graph.{Graph}
 use Rattle.v_operators.specs.Meaning.{Grows}
@@ -12,7 +13,7 @@ use Rattle.v_edge.specs.Edge.{AreUpdated}
 use Rattle.v_registers.specs.Registers.{IsRegister, Counted, AreSplit}
 use Rattle.v_elab.specs.Names.{AreEntriesOf, HasFewWords, chosen, left_out}
 use Rattle.v_elab.specs.Start.{IsStart}
-use Rattle.v_elab.specs.Elaborated.{scope, clocked, declared, register_names}
+use Rattle.v_elab.specs.Elaborated.{Body, register_names}
 
 -- Each name is among the registers, the inputs or the others; the store has the registers and then the inputs.
 pub record AreSorted (s : Scope) (q : List Statement) (f : Name → Bool) (ds : List Name) (cs : List Counted) (stored others : List Name) : Type 0 where
@@ -37,14 +38,14 @@ pub record HasBegun (s : Scope) (q : List Statement) (f : Name → Bool) (ds : L
   pub all_first : (m : Name) → is_some (n m) ≡ is_among ds m
 
 -- Nets have settled, and clocked blocks have run.
-pub record IsLowered (m : Module) (f : Name → Bool) (cs : List Counted) (g : Graph) (after next : Images) : Type 0 where
+pub record IsLowered (b : Body) (f : Name → Bool) (cs : List Counted) (g : Graph) (after next : Images) : Type 0 where
   pub start : Graph
   pub given : Images
   pub first : Images
-  pub has_begun : HasBegun (scope m) (clocked m) f (declared m) cs start given first
+  pub has_begun : HasBegun b.scope (clocked_blocks b.items) f b.declared cs start given first
   pub middle : Graph
   pub nets : Images
-  pub evaluated : IsEvaluated (scope m) m.items given start nets middle
+  pub evaluated : IsEvaluated b.scope b.items given start nets middle
   pub grows : Grows start middle
-  pub updated : AreUpdated (scope m) nets first middle (clocked m) after next g
+  pub updated : AreUpdated b.scope nets first middle (clocked_blocks b.items) after next g
   pub grows_more : Grows middle g

@@ -1,8 +1,8 @@
--- What a module is elaborated to: its registers and inputs as names of a store, tables of terms at the start, when nets have settled and
+-- What is elaborated, and to what: registers and inputs as names of a store, tables of terms at the start, when nets have settled and
 -- after the clock's edge, and the parts of a design that are taken from them.
 use Rattle.std.specs.Prelude.{◌≡◌, ℕ, Bool, cond, not, ◌&&◌, ◌++◌, min, List, [], map, length, Option, Some, None, is_some, option_map}
 use Rattle.wb_values.specs.Value.{Name}
-use Rattle.verilog_trees.specs.Syntax.{Statement, Module}
+use Rattle.verilog_trees.specs.Syntax.{Statement, Item, Module}
 use Rattle.verilog_meaning.specs.Expression.{Scope, is_memory}
 use Rattle.verilog_meaning.specs.Register.{clocked_blocks}
 use Rattle.verilog_meaning.specs.Hierarchy.{Declaration, declarations, module_scope}
@@ -15,13 +15,24 @@ use Rattle.v_settle.specs.OneModule.{IsEvaluated}
 use Rattle.v_edge.specs.Edge.{AreUpdated}
 use Rattle.v_design.specs.Registers.{CountedBits}
 use Rattle.v_design.specs.Parts.{Parts}
-use Rattle.v_design.specs.Design.{outputs_of}
 use Rattle.v_registers.specs.Once.{each_once}
 use Rattle.v_registers.specs.Registers.{Counted, AreSplit}
 use Rattle.v_elab.specs.Names.{AreEntriesOf, chosen}
 use Rattle.v_elab.specs.Start.{IsStart}
 
--- the scope of a module without parameters, and its clocked blocks
+-- What is elaborated: the scope of names, the items that drive them, and the nets and variables in the order in which registers are told:
+-- that of the text, those of an instance where it stands.
+pub record Body : Type 0 where
+  pub scope : Scope
+  pub items : List Item
+  pub declared : List Name
+
+abbrev pub body_in : Scope → List Item → List Name → Body
+body_in s items ds = record { scope = s; items = items; declared = ds }
+
+-- ---- a module without parameters
+
+-- its scope, and its clocked blocks
 abbrev pub scope : Module → Scope
 scope m = module_scope m []
 
@@ -35,6 +46,11 @@ names_in ds = map (λ d. d.of_name) ds
 abbrev pub declared : Module → List Name
 declared m = each_once (names_in (placed_among (declarations m) (declarations m)))
 
+abbrev pub body_of : Module → Body
+body_of m = body_in (scope m) m.items (declared m)
+
+-- ---- what it is elaborated to
+
 abbrev pub register_names : List Counted → List Name
 register_names cs = map (λ c. c.of_name) cs
 
@@ -42,34 +58,34 @@ abbrev pub bits_of : Scope → Counted → CountedBits
 bits_of s c = record { least = option_map (λ a. min a.0 a.1) (s c.of_name).addresses; masks = c.masks }
 
 -- the term that a name settles to, if it is one that has any
-abbrev pub settled_at : Module → Images → Name → Option ℕ
-settled_at m images n = cond (is_among (declared m) n && not (is_memory (scope m n))) (images n) None
+abbrev pub settled_at : Body → Images → Name → Option ℕ
+settled_at b images n = cond (is_among b.declared n && not (is_memory (b.scope n))) (images n) None
 
-pub record IsElaborated (m : Module) (is_given : Name → Bool) (e : Parts) : Type 0 where
+pub record IsElaborated (b : Body) (is_given : Name → Bool) (outputs : List Name) (e : Parts) : Type 0 where
   pub distinct : HasDistinctNames e.graph.names
   pub registers : List Counted
   pub others : List Name
-  pub split : AreSplit (scope m) (clocked m) (declared m) registers others
-  pub entries : AreEntriesOf (scope m) (register_names registers ++ chosen is_given others) e.graph.names
+  pub split : AreSplit b.scope (clocked_blocks b.items) b.declared registers others
+  pub entries : AreEntriesOf b.scope (register_names registers ++ chosen is_given others) e.graph.names
   pub counted : e.register_count ≡ length registers
-  pub bits : e.bits ≡ map (bits_of (scope m)) registers
-  pub outputs : e.outputs ≡ outputs_of m
+  pub bits : e.bits ≡ map (bits_of b.scope) registers
+  pub outputs_are : e.outputs ≡ outputs
   -- the tables at the start
   pub start : Graph
   pub given : Images
   pub first : Images
-  pub is_start : IsStart (scope m) (clocked m) is_given start given first
-  pub all_given : (n : Name) → is_some (given n) ≡ is_among (declared m) n
-  pub all_first : (n : Name) → is_some (first n) ≡ is_among (declared m) n
+  pub is_start : IsStart b.scope (clocked_blocks b.items) is_given start given first
+  pub all_given : (n : Name) → is_some (given n) ≡ is_among b.declared n
+  pub all_first : (n : Name) → is_some (first n) ≡ is_among b.declared n
   pub start_names : start.names ≡ e.graph.names
   -- nets have settled
   pub middle : Graph
   pub nets : Images
-  pub evaluated : IsEvaluated (scope m) m.items given start nets middle
+  pub evaluated : IsEvaluated b.scope b.items given start nets middle
   pub grows : Grows start middle
   -- after the edge
   pub after : Images
   pub next : Images
-  pub updated : AreUpdated (scope m) nets first middle (clocked m) after next e.graph
-  pub settled : (n : Name) → e.settled n ≡ settled_at m after n
+  pub updated : AreUpdated b.scope nets first middle (clocked_blocks b.items) after next e.graph
+  pub settled : (n : Name) → e.settled n ≡ settled_at b after n
   pub next_terms : map (λ id. Some id) e.next ≡ map next (register_names registers)

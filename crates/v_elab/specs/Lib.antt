@@ -3,6 +3,7 @@ pub mod Start
 pub mod Names
 pub mod Tables
 pub mod Elaborated
+pub mod Cycles
 pub mod Elaborable
 pub mod Begun
 pub mod Answer

@@ -1,10 +1,9 @@
 -- The tables of terms with which evaluation begins: what is given to the names of a module, and what its registers hold before the edge.
-use Rattle.std.specs.Prelude.{◌≡◌, ℕ, Bool, cond, List, Some}
-use Rattle.wb_values.specs.Value.{Name, same_name}
+use Rattle.std.specs.Prelude.{◌≡◌, ℕ, Bool, List, Some}
+use Rattle.wb_values.specs.Value.{Name}
 use Rattle.verilog_trees.specs.Syntax.{Statement}
 use Rattle.verilog_meaning.specs.Expression.{Scope}
 use Rattle.wb_terms.specs.Graph.{Graph}
-use Rattle.v_operators.specs.Meaning.{Grows}
 use Rattle.v_lower.specs.Lowered.{Images, IsImage}
 use Rattle.v_elab.specs.Kept.{IsKept, IsWorth}
 
@@ -12,15 +11,3 @@ use Rattle.v_elab.specs.Kept.{IsKept, IsWorth}
 pub record IsStart (s : Scope) (clocked : List Statement) (is_given : Name → Bool) (g : Graph) (a n : Images) : Type 0 where
   pub image : (m : Name) (id : ℕ) → a m ≡ Some id → IsImage s g m id × IsWorth s clocked g (is_given m) m id
   pub next_image : (m : Name) (id : ℕ) → n m ≡ Some id → IsImage s g m id × IsKept s clocked g m id
-
--- A name was given terms in both.
-pub record IsEntered (s : Scope) (clocked : List Statement) (is_given : Name → Bool) (a n : Images) (g : Graph) (m : Name) (b k : Images) (h : Graph) : Type 0 where
-  pub grows : Grows g h
-  pub id : ℕ
-  pub next_id : ℕ
-  pub table : (x : Name) → b x ≡ cond (same_name m x) (Some id) (a x)
-  pub next : (x : Name) → k x ≡ cond (same_name m x) (Some next_id) (n x)
-  pub image : IsImage s h m id
-  pub worth : IsWorth s clocked h (is_given m) m id
-  pub next_image : IsImage s h m next_id
-  pub next_worth : IsKept s clocked h m next_id

@@ -9,15 +9,14 @@ ghost use Rattle.verilog_meaning.specs.Settled.{IsAddressWidth};
 ghost use Rattle.wb_terms.specs.Sort.{as_sort};
 ghost use Rattle.wb_terms.specs.Graph.{with_name};
 ghost use Rattle.v_value.specs.Scope.{object_of};
-ghost use Rattle.v_scopes.specs.Scopes.{scope_in};
+ghost use Rattle.v_value.specs.Scope.{scope_at};
 ghost use Rattle.v_lower.specs.Lowered.{IsSortOf};
 ghost use Rattle.v_elab.specs.Names.{AreEntriesOf, AreDistinct, HasFewWords};
 
 use crate::NoMemory;
 use std::alloc::{AllocError, Global};
 use v_registers::word_count;
-use v_scopes::ModuleScope;
-use v_value::scope::Object;
+use v_value::scope::{Object, Scope};
 use v_value::width::object_width;
 use wb_terms::{PutStop, Sort, Terms};
 
@@ -69,18 +68,18 @@ fn declare(alloc: Global, terms: &mut Terms, name: &str, sort: Sort) -> Result<(
 /// A store with these names of a module, and no term.
 pub(crate) fn store_of(
     alloc: Global,
-    names: &ModuleScope<'_>,
+    scope: &Scope<'_>,
     list: &[&str],
 ) -> Result<Terms, NoMemory>
-    requires narrow { (n : List ℕ) → object_width (scope_in names.now n) ≤ 128 }
-    requires few { HasFewWords (scope_in names.now) }
+    requires narrow { (n : List ℕ) → object_width (scope_at scope.now n) ≤ 128 }
+    requires few { HasFewWords (scope_at scope.now) }
     requires distinct { AreDistinct (map (λ n. n.now) list.now) }
-    ensures names { IfOk result (λ t. AreEntriesOf (scope_in names.now) (map (λ n. n.now) list.now) t.names) }
+    ensures names { IfOk result (λ t. AreEntriesOf (scope_at scope.now) (map (λ n. n.now) list.now) t.names) }
     ensures nodes { IfOk result (λ t. t.nodes ≡ []) }
 {
     let mut terms = Terms::new(alloc)?;
     for name in list {
-        declare(alloc, &mut terms, *name, sort_of(names.object(*name)))?;
+        declare(alloc, &mut terms, *name, sort_of(scope.object(*name)))?;
     }
     Ok(terms)
 }

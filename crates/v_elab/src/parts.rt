@@ -6,7 +6,7 @@ ghost use Rattle.wb_values.specs.Choice.{first_of};
 ghost use Rattle.verilog_meaning.specs.Expression.{is_memory};
 ghost use Rattle.verilog_designs.specs.Names.{is_among};
 ghost use Rattle.v_value.specs.Scope.{object_of};
-ghost use Rattle.v_scopes.specs.Scopes.{scope_in};
+ghost use Rattle.v_value.specs.Scope.{scope_at};
 ghost use Rattle.v_lower.specs.Table.{images_at};
 ghost use Rattle.v_design.specs.Table.{terms_at};
 ghost use Rattle.v_design.specs.Bits.{counted_bits};
@@ -20,15 +20,14 @@ use std::collections::BTreeMap;
 use v_design::RegisterBits;
 use v_lower::NamedTerms;
 use v_registers::Register;
-use v_scopes::ModuleScope;
-use v_value::scope::Object;
+use v_value::scope::{Object, Scope};
 use wb_terms::TermId;
 
 /// The term of a net or variable; a memory has none here.
-fn plain_term(names: &ModuleScope<'_>, table: &NamedTerms<'_>, name: &str) -> Option<TermId>
-    ensures { option_map (λ k. k.0) result ≡ cond (is_memory (scope_in names.now name.now)) None (images_at table.now name.now) }
+fn plain_term(scope: &Scope<'_>, table: &NamedTerms<'_>, name: &str) -> Option<TermId>
+    ensures { option_map (λ k. k.0) result ≡ cond (is_memory (scope_at scope.now name.now)) None (images_at table.now name.now) }
 {
-    if names.object(name).addresses.is_some() {
+    if scope.object(name).addresses.is_some() {
         None
     } else {
         table.term(name)
@@ -38,15 +37,15 @@ fn plain_term(names: &ModuleScope<'_>, table: &NamedTerms<'_>, name: &str) -> Op
 /// Adds the term of a net or variable, if it has one.
 fn add_settled(
     alloc: Global,
-    names: &ModuleScope<'_>,
+    scope: &Scope<'_>,
     table: &NamedTerms<'_>,
     name: &str,
     found: &mut BTreeMap<String, TermId>,
 ) -> Result<(), NoMemory>
     ensures { OnOk result ((n : List ℕ) → terms_at found.new n
-        ≡ cond (same_name name.now n) (first_of (cond (is_memory (scope_in names.now name.now)) None (images_at table.now name.now)) (terms_at found.old n)) (terms_at found.old n)) }
+        ≡ cond (same_name name.now n) (first_of (cond (is_memory (scope_at scope.now name.now)) None (images_at table.now name.now)) (terms_at found.old n)) (terms_at found.old n)) }
 {
-    match plain_term(names, table, name) {
+    match plain_term(scope, table, name) {
         Some(id) => {
             let text = String::from_str(alloc, name)?;
             found.insert(text, id)?;
@@ -59,16 +58,16 @@ fn add_settled(
 /// The terms of nets and variables by their names.
 pub(crate) fn settled_of(
     alloc: Global,
-    names: &ModuleScope<'_>,
+    scope: &Scope<'_>,
     table: &NamedTerms<'_>,
     list: &[&str],
 ) -> Result<BTreeMap<String, TermId>, NoMemory>
     ensures { IfOk result (λ t. (n : List ℕ) → terms_at t n
-        ≡ cond (is_among (map (λ k. k.now) list.now) n && not (is_memory (scope_in names.now n))) (images_at table.now n) None) }
+        ≡ cond (is_among (map (λ k. k.now) list.now) n && not (is_memory (scope_at scope.now n))) (images_at table.now n) None) }
 {
     let mut found = BTreeMap::new(alloc);
     for name in list {
-        add_settled(alloc, names, table, *name, &mut found)?;
+        add_settled(alloc, scope, table, *name, &mut found)?;
     }
     Ok(found)
 }
@@ -122,12 +121,12 @@ fn copy_of(alloc: Global, masks: &[u128]) -> Result<Vec<u128>, NoMemory>
 /// The bits of a register.
 fn register_bits(
     alloc: Global,
-    names: &ModuleScope<'_>,
+    scope: &Scope<'_>,
     register: &Register<'_>,
 ) -> Result<RegisterBits, NoMemory>
-    ensures { IfOk result (λ b. counted_bits b ≡ bits_of (scope_in names.now) (counted_of register.now)) }
+    ensures { IfOk result (λ b. counted_bits b ≡ bits_of (scope_at scope.now) (counted_of register.now)) }
 {
-    let least = least_address(names.object(register.name));
+    let least = least_address(scope.object(register.name));
     let masks = copy_of(alloc, &register.masks)?;
     Ok(RegisterBits { least, masks })
 }
@@ -135,14 +134,14 @@ fn register_bits(
 /// The bits of registers, in their order.
 pub(crate) fn bits_of(
     alloc: Global,
-    names: &ModuleScope<'_>,
+    scope: &Scope<'_>,
     registers: &[Register<'_>],
 ) -> Result<Vec<RegisterBits>, NoMemory>
-    ensures { IfOk result (λ v. map counted_bits v.items ≡ map (bits_of (scope_in names.now)) (map counted_of registers.now)) }
+    ensures { IfOk result (λ v. map counted_bits v.items ≡ map (bits_of (scope_at scope.now)) (map counted_of registers.now)) }
 {
     let mut found = Vec::new(alloc);
     for register in registers {
-        let bits = register_bits(alloc, names, register)?;
+        let bits = register_bits(alloc, scope, register)?;
         found.push(bits)?;
     }
     Ok(found)

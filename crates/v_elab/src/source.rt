@@ -17,8 +17,7 @@ use v_judged::laws::an_accepted_module_is_ready;
 use v_judged::{DesignKind, design_refusal};
 use v_loops::laws::loops_of_one_module;
 use v_settle::laws::{
-    a_design_of_one_module_settles_from_outside, an_accepted_module_can_be_evaluated,
-    an_accepted_module_has_one_driver_for_a_bit,
+    an_accepted_module_can_be_evaluated, an_accepted_module_has_one_driver_for_a_bit,
 };
 use v_syntax::module::Tree;
 use v_write::laws::unbroken_statements_are_sound;
@@ -42,7 +41,6 @@ fn accepted_design(
     ensures { IfOk result (λ r. IsDesignOf (record { source = source_of tree.now; top = top.now; clock = clock.now }) (parts_of r)) }
 {
     an_accepted_module_is_ready();
-    a_design_of_one_module_settles_from_outside();
     an_accepted_module_has_one_driver_for_a_bit();
     an_accepted_module_can_be_evaluated();
     unbroken_statements_are_sound();

@@ -5,13 +5,10 @@ ghost use Rattle.verilog_meaning.specs.Register.{clocked_blocks};
 ghost use Rattle.v_syntax.specs.Source.{item_of};
 ghost use Rattle.v_value.specs.Scope.{scope_at};
 ghost use Rattle.v_value.specs.Narrow.{HasNarrowObjects};
-ghost use Rattle.v_scopes.specs.Rows.{rows_of};
-ghost use Rattle.v_scopes.specs.Scopes.{scope_in};
 ghost use Rattle.v_drivers.specs.Premises.{AreNarrowBlocks};
 ghost use Rattle.v_lower.specs.Table.{images_at};
-ghost use Rattle.v_registers.specs.Placed.{names_in_order};
 ghost use Rattle.v_registers.specs.Registers.{counted_of};
-ghost use Rattle.v_elab.specs.Names.{is_data_input};
+ghost use Rattle.v_elab.specs.Names.{AreDistinct, is_data_input};
 ghost use Rattle.v_elab.specs.Begun.{AreSorted, CanBegin, HasBegun};
 
 use crate::NoMemory;
@@ -20,7 +17,7 @@ use crate::naming::{inputs_among, names_of_store};
 use crate::tables::{enter_inputs, enter_others, enter_registers};
 use std::alloc::Global;
 use v_lower::NamedTerms;
-use v_registers::{Register, first_names, registers_among};
+use v_registers::{Register, registers_among};
 use v_scopes::ModuleScope;
 use v_syntax::module::Item;
 use v_value::scope::Scope;
@@ -47,20 +44,19 @@ pub(crate) struct Begun<'s> {
 /// The names of a module by what they are.
 pub(crate) fn names_by_kind<'s>(
     alloc: Global,
-    names: &ModuleScope<'s>,
+    declared: Vec<&'s str>,
+    names: &ModuleScope<'_>,
     scope: &Scope<'_>,
     items: &[Item<'s>],
     clock: &str,
 ) -> Result<Sorted<'s>, NoMemory>
     requires objects { HasNarrowObjects (scope_at scope.now) }
     requires narrow { AreNarrowBlocks (scope_at scope.now) (clocked_blocks (map item_of items.now)) }
-    requires same { scope_at scope.now ≡ scope_in names.now }
-    ensures declared { IfOk result (λ r. map (λ n. n.now) r.declared.items ≡ names_in_order (rows_of names.now.declared.items)) }
+    ensures declared { IfOk result (λ r. r.declared.items ≡ declared.entry.items) }
     ensures sorted { IfOk result (λ r. AreSorted (scope_at scope.now) (clocked_blocks (map item_of items.now)) (is_data_input names.now clock.now)
-        (map (λ n. n.now) r.declared.items) (map counted_of r.registers.items) (map (λ n. n.now) r.stored.items) (map (λ n. n.now) r.others.items)) }
+        (map (λ n. n.now) declared.entry.items) (map counted_of r.registers.items) (map (λ n. n.now) r.stored.items) (map (λ n. n.now) r.others.items)) }
 {
-    let declared = first_names(alloc, names.declarations())?;
-    let split = registers_among(alloc, &declared, names, scope, items)?;
+    let split = registers_among(alloc, &declared, scope, items)?;
     let found = inputs_among(alloc, names, clock, &split.others)?;
     let stored = names_of_store(alloc, &split.registers, &found.inputs)?;
     Ok(Sorted {
@@ -71,37 +67,38 @@ pub(crate) fn names_by_kind<'s>(
     })
 }
 
-/// The names of a module, the store of its registers and inputs, and the tables at the start.
+/// The store of registers and inputs, and the tables at the start.
 pub(crate) fn begin<'s>(
     alloc: Global,
-    names: &ModuleScope<'s>,
+    declared: Vec<&'s str>,
+    names: &ModuleScope<'_>,
     scope: &Scope<'_>,
     items: &[Item<'s>],
     clock: &str,
 ) -> Result<Begun<'s>, NoMemory>
     requires objects { HasNarrowObjects (scope_at scope.now) }
     requires narrow { AreNarrowBlocks (scope_at scope.now) (clocked_blocks (map item_of items.now)) }
-    requires same { scope_at scope.now ≡ scope_in names.now }
-    requires ready { CanBegin (scope_in names.now) (clocked_blocks (map item_of items.now)) (is_data_input names.now clock.now) }
-    ensures declared { IfOk result (λ r. map (λ n. n.now) r.sorted.declared.items ≡ names_in_order (rows_of names.now.declared.items)) }
-    ensures begun { IfOk result (λ r. HasBegun (scope_in names.now) (clocked_blocks (map item_of items.now)) (is_data_input names.now clock.now)
-        (map (λ n. n.now) r.sorted.declared.items) (map counted_of r.sorted.registers.items) r.terms (images_at r.table) (images_at r.next)) }
+    requires distinct { AreDistinct (map (λ n. n.now) declared.items) }
+    requires ready { CanBegin (scope_at scope.now) (clocked_blocks (map item_of items.now)) (is_data_input names.now clock.now) }
+    ensures declared { IfOk result (λ r. r.sorted.declared.items ≡ declared.entry.items) }
+    ensures begun { IfOk result (λ r. HasBegun (scope_at scope.now) (clocked_blocks (map item_of items.now)) (is_data_input names.now clock.now)
+        (map (λ n. n.now) declared.entry.items) (map counted_of r.sorted.registers.items) r.terms (images_at r.table) (images_at r.next)) }
 {
-    let sorted = names_by_kind(alloc, names, scope, items, clock)?;
-    let mut terms = store_of(alloc, names, &sorted.stored)?;
+    let sorted = names_by_kind(alloc, declared, names, scope, items, clock)?;
+    let mut terms = store_of(alloc, scope, &sorted.stored)?;
     let mut table = NamedTerms::new(alloc);
     let mut next = NamedTerms::new(alloc);
-    enter_registers(&mut terms, &mut table, &mut next, names, &sorted.registers)?;
+    enter_registers(&mut terms, &mut table, &mut next, scope, &sorted.registers)?;
     let first = sorted.registers.len();
     enter_inputs(
         &mut terms,
         &mut table,
         &mut next,
-        names,
+        scope,
         first,
         &sorted.stored,
     )?;
-    enter_others(&mut terms, &mut table, &mut next, names, &sorted.others)?;
+    enter_others(&mut terms, &mut table, &mut next, scope, &sorted.others)?;
     Ok(Begun {
         sorted,
         terms,

@@ -5,7 +5,7 @@ ghost use Rattle.wb_values.specs.Value.{Name, word, Valuation};
 ghost use Rattle.verilog_meaning.specs.Expression.{is_memory, object_width};
 ghost use Rattle.verilog_meaning.specs.Register.{word_count};
 ghost use Rattle.v_operators.specs.Meaning.{Grows, HasNumber, IsOfSort};
-ghost use Rattle.v_scopes.specs.Scopes.{scope_in};
+ghost use Rattle.v_value.specs.Scope.{scope_at};
 ghost use Rattle.v_lower.specs.Lowered.{IsSortOf};
 ghost use Rattle.v_lower.specs.Table.{images_at};
 ghost use Rattle.v_registers.specs.Registers.{counted_of};
@@ -19,7 +19,7 @@ use crate::keeping::{kept_term, name_term};
 use v_lower::NamedTerms;
 use v_operators::constant;
 use v_registers::Register;
-use v_scopes::ModuleScope;
+use v_value::scope::Scope;
 use v_value::width::object_width;
 use wb_terms::{NameId, TermId, Terms};
 
@@ -28,20 +28,20 @@ fn enter_register<'s>(
     terms: &mut Terms,
     table: &mut NamedTerms<'s>,
     next: &mut NamedTerms<'s>,
-    names: &ModuleScope<'_>,
+    scope: &Scope<'_>,
     place: usize,
     register: &Register<'s>,
 ) -> Result<(), NoMemory>
     requires place { place < length terms.old.names }
-    requires sort { IsSortOf (scope_in names.now register.now.name.now) (named_at terms.old place).1 }
-    requires masks { length register.now.masks.items ≡ word_count (scope_in names.now register.now.name.now) }
-    ensures { OnOk result (IsEntered (scope_in names.now) (record { of_name = register.now.name.now; origin = kept place register.now.masks.items; next_origin = kept place register.now.masks.items })
+    requires sort { IsSortOf (scope_at scope.now register.now.name.now) (named_at terms.old place).1 }
+    requires masks { length register.now.masks.items ≡ word_count (scope_at scope.now register.now.name.now) }
+    ensures { OnOk result (IsEntered (scope_at scope.now) (record { of_name = register.now.name.now; origin = kept place register.now.masks.items; next_origin = kept place register.now.masks.items })
         (images_at table.old) (images_at next.old) terms.old (images_at table.new) (images_at next.new) terms.new) }
 {
     let id = kept_term(
         terms,
         NameId(place),
-        names.object(register.name),
+        scope.object(register.name),
         &register.masks,
     )?;
     table.insert(register.name, id)?;
@@ -66,19 +66,19 @@ fn enter_input<'s>(
     terms: &mut Terms,
     table: &mut NamedTerms<'s>,
     next: &mut NamedTerms<'s>,
-    names: &ModuleScope<'_>,
+    scope: &Scope<'_>,
     place: usize,
     name: &'s str,
 ) -> Result<(), NoMemory>
     requires place { place < length terms.old.names }
-    requires sort { IsSortOf (scope_in names.now name.now) (named_at terms.old place).1 }
-    requires plain { is_memory (scope_in names.now name.now) ≡ false }
-    requires narrow { object_width (scope_in names.now name.now) ≤ 128 }
-    ensures { OnOk result (IsEntered (scope_in names.now) (record { of_name = name.now; origin = given place; next_origin = unset })
+    requires sort { IsSortOf (scope_at scope.now name.now) (named_at terms.old place).1 }
+    requires plain { is_memory (scope_at scope.now name.now) ≡ false }
+    requires narrow { object_width (scope_at scope.now name.now) ≤ 128 }
+    ensures { OnOk result (IsEntered (scope_at scope.now) (record { of_name = name.now; origin = given place; next_origin = unset })
         (images_at table.old) (images_at next.old) terms.old (images_at table.new) (images_at next.new) terms.new) }
 {
     let id = name_term(terms, NameId(place))?;
-    let none = zero(terms, object_width(names.object(name)))?;
+    let none = zero(terms, object_width(scope.object(name)))?;
     table.insert(name, id)?;
     next.insert(name, none)?;
     Ok(())
@@ -89,15 +89,15 @@ fn enter_other<'s>(
     terms: &mut Terms,
     table: &mut NamedTerms<'s>,
     next: &mut NamedTerms<'s>,
-    names: &ModuleScope<'_>,
+    scope: &Scope<'_>,
     name: &'s str,
 ) -> Result<(), NoMemory>
-    requires plain { is_memory (scope_in names.now name.now) ≡ false }
-    requires narrow { object_width (scope_in names.now name.now) ≤ 128 }
-    ensures { OnOk result (IsEntered (scope_in names.now) (record { of_name = name.now; origin = unset; next_origin = unset })
+    requires plain { is_memory (scope_at scope.now name.now) ≡ false }
+    requires narrow { object_width (scope_at scope.now name.now) ≤ 128 }
+    ensures { OnOk result (IsEntered (scope_at scope.now) (record { of_name = name.now; origin = unset; next_origin = unset })
         (images_at table.old) (images_at next.old) terms.old (images_at table.new) (images_at next.new) terms.new) }
 {
-    let none = zero(terms, object_width(names.object(name)))?;
+    let none = zero(terms, object_width(scope.object(name)))?;
     table.insert(name, none)?;
     next.insert(name, none)?;
     Ok(())
@@ -108,16 +108,16 @@ pub(crate) fn enter_registers<'s>(
     terms: &mut Terms,
     table: &mut NamedTerms<'s>,
     next: &mut NamedTerms<'s>,
-    names: &ModuleScope<'_>,
+    scope: &Scope<'_>,
     registers: &[Register<'s>],
 ) -> Result<(), NoMemory>
-    requires entries { (rest : List Name) × AreEntriesOf (scope_in names.now) (register_names (map counted_of registers.now) ++ rest) terms.old.names }
-    requires masks { AreMasksOf (scope_in names.now) (map counted_of registers.now) }
-    ensures { OnOk result (AreEntered (scope_in names.now) (register_rows 0 (map counted_of registers.now))
+    requires entries { (rest : List Name) × AreEntriesOf (scope_at scope.now) (register_names (map counted_of registers.now) ++ rest) terms.old.names }
+    requires masks { AreMasksOf (scope_at scope.now) (map counted_of registers.now) }
+    ensures { OnOk result (AreEntered (scope_at scope.now) (register_rows 0 (map counted_of registers.now))
         (images_at table.old) (images_at next.old) terms.old (images_at table.new) (images_at next.new) terms.new) }
 {
     for place in 0..registers.len() {
-        enter_register(terms, table, next, names, place, &registers[place])?;
+        enter_register(terms, table, next, scope, place, &registers[place])?;
     }
     Ok(())
 }
@@ -127,18 +127,18 @@ pub(crate) fn enter_inputs<'s>(
     terms: &mut Terms,
     table: &mut NamedTerms<'s>,
     next: &mut NamedTerms<'s>,
-    names: &ModuleScope<'_>,
+    scope: &Scope<'_>,
     first: usize,
     stored: &[&'s str],
 ) -> Result<(), NoMemory>
-    requires entries { AreEntriesOf (scope_in names.now) (map (λ n. n.now) stored.now) terms.old.names }
-    requires plain { ArePlain (scope_in names.now) (map (λ n. n.now) (drop first stored.now)) }
-    requires narrow { (n : List ℕ) → object_width (scope_in names.now n) ≤ 128 }
-    ensures { OnOk result (AreEntered (scope_in names.now) (input_rows first (map (λ n. n.now) (drop first stored.now)))
+    requires entries { AreEntriesOf (scope_at scope.now) (map (λ n. n.now) stored.now) terms.old.names }
+    requires plain { ArePlain (scope_at scope.now) (map (λ n. n.now) (drop first stored.now)) }
+    requires narrow { (n : List ℕ) → object_width (scope_at scope.now n) ≤ 128 }
+    ensures { OnOk result (AreEntered (scope_at scope.now) (input_rows first (map (λ n. n.now) (drop first stored.now)))
         (images_at table.old) (images_at next.old) terms.old (images_at table.new) (images_at next.new) terms.new) }
 {
     for place in first..stored.len() {
-        enter_input(terms, table, next, names, place, stored[place])?;
+        enter_input(terms, table, next, scope, place, stored[place])?;
     }
     Ok(())
 }
@@ -148,16 +148,16 @@ pub(crate) fn enter_others<'s>(
     terms: &mut Terms,
     table: &mut NamedTerms<'s>,
     next: &mut NamedTerms<'s>,
-    names: &ModuleScope<'_>,
+    scope: &Scope<'_>,
     others: &[&'s str],
 ) -> Result<(), NoMemory>
-    requires plain { ArePlain (scope_in names.now) (map (λ n. n.now) others.now) }
-    requires narrow { (n : List ℕ) → object_width (scope_in names.now n) ≤ 128 }
-    ensures { OnOk result (AreEntered (scope_in names.now) (other_rows (map (λ n. n.now) others.now))
+    requires plain { ArePlain (scope_at scope.now) (map (λ n. n.now) others.now) }
+    requires narrow { (n : List ℕ) → object_width (scope_at scope.now n) ≤ 128 }
+    ensures { OnOk result (AreEntered (scope_at scope.now) (other_rows (map (λ n. n.now) others.now))
         (images_at table.old) (images_at next.old) terms.old (images_at table.new) (images_at next.new) terms.new) }
 {
     for name in others {
-        enter_other(terms, table, next, names, *name)?;
+        enter_other(terms, table, next, scope, *name)?;
     }
     Ok(())
 }

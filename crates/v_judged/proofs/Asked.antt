@@ -48,11 +48,10 @@ module _ (d : Design) (m : Module) (h : IsTopOf d m) (s : Scope) (items : List I
 
   -- ---- blocks
 
-  pub events_so : (clock : Name) → d.clock ≡ clock → (HasBadEventListIn (module_scope m []) d.clock m.items ↔ HasBadEventList d) → (r : Bool)
-      → (IsTrue r ↔ HasBadEventListIn s clock items) → Decides r (HasBadEventList d)
-  events_so clock k law r g =
-      decided r (HasBadEventListIn s clock items) (HasBadEventList d) g
-      (moved (λ t xs. HasBadEventListIn t clock xs ↔ HasBadEventList d) (subst (λ c. HasBadEventListIn (module_scope m []) c m.items ↔ HasBadEventList d) k law))
+  pub events_so : (clocks : Name → Bool) → (HasBadEventListIn (module_scope m []) clocks m.items ↔ HasBadEventList d) → (r : Bool)
+      → (IsTrue r ↔ HasBadEventListIn s clocks items) → Decides r (HasBadEventList d)
+  events_so clocks law r g =
+      decided r (HasBadEventListIn s clocks items) (HasBadEventList d) g (moved (λ t xs. HasBadEventListIn t clocks xs ↔ HasBadEventList d) law)
 
   pub latch_so : (HasLatchIn (module_scope m []) m.items ↔ HasLatch d) → (r : Bool) → (IsTrue r ↔ HasLatchIn s items) → Decides r (HasLatch d)
   latch_so law r g = decided r (HasLatchIn s items) (HasLatch d) g (moved (λ t xs. HasLatchIn t xs ↔ HasLatch d) law)

@@ -3,6 +3,7 @@ use Rattle.std.proofs.Common.{◌≡◌, ◌∙◌, refl, ap, sym, subst, Bool, 
 use Rattle.std.specs.Prelude.{◌||◌, ◌↔◌, is_none}
 use Rattle.std.specs.List.{list_any}
 use Rattle.std.proofs.lemmas.Bool.{true≢false}
+use Rattle.std.proofs.lemmas.Slice.Eq.{bytes_eq-Decides}
 use Rattle.wb_values.specs.Value.{Name, same_name, Entries}
 use Rattle.verilog_trees.specs.Syntax.{Range, ParameterDeclaration, Statement, Event, Events, Item, port, parameter, wires, variables, assign, always, instances, Module}
 use Rattle.verilog_meaning.specs.Expression.{Object, Scope, object_or_undeclared, scope_of}
@@ -95,12 +96,6 @@ module _ (d : Design) (m : Module) (h : has_parts d.source ≡ false) (e : modul
   is-clock _ _ (IsClockNet.at_input around p c k n net stands to all) =
       absurd (none_some p (sym (nothing_below d.source d.top h (instance_step c.of_instance) around.path) ∙ to.is_below))
 
-  clock-edge : (e : Event) → IsClockEdgeIn d.clock e → IsClockEdge d (alone m) e
-  clock-edge e k = (k.0, subst (IsClockNet d (alone m)) (sym k.1) clock-net)
-
-  edge-clock : (e : Event) → IsClockEdge d (alone m) e → IsClockEdgeIn d.clock e
-  edge-clock e k = (k.0, is-clock (alone m) e.signal k.1)
-
   -- ---- lists of events
 
   abbrev scope : Scope
@@ -117,23 +112,6 @@ module _ (d : Design) (m : Module) (h : has_parts d.source ≡ false) (e : modul
     no_memory = k.no_memory;
     one_bit = k.one_bit;
   }
-
-  in-design : (x : Statement) (es : Events) → IsEventListIn scope d.clock x es → IsEventList d (alone m) x es
-  in-design x _ IsEventListIn.star = IsEventList.star
-  in-design x _ (IsEventListIn.one_clock c k) = IsEventList.one_clock c (clock-edge c k)
-  in-design x _ (IsEventListIn.clock_first c f k b a) = IsEventList.clock_first c f (clock-edge c k) (bit-edge f b) a
-  in-design x _ (IsEventListIn.clock_second c f k b a) = IsEventList.clock_second c f (clock-edge c k) (bit-edge f b) a
-  in-design x _ (IsEventListIn.names es c) = IsEventList.names es (record { plain = c.plain; covers = c.covers })
-
-  in-top : (x : Statement) (es : Events) → IsEventList d (alone m) x es → IsEventListIn scope d.clock x es
-  in-top x _ IsEventList.star = IsEventListIn.star
-  in-top x _ (IsEventList.one_clock c k) = IsEventListIn.one_clock c (edge-clock c k)
-  in-top x _ (IsEventList.clock_first c f k b a) = IsEventListIn.clock_first c f (edge-clock c k) (edge-bit f b) a
-  in-top x _ (IsEventList.clock_second c f k b a) = IsEventListIn.clock_second c f (edge-clock c k) (edge-bit f b) a
-  in-top x _ (IsEventList.names es c) = IsEventListIn.names es (record { plain = c.plain; covers = c.covers })
-
-  pub event-lists : (x : Statement) (es : Events) → IsEventListIn scope d.clock x es ↔ IsEventList d (alone m) x es
-  event-lists x es = (in-design x es, in-top x es)
 
   -- ---- latches
 
@@ -165,25 +143,49 @@ module _ (d : Design) (m : Module) (h : has_parts d.source ≡ false) (e : modul
   pub latches : HasLatchIn scope m.items ↔ HasLatch d
   latches = (latch-in-design, latch-in-top)
 
-  -- ---- blocks with other lists
+  module _ (is_clock : Name → Bool) (same : (n : Name) → is_clock n ≡ same_name d.clock n) where
+    clock-edge : (e : Event) → IsClockEdgeIn is_clock e → IsClockEdge d (alone m) e
+    clock-edge e k = (k.0, subst (IsClockNet d (alone m)) ((bytes_eq-Decides d.clock e.signal).0 (sym (same e.signal) ∙ k.1)) clock-net)
 
-  bad-in-design : HasBadEventListIn scope d.clock m.items → HasBadEventList d
-  bad-in-design l = record {
-    place = alone m;
-    events = l.events;
-    statement = l.statement;
-    is_placed = top;
-    stands = l.stands;
-    bad = λ k. l.bad (in-top l.statement l.events k);
-  }
+    edge-clock : (e : Event) → IsClockEdge d (alone m) e → IsClockEdgeIn is_clock e
+    edge-clock e k = (k.0, same e.signal ∙ (bytes_eq-Decides d.clock e.signal).1 (sym (is-clock (alone m) e.signal k.1)))
 
-  abbrev BadAt : Placed → Type 0
-  BadAt p = (es : Events) × (x : Statement) × Contains p.of_module.items (always es x) × (¬ IsEventList d p x es)
+    in-design : (x : Statement) (es : Events) → IsEventListIn scope is_clock x es → IsEventList d (alone m) x es
+    in-design x _ IsEventListIn.star = IsEventList.star
+    in-design x _ (IsEventListIn.one_clock c k) = IsEventList.one_clock c (clock-edge c k)
+    in-design x _ (IsEventListIn.clock_first c f k b a) = IsEventList.clock_first c f (clock-edge c k) (bit-edge f b) a
+    in-design x _ (IsEventListIn.clock_second c f k b a) = IsEventList.clock_second c f (clock-edge c k) (bit-edge f b) a
+    in-design x _ (IsEventListIn.names es c) = IsEventList.names es (record { plain = c.plain; covers = c.covers })
 
-  bad-in-top : HasBadEventList d → HasBadEventListIn scope d.clock m.items
-  bad-in-top l =
-      let at : BadAt (alone m) = subst BadAt (is-alone l.place.path l.place l.is_placed) (l.events, l.statement, l.stands, l.bad) in
-      record { events = at.0; statement = at.1; stands = at.2; bad = λ k. at.3 (in-design at.1 at.0 k) }
+    in-top : (x : Statement) (es : Events) → IsEventList d (alone m) x es → IsEventListIn scope is_clock x es
+    in-top x _ IsEventList.star = IsEventListIn.star
+    in-top x _ (IsEventList.one_clock c k) = IsEventListIn.one_clock c (edge-clock c k)
+    in-top x _ (IsEventList.clock_first c f k b a) = IsEventListIn.clock_first c f (edge-clock c k) (edge-bit f b) a
+    in-top x _ (IsEventList.clock_second c f k b a) = IsEventListIn.clock_second c f (edge-clock c k) (edge-bit f b) a
+    in-top x _ (IsEventList.names es c) = IsEventListIn.names es (record { plain = c.plain; covers = c.covers })
 
-  pub bad-event-lists : HasBadEventListIn scope d.clock m.items ↔ HasBadEventList d
-  bad-event-lists = (bad-in-design, bad-in-top)
+    pub event-lists : (x : Statement) (es : Events) → IsEventListIn scope is_clock x es ↔ IsEventList d (alone m) x es
+    event-lists x es = (in-design x es, in-top x es)
+
+    -- ---- blocks with other lists
+
+    bad-in-design : HasBadEventListIn scope is_clock m.items → HasBadEventList d
+    bad-in-design l = record {
+      place = alone m;
+      events = l.events;
+      statement = l.statement;
+      is_placed = top;
+      stands = l.stands;
+      bad = λ k. l.bad (in-top l.statement l.events k);
+    }
+
+    abbrev BadAt : Placed → Type 0
+    BadAt p = (es : Events) × (x : Statement) × Contains p.of_module.items (always es x) × (¬ IsEventList d p x es)
+
+    bad-in-top : HasBadEventList d → HasBadEventListIn scope is_clock m.items
+    bad-in-top l =
+        let at : BadAt (alone m) = subst BadAt (is-alone l.place.path l.place l.is_placed) (l.events, l.statement, l.stands, l.bad) in
+        record { events = at.0; statement = at.1; stands = at.2; bad = λ k. at.3 (in-design at.1 at.0 k) }
+
+    pub bad-event-lists : HasBadEventListIn scope is_clock m.items ↔ HasBadEventList d
+    bad-event-lists = (bad-in-design, bad-in-top)

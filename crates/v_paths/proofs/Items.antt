@@ -74,27 +74,27 @@ latches-so s items r h = ((λ t. latch-of s items (h.0 t)), (λ l. h.1 (one-latc
 
 -- ---- lists of events
 
-bad-of : (s : Scope) (clock : Name) (items : List Item) → OneIs (IsBadItem s clock) items → HasBadEventListIn s clock items
-bad-of s clock [] h = absurd h
-bad-of s clock (i ∷ items) (inr h) = let q = bad-of s clock items h in record { events = q.events; statement = q.statement; stands = later i items (always q.events q.statement) q.stands; bad = q.bad }
-bad-of s clock (port d ∷ items) (inl h) = absurd h
-bad-of s clock (parameter d ∷ items) (inl h) = absurd h
-bad-of s clock (wires g r ws ∷ items) (inl h) = absurd h
-bad-of s clock (variables g r vs ∷ items) (inl h) = absurd h
-bad-of s clock (assign ts ∷ items) (inl h) = absurd h
-bad-of s clock (always es x ∷ items) (inl h) = record { events = es; statement = x; stands = (0, omega arith, refl); bad = h }
-bad-of s clock (instances k given is ∷ items) (inl h) = absurd h
+bad-of : (s : Scope) (clocks : Name → Bool) (items : List Item) → OneIs (IsBadItem s clocks) items → HasBadEventListIn s clocks items
+bad-of s clocks [] h = absurd h
+bad-of s clocks (i ∷ items) (inr h) = let q = bad-of s clocks items h in record { events = q.events; statement = q.statement; stands = later i items (always q.events q.statement) q.stands; bad = q.bad }
+bad-of s clocks (port d ∷ items) (inl h) = absurd h
+bad-of s clocks (parameter d ∷ items) (inl h) = absurd h
+bad-of s clocks (wires g r ws ∷ items) (inl h) = absurd h
+bad-of s clocks (variables g r vs ∷ items) (inl h) = absurd h
+bad-of s clocks (assign ts ∷ items) (inl h) = absurd h
+bad-of s clocks (always es x ∷ items) (inl h) = record { events = es; statement = x; stands = (0, omega arith, refl); bad = h }
+bad-of s clocks (instances k given is ∷ items) (inl h) = absurd h
 
-one-bad : (s : Scope) (clock : Name) (items : List Item) (es : Events) (x : Statement) → (¬ IsEventListIn s clock x es)
-    → (k : ℕ) → k < length items → slice_index_or items k (always es x) ≡ always es x → OneIs (IsBadItem s clock) items
-one-bad s clock [] es x h k l e = absurd (omega (arith, l))
-one-bad s clock (i ∷ items) es x h zero l e = inl (subst (IsBadItem s clock) (sym e) h)
-one-bad s clock (i ∷ items) es x h (suc k) l e = inr (one-bad s clock items es x h k (omega (arith, l)) e)
+one-bad : (s : Scope) (clocks : Name → Bool) (items : List Item) (es : Events) (x : Statement) → (¬ IsEventListIn s clocks x es)
+    → (k : ℕ) → k < length items → slice_index_or items k (always es x) ≡ always es x → OneIs (IsBadItem s clocks) items
+one-bad s clocks [] es x h k l e = absurd (omega (arith, l))
+one-bad s clocks (i ∷ items) es x h zero l e = inl (subst (IsBadItem s clocks) (sym e) h)
+one-bad s clocks (i ∷ items) es x h (suc k) l e = inr (one-bad s clocks items es x h k (omega (arith, l)) e)
 
-pub bad-so : (s : Scope) (clock : Name) (items : List Item) (r : Bool) → IsTrue r ↔ OneIs (IsBadItem s clock) items → IsTrue r ↔ HasBadEventListIn s clock items
-bad-so s clock items r h = (
-  (λ t. bad-of s clock items (h.0 t)),
-  (λ l. h.1 (one-bad s clock items l.events l.statement l.bad l.stands.0 l.stands.1 l.stands.2)),
+pub bad-so : (s : Scope) (clocks : Name → Bool) (items : List Item) (r : Bool) → IsTrue r ↔ OneIs (IsBadItem s clocks) items → IsTrue r ↔ HasBadEventListIn s clocks items
+bad-so s clocks items r h = (
+  (λ t. bad-of s clocks items (h.0 t)),
+  (λ l. h.1 (one-bad s clocks items l.events l.statement l.bad l.stands.0 l.stands.1 l.stands.2)),
 )
 
 -- ---- one item
@@ -118,13 +118,13 @@ module _ (s : Scope) (i : CodeItem) (ev : CodeEvents) (b : Box CodeStatement Glo
     (λ l. k.1 (subst (IsLatchedItem s) block l).1),
   )
 
-  pub bad-item : (clock : Name) (r : Bool) → IsTrue r ↔ IsEventListIn s clock (statement_of x) (events_of ev) → IsTrue (not r) ↔ IsBadItem s clock (item_of i)
-  bad-item clock true k = (
+  pub bad-item : (clocks : Name → Bool) (r : Bool) → IsTrue r ↔ IsEventListIn s clocks (statement_of x) (events_of ev) → IsTrue (not r) ↔ IsBadItem s clocks (item_of i)
+  bad-item clocks true k = (
     (λ t. absurd (false≢true t)),
-    (λ l. absurd ((subst (IsBadItem s clock) block l) (k.0 refl))),
+    (λ l. absurd ((subst (IsBadItem s clocks) block l) (k.0 refl))),
   )
-  bad-item clock false k = (
-    (λ t. subst (IsBadItem s clock) (sym block) (λ e. false≢true (k.1 e))),
+  bad-item clocks false k = (
+    (λ t. subst (IsBadItem s clocks) (sym block) (λ e. false≢true (k.1 e))),
     (λ l. refl),
   )
 

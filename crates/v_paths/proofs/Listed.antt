@@ -34,12 +34,12 @@ no-edge-so posedge h = absurd (true≢false h)
 no-edge-so negedge h = absurd (true≢false h)
 no-edge-so any_edge h = refl
 
-clock-edge-so : (clock : Name) (e : Event) → is_clock_edge clock e ≡ true → IsClockEdgeIn clock e
-clock-edge-so clock e h =
-    let p = and_parts (is_posedge e.edge) (same_name e.signal clock) h in (posedge-so e.edge p.0, (bytes_eq-Decides e.signal clock).0 p.1)
+clock-edge-so : (clocks : Name → Bool) (e : Event) → is_clock_edge clocks e ≡ true → IsClockEdgeIn clocks e
+clock-edge-so clocks e h =
+    let p = and_parts (is_posedge e.edge) (clocks e.signal) h in (posedge-so e.edge p.0, p.1)
 
-so-clock-edge : (clock : Name) (e : Event) → IsClockEdgeIn clock e → is_clock_edge clock e ≡ true
-so-clock-edge clock e h = and_from (is_posedge e.edge) (same_name e.signal clock) (ap is_posedge h.0) ((bytes_eq-Decides e.signal clock).1 h.1)
+so-clock-edge : (clocks : Name → Bool) (e : Event) → IsClockEdgeIn clocks e → is_clock_edge clocks e ≡ true
+so-clock-edge clocks e h = and_from (is_posedge e.edge) (clocks e.signal) (ap is_posedge h.0) h.1
 
 bit-edge-so : (s : Scope) (e : Event) → is_bit_edge s e ≡ true → IsBitEdgeIn s e
 bit-edge-so s e h =
@@ -64,45 +64,45 @@ so-bit-edge s e h =
     (and_from (is_none o.constant) (not (is_memory o) && (object_width o == 1)) h.no_constant
     (and_from (not (is_memory o)) (object_width o == 1) (not_from_false (is_memory o) h.no_memory) (eq-eqb (object_width o) 1 h.one_bit))))
 
--- the parts of a clock's edge with that of another name
-pub record IsPair (s : Scope) (clock : Name) (c e : Event) : Type 0 where
-  pub first : IsClockEdgeIn clock c
+-- the parts of a clocks's edge with that of another name
+pub record IsPair (s : Scope) (clocks : Name → Bool) (c e : Event) : Type 0 where
+  pub first : IsClockEdgeIn clocks c
   pub second : IsBitEdgeIn s e
   pub apart : c.signal ≢ e.signal
 
-pair-so : (s : Scope) (clock : Name) (c e : Event) → is_clock_pair s clock c e ≡ true → IsPair s clock c e
-pair-so s clock c e h =
-    let p = and_parts (is_clock_edge clock c) (is_bit_edge s e && not (same_name c.signal e.signal)) h in
+pair-so : (s : Scope) (clocks : Name → Bool) (c e : Event) → is_clock_pair s clocks c e ≡ true → IsPair s clocks c e
+pair-so s clocks c e h =
+    let p = and_parts (is_clock_edge clocks c) (is_bit_edge s e && not (same_name c.signal e.signal)) h in
     let q = and_parts (is_bit_edge s e) (not (same_name c.signal e.signal)) p.1 in
     record {
-      first = clock-edge-so clock c p.0;
+      first = clock-edge-so clocks c p.0;
       second = bit-edge-so s e q.0;
       apart = λ i. false≢true (sym (not-true (same_name c.signal e.signal) q.1) ∙ (bytes_eq-Decides c.signal e.signal).1 i);
     }
 
-so-pair : (s : Scope) (clock : Name) (c e : Event) → IsClockEdgeIn clock c → IsBitEdgeIn s e → c.signal ≢ e.signal → is_clock_pair s clock c e ≡ true
-so-pair s clock c e h g a =
-    and_from (is_clock_edge clock c) (is_bit_edge s e && not (same_name c.signal e.signal)) (so-clock-edge clock c h)
+so-pair : (s : Scope) (clocks : Name → Bool) (c e : Event) → IsClockEdgeIn clocks c → IsBitEdgeIn s e → c.signal ≢ e.signal → is_clock_pair s clocks c e ≡ true
+so-pair s clocks c e h g a =
+    and_from (is_clock_edge clocks c) (is_bit_edge s e && not (same_name c.signal e.signal)) (so-clock-edge clocks c h)
     (and_from (is_bit_edge s e) (not (same_name c.signal e.signal)) (so-bit-edge s e g)
     (not_from_false (same_name c.signal e.signal) (false_from_ne_true (same_name c.signal e.signal) (λ t. a ((bytes_eq-Decides c.signal e.signal).0 t)))))
 
 -- ---- lists with an edge
 
-module _ (s : Scope) (clock : Name) (x : pure.Statement) where
-  two-so : (c e : Event) (p q : Bool) → is_clock_pair s clock c e ≡ p → is_clock_pair s clock e c ≡ q → (p || q) ≡ true → IsEventListIn s clock x (on_events (c ∷ e ∷ []))
-  two-so c e true q h g t = let r = pair-so s clock c e h in IsEventListIn.clock_first c e r.first r.second r.apart
-  two-so c e false true h g t = let r = pair-so s clock e c g in IsEventListIn.clock_second e c r.first r.second r.apart
+module _ (s : Scope) (clocks : Name → Bool) (x : pure.Statement) where
+  two-so : (c e : Event) (p q : Bool) → is_clock_pair s clocks c e ≡ p → is_clock_pair s clocks e c ≡ q → (p || q) ≡ true → IsEventListIn s clocks x (on_events (c ∷ e ∷ []))
+  two-so c e true q h g t = let r = pair-so s clocks c e h in IsEventListIn.clock_first c e r.first r.second r.apart
+  two-so c e false true h g t = let r = pair-so s clocks e c g in IsEventListIn.clock_second e c r.first r.second r.apart
   two-so c e false false h g t = absurd (false≢true t)
 
-  list-so : (es : List Event) → is_clock_list s clock es ≡ true → IsEventListIn s clock x (on_events es)
+  list-so : (es : List Event) → is_clock_list s clocks es ≡ true → IsEventListIn s clocks x (on_events es)
   list-so [] h = absurd (false≢true h)
-  list-so (c ∷ []) h = IsEventListIn.one_clock c (clock-edge-so clock c h)
-  list-so (c ∷ e ∷ []) h = two-so c e (is_clock_pair s clock c e) (is_clock_pair s clock e c) refl refl h
+  list-so (c ∷ []) h = IsEventListIn.one_clock c (clock-edge-so clocks c h)
+  list-so (c ∷ e ∷ []) h = two-so c e (is_clock_pair s clocks c e) (is_clock_pair s clocks e c) refl refl h
   list-so (c ∷ e ∷ f ∷ es) h = absurd (false≢true h)
 
   abbrev is_clocks : Events → Bool
   is_clocks any_change = false
-  is_clocks (on_events es) = is_clock_list s clock es
+  is_clocks (on_events es) = is_clock_list s clocks es
 
   -- names alone have no edge
   later : (e : Event) (es : List Event) → ((f : Event) → Contains (e ∷ es) f → f.edge ≡ any_edge) → (f : Event) → Contains es f → f.edge ≡ any_edge
@@ -121,24 +121,24 @@ module _ (s : Scope) (clock : Name) (x : pure.Statement) where
   none-plain (f ∷ es) h e zero l i = subst (λ g. g.edge ≡ any_edge) i (no-edge-so f.edge (edge-parts (is_edge f.edge) (has_edge es) h).0)
   none-plain (f ∷ es) h e (suc k) l i = none-plain es (edge-parts (is_edge f.edge) (has_edge es) h).1 e k (omega (arith, l)) i
 
-  so-list : (es : Events) → IsEventListIn s clock x es → is_clocked es ≡ true → is_clocks es ≡ true
+  so-list : (es : Events) → IsEventListIn s clocks x es → is_clocked es ≡ true → is_clocks es ≡ true
   so-list _ IsEventListIn.star h = h
-  so-list _ (IsEventListIn.one_clock c k) h = so-clock-edge clock c k
-  so-list _ (IsEventListIn.clock_first c e k b a) h = or_left (is_clock_pair s clock c e) (is_clock_pair s clock e c) (so-pair s clock c e k b a)
-  so-list _ (IsEventListIn.clock_second c e k b a) h = or_right (is_clock_pair s clock e c) (is_clock_pair s clock c e) (so-pair s clock c e k b a)
+  so-list _ (IsEventListIn.one_clock c k) h = so-clock-edge clocks c k
+  so-list _ (IsEventListIn.clock_first c e k b a) h = or_left (is_clock_pair s clocks c e) (is_clock_pair s clocks e c) (so-pair s clocks c e k b a)
+  so-list _ (IsEventListIn.clock_second c e k b a) h = or_right (is_clock_pair s clocks e c) (is_clock_pair s clocks c e) (so-pair s clocks c e k b a)
   so-list _ (IsEventListIn.names es c) h = absurd (false≢true (sym (plain-none es c.plain) ∙ h))
 
   abbrev CoversAll : Events → Type 0
   CoversAll any_change = Unit {0}
   CoversAll (on_events es) = CoversIn s es x
 
-  clock-has-edge : (c : Event) (rest : Bool) → IsClockEdgeIn clock c → (is_edge c.edge || rest) ≡ false → ⊥
+  clock-has-edge : (c : Event) (rest : Bool) → IsClockEdgeIn clocks c → (is_edge c.edge || rest) ≡ false → ⊥
   clock-has-edge c rest k h = true≢false (ap (λ e. is_edge e || rest) (sym k.0) ∙ h)
 
-  second-has-edge : (c : Event) (first rest : Bool) → IsClockEdgeIn clock c → (first || (is_edge c.edge || rest)) ≡ false → ⊥
+  second-has-edge : (c : Event) (first rest : Bool) → IsClockEdgeIn clocks c → (first || (is_edge c.edge || rest)) ≡ false → ⊥
   second-has-edge c first rest k h = clock-has-edge c rest k (edge-parts first (is_edge c.edge || rest) h).1
 
-  so-covers : (es : Events) → IsEventListIn s clock x es → is_clocked es ≡ false → CoversAll es
+  so-covers : (es : Events) → IsEventListIn s clocks x es → is_clocked es ≡ false → CoversAll es
   so-covers _ IsEventListIn.star h = tt
   so-covers _ (IsEventListIn.one_clock c k) h = absurd (clock-has-edge c false k h)
   so-covers _ (IsEventListIn.clock_first c e k b a) h = absurd (clock-has-edge c (is_edge e.edge || false) k h)
@@ -151,41 +151,41 @@ module _ (s : Scope) (clock : Name) (x : pure.Statement) where
     whole : events_of ev ≡ on_events (events_list es)
     whole = ap events_of is ∙ ap (λ ys. on_events (events_list ys)) (sym same)
 
-    pub clocked-so : c ≡ true → (r : Bool) → r ≡ is_clock_list s clock (events_list es) → IsTrue r ↔ IsEventListIn s clock x (events_of ev)
+    pub clocked-so : c ≡ true → (r : Bool) → r ≡ is_clock_list s clocks (events_list es) → IsTrue r ↔ IsEventListIn s clocks x (events_of ev)
     clocked-so t r h = (
-      (λ i. subst (IsEventListIn s clock x) (sym whole) (list-so (events_list es) (sym h ∙ i))),
-      (λ l. h ∙ so-list (on_events (events_list es)) (subst (IsEventListIn s clock x) whole l) (ap is_clocked (sym whole) ∙ sym clocked ∙ t)),
+      (λ i. subst (IsEventListIn s clocks x) (sym whole) (list-so (events_list es) (sym h ∙ i))),
+      (λ l. h ∙ so-list (on_events (events_list es)) (subst (IsEventListIn s clocks x) whole l) (ap is_clocked (sym whole) ∙ sym clocked ∙ t)),
     )
 
-    pub names-so : c ≡ false → (r : Bool) → (IsTrue r ↔ CoversIn s (events_list es) x) → IsTrue r ↔ IsEventListIn s clock x (events_of ev)
+    pub names-so : c ≡ false → (r : Bool) → (IsTrue r ↔ CoversIn s (events_list es) x) → IsTrue r ↔ IsEventListIn s clocks x (events_of ev)
     names-so f r h =
         let none : has_edge (events_list es) ≡ false = ap is_clocked (sym whole) ∙ sym clocked ∙ f in (
-          (λ i. subst (IsEventListIn s clock x) (sym whole)
+          (λ i. subst (IsEventListIn s clocks x) (sym whole)
               (IsEventListIn.names (events_list es) (record { plain = λ e k. none-plain (events_list es) none e k.0 k.1 k.2; covers = h.0 i }))),
-          (λ l. h.1 (so-covers (on_events (events_list es)) (subst (IsEventListIn s clock x) whole l) none)),
+          (λ l. h.1 (so-covers (on_events (events_list es)) (subst (IsEventListIn s clocks x) whole l) none)),
         )
 
-  pub star-so : (ev : CodeEvents) → ev ≡ AnyChange → IsTrue true ↔ IsEventListIn s clock x (events_of ev)
-  star-so ev is = ((λ i. subst (λ y. IsEventListIn s clock x (events_of y)) (sym is) IsEventListIn.star), (λ l. refl))
+  pub star-so : (ev : CodeEvents) → ev ≡ AnyChange → IsTrue true ↔ IsEventListIn s clocks x (events_of ev)
+  star-so ev is = ((λ i. subst (λ y. IsEventListIn s clocks x (events_of y)) (sym is) IsEventListIn.star), (λ l. refl))
 
 -- two events by their places
-pub one-listed : (s : Scope) (clock : Name) (es : List CodeEvent) (c : CodeEvent) (r : Bool) → length es ≡ 1 → c ≡ get_or es 0 c → r ≡ is_clock_edge clock (event_of c)
-    → r ≡ is_clock_list s clock (events_list es)
-one-listed s clock [] c r l i h = absurd (omega (arith, l))
-one-listed s clock (a ∷ []) c r l i h = h ∙ ap (λ e. is_clock_edge clock (event_of e)) i
-one-listed s clock (a ∷ b ∷ es) c r l i h = absurd (omega (arith, l))
+pub one-listed : (s : Scope) (clocks : Name → Bool) (es : List CodeEvent) (c : CodeEvent) (r : Bool) → length es ≡ 1 → c ≡ get_or es 0 c → r ≡ is_clock_edge clocks (event_of c)
+    → r ≡ is_clock_list s clocks (events_list es)
+one-listed s clocks [] c r l i h = absurd (omega (arith, l))
+one-listed s clocks (a ∷ []) c r l i h = h ∙ ap (λ e. is_clock_edge clocks (event_of e)) i
+one-listed s clocks (a ∷ b ∷ es) c r l i h = absurd (omega (arith, l))
 
-pub other-listed : (s : Scope) (clock : Name) (es : List CodeEvent) → ¬ (length es ≡ 1) → ¬ (length es ≡ 2) → false ≡ is_clock_list s clock (events_list es)
-other-listed s clock [] h g = refl
-other-listed s clock (a ∷ []) h g = absurd (h refl)
-other-listed s clock (a ∷ b ∷ []) h g = absurd (g refl)
-other-listed s clock (a ∷ b ∷ c ∷ es) h g = refl
+pub other-listed : (s : Scope) (clocks : Name → Bool) (es : List CodeEvent) → ¬ (length es ≡ 1) → ¬ (length es ≡ 2) → false ≡ is_clock_list s clocks (events_list es)
+other-listed s clocks [] h g = refl
+other-listed s clocks (a ∷ []) h g = absurd (h refl)
+other-listed s clocks (a ∷ b ∷ []) h g = absurd (g refl)
+other-listed s clocks (a ∷ b ∷ c ∷ es) h g = refl
 
-pub two-listed : (s : Scope) (clock : Name) (es : List CodeEvent) (c e : CodeEvent) (p q r : Bool) → length es ≡ 2 → c ≡ get_or es 0 c → e ≡ get_or es 1 e
-    → p ≡ is_clock_pair s clock (event_of c) (event_of e) → q ≡ is_clock_pair s clock (event_of e) (event_of c) → r ≡ (p || q) → r ≡ is_clock_list s clock (events_list es)
-two-listed s clock [] c e p q r l i j f g h = absurd (omega (arith, l))
-two-listed s clock (a ∷ []) c e p q r l i j f g h = absurd (omega (arith, l))
-two-listed s clock (a ∷ b ∷ []) c e p q r l i j f g h =
-    h ∙ ap (λ t. t || q) (f ∙ ap (λ y. is_clock_pair s clock (event_of y) (event_of e)) i ∙ ap (λ y. is_clock_pair s clock (event_of a) (event_of y)) j)
-    ∙ ap (λ t. is_clock_pair s clock (event_of a) (event_of b) || t) (g ∙ ap (λ y. is_clock_pair s clock (event_of y) (event_of c)) j ∙ ap (λ y. is_clock_pair s clock (event_of b) (event_of y)) i)
-two-listed s clock (a ∷ b ∷ d ∷ es) c e p q r l i j f g h = absurd (omega (arith, l))
+pub two-listed : (s : Scope) (clocks : Name → Bool) (es : List CodeEvent) (c e : CodeEvent) (p q r : Bool) → length es ≡ 2 → c ≡ get_or es 0 c → e ≡ get_or es 1 e
+    → p ≡ is_clock_pair s clocks (event_of c) (event_of e) → q ≡ is_clock_pair s clocks (event_of e) (event_of c) → r ≡ (p || q) → r ≡ is_clock_list s clocks (events_list es)
+two-listed s clocks [] c e p q r l i j f g h = absurd (omega (arith, l))
+two-listed s clocks (a ∷ []) c e p q r l i j f g h = absurd (omega (arith, l))
+two-listed s clocks (a ∷ b ∷ []) c e p q r l i j f g h =
+    h ∙ ap (λ t. t || q) (f ∙ ap (λ y. is_clock_pair s clocks (event_of y) (event_of e)) i ∙ ap (λ y. is_clock_pair s clocks (event_of a) (event_of y)) j)
+    ∙ ap (λ t. is_clock_pair s clocks (event_of a) (event_of b) || t) (g ∙ ap (λ y. is_clock_pair s clocks (event_of y) (event_of c)) j ∙ ap (λ y. is_clock_pair s clocks (event_of b) (event_of y)) i)
+two-listed s clocks (a ∷ b ∷ d ∷ es) c e p q r l i j f g h = absurd (omega (arith, l))

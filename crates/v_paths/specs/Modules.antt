@@ -1,5 +1,5 @@
--- Blocks of a module: latches, and lists of events that none may have.
-use Rattle.std.specs.Prelude.{◌≡◌, false, List, [], ◌∷◌, ◌⊎◌, Contains}
+-- Blocks of a module: latches, and lists of events that they may not have.
+use Rattle.std.specs.Prelude.{◌≡◌, Bool, false, List, [], ◌∷◌, ◌⊎◌, Contains}
 use Rattle.wb_values.specs.Value.{Name}
 use Rattle.verilog_trees.specs.Syntax.{Statement, Events, Item, port, parameter, wires, variables, assign, always, instances}
 use Rattle.verilog_meaning.specs.Expression.{Scope}
@@ -33,12 +33,12 @@ pub record HasLatchIn (s : Scope) (items : List Item) : Type 0 where
   pub stands : Contains (combinational_blocks items) statement
   pub latched : HasLatchedBit s statement
 
--- BadEventList: a block has none that it may have.
-pub record HasBadEventListIn (s : Scope) (clock : Name) (items : List Item) : Type 0 where
+-- BadEventList: the list of a block is none of those that it may have.
+pub record HasBadEventListIn (s : Scope) (is_clock_net : Name → Bool) (items : List Item) : Type 0 where
   pub events : Events
   pub statement : Statement
   pub stands : Contains items (always events statement)
-  pub bad : ¬ IsEventListIn s clock statement events
+  pub bad : ¬ IsEventListIn s is_clock_net statement events
 
 -- ---- item by item
 
@@ -51,14 +51,14 @@ IsLatchedItem s (assign ts) = ⊥
 IsLatchedItem s (always es x) = (is_clocked es ≡ false) × HasLatchedBit s x
 IsLatchedItem s (instances m given is) = ⊥
 
-abbrev pub IsBadItem : Scope → Name → Item → Type 0
-IsBadItem s clock (port d) = ⊥
-IsBadItem s clock (parameter d) = ⊥
-IsBadItem s clock (wires signed r ws) = ⊥
-IsBadItem s clock (variables signed r vs) = ⊥
-IsBadItem s clock (assign ts) = ⊥
-IsBadItem s clock (always es x) = ¬ IsEventListIn s clock x es
-IsBadItem s clock (instances m given is) = ⊥
+abbrev pub IsBadItem : Scope → (is_clock_net : Name → Bool) → Item → Type 0
+IsBadItem s is_clock_net (port d) = ⊥
+IsBadItem s is_clock_net (parameter d) = ⊥
+IsBadItem s is_clock_net (wires signed r ws) = ⊥
+IsBadItem s is_clock_net (variables signed r vs) = ⊥
+IsBadItem s is_clock_net (assign ts) = ⊥
+IsBadItem s is_clock_net (always es x) = ¬ IsEventListIn s is_clock_net x es
+IsBadItem s is_clock_net (instances m given is) = ⊥
 
 -- one of them is so
 abbrev pub OneIs : (Item → Type 0) → List Item → Type 0

@@ -95,10 +95,10 @@ fn is_edge(kind: EdgeKind) -> bool
     }
 }
 
-fn is_clock_edge(clock: &str, event: Event<'_>) -> bool
-    ensures { result ≡ is_clock_edge clock.now (event_of event.entry) }
+fn is_clock_edge(clocks: &BTreeSet<&str>, event: Event<'_>) -> bool
+    ensures { result ≡ is_clock_edge (has_name clocks.now) (event_of event.entry) }
 {
-    is_posedge(event.edge) && event.signal == clock
+    is_posedge(event.edge) && clocks.contains(event.signal)
 }
 
 /// Whether an object is a net or variable of one bit.
@@ -128,12 +128,12 @@ fn is_bit_edge(scope: &Scope<'_>, event: Event<'_>) -> bool
     is_bit(scope.object(event.signal))
 }
 
-/// Whether one event is the clock's edge and the other that of a bit of another name.
-fn is_clock_pair(scope: &Scope<'_>, clock: &str, first: Event<'_>, second: Event<'_>) -> bool
+/// Whether one event is a clock's edge and the other that of a bit of another name.
+fn is_clock_pair(scope: &Scope<'_>, clocks: &BTreeSet<&str>, first: Event<'_>, second: Event<'_>) -> bool
     requires { HasNarrowObjects (scope_at scope.now) }
-    ensures { result ≡ is_clock_pair (scope_at scope.now) clock.now (event_of first.entry) (event_of second.entry) }
+    ensures { result ≡ is_clock_pair (scope_at scope.now) (has_name clocks.now) (event_of first.entry) (event_of second.entry) }
 {
-    if !is_clock_edge(clock, first) {
+    if !is_clock_edge(clocks, first) {
         return false;
     }
     if !is_bit_edge(scope, second) {
@@ -149,19 +149,19 @@ fn either(x: bool, y: bool) -> bool
 }
 
 /// Whether a list with an edge is one that a clocked block may have.
-fn is_clock_list(scope: &Scope<'_>, clock: &str, events: &[Event<'_>]) -> bool
+fn is_clock_list(scope: &Scope<'_>, clocks: &BTreeSet<&str>, events: &[Event<'_>]) -> bool
     requires { HasNarrowObjects (scope_at scope.now) }
-    ensures { result ≡ is_clock_list (scope_at scope.now) clock.now (events_list events.now) }
+    ensures { result ≡ is_clock_list (scope_at scope.now) (has_name clocks.now) (events_list events.now) }
 {
     if events.len() == 1 {
-        return is_clock_edge(clock, events[0]);
+        return is_clock_edge(clocks, events[0]);
     }
     if events.len() != 2 {
         return false;
     }
     either(
-        is_clock_pair(scope, clock, events[0], events[1]),
-        is_clock_pair(scope, clock, events[1], events[0]),
+        is_clock_pair(scope, clocks, events[0], events[1]),
+        is_clock_pair(scope, clocks, events[1], events[0]),
     )
 }
 
@@ -170,20 +170,20 @@ fn is_clock_list(scope: &Scope<'_>, clock: &str, events: &[Event<'_>]) -> bool
 pub fn has_event_list(
     alloc: Global,
     scope: &Scope<'_>,
-    clock: &str,
+    clocks: &BTreeSet<&str>,
     events: &Events<'_>,
     statement: &Statement<'_>,
 ) -> Result<bool, AllocError>
     requires objects { HasNarrowObjects (scope_at scope.now) }
     requires narrow { IsNarrowFlow (scope_at scope.now) (statement_of statement.now) }
     requires no_memory { is_clocked (events_of events.now) ≡ false → AssignsNoMemory (scope_at scope.now) (statement_of statement.now) }
-    ensures { IfOk result (λ r. IsTrue r ↔ IsEventListIn (scope_at scope.now) clock.now (statement_of statement.now) (events_of events.now)) }
+    ensures { IfOk result (λ r. IsTrue r ↔ IsEventListIn (scope_at scope.now) (has_name clocks.now) (statement_of statement.now) (events_of events.now)) }
 {
     match events {
         Events::AnyChange => Ok(true),
         Events::OnEvents(list) => {
             if is_clocked(events) {
-                return Ok(is_clock_list(scope, clock, list));
+                return Ok(is_clock_list(scope, clocks, list));
             }
             let covers = covers_reads(alloc, scope, list, statement)?;
             Ok(covers)

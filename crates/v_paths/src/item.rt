@@ -4,11 +4,13 @@ ghost use Rattle.std.specs.Prelude.{◌≡◌, ◌↔◌, map, IsTrue, IfOk};
 ghost use Rattle.v_syntax.specs.Source.{item_of};
 ghost use Rattle.v_value.specs.Scope.{scope_at};
 ghost use Rattle.v_value.specs.Narrow.{HasNarrowObjects};
+ghost use Rattle.v_hier.specs.Tables.{has_name};
 ghost use Rattle.v_paths.specs.Modules.{IsFitItem, AreFitItems, HasLatchIn, HasBadEventListIn, IsLatchedItem, IsBadItem, OneIs};
 
 use crate::event::has_event_list;
 use crate::latch::is_latched;
 use std::alloc::{AllocError, Global};
+use std::collections::BTreeSet;
 use v_statement::register::is_clocked;
 use v_syntax::module::Item;
 use v_value::scope::Scope;
@@ -63,16 +65,16 @@ pub fn has_latch(alloc: Global, scope: &Scope<'_>, items: &[Item<'_>]) -> Result
 fn is_bad_item(
     alloc: Global,
     scope: &Scope<'_>,
-    clock: &str,
+    clocks: &BTreeSet<&str>,
     item: &Item<'_>,
 ) -> Result<bool, AllocError>
     requires objects { HasNarrowObjects (scope_at scope.now) }
     requires fit { IsFitItem (scope_at scope.now) (item_of item.now) }
-    ensures { IfOk result (λ r. IsTrue r ↔ IsBadItem (scope_at scope.now) clock.now (item_of item.now)) }
+    ensures { IfOk result (λ r. IsTrue r ↔ IsBadItem (scope_at scope.now) (has_name clocks.now) (item_of item.now)) }
 {
     match item {
         Item::Always(events, block) => {
-            let may = has_event_list(alloc, scope, clock, events, block)?;
+            let may = has_event_list(alloc, scope, clocks, events, block)?;
             Ok(!may)
         }
         Item::Port(_)
@@ -87,32 +89,33 @@ fn is_bad_item(
 fn one_is_bad(
     alloc: Global,
     scope: &Scope<'_>,
-    clock: &str,
+    clocks: &BTreeSet<&str>,
     items: &[Item<'_>],
 ) -> Result<bool, AllocError>
     requires objects { HasNarrowObjects (scope_at scope.now) }
     requires fit { AreFitItems (scope_at scope.now) (map item_of items.now) }
-    ensures { IfOk result (λ r. IsTrue r ↔ OneIs (IsBadItem (scope_at scope.now) clock.now) (map item_of items.now)) }
+    ensures { IfOk result (λ r. IsTrue r ↔ OneIs (IsBadItem (scope_at scope.now) (has_name clocks.now)) (map item_of items.now)) }
 {
     for item in items {
-        if is_bad_item(alloc, scope, clock, item)? {
+        if is_bad_item(alloc, scope, clocks, item)? {
             return Ok(true);
         }
     }
     Ok(false)
 }
 
-/// Whether some block among the items of a module has a list of events that it may not have. No combinational block assigns a memory.
+/// Whether some block among the items of a module, where these names are those of clocks, has a list of events that it may not have. No
+/// combinational block assigns a memory.
 pub fn has_bad_event_list(
     alloc: Global,
     scope: &Scope<'_>,
-    clock: &str,
+    clocks: &BTreeSet<&str>,
     items: &[Item<'_>],
 ) -> Result<bool, AllocError>
     requires objects { HasNarrowObjects (scope_at scope.now) }
     requires fit { AreFitItems (scope_at scope.now) (map item_of items.now) }
-    ensures { IfOk result (λ r. IsTrue r ↔ HasBadEventListIn (scope_at scope.now) clock.now (map item_of items.now)) }
+    ensures { IfOk result (λ r. IsTrue r ↔ HasBadEventListIn (scope_at scope.now) (has_name clocks.now) (map item_of items.now)) }
 {
-    let found = one_is_bad(alloc, scope, clock, items)?;
+    let found = one_is_bad(alloc, scope, clocks, items)?;
     Ok(found)
 }

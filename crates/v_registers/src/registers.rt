@@ -8,7 +8,6 @@ ghost use Rattle.std.specs.Prelude.{List};
 ghost use Rattle.v_syntax.specs.Source.{item_of};
 ghost use Rattle.v_value.specs.Scope.{object_of, scope_at};
 ghost use Rattle.v_value.specs.Narrow.{HasNarrowObjects};
-ghost use Rattle.v_scopes.specs.Scopes.{scope_in};
 ghost use Rattle.v_drivers.specs.Premises.{AreNarrowBlocks};
 ghost use Rattle.v_registers.specs.Groups.{bits_under};
 ghost use Rattle.v_registers.specs.Masks.{has_bits};
@@ -21,7 +20,6 @@ use crate::masks::{has_bits, masks_of};
 use std::alloc::Global;
 use std::collections::BTreeMap;
 use v_flow::span::Span;
-use v_scopes::ModuleScope;
 use v_syntax::module::Item;
 use v_value::scope::{Object, Scope};
 
@@ -78,12 +76,12 @@ fn is_register(masks: &[u128], object: Object) -> bool
 fn masks_under<'s>(
     alloc: Global,
     groups: &BTreeMap<&'s str, Vec<Span<'s>>>,
-    names: &ModuleScope<'_>,
+    scope: &Scope<'_>,
     name: &str,
 ) -> Result<Vec<u128>, NoMemory>
-    ensures { IfOk result (λ v. (clocked : List Statement) → bits_under groups.now ≡ counts (scope_in names.now) clocked → AreMasks (scope_in names.now) clocked name.now v.items) }
+    ensures { IfOk result (λ v. (clocked : List Statement) → bits_under groups.now ≡ counts (scope_at scope.now) clocked → AreMasks (scope_at scope.now) clocked name.now v.items) }
 {
-    let count = word_count(names.object(name));
+    let count = word_count(scope.object(name));
     match groups.get(name) {
         Some(spans) => {
             let masks = masks_of(alloc, spans, name, count)?;
@@ -100,16 +98,16 @@ fn masks_under<'s>(
 fn add_name<'s>(
     alloc: Global,
     groups: &BTreeMap<&'s str, Vec<Span<'s>>>,
-    names: &ModuleScope<'_>,
+    scope: &Scope<'_>,
     name: &'s str,
     split: &mut Split<'s>,
 ) -> Result<(), NoMemory>
-    ensures { OnOk result ((clocked : List Statement) → bits_under groups.now ≡ counts (scope_in names.now) clocked
-        → IsAdded (scope_in names.now) clocked name.now (map counted_of split.old.registers.items) (map counted_of split.new.registers.items)
+    ensures { OnOk result ((clocked : List Statement) → bits_under groups.now ≡ counts (scope_at scope.now) clocked
+        → IsAdded (scope_at scope.now) clocked name.now (map counted_of split.old.registers.items) (map counted_of split.new.registers.items)
         (map (λ n. n.now) split.old.others.items) (map (λ n. n.now) split.new.others.items)) }
 {
-    let masks = masks_under(alloc, groups, names, name)?;
-    if is_register(&masks, names.object(name)) {
+    let masks = masks_under(alloc, groups, scope, name)?;
+    if is_register(&masks, scope.object(name)) {
         split.registers.push(Register { name, masks })?;
     } else {
         split.others.push(name)?;
@@ -122,13 +120,11 @@ fn add_name<'s>(
 pub fn registers_among<'s>(
     alloc: Global,
     declared: &[&'s str],
-    names: &ModuleScope<'_>,
     scope: &Scope<'_>,
     items: &[Item<'s>],
 ) -> Result<Split<'s>, NoMemory>
     requires objects { HasNarrowObjects (scope_at scope.now) }
     requires narrow { AreNarrowBlocks (scope_at scope.now) (clocked_blocks (map item_of items.now)) }
-    requires same { scope_at scope.now ≡ scope_in names.now }
     ensures { IfOk result (λ v. AreSplit (scope_at scope.now) (clocked_blocks (map item_of items.now)) (map (λ n. n.now) declared.now)
         (map counted_of v.registers.items) (map (λ n. n.now) v.others.items)) }
 {
@@ -139,7 +135,7 @@ pub fn registers_among<'s>(
         others: Vec::new(alloc),
     };
     for name in declared {
-        add_name(alloc, &groups, names, *name, &mut split)?;
+        add_name(alloc, &groups, scope, *name, &mut split)?;
     }
     Ok(split)
 }

@@ -23,10 +23,11 @@ use Rattle.v_scopes.specs.Ports.{alone}
 use Rattle.v_scopes.proofs.Parts.{some_is, none_some, nothing_below}
 use Rattle.v_assigned.proofs.OneModule.{no-connections, second}
 use Rattle.v_depend.specs.Resting.{IsThere}
-use Rattle.v_order.specs.Drivers.{as_statements}
-use Rattle.v_settle.specs.OneModule.{is_driven, drivers}
+use Rattle.v_order.specs.Drivers.{as_statements, drivers}
+use Rattle.v_settle.specs.OneModule.{is_driven}
 use Rattle.v_settle.specs.Designs.{IsGivenTo, SettlesFromOutside, AcceptedHasOneDriver, NoParameterIsMemory}
-use Rattle.v_settle.proofs.Listed.{Links, kind-of}
+use Rattle.v_loops.proofs.Listed.{kind-of}
+use Rattle.v_settle.proofs.Listed.{Links}
 
 -- ---- what settles
 
@@ -63,7 +64,7 @@ module _ (d : Design) (m : Module) (clear : has_parts d.source ≡ false) (own :
       at : Contains [] c → ⊥
       at (i, l, e) = absurd (omega (arith, l))
 
-  not-driven : (n : Name) (k b : ℕ) → is_driven s m.items n k b ≡ false → is_counted (alone m) n k b ≡ false → ¬ (HasPort m n input × (n ≢ d.clock))
+  pub not-driven : (n : Name) (k b : ℕ) → is_driven s m.items n k b ≡ false → is_counted (alone m) n k b ≡ false → ¬ (HasPort m n input × (n ≢ d.clock))
       → ¬ IsDriven d (alone m) n k b
   not-driven n k b free uncounted outside (IsDriven.by_clock t) = false≢true (sym uncounted ∙ t)
   not-driven n k b free uncounted outside (IsDriven.by_block t) =

@@ -21,11 +21,12 @@ use Rattle.v_hier.specs.Instances.{module_has_parts, has_parts}
 use Rattle.v_scopes.specs.Ports.{alone}
 use Rattle.v_lower.specs.Lowered.{Images}
 use Rattle.v_masks.proofs.Bits.{set-none}
-use Rattle.v_order.specs.Drivers.{as_statements}
-use Rattle.v_settle.specs.OneModule.{is_driven, IsSettledFrom, drivers}
+use Rattle.v_order.specs.Drivers.{as_statements, drivers}
+use Rattle.v_settle.specs.OneModule.{is_driven, IsSettledFrom}
 use Rattle.v_settle.specs.Designs.{IsGivenTo, SettlesWithItsModule}
 use Rattle.v_settle.proofs.Alone.{placed-top, unconnected, link-of}
-use Rattle.v_settle.proofs.Listed.{kind-of, driven-by}
+use Rattle.v_loops.proofs.Listed.{kind-of}
+use Rattle.v_settle.proofs.Listed.{driven-by}
 
 module _ (d : Design) (m : Module) (clear : has_parts d.source ≡ false) (own : module_has_parts m ≡ false) (top : at_path d [] ≡ Some (alone m)) (sound : IsSound d) where
   abbrev s : Scope

@@ -3,20 +3,22 @@ use Rattle.std.proofs.Common.{◌≡◌, ◌∙◌, ◌+◌, ◌*◌, ℕ, suc, 
 use Rattle.std.specs.Prelude.{IsTrue, ◌↔◌}
 use Rattle.std.proofs.lemmas.Bool.{false≢true, true≢false, and_from}
 use Rattle.wb_values.specs.Value.{Name}
-use Rattle.verilog_trees.specs.Syntax.{Item}
+use Rattle.verilog_trees.specs.Syntax.{Statement, Item}
 use Rattle.verilog_meaning.specs.Expression.{Scope}
 use Rattle.verilog_meaning.specs.Register.{one_may_assign}
 use Rattle.verilog_designs.specs.Reads.{BitSet, and_in}
 use Rattle.verilog_designs.specs.Dependence.{Bit, is_in}
+use Rattle.verilog_unique.proofs.Descent.{IsAmong, contains_among, among_contains}
 use Rattle.v_value.specs.Narrow.{HasNarrowObjects}
 use Rattle.v_flow.specs.Spans.{existing}
 use Rattle.v_depend.specs.Resting.{IsThere, OneIsUnsettled}
-use Rattle.v_settle.specs.OneModule.{drivers, IsEvaluable}
-use Rattle.v_settle.specs.Turns.{State, IsUnderWay, AreVisited, IsLast, IsFurther}
+use Rattle.v_order.specs.Drivers.{drivers}
+use Rattle.v_settle.specs.OneModule.{IsEvaluable}
+use Rattle.v_settle.specs.Turns.{State, IsUnderWay, AreVisited, HasVisits, IsLast, IsFurther}
 use Rattle.v_settle.proofs.Given.{stage-driven}
-use Rattle.v_settle.proofs.Listed.{stage-assigned}
+use Rattle.v_loops.proofs.Listed.{stage-assigned}
 use Rattle.v_settle.proofs.Step.{RestsWhereItDepends}
-use Rattle.v_settle.proofs.Rounds.{IsTurned, turned-once}
+use Rattle.v_settle.proofs.Rounds.{visits-way, IsTurned, turned-once}
 use Rattle.v_settle.proofs.Ends.{driven-in}
 
 -- Turns lead from one state to another.
@@ -32,6 +34,12 @@ module _ (s : Scope) (items : List Item) (before : State) where
   ended-onward i now e f start k w = record { turns_made = i + k; way = f start k w; ends = ap (λ j. j + k) e }
 
   module _ (objects : HasNarrowObjects s) (ready : IsEvaluable s items) (law : RestsWhereItDepends) (d : BitSet) (is_d : d ≡ existing s (one_may_assign s (drivers items))) where
+    -- drivers were visited in some order
+    pub pass-onward : (xs : List Statement) (i : ℕ) (now next : State) → xs ≡ drivers items → IsOnward s items before now i → HasVisits s xs now next → IsOnward s items before next i
+    pass-onward xs i now next e f h start k w =
+        visits-way s items objects ready law start h.0 now next (i + k)
+        (λ x m. subst (λ (ys : List Statement). IsAmong ys x) e (among_contains xs x (h.1 x (contains_among h.0 x m)))) (f start k w) h.2
+
     -- an unsettled bit is one of the driven ones
     among-driven : (start now : State) (k : ℕ) → IsUnderWay s items start now k → (u : Bit) → IsThere s u → IsTrue (is_in now.unsettled u) → is_in d u ≡ true
     among-driven start now k way u there h =

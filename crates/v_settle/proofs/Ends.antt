@@ -19,15 +19,17 @@ use Rattle.v_flow.specs.Spans.{bits_in, existing}
 use Rattle.v_masks.specs.Masks.{spread}
 use Rattle.v_paths.specs.Premises.{HasNoMemory}
 use Rattle.v_depend.specs.Resting.{IsThere, OneIsUnsettled, at_first, RestsAfter}
+use Rattle.v_order.specs.Drivers.{drivers}
 use Rattle.v_loops.specs.OneModule.{HasLoopIn}
 use Rattle.v_loops.specs.Turns.{Stage, IsStage}
-use Rattle.v_settle.specs.OneModule.{is_driven, IsSettledFrom, IsEvaluated, drivers, IsEvaluable}
+use Rattle.v_settle.specs.OneModule.{is_driven, IsSettledFrom, IsEvaluated, IsEvaluable}
 use Rattle.v_settle.specs.Turns.{State, state_of, IsOpen, IsSettledBut, IsUnderWay, IsLast}
 use Rattle.v_settle.proofs.Apart.{as-before}
-use Rattle.v_settle.proofs.Given.{spread-there, there-spread, spread-free, stage-driven}
+use Rattle.v_settle.proofs.Given.{spread-there, there-spread, stage-driven}
 use Rattle.v_settle.proofs.Chains.{first-step, loop-from}
 use Rattle.v_settle.proofs.Covered.{all-bits, length-all, covers-all}
-use Rattle.v_settle.proofs.Listed.{fit-driver, by-driver, one-assigns, assigned-by, driven-by, first-stage, stage-assigned}
+use Rattle.v_loops.proofs.Listed.{fit-driver, by-driver, one-assigns, assigned-by, first-stage, stage-assigned}
+use Rattle.v_settle.proofs.Listed.{driven-by}
 use Rattle.v_settle.specs.Copies.{IsWithin}
 use Rattle.v_settle.proofs.Copying.{stands-within}
 use Rattle.v_settle.proofs.Step.{some-same}
@@ -87,7 +89,7 @@ module _ (s : Scope) (items : List Item) (ready : IsEvaluable s items) (d : BitS
         record {
           known = known;
           known_spare = known_spare;
-          plain = subst (λ (q : BitSet). HasNoMemory s (existing s q)) (sym is_p) (spread-free s d driven-free);
+          plain = subst (HasNoMemory s) (sym is_p) (λ m k b h. driven-free m 0 b h);
         }
 
     outside : (p2 u v : Valuation) → StandsFor s a g p2 u → IsSettledFrom s items a u v → IsSettledBut s first p2 v

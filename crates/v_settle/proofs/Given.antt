@@ -18,8 +18,8 @@ use Rattle.v_flow.specs.Spans.{existing}
 use Rattle.v_masks.specs.Masks.{spread}
 use Rattle.v_paths.specs.Premises.{HasNoMemory}
 use Rattle.v_depend.specs.Resting.{IsThere}
-use Rattle.v_loops.specs.OneModule.{DependsIn}
 use Rattle.v_order.specs.Drivers.{as_statements}
+use Rattle.v_loops.specs.OneModule.{DependsIn}
 use Rattle.v_loops.specs.Turns.{HaveConstantSelects, RestsBy, OneRests, RestsInTurn, Stage}
 
 -- ---- constants read nothing

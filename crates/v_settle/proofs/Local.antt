@@ -16,12 +16,13 @@ use Rattle.verilog_designs.specs.Drivers.{target_names, targets_names, assigned_
 use Rattle.verilog_designs.specs.Dependence.{Bit, IsGivenBy, at_start, After, given}
 use Rattle.v_value.specs.Narrow.{HasNarrowObjects}
 use Rattle.v_write.specs.Sound.{IsSoundStatement}
+use Rattle.v_order.specs.Drivers.{as_statements, drivers}
 use Rattle.v_settle.specs.Drivers.{IsNet, IsNetTarget, AreNetTargets, IsSoundLink, AreSoundLinks}
-use Rattle.v_settle.specs.OneModule.{drivers, IsEvaluable}
+use Rattle.v_settle.specs.OneModule.{IsEvaluable}
 use Rattle.v_settle.proofs.Apart.{still-before}
 use Rattle.v_settle.proofs.Known.{IsNamed, IsAssignable, leaves, statement-leaves, assignable}
-use Rattle.v_settle.proofs.Listed.{Links, kind-of, sound-among}
-use Rattle.v_order.specs.Drivers.{as_statements}
+use Rattle.v_loops.proofs.Listed.{kind-of}
+use Rattle.v_settle.proofs.Listed.{Links, sound-among}
 
 -- ---- names of targets
 

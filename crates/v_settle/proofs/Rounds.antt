@@ -8,11 +8,13 @@ use Rattle.verilog_unique.proofs.Descent.{IsAmong}
 use Rattle.verilog_designs.specs.Dependence.{Bit, is_in, at_start, After}
 use Rattle.v_value.specs.Narrow.{HasNarrowObjects}
 use Rattle.v_depend.specs.Resting.{IsThere}
+use Rattle.v_order.specs.Drivers.{drivers}
 use Rattle.v_loops.specs.OneModule.{DependsIn}
-use Rattle.v_settle.specs.OneModule.{drivers, IsEvaluable}
+use Rattle.v_settle.specs.OneModule.{IsEvaluable}
 use Rattle.v_settle.specs.Turns.{State, IsOpen, IsVisited, AreVisited, IsUnderWay}
 use Rattle.v_settle.proofs.Given.{after-there, stage-driven}
-use Rattle.v_settle.proofs.Listed.{depends, stage-assigned}
+use Rattle.v_loops.proofs.Listed.{stage-assigned}
+use Rattle.v_settle.proofs.Listed.{depends}
 use Rattle.v_settle.proofs.Step.{RestsWhereItDepends, shrinks, step}
 
 -- ---- drivers one after the other
@@ -69,6 +71,10 @@ module _ (s : Scope) (items : List Item) (objects : HasNarrowObjects s) (ready :
       let here : IsAmong (drivers items) x = among x (inl refl) in
       first-left x xs a h.0 b k here way h.1
       (left-by xs h.0 b k (λ y m. among y (inr m)) (step s items objects ready law start a h.0 x here k way h.1) h.2)
+
+  pub visits-way : (xs : List Statement) (a b : State) (k : ℕ) → ((x : Statement) → IsAmong xs x → IsAmong (drivers items) x) → IsUnderWay s items start a k
+      → AreVisited s xs a b → IsUnderWay s items start b k
+  visits-way xs a b k among way h = (left-by xs a b k among way h).way
 
   -- after a turn: each unsettled bit depends on one that was unsettled
   pub record IsTurned (a b : State) (k : ℕ) : Type 0 where

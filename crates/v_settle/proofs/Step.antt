@@ -18,8 +18,9 @@ use Rattle.v_value.specs.Narrow.{HasNarrowObjects}
 use Rattle.v_lower.specs.Lowered.{Images}
 use Rattle.v_write.specs.Written.{AreOfNames}
 use Rattle.v_depend.specs.Resting.{IsThere, at_first, RestsAfter}
+use Rattle.v_order.specs.Drivers.{drivers}
 use Rattle.v_loops.specs.OneModule.{DependsIn, DependsFarIn}
-use Rattle.v_settle.specs.OneModule.{drivers, IsEvaluable}
+use Rattle.v_settle.specs.OneModule.{IsEvaluable}
 use Rattle.v_settle.specs.Turns.{State, IsOpen, Stands, IsRun, IsPassed, IsVisited, IsSettledBut, IsUnderWay}
 use Rattle.v_settle.proofs.Apart.{as-before, still-before}
 use Rattle.v_settle.proofs.Given.{after-there}
@@ -27,7 +28,8 @@ use Rattle.v_settle.proofs.Chains.{first-step, turned}
 use Rattle.v_settle.proofs.Known.{IsNamed}
 use Rattle.v_settle.proofs.Local.{kind, may-assign, driver-is-local}
 use Rattle.v_settle.proofs.Placed.{is-some-id, no-number}
-use Rattle.v_settle.proofs.Listed.{driver-runs, IsBy, by-driver}
+use Rattle.v_loops.proofs.Listed.{IsBy, by-driver}
+use Rattle.v_settle.proofs.Listed.{driver-runs}
 
 -- the law on what rests after a statement
 abbrev pub RestsWhereItDepends : Type 0

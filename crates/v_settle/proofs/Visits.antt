@@ -1,5 +1,5 @@
 -- One driver, as the code comes to it: it is evaluated, or passed.
-use Rattle.std.proofs.Common.{◌≡◌, ◌∙◌, ◌/◌, ◌%◌, ◌^◌, ◌<◌, ℕ, refl, ap, sym, subst, Bool, true, false, inl, inr, List}
+use Rattle.std.proofs.Common.{◌≡◌, ◌∙◌, ◌/◌, ◌%◌, ◌^◌, ◌<◌, ℕ, refl, ap, sym, subst, Bool, true, false, not, inl, inr, List}
 use Rattle.std.specs.Prelude.{IsTrue, ◌↔◌, ◌&&◌}
 use Rattle.std.proofs.Math.Nat.{mod-eq_of_lt, div-one}
 use Rattle.std.proofs.lemmas.Bool.{false≢true, true≢false, false_from_ne_true, and_parts, and_from}
@@ -8,9 +8,9 @@ use Rattle.model_meaning.specs.Term.{Term, val}
 use Rattle.verilog_trees.specs.Syntax.{Expression, Target, Statement, blocking}
 use Rattle.verilog_meaning.specs.Expression.{Scope, no_values, assigned_value}
 use Rattle.verilog_meaning.specs.Statement.{Place, places, target_width, written, run, with_updates}
-use Rattle.verilog_meaning.specs.Register.{is_bit_of, may_assign}
+use Rattle.verilog_meaning.specs.Register.{may_assign}
 use Rattle.verilog_settled.specs.Locality.{HasNoConstantMemory, has_constant_selects}
-use Rattle.verilog_designs.specs.Reads.{BitSet, and_in}
+use Rattle.verilog_designs.specs.Reads.{BitSet, but_not_in}
 use Rattle.verilog_designs.specs.Dependence.{Bit, is_in}
 use Rattle.wb_terms.specs.Graph.{Graph}
 use Rattle.v_operators.specs.Meaning.{Grows}
@@ -21,12 +21,13 @@ use Rattle.v_write.specs.Blocks.{IsStatementLowered}
 use Rattle.v_write.specs.Running.{IsAssigned}
 use Rattle.v_write.specs.Written.{AreOfNames}
 use Rattle.v_flow.specs.declared.span.Span.{Span}
-use Rattle.v_flow.specs.Spans.{bits_in, existing}
-use Rattle.v_paths.specs.Premises.{HasNoMemory, AssignsNoMemory}
-use Rattle.v_depend.specs.Resting.{IsThere, OneIsUnsettled, at_first, RestsAfter}
-use Rattle.v_settle.specs.Drivers.{AreBitsWritten, IsLinkLowered}
+use Rattle.v_flow.specs.Spans.{bits_in}
+use Rattle.v_masks.specs.Masks.{spread}
+use Rattle.v_depend.specs.Resting.{IsThere, OneIsUnsettled}
+use Rattle.v_loops.specs.Turns.{AreSettled}
+use Rattle.v_settle.specs.Drivers.{AreBitsWritten, IsLinkLowered, IsDriverLowered}
 use Rattle.v_settle.specs.Turns.{State, state_of, IsOpen, IsVisited}
-use Rattle.v_settle.proofs.Apart.{as-before, still-before}
+use Rattle.v_settle.proofs.Given.{in-first}
 use Rattle.v_settle.proofs.Placed.{fixed_places}
 
 -- an environment that stands under images stands under them in a store that has grown
@@ -59,105 +60,82 @@ pub has-for : (xs ys : List Span) (q : BitSet) (more : Bool) → xs ≡ ys → (
     → more ≡ false → (n : Name) (k b : ℕ) → bits_in ys n k b ≡ true → q n k b ≡ true
 has-for xs ys q more e f = subst (λ (zs : List Span). more ≡ false → (n : Name) (k b : ℕ) → bits_in zs n k b ≡ true → q n k b ≡ true) e f
 
--- ---- bits of memories
+-- ---- either kind of driver
 
-both-false : (a b : Bool) → a ≡ true → (a && b) ≡ false → b ≡ false
-both-false true b e h = h
-both-false false b e h = absurd (false≢true e)
-
--- ---- a driver of which no bit is unsettled
-
-pub skipped : (s : Scope) (x : Statement) (a : State) (spans : BitSet) (some : Bool) → IsOpen s a → spans ≡ existing s (may_assign s x)
-    → IsTrue some ↔ OneIsUnsettled a.unsettled spans → some ≡ false → IsVisited s x a (state_of a.images a.spare a.graph a.unsettled)
-skipped s x a spans some opens is_spans met none =
+pub link-driver : (s : Scope) (a n : Images) (g : Graph) (t : Target) (e : Expression) (b : Images) (h : Graph) → HasImages s n g → Grows g h
+    → IsLinkLowered s a g t e b h → IsDriverLowered s a n g (blocking t e) b n h
+link-driver s a n g t e b h known grows l =
     record {
-      opens = record { known = opens.known; known_spare = opens.known_spare; plain = opens.plain };
-      names = λ n. refl;
-      rests = λ u there m h.
-          absurd (true≢false (sym (met.1 (
-            u,
-            subst (λ (z : BitSet). is_in z u ≡ true) (sym is_spans)
-                (and_from (is_bit_of (s u.of_name) u.word u.place) (may_assign s x u.of_name u.word u.place) there m),
-            h,
-          )) ∙ none));
-      left = λ u there h r. h;
-      others = λ u there m. ((λ h. h), (λ h. h));
-      worth = inr (record { stands = λ p w st. record { names = st.names; others = st.others; spares = st.spares }; lasts = λ u there m h. h });
+      known = l.known;
+      known_spare = images_kept s n g h grows known;
+      names = l.names;
+      stands = λ p v u st sp. (l.stands p v st, u, stands_after s n g h p u grows known sp);
     }
 
-module _ (s : Scope) (x : Statement) (a : State) (opens : IsOpen s a) (plain : AssignsNoMemory s x) (q : BitSet)
-    (rests : (u : Bit) → IsThere s u → IsTrue (is_in q u) ↔ RestsAfter a.unsettled s x u) where
-  after-plain : HasNoMemory s (existing s q)
-  after-plain n k b m =
-      false_from_ne_true (is_bit_of (s n) k b && q n k b) (λ h.
-      let both = and_parts (is_bit_of (s n) k b) (q n k b) h in
-      let u : Bit = record { of_name = n; word = k; place = b } in
-      let free = both-false (is_bit_of (s n) k b) (may_assign s x n k b) both.0 (plain n k b m) in
-      let before = as-before s (at_first a.unsettled) x u u free ((rests u both.0).0 both.1) in
-      true≢false (sym (and_from (is_bit_of (s n) k b) (a.unsettled n k b) both.0 before) ∙ opens.plain n k b m))
+pub block-driver : (s : Scope) (a n : Images) (g : Graph) (x : Statement) (b m : Images) (h : Graph) → IsStatementLowered s a n g x b m h → IsDriverLowered s a n g x b m h
+block-driver s a n g x b m h l =
+    record {
+      known = l.known;
+      known_spare = l.known_next;
+      names = l.names;
+      stands = λ p v u st sp. (l.stands p v u st sp, with_updates s u (run s x v).updates, l.stands_next p v u st sp);
+    }
 
-  -- what the driver leaves of its bits, and of others
-  rests-of : (u : Bit) → IsThere s u → IsTrue (may_assign s x u.of_name u.word u.place) → IsTrue (is_in q u) → RestsAfter a.unsettled s x u
-  rests-of u there m h = (rests u there).0 h
+-- ---- a driver that is come to
 
-  left-of : (u : Bit) → IsThere s u → IsTrue (is_in a.unsettled u) → RestsAfter a.unsettled s x u → IsTrue (is_in q u)
-  left-of u there h r = (rests u there).1 r
+not-so : (b : Bool) → (b ≡ true → ⊥) → not b ≡ true
+not-so true f = absurd (f refl)
+not-so false f = refl
 
-  others-of : (u : Bit) → IsThere s u → may_assign s x u.of_name u.word u.place ≡ false → IsTrue (is_in q u) ↔ IsTrue (is_in a.unsettled u)
-  others-of u there m =
-      ((λ h. as-before s (at_first a.unsettled) x u u m ((rests u there).0 h)), (λ h. (rests u there).1 (still-before s (at_first a.unsettled) x u u m h)))
+so-not : (b : Bool) → not b ≡ true → b ≡ false
+so-not true e = absurd (false≢true e)
+so-not false e = refl
 
-  -- ---- a driver that is passed
-
-  pub passed : (spans before : BitSet) (more : Bool) → spans ≡ existing s (may_assign s x) → before ≡ and_in spans a.unsettled
-      → (more ≡ false → (n : Name) (k b : ℕ) → before n k b ≡ true → q n k b ≡ true) → more ≡ false → IsVisited s x a (state_of a.images a.spare a.graph q)
-  passed spans before more is_spans is_before has none =
+module _ (s : Scope) (x : Statement) (a : State) (opens : IsOpen s a) (settled : BitSet) (f : AreSettled a.unsettled s x settled) where
+  -- it settles nothing
+  pub passed : (some : Bool) → IsTrue some ↔ OneIsUnsettled a.unsettled settled → some ≡ false → IsVisited s x a (state_of a.images a.spare a.graph a.unsettled)
+  passed some met none =
       record {
-        opens = record { known = opens.known; known_spare = opens.known_spare; plain = after-plain };
+        opens = record { known = opens.known; known_spare = opens.known_spare; plain = opens.plain };
         names = λ n. refl;
-        rests = rests-of;
-        left = left-of;
-        others = others-of;
-        worth = inr (record { stands = λ p w st. record { names = st.names; others = st.others; spares = st.spares }; lasts = lasts });
+        rests = λ u there m h. f.rests u there h m (false_from_ne_true (is_in settled u) (λ k. true≢false (sym (met.1 (u, k, h)) ∙ none)));
+        left = λ u there h r. h;
+        others = λ u there m. ((λ h. h), (λ h. h));
+        worth = inr (record { stands = λ p w st. record { names = st.names; others = st.others; spares = st.spares }; lasts = λ u there m h. h });
       }
-    where
-      lasts : (u : Bit) → IsThere s u → IsTrue (may_assign s x u.of_name u.word u.place) → IsTrue (is_in a.unsettled u) → IsTrue (is_in q u)
-      lasts u there m h =
-          has none u.of_name u.word u.place
-          (subst (λ (z : BitSet). is_in z u ≡ true) (sym is_before)
-          (and_from (is_in spans u) (is_in a.unsettled u)
-          (subst (λ (z : BitSet). is_in z u ≡ true) (sym is_spans) (and_from (is_bit_of (s u.of_name) u.word u.place) (may_assign s x u.of_name u.word u.place) there m)) h))
 
-  -- ---- a driver that is evaluated
+  -- or it is evaluated
+  module _ (q : BitSet) (is_q : q ≡ but_not_in a.unsettled (spread settled)) where
+    fewer : (n : Name) (k b : ℕ) → q n k b ≡ true → (a.unsettled n k b ≡ true) × (settled n 0 b ≡ false)
+    fewer n k b h =
+        let both = and_parts (a.unsettled n k b) (not (settled n 0 b)) (subst (λ (z : BitSet). z n k b ≡ true) is_q h) in
+        (both.0, so-not (settled n 0 b) both.1)
 
-  module _ (h : Graph) (grows : Grows a.graph h) where
-    pub block-visited : (b m : Images) → IsStatementLowered s a.images a.spare a.graph x b m h → IsVisited s x a (state_of b m h q)
-    block-visited b m l =
+    still : (n : Name) (k b : ℕ) → a.unsettled n k b ≡ true → (settled n 0 b ≡ true → ⊥) → q n k b ≡ true
+    still n k b h g =
+        subst (λ (z : BitSet). z n k b ≡ true) (sym is_q) (and_from (a.unsettled n k b) (not (settled n 0 b)) h (not-so (settled n 0 b) g))
+
+    first-word : (u : Bit) → IsThere s u → IsTrue (is_in a.unsettled u) → u.word ≡ 0
+    first-word u there h = in-first s a.unsettled u opens.plain there u.word u.place h
+
+    pub evaluated : (b m : Images) (h : Graph) → IsDriverLowered s a.images a.spare a.graph x b m h → IsVisited s x a (state_of b m h q)
+    evaluated b m h l =
         record {
-          opens = record { known = l.known; known_spare = l.known_next; plain = after-plain };
+          opens = record {
+            known = l.known;
+            known_spare = l.known_spare;
+            plain = λ n k c is. false_from_ne_true (q n k c) (λ g. true≢false (sym (fewer n k c g).0 ∙ opens.plain n k c is));
+          };
           names = l.names;
-          rests = rests-of;
-          left = left-of;
-          others = others-of;
-          worth = inl (λ p w st. record {
-            names = l.stands p w st.others st.names st.spares;
-            others = with_updates s st.others (run s x w).updates;
-            spares = l.stands_next p w st.others st.names st.spares;
-          });
-        }
-
-    pub link-visited : (b : Images) → HasImages s b h → AreOfNames a.images b
-        → ((p v : Valuation) → StandsFor s a.images a.graph p v → StandsFor s b h p (run s x v).valuation) → IsVisited s x a (state_of b a.spare h q)
-    link-visited b known names stands =
-        record {
-          opens = record { known = known; known_spare = images_kept s a.spare a.graph h grows opens.known_spare; plain = after-plain };
-          names = names;
-          rests = rests-of;
-          left = left-of;
-          others = others-of;
-          worth = inl (λ p w st. record {
-            names = stands p w st.names;
-            others = st.others;
-            spares = stands_after s a.spare a.graph h p st.others grows opens.known_spare st.spares;
-          });
+          rests = λ u there may g.
+              let r = fewer u.of_name u.word u.place g in
+              f.rests u there r.0 may (subst (λ k. settled u.of_name k u.place ≡ false) (sym (first-word u there r.0)) r.1);
+          left = λ u there was r.
+              still u.of_name u.word u.place was (λ g. (f.settled u (subst (λ k. settled u.of_name k u.place ≡ true) (sym (first-word u there was)) g)).rests r);
+          others = λ u there may. (
+            (λ g. (fewer u.of_name u.word u.place g).0),
+            (λ was. still u.of_name u.word u.place was
+                (λ g. true≢false (sym (f.settled u (subst (λ k. settled u.of_name k u.place ≡ true) (sym (first-word u there was)) g)).assigned ∙ may))),
+          );
+          worth = inl (λ p w st. let r = l.stands p w st.others st.names st.spares in record { names = r.0; others = r.1; spares = r.2 });
         }

@@ -1,26 +1,30 @@
--- Drivers that the code comes to one after the other, and the bits that they drive.
-use Rattle.std.proofs.Common.{◌≡◌, ◌∙◌, ◌+◌, ◌<◌, ℕ, refl, ap, sym, subst, Bool, true, false, List, [], ◌∷◌, ◌++◌, append-nil, drop, length, get_or, arith, ◌⊎◌, inl, inr}
-use Rattle.std.specs.Prelude.{◌||◌, ◌&&◌, ◌==◌, not}
+-- Drivers that the code comes to one after the other, and spans of which a table has all bits.
+use Rattle.std.proofs.Common.{◌≡◌, ◌∙◌, ◌+◌, ◌<◌, ◌≤◌, ℕ, zero, suc, refl, ap, sym, subst, Bool, true, false, List, [], ◌∷◌, ◌++◌, Contains, Option, Some, Bor, drop, length, get_or, arith, ◌⊎◌, inl, inr}
+use Rattle.std.specs.Prelude.{◌||◌, ◌&&◌, ◌==◌, not, MatchOption}
+use Rattle.std.specs.List.{HoldsAt}
 use Rattle.std.proofs.lemmas.Bool.{false≢true, or_cases, and_parts}
 use Rattle.std.proofs.lemmas.Bool.Decides.{nat_tests}
 use Rattle.std.proofs.lemmas.Slice.Eq.{bytes_eq-Decides}
 use Rattle.std.proofs.lemmas.List.{drop_more}
 use Rattle.wb_values.specs.Value.{Name, same_name}
-use Rattle.verilog_trees.specs.Syntax.{Statement}
+use Rattle.verilog_trees.specs.Syntax.{Expression, Target, Statement, Item}
 use Rattle.verilog_meaning.specs.Expression.{Scope}
-use Rattle.verilog_meaning.specs.Register.{is_bit_of, is_set, may_assign, one_may_assign}
-use Rattle.verilog_designs.specs.Reads.{BitSet, no_bits, or_in}
+use Rattle.verilog_meaning.specs.Register.{is_set, combinational_blocks}
+use Rattle.verilog_meaning.specs.Settled.{assignments}
+use Rattle.verilog_unique.proofs.Descent.{IsAmong, among_either, contains_among, among_contains}
+use Rattle.verilog_designs.specs.Reads.{BitSet}
+use Rattle.v_drivers.proofs.Driving.{links-of-items, combinational-of-items}
 use Rattle.v_flow.specs.declared.span.Span.{Span}
-use Rattle.v_flow.specs.Spans.{is_between, bits_of, bits_in, existing}
+use Rattle.v_flow.specs.Spans.{is_between, bits_of, bits_in}
 use Rattle.v_masks.proofs.Bits.{set-none}
-use Rattle.v_flow.proofs.Sets.{or_false, or-none, turn, end}
-use Rattle.v_order.specs.Drivers.{as_statements}
-use Rattle.v_loops.specs.Turns.{AreFitToRun}
-use Rattle.v_settle.specs.Drivers.{AreSoundLinks}
+use Rattle.v_order.specs.declared.driver.Driver.{Driver}
+use Rattle.v_order.specs.Drivers.{Driving, all_links, all_blocks, drivings}
+use Rattle.v_order.specs.Lists.{driving_in, drivings_in}
+use Rattle.v_settle.specs.Drivers.{AreSoundLinks, IsSoundDriving, AreSoundDrivings}
 use Rattle.v_settle.specs.OneModule.{AreSound}
-use Rattle.v_settle.specs.Turns.{State, AreVisited}
-use Rattle.v_settle.proofs.Listed.{Links, statements-both}
-use Rattle.v_settle.proofs.Rounds.{visited-then, none-visited}
+use Rattle.v_settle.specs.Turns.{State, IsOpen, IsVisited, AreVisited, HasVisits}
+use Rattle.v_settle.proofs.Listed.{Links}
+use Rattle.v_settle.proofs.Rounds.{are-open, one-visited, visited-then, none-visited}
 
 -- ---- lists that are walked
 
@@ -35,92 +39,79 @@ visits-turn s whole rest xs ys start a b e f g last h = f last (subst (λ (zs : 
 pub visits-end : (s : Scope) (whole rest : List Statement) (start now : State) → rest ≡ [] → IsLeftToVisit s whole rest start now → AreVisited s whole start now
 visits-end s whole rest start now e f = f now (subst (λ (zs : List Statement). AreVisited s zs now now) (sym e) (none-visited s now))
 
+-- ---- drivers in any order
+
+pub none-visits : (s : Scope) (xs : List Statement) (a : State) → HasVisits s xs a a
+none-visits s xs a = ([], (λ x c. absurd (contains_among-none x c)), none-visited s a)
+  where
+    contains_among-none : (x : Statement) → Contains [] x → ⊥
+    contains_among-none x c = among_contains [] x c
+
+pub one-visit : (s : Scope) (xs : List Statement) (x : Statement) (a b : State) → IsAmong xs x → IsVisited s x a b → HasVisits s xs a b
+one-visit s xs x a b among v = (x ∷ [], (λ y c. at y (among_contains (x ∷ []) y c)), one-visited s x a b v)
+  where
+    at : (y : Statement) → IsAmong (x ∷ []) y → Contains xs y
+    at y (inl e) = subst (Contains xs) e (contains_among xs x among)
+    at y (inr h) = absurd h
+
+pub visits-then : (s : Scope) (xs : List Statement) (a b c : State) → HasVisits s xs a b → HasVisits s xs b c → HasVisits s xs a c
+visits-then s xs a b c f g = (f.0 ++ g.0, (λ x h. at x (among_either f.0 g.0 x (among_contains (f.0 ++ g.0) x h))), visited-then s f.0 g.0 a b c f.2 g.2)
+  where
+    at : (x : Statement) → IsAmong f.0 x ⊎ IsAmong g.0 x → Contains xs x
+    at x (inl h) = f.1 x (contains_among f.0 x h)
+    at x (inr h) = g.1 x (contains_among g.0 x h)
+
+pub visits-open : (s : Scope) (xs : List Statement) (a b : State) → IsOpen s a → HasVisits s xs a b → IsOpen s b
+visits-open s xs a b o h = are-open s h.0 a b o h.2
+
 pub visits-same : (s : Scope) (xs ys : List Statement) (a b : State) → xs ≡ ys → AreVisited s xs a b → AreVisited s ys a b
 visits-same s xs ys a b e h = subst (λ (zs : List Statement). AreVisited s zs a b) e h
 
-sound-both : (s : Scope) (xs ys : List Statement) → AreSound s (xs ++ ys) → AreSound s xs × AreSound s ys
-sound-both s [] ys h = (tt, h)
-sound-both s (x ∷ xs) ys h = let r = sound-both s xs ys h.1 in ((h.0, r.0), r.1)
+-- ---- what is asked of each
 
-pub sound-turn : (s : Scope) (rest xs ys : List Statement) → rest ≡ xs ++ ys → AreSound s rest → AreSound s xs × AreSound s ys
-sound-turn s rest xs ys e h = sound-both s xs ys (subst (AreSound s) e h)
+pub sound-turn : (s : Scope) (ds : List Driver) (i : ℕ) (r : Driver) → drop i ds ≡ r ∷ drop (i + 1) ds → AreSoundDrivings s (drivings_in (drop i ds))
+    → IsSoundDriving s (driving_in r) × AreSoundDrivings s (drivings_in (drop (i + 1) ds))
+sound-turn s ds i r e h = subst (λ (xs : List Driver). AreSoundDrivings s (drivings_in xs)) e h
+
+sound-at : (s : Scope) (ds : List Driver) (j : ℕ) (d : Driver) → j < length ds → AreSoundDrivings s (drivings_in ds) → IsSoundDriving s (driving_in (get_or ds j d))
+sound-at s [] j d l h = absurd (omega (arith, l))
+sound-at s (x ∷ ds) zero d l h = h.0
+sound-at s (x ∷ ds) (suc j) d l h = sound-at s ds j d (omega (arith, l)) h.1
+
+pub sound-got : (s : Scope) (ds : List Driver) (j : ℕ) (o : Option (Bor Driver)) (x : Bor Driver) → o ≡ Some x
+    → MatchOption o (length ds ≤ j) (λ y. (j < length ds) × HoldsAt (λ z. y.now ≡ z) ds j) → AreSoundDrivings s (drivings_in ds) → IsSoundDriving s (driving_in x.now)
+sound-got s ds j o x e m h = at (subst (λ (q : Option (Bor Driver)). MatchOption q (length ds ≤ j) (λ y. (j < length ds) × HoldsAt (λ z. y.now ≡ z) ds j)) e m)
+  where
+    at : (j < length ds) × HoldsAt (λ z. x.now ≡ z) ds j → IsSoundDriving s (driving_in x.now)
+    at g = subst (λ (z : Driver). IsSoundDriving s (driving_in z)) (sym (g.1 x.now)) (sound-at s ds j x.now g.0 h)
 
 links-both : (s : Scope) (xs ys : Links) → AreSoundLinks s (xs ++ ys) → AreSoundLinks s xs × AreSoundLinks s ys
 links-both s [] ys h = (tt, h)
 links-both s (x ∷ xs) ys h = let r = links-both s xs ys h.1 in ((h.0, r.0), r.1)
 
-pub links-turn : (s : Scope) (rest xs ys : Links) → rest ≡ xs ++ ys → AreSoundLinks s rest → AreSoundLinks s xs × AreSoundLinks s ys
-links-turn s rest xs ys e h = links-both s xs ys (subst (AreSoundLinks s) e h)
+blocks-both : (s : Scope) (xs ys : List Statement) → AreSound s (xs ++ ys) → AreSound s xs × AreSound s ys
+blocks-both s [] ys h = (tt, h)
+blocks-both s (x ∷ xs) ys h = let r = blocks-both s xs ys h.1 in ((h.0, r.0), r.1)
 
--- those of the first, which end with nothing, and the rest
-pub links-front : (xs ys : Links) → xs ++ ys ≡ (xs ++ []) ++ ys
-links-front xs ys = ap (λ zs. zs ++ ys) (sym (append-nil xs))
+both-sound : (s : Scope) (xs ys : List Driving) → AreSoundDrivings s xs → AreSoundDrivings s ys → AreSoundDrivings s (xs ++ ys)
+both-sound s [] ys f g = g
+both-sound s (x ∷ xs) ys f g = (f.0, both-sound s xs ys f.1 g)
 
-fit-both : (s : Scope) (xs ys : List Statement) → AreFitToRun s (xs ++ ys) → AreFitToRun s xs × AreFitToRun s ys
-fit-both s [] ys h = (tt, h)
-fit-both s (x ∷ xs) ys h = let r = fit-both s xs ys h.1 in ((h.0, r.0), r.1)
+links-sound : (s : Scope) (xs : Links) → AreSoundLinks s xs → AreSoundDrivings s (all_links xs)
+links-sound s [] h = tt
+links-sound s (x ∷ xs) h = (h.0, links-sound s xs h.1)
 
-pub fit-turn : (s : Scope) (rest xs ys : List Statement) → rest ≡ xs ++ ys → AreFitToRun s rest → AreFitToRun s xs × AreFitToRun s ys
-fit-turn s rest xs ys e h = fit-both s xs ys (subst (AreFitToRun s) e h)
+blocks-sound : (s : Scope) (xs : List Statement) → AreSound s xs → AreSoundDrivings s (all_blocks xs)
+blocks-sound s [] h = tt
+blocks-sound s (x ∷ xs) h = (h.0, blocks-sound s xs h.1)
 
--- those of the first, which end with nothing, and the rest
-pub statements-front : (xs ys : Links) → as_statements (xs ++ ys) ≡ as_statements (xs ++ []) ++ as_statements ys
-statements-front xs ys = statements-both xs ys ∙ ap (λ zs. as_statements zs ++ as_statements ys) (sym (append-nil xs))
-
--- ---- the drivers of an item
-
-pub of-links : (links : Links) → as_statements links ≡ as_statements (links ++ []) ++ ([] ++ [])
-of-links links = sym (append-nil (as_statements links)) ∙ ap (λ zs. as_statements zs ++ []) (sym (append-nil links))
-
--- ---- bits that are driven
-
-assigns-both : (s : Scope) (xs ys : List Statement) (n : Name) (k b : ℕ) → one_may_assign s (xs ++ ys) n k b ≡ (one_may_assign s xs n k b || one_may_assign s ys n k b)
-assigns-both s [] ys n k b = refl
-assigns-both s (x ∷ xs) ys n k b = ap (λ t. may_assign s x n k b || t) (assigns-both s xs ys n k b) ∙ sym (assoc (may_assign s x n k b) (one_may_assign s xs n k b) (one_may_assign s ys n k b))
-  where
-    assoc : (p q r : Bool) → ((p || q) || r) ≡ (p || (q || r))
-    assoc true q r = refl
-    assoc false q r = refl
-
-over-or : (t p q : Bool) → (t && (p || q)) ≡ ((t && p) || (t && q))
-over-or true p q = refl
-over-or false p q = refl
-
-abbrev pub driven-set : Scope → List Statement → BitSet
-driven-set s xs = existing s (one_may_assign s xs)
-
-pub driven-both : (s : Scope) (xs ys : List Statement) → driven-set s (xs ++ ys) ≡ or_in (driven-set s xs) (driven-set s ys)
-driven-both s xs ys = λ i n k b.
-    (ap (λ t. is_bit_of (s n) k b && t) (assigns-both s xs ys n k b) ∙ over-or (is_bit_of (s n) k b) (one_may_assign s xs n k b) (one_may_assign s ys n k b)) i
-
--- one driver, and the rest
-pub driven-one : (s : Scope) (x : Statement) → existing s (may_assign s x) ≡ driven-set s (x ∷ [])
-driven-one s x = λ i n k b. ap (λ t. is_bit_of (s n) k b && t) (sym (or_false (may_assign s x n k b))) i
-
-none-driven : (s : Scope) → driven-set s [] ≡ no_bits
-none-driven s = λ i n k b. and-false (is_bit_of (s n) k b) i
-  where
-    and-false : (t : Bool) → (t && false) ≡ false
-    and-false true = refl
-    and-false false = refl
-
--- the turn of a loop, and its end
-pub driven-turn : (s : Scope) (rest xs ys : List Statement) (whole a b p : BitSet) → rest ≡ xs ++ ys → whole ≡ or_in a (driven-set s rest) → p ≡ driven-set s xs → b ≡ or_in a p
-    → whole ≡ or_in b (driven-set s ys)
-driven-turn s rest xs ys whole a b p e f g h =
-    turn whole a b (driven-set s xs) (driven-set s ys) (f ∙ ap (or_in a) (ap (driven-set s) e ∙ driven-both s xs ys)) (h ∙ ap (or_in a) g)
-
-pub driven-end : (s : Scope) (rest : List Statement) (whole a : BitSet) → rest ≡ [] → whole ≡ or_in a (driven-set s rest) → a ≡ whole
-driven-end s rest whole a e f = end whole a (driven-set s rest) f (ap (driven-set s) e ∙ none-driven s)
-
-pub driven-none : (s : Scope) (xs : List Statement) (a : BitSet) → xs ≡ [] → a ≡ or_in a (driven-set s xs)
-driven-none s xs a e = sym (or-none a) ∙ ap (or_in a) (sym (ap (driven-set s) e ∙ none-driven s))
-
-pub driven-same : (s : Scope) (xs ys : List Statement) (a b : BitSet) → xs ≡ ys → b ≡ or_in a (driven-set s xs) → b ≡ or_in a (driven-set s ys)
-driven-same s xs ys a b e h = h ∙ ap (λ zs. or_in a (driven-set s zs)) e
-
-pub begun-set : (s : Scope) (xs : List Statement) (start : List Span) → start ≡ [] → driven-set s xs ≡ or_in (bits_in start) (driven-set s xs)
-begun-set s xs start e = ap (λ zs. or_in (bits_in zs) (driven-set s xs)) (sym e)
+pub sound-drivings : (s : Scope) (items : List Item) → AreSoundLinks s (assignments items) → AreSound s (combinational_blocks items) → AreSoundDrivings s (drivings items)
+sound-drivings s [] l b = tt
+sound-drivings s (i ∷ items) l b =
+    let f = links-both s (assignments (i ∷ [])) (assignments items) (subst (AreSoundLinks s) (links-of-items i items) l) in
+    let g = blocks-both s (combinational_blocks (i ∷ [])) (combinational_blocks items) (subst (AreSound s) (combinational-of-items i items) b) in
+    both-sound s (all_links (assignments (i ∷ []))) (all_blocks (combinational_blocks (i ∷ [])) ++ drivings items) (links-sound s (assignments (i ∷ [])) f.0)
+    (both-sound s (all_blocks (combinational_blocks (i ∷ []))) (drivings items) (blocks-sound s (combinational_blocks (i ∷ [])) g.0) (sound-drivings s items f.1 g.1))
 
 -- ---- spans that have no more
 

@@ -2,7 +2,7 @@
 use Rattle.std.specs.Prelude.{◌≡◌, ℕ, ◌≤◌, ◌/◌, ◌%◌, ◌^◌, true, false, List, [], ◌∷◌, None, IsTrue}
 use Rattle.wb_values.specs.Value.{Name, word, Valuation}
 use Rattle.model_meaning.specs.Term.{val}
-use Rattle.verilog_trees.specs.Syntax.{Expression, Selects, whole, one, two, Target, place, joined, Targets, no_targets, target, blocking}
+use Rattle.verilog_trees.specs.Syntax.{Expression, Statement, Selects, whole, one, two, Target, place, joined, Targets, no_targets, target, blocking}
 use Rattle.verilog_meaning.specs.Expression.{Scope, object_width, is_memory}
 use Rattle.verilog_meaning.specs.Statement.{Place, target_width, written_cell, written_place, written, run}
 use Rattle.verilog_settled.specs.Locality.{has_constant_selects}
@@ -10,7 +10,9 @@ use Rattle.wb_terms.specs.Graph.{Graph, tree}
 use Rattle.v_operators.specs.Meaning.{IsOfSort, HasNumber}
 use Rattle.v_lower.specs.Lowered.{Images, HasImages, StandsFor, has_sort}
 use Rattle.v_lower.specs.Walking.{IsSound}
+use Rattle.v_write.specs.Sound.{IsSoundStatement}
 use Rattle.v_write.specs.Written.{AreOfNames}
+use Rattle.v_order.specs.Drivers.{Driving, by_link, by_block}
 
 -- ---- what is asked
 
@@ -47,6 +49,15 @@ abbrev pub AreSoundLinks : Scope → List (Target × Expression) → Type 0
 AreSoundLinks s [] = Unit {0}
 AreSoundLinks s (a ∷ links) = IsSoundLink s a.0 a.1 × AreSoundLinks s links
 
+-- a driver of either kind
+abbrev pub IsSoundDriving : Scope → Driving → Type 0
+IsSoundDriving s (by_link t e) = IsSoundLink s t e
+IsSoundDriving s (by_block x) = IsSoundStatement s x
+
+abbrev pub AreSoundDrivings : Scope → List Driving → Type 0
+AreSoundDrivings s [] = Unit {0}
+AreSoundDrivings s (d ∷ ds) = IsSoundDriving s d × AreSoundDrivings s ds
+
 -- ---- what is promised
 
 -- The term of the second store is what a net is worth after a number was written to a place of it.
@@ -72,3 +83,12 @@ pub record IsLinkLowered (s : Scope) (a : Images) (g : Graph) (t : Target) (e : 
   pub known : HasImages s b h
   pub names : AreOfNames a b
   pub stands : (p v : Valuation) → StandsFor s a g p v → StandsFor s b h p (run s (blocking t e) v).valuation
+
+-- a and n are the images of names and those of a second table before a driver was evaluated, and b and m those after it. The second table
+-- stands for some values before, and for some after.
+pub record IsDriverLowered (s : Scope) (a n : Images) (g : Graph) (x : Statement) (b m : Images) (h : Graph) : Type 0 where
+  pub known : HasImages s b h
+  pub known_spare : HasImages s m h
+  pub names : AreOfNames a b
+  pub stands : (p v u : Valuation) → StandsFor s a g p v → StandsFor s n g p u
+      → StandsFor s b h p (run s x v).valuation × (w : Valuation) × StandsFor s m h p w

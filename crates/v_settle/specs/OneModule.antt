@@ -1,5 +1,5 @@
 -- What a module that stands by itself settles to, where some bits are given to it from outside.
-use Rattle.std.specs.Prelude.{◌≡◌, ℕ, false, ◌||◌, ◌++◌, List, [], ◌∷◌, Contains, Some, IsTrue}
+use Rattle.std.specs.Prelude.{◌≡◌, ℕ, false, ◌||◌, List, [], ◌∷◌, Contains, Some, IsTrue}
 use Rattle.wb_values.specs.Value.{Name, Valuation}
 use Rattle.verilog_trees.specs.Syntax.{Statement, Item}
 use Rattle.verilog_meaning.specs.Expression.{Scope}
@@ -13,7 +13,7 @@ use Rattle.v_lower.specs.Lowered.{Images, HasImages, StandsFor}
 use Rattle.v_write.specs.Sound.{IsSoundStatement}
 use Rattle.v_write.specs.Written.{AreOfNames}
 use Rattle.v_depend.specs.Resting.{IsThere}
-pub use Rattle.v_order.specs.Drivers.{drivers}
+use Rattle.v_order.specs.Drivers.{drivers}
 use Rattle.v_loops.specs.Turns.{IsRunnable}
 use Rattle.v_settle.specs.Drivers.{AreSoundLinks}
 

@@ -11,12 +11,12 @@ use Rattle.verilog_designs.specs.Dependence.{Bit, is_in}
 use Rattle.wb_terms.specs.Graph.{Graph}
 use Rattle.v_lower.specs.Lowered.{Images, HasImages, StandsFor}
 use Rattle.v_write.specs.Written.{AreOfNames}
-use Rattle.v_flow.specs.Spans.{existing}
 use Rattle.v_paths.specs.Premises.{HasNoMemory}
 use Rattle.v_depend.specs.Resting.{IsThere, RestsAfter}
 use Rattle.v_loops.specs.OneModule.{DependsIn, DependsFarIn}
 use Rattle.v_loops.specs.Turns.{Stage}
-use Rattle.v_settle.specs.OneModule.{IsSettledFrom, drivers}
+use Rattle.v_order.specs.Drivers.{drivers}
+use Rattle.v_settle.specs.OneModule.{IsSettledFrom}
 
 -- the images of names, those of a second table that is only written to, the store, and the bits that are not settled yet
 pub record State : Type 0 where
@@ -32,7 +32,7 @@ state_of a n g p = record { images = a; spare = n; graph = g; unsettled = p }
 pub record IsOpen (s : Scope) (a : State) : Type 0 where
   pub known : HasImages s a.images a.graph
   pub known_spare : HasImages s a.spare a.graph
-  pub plain : HasNoMemory s (existing s a.unsettled)
+  pub plain : HasNoMemory s a.unsettled
 
 -- The environment stands for the valuation, and for some values of the second table.
 pub record Stands (s : Scope) (a : State) (p w : Valuation) : Type 0 where
@@ -65,6 +65,10 @@ pub record IsVisited (s : Scope) (x : Statement) (a b : State) : Type 0 where
 abbrev pub AreVisited : Scope → List Statement → (a b : State) → Type 0
 AreVisited s [] a b = a ≡ b
 AreVisited s (x ∷ xs) a b = (c : State) × IsVisited s x a c × AreVisited s xs c b
+
+-- drivers in any order, some perhaps more than once
+abbrev pub HasVisits : Scope → List Statement → (a b : State) → Type 0
+HasVisits s xs a b = (ys : List Statement) × ((x : Statement) → Contains ys x → Contains xs x) × AreVisited s ys a b
 
 -- ---- turn after turn
 

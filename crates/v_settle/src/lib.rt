@@ -2,7 +2,6 @@
 #![tactic(auto)]
 
 mod copy;
-mod driven;
 mod driver;
 pub mod laws;
 mod module;

@@ -12,11 +12,11 @@ ghost use Rattle.v_settle.specs.OneModule.{IsEvaluable, IsEvaluated};
 
 use crate::NoMemory;
 use crate::copy::copied;
-use crate::driven::driven;
 use crate::turn::turns;
 use std::alloc::{AllocError, Global};
 use v_depend::meets;
 use v_lower::NamedTerms;
+use v_order::{all_driven, drivers_of, order_of};
 use v_paths::mask::masks_of;
 use v_syntax::module::Item;
 use v_value::scope::Scope;
@@ -38,14 +38,18 @@ fn settle_all<'s>(
     ensures loops { IfOk result (λ r. IsTrue r ↔ ¬ HasLoopIn (scope_at scope.now) (map item_of items.now)) }
 {
     let mut spare = copied(alloc, scope, table)?;
-    let spans = driven(alloc, items, scope)?;
+    let drivers = drivers_of(alloc, items)?;
+    let spans = all_driven(alloc, scope, &drivers)?;
+    let order = order_of(alloc, scope, &drivers)?;
     let mut unsettled = masks_of(alloc, &spans)?;
     let count = spans.len();
     for _ in 0..count {
         let ended = turns(
             alloc,
             items,
+            &drivers,
             scope,
+            &order,
             &spans,
             &mut unsettled,
             table,

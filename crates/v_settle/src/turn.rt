@@ -1,8 +1,7 @@
-//! Turns over all drivers of a module, in the order of the text.
+//! Turns over all drivers of a module.
 
-ghost use Rattle.std.specs.Prelude.{◌≡◌, ◌∷◌, ℕ, [], map, IfOk, OnOk};
-ghost use Rattle.verilog_meaning.specs.Register.{combinational_blocks, one_may_assign};
-ghost use Rattle.verilog_meaning.specs.Settled.{assignments};
+ghost use Rattle.std.specs.Prelude.{◌≡◌, ℕ, map, IfOk, OnOk};
+ghost use Rattle.verilog_meaning.specs.Register.{one_may_assign};
 ghost use Rattle.verilog_settled.specs.Locality.{HasNoConstantMemory};
 ghost use Rattle.v_syntax.specs.Source.{item_of};
 ghost use Rattle.v_value.specs.Scope.{scope_at};
@@ -11,15 +10,15 @@ ghost use Rattle.v_operators.specs.Meaning.{Grows};
 ghost use Rattle.v_lower.specs.Table.{images_at};
 ghost use Rattle.v_flow.specs.Spans.{bits_in, existing};
 ghost use Rattle.v_masks.specs.Masks.{masked};
-ghost use Rattle.v_drivers.specs.Lists.{links_of, wire_links};
-ghost use Rattle.v_order.specs.Drivers.{as_statements};
+ghost use Rattle.v_order.specs.Drivers.{drivings as all_drivings, drivers as all_drivers};
+ghost use Rattle.v_order.specs.Lists.{drivings_in, statements_in};
 ghost use Rattle.v_loops.specs.Turns.{AreFitToRun};
-ghost use Rattle.v_settle.specs.Drivers.{AreSoundLinks};
-ghost use Rattle.v_settle.specs.OneModule.{drivers, AreSound, IsEvaluable};
-ghost use Rattle.v_settle.specs.Turns.{State, state_of, IsOpen, AreVisited, IsUnderWay, IsFurther};
+ghost use Rattle.v_settle.specs.Drivers.{AreSoundDrivings};
+ghost use Rattle.v_settle.specs.OneModule.{IsEvaluable};
+ghost use Rattle.v_settle.specs.Turns.{State, state_of, IsOpen, AreVisited, HasVisits, IsUnderWay, IsFurther};
 
 use crate::NoMemory;
-use crate::driver::{visit_block, visit_link};
+use crate::driver::visit;
 use crate::span::has_more;
 use std::alloc::Global;
 use std::collections::BTreeMap;
@@ -27,17 +26,16 @@ use v_depend::laws::rests_where_it_depends;
 use v_depend::meets;
 use v_flow::span::Span;
 use v_lower::NamedTerms;
+use v_order::driver::Driver;
 use v_paths::mask::kept_in;
-use v_statement::register::is_clocked;
-use v_syntax::module::{Assignment, Item, Wire};
-use v_syntax::tree::{Selects, Target};
+use v_syntax::module::Item;
 use v_value::scope::Scope;
 use wb_terms::Terms;
 
-/// Comes to continuous assignments, one after the other.
-fn visit_assignments<'s>(
+/// Comes to all drivers, in the order of the text.
+fn turn<'s>(
     alloc: Global,
-    assignments: &[Assignment<'s>],
+    drivers: &[Driver<'_, 's>],
     scope: &Scope<'_>,
     unsettled: &mut BTreeMap<&'s str, u128>,
     table: &mut NamedTerms<'s>,
@@ -47,33 +45,25 @@ fn visit_assignments<'s>(
     requires objects { HasNarrowObjects (scope_at scope.now) }
     requires parameters { HasNoConstantMemory (scope_at scope.now) }
     requires opens { IsOpen (scope_at scope.now) (state_of (images_at table.old) (images_at spare.old) terms.old (masked unsettled.old)) }
-    requires sound { AreSoundLinks (scope_at scope.now) (links_of assignments.now) }
-    requires fit { AreFitToRun (scope_at scope.now) (as_statements (links_of assignments.now)) }
+    requires sound { AreSoundDrivings (scope_at scope.now) (drivings_in drivers.now) }
+    requires fit { AreFitToRun (scope_at scope.now) (statements_in drivers.now) }
     ensures grows { Grows terms.old terms.new }
-    ensures visited { OnOk result (AreVisited (scope_at scope.now) (as_statements (links_of assignments.now))
+    ensures visited { OnOk result (AreVisited (scope_at scope.now) (statements_in drivers.now)
         (state_of (images_at table.old) (images_at spare.old) terms.old (masked unsettled.old))
         (state_of (images_at table.new) (images_at spare.new) terms.new (masked unsettled.new))) }
 {
-    for assignment in assignments {
-        visit_link(
-            alloc,
-            &assignment.target,
-            &assignment.value,
-            scope,
-            unsettled,
-            table,
-            spare,
-            terms,
-        )?;
+    for driver in drivers {
+        visit(alloc, *driver, scope, unsettled, table, spare, terms)?;
     }
     Ok(())
 }
 
-/// Comes to a net that its declaration gives a value.
-fn visit_wire<'s>(
+/// Comes to the driver with an index, if there is one.
+fn visit_at<'s>(
     alloc: Global,
-    wire: &Wire<'s>,
+    drivers: &[Driver<'_, 's>],
     scope: &Scope<'_>,
+    index: usize,
     unsettled: &mut BTreeMap<&'s str, u128>,
     table: &mut NamedTerms<'s>,
     spare: &mut NamedTerms<'s>,
@@ -82,28 +72,28 @@ fn visit_wire<'s>(
     requires objects { HasNarrowObjects (scope_at scope.now) }
     requires parameters { HasNoConstantMemory (scope_at scope.now) }
     requires opens { IsOpen (scope_at scope.now) (state_of (images_at table.old) (images_at spare.old) terms.old (masked unsettled.old)) }
-    requires sound { AreSoundLinks (scope_at scope.now) (wire_links (wire.now ∷ [])) }
-    requires fit { AreFitToRun (scope_at scope.now) (as_statements (wire_links (wire.now ∷ []))) }
+    requires sound { AreSoundDrivings (scope_at scope.now) (drivings_in drivers.now) }
+    requires fit { AreFitToRun (scope_at scope.now) (statements_in drivers.now) }
     ensures grows { Grows terms.old terms.new }
-    ensures visited { OnOk result (AreVisited (scope_at scope.now) (as_statements (wire_links (wire.now ∷ [])))
+    ensures visits { OnOk result (HasVisits (scope_at scope.now) (statements_in drivers.now)
         (state_of (images_at table.old) (images_at spare.old) terms.old (masked unsettled.old))
         (state_of (images_at table.new) (images_at spare.new) terms.new (masked unsettled.new))) }
 {
-    match &wire.value {
-        Some(value) => {
-            let target = Target::Place(wire.name, Selects::Whole);
-            visit_link(alloc, &target, value, scope, unsettled, table, spare, terms)?;
+    match drivers.get(index) {
+        Some(driver) => {
+            visit(alloc, *driver, scope, unsettled, table, spare, terms)?;
             Ok(())
         }
         None => Ok(()),
     }
 }
 
-/// Comes to the nets of a declaration.
-fn visit_wires<'s>(
+/// Comes to drivers in an order.
+fn pass<'s>(
     alloc: Global,
-    wires: &[Wire<'s>],
+    drivers: &[Driver<'_, 's>],
     scope: &Scope<'_>,
+    order: &[usize],
     unsettled: &mut BTreeMap<&'s str, u128>,
     table: &mut NamedTerms<'s>,
     spare: &mut NamedTerms<'s>,
@@ -112,93 +102,29 @@ fn visit_wires<'s>(
     requires objects { HasNarrowObjects (scope_at scope.now) }
     requires parameters { HasNoConstantMemory (scope_at scope.now) }
     requires opens { IsOpen (scope_at scope.now) (state_of (images_at table.old) (images_at spare.old) terms.old (masked unsettled.old)) }
-    requires sound { AreSoundLinks (scope_at scope.now) (wire_links wires.now) }
-    requires fit { AreFitToRun (scope_at scope.now) (as_statements (wire_links wires.now)) }
+    requires sound { AreSoundDrivings (scope_at scope.now) (drivings_in drivers.now) }
+    requires fit { AreFitToRun (scope_at scope.now) (statements_in drivers.now) }
     ensures grows { Grows terms.old terms.new }
-    ensures visited { OnOk result (AreVisited (scope_at scope.now) (as_statements (wire_links wires.now))
+    ensures visits { OnOk result (HasVisits (scope_at scope.now) (statements_in drivers.now)
         (state_of (images_at table.old) (images_at spare.old) terms.old (masked unsettled.old))
         (state_of (images_at table.new) (images_at spare.new) terms.new (masked unsettled.new))) }
 {
-    for wire in wires {
-        visit_wire(alloc, wire, scope, unsettled, table, spare, terms)?;
+    for index in order {
+        visit_at(
+            alloc, drivers, scope, *index, unsettled, table, spare, terms,
+        )?;
     }
     Ok(())
 }
 
-/// Comes to the drivers of an item.
-fn visit_item<'s>(
-    alloc: Global,
-    item: &Item<'s>,
-    scope: &Scope<'_>,
-    unsettled: &mut BTreeMap<&'s str, u128>,
-    table: &mut NamedTerms<'s>,
-    spare: &mut NamedTerms<'s>,
-    terms: &mut Terms,
-) -> Result<(), NoMemory>
-    requires objects { HasNarrowObjects (scope_at scope.now) }
-    requires parameters { HasNoConstantMemory (scope_at scope.now) }
-    requires opens { IsOpen (scope_at scope.now) (state_of (images_at table.old) (images_at spare.old) terms.old (masked unsettled.old)) }
-    requires links { AreSoundLinks (scope_at scope.now) (assignments (item_of item.now ∷ [])) }
-    requires blocks { AreSound (scope_at scope.now) (combinational_blocks (item_of item.now ∷ [])) }
-    requires fit { AreFitToRun (scope_at scope.now) (drivers (item_of item.now ∷ [])) }
-    ensures grows { Grows terms.old terms.new }
-    ensures visited { OnOk result (AreVisited (scope_at scope.now) (drivers (item_of item.now ∷ []))
-        (state_of (images_at table.old) (images_at spare.old) terms.old (masked unsettled.old))
-        (state_of (images_at table.new) (images_at spare.new) terms.new (masked unsettled.new))) }
-{
-    match item {
-        Item::Wires(_, _, wires) => {
-            visit_wires(alloc, wires, scope, unsettled, table, spare, terms)?;
-            Ok(())
-        }
-        Item::Assign(assignments) => {
-            visit_assignments(alloc, assignments, scope, unsettled, table, spare, terms)?;
-            Ok(())
-        }
-        Item::Always(events, block) => {
-            if is_clocked(events) {
-                return Ok(());
-            }
-            visit_block(alloc, block, scope, unsettled, table, spare, terms)?;
-            Ok(())
-        }
-        Item::Port(_) | Item::Parameter(_) | Item::Variables(_, _, _) | Item::Instances(_, _, _) =>
-            { Ok(()) }
-    }
-}
-
-/// Makes a turn: comes to all drivers.
-fn turn<'s>(
-    alloc: Global,
-    items: &[Item<'s>],
-    scope: &Scope<'_>,
-    unsettled: &mut BTreeMap<&'s str, u128>,
-    table: &mut NamedTerms<'s>,
-    spare: &mut NamedTerms<'s>,
-    terms: &mut Terms,
-) -> Result<(), NoMemory>
-    requires objects { HasNarrowObjects (scope_at scope.now) }
-    requires parameters { HasNoConstantMemory (scope_at scope.now) }
-    requires opens { IsOpen (scope_at scope.now) (state_of (images_at table.old) (images_at spare.old) terms.old (masked unsettled.old)) }
-    requires links { AreSoundLinks (scope_at scope.now) (assignments (map item_of items.now)) }
-    requires blocks { AreSound (scope_at scope.now) (combinational_blocks (map item_of items.now)) }
-    requires fit { AreFitToRun (scope_at scope.now) (drivers (map item_of items.now)) }
-    ensures grows { Grows terms.old terms.new }
-    ensures visited { OnOk result (AreVisited (scope_at scope.now) (drivers (map item_of items.now))
-        (state_of (images_at table.old) (images_at spare.old) terms.old (masked unsettled.old))
-        (state_of (images_at table.new) (images_at spare.new) terms.new (masked unsettled.new))) }
-{
-    for item in items {
-        visit_item(alloc, item, scope, unsettled, table, spare, terms)?;
-    }
-    Ok(())
-}
-
-/// Makes up to 128 turns. Answers whether no further one would settle a bit: none is left, or the last turn settled none.
+/// Makes up to 128 turns, each in an order that settles most, and then in the order of the text. Answers whether no further one would settle
+/// a bit: none is left, or the last turn settled none in the order of the text.
 pub(crate) fn turns<'s>(
     alloc: Global,
-    items: &[Item<'s>],
+    _items: &[Item<'s>],
+    drivers: &[Driver<'_, 's>],
     scope: &Scope<'_>,
+    order: &[usize],
     driven: &[Span<'s>],
     unsettled: &mut BTreeMap<&'s str, u128>,
     table: &mut NamedTerms<'s>,
@@ -207,13 +133,15 @@ pub(crate) fn turns<'s>(
 ) -> Result<bool, NoMemory>
     requires objects { HasNarrowObjects (scope_at scope.now) }
     requires opens { IsOpen (scope_at scope.now) (state_of (images_at table.old) (images_at spare.old) terms.old (masked unsettled.old)) }
-    requires ready { IsEvaluable (scope_at scope.now) (map item_of items.now) }
-    requires driven { bits_in driven.now ≡ existing (scope_at scope.now) (one_may_assign (scope_at scope.now) (drivers (map item_of items.now))) }
+    requires ready { IsEvaluable (scope_at scope.now) (map item_of _items.now) }
+    requires drivings { drivings_in drivers.now ≡ all_drivings (map item_of _items.now) }
+    requires statements { statements_in drivers.now ≡ all_drivers (map item_of _items.now) }
+    requires driven { bits_in driven.now ≡ existing (scope_at scope.now) (one_may_assign (scope_at scope.now) (all_drivers (map item_of _items.now))) }
     ensures grows { Grows terms.old terms.new }
     ensures opens { OnOk result (IsOpen (scope_at scope.now) (state_of (images_at table.new) (images_at spare.new) terms.new (masked unsettled.new))) }
     ensures made { IfOk result (λ ended. (start : State) (k : ℕ)
-        → IsUnderWay (scope_at scope.now) (map item_of items.now) start (state_of (images_at table.old) (images_at spare.old) terms.old (masked unsettled.old)) k
-        → IsFurther ended (scope_at scope.now) (map item_of items.now) 128 start (state_of (images_at table.new) (images_at spare.new) terms.new (masked unsettled.new)) k) }
+        → IsUnderWay (scope_at scope.now) (map item_of _items.now) start (state_of (images_at table.old) (images_at spare.old) terms.old (masked unsettled.old)) k
+        → IsFurther ended (scope_at scope.now) (map item_of _items.now) 128 start (state_of (images_at table.new) (images_at spare.new) terms.new (masked unsettled.new)) k) }
 {
     rests_where_it_depends();
     for _ in 0..128_usize {
@@ -221,8 +149,9 @@ pub(crate) fn turns<'s>(
         if !some {
             return Ok(true);
         }
+        pass(alloc, drivers, scope, order, unsettled, table, spare, terms)?;
         let before = kept_in(alloc, unsettled, driven)?;
-        turn(alloc, items, scope, unsettled, table, spare, terms)?;
+        turn(alloc, drivers, scope, unsettled, table, spare, terms)?;
         let more = has_more(&before, unsettled);
         if !more {
             return Ok(true);

@@ -1,57 +1,24 @@
-use Rattle.std.proofs.Common.{◌∙◌, Bor, map, ap, sym, subst, List, ℕ, refl}
-use Rattle.std.proofs.lemmas.List.{length-map}
-use Rattle.v_syntax.specs.Source.{module_of}
-use Rattle.v_scopes.specs.Scopes.{scope_in}
-use Rattle.v_lower.specs.Table.{images_at}
-use Rattle.v_registers.specs.Registers.{counted_of}
-use Rattle.v_elab.specs.Names.{HaveTerms, is_data_port}
-use Rattle.v_elab.specs.Elaborated.{register_names, bits_of}
-use Rattle.v_elab.proofs.Assembling.{some_of, settled_same, bits_same, next_terms, counted_so, terms_so, bits_are, words_are, within_so, elaborated}
+use Rattle.std.proofs.Common.{◌∙◌, map, ap, string_bytes}
+use Rattle.v_syntax.specs.Source.{module_of, item_of}
+use Rattle.v_value.specs.Scope.{scope_at}
+use Rattle.v_scopes.specs.Rows.{rows_of}
+use Rattle.v_registers.specs.Placed.{names_in_order}
+use Rattle.v_elab.proofs.Accepted.{same_inputs}
+use Rattle.v_elab.proofs.Lowering.{same_names, same_body, elaborable_in, elaborated_in}
 use Rattle.v_elab.proofs.design.design_of.Goals as goal
 
-pub next_of-requires : goal.next_of-requires
-next_of-requires c =
-    subst (λ rs. HaveTerms (images_at c.in_ok-begun.begun.next) (register_names (map counted_of rs))) (sym c.deref-2.ensures.value)
-    (next_terms (module_of c.args.within.now) (is_data_port (module_of c.args.within.now) c.args.clock.now) _ _ _ _ c.in_ok-begun.ensures.lowered)
-
-pub invariant_of-result-clause-counted : goal.invariant_of-result-clause-counted
-invariant_of-result-clause-counted c =
-    counted_so (module_of c.args.within.now) (is_data_port (module_of c.args.within.now) c.args.clock.now) _ _ _ _ c.in_ok-begun.ensures.lowered c.len.result
-    (c.len.ensures ∙ c.in_ok-begun.begun.sorted.registers.ok.0 ∙ sym (length-map c.in_ok-begun.begun.sorted.registers.items counted_of))
-
-pub invariant_of-result-clause-sorted : goal.invariant_of-result-clause-sorted
-invariant_of-result-clause-sorted c =
-    terms_so (module_of c.args.within.now) (is_data_port (module_of c.args.within.now) c.args.clock.now) _ _ _ _ c.in_ok-begun.ensures.lowered c.len.result _
-    (c.len.ensures ∙ c.in_ok-begun.begun.sorted.registers.ok.0 ∙ sym (length-map c.in_ok-begun.begun.sorted.registers.items counted_of))
-    (some_of c.in_ok-next.next.items ∙ c.in_ok-next.ensures
-    ∙ ap (λ rs. map (images_at c.in_ok-begun.begun.next) (register_names (map counted_of rs))) c.deref-2.ensures.value)
-
-pub invariant_of-result-clause-counting : goal.invariant_of-result-clause-counting
-invariant_of-result-clause-counting c =
-    bits_are (module_of c.args.within.now) (is_data_port (module_of c.args.within.now) c.args.clock.now) _ _ _ _ c.in_ok-begun.ensures.lowered c.requires.apart c.requires.small c.len.result _
-    (c.len.ensures ∙ c.in_ok-begun.begun.sorted.registers.ok.0 ∙ sym (length-map c.in_ok-begun.begun.sorted.registers.items counted_of))
-    (bits_same (module_of c.args.within.now) (scope_in c.in_ok-names.names) _ _ (c.in_ok-names.ensures.scope ∙ c.requires.same_scope)
-    (c.in_ok-bits.ensures ∙ ap (λ rs. map (bits_of (scope_in c.in_ok-names.names)) (map counted_of rs)) c.deref-3.ensures.value))
-
-pub invariant_of-result-clause-words : goal.invariant_of-result-clause-words
-invariant_of-result-clause-words c =
-    words_are (module_of c.args.within.now) (is_data_port (module_of c.args.within.now) c.args.clock.now) _ _ _ _ c.in_ok-begun.ensures.lowered c.requires.apart c.len.result
-    (c.len.ensures ∙ c.in_ok-begun.begun.sorted.registers.ok.0 ∙ sym (length-map c.in_ok-begun.begun.sorted.registers.items counted_of))
-
-pub invariant_of-result-clause-within : goal.invariant_of-result-clause-within
-invariant_of-result-clause-within c =
-    λ n. within_so (module_of c.args.within.now) (is_data_port (module_of c.args.within.now) c.args.clock.now) _ _ _ _ c.in_ok-begun.ensures.lowered _ n
-    (settled_same (module_of c.args.within.now) (scope_in c.in_ok-names.names) _ (images_at c.in_ok-begun.begun.table) n _ (c.in_ok-names.ensures.scope ∙ c.requires.same_scope)
-    (ap (map (λ (k : Bor (List ℕ)). k.now)) c.deref.ensures.value ∙ c.in_ok-begun.ensures.declared) (c.in_ok-settled.ensures n))
+pub design_in-requires : goal.design_in-requires
+design_in-requires c =
+    elaborable_in _ _ _ _
+    (same_body (module_of c.args.within.now) (scope_at c.in_ok-scope.scope) (map item_of c.deref.result.now) (map (λ n. n.now) c.in_ok-declared.declared.items)
+    (c.in_ok-scope.ensures ∙ c.in_ok-names.ensures.scope ∙ c.requires.same_scope) (ap (map item_of) c.deref.ensures.value)
+    (c.in_ok-declared.ensures ∙ ap (λ rs. names_in_order (rows_of rs)) c.declarations.ensures ∙ same_names c.in_ok-names.names (module_of c.args.within.now) c.in_ok-names.ensures.declared))
+    (same_inputs c.in_ok-names.names (module_of c.args.within.now) c.args.clock.now c.in_ok-names.ensures.declared) c.requires.elaborable
 
 pub returns : goal.returns
 returns c =
-    elaborated (module_of c.args.within.now) (is_data_port (module_of c.args.within.now) c.args.clock.now) _ _ _ _ c.in_ok-begun.ensures.lowered _ refl
-    (c.len.ensures ∙ c.in_ok-begun.begun.sorted.registers.ok.0 ∙ sym (length-map c.in_ok-begun.begun.sorted.registers.items counted_of))
-    (bits_same (module_of c.args.within.now) (scope_in c.in_ok-names.names) _ _ (c.in_ok-names.ensures.scope ∙ c.requires.same_scope)
-    (c.in_ok-bits.ensures ∙ ap (λ rs. map (bits_of (scope_in c.in_ok-names.names)) (map counted_of rs)) c.deref-3.ensures.value))
-    c.in_ok-outputs.ensures
-    (λ n. settled_same (module_of c.args.within.now) (scope_in c.in_ok-names.names) _ (images_at c.in_ok-begun.begun.table) n _ (c.in_ok-names.ensures.scope ∙ c.requires.same_scope)
-    (ap (map (λ (k : Bor (List ℕ)). k.now)) c.deref.ensures.value ∙ c.in_ok-begun.ensures.declared) (c.in_ok-settled.ensures n))
-    (some_of c.in_ok-next.next.items ∙ c.in_ok-next.ensures
-    ∙ ap (λ rs. map (images_at c.in_ok-begun.begun.next) (register_names (map counted_of rs))) c.deref-2.ensures.value)
+    elaborated_in _ _ _ _ _ _ _
+    (same_body (module_of c.args.within.now) (scope_at c.in_ok-scope.scope) (map item_of c.deref.result.now) (map (λ n. n.now) c.in_ok-declared.declared.items)
+    (c.in_ok-scope.ensures ∙ c.in_ok-names.ensures.scope ∙ c.requires.same_scope) (ap (map item_of) c.deref.ensures.value)
+    (c.in_ok-declared.ensures ∙ ap (λ rs. names_in_order (rows_of rs)) c.declarations.ensures ∙ same_names c.in_ok-names.names (module_of c.args.within.now) c.in_ok-names.ensures.declared))
+    (same_inputs c.in_ok-names.names (module_of c.args.within.now) c.args.clock.now c.in_ok-names.ensures.declared) c.in_ok-outputs.ensures c.in_ok-design.ensures

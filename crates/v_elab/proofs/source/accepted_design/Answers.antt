@@ -22,4 +22,4 @@ returns c =
     is_answer c.an_accepted_module_is_ready.ensures (record { source = source_of c.args.tree.now; top = c.args.top.now; clock = c.args.clock.now }) (module_of c.in-Some.within.now)
     c.requires.accepted.0 c.requires.accepted.1 c.requires.shapely
     (sym c.top_of.ensures ∙ ap (option_map (λ (m : Bor Module). module_of m.now)) c.in-Some.is)
-    c.a_design_of_one_module_settles_from_outside.ensures.there c.an_accepted_module_has_one_driver_for_a_bit.ensures.parameters _ c.in_ok-design-in-Some.ensures
+    c.an_accepted_module_has_one_driver_for_a_bit.ensures.parameters _ c.in_ok-design-in-Some.ensures

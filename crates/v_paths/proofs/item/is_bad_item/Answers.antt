@@ -1,4 +1,5 @@
 use Rattle.v_value.specs.Scope.{scope_at}
+use Rattle.v_hier.specs.Tables.{has_name}
 use Rattle.v_paths.proofs.Items.{fit-block, bad-item}
 use Rattle.v_paths.proofs.item.is_bad_item.Goals as goal
 
@@ -12,4 +13,4 @@ has_event_list-requires-clause-no_memory c =
 
 pub returns-in_ok-may-in-Always : goal.returns-in_ok-may-in-Always
 returns-in_ok-may-in-Always c =
-    bad-item (scope_at c.args.scope.now) c.args.item.now c.in-Always.events c.in-Always.block c.in-Always.is c.deref.result.now c.deref.ensures c.args.clock.now _ c.in_ok-may-in-Always.ensures
+    bad-item (scope_at c.args.scope.now) c.args.item.now c.in-Always.events c.in-Always.block c.in-Always.is c.deref.result.now c.deref.ensures (has_name c.args.clocks.now) _ c.in_ok-may-in-Always.ensures

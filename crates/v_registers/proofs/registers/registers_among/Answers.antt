@@ -1,10 +1,8 @@
-use Rattle.std.proofs.Common.{◌∙◌, ap, map, arith}
+use Rattle.std.proofs.Common.{◌∙◌, refl, ap, map, arith}
 use Rattle.std.proofs.lemmas.List.{at_drop_all}
-use Rattle.verilog_meaning.specs.Expression.{Scope}
-use Rattle.verilog_meaning.specs.Register.{clocked_blocks, counts}
+use Rattle.verilog_meaning.specs.Register.{clocked_blocks}
 use Rattle.v_value.specs.Scope.{scope_at}
 use Rattle.v_syntax.specs.Source.{item_of}
-use Rattle.v_scopes.specs.Scopes.{scope_in}
 use Rattle.v_flow.specs.Spans.{bits_in}
 use Rattle.v_registers.specs.Registers.{counted_of}
 use Rattle.v_registers.proofs.Splitting.{split_start, name_turn, split_end}
@@ -18,9 +16,9 @@ loop-name-init c =
 pub loop-name-preserved : goal.loop-name-preserved
 loop-name-preserved c =
     let q = clocked_blocks (map item_of c.args.items.now) in
-    name_turn (scope_at c.args.scope.now) (scope_in c.args.names.now) q c.args.declared.now c.loop-name.name-index _ _ _ _ _ c.requires.same (omega arith)
+    name_turn (scope_at c.args.scope.now) (scope_at c.args.scope.now) q c.args.declared.now c.loop-name.name-index _ _ _ _ _ refl (omega arith)
     (c.in_ok-add_name.ensures q
-    (c.in_ok-groups.ensures ∙ ap bits_in c.deref.ensures.value ∙ c.in_ok-spans.ensures ∙ ap (λ (t : Scope). counts t q) c.requires.same))
+    (c.in_ok-groups.ensures ∙ ap bits_in c.deref.ensures.value ∙ c.in_ok-spans.ensures))
     c.loop-name.invariant
 
 pub returns : goal.returns

@@ -12,7 +12,7 @@ abbrev pub invariant-loop : goal.invariant-loop
 invariant-loop l = record {
   grows : Grows l.initial.terms l.terms;
   opens : IsOpen (scope_at l.scope) (state_of (images_at l.table) (images_at l.spare) l.terms (masked l.unsettled));
-  way : IsOnward (scope_at l.scope) (map item_of l.items)
+  way : IsOnward (scope_at l.scope) (map item_of l._items)
       (state_of (images_at l.initial.table) (images_at l.initial.spare) l.initial.terms (masked l.initial.unsettled))
       (state_of (images_at l.table) (images_at l.spare) l.terms (masked l.unsettled)) l.counter;
 }
