@@ -1,1 +1,5 @@
 pub mod SameRules
+pub mod Real
+pub mod Walk
+pub mod Judged
+pub mod Placed
