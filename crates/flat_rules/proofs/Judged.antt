@@ -1,6 +1,6 @@
 -- A module that breaks none of the rules: its parameters have the values that they have in the design, and each range has a value.
-use Rattle.std.proofs.Common.{◌≡◌, ℕ, Bool, true, false, cond, List, [], ◌∷◌, ◌++◌, ◌⊎◌, inl, inr, refl, sym, ap, ◌∙◌, subst, Option, Some, None, IsTrue}
-use Rattle.std.specs.Prelude.{is_some, ◌||◌}
+use Rattle.std.proofs.Common.{◌≡◌, Bool, true, false, cond, List, [], ◌∷◌, ◌++◌, ◌⊎◌, inl, inr, refl, sym, ap, ◌∙◌, subst, Option, Some, None, IsTrue}
+use Rattle.std.specs.Prelude.{◌||◌}
 use Rattle.std.proofs.lemmas.Bool.{false≢true}
 use Rattle.std.proofs.lemmas.List.{append_assoc}
 use Rattle.wb_values.specs.Value.{Name, same_name, Entries}
@@ -10,7 +10,7 @@ use Rattle.verilog_meaning.specs.Expression.{Object, Scope, scope_of}
 use Rattle.verilog_meaning.specs.Hierarchy.{Declaration, declarations, declaration_of, and_later, both_declarations, all_parameters, body_parameters, value_names, Overrides, with_values, with_parameters, constants_of, module_scope, port_declarations, header_ports, each_port, wire_declarations, variable_declarations, item_declarations, Placed}
 use Rattle.verilog_rules.specs.Expression.{also, constant_if}
 use Rattle.verilog_designs.specs.Known.{known_module_scope, known_scope, KnownOverrides, with_known_parameters, known_constants}
-use Rattle.verilog_designs.specs.Names.{is_among, names_in_range, names_in_named, names_in_parameters, names_in_ports, names_in_values, names_in_addresses, Mention, used, uses, all_parameter_mentions, item_mentions, all_item_mentions, mentions, parameter_names, uses_unknown}
+use Rattle.verilog_designs.specs.Names.{is_among, names_in_range, names_in_named, names_in_parameters, names_in_ports, names_in_values, names_in_addresses, used, uses, all_parameter_mentions, item_mentions, all_item_mentions, mentions, parameter_names, uses_unknown}
 use Rattle.verilog_designs.specs.Constants.{constant_names_in_item, constant_names_in_module_items, constant_names_in_module, constant_names_in_initial, has_net_as_constant}
 use Rattle.verilog_designs.specs.Expressions.{broken_range, broken_parameters, broken_header, broken_ports, broken_declarations, broken_initial_values, broken_addresses, broken_module_item, broken_module_items, broken_module}
 use Rattle.verilog_unique.proofs.Options.{same_is}
@@ -112,7 +112,7 @@ module _ (source : Source) (m : Module) where
       → (known_constants m given ≡ constants_of m real) × HasParameters m (known_constants m given)
   constants_real given real are constant spoken good = (
     whole ∙ body.same ∙ ap (with_parameters (body_parameters m.items) real) header.same
-    ∙ sym (placed_append m.parameters (body_parameters m.items) real []),
+        ∙ sym (placed_append m.parameters (body_parameters m.items) real []),
     record {
       entries = λ n h. elim (parameters_named m.parameters (body_parameters m.items) n h) as (λ _. HasEntry all n) [
         | inl k ↦ subst (λ es. HasEntry es n) (sym whole) (still one (with_known_parameters (body_parameters m.items) given one)

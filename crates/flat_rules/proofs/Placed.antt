@@ -1,33 +1,32 @@
 -- The modules of a design, judged by their known constants, are the modules that stand in it.
-use Rattle.std.proofs.Common.{◌≡◌, ℕ, ◌+◌, ◌≤◌, ◌<◌, ◌^◌, nat_lt, max, arith, Bool, true, false, cond, not, ◌&&◌, ◌||◌, List, [], ◌∷◌, ◌++◌, ◌⊎◌, inl, inr, refl, sym, ap, ◌∙◌, subst, Option, Some, None, IfSome, IsTrue}
+use Rattle.std.proofs.Common.{◌≡◌, ℕ, ◌≤◌, ◌<◌, ◌^◌, nat_lt, arith, Bool, true, false, cond, ◌&&◌, ◌||◌, List, [], ◌∷◌, ◌++◌, inl, inr, refl, sym, ap, ◌∙◌, subst, Option, Some, None, IfSome, IsTrue}
 use Rattle.std.specs.Prelude.{is_some, option_map, option_and_then}
 use Rattle.std.proofs.lemmas.Bool.{false≢true}
 use Rattle.std.proofs.lemmas.Bool.Decides.{nat_tests}
-use Rattle.wb_values.specs.Value.{Name, same_name, Entries, entry_of}
+use Rattle.wb_values.specs.Value.{Name, same_name, entry_of}
 use Rattle.wb_values.specs.Choice.{first_of}
 use Rattle.verilog_trees.specs.Syntax.{Expression, Range, Connections, by_name, by_order, Item, port, parameter, wires, variables, assign, always, instances, Module}
-use Rattle.verilog_meaning.specs.Expression.{Object, Scope, undeclared as no_object, object_or_undeclared, scope_of, distance, object_width, is_memory}
-use Rattle.verilog_meaning.specs.Hierarchy.{ranged_object, parameter_object, Declaration, declarations, declaration_of, bounds_of, declared_object, and_later, all_parameters, Overrides, no_overrides, overrides_of, constants_of, module_scope, PathStep, Placed, placed_scope, module_named, Instance, instance_among, instance_named, instance_reached, joined_option, connected, in_order, overridable}
-use Rattle.verilog_meaning.specs.Settled.{Design, at_path, IsPlacedIn, is_declared_among, IsDeclared, port_directions}
-use Rattle.verilog_rules.specs.Expression.{Broken, also, constant_if, width_if, broken_constant}
-use Rattle.verilog_designs.specs.Known.{known_range, known_parameter, known_module_scope, known_scope, KnownOverrides, known_constants, known_overrides, known_instance, known_below, known_at}
-use Rattle.verilog_designs.specs.Names.{is_among, names_in, names_in_named, names_in_ordered, names_in_connections, names_in_instances, mentions, used, parameter_names, uses_unknown, has_undeclared, instantiates_unknown, has_duplicate}
-use Rattle.verilog_designs.specs.Constants.{constant_names_in_module, constant_names_in_instances, has_net_as_constant}
-use Rattle.verilog_designs.specs.Expressions.{memory_if, broken_named_values, broken_ordered_values, broken_overrides, broken_instances, broken_declaration, broken_declarations, broken_module_item, broken_module}
+use Rattle.verilog_meaning.specs.Expression.{Object, Scope, object_or_undeclared, scope_of, distance, object_width, is_memory}
+use Rattle.verilog_meaning.specs.Hierarchy.{ranged_object, parameter_object, Declaration, declarations, declaration_of, bounds_of, declared_object, and_later, all_parameters, Overrides, no_overrides, overrides_of, constants_of, PathStep, Placed, placed_scope, module_named, Instance, instance_among, instance_named, instance_reached, joined_option, connected, in_order, overridable}
+use Rattle.verilog_meaning.specs.Settled.{Design, at_path, IsPlacedIn, is_declared_among, port_directions}
+use Rattle.verilog_rules.specs.Expression.{also, width_if, broken_constant}
+use Rattle.verilog_designs.specs.Known.{known_range, known_parameter, known_scope, KnownOverrides, known_constants, known_overrides, known_instance, known_below, known_at}
+use Rattle.verilog_designs.specs.Names.{names_in, names_in_named, names_in_ordered, names_in_connections, names_in_instances, mentions, uses_unknown, has_undeclared, instantiates_unknown, has_duplicate}
+use Rattle.verilog_designs.specs.Constants.{constant_names_in_instances, has_net_as_constant}
+use Rattle.verilog_designs.specs.Expressions.{memory_if, broken_named_values, broken_ordered_values, broken_overrides, broken_instances, broken_declaration, broken_declarations, broken_module}
 use Rattle.verilog_designs.specs.Accepted.{HasDuplicateName}
-use Rattle.verilog_unique.proofs.Options.{first_false, second_false, not_true, same_is}
+use Rattle.verilog_unique.proofs.Options.{first_false, not_true, same_is}
 use Rattle.verilog_unique.proofs.Descent.{IsAmong, among_left, among_right}
-use Rattle.verilog_unique.proofs.Paths.{StepsTo, step_of, placed_of, top_of, instance_from, top_from, stands_at, placed_in}
-use Rattle.verilog_unique.proofs.Standing.{stands_in, IsKnownIn, mentioned_known}
+use Rattle.verilog_unique.proofs.Paths.{StepsTo, step_of, placed_of, top_of, instance_from, top_from, placed_in}
+use Rattle.verilog_unique.proofs.Standing.{stands_in, mentioned_known}
 use Rattle.verilog_unique.proofs.Mentioned.{in_module}
 use Rattle.verilog_unique.proofs.Constants.{Within, in_item}
-use Rattle.verilog_exists.proofs.Rules.{Good, good_left, good_right, HasEntry, own_known, entry_declared}
-use Rattle.verilog_exists.proofs.Memories.{among_test}
-use Rattle.v_value.specs.Narrow.{IsNarrowObject, HasNarrowObjects}
-use Rattle.flat_rules.specs.Sound.{HasSoundModules, IsKnownAsPlaced, ModulesAreKnown, HasObjectInBounds, ObjectsAreInBounds}
+use Rattle.verilog_exists.proofs.Rules.{Good, good_left, good_right, HasEntry, own_known}
+use Rattle.v_value.specs.Narrow.{HasNarrowObjects}
+use Rattle.flat_rules.specs.Sound.{HasSoundModules, ModulesAreKnown, HasObjectInBounds, ObjectsAreInBounds}
 use Rattle.flat_rules.proofs.Real.{IsRealRange, range_real, IsRanged, IsParameter, parameter_is, entry_is, undeclared_narrow}
 use Rattle.flat_rules.proofs.Walk.{are_declared, AreGiven}
-use Rattle.flat_rules.proofs.Judged.{AreGoodParts, good_parts, good_item, HasParameters, constants_real, item_mentioned, test_among, constant_entry, name_ranged, scopes_same}
+use Rattle.flat_rules.proofs.Judged.{AreGoodParts, good_parts, good_item, HasParameters, constants_real, item_mentioned, constant_entry, name_ranged, scopes_same}
 
 -- ---- what is declared of a name breaks nothing
 

@@ -1,16 +1,16 @@
 -- Where a constant has a value by the rules, that is its value; so are ranges, parameters and declared names those of the module.
-use Rattle.std.proofs.Common.{◌≡◌, ℕ, nat_le, ◌≤◌, ◌<◌, ◌+◌, ◌^◌, arith, Bool, true, false, cond, not, ◌&&◌, ◌||◌, List, [], ◌∷◌, ◌++◌, refl, sym, ap, ◌∙◌, subst, Option, Some, None, IfSome, ℤ, pos, negsuc, IsTrue}
+use Rattle.std.proofs.Common.{◌≡◌, ℕ, nat_le, ◌≤◌, ◌<◌, ◌+◌, ◌^◌, arith, Bool, true, false, cond, ◌&&◌, ◌||◌, [], ◌∷◌, ◌++◌, refl, sym, ap, ◌∙◌, subst, Option, Some, None, IfSome, ℤ, pos, negsuc, IsTrue}
 use Rattle.std.specs.Prelude.{is_some, unwrap_or, option_map, option_and_then}
 use Rattle.std.proofs.Math.Nat.{mod-lt}
 use Rattle.std.proofs.Math.Pow.{pow_pos}
 use Rattle.std.proofs.lemmas.Bool.{and_parts, false≢true}
 use Rattle.std.proofs.lemmas.Bool.Decides.{nat_tests}
-use Rattle.wb_values.specs.Value.{Name, Value, number as a_number, Entries, entry_of, same_name}
+use Rattle.wb_values.specs.Value.{Name, number as a_number, Entries, entry_of, same_name}
 use Rattle.wb_values.specs.Choice.{some_if, first_of}
 use Rattle.verilog_trees.specs.Syntax.{Expression, number, name, concatenation, replication, as_signed, as_unsigned, unary, reduction, binary, shift, power, comparison, logical, conditional, Expressions, no_expressions, expression, Selects, whole, one, two, Range, Module}
 use Rattle.verilog_meaning.specs.Expression.{Object, Scope, undeclared, object_or_undeclared, scope_of, distance, object_width, no_values, natural_of, width_of, sign_of, self_value, integer_of}
 use Rattle.verilog_meaning.specs.Hierarchy.{bound_of, ranged_object, constant_object, parameter_object, overridden_object, Declaration, declarations, declaration_of, bounds_of, declared_object, module_scope}
-use Rattle.verilog_rules.specs.Expression.{is_unbroken, broken, broken_constant, constant_number, is_at_most_128}
+use Rattle.verilog_rules.specs.Expression.{is_unbroken, broken, broken_constant, is_at_most_128}
 use Rattle.verilog_designs.specs.Known.{as_bound, known_bound, both_bounds, known_range, with_range, known_object, known_range_width, value_position, range_is_known, known_parameter, known_override, with_known_addresses, known_declaration, known_module_scope}
 use Rattle.wb_laws.specs.Widths.{ReadFits, LeavesFit, AllLeavesFit}
 use Rattle.wb_laws.proofs.Widths.{value_fits}

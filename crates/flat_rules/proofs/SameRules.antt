@@ -1,17 +1,17 @@
 -- Trees with other names break the same rules.
-use Rattle.std.proofs.Common.{◌≡◌, Bool, true, false, cond, ◌&&◌, ◌||◌, ◌==◌, nat_le, List, [], ◌∷◌, refl, ap, ◌∙◌, Option, Some, None, pos}
+use Rattle.std.proofs.Common.{◌≡◌, Bool, true, false, cond, ◌&&◌, ◌||◌, ◌==◌, nat_le, [], ◌∷◌, refl, ap, ◌∙◌, Some, None, pos}
 use Rattle.wb_values.specs.Value.{Name}
 use Rattle.wb_values.specs.Choice.{some_if}
-use Rattle.verilog_trees.specs.Syntax.{BinaryOperator, Expression, number, name, concatenation, replication, as_signed, as_unsigned, unary, reduction, binary, shift, power, comparison, logical, conditional, Expressions, no_expressions, expression, Select, index, part, part_up, part_down, Selects, whole, one, two, Target, place, joined, Targets, no_targets, target, CaseKind, Statement, empty, blocking, nonblocking, if_then, if_else, case, block, Statements, no_statements, statement, CaseItems, no_items, arm, default_arm}
+use Rattle.verilog_trees.specs.Syntax.{Expression, number, name, concatenation, replication, as_signed, as_unsigned, unary, reduction, binary, shift, power, comparison, logical, conditional, Expressions, no_expressions, expression, Select, index, part, part_up, part_down, Selects, whole, one, two, Target, place, joined, Targets, no_targets, target, CaseKind, Statement, empty, blocking, nonblocking, if_then, if_else, case, block, Statements, no_statements, statement, CaseItems, no_items, arm, default_arm}
 use Rattle.verilog_meaning.specs.Expression.{Object, Scope, object_width, is_memory, no_values}
-use Rattle.verilog_rules.specs.Expression.{Broken, nothing, also, is_unbroken, constant_if, width_if, Position, anywhere, constant, in_context, wider, by_name, by_total, copies, is_at_most_128, bits_between_bounds, is_over_128, by_bounds, is_below, is_unsized, divides, is_bad_divisor, is_bad_exponent, by_itself, as_constant, broken, broken_parts, broken_selects, broken_select, broken_bits, has_width, have_widths, selects_have_width, select_has_width, broken_constant, constant_number}
-use Rattle.verilog_designs.specs.Expressions.{memory_if, target_has_width, targets_have_width, broken_target, broken_targets, writes_memory, one_writes_memory, by_constants, broken_net_target, judged_item, broken_item, broken_items, broken_block_target, broken_statement, broken_statements, broken_arms, broken_assignments}
-use Rattle.verilog_renamed.specs.Renamed.{renamed_expression, renamed_expressions, renamed_select, renamed_selects, renamed_target, renamed_targets, renamed_statement, renamed_statements, renamed_case_items, renamed_assignment, renamed_assignments}
+use Rattle.verilog_rules.specs.Expression.{nothing, also, is_unbroken, constant_if, width_if, Position, anywhere, constant, in_context, wider, by_name, by_total, copies, is_at_most_128, bits_between_bounds, is_over_128, by_bounds, is_below, is_unsized, divides, is_bad_divisor, is_bad_exponent, by_itself, as_constant, broken, broken_parts, broken_selects, broken_select, broken_bits, has_width, have_widths, selects_have_width, select_has_width, broken_constant, constant_number}
+use Rattle.verilog_designs.specs.Expressions.{memory_if, target_has_width, targets_have_width, broken_target, broken_targets, writes_memory, one_writes_memory, by_constants, judged_item, broken_item, broken_items, broken_block_target, broken_statement, broken_statements, broken_arms}
+use Rattle.verilog_renamed.specs.Renamed.{renamed_expression, renamed_expressions, renamed_select, renamed_selects, renamed_target, renamed_targets, renamed_statement, renamed_statements, renamed_case_items}
 use Rattle.verilog_renamed.specs.Laws.{MeansTheSame, NamesTheSame}
-use Rattle.verilog_renamed.specs.EachName.{EachIn, EachInAll, EachInSelect, EachInSelects, EachInTarget, EachInTargets, EachInStatement, EachInStatements, EachInItems, EachInAssignments}
+use Rattle.verilog_renamed.specs.EachName.{EachIn, EachInAll, EachInSelect, EachInSelects, EachInTarget, EachInTargets, EachInStatement, EachInStatements, EachInItems}
 use Rattle.verilog_renamed.specs.KnownNames.{IsRenamed, ArePartsTheSame}
 use Rattle.verilog_renamed.proofs.KnownNames.{known_expressions, known_parts, known_targets}
-use Rattle.flat_rules.specs.SameRules.{BreaksTheSame, ExpressionsBreakTheSame, TargetBreaksTheSame, TargetsBreakTheSame, StatementsBreakTheSame, AssignmentsBreakTheSame}
+use Rattle.flat_rules.specs.SameRules.{BreaksTheSame, ExpressionsBreakTheSame, TargetsBreakTheSame, StatementsBreakTheSame, AssignmentsBreakTheSame}
 
 -- ---- what rests on the form of a tree alone
 
@@ -59,7 +59,7 @@ module _ (f : Name → Name) where
   named p o (two (part_up b n) y) = refl
   named p o (two (part_down b n) y) = refl
 
-each_judged : (P : Name → Type 0) (kind : CaseKind) (e : Expression) → EachIn P e → EachIn P (judged_item kind e)
+pub each_judged : (P : Name → Type 0) (kind : CaseKind) (e : Expression) → EachIn P e → EachIn P (judged_item kind e)
 each_judged P kind (number k) a = tt
 each_judged P kind (name n x) a = a
 each_judged P kind (concatenation es) a = a

@@ -1,11 +1,11 @@
 -- The parameters of a module have the values that they have in the design, one after the other in the order of the text, where no rule
 -- is broken and each is declared before it is used.
-use Rattle.std.proofs.Common.{◌≡◌, Bool, true, false, cond, not, ◌&&◌, ◌||◌, List, [], ◌∷◌, ◌++◌, ◌⊎◌, inl, inr, refl, sym, ap, ◌∙◌, subst, Option, Some, None, IsTrue}
+use Rattle.std.proofs.Common.{◌≡◌, Bool, true, false, cond, not, ◌&&◌, ◌||◌, List, [], ◌∷◌, ◌++◌, inl, inr, refl, sym, ap, ◌∙◌, subst, Option, Some, None, IsTrue}
 use Rattle.std.specs.Prelude.{is_some, option_map}
 use Rattle.std.proofs.lemmas.Bool.{false≢true}
 use Rattle.std.proofs.lemmas.List.{append_assoc}
 use Rattle.wb_values.specs.Value.{Name, same_name, Entries, entry_of}
-use Rattle.verilog_trees.specs.Syntax.{Expression, Range, ParameterDeclaration, Item, port, parameter, wires, variables, assign, always, instances, Module, Source}
+use Rattle.verilog_trees.specs.Syntax.{Expression, ParameterDeclaration, Item, port, parameter, wires, variables, assign, always, instances, Module, Source}
 use Rattle.verilog_meaning.specs.Expression.{Object, Scope, scope_of}
 use Rattle.verilog_meaning.specs.Hierarchy.{declarations, all_parameters, body_parameters, value_names, Overrides, one_parameter, override_of, with_values, with_parameters}
 use Rattle.verilog_meaning.specs.Settled.{is_declared_among}
@@ -14,7 +14,7 @@ use Rattle.verilog_designs.specs.Known.{value_position, known_module_scope, Know
 use Rattle.verilog_designs.specs.Names.{is_among, names_in, names_in_range, names_in_named, names_in_connections, names_in_values, names_in_addresses, names_in_instances, names_in_assignments, names_in_events, names_in_statement, Mention, declares, uses, value_mentions, parameter_mentions, all_parameter_mentions, all_item_mentions, parameter_names, may_be_used, uses_unknown}
 use Rattle.verilog_designs.specs.Constants.{is_net, constant_names_in_module, has_net_as_constant}
 use Rattle.verilog_designs.specs.Expressions.{broken_range, broken_width, broken_values, broken_parameters}
-use Rattle.verilog_unique.proofs.Options.{not_is_false, same_is, is_same}
+use Rattle.verilog_unique.proofs.Options.{same_is, is_same}
 use Rattle.verilog_unique.proofs.Descent.{IsAmong, among_left, among_right, among_either}
 use Rattle.verilog_unique.proofs.Instances.{any_false}
 use Rattle.verilog_unique.proofs.Constants.{Within}
@@ -183,9 +183,10 @@ module _ (source : Source) (m : Module) (given : KnownOverrides) (real : Overrid
   unfolding IsGoodValue
   good_value d [] v h g f = absurd h
   good_value d (w ∷ vs) v (inl e) g f =
-      subst (λ (x : Name × Expression). Good (broken judged (value_position judged d.range x.1) x.1) × Within (names_in x.1) (constant_names_in_module source m)) e
-      (good_left (broken judged (value_position judged d.range w.1) w.1) (broken_values judged d.range vs) g,
-      λ n k. f n (among_left (names_in w.1) (names_in_values vs) n k))
+      subst (λ (x : Name × Expression). Good (broken judged (value_position judged d.range x.1) x.1) × Within (names_in x.1) (constant_names_in_module source m)) e (
+        good_left (broken judged (value_position judged d.range w.1) w.1) (broken_values judged d.range vs) g,
+        λ n k. f n (among_left (names_in w.1) (names_in_values vs) n k),
+      )
   good_value d (w ∷ vs) v (inr h) g f =
       good_value d vs v h (good_right (broken judged (value_position judged d.range w.1) w.1) (broken_values judged d.range vs) g)
       (λ n k. f n (among_right (names_in w.1) (names_in_values vs) n k))

@@ -4,12 +4,12 @@ use Rattle.std.specs.Prelude.{◌≡◌, ◌≢◌, false, true, List, Contains,
 use Rattle.wb_values.specs.Value.{Name}
 use Rattle.verilog_trees.specs.Syntax.{Expression, Target, Statement}
 use Rattle.verilog_meaning.specs.Expression.{Scope, undeclared}
-use Rattle.verilog_meaning.specs.Hierarchy.{Placed, dotted}
+use Rattle.verilog_meaning.specs.Hierarchy.{Placed}
 use Rattle.verilog_meaning.specs.Settled.{Design, IsPlacedIn}
 use Rattle.verilog_rules.specs.Expression.{Broken, is_unbroken, anywhere, broken}
 use Rattle.verilog_designs.specs.Expressions.{by_constants, broken_net_target, broken_statement}
 use Rattle.v_value.specs.Narrow.{HasNarrowObjects}
-use Rattle.flat_designs.specs.Flat.{IsNameOf, IsFlat}
+use Rattle.flat_designs.specs.Flat.{IsNameOf, Naming, IsFlat}
 use Rattle.flat_rules.specs.Sound.{HasSoundModules, HasObjectInBounds}
 
 abbrev pub BreaksNothing : Broken → Type 0
@@ -28,21 +28,21 @@ pub record DriversBreakNothing (s : Scope) (links : List (Target × Expression))
 
 abbrev pub FlatDriversBreakNothing : Type 0
 FlatDriversBreakNothing =
-    (d : Design) (s : Scope) (links : List (Target × Expression)) (blocks clocked : List Statement) → HasSoundModules d
-    → IsFlat d s links blocks clocked → DriversBreakNothing s links blocks clocked
+    (d : Design) (f : Naming) (s : Scope) (links : List (Target × Expression)) (blocks clocked : List Statement) → HasSoundModules d
+    → IsFlat d f s links blocks clocked → DriversBreakNothing s links blocks clocked
 
 -- What the scope says of the names of modules is in bounds.
 abbrev pub FlatObjectsAreInBounds : Type 0
 FlatObjectsAreInBounds =
-    (d : Design) (s : Scope) (links : List (Target × Expression)) (blocks clocked : List Statement) (p : Placed) (n : Name) → HasSoundModules d
-    → IsFlat d s links blocks clocked → IsPlacedIn d p → IsNameOf p n → HasObjectInBounds (s (dotted p.path n))
+    (d : Design) (f : Naming) (s : Scope) (links : List (Target × Expression)) (blocks clocked : List Statement) (p : Placed) (n : Name) → HasSoundModules d
+    → IsFlat d f s links blocks clocked → IsPlacedIn d p → IsNameOf p n → HasObjectInBounds (s (f p.path n))
 
 -- The scope knows no other names.
-abbrev pub KnowsNoOtherNames : Design → Scope → Type 0
-KnowsNoOtherNames d s = (n : Name) → ((p : Placed) (m : Name) → IsPlacedIn d p → IsNameOf p m → dotted p.path m ≢ n) → s n ≡ undeclared
+abbrev pub KnowsNoOtherNames : Design → Naming → Scope → Type 0
+KnowsNoOtherNames d f s = (n : Name) → ((p : Placed) (m : Name) → IsPlacedIn d p → IsNameOf p m → f p.path m ≢ n) → s n ≡ undeclared
 
 -- Then all that it says fits words.
 abbrev pub FlatScopesAreNarrow : Type 0
 FlatScopesAreNarrow =
-    (d : Design) (s : Scope) (links : List (Target × Expression)) (blocks clocked : List Statement) → HasSoundModules d
-    → IsFlat d s links blocks clocked → KnowsNoOtherNames d s → HasNarrowObjects s
+    (d : Design) (f : Naming) (s : Scope) (links : List (Target × Expression)) (blocks clocked : List Statement) → HasSoundModules d
+    → IsFlat d f s links blocks clocked → KnowsNoOtherNames d f s → HasNarrowObjects s

@@ -1,22 +1,21 @@
 -- Designs whose modules break none of the rules that are judged before clocks and drivers are looked at: the scope in which a module is
 -- judged, that of its known constants, is then its scope, and what it says of a name fits words of 128 bits.
-use Rattle.std.specs.Prelude.{◌≡◌, ℕ, ◌≤◌, Some, IfSome}
+use Rattle.std.specs.Prelude.{◌≡◌, ◌≤◌, Some, IfSome}
 use Rattle.wb_values.specs.Value.{Name}
 use Rattle.verilog_meaning.specs.Expression.{Object, distance}
 use Rattle.verilog_meaning.specs.Hierarchy.{Placed, placed_scope}
-use Rattle.verilog_meaning.specs.Settled.{Design, IsPlacedIn, IsDeclared}
+use Rattle.verilog_meaning.specs.Settled.{Design, IsPlacedIn}
 use Rattle.verilog_designs.specs.Known.{known_scope, known_at}
-use Rattle.verilog_designs.specs.Accepted.{undeclared, duplicate_name, has_xz, bad_port, bad_constant, width_over_128, bad_select, memory_use, Breaks}
+use Rattle.verilog_designs.specs.Accepted.{undeclared, duplicate_name, has_xz, bad_constant, width_over_128, bad_select, memory_use, Breaks}
 use Rattle.verilog_exists.specs.Exists.{IsShapely}
 use Rattle.v_value.specs.Narrow.{IsNarrowObject}
 
--- None of the modules breaks a rule on names, digits, ports, constants, widths, selects or memories, and their numbers and parts are
+-- None of the modules breaks a rule on names, digits, constants, widths, selects or memories, and their numbers and parts are
 -- those of a text.
 pub record HasSoundModules (d : Design) : Type 0 where
   pub names_declared : ¬ Breaks d undeclared
   pub names_once : ¬ Breaks d duplicate_name
   pub digits : ¬ Breaks d has_xz
-  pub ports : ¬ Breaks d bad_port
   pub constants : ¬ Breaks d bad_constant
   pub widths : ¬ Breaks d width_over_128
   pub selects : ¬ Breaks d bad_select
