@@ -1,5 +1,5 @@
--- A design with instances as drivers in one scope: each name of a module that stands in the design has a name there, and the connections
--- of ports are continuous assignments.
+-- A design with instances as drivers in one scope, 1364-2005, 12.3.9 and 12.3.11: each name of a module that stands in the design is
+-- replaced by a name there, and the connections of ports are continuous assignments.
 use Rattle.std.specs.Prelude.{◌≡◌, ◌⊎◌, ◌↔◌, List, Contains, Some, IsTrue}
 use Rattle.wb_values.specs.Value.{Name, Valuation}
 use Rattle.verilog_trees.specs.Syntax.{Expression, Target, Statement, input, output}
@@ -22,7 +22,7 @@ IsNameOf p n = IsDeclared p n ⊎ IsTrue (is_among (parameter_names (all_paramet
 abbrev pub Naming : Type 0
 Naming = List PathStep → Name → Name
 
--- Names of one module differ there where they differ in the module.
+-- Names of one module differ there where they differ in the module: all names, also those that the module does not declare.
 abbrev pub KeepsNamesApart : Design → Naming → Type 0
 KeepsNamesApart d f = (p : Placed) → IsPlacedIn d p → IsOneToOne (f p.path)
 
@@ -32,7 +32,7 @@ pub record IsNaming (d : Design) (f : Naming) : Type 0 where
   pub tells : (p q : Placed) (n m : Name) → IsPlacedIn d p → IsPlacedIn d q → IsNameOf p n → IsNameOf q m → f p.path n ≡ f q.path m
       → (p.path ≡ q.path) × (n ≡ m)
 
--- The valuation of the design has, under the names of the one scope, the values that w has.
+-- Under each new name w has what v has under the dotted name: of all names, also of those that no module declares.
 abbrev pub IsSeenAs : Design → Naming → (v w : Valuation) → Type 0
 IsSeenAs d f v w = (p : Placed) (n : Name) → IsPlacedIn d p → w (f p.path n) ≡ inside v p n
 
@@ -63,25 +63,25 @@ pub data IsLink (d : Design) (f : Naming) (p : Placed) (c : Connection) : Target
 
 -- ---- the drivers of a design
 
--- It is an assignment of a module that stands in the design, or a connection there.
+-- It is an assignment of a module that stands in the design, with its names replaced, or a connection there.
 pub data IsFlatLink (d : Design) (f : Naming) : Target × Expression → Type 0 where
   of_module : (p : Placed) (a : Target × Expression) → IsPlacedIn d p → Contains (assignments p.of_module.items) a
       → IsFlatLink d f (renamed_assignment (f p.path) a)
   of_connection : (p : Placed) (c : Connection) (a : Target × Expression) → IsPlacedIn d p → Contains (port_connections p.of_module.items) c
       → IsLink d f p c a → IsFlatLink d f a
 
--- It is a combinational block of a module that stands in the design.
+-- It is a combinational block of a module that stands in the design, with its names replaced.
 pub data IsFlatBlock (d : Design) (f : Naming) : Statement → Type 0 where
   of_block : (p : Placed) (x : Statement) → IsPlacedIn d p → Contains (combinational_blocks p.of_module.items) x
       → IsFlatBlock d f (renamed_statement (f p.path) x)
 
--- So with clocked blocks.
+-- It is a clocked block of such a module, with its names replaced.
 pub data IsFlatClocked (d : Design) (f : Naming) : Statement → Type 0 where
   of_clocked : (p : Placed) (x : Statement) → IsPlacedIn d p → Contains (clocked_blocks p.of_module.items) x
       → IsFlatClocked d f (renamed_statement (f p.path) x)
 
--- The scope says of the names there what each module's scope says of its own names, and the lists have the drivers of the design, in
--- any order.
+-- The scope says of the names there what each module's scope says of its own names, and the lists have the drivers of the design as
+-- sets: in any order, equal drivers once or more often.
 pub record IsFlat (d : Design) (f : Naming) (s : Scope) (links : List (Target × Expression)) (blocks clocked : List Statement) : Type 0 where
   pub says_the_same : (p : Placed) (n : Name) → IsPlacedIn d p → IsNameOf p n → s (f p.path n) ≡ placed_scope p n
   pub are_links : (a : Target × Expression) → Contains links a ↔ IsFlatLink d f a
