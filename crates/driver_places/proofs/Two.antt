@@ -73,19 +73,19 @@ sets_blocks s f i (x ∷ xs) = ap (λ z. assigned_by s x ∷ z) (sets_blocks s f
 data Kind : Type 0 where
   by_link by_output by_clock by_block : Kind
 
-kind_of : Driver → Kind
+abbrev kind_of : Driver → Kind
 kind_of (assigned x y) = by_link
 kind_of (connected x y) = by_output
 kind_of (clocked x) = by_clock
 kind_of (combinational x) = by_block
 
-number_of : Driver → ℕ
+abbrev number_of : Driver → ℕ
 number_of (assigned x y) = x
 number_of (connected x y) = x
 number_of (clocked x) = x
 number_of (combinational x) = x
 
-part_of : Driver → ℕ
+abbrev part_of : Driver → ℕ
 part_of (assigned x y) = y
 part_of (connected x y) = y
 part_of (clocked x) = 0
