@@ -1,6 +1,6 @@
 -- Two drivers of a module with instances are two sets of the list of its drivers that meet.
 use Rattle.std.proofs.Common.{◌≡◌, ◌∙◌, ℕ, zero, suc, ◌+◌, ◌≤◌, refl, ap, sym, subst, arith, Bool, true, false, cond, Option, Some, None, inl, inr, List, [], ◌∷◌, ◌++◌}
-use Rattle.std.specs.Prelude.{◌↔◌, ◌⊎◌, map, slice_get, is_some, unwrap_or}
+use Rattle.std.specs.Prelude.{◌⊎◌, map, slice_get, is_some, unwrap_or}
 use Rattle.std.proofs.lemmas.Bool.{false≢true, and_parts, and_from}
 use Rattle.std.proofs.lemmas.List.{map-append}
 use Rattle.wb_values.specs.Value.{Name, entry_of}
