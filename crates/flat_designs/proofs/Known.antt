@@ -21,7 +21,7 @@ use Rattle.verilog_exists.proofs.Spots.{plain_declared, plain_path}
 use Rattle.verilog_renamed.specs.Laws.{IsOneToOne}
 use Rattle.verilog_renamed.specs.EachName.{EachIn, EachInTarget, EachInTargets, EachInStatement, EachInStatements, EachInItems}
 use Rattle.verilog_renamed.proofs.EachName.{each_listed, target_listed, statement_listed, as_target_named}
-use Rattle.flat_designs.specs.Flat.{IsNameOf}
+use Rattle.flat_designs.specs.Flat.{IsNameOf, Naming, IsNaming, NamesByDots, DottedNamesAreANaming}
 
 -- ---- dotted names of one module
 
@@ -38,7 +38,7 @@ dotted_tells (u ∷ around) m n e =
     tail_of (after_same (step_text u) (46 ∷ m) (46 ∷ n) (dotted_tells around (step_text u ++ 46 ∷ m) (step_text u ++ 46 ∷ n) e))
 
 -- different names have different dotted names
-pub dotted_apart : (path : List PathStep) → IsOneToOne (dotted path)
+dotted_apart : (path : List PathStep) → IsOneToOne (dotted path)
 dotted_apart path m n =
     elim (split (same_name m n)) as (λ _. same_name (dotted path m) (dotted path n) ≡ same_name m n) [
       | inl e ↦ subst (λ k. same_name (dotted path m) (dotted path k) ≡ same_name m k) (same_is m n e) (is_same (dotted path m) ∙ sym (is_same m))
@@ -188,7 +188,7 @@ module _ (d : Design) (good : ¬ HasUndeclared d) (p : Placed) (at : IsPlacedIn 
       → EachInTarget (IsNameOf p) t
   in_output c t h e = as_target_named (IsNameOf p) c.expression t (in_connection c h) e
 
--- ---- a dotted name tells the module and the name
+-- ---- dotted names
 
 listed_among : (ns : List Name) (n : Name) → IsTrue (is_among ns n) → IsAmong ns n
 listed_among [] n h = absurd (false≢true h)
@@ -210,12 +210,24 @@ module _ (d : Design) (dotless : NamesHaveNoDots d.source) where
       (listed_among (parameter_names (all_parameters p.of_module)) n h))))
       (contains_among n 46 k)
 
-  pub one_place : (q p : Placed) (m n : Name) → IsPlacedIn d q → IsPlacedIn d p → IsNameOf q m → IsNameOf p n → dotted q.path m ≡ dotted p.path n
-      → (q ≡ p) × (m ≡ n)
-  one_place q p m n at_q at_p is_m is_n e =
-      let r = dots_tell q.path p.path m n (plain_path d dotless q.path q at_q) (plain_path d dotless p.path p at_p) (plain_of_name q m at_q is_m)
-      (plain_of_name p n at_p is_n) e in
-      (some_same (sym at_q ∙ ap (at_path d) r.0 ∙ at_p), r.1)
+  dots_are_naming : IsNaming d dotted
+  dots_are_naming =
+      record {
+        apart = λ p at. dotted_apart p.path;
+        tells = λ p q n m at_p at_q is_n is_m e.
+            dots_tell p.path q.path n m (plain_path d dotless p.path p at_p) (plain_path d dotless q.path q at_q) (plain_of_name p n at_p is_n)
+            (plain_of_name q m at_q is_m) e;
+      }
+
+pub dotted_names_are_a_naming : DottedNamesAreANaming
+dotted_names_are_a_naming d = record { apart = λ p at. dotted_apart p.path; seen = λ v p n at. refl; naming = dots_are_naming d }
+
+-- a name of the one scope tells the module and the name
+pub one_place : (d : Design) (called : Naming) → IsNaming d called → (q p : Placed) (m n : Name) → IsPlacedIn d q → IsPlacedIn d p → IsNameOf q m
+    → IsNameOf p n → called q.path m ≡ called p.path n → (q ≡ p) × (m ≡ n)
+one_place d called naming q p m n at_q at_p is_m is_n e =
+    let r = naming.tells q p m n at_q at_p is_m is_n e in
+    (some_same (sym at_q ∙ ap (at_path d) r.0 ∙ at_p), r.1)
 
 -- ---- what is assigned is named
 

@@ -3,13 +3,12 @@ use Rattle.std.specs.Prelude.{◌↔◌, List, Contains, IsTrue}
 use Rattle.verilog_trees.specs.Syntax.{Expression, Target, Statement}
 use Rattle.verilog_meaning.specs.Expression.{Scope}
 use Rattle.verilog_meaning.specs.Register.{is_bit_of, may_assign}
-use Rattle.verilog_meaning.specs.Hierarchy.{Placed, dotted}
+use Rattle.verilog_meaning.specs.Hierarchy.{Placed}
 use Rattle.verilog_meaning.specs.Settled.{Design, IsPlacedIn}
 use Rattle.verilog_designs.specs.Dependence.{Bit, IsGivenBy, at_start, After, bit_of, Depends, DependsFar, HasLoop}
 use Rattle.verilog_designs.specs.Accepted.{undeclared, Breaks}
-use Rattle.verilog_exists.specs.Exists.{NamesHaveNoDots}
 use Rattle.verilog_renamed.specs.Renamed.{renamed_bit}
-use Rattle.flat_designs.specs.Flat.{IsNameOf, IsFlat}
+use Rattle.flat_designs.specs.Flat.{IsNameOf, Naming, IsNaming, IsFlat}
 
 -- a bit of a name, in range
 abbrev pub IsBitAmong : Scope → Bit → Type 0
@@ -33,20 +32,20 @@ pub record HasFlatLoop (s : Scope) (links : List (Target × Expression)) (blocks
 
 -- ---- the law
 
--- The bit, of a name of the module, under its dotted name.
-abbrev pub dotted_bit : Placed → Bit → Bit
-dotted_bit p u = renamed_bit (dotted p.path) u
+-- The bit, of a name of the module, under its name in the one scope.
+abbrev pub flat_bit : Naming → Placed → Bit → Bit
+flat_bit f p u = renamed_bit (f p.path) u
 
 -- Bits of modules depend on each other through the flat drivers as they do in the design, by one step and by more, and there is a loop
 -- among them exactly where the design has one.
-pub record DependsTheSame (d : Design) (s : Scope) (links : List (Target × Expression)) (blocks : List Statement) : Type 0 where
+pub record DependsTheSame (d : Design) (f : Naming) (s : Scope) (links : List (Target × Expression)) (blocks : List Statement) : Type 0 where
   pub near : (p q : Placed) (u y : Bit) → IsPlacedIn d p → IsPlacedIn d q → IsNameOf p u.of_name → IsNameOf q y.of_name
-      → Depends d (bit_of p u) (bit_of q y) ↔ DependsFlat s links blocks (dotted_bit p u) (dotted_bit q y)
+      → Depends d (bit_of p u) (bit_of q y) ↔ DependsFlat s links blocks (flat_bit f p u) (flat_bit f q y)
   pub far : (p q : Placed) (u y : Bit) → IsPlacedIn d p → IsPlacedIn d q → IsNameOf p u.of_name → IsNameOf q y.of_name
-      → DependsFar d (bit_of p u) (bit_of q y) ↔ DependsFlatFar s links blocks (dotted_bit p u) (dotted_bit q y)
+      → DependsFar d (bit_of p u) (bit_of q y) ↔ DependsFlatFar s links blocks (flat_bit f p u) (flat_bit f q y)
   pub loops : HasLoop d ↔ HasFlatLoop s links blocks
 
 abbrev pub BitsDependOnTheSame : Type 0
 BitsDependOnTheSame =
-    (d : Design) (s : Scope) (links : List (Target × Expression)) (blocks clocked : List Statement) → ¬ Breaks d undeclared
-    → NamesHaveNoDots d.source → IsFlat d s links blocks clocked → DependsTheSame d s links blocks
+    (d : Design) (f : Naming) (s : Scope) (links : List (Target × Expression)) (blocks clocked : List Statement) → ¬ Breaks d undeclared
+    → IsNaming d f → IsFlat d f s links blocks clocked → DependsTheSame d f s links blocks

@@ -4,19 +4,19 @@ use Rattle.wb_values.specs.Value.{Name, Valuation}
 use Rattle.verilog_trees.specs.Syntax.{Expression, Target, Statement, input, output}
 use Rattle.verilog_meaning.specs.Expression.{Scope}
 use Rattle.verilog_meaning.specs.Register.{combinational_blocks, may_reach, one_may_assign, counts}
-use Rattle.verilog_meaning.specs.Hierarchy.{Placed, placed_scope, dotted}
+use Rattle.verilog_meaning.specs.Hierarchy.{Placed, placed_scope}
 use Rattle.verilog_meaning.specs.Settled.{Design, IsPlacedIn, inside, IsDeclared, assignments, HasAssigned, HasRunAll, as_target, Connection, port_connections, HasConnected, IsConnectedTo, HasPort, is_counted, one_may_reach, IsDriven, IsSettled}
 use Rattle.verilog_designs.specs.Accepted.{undeclared, Breaks}
-use Rattle.verilog_exists.specs.Exists.{NamesHaveNoDots}
-use Rattle.flat_designs.specs.Flat.{IsFlat}
+use Rattle.flat_designs.specs.Flat.{Naming, KeepsNamesApart, IsNaming, IsSeenAs, IsFlat}
 
 -- ---- settled valuations
 
--- A settled valuation solves the equations of the flat drivers.
+-- A settled valuation solves, under the names of the one scope, the equations of the flat drivers.
 abbrev pub SettledSolvesTheFlat : Type 0
 SettledSolvesTheFlat =
-    (d : Design) (s : Scope) (links : List (Target × Expression)) (blocks clocked : List Statement) (registers inputs v : Valuation)
-    → ¬ Breaks d undeclared → IsFlat d s links blocks clocked → IsSettled d registers inputs v → HasAssigned s v links × HasRunAll s v blocks
+    (d : Design) (f : Naming) (s : Scope) (links : List (Target × Expression)) (blocks clocked : List Statement) (registers inputs v w : Valuation)
+    → ¬ Breaks d undeclared → KeepsNamesApart d f → IsFlat d f s links blocks clocked → IsSeenAs d f v w → IsSettled d registers inputs v
+    → HasAssigned s w links × HasRunAll s w blocks
 
 -- Within one module each assignment and each connection of an instance holds, and each combinational block gives the valuation back.
 pub record HasEquations (d : Design) (v : Valuation) (p : Placed) : Type 0 where
@@ -27,9 +27,9 @@ pub record HasEquations (d : Design) (v : Valuation) (p : Placed) : Type 0 where
 -- The equations of the flat drivers hold exactly where those of all modules do.
 abbrev pub FlatSolvesEachModule : Type 0
 FlatSolvesEachModule =
-    (d : Design) (s : Scope) (links : List (Target × Expression)) (blocks clocked : List Statement) (v : Valuation) → ¬ Breaks d undeclared
-    → IsFlat d s links blocks clocked
-    → (HasAssigned s v links × HasRunAll s v blocks) ↔ ((p : Placed) → IsPlacedIn d p → HasEquations d v p)
+    (d : Design) (f : Naming) (s : Scope) (links : List (Target × Expression)) (blocks clocked : List Statement) (v w : Valuation)
+    → ¬ Breaks d undeclared → KeepsNamesApart d f → IsFlat d f s links blocks clocked → IsSeenAs d f v w
+    → (HasAssigned s w links × HasRunAll s w blocks) ↔ ((p : Placed) → IsPlacedIn d p → HasEquations d v p)
 
 -- ---- what is driven
 
@@ -49,16 +49,16 @@ pub record IsInputOfTop (d : Design) (p : Placed) (n : Name) : Type 0 where
   pub no_clock : n ≢ d.clock
 
 -- A bit of a module is driven by the flat drivers as it is in the design.
-pub record IsDrivenTheSame (d : Design) (s : Scope) (links : List (Target × Expression)) (blocks clocked : List Statement) (p : Placed) (n : Name) (k b : ℕ) : Type 0 where
-  pub by_link : IsTrue (one_may_reach s links (dotted p.path n) k b) ↔ IsDrivenByLink d p n k b
-  pub by_block : one_may_assign s blocks (dotted p.path n) k b ≡ one_may_assign (placed_scope p) (combinational_blocks p.of_module.items) n k b
-  pub counted : counts s clocked (dotted p.path n) k b ≡ is_counted p n k b
+pub record IsDrivenTheSame (d : Design) (f : Naming) (s : Scope) (links : List (Target × Expression)) (blocks clocked : List Statement) (p : Placed) (n : Name) (k b : ℕ) : Type 0 where
+  pub by_link : IsTrue (one_may_reach s links (f p.path n) k b) ↔ IsDrivenByLink d p n k b
+  pub by_block : one_may_assign s blocks (f p.path n) k b ≡ one_may_assign (placed_scope p) (combinational_blocks p.of_module.items) n k b
+  pub counted : counts s clocked (f p.path n) k b ≡ is_counted p n k b
   pub driven : IsDriven d p n k b
-      ↔ (IsTrue (counts s clocked (dotted p.path n) k b) ⊎ (IsTrue (one_may_assign s blocks (dotted p.path n) k b)
-      ⊎ (IsTrue (one_may_reach s links (dotted p.path n) k b) ⊎ IsInputOfTop d p n)))
+      ↔ (IsTrue (counts s clocked (f p.path n) k b) ⊎ (IsTrue (one_may_assign s blocks (f p.path n) k b)
+      ⊎ (IsTrue (one_may_reach s links (f p.path n) k b) ⊎ IsInputOfTop d p n)))
 
 abbrev pub BitsAreDrivenTheSame : Type 0
 BitsAreDrivenTheSame =
-    (d : Design) (s : Scope) (links : List (Target × Expression)) (blocks clocked : List Statement) (p : Placed) (n : Name) (k b : ℕ)
-    → ¬ Breaks d undeclared → NamesHaveNoDots d.source → IsFlat d s links blocks clocked → IsPlacedIn d p → IsDeclared p n
-    → IsDrivenTheSame d s links blocks clocked p n k b
+    (d : Design) (f : Naming) (s : Scope) (links : List (Target × Expression)) (blocks clocked : List Statement) (p : Placed) (n : Name) (k b : ℕ)
+    → ¬ Breaks d undeclared → IsNaming d f → IsFlat d f s links blocks clocked → IsPlacedIn d p → IsDeclared p n
+    → IsDrivenTheSame d f s links blocks clocked p n k b

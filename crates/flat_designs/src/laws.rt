@@ -1,7 +1,13 @@
 //! The laws, each the contract of a function without code.
+ghost use Rattle.flat_designs.specs.Flat.{DottedNamesAreANaming};
 ghost use Rattle.flat_designs.specs.Laws.{SettledSolvesTheFlat, FlatSolvesEachModule, BitsAreDrivenTheSame};
 ghost use Rattle.flat_designs.specs.Depending.{BitsDependOnTheSame};
 ghost use Rattle.flat_designs.specs.Edge.{EdgeLeavesTheSame, ModulesInTurnAreInTextOrder};
+
+/// Dotted names are a naming of the names of all modules, where no name has a dot.
+pub fn dotted_names_are_a_naming()
+    ensures { DottedNamesAreANaming }
+{}
 
 /// The equations of the flat drivers hold exactly where those of all modules that stand in the design do; so a settled valuation solves
 /// them.

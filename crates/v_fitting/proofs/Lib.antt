@@ -1,5 +1,5 @@
 pub mod Items
 pub mod Wires
-mod Memories
-mod Targets
+pub mod Memories
+pub mod Targets
 mod Modules

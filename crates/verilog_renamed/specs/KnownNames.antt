@@ -1,5 +1,6 @@
 -- The laws on trees with other names, where the scope of the new names says of them what the old one says of the names that stand in
--- the tree. Of all others it may say anything: a scope of dotted names has under a name with a dot in it what no tree of the text means.
+-- the tree. Of all others it may say anything: for instance, a scope of dotted names also declares `u.x`, which no name in a module's tree
+-- is.
 use Rattle.std.specs.Prelude.{◌≡◌, ◌↔◌, ℕ, List}
 use Rattle.wb_values.specs.Value.{Name, Value, Valuation}
 use Rattle.verilog_trees.specs.Syntax.{Expression, Expressions, Select, Selects, Target, CaseKind, Statement, CaseItems}

@@ -187,7 +187,8 @@ GivenBitsAreTheSame =
     (f g : Name → Name) (around new_around inner new_inner : Scope) (x : Target) (e : Expression) → IsOneToOne f → IsOneToOne g
     → AreRenamed f around new_around → AreRenamed g inner new_inner → IsGivenByTheSame f g around new_around inner new_inner x e
 
--- After the statement a bit of a new name depends on the same bits as before, all of new names, and a bit of another name on itself alone.
+-- After the statement a bit of a new name depends on the same bits as in the tree with the old names, all of new names, and a bit of
+-- another name on itself alone.
 pub record DependsOnTheSame (f : Name → Name) (s t : Scope) (x : Statement) : Type 0 where
   pub same : (u y : Bit) → After t at_start (renamed_statement f x) (renamed_bit f u) (renamed_bit f y) ↔ After s at_start x u y
   pub only : (u y : Bit) → After t at_start (renamed_statement f x) (renamed_bit f u) y → IsNewName f y.of_name

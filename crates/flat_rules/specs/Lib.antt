@@ -1,0 +1,3 @@
+pub mod SameRules
+pub mod Sound
+pub mod Drivers
