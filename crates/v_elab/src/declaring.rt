@@ -66,11 +66,7 @@ fn declare(alloc: Global, terms: &mut Terms, name: &str, sort: Sort) -> Result<(
 }
 
 /// A store with these names of a module, and no term.
-pub(crate) fn store_of(
-    alloc: Global,
-    scope: &Scope<'_>,
-    list: &[&str],
-) -> Result<Terms, NoMemory>
+pub(crate) fn store_of(alloc: Global, scope: &Scope<'_>, list: &[&str]) -> Result<Terms, NoMemory>
     requires narrow { (n : List ℕ) → object_width (scope_at scope.now n) ≤ 128 }
     requires few { HasFewWords (scope_at scope.now) }
     requires distinct { AreDistinct (map (λ n. n.now) list.now) }

@@ -129,7 +129,12 @@ fn is_bit_edge(scope: &Scope<'_>, event: Event<'_>) -> bool
 }
 
 /// Whether one event is a clock's edge and the other that of a bit of another name.
-fn is_clock_pair(scope: &Scope<'_>, clocks: &BTreeSet<&str>, first: Event<'_>, second: Event<'_>) -> bool
+fn is_clock_pair(
+    scope: &Scope<'_>,
+    clocks: &BTreeSet<&str>,
+    first: Event<'_>,
+    second: Event<'_>,
+) -> bool
     requires { HasNarrowObjects (scope_at scope.now) }
     ensures { result ≡ is_clock_pair (scope_at scope.now) (has_name clocks.now) (event_of first.entry) (event_of second.entry) }
 {

@@ -18,5 +18,5 @@ returns c = λ d h k.
     inr (
       (clock_so d m h c.args.clock.now k c.in_ok-data.data c.in_ok-data.ensures).1 c.if-data.false,
       c.in_ok-kind.ensures d m h (ap (map item_of) (sym c.deref.ensures.value)) c.requires.same
-      (λ n. c.in_ok-clocks.ensures n ∙ ap (λ c. same_name c n) (sym k)),
+          (λ n. c.in_ok-clocks.ensures n ∙ ap (λ c. same_name c n) (sym k)),
     )
