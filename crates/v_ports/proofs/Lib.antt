@@ -1,0 +1,5 @@
+pub mod Directions
+pub mod Differing
+pub mod Whole
+pub mod Names
+pub mod Placed

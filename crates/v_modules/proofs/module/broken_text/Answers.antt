@@ -13,10 +13,10 @@ pub returns : goal.returns
 returns c = λ source so.
     let s = scope_at c.args.names.scope.now in
     let m = c.args.within.now in
-    c.also-2.ensures ∙ ap (λ b. both b c.also.result) c.ports_rules.ensures
+    c.also-3.ensures ∙ ap (λ b. both b c.also-2.result) c.ports_rules.ensures
     ∙ ap (both (coded (broken_ports s (header_ports (ports_of m.ports)))))
-    (c.also.ensures ∙ ap (λ b. both b c.also-3.result) (c.broken_items-items.ensures ∙ ap (λ xs. module_items_from s none (map item_of xs)) c.deref.ensures.value)
+    (c.also-2.ensures ∙ ap (λ b. both b c.also.result) (c.broken_items-items.ensures ∙ ap (λ xs. module_items_from s none (map item_of xs)) c.deref.ensures.value)
     ∙ ap (both (module_items_from s none (map item_of m.items.items)))
-    (c.also-3.ensures ∙ ap (λ b. both b c.broken_instances-parts.result) c.parameters_rules-parameters.ensures
+    (c.also.ensures ∙ ap (λ b. both b c.broken_instances-parts.result) c.parameters_rules-parameters.ensures
     ∙ ap (both _) (c.broken_instances-parts.ensures source so ∙ ap (λ xs. coded (broken_instance_items source s (map item_of xs))) c.deref-2.ensures.value))
     ∙ sym (c.rules_of_module.ensures source s (module_of m)))
