@@ -1,0 +1,11 @@
+pub mod Alike
+pub mod Places
+pub mod Items
+pub mod Links
+pub mod Named
+pub mod Instances
+pub mod Whole
+pub mod Loops
+pub mod Made
+pub mod Connected
+pub mod Rows
