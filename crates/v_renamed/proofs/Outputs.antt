@@ -1,6 +1,6 @@
 -- The copy of an expression as a target, form by form.
-use Rattle.std.proofs.Common.{◌≡◌, ◌∙◌, refl, ap, sym, ℕ, Bool, true, false, List, [], ◌∷◌, ◌++◌, map, Option, Some, None, option_map, option_and_then}
-use Rattle.std.proofs.lemmas.List.{append_assoc}
+use Rattle.std.proofs.Common.{◌≡◌, ◌∙◌, ◌<◌, ◌+◌, refl, ap, sym, ℕ, true, false, List, [], ◌∷◌, ◌++◌, map, length, drop, get_or, Option, Some, None, option_map, option_and_then}
+use Rattle.std.proofs.lemmas.List.{append_assoc, map-append, drop_more}
 use Rattle.std.proofs.lemmas.Bool.{false≢true}
 use Rattle.std.specs.declared.boxed.Box.{Box}
 use Rattle.std.specs.declared.vec.Vec.{Vec}
@@ -22,12 +22,13 @@ use Rattle.v_syntax.specs.declared.tree.TestLink.{TestLink}
 use Rattle.v_syntax.specs.declared.tree.Choice.{Choice}
 use Rattle.v_syntax.specs.declared.tree.Expression.{Expression, Number, Name as NameOf, Concatenation, Replication, AsSigned, AsUnsigned, Prefix, Binary, Test, Conditional}
 use Rattle.v_syntax.specs.declared.tree.Selects.{Selects}
-use Rattle.v_syntax.specs.declared.tree.Target.{Target}
+use Rattle.v_syntax.specs.declared.tree.Target.{Target, Joined}
 use Rattle.v_syntax.specs.Tree.{tree_of, selects_of, target_of, prefixed, all_prefixed, combined, tested, expressions_of}
 use Rattle.v_syntax.specs.Chain.{linked, test_linked, chosen}
 use Rattle.v_syntax.proofs.Trees.{tree_of-Concatenation, tree_of-Binary, tree_of-Test, tree_of-Conditional}
 use Rattle.v_renamed.specs.Copies.{target_at, as_renamed, are_none, with_target, all_renamed, joined_list}
 use Rattle.v_renamed.specs.Listed.{targets_listed}
+use Rattle.v_renamed.proofs.Statements.{target_of-Joined}
 
 -- ---- chains: with a link they are no target
 
@@ -168,6 +169,25 @@ some-list xs = Some xs
 after-more : (ts : List pure.Target) (t : pure.Target) (r : Option (List pure.Target)) → after ts (option_map (λ us. t ∷ us) r) ≡ after (ts ++ t ∷ []) r
 after-more ts t None = refl
 after-more ts t (Some us) = ap some-list (sym (append_assoc ts (t ∷ []) us))
+
+pub targets_turn : (f : Name → Name) (es : List Expression) (i : ℕ) (d : Expression) (now new : List Target) (t : Target) → i < length es
+    → after (map target_of now) (all_renamed f (drop i es)) ≡ all_renamed f es → some-target (target_of t) ≡ as_renamed f (tree_of (get_or es i d))
+    → new ≡ now ++ t ∷ [] → after (map target_of new) (all_renamed f (drop (i + 1) es)) ≡ all_renamed f es
+targets_turn f es i d now new t l h e p =
+    ap (λ ts. after (map target_of ts) (all_renamed f (drop (i + 1) es))) p
+    ∙ ap (λ ts. after ts (all_renamed f (drop (i + 1) es))) (map-append target_of now (t ∷ []))
+    ∙ sym (after-more (map target_of now) (target_of t) (all_renamed f (drop (i + 1) es)))
+    ∙ ap (λ o. after (map target_of now) (with_target o (all_renamed f (drop (i + 1) es)))) e
+    ∙ ap (λ ys. after (map target_of now) (all_renamed f ys)) (sym (drop_more es i d l))
+    ∙ h
+
+-- targets side by side
+joined-is : (v : Vec Target Global) → target_of (Joined v) ≡ joined_list (map target_of v.items)
+joined-is v = target_of-Joined v
+
+pub joined_some : (o : Option (Vec Target Global)) (v : Vec Target Global) → o ≡ Some v
+    → option_map target_of (Some (Joined v)) ≡ option_map joined_list (option_map (λ (w : Vec Target Global). map target_of w.items) o)
+joined_some o v is = ap some-target (joined-is v) ∙ ap (λ p. option_map joined_list (option_map (λ (w : Vec Target Global). map target_of w.items) p)) (sym is)
 
 -- ---- arms: e is the expression, and o the target, if there is one
 

@@ -16,10 +16,10 @@ use Rattle.v_syntax.specs.declared.tree.Statement.{Statement, Empty, Blocking, N
 use Rattle.v_syntax.specs.declared.tree.CaseItem.TheBlock.{hidden-the_row-Arm-0, hidden-the_row-CaseItem-1, hidden-the_row-Statement-2}
 use Rattle.v_syntax.specs.declared.tree.Arm.{Arm}
 use Rattle.v_syntax.specs.declared.tree.CaseItem.{CaseItem, Values, Default}
-use Rattle.v_syntax.specs.Tree.{tree_of, selects_of, target_of, targets_of, statement_of, arms_before, statements_of, items_of, arm_before, or_empty, name_of_option, case_kind_of, expressions_of}
+use Rattle.v_syntax.specs.Tree.{tree_of, selects_of, target_of, targets_of, statement_of, arms_before, statements_of, items_of, arm_before, or_empty, name_of_option, case_kind_of}
 use Rattle.verilog_renamed.specs.Renamed.{renamed_expressions, renamed_targets, renamed_statements, renamed_case_items}
 use Rattle.v_renamed.specs.Copies.{renamed_at, selects_at, part_under, target_at, statement_at, target_under, statement_under, arm_of, arm_under, item_of, item_under}
-use Rattle.v_renamed.specs.Listed.{listed, targets_listed, statements_listed, ladder_of, item_before, items_listed}
+use Rattle.v_renamed.specs.Listed.{listed, targets_listed, statements_listed, ladder_of, items_listed}
 use Rattle.v_renamed.proofs.Arms.{parts-listed, parts-at}
 use mathlib.Core.Former as Former
 
@@ -29,7 +29,7 @@ targets-row : (n : Former.Count) (k : Row_of-Target n) → targets_of k ≡ targ
 targets-row n end_of-Target = refl
 targets-row n (more_of-Target t k) = ap (pure.target (target_of t)) (targets-row _ k)
 
-target_of-Joined : (v : Vec Target Global) → target_of (Joined v) ≡ pure.joined (targets_listed (map target_of v.items))
+pub target_of-Joined : (v : Vec Target Global) → target_of (Joined v) ≡ pure.joined (targets_listed (map target_of v.items))
 target_of-Joined v = ap pure.joined (targets-row _ (hidden-the_row-Target-0 v) ∙ ap (λ (ts : List Target). targets_listed (map target_of ts)) (items_hidden-the_row-Target-0 v))
 
 pub place-at : (f : Name → Name) (n : Name) (x : pure.Selects) → target_at f (pure.place n x) ≡ pure.place (f n) (selects_at f x)
@@ -178,7 +178,7 @@ module _ (f : Name → Name) (x : Statement) where
       → x ≡ If v o → o ≡ Some b → arms ≡ v.items → y ≡ b.value
       → map arm_of w.items ≡ map (arm_under f) arms → statement_of d.value ≡ statement_at f (statement_of y)
       → statement_of (If w (Some d)) ≡ statement_at f (statement_of x)
-    else-copied v w o b d y arms is some at held same last =
+  else-copied v w o b d y arms is some at held same last =
       else-is w d
       ∙ ap2 (λ gs z. or_empty (ladder_of gs (some-statement z))) (same ∙ ap (map (arm_under f)) at) (last ∙ ap (λ z. statement_at f (statement_of z)) held)
       ∙ sym (ladder-renamed f v.items (some-statement (statement_of b.value))) ∙ ap (statement_at f) (sym (else-is v b))

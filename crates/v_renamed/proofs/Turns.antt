@@ -1,5 +1,5 @@
 -- Loops that make a copy of each element of a list.
-use Rattle.std.proofs.Common.{◌≡◌, ◌∙◌, ◌<◌, ◌≤◌, ◌+◌, ℕ, suc, refl, ap, sym, List, [], ◌∷◌, ◌++◌, map, length, drop, get_or}
+use Rattle.std.proofs.Common.{◌≡◌, ◌∙◌, ◌<◌, ◌≤◌, ◌+◌, ℕ, ap, sym, List, [], ◌∷◌, ◌++◌, map, length, drop, get_or}
 use Rattle.std.proofs.lemmas.List.{append_assoc, append-nil, map-append, drop_more, at_drop_all}
 
 -- what was made of the front, and what is to be made of the rest

@@ -1,7 +1,6 @@
 -- A table of new names as a function of names.
 use Rattle.std.specs.Prelude.{ℕ, List, Option, Some, None}
 use Rattle.std.specs.Borrow.{Bor}
-use Rattle.std.specs.BTreeMap.{BTreeMap}
 use Rattle.wb_values.specs.Value.{Name}
 use Rattle.v_hier.specs.Tables.{under_name}
 use Rattle.v_renamed.specs.declared.names.Names.{Names}

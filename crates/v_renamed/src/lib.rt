@@ -8,5 +8,7 @@ mod output;
 mod statement;
 mod target;
 
-pub use module::{renamed_as_target, renamed_assignment, renamed_expression, renamed_statement, renamed_target};
+pub use module::{
+    renamed_as_target, renamed_assignment, renamed_expression, renamed_statement, renamed_target,
+};
 pub use names::{Names, name_for};

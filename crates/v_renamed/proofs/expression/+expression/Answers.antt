@@ -4,7 +4,7 @@ use Rattle.v_renamed.specs.Copies.{link_of, test_of, choice_of, part_under, link
 use Rattle.v_renamed.proofs.Arms as arms
 use Rattle.verilog_renamed.proofs.Paths.{ap2}
 use Rattle.v_renamed.proofs.Turns.{turn, end}
-use Rattle.std.proofs.Common.{◌∙◌, ap, sym, refl, arith}
+use Rattle.std.proofs.Common.{◌∙◌, ap, arith}
 use Rattle.v_renamed.proofs.expression.+expression.Goals as goal
 
 pub copy-returns-in-Number : goal.copy-returns-in-Number
