@@ -1,0 +1,4 @@
+pub mod Turns
+pub mod Arms
+pub mod Statements
+pub mod Outputs
