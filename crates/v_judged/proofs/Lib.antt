@@ -3,4 +3,5 @@ mod Tops
 mod Valued
 mod Declared
 mod Ready
+mod Sets
 mod Asked
