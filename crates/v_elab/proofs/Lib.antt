@@ -7,6 +7,7 @@ pub mod Ordered
 pub mod Sorts
 pub mod Updates
 pub mod Cycled
+pub mod Undriven
 pub mod Whole
 pub mod Cutting
 pub mod Entering

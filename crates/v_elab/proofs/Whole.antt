@@ -18,7 +18,6 @@ use Rattle.verilog_unique.proofs.Ports.{port_is_declared}
 use Rattle.v_hier.specs.Instances.{module_has_parts, has_parts}
 use Rattle.v_scopes.specs.Ports.{alone}
 use Rattle.v_lower.specs.Lowered.{IsSortOf, IsImage}
-use Rattle.v_settle.proofs.Alone.{not-driven}
 use Rattle.v_design.specs.Registers.{CountedBits, AreBitsOf}
 use Rattle.v_design.specs.Parts.{Parts, registers_of, inputs_of, under_names, bits_by_name}
 use Rattle.v_design.specs.Design as whole
@@ -35,6 +34,7 @@ use Rattle.v_elab.proofs.Sorts.{of_value, same_sorts}
 use Rattle.v_elab.proofs.Ordered.{to_design, from_design, registers_in_order}
 use Rattle.v_elab.proofs.Given.{first_part, last_part, of_register, of_input, an_input}
 use Rattle.v_elab.proofs.Cycled.{masks_under, is_cycled}
+use Rattle.v_elab.proofs.Undriven.{not_driven}
 
 -- ---- sorts
 
@@ -165,7 +165,7 @@ module _ (d : Design) (m : Module) (f : Name → Bool) (clear : has_parts d.sour
         held = λ n k c h t. within.held n k c (is_declared n (among_test (declared m) n h)) t;
         inputs_held = λ n k c h g. let p = ports.is_port n g in ap (λ y. value_bit y k c) (settled.inputs_held (alone m) n top p.0 p.1);
         unset = λ n k c h there free t g. within.undriven n k c (is_declared n (among_test (declared m) n h)) there
-            (not-driven d m clear own top n k c free t (λ q. false≢true (sym g ∙ ports.is_given n q.0 q.1)));
+            (not_driven d m own placed n k c free t (λ q. false≢true (sym g ∙ ports.is_given n q.0 q.1)));
       }
     where
       within : IsSettledIn d registers v (alone m)

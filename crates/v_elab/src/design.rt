@@ -70,7 +70,7 @@ fn design_in<'s>(
 ) -> Result<Design, NoMemory>
     requires { IsElaborable (body_in (scope_at scope.now) (map item_of items.now) (map (λ n. n.now) declared.items)) (is_data_input names.now clock.now) }
     ensures { IfOk result (λ r. IsElaborated (body_in (scope_at scope.now) (map item_of items.now) (map (λ n. n.now) declared.entry.items)) (is_data_input names.now clock.now)
-        (map string_bytes outputs.entry.items) (parts_of r)) }
+        (map string_bytes outputs.items) (parts_of r)) }
 {
     let begun = lowered(alloc, declared, names, scope, items, clock)?;
     let settled = settled_of(alloc, scope, &begun.table, &begun.sorted.declared)?;
