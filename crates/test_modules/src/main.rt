@@ -14,13 +14,13 @@ use v_assigned::has_bad_name;
 use v_blocks::{first_blocking_in_clocked, first_nonblocking_in_combinational};
 use v_constants::constants_of;
 use v_hier::{has_clock_as_data, top_of};
-use v_instances::interface::interfaces_of;
+use v_instances::interface::{Interfaces, interfaces_of};
 use v_lex::tokens;
 use v_modules::{first_rule, module_rule};
 use v_parse::parse;
 use v_ports::has_bad_port;
-use v_scopes::{Constants, declared_scope, module_scope};
-use v_size::Kind;
+use v_scopes::{Constants, ModuleScope, declared_scope, module_scope};
+use v_size::{Broken, Kind};
 use v_syntax::module::{Module, Tree};
 use v_token::token::Token;
 
@@ -93,12 +93,31 @@ fn loops_of(alloc: Global, tree: &Tree<'_>) -> Result<String, AllocError> {
 fn kinds_of(alloc: Global, tree: &Tree<'_>, within: &Module<'_>) -> Result<String, AllocError> {
     let interfaces = interfaces_of(alloc, tree)?;
     let parameters = constants_of(alloc, within, &[])?;
-    let constants = Constants { scope: &parameters };
+    kinds_with(alloc, within, Constants { scope: &parameters }, &interfaces)
+}
+
+fn kinds_with(
+    alloc: Global,
+    within: &Module<'_>,
+    constants: Constants<'_, '_>,
+    interfaces: &Interfaces<'_>,
+) -> Result<String, AllocError> {
+    let broken = module_rule(alloc, within, constants, interfaces)?;
     let names = declared_scope(alloc, constants, within)?;
-    let broken = module_rule(alloc, within, constants, &interfaces)?;
+    let ports = has_bad_port(alloc, &names, within, interfaces)?;
+    kinds_by(alloc, within, broken, ports, &names)
+}
+
+fn kinds_by(
+    alloc: Global,
+    within: &Module<'_>,
+    broken: Broken,
+    ports: bool,
+    names: &ModuleScope<'_>,
+) -> Result<String, AllocError> {
     let kinds = [
         (broken.has_xz, " V11"),
-        (has_bad_port(alloc, &names, within, &interfaces)?, " V12"),
+        (ports, " V12"),
         (broken.bad_constant, " V13"),
         (broken.width_over_128, " V14"),
         (broken.bad_select, " V15"),
@@ -109,8 +128,8 @@ fn kinds_of(alloc: Global, tree: &Tree<'_>, within: &Module<'_>) -> Result<Strin
             first_nonblocking_in_combinational(&within.items).is_some(),
             " V20",
         ),
-        (has_bad_name(&names, &within.items), " V22 name"),
-        (two_drivers(alloc, &within.items, &names)?, " V22 two"),
+        (has_bad_name(names, &within.items), " V22 name"),
+        (two_drivers(alloc, &within.items, names)?, " V22 two"),
     ];
     told(alloc, &kinds, first_rule(broken))
 }
