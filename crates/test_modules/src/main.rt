@@ -90,17 +90,17 @@ fn loops_of(alloc: Global, tree: &Tree<'_>) -> Result<String, AllocError> {
 
 /// The kinds, in their order, and the first of those on digits, constants, widths, selects and memories. The parameters of the module
 /// have the values that it gives them.
-fn kinds_of(alloc: Global, tree: &Tree<'_>, within: &Module<'_>) -> Result<String, AllocError> {
+fn kinds_of<'s>(alloc: Global, tree: &Tree<'s>, within: &Module<'s>) -> Result<String, AllocError> {
     let interfaces = interfaces_of(alloc, tree)?;
     let parameters = constants_of(alloc, within, &[])?;
     kinds_with(alloc, within, Constants { scope: &parameters }, &interfaces)
 }
 
-fn kinds_with(
+fn kinds_with<'s>(
     alloc: Global,
-    within: &Module<'_>,
-    constants: Constants<'_, '_>,
-    interfaces: &Interfaces<'_>,
+    within: &Module<'s>,
+    constants: Constants<'_, 's>,
+    interfaces: &Interfaces<'s>,
 ) -> Result<String, AllocError> {
     let broken = module_rule(alloc, within, constants, interfaces)?;
     let names = declared_scope(alloc, constants, within)?;
