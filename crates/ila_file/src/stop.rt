@@ -14,14 +14,14 @@ pub type NoMemory = AllocError;
 pub enum ShapeStop {
     /// It has the shape of none; the note leads to a place that has another shape.
     Refused(Note),
-    /// Memory is wanting, which says nothing of the data.
+    /// Memory ran out, which says nothing of the data.
     NoMemory,
 }
 
 /// Why a piece of a file is not read.
 #[derive(Clone, Copy, PartialEq, Eq, Debug)]
 pub(crate) enum Stop {
-    /// Memory is wanting.
+    /// Memory ran out.
     Memory,
     /// The piece has another shape.
     Refused,

@@ -11,7 +11,7 @@ use std::alloc::AllocError;
 pub enum ModelStop {
     /// A rule refuses them; they stand for no model.
     Refused(ModelRefusal),
-    /// Memory is wanting, which says nothing of the bytes.
+    /// Memory ran out, which says nothing of the bytes.
     NoMemory,
 }
 

@@ -24,6 +24,6 @@ pub struct ScriptRefusal {
 pub enum ScriptStop {
     /// It is none.
     Refused(ScriptRefusal),
-    /// Memory is wanting, which says nothing of the text.
+    /// Memory ran out, which says nothing of the text.
     NoMemory,
 }

@@ -8,7 +8,7 @@ use std::alloc::{AllocError, AllocFailed};
 /// Why a piece of a script is not read.
 #[derive(Clone, Copy, PartialEq, Eq, Debug)]
 pub(crate) enum Stop {
-    /// Memory is wanting.
+    /// Memory ran out.
     Memory,
     /// The piece is none of a script.
     Refused,

@@ -9,6 +9,7 @@ mod loops;
 use crate::drivers::{two_drivers, undriven};
 use crate::loops::looped;
 use std::alloc::{AllocError, Global};
+use std::collections::BTreeSet;
 use std::{fs, io};
 use v_assigned::has_bad_name;
 use v_blocks::{first_blocking_in_clocked, first_nonblocking_in_combinational};
@@ -108,6 +109,13 @@ fn kinds_with<'s>(
     kinds_by(alloc, within, broken, ports, &names)
 }
 
+/// Whether the clock `c` stands elsewhere than as an event.
+fn clock_as_data(alloc: Global, within: &Module<'_>) -> Result<bool, AllocError> {
+    let mut clocks = BTreeSet::new(alloc);
+    clocks.insert("c")?;
+    Ok(has_clock_as_data(alloc, within, &clocks))
+}
+
 fn kinds_by(
     alloc: Global,
     within: &Module<'_>,
@@ -122,7 +130,7 @@ fn kinds_by(
         (broken.width_over_128, " V14"),
         (broken.bad_select, " V15"),
         (broken.memory_use, " V16"),
-        (has_clock_as_data(alloc, within, "c")?, " V17"),
+        (clock_as_data(alloc, within)?, " V17"),
         (first_blocking_in_clocked(&within.items).is_some(), " V19"),
         (
             first_nonblocking_in_combinational(&within.items).is_some(),

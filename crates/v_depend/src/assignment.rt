@@ -50,7 +50,7 @@ pub fn value_bits(
     Ok(all_or_none(rests))
 }
 
-/// Leaves in the table the bits that rest on its bits after an assignment. Where memory is wanted, nothing is said of the table.
+/// Leaves in the table the bits that rest on its bits after an assignment. When memory runs out, nothing is said of the table.
 pub fn take<'s>(
     alloc: Global,
     target: &Target<'s>,

@@ -344,7 +344,7 @@ fn body<'s>(
     }
 }
 
-/// Leaves in the table the bits that rest on its bits after a run of a statement of a combinational block. Where memory is wanted, nothing is
+/// Leaves in the table the bits that rest on its bits after a run of a statement of a combinational block. When memory runs out, nothing is
 /// said of the table.
 pub fn after<'s>(
     alloc: Global,

@@ -1,11 +1,11 @@
 -- The names that stand in a module but for events, and whether a clock is one of them.
-use Rattle.std.proofs.Common.{◌≡◌, ◌∙◌, refl, ap, sym, subst, Bool, true, false, true≢false, cond, not, ◌&&◌, ◌||◌, List, [], ◌∷◌, ◌++◌, Option, Some, None}
-use Rattle.std.proofs.lemmas.Slice.Eq.{bytes_eq-Decides}
-use Rattle.wb_values.specs.Value.{Name, same_name}
+use Rattle.std.proofs.Common.{◌≡◌, ◌∙◌, refl, ap, sym, Bool, true, false, true≢false, not, ◌&&◌, ◌||◌, List, [], ◌∷◌, ◌++◌, Option, Some, None}
+use Rattle.std.specs.List.{list_any}
+use Rattle.wb_values.specs.Value.{Name}
 use Rattle.verilog_trees.specs.Syntax.{Expression, Item, port, parameter, wires, variables, assign, always, instances, ParameterDeclaration, Module}
 use Rattle.verilog_meaning.specs.Hierarchy.{header_ports}
 use Rattle.verilog_meaning.specs.Settled.{wire_assignments}
-use Rattle.verilog_designs.specs.Names.{is_among, names_in, names_in_range, names_in_values, names_in_parameters, names_in_ports, names_in_assignments}
+use Rattle.verilog_designs.specs.Names.{names_in, names_in_range, names_in_values, names_in_parameters, names_in_ports, names_in_assignments}
 use Rattle.verilog_designs.specs.Clocks.{names_in_item, names_in_module_items, names_in_module}
 use Rattle.v_hier.specs.Reading.{all_known, expression_known, ports_known, statement_known}
 use Rattle.v_hier.specs.Clock.{values_known, parameter_known, parameters_known, wire_known, wires_known, item_names_known, items_names_known, module_names_known}
@@ -60,21 +60,10 @@ module-names-known k m =
     grouped true b c = refl
     grouped false b c = refl
 
-same_both : (m n : Name) → same_name m n ≡ true → same_name n m ≡ true
-same_both m n h = subst (λ x. same_name x m ≡ true) ((bytes_eq-Decides m n).0 h) ((bytes_eq-Decides m m).1 refl)
-
-turned : (m n : Name) → same_name m n ≡ same_name n m
-turned m n = by_value (same_name m n) (same_name n m) (same_both m n) (same_both n m)
-  where
-    by_value : (a b : Bool) → (a ≡ true → b ≡ true) → (b ≡ true → a ≡ true) → a ≡ b
-    by_value true b f g = sym (f refl)
-    by_value false true f g = g refl
-    by_value false false f g = refl
-
--- all are other names than this one, or it is among them
-others : (k : Name → Bool) (n : Name) → ((q : Name) → k q ≡ not (same_name n q)) → (ns : List Name) → not (all_known k ns) ≡ is_among ns n
-others k n h [] = refl
-others k n h (m ∷ ns) = turn (k m) (same_name n m) (all_known k ns) (is_among ns n) (h m) (others k n h ns) ∙ ap (λ b. b || is_among ns n) (turned n m)
+-- all are names that are not of the set, or one of them is in it
+others : (k h : Name → Bool) → ((q : Name) → k q ≡ not (h q)) → (ns : List Name) → not (all_known k ns) ≡ list_any h ns
+others k h e [] = refl
+others k h e (m ∷ ns) = turn (k m) (h m) (all_known k ns) (list_any h ns) (e m) (others k h e ns)
   where
     turn : (a b c d : Bool) → a ≡ not b → not c ≡ d → not (a && c) ≡ (b || d)
     turn true true c d e f = absurd (true≢false e)
@@ -82,16 +71,6 @@ others k n h (m ∷ ns) = turn (k m) (same_name n m) (all_known k ns) (is_among 
     turn false true c d e f = refl
     turn false false c d e f = absurd (true≢false (sym e))
 
-pub clock-among : (k : Name → Bool) (n : Name) (m : Module) (b : Bool) → ((q : Name) → k q ≡ not (same_name n q)) → b ≡ module_names_known k m
-    → not b ≡ is_among (names_in_module m) n
-clock-among k n m b h e = ap not (e ∙ sym (module-names-known k m)) ∙ others k n h (names_in_module m)
-
--- a set with one name more, where it had none
-pub one_more : (new same old : Bool) → new ≡ cond same true old → old ≡ false → new ≡ same
-one_more new true old e f = e
-one_more new false old e f = e ∙ f
-
--- the one name that may not be used
-pub but_one : (here before same : Bool) → here ≡ same → before ≡ false → cond here before true ≡ not same
-but_one here before true e f = ap (λ b. cond b before true) e ∙ f
-but_one here before false e f = ap (λ b. cond b before true) e
+pub clocks-among : (k h : Name → Bool) (m : Module) (b : Bool) → ((q : Name) → k q ≡ not (h q)) → b ≡ module_names_known k m
+    → not b ≡ list_any h (names_in_module m)
+clocks-among k h m b e f = ap not (f ∙ sym (module-names-known k m)) ∙ others k h e (names_in_module m)

@@ -1,8 +1,16 @@
 -- Items that are instances of no module of a set; and sources in which each module stands alone.
-use Rattle.std.specs.Prelude.{Bool, true, false, not, ◌||◌, List, [], ◌∷◌}
+use Rattle.std.specs.Prelude.{◌≡◌, ℕ, Bool, true, false, not, ◌||◌, List, [], ◌∷◌}
 use Rattle.std.specs.List.{list_any}
+use Rattle.std.specs.Borrow.{Bor}
+use Rattle.std.specs.BTreeSet.{BTreeSet}
 use Rattle.wb_values.specs.Value.{Name}
 use Rattle.verilog_trees.specs.Syntax.{ParameterDeclaration, Item, port, parameter, wires, variables, assign, always, instances, Module, Source}
+use Rattle.verilog_designs.specs.Names.{is_among, module_names}
+use Rattle.v_hier.specs.Tables.{has_name}
+
+-- The set has the names of the modules of the source.
+abbrev pub AreModulesOf : BTreeSet (Bor (List ℕ)) → Source → Type 0
+AreModulesOf s source = (q : Name) → has_name s q ≡ is_among (module_names source) q
 
 abbrev pub instantiates_other : (Name → Bool) → List Item → Bool
 instantiates_other known [] = false

@@ -14,7 +14,7 @@ use Rattle.v_syntax.specs.declared.tree.CaseItem.{CaseItem, Values, Default}
 use Rattle.v_syntax.specs.Tree.{tree_of, target_of, statement_of}
 use Rattle.v_hier.specs.declared.known.Names.{Names}
 use Rattle.v_hier.specs.declared.known.Nets.{Nets}
-use Rattle.v_hier.specs.declared.known.Nets.TheVariants.{Declared, Any}
+use Rattle.v_hier.specs.declared.known.Nets.TheVariants.{Declared, Other}
 use Rattle.v_hier.specs.Tables.{has_name}
 
 -- A parameter may be used once it is declared, a net or variable wherever it is declared.
@@ -23,7 +23,7 @@ may_use p b d n = cond (p n) (b n) (d n)
 
 abbrev pub has_net : Nets → Name → Bool
 has_net (Declared s) n = has_name s n
-has_net Any n = true
+has_net (Other s) n = not (has_name s.now n)
 
 abbrev pub knows : Names → Name → Bool
 knows ns n = may_use (has_name ns.parameters) (has_name ns.before) (has_net ns.nets) n

@@ -1,7 +1,6 @@
 //! Whether a clock stands in a module otherwise than as an event.
-ghost use Rattle.std.specs.Prelude.{◌≡◌, ℕ, List, false, not, map, IfOk};
-ghost use Rattle.wb_values.specs.Value.{same_name};
-ghost use Rattle.verilog_designs.specs.Names.{is_among};
+ghost use Rattle.std.specs.Prelude.{◌≡◌, ℕ, List, false, not, map};
+ghost use Rattle.std.specs.List.{list_any};
 ghost use Rattle.verilog_designs.specs.Clocks.{names_in_module};
 ghost use Rattle.v_syntax.specs.Tree.{tree_of};
 ghost use Rattle.v_syntax.specs.Source.{boxed_tree_of, item_of, module_of, parameter_of};
@@ -16,7 +15,7 @@ use crate::item::{
 };
 use crate::known::{Names, Nets, both, is_known};
 use crate::statement::is_statement_known;
-use std::alloc::{AllocError, Global};
+use std::alloc::Global;
 use std::collections::BTreeSet;
 use v_syntax::module::{Item, Module, ParameterDeclaration, ParameterValue, Wire};
 
@@ -27,30 +26,21 @@ fn no_names<'t>(alloc: Global) -> BTreeSet<&'t str>
     BTreeSet::new(alloc)
 }
 
-/// This name alone.
-fn one_name<'t>(alloc: Global, name: &'t str) -> Result<BTreeSet<&'t str>, AllocError>
-    ensures { IfOk result (λ s. (q : List ℕ) → has_name s q ≡ same_name name.now q) }
+/// All names but these.
+fn but<'n, 't>(alloc: Global, names: &'n BTreeSet<&'t str>) -> Names<'n, 't>
+    ensures { (q : List ℕ) → knows result q ≡ not (has_name names.now q) }
 {
-    let mut set = no_names(alloc);
-    set.insert(name)?;
-    Ok(set)
-}
-
-/// All names but this one.
-fn but<'t>(alloc: Global, name: &'t str) -> Result<Names<'t>, AllocError>
-    ensures { IfOk result (λ ns. (q : List ℕ) → knows ns q ≡ not (same_name name.now q)) }
-{
-    let parameters = one_name(alloc, name)?;
+    let parameters = no_names(alloc);
     let before = no_names(alloc);
-    Ok(Names {
+    Names {
         parameters,
-        nets: Nets::Any,
+        nets: Nets::Other(names),
         before,
-    })
+    }
 }
 
 /// Whether each name in parameters' values may stand there.
-fn are_values_known(values: &[ParameterValue<'_>], names: &Names<'_>) -> bool
+fn are_values_known(values: &[ParameterValue<'_>], names: &Names<'_, '_>) -> bool
     ensures { result ≡ values_known (knows names.now) (map (λ v. (v.name.now, tree_of v.value)) values.now) }
 {
     for value in values {
@@ -62,7 +52,7 @@ fn are_values_known(values: &[ParameterValue<'_>], names: &Names<'_>) -> bool
 }
 
 /// Whether each name in a declaration of parameters may stand there.
-fn is_parameter_known(parameter: &ParameterDeclaration<'_>, names: &Names<'_>) -> bool
+fn is_parameter_known(parameter: &ParameterDeclaration<'_>, names: &Names<'_, '_>) -> bool
     ensures { result ≡ parameter_known (knows names.now) (parameter_of parameter.now) }
 {
     both(
@@ -72,7 +62,7 @@ fn is_parameter_known(parameter: &ParameterDeclaration<'_>, names: &Names<'_>) -
 }
 
 /// Whether each name in declarations of parameters may stand there.
-fn are_parameters_known(parameters: &[ParameterDeclaration<'_>], names: &Names<'_>) -> bool
+fn are_parameters_known(parameters: &[ParameterDeclaration<'_>], names: &Names<'_, '_>) -> bool
     ensures { result ≡ parameters_known (knows names.now) (map parameter_of parameters.now) }
 {
     for parameter in parameters {
@@ -84,7 +74,7 @@ fn are_parameters_known(parameters: &[ParameterDeclaration<'_>], names: &Names<'
 }
 
 /// Whether the name and the value of a net may stand there, where it has a value.
-fn is_wire_known(wire: &Wire<'_>, names: &Names<'_>) -> bool
+fn is_wire_known(wire: &Wire<'_>, names: &Names<'_, '_>) -> bool
     ensures { result ≡ wire_known (knows names.now) wire.now.name.now (boxed_tree_of wire.now.value) }
 {
     match &wire.value {
@@ -97,7 +87,7 @@ fn is_wire_known(wire: &Wire<'_>, names: &Names<'_>) -> bool
 }
 
 /// Whether the names and the values of nets that have values may stand there.
-fn are_wires_known(wires: &[Wire<'_>], names: &Names<'_>) -> bool
+fn are_wires_known(wires: &[Wire<'_>], names: &Names<'_, '_>) -> bool
     ensures { result ≡ wires_known (knows names.now) (map (λ w. (w.name.now, boxed_tree_of w.value)) wires.now) }
 {
     for wire in wires {
@@ -109,7 +99,7 @@ fn are_wires_known(wires: &[Wire<'_>], names: &Names<'_>) -> bool
 }
 
 /// Whether each name in an item, but for events and what is connected to ports, may stand there.
-fn is_item_known(item: &Item<'_>, names: &Names<'_>) -> bool
+fn is_item_known(item: &Item<'_>, names: &Names<'_, '_>) -> bool
     ensures { result ≡ item_names_known (knows names.now) (item_of item.now) }
 {
     match item {
@@ -130,7 +120,7 @@ fn is_item_known(item: &Item<'_>, names: &Names<'_>) -> bool
 }
 
 /// The same of items.
-fn are_items_known(items: &[Item<'_>], names: &Names<'_>) -> bool
+fn are_items_known(items: &[Item<'_>], names: &Names<'_, '_>) -> bool
     ensures { result ≡ items_names_known (knows names.now) (map item_of items.now) }
 {
     for item in items {
@@ -142,7 +132,7 @@ fn are_items_known(items: &[Item<'_>], names: &Names<'_>) -> bool
 }
 
 /// The same of a module.
-fn is_module_known(within: &Module<'_>, names: &Names<'_>) -> bool
+fn is_module_known(within: &Module<'_>, names: &Names<'_, '_>) -> bool
     ensures { result ≡ module_names_known (knows names.now) (module_of within.now) }
 {
     both(
@@ -154,14 +144,11 @@ fn is_module_known(within: &Module<'_>, names: &Names<'_>) -> bool
     )
 }
 
-/// Whether the clock stands in the module otherwise than as an event, or in what is connected to a port (where it may stand as a whole).
-pub fn has_clock_as_data(
-    alloc: Global,
-    within: &Module<'_>,
-    clock: &str,
-) -> Result<bool, AllocError>
-    ensures { IfOk result (λ b. b ≡ is_among (names_in_module (module_of within.now)) clock.now) }
+/// Whether a clock net of the module stands in it otherwise than as an event, or in what is connected to a port (where it may stand as
+/// a whole).
+pub fn has_clock_as_data(alloc: Global, within: &Module<'_>, clocks: &BTreeSet<&str>) -> bool
+    ensures { result ≡ list_any (has_name clocks.now) (names_in_module (module_of within.now)) }
 {
-    let names = but(alloc, clock)?;
-    Ok(!is_module_known(within, &names))
+    let names = but(alloc, clocks);
+    !is_module_known(within, &names)
 }

@@ -8,7 +8,7 @@ use v_syntax::tree::{BinaryLink, Choice, Expression, Select, Selects, TestLink};
 
 /// Whether each name in the expression may be used.
 #[cycle(expression)]
-pub(crate) fn is_expression_known(expression: &Expression<'_>, names: &Names<'_>) -> bool
+pub(crate) fn is_expression_known(expression: &Expression<'_>, names: &Names<'_, '_>) -> bool
     ensures { result ≡ expression_known (knows names.now) (tree_of expression.now) }
 {
     match expression {
@@ -45,7 +45,7 @@ pub(crate) fn is_expression_known(expression: &Expression<'_>, names: &Names<'_>
 
 /// Whether each name in the selects may be used.
 #[cycle(expression)]
-pub(crate) fn are_selects_known(selects: &Selects<'_>, names: &Names<'_>) -> bool
+pub(crate) fn are_selects_known(selects: &Selects<'_>, names: &Names<'_, '_>) -> bool
     ensures { result ≡ selects_known (knows names.now) (selects_of selects.now) }
 {
     match selects {
@@ -60,7 +60,7 @@ pub(crate) fn are_selects_known(selects: &Selects<'_>, names: &Names<'_>) -> boo
 
 /// Whether each name in the select may be used.
 #[cycle(expression)]
-fn is_select_known(select: &Select<'_>, names: &Names<'_>) -> bool
+fn is_select_known(select: &Select<'_>, names: &Names<'_, '_>) -> bool
     ensures { result ≡ select_known (knows names.now) (select_of select.now) }
 {
     match select {
@@ -82,7 +82,7 @@ fn is_select_known(select: &Select<'_>, names: &Names<'_>) -> bool
 
 /// Whether each name in the parts may be used.
 #[cycle(expression)]
-pub(crate) fn are_parts_known(parts: &[Expression<'_>], names: &Names<'_>) -> bool
+pub(crate) fn are_parts_known(parts: &[Expression<'_>], names: &Names<'_, '_>) -> bool
     ensures { result ≡ parts_known (knows names.now) parts.now }
 {
     for part in parts {
@@ -95,7 +95,7 @@ pub(crate) fn are_parts_known(parts: &[Expression<'_>], names: &Names<'_>) -> bo
 
 /// Whether each name in a chain may be used, where `first` says so of its first operand.
 #[cycle(expression)]
-fn are_links_known(links: &[BinaryLink<'_>], names: &Names<'_>, first: bool) -> bool
+fn are_links_known(links: &[BinaryLink<'_>], names: &Names<'_, '_>, first: bool) -> bool
     ensures { result ≡ (first && links_known (knows names.now) links.now) }
 {
     for link in links {
@@ -108,7 +108,7 @@ fn are_links_known(links: &[BinaryLink<'_>], names: &Names<'_>, first: bool) -> 
 
 /// Whether each name in a chain of tests may be used, where `first` says so of its first operand.
 #[cycle(expression)]
-fn are_tests_known(links: &[TestLink<'_>], names: &Names<'_>, first: bool) -> bool
+fn are_tests_known(links: &[TestLink<'_>], names: &Names<'_, '_>, first: bool) -> bool
     ensures { result ≡ (first && tests_known (knows names.now) links.now) }
 {
     for link in links {
@@ -121,7 +121,7 @@ fn are_tests_known(links: &[TestLink<'_>], names: &Names<'_>, first: bool) -> bo
 
 /// Whether each name in a conditional may be used, where `last` says so of its last value.
 #[cycle(expression)]
-fn are_choices_known(choices: &[Choice<'_>], names: &Names<'_>, last: bool) -> bool
+fn are_choices_known(choices: &[Choice<'_>], names: &Names<'_, '_>, last: bool) -> bool
     ensures { result ≡ (choices_known (knows names.now) choices.now && last) }
 {
     for choice in choices {

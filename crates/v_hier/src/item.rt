@@ -15,7 +15,7 @@ use v_syntax::module::{
 use v_syntax::tree::Expression;
 
 /// Whether each name in the range may be used.
-pub(crate) fn is_range_known(range: &Option<Box<Range<'_>>>, names: &Names<'_>) -> bool
+pub(crate) fn is_range_known(range: &Option<Box<Range<'_>>>, names: &Names<'_, '_>) -> bool
     ensures { result ≡ range_known (knows names.now) (optional_range_of range.now) }
 {
     match range {
@@ -28,7 +28,7 @@ pub(crate) fn is_range_known(range: &Option<Box<Range<'_>>>, names: &Names<'_>) 
 }
 
 /// Whether each name in the expression may be used, where there is one.
-fn is_optional_known(value: &Option<Expression<'_>>, names: &Names<'_>) -> bool
+fn is_optional_known(value: &Option<Expression<'_>>, names: &Names<'_, '_>) -> bool
     ensures { result ≡ optional_known (knows names.now) (optional_tree_of value.now) }
 {
     match value {
@@ -38,7 +38,7 @@ fn is_optional_known(value: &Option<Expression<'_>>, names: &Names<'_>) -> bool
 }
 
 /// Whether each name in the value of a net may be used, where it has one.
-fn is_boxed_known(value: &Option<Box<Expression<'_>>>, names: &Names<'_>) -> bool
+fn is_boxed_known(value: &Option<Box<Expression<'_>>>, names: &Names<'_, '_>) -> bool
     ensures { result ≡ optional_known (knows names.now) (boxed_tree_of value.now) }
 {
     match value {
@@ -48,7 +48,7 @@ fn is_boxed_known(value: &Option<Box<Expression<'_>>>, names: &Names<'_>) -> boo
 }
 
 /// Whether each name in the values of nets may be used.
-fn are_wires_known(wires: &[Wire<'_>], names: &Names<'_>) -> bool
+fn are_wires_known(wires: &[Wire<'_>], names: &Names<'_, '_>) -> bool
     ensures { result ≡ named_known (knows names.now) (map (λ w. (w.name.now, boxed_tree_of w.value)) wires.now) }
 {
     for wire in wires {
@@ -60,7 +60,7 @@ fn are_wires_known(wires: &[Wire<'_>], names: &Names<'_>) -> bool
 }
 
 /// Whether each name in the addresses of variables may be used.
-pub(crate) fn are_variables_known(variables: &[Variable<'_>], names: &Names<'_>) -> bool
+pub(crate) fn are_variables_known(variables: &[Variable<'_>], names: &Names<'_, '_>) -> bool
     ensures { result ≡ addresses_known (knows names.now) (map (λ v. (v.name.now, optional_range_of v.addresses)) variables.now) }
 {
     for variable in variables {
@@ -72,7 +72,7 @@ pub(crate) fn are_variables_known(variables: &[Variable<'_>], names: &Names<'_>)
 }
 
 /// Whether each name in continuous assignments may be used.
-pub(crate) fn are_assignments_known(assignments: &[Assignment<'_>], names: &Names<'_>) -> bool
+pub(crate) fn are_assignments_known(assignments: &[Assignment<'_>], names: &Names<'_, '_>) -> bool
     ensures { result ≡ assignments_known (knows names.now) (map (λ a. (target_of a.target, tree_of a.value)) assignments.now) }
 {
     for assignment in assignments {
@@ -86,7 +86,7 @@ pub(crate) fn are_assignments_known(assignments: &[Assignment<'_>], names: &Name
 }
 
 /// Whether each name in connections by name may be used.
-fn are_named_known(connections: &[NamedConnection<'_>], names: &Names<'_>) -> bool
+fn are_named_known(connections: &[NamedConnection<'_>], names: &Names<'_, '_>) -> bool
     ensures { result ≡ named_known (knows names.now) (map (λ c. (c.name.now, optional_tree_of c.value)) connections.now) }
 {
     for connection in connections {
@@ -98,7 +98,7 @@ fn are_named_known(connections: &[NamedConnection<'_>], names: &Names<'_>) -> bo
 }
 
 /// Whether each name in connections by order may be used.
-fn are_ordered_known(connections: &[Option<Expression<'_>>], names: &Names<'_>) -> bool
+fn are_ordered_known(connections: &[Option<Expression<'_>>], names: &Names<'_, '_>) -> bool
     ensures { result ≡ ordered_known (knows names.now) (map optional_tree_of connections.now) }
 {
     for connection in connections {
@@ -110,7 +110,7 @@ fn are_ordered_known(connections: &[Option<Expression<'_>>], names: &Names<'_>) 
 }
 
 /// Whether each name in the connections may be used.
-pub(crate) fn are_connections_known(connections: &Connections<'_>, names: &Names<'_>) -> bool
+pub(crate) fn are_connections_known(connections: &Connections<'_>, names: &Names<'_, '_>) -> bool
     ensures { result ≡ connections_known (knows names.now) (connections_of connections.now) }
 {
     match connections {
@@ -120,7 +120,7 @@ pub(crate) fn are_connections_known(connections: &Connections<'_>, names: &Names
 }
 
 /// Whether each name in what is connected to instances may be used.
-fn are_instances_known(instances: &[Instance<'_>], names: &Names<'_>) -> bool
+fn are_instances_known(instances: &[Instance<'_>], names: &Names<'_, '_>) -> bool
     ensures { result ≡ instances_known (knows names.now) (map (λ i. (i.name.now, connections_of i.connections)) instances.now) }
 {
     for instance in instances {
@@ -132,7 +132,7 @@ fn are_instances_known(instances: &[Instance<'_>], names: &Names<'_>) -> bool
 }
 
 /// Whether each name in the list of events may be used.
-fn is_event_list_known(events: &[Event<'_>], names: &Names<'_>) -> bool
+fn is_event_list_known(events: &[Event<'_>], names: &Names<'_, '_>) -> bool
     ensures { result ≡ event_list_known (knows names.now) (map (λ e. record { edge = edge_of e.edge; signal = e.signal.now }) events.now) }
 {
     for event in events {
@@ -144,7 +144,7 @@ fn is_event_list_known(events: &[Event<'_>], names: &Names<'_>) -> bool
 }
 
 /// Whether each name in the events may be used.
-fn are_events_known(events: &Events<'_>, names: &Names<'_>) -> bool
+fn are_events_known(events: &Events<'_>, names: &Names<'_, '_>) -> bool
     ensures { result ≡ events_known (knows names.now) (events_of events.now) }
 {
     match events {
@@ -154,7 +154,7 @@ fn are_events_known(events: &Events<'_>, names: &Names<'_>) -> bool
 }
 
 /// Whether each name in the ranges of ports may be used.
-fn are_declared_known(ports: &[PortDeclaration<'_>], names: &Names<'_>) -> bool
+fn are_declared_known(ports: &[PortDeclaration<'_>], names: &Names<'_, '_>) -> bool
     ensures { result ≡ ports_known (knows names.now) (map port_of ports.now) }
 {
     for port in ports {
@@ -166,7 +166,7 @@ fn are_declared_known(ports: &[PortDeclaration<'_>], names: &Names<'_>) -> bool
 }
 
 /// Whether each name in the list of ports may be used.
-pub(crate) fn are_ports_known(ports: &Ports<'_>, names: &Names<'_>) -> bool
+pub(crate) fn are_ports_known(ports: &Ports<'_>, names: &Names<'_, '_>) -> bool
     ensures { result ≡ ports_known (knows names.now) (header_ports (ports_of ports.now)) }
 {
     match ports {
@@ -177,7 +177,7 @@ pub(crate) fn are_ports_known(ports: &Ports<'_>, names: &Names<'_>) -> bool
 }
 
 /// Whether each name in the item may be used. Of parameters, which declare names, nothing is said here.
-pub(crate) fn is_text_known(item: &Item<'_>, names: &Names<'_>) -> bool
+pub(crate) fn is_text_known(item: &Item<'_>, names: &Names<'_, '_>) -> bool
     ensures { result ≡ text_known (knows names.now) (item_of item.now) }
 {
     match item {

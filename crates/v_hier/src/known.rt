@@ -8,33 +8,33 @@ use std::collections::BTreeSet;
 
 /// The names that may be used besides parameters.
 #[derive(Drop)]
-pub(crate) enum Nets<'t> {
+pub(crate) enum Nets<'n, 't> {
     /// Those of the set.
     Declared(BTreeSet<&'t str>),
-    /// Each.
-    Any,
+    /// Those that are not of the set.
+    Other(&'n BTreeSet<&'t str>),
 }
 
 /// The names of a module: its parameters, its nets and variables, and the parameters that are declared already.
 #[derive(Drop)]
-pub(crate) struct Names<'t> {
+pub(crate) struct Names<'n, 't> {
     pub(crate) parameters: BTreeSet<&'t str>,
-    pub(crate) nets: Nets<'t>,
+    pub(crate) nets: Nets<'n, 't>,
     pub(crate) before: BTreeSet<&'t str>,
 }
 
 /// Whether the name may be used, where it is no parameter.
-fn is_net(nets: &Nets<'_>, name: &str) -> bool
+fn is_net(nets: &Nets<'_, '_>, name: &str) -> bool
     ensures { result ≡ has_net nets.now name.now }
 {
     match nets {
         Nets::Declared(set) => set.contains(name),
-        Nets::Any => true,
+        Nets::Other(set) => !set.contains(name),
     }
 }
 
 /// Whether the name may be used.
-pub(crate) fn is_known(names: &Names<'_>, name: &str) -> bool
+pub(crate) fn is_known(names: &Names<'_, '_>, name: &str) -> bool
     ensures { result ≡ knows names.now name.now }
 {
     if names.parameters.contains(name) {
@@ -51,7 +51,7 @@ pub(crate) fn both(x: bool, y: bool) -> bool
 }
 
 /// A parameter is declared.
-pub(crate) fn declare<'t>(names: &mut Names<'t>, name: &'t str) -> Result<(), AllocError>
+pub(crate) fn declare<'t>(names: &mut Names<'_, 't>, name: &'t str) -> Result<(), AllocError>
     ensures { IfOk result (λ _. IsRead names.old (declares name.now ∷ []) true names.new) }
 {
     names.before.insert(name)?;

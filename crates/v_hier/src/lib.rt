@@ -16,4 +16,4 @@ mod undeclared;
 pub use clock::has_clock_as_data;
 pub use duplicate::{has_duplicate, has_duplicate_module};
 pub use top::{has_parts, top_of};
-pub use undeclared::has_undeclared;
+pub use undeclared::{declared_modules, has_undeclared, has_undeclared_beside};

@@ -12,7 +12,10 @@ use std::alloc::AllocError;
 use v_syntax::module::{Item, Module, ParameterDeclaration, ParameterValue};
 
 /// Whether each name in a parameter's value may be used; after it the parameter is declared.
-fn is_value_known<'s>(value: &ParameterValue<'s>, names: &mut Names<'s>) -> Result<bool, AllocError>
+fn is_value_known<'s>(
+    value: &ParameterValue<'s>,
+    names: &mut Names<'_, 's>,
+) -> Result<bool, AllocError>
     ensures { IfOk result (λ known. IsRead names.old (uses (names_in (tree_of value.now.value)) ++ declares value.now.name.now ∷ []) known names.new) }
 {
     if !is_expression_known(&value.value, names) {
@@ -25,7 +28,7 @@ fn is_value_known<'s>(value: &ParameterValue<'s>, names: &mut Names<'s>) -> Resu
 /// Whether each name in parameters' values may be used; after each the parameter is declared.
 fn are_values_known<'s>(
     values: &[ParameterValue<'s>],
-    names: &mut Names<'s>,
+    names: &mut Names<'_, 's>,
 ) -> Result<bool, AllocError>
     ensures { IfOk result (λ known. IsRead names.old (value_mentions (map (λ v. (v.name.now, tree_of v.value)) values.now)) known names.new) }
 {
@@ -40,7 +43,7 @@ fn are_values_known<'s>(
 /// Whether each name in a declaration of parameters may be used.
 fn is_declaration_known<'s>(
     declaration: &ParameterDeclaration<'s>,
-    names: &mut Names<'s>,
+    names: &mut Names<'_, 's>,
 ) -> Result<bool, AllocError>
     ensures { IfOk result (λ known. IsRead names.old (parameter_mentions (parameter_of declaration.now)) known names.new) }
 {
@@ -54,7 +57,7 @@ fn is_declaration_known<'s>(
 /// Whether each name in declarations of parameters may be used.
 fn are_declarations_known<'s>(
     declarations: &[ParameterDeclaration<'s>],
-    names: &mut Names<'s>,
+    names: &mut Names<'_, 's>,
 ) -> Result<bool, AllocError>
     ensures { IfOk result (λ known. IsRead names.old (all_parameter_mentions (map parameter_of declarations.now)) known names.new) }
 {
@@ -67,7 +70,7 @@ fn are_declarations_known<'s>(
 }
 
 /// Whether each name in an item may be used.
-fn is_item_known<'s>(item: &Item<'s>, names: &mut Names<'s>) -> Result<bool, AllocError>
+fn is_item_known<'s>(item: &Item<'s>, names: &mut Names<'_, 's>) -> Result<bool, AllocError>
     ensures { IfOk result (λ known. IsRead names.old (item_mentions (item_of item.now)) known names.new) }
 {
     match item {
@@ -80,7 +83,7 @@ fn is_item_known<'s>(item: &Item<'s>, names: &mut Names<'s>) -> Result<bool, All
 }
 
 /// Whether each name in the items may be used.
-fn are_items_known<'s>(items: &[Item<'s>], names: &mut Names<'s>) -> Result<bool, AllocError>
+fn are_items_known<'s>(items: &[Item<'s>], names: &mut Names<'_, 's>) -> Result<bool, AllocError>
     ensures { IfOk result (λ known. IsRead names.old (all_item_mentions (map item_of items.now)) known names.new) }
 {
     for item in items {
@@ -94,7 +97,7 @@ fn are_items_known<'s>(items: &[Item<'s>], names: &mut Names<'s>) -> Result<bool
 /// Whether some name in the module's text may not be used where it stands.
 pub(crate) fn uses_unknown<'s>(
     within: &Module<'s>,
-    names: &mut Names<'s>,
+    names: &mut Names<'_, 's>,
 ) -> Result<bool, AllocError>
     ensures { IfOk result (λ unknown. unknown ≡ unknown_with names.old (mentions (module_of within.now))) }
 {

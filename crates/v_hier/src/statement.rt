@@ -10,7 +10,7 @@ use v_syntax::tree::{Arm, CaseItem, Expression, Statement, Target};
 
 /// Whether each name in the target may be used.
 #[cycle(target)]
-pub(crate) fn is_target_known(target: &Target<'_>, names: &Names<'_>) -> bool
+pub(crate) fn is_target_known(target: &Target<'_>, names: &Names<'_, '_>) -> bool
     ensures { result ≡ target_known (knows names.now) (target_of target.now) }
 {
     match target {
@@ -24,7 +24,7 @@ pub(crate) fn is_target_known(target: &Target<'_>, names: &Names<'_>) -> bool
 
 /// Whether each name in the targets may be used.
 #[cycle(target)]
-fn are_targets_known(targets: &[Target<'_>], names: &Names<'_>) -> bool
+fn are_targets_known(targets: &[Target<'_>], names: &Names<'_, '_>) -> bool
     ensures { result ≡ targets_known (knows names.now) targets.now }
 {
     for target in targets {
@@ -39,7 +39,7 @@ fn are_targets_known(targets: &[Target<'_>], names: &Names<'_>) -> bool
 pub(crate) fn is_assignment_known(
     target: &Target<'_>,
     value: &Expression<'_>,
-    names: &Names<'_>,
+    names: &Names<'_, '_>,
 ) -> bool
     ensures { result ≡ all_known (knows names.now) (names_in_target (target_of target.now) ++ names_in (tree_of value.now)) }
 {
@@ -51,7 +51,7 @@ pub(crate) fn is_assignment_known(
 
 /// Whether each name in the statement may be used.
 #[cycle(statement)]
-pub(crate) fn is_statement_known(statement: &Statement<'_>, names: &Names<'_>) -> bool
+pub(crate) fn is_statement_known(statement: &Statement<'_>, names: &Names<'_, '_>) -> bool
     ensures { result ≡ statement_known (knows names.now) (statement_of statement.now) }
 {
     match statement {
@@ -72,7 +72,7 @@ pub(crate) fn is_statement_known(statement: &Statement<'_>, names: &Names<'_>) -
 
 /// Whether each name in the statements may be used.
 #[cycle(statement)]
-fn are_statements_known(statements: &[Statement<'_>], names: &Names<'_>) -> bool
+fn are_statements_known(statements: &[Statement<'_>], names: &Names<'_, '_>) -> bool
     ensures { result ≡ statements_known (knows names.now) statements.now }
 {
     for statement in statements {
@@ -85,7 +85,7 @@ fn are_statements_known(statements: &[Statement<'_>], names: &Names<'_>) -> bool
 
 /// Whether each name in the arms of an `if` may be used, where `last` says so of what stands after its last `else`.
 #[cycle(statement)]
-fn are_arms_known(arms: &[Arm<'_>], names: &Names<'_>, last: bool) -> bool
+fn are_arms_known(arms: &[Arm<'_>], names: &Names<'_, '_>, last: bool) -> bool
     ensures { result ≡ (arms_known (knows names.now) arms.now && last) }
 {
     for arm in arms {
@@ -100,7 +100,7 @@ fn are_arms_known(arms: &[Arm<'_>], names: &Names<'_>, last: bool) -> bool
 
 /// Whether each name in the items of a `case` may be used.
 #[cycle(statement)]
-fn are_items_known(items: &[CaseItem<'_>], names: &Names<'_>) -> bool
+fn are_items_known(items: &[CaseItem<'_>], names: &Names<'_, '_>) -> bool
     ensures { result ≡ items_known (knows names.now) items.now }
 {
     for item in items {
@@ -113,7 +113,7 @@ fn are_items_known(items: &[CaseItem<'_>], names: &Names<'_>) -> bool
 
 /// Whether each name in an item of a `case` may be used.
 #[cycle(statement)]
-fn is_item_known(item: &CaseItem<'_>, names: &Names<'_>) -> bool
+fn is_item_known(item: &CaseItem<'_>, names: &Names<'_, '_>) -> bool
     ensures { result ≡ item_known (knows names.now) item.now }
 {
     match item {

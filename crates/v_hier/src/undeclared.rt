@@ -3,12 +3,12 @@ ghost use Rattle.std.specs.Prelude.{◌≡◌, ◌||◌, ◌∷◌, ℕ, List, f
 ghost use Rattle.verilog_trees.specs.Syntax as pure;
 ghost use Rattle.verilog_meaning.specs.Hierarchy.{all_parameters, declarations};
 ghost use Rattle.verilog_meaning.specs.Settled.{is_declared_among};
-ghost use Rattle.verilog_designs.specs.Names.{is_among, parameter_names, module_names, instantiates_unknown, has_undeclared};
+ghost use Rattle.verilog_designs.specs.Names.{is_among, parameter_names, module_names, has_undeclared};
 ghost use Rattle.v_syntax.specs.Source.{item_of, module_of, source_of};
 ghost use Rattle.v_hier.specs.Tables.{has_name};
 ghost use Rattle.v_hier.specs.Reading.{has_net};
 ghost use Rattle.v_hier.specs.Entries.{entries_of, entry_names};
-ghost use Rattle.v_hier.specs.Instances.{instantiates_other};
+ghost use Rattle.v_hier.specs.Instances.{AreModulesOf, instantiates_other};
 
 use crate::entry::{Entry, add_nets, add_parameters, module_entries};
 use crate::known::{Names, Nets};
@@ -58,7 +58,7 @@ fn module_set<'s>(alloc: Global, modules: &[Module<'s>]) -> Result<BTreeSet<&'s 
 }
 
 /// The names of a module, where no parameter is declared yet.
-fn names_of<'s>(alloc: Global, within: &Module<'s>) -> Result<Names<'s>, AllocError>
+fn names_of<'n, 's>(alloc: Global, within: &Module<'s>) -> Result<Names<'n, 's>, AllocError>
     ensures parameters { IfOk result (λ ns. (q : List ℕ) → has_name ns.parameters q ≡ is_among (parameter_names (all_parameters (module_of within.now))) q) }
     ensures nets { IfOk result (λ ns. (q : List ℕ) → has_net ns.nets q ≡ is_declared_among (declarations (module_of within.now)) q) }
     ensures before { IfOk result (λ ns. (q : List ℕ) → has_name ns.before q ≡ false) }
@@ -100,6 +100,29 @@ fn are_unknown_instances(items: &[Item<'_>], modules: &BTreeSet<&str>) -> bool
     false
 }
 
+/// The names of the modules of a source.
+pub fn declared_modules<'s>(alloc: Global, tree: &Tree<'s>) -> Result<BTreeSet<&'s str>, AllocError>
+    ensures { IfOk result (λ s. AreModulesOf s (source_of tree.now)) }
+{
+    let modules = module_set(alloc, &tree.modules)?;
+    Ok(modules)
+}
+
+/// The same as `has_undeclared` where the modules of the source are these.
+pub fn has_undeclared_beside(
+    alloc: Global,
+    within: &Module<'_>,
+    modules: &BTreeSet<&str>,
+) -> Result<bool, AllocError>
+    ensures { IfOk result (λ b. (source : pure.Source) → AreModulesOf modules.now source → b ≡ has_undeclared source (module_of within.now)) }
+{
+    let mut names = names_of(alloc, within)?;
+    if uses_unknown(within, &mut names)? {
+        return Ok(true);
+    }
+    Ok(are_unknown_instances(&within.items, modules))
+}
+
 /// Whether the module uses a name that is not declared, a parameter before its declaration, or a module that the tree lacks.
 pub fn has_undeclared(
     alloc: Global,
@@ -108,10 +131,7 @@ pub fn has_undeclared(
 ) -> Result<bool, AllocError>
     ensures { IfOk result (λ b. b ≡ has_undeclared (source_of tree.now) (module_of within.now)) }
 {
-    let mut names = names_of(alloc, within)?;
-    if uses_unknown(within, &mut names)? {
-        return Ok(true);
-    }
-    let modules = module_set(alloc, &tree.modules)?;
-    Ok(are_unknown_instances(&within.items, &modules))
+    let modules = declared_modules(alloc, tree)?;
+    let undeclared = has_undeclared_beside(alloc, within, &modules)?;
+    Ok(undeclared)
 }

@@ -75,11 +75,10 @@ pub(crate) fn blocks_refusal(
     requires same { scope_at scope.now ≡ module_scope (module_of within.now) [] }
     ensures { IfOk result (λ k. (d : Design) → IsTopOf d (module_of within.now) → d.clock ≡ clock.now → IsFirst d block_kinds k) }
 {
-    let data = has_clock_as_data(alloc, within, clock)?;
-    if data {
+    let clocks = set_with(alloc, clock)?;
+    if has_clock_as_data(alloc, within, &clocks) {
         return Ok(Some(DesignKind::ClockAsData));
     }
-    let clocks = set_with(alloc, clock)?;
     let kind = items_refusal(alloc, &within.items, scope, &clocks)?;
     Ok(kind)
 }

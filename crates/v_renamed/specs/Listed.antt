@@ -29,7 +29,7 @@ abbrev pub statements_listed : List pure.Statement → pure.Statements
 statements_listed [] = pure.no_statements
 statements_listed (x ∷ xs) = pure.statement x (statements_listed xs)
 
--- arms before what stands behind the last else, if anything does
+-- arms before what comes after the last else, if anything does
 abbrev pub ladder_of : List (pure.Expression × pure.Statement) → Option pure.Statement → Option pure.Statement
 ladder_of [] y = y
 ladder_of (a ∷ arms) y = Some (arm_before a.0 a.1 (ladder_of arms y))

@@ -194,7 +194,7 @@ fn copy_select<'a>(
     }
 }
 
-/// The selects behind a name with their names replaced.
+/// The selects after a name with their names replaced.
 #[cycle(expression)]
 pub(crate) fn copy_selects<'a>(
     alloc: Global,

@@ -14,7 +14,7 @@ use v_value::scope::{Entry, Scope};
 use v_value::sign::sign_of;
 use v_value::width::width_of;
 
-/// This number where no link stands behind it, else 0.
+/// This number where no link comes after it, else 0.
 fn alone<T>(links: &[T], wild: u128) -> u128
     ensures { result ≡ (if length links.now == 0 then wild else 0) }
 {

@@ -50,7 +50,7 @@ pub fn is_clocked(events: &Events<'_>) -> bool
     }
 }
 
-/// Runs a block on a copy of the values, and adds its updates behind those that wait.
+/// Runs a block on a copy of the values, and adds its updates after those that wait.
 fn add_updates<'s>(
     alloc: Global,
     scope: &Scope<'_>,
@@ -137,7 +137,7 @@ fn apply<'s>(
 }
 
 /// What the clocked blocks among a module's items leave at the clock's edge: each is run on the values, and their updates take
-/// place in their order. A name that a block assigns and that has no value yet gets one. Where memory is wanted, the values
+/// place in their order. A name that a block assigns and that has no value yet gets one. When memory runs out, the values
 /// stay as they were.
 pub fn after_edge<'s>(
     alloc: Global,

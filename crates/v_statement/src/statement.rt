@@ -109,7 +109,7 @@ fn defer<'s>(
     Ok(())
 }
 
-/// Runs a statement on the values, and adds its updates behind those that wait. Where memory is wanted, both stay as they were.
+/// Runs a statement on the values, and adds its updates after those that wait. When memory runs out, both stay as they were.
 pub fn run<'s>(
     alloc: Global,
     scope: &Scope<'_>,
@@ -133,7 +133,7 @@ pub fn run<'s>(
     Ok(())
 }
 
-/// Runs a statement on the values, and adds its updates behind those that wait. Where memory is wanted, some of it may have run.
+/// Runs a statement on the values, and adds its updates after those that wait. When memory runs out, some of it may have run.
 #[cycle(run)]
 pub(crate) fn run_statement<'s>(
     alloc: Global,

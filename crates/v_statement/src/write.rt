@@ -133,7 +133,7 @@ fn write_in_room<'s>(
     }
 }
 
-/// Writes a number to places, the leftmost of which gets the high bits. Where memory is wanted, the values stay as they were.
+/// Writes a number to places, the leftmost of which gets the high bits. When memory runs out, the values stay as they were.
 pub fn write<'s>(
     alloc: Global,
     scope: &Scope<'_>,

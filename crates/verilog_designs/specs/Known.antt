@@ -42,7 +42,7 @@ abbrev pub value_position : Scope → Option Range → Expression → Position
 value_position s None e = as_constant s (has_width s e) e
 value_position s (Some r) e = constant (wider (known_range_width s r) (some_if (has_width s e) (width_of s e))) (sign_of s e)
 
--- A range has a value, of at most 128 bits.
+-- No range is declared, or it has a value of at most 128 bits.
 abbrev pub range_is_known : Scope → Option Range → Bool
 range_is_known s None = true
 range_is_known s (Some r) = is_at_most_128 (known_range_width s r)

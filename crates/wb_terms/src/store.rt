@@ -20,7 +20,7 @@ use std::marker::Model;
 pub enum PutStop {
     /// It has no sort: a width or an index is out of range, a number does not fit, or an operand has another sort than its form wants.
     BadSort,
-    /// Memory is wanting.
+    /// Memory ran out.
     NoMemory,
 }
 
