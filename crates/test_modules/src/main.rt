@@ -20,7 +20,7 @@ use v_lex::tokens;
 use v_modules::{first_rule, module_rule};
 use v_parse::parse;
 use v_ports::has_bad_port;
-use v_scopes::{Constants, ModuleScope, declared_scope, module_scope};
+use v_scopes::{Constants, ModuleScope, declared_scope, module_scope, placed_scope};
 use v_size::{Broken, Kind};
 use v_syntax::module::{Module, Tree};
 use v_token::token::Token;
@@ -106,7 +106,9 @@ fn kinds_with<'s>(
     let broken = module_rule(alloc, within, constants, interfaces)?;
     let names = declared_scope(alloc, constants, within)?;
     let ports = has_bad_port(alloc, &names, within, interfaces)?;
-    kinds_by(alloc, within, broken, ports, &names)
+    let scope = placed_scope(alloc, &names, constants.scope)?;
+    let named = has_bad_name(&names, &scope, &within.items);
+    kinds_by(alloc, within, broken, ports, named, &names)
 }
 
 /// Whether the clock `c` stands elsewhere than as an event.
@@ -121,6 +123,7 @@ fn kinds_by(
     within: &Module<'_>,
     broken: Broken,
     ports: bool,
+    named: bool,
     names: &ModuleScope<'_>,
 ) -> Result<String, AllocError> {
     let kinds = [
@@ -136,7 +139,7 @@ fn kinds_by(
             first_nonblocking_in_combinational(&within.items).is_some(),
             " V20",
         ),
-        (has_bad_name(names, &within.items), " V22 name"),
+        (named, " V22 name"),
         (two_drivers(alloc, &within.items, names)?, " V22 two"),
     ];
     told(alloc, &kinds, first_rule(broken))

@@ -4,6 +4,7 @@ use Rattle.std.specs.Prelude.{◌||◌}
 use Rattle.std.specs.List.{list_any}
 use Rattle.wb_values.specs.Value.{Name}
 use Rattle.verilog_trees.specs.Syntax as pure
+use Rattle.verilog_meaning.specs.Expression.{Scope}
 use Rattle.verilog_meaning.specs.Register.{clocked_blocks, combinational_blocks}
 use Rattle.verilog_meaning.specs.Settled.{assignments}
 use Rattle.verilog_designs.specs.Drivers.{assigned_names}
@@ -29,10 +30,10 @@ by-pairs false b false d true f = at b d
     at false false = refl
 by-pairs false b false d false f = refl
 
-pub one-item : (names : ModuleScope) (i : pure.Item) (items : List pure.Item) → names_are_bad names (i ∷ items) ≡ (names_are_bad names (i ∷ []) || names_are_bad names items)
-one-item names i items =
-    let p : Name → Bool = is_wrong names false in
-    let q : Name → Bool = is_wrong names true in
+pub one-item : (names : ModuleScope) (s : Scope) (i : pure.Item) (items : List pure.Item) → names_are_bad names s (i ∷ items) ≡ (names_are_bad names s (i ∷ []) || names_are_bad names s items)
+one-item names s i items =
+    let p : Name → Bool = is_wrong names s false in
+    let q : Name → Bool = is_wrong names s true in
     ap (λ xs. one_link_assigns p xs || (one_block_assigns q (clocked_blocks (i ∷ items)) || one_block_assigns q (combinational_blocks (i ∷ items)))) (links-of-items i items)
     ∙ ap (λ xs. one_link_assigns p (assignments (i ∷ []) ++ assignments items) || (one_block_assigns q xs || one_block_assigns q (combinational_blocks (i ∷ items)))) (clocked-of-items i items)
     ∙ ap (λ xs. one_link_assigns p (assignments (i ∷ []) ++ assignments items) || (one_block_assigns q (clocked_blocks (i ∷ []) ++ clocked_blocks items) || one_block_assigns q xs)) (combinational-of-items i items)

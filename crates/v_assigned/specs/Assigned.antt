@@ -3,6 +3,7 @@ use Rattle.std.specs.Prelude.{Bool, true, false, ◌||◌, List, [], ◌∷◌, 
 use Rattle.std.specs.List.{list_any}
 use Rattle.wb_values.specs.Value.{Name}
 use Rattle.verilog_trees.specs.Syntax.{Expression, Target, Statement, Item}
+use Rattle.verilog_meaning.specs.Expression.{Scope}
 use Rattle.verilog_meaning.specs.Register.{clocked_blocks, combinational_blocks}
 use Rattle.verilog_meaning.specs.Settled.{assignments}
 use Rattle.verilog_designs.specs.Drivers.{target_names, assigned_names}
@@ -27,7 +28,7 @@ one_block_assigns p [] = false
 one_block_assigns p (x ∷ xs) = list_any p (assigned_names x) || one_block_assigns p xs
 
 -- A name is assigned where it may not be: by a continuous assignment, a clocked block or another block.
-abbrev pub names_are_bad : ModuleScope → List Item → Bool
-names_are_bad names items =
-    one_link_assigns (is_wrong names false) (assignments items)
-    || (one_block_assigns (is_wrong names true) (clocked_blocks items) || one_block_assigns (is_wrong names true) (combinational_blocks items))
+abbrev pub names_are_bad : ModuleScope → Scope → List Item → Bool
+names_are_bad names s items =
+    one_link_assigns (is_wrong names s false) (assignments items)
+    || (one_block_assigns (is_wrong names s true) (clocked_blocks items) || one_block_assigns (is_wrong names s true) (combinational_blocks items))

@@ -1,8 +1,8 @@
 -- Which names may not be assigned, by what a module declares of them.
-use Rattle.std.specs.Prelude.{◌≡◌, [], Bool, true, false, not, ◌||◌, Option, Some, None}
-use Rattle.wb_values.specs.Value.{Name}
+use Rattle.std.specs.Prelude.{◌≡◌, Bool, true, false, not, ◌||◌, Option, Some, None, is_some}
+use Rattle.wb_values.specs.Value.{Name, Entries}
 use Rattle.verilog_trees.specs.Syntax.{Module}
-use Rattle.verilog_meaning.specs.Expression.{scope_of}
+use Rattle.verilog_meaning.specs.Expression.{Object, Scope, scope_of}
 use Rattle.verilog_meaning.specs.Hierarchy.{declarations}
 use Rattle.verilog_designs.specs.Ports.{is_input, is_reg}
 use Rattle.v_scopes.specs.declared.table.ModuleScope.{ModuleScope}
@@ -22,10 +22,10 @@ abbrev pub may_not : (in_block : Bool) → Option Row → Bool
 may_not true r = not (is_variable_row r) || is_input_row r
 may_not false r = is_variable_row r || is_input_row r
 
--- the name may not be assigned there
-abbrev pub is_wrong : ModuleScope → (in_block : Bool) → Name → Bool
-is_wrong names b n = may_not b (declared_in names n)
+-- The name may not be assigned there. A parameter is assigned by nothing either.
+abbrev pub is_wrong : ModuleScope → Scope → (in_block : Bool) → Name → Bool
+is_wrong names s b n = may_not b (declared_in names n) || is_some (s n).constant
 
--- The table has the declarations of the module, which has no parameters.
+-- The table has the declarations of the module. With which values of the parameters their ranges were read does not matter here.
 abbrev pub HasNamesOf : ModuleScope → Module → Type 0
-HasNamesOf names m = rows_of names.declared.items ≡ rows (scope_of []) (declarations m)
+HasNamesOf names m = (known : Entries Object) × (rows_of names.declared.items ≡ rows (scope_of known) (declarations m))

@@ -1,5 +1,4 @@
-//! Names that are assigned where they may not be: wires in blocks, variables by continuous assignments, input ports. For modules without
-//! parameters and instances.
+//! Names that are assigned where they may not be: wires in blocks, variables by continuous assignments, input ports, parameters.
 #![tactic(auto)]
 
 mod item;

@@ -6,42 +6,48 @@ ghost use Rattle.verilog_designs.specs.Drivers.{assigned_names, assigned_in_all,
 ghost use Rattle.v_syntax.specs.Tree.{statement_of};
 ghost use Rattle.v_statement.specs.Statements.{statement_list};
 ghost use Rattle.v_statement.specs.Effects.{item_list, item_statement};
+ghost use Rattle.v_value.specs.Scope.{scope_at};
 ghost use Rattle.v_assigned.specs.Names.{is_wrong};
 ghost use Rattle.v_assigned.specs.Assigned.{arms_names};
 
 use crate::target::assigns_wrong;
 use v_scopes::ModuleScope;
 use v_syntax::tree::{Arm, CaseItem, Statement};
+use v_value::scope::Scope;
 
 /// Whether a statement of a block assigns a name that no block may assign.
 #[cycle(assigning)]
-pub(crate) fn has_wrong(names: &ModuleScope<'_>, statement: &Statement<'_>) -> bool
-    ensures { result ≡ list_any (is_wrong names.now true) (assigned_names (statement_of statement.now)) }
+pub(crate) fn has_wrong(
+    names: &ModuleScope<'_>,
+    scope: &Scope<'_>,
+    statement: &Statement<'_>,
+) -> bool
+    ensures { result ≡ list_any (is_wrong names.now (scope_at scope.now) true) (assigned_names (statement_of statement.now)) }
 {
     match statement {
         Statement::Empty => false,
-        Statement::Blocking(target, _) => assigns_wrong(names, true, target),
-        Statement::Nonblocking(target, _) => assigns_wrong(names, true, target),
+        Statement::Blocking(target, _) => assigns_wrong(names, scope, true, target),
+        Statement::Nonblocking(target, _) => assigns_wrong(names, scope, true, target),
         Statement::If(arms, last) => {
-            if an_arm_has_wrong(names, arms) {
+            if an_arm_has_wrong(names, scope, arms) {
                 return true;
             }
             match last {
-                Some(other) => has_wrong(names, other),
+                Some(other) => has_wrong(names, scope, other),
                 None => false,
             }
         }
-        Statement::Case(_, _, items) => an_item_has_wrong(names, items),
-        Statement::Block(_, statements) => one_has_wrong(names, statements),
+        Statement::Case(_, _, items) => an_item_has_wrong(names, scope, items),
+        Statement::Block(_, statements) => one_has_wrong(names, scope, statements),
     }
 }
 
 #[cycle(assigning)]
-fn one_has_wrong(names: &ModuleScope<'_>, statements: &[Statement<'_>]) -> bool
-    ensures { result ≡ list_any (is_wrong names.now true) (assigned_in_all (statement_list statements.now)) }
+fn one_has_wrong(names: &ModuleScope<'_>, scope: &Scope<'_>, statements: &[Statement<'_>]) -> bool
+    ensures { result ≡ list_any (is_wrong names.now (scope_at scope.now) true) (assigned_in_all (statement_list statements.now)) }
 {
     for statement in statements {
-        if has_wrong(names, statement) {
+        if has_wrong(names, scope, statement) {
             return true;
         }
     }
@@ -49,11 +55,11 @@ fn one_has_wrong(names: &ModuleScope<'_>, statements: &[Statement<'_>]) -> bool
 }
 
 #[cycle(assigning)]
-fn an_arm_has_wrong(names: &ModuleScope<'_>, arms: &[Arm<'_>]) -> bool
-    ensures { result ≡ list_any (is_wrong names.now true) (arms_names arms.now) }
+fn an_arm_has_wrong(names: &ModuleScope<'_>, scope: &Scope<'_>, arms: &[Arm<'_>]) -> bool
+    ensures { result ≡ list_any (is_wrong names.now (scope_at scope.now) true) (arms_names arms.now) }
 {
     for arm in arms {
-        if has_wrong(names, &arm.statement) {
+        if has_wrong(names, scope, &arm.statement) {
             return true;
         }
     }
@@ -61,11 +67,11 @@ fn an_arm_has_wrong(names: &ModuleScope<'_>, arms: &[Arm<'_>]) -> bool
 }
 
 #[cycle(assigning)]
-fn an_item_has_wrong(names: &ModuleScope<'_>, items: &[CaseItem<'_>]) -> bool
-    ensures { result ≡ list_any (is_wrong names.now true) (assigned_in_arms (item_list items.now)) }
+fn an_item_has_wrong(names: &ModuleScope<'_>, scope: &Scope<'_>, items: &[CaseItem<'_>]) -> bool
+    ensures { result ≡ list_any (is_wrong names.now (scope_at scope.now) true) (assigned_in_arms (item_list items.now)) }
 {
     for item in items {
-        if item_has_wrong(names, item) {
+        if item_has_wrong(names, scope, item) {
             return true;
         }
     }
@@ -73,11 +79,11 @@ fn an_item_has_wrong(names: &ModuleScope<'_>, items: &[CaseItem<'_>]) -> bool
 }
 
 #[cycle(assigning)]
-fn item_has_wrong(names: &ModuleScope<'_>, item: &CaseItem<'_>) -> bool
-    ensures { result ≡ list_any (is_wrong names.now true) (assigned_names (item_statement item.now)) }
+fn item_has_wrong(names: &ModuleScope<'_>, scope: &Scope<'_>, item: &CaseItem<'_>) -> bool
+    ensures { result ≡ list_any (is_wrong names.now (scope_at scope.now) true) (assigned_names (item_statement item.now)) }
 {
     match item {
-        CaseItem::Values(_, statement) => has_wrong(names, statement),
-        CaseItem::Default(statement) => has_wrong(names, statement),
+        CaseItem::Values(_, statement) => has_wrong(names, scope, statement),
+        CaseItem::Default(statement) => has_wrong(names, scope, statement),
     }
 }

@@ -65,21 +65,21 @@ module _ (d : Design) (m : Module) (h : IsTopOf d m) (s : Scope) (items : List I
   -- ---- drivers
 
   module _ (names : ModuleScope) (known : HasNamesOf names m) where
-    law : HasBadDriver d ↔ (TwoMeet s (drivers s items) ⊎ IsTrue (names_are_bad names items))
+    law : HasBadDriver d ↔ (TwoMeet s (drivers s items) ⊎ IsTrue (names_are_bad names s items))
     law =
-        moved (λ t xs. HasBadDriver d ↔ (TwoMeet t (drivers t xs) ⊎ IsTrue (names_are_bad names xs)))
+        moved (λ t xs. HasBadDriver d ↔ (TwoMeet t (drivers t xs) ⊎ IsTrue (names_are_bad names t xs)))
         (bad-drivers d m names (whole d m h) (own d m h) (top d m h) known)
 
-    pub name_bad : (r : Bool) → r ≡ names_are_bad names items → r ≡ true → HasBadDriver d
+    pub name_bad : (r : Bool) → r ≡ names_are_bad names s items → r ≡ true → HasBadDriver d
     name_bad r g t = law.1 (inr (sym g ∙ t))
 
     pub two_bad : (r : Bool) → (IsTrue r ↔ TwoMeet s (drivers s items)) → r ≡ true → HasBadDriver d
     two_bad r g t = law.1 (inl (g.0 t))
 
-    pub none_bad : (r q : Bool) → r ≡ names_are_bad names items → r ≡ false → (IsTrue q ↔ TwoMeet s (drivers s items)) → q ≡ false → ¬ HasBadDriver d
+    pub none_bad : (r q : Bool) → r ≡ names_are_bad names s items → r ≡ false → (IsTrue q ↔ TwoMeet s (drivers s items)) → q ≡ false → ¬ HasBadDriver d
     none_bad r q g t k u b = neither (law.0 b)
       where
-        neither : TwoMeet s (drivers s items) ⊎ IsTrue (names_are_bad names items) → ⊥
+        neither : TwoMeet s (drivers s items) ⊎ IsTrue (names_are_bad names s items) → ⊥
         neither (inl two) = true≢false (sym (k.1 two) ∙ u)
         neither (inr wrong) = true≢false (sym wrong ∙ sym g ∙ t)
 

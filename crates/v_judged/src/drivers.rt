@@ -40,7 +40,7 @@ pub(crate) fn drivers_refusal<'s>(
         → scope_at scope.now ≡ module_scope m [] → HasNamesOf names.now m → d.clock ≡ clock.now → IsFirst d driver_kinds k) }
 {
     loops_of_one_module();
-    if has_bad_name(names, items) {
+    if has_bad_name(names, scope, items) {
         return Ok(Some(DesignKind::BadDriver));
     }
     let twice = has_two_drivers(alloc, scope, items)?;

@@ -83,7 +83,7 @@ module _ (s : Scope) (names : ModuleScope) (clock : Name) (f : Masks) where
   record Lacks (p : BitSet) : Type 0 where
     pub name : Name
     pub bit : ℕ
-    pub needs : IsTrue (needs_driver names clock name)
+    pub needs : IsTrue (needs_driver s names clock name)
     pub touches : Touches s p name bit
     pub lacking : is_set (f name) bit ≡ false
 
@@ -108,7 +108,7 @@ module _ (s : Scope) (names : ModuleScope) (clock : Name) (f : Masks) where
         lacking = l.lacking;
       }
 
-  lacks-more : (xs : List Span) (n : Name) (b : ℕ) → IsTrue (needs_driver names clock n) → is_set (f n) b ≡ false → Touches s (bits_in xs) n b
+  lacks-more : (xs : List Span) (n : Name) (b : ℕ) → IsTrue (needs_driver s names clock n) → is_set (f n) b ≡ false → Touches s (bits_in xs) n b
       → OneHasMore s names clock f xs
   lacks-more [] n b needs e t = none (is_memory (s n)) t
     where
@@ -120,7 +120,7 @@ module _ (s : Scope) (names : ModuleScope) (clock : Name) (f : Masks) where
       (λ u. let p = touches-span s x n b u in
       let same = name-of x n p.0 in
       inl (
-        subst (λ m. IsTrue (needs_driver names clock m)) (sym same) needs,
+        subst (λ m. IsTrue (needs_driver s names clock m)) (sym same) needs,
         record { bit = b; in_span = p.1; lacking = subst (λ m. is_set (f m) b ≡ false) (sym same) e },
       ))
       (λ u. inr (lacks-more xs n b needs e u))

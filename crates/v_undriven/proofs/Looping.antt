@@ -76,14 +76,14 @@ module _ (s : Scope) (names : ModuleScope) (clock : Name) (f : Masks) where
   pub begun : (all : List Span) → IsLeft all all
   begun all = record { forth = λ h. h; back = λ h. h }
 
-  passed : (x : Span) (rest : List Span) → (IsTrue (needs_driver names clock x.name.now) → HasMore s f x → ⊥) → OneHasMore s names clock f (x ∷ rest) → OneHasMore s names clock f rest
+  passed : (x : Span) (rest : List Span) → (IsTrue (needs_driver s names clock x.name.now) → HasMore s f x → ⊥) → OneHasMore s names clock f (x ∷ rest) → OneHasMore s names clock f rest
   passed x rest none (inl (needs, more)) = absurd (none needs more)
   passed x rest none (inr h) = h
 
-  onward : (all rest : List Span) (x : Span) → (IsTrue (needs_driver names clock x.name.now) → HasMore s f x → ⊥) → IsLeft all (x ∷ rest) → IsLeft all rest
+  onward : (all rest : List Span) (x : Span) → (IsTrue (needs_driver s names clock x.name.now) → HasMore s f x → ⊥) → IsLeft all (x ∷ rest) → IsLeft all rest
   onward all rest x none l = record { forth = λ h. passed x rest none (l.forth h); back = λ h. l.back (inr h) }
 
-  pub turn-unneeded : (all : List Span) (i : ℕ) (r : Span) → i < length all → r ≡ get_or all i r → needs_driver names clock r.name.now ≡ false
+  pub turn-unneeded : (all : List Span) (i : ℕ) (r : Span) → i < length all → r ≡ get_or all i r → needs_driver s names clock r.name.now ≡ false
       → IsLeft all (drop i all) → IsLeft all (drop (i + 1) all)
   turn-unneeded all i r h is e l =
       onward all (drop (i + 1) all) r (λ needs more. true≢false (sym needs ∙ e)) (subst (IsLeft all) (rest_is all i r h is) l)
@@ -91,7 +91,7 @@ module _ (s : Scope) (names : ModuleScope) (clock : Name) (f : Masks) where
   pub turn-driven : (all : List Span) (i : ℕ) (r : Span) → i < length all → r ≡ get_or all i r → (HasMore s f r → ⊥) → IsLeft all (drop i all) → IsLeft all (drop (i + 1) all)
   turn-driven all i r h is none l = onward all (drop (i + 1) all) r (λ needs more. none more) (subst (IsLeft all) (rest_is all i r h is) l)
 
-  pub found : (all : List Span) (i : ℕ) (r : Span) → i < length all → r ≡ get_or all i r → IsTrue (needs_driver names clock r.name.now) → HasMore s f r
+  pub found : (all : List Span) (i : ℕ) (r : Span) → i < length all → r ≡ get_or all i r → IsTrue (needs_driver s names clock r.name.now) → HasMore s f r
       → IsLeft all (drop i all) → OneHasMore s names clock f all
   found all i r h is needs more l = l.back (subst (OneHasMore s names clock f) (sym (rest_is all i r h is)) (inl (needs, more)))
 

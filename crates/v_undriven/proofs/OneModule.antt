@@ -5,13 +5,13 @@ use Rattle.std.specs.List.{list_any}
 use Rattle.std.proofs.lemmas.Bool.{true≢false, false≢true, or_left, or_right, and_parts, and_from}
 use Rattle.std.proofs.lemmas.Slice.Eq.{bytes_eq-Decides}
 use Rattle.wb_values.specs.Value.{Name, same_name, entry_of}
-use Rattle.verilog_trees.specs.Syntax.{name, whole, Direction, input, output, Module}
-use Rattle.verilog_meaning.specs.Expression.{Scope, scope_of, is_memory}
+use Rattle.verilog_trees.specs.Syntax.{name, whole, Range, Direction, input, output, Module}
+use Rattle.verilog_meaning.specs.Expression.{Scope, scope_of, object_or_undeclared, is_memory}
 use Rattle.verilog_meaning.specs.Register.{clocked_blocks, combinational_blocks, is_bit_of, one_may_assign}
-use Rattle.verilog_meaning.specs.Hierarchy.{Declaration, declarations, declaration_of, instance_step, Placed, placed_scope}
+use Rattle.verilog_meaning.specs.Hierarchy.{Declaration, declarations, declaration_of, ranged_object, declared_object, instance_step, Placed, placed_scope}
 use Rattle.verilog_meaning.specs.Settled.{Design, at_path, IsPlacedIn, is_declared_among, IsDeclared, Connection, assignments, port_connections, port_directions, IsDriven}
 use Rattle.verilog_designs.specs.Reads.{reads}
-use Rattle.verilog_designs.specs.Drivers.{IsRead, IsDrivenAs, HasDriver, HasUndriven}
+use Rattle.verilog_designs.specs.Drivers.{is_declared_input, IsRead, IsDrivenAs, HasDriver, HasUndriven}
 use Rattle.verilog_designs.specs.Ports.{is_input}
 use Rattle.verilog_designs.specs.Clocks.{IsClockNet}
 use Rattle.v_hier.specs.Instances.{module_has_parts, has_parts}
@@ -21,9 +21,9 @@ use Rattle.v_scopes.specs.Scopes.{declared_in}
 use Rattle.v_scopes.specs.Ports.{alone}
 use Rattle.v_scopes.proofs.Parts.{none_some, nothing_below}
 use Rattle.v_drivers.specs.Sets.{drivers}
-use Rattle.v_assigned.specs.Names.{HasNamesOf}
-use Rattle.v_assigned.proofs.OneModule.{one-of, any-there, object-constant, row-so, placed-top, unconnected}
-use Rattle.v_undriven.specs.Names.{is_output, is_output_row, is_no_input, is_output_name}
+use Rattle.v_assigned.specs.Names.{is_input_row, HasNamesOf}
+use Rattle.v_assigned.proofs.OneModule.{one-of, any-there, object-constant, input-so, row-so, placed-top, unconnected}
+use Rattle.v_undriven.specs.Names.{is_output, is_output_row, is_output_name}
 use Rattle.v_undriven.specs.Reads.{all_items_read, output_reads, outputs_read, module_reads}
 use Rattle.v_undriven.specs.Undriven.{OneHas, HasAnyAs, HasUndrivenBit}
 use Rattle.v_undriven.proofs.Within.{module-within}
@@ -48,9 +48,17 @@ itself n = (bytes_eq-Decides n n).1 refl
 
 -- ---- rows and declarations
 
-no-input-row : (s : Scope) (o : Option Declaration) → is_no_input (option_map (row s) o) ≡ (is_some o && not (is_input (direction_at o)))
-no-input-row s None = refl
-no-input-row s (Some d) = refl
+declared-input : (o : Option Declaration) → is_declared_input o ≡ is_input (direction_at o)
+declared-input None = refl
+declared-input (Some d) = refl
+
+ranged-declared : (s : Scope) (signed : Bool) (r : Option Range) → (ranged_object s signed r).is_declared ≡ true
+ranged-declared s signed None = refl
+ranged-declared s signed (Some r) = refl
+
+object-declared : (s : Scope) (o : Option Declaration) → (object_or_undeclared (option_map (declared_object s) o)).is_declared ≡ is_some o
+object-declared s None = refl
+object-declared s (Some d) = ranged-declared s d.signed d.range
 
 output-row : (s : Scope) (o : Option Declaration) → is_output_row (option_map (row s) o) ≡ is_output (direction_at o)
 output-row s None = refl
@@ -154,15 +162,20 @@ module _ (d : Design) (m : Module) (names : ModuleScope) (clear : has_parts d.so
   to-top : (A : Placed → Type 0) (q : Placed) → IsPlacedIn d q → A q → A (alone m)
   to-top A q at h = subst A (placed-top d m names clear own top known q q.path at) h
 
-  needs-so : (n : Name) → is_no_input (declared_in names n) ≡ (is_declared_among (declarations m) n && not (is_input (entry_of (port_directions m) n)))
-  needs-so n =
-      ap is_no_input (row-so d m names clear own top known n) ∙ no-input-row (scope_of []) (found n)
-      ∙ ap (λ t. t && not (is_input (direction_at (found n)))) (declared-so n (declarations m))
-      ∙ ap (λ o. is_declared_among (declarations m) n && not (is_input o)) (directions-agree n m)
+  input-there : (n : Name) → is_input_row (declared_in names n) ≡ is_input (entry_of (port_directions m) n)
+  input-there n =
+      ap is_input_row (row-so (alone m) names known n) ∙ input-so (scope_of known.0) (found n) ∙ declared-input (found n)
+      ∙ ap is_input (directions-agree n m)
+
+  declared-there : (n : Name) → (s n).is_declared ≡ is_declared_among (declarations m) n
+  declared-there n = object-declared (scope_of []) (found n) ∙ declared-so n (declarations m)
+
+  abbrev no_input_row : Name → Bool
+  no_input_row n = not (is_input_row (declared_in names n))
 
   output-so : (n : Name) → is_output_name names n ≡ is_output (entry_of (port_directions m) n)
   output-so n =
-      ap is_output_row (row-so d m names clear own top known n) ∙ output-row (scope_of []) (found n) ∙ ap is_output (directions-agree n m)
+      ap is_output_row (row-so (alone m) names known n) ∙ output-row (scope_of known.0) (found n) ∙ ap is_output (directions-agree n m)
 
   output-there : (n : Name) → is_output_name names n ≡ true → is_some (declared_in names n) ≡ true
   output-there n h = at (declared_in names n) h
@@ -221,14 +234,13 @@ module _ (d : Design) (m : Module) (names : ModuleScope) (clear : has_parts d.so
       of-kind bit (DrivenBy.by_clock i) = IsDriven.by_clock (and_from (is_bit_of (s n) l c) (one_may_assign s (clocked_blocks m.items) n l c) bit i)
       of-kind bit (DrivenBy.by_others i) = IsDriven.by_block i
 
-  there-driven : (n : Name) → is_no_input (declared_in names n) ≡ true → (l c : ℕ) → is_bit_of (s n) l c ≡ true → IsDriven d (alone m) n l c → OneHas (drivers s m.items) n l c
+  there-driven : (n : Name) → no_input_row n ≡ true → (l c : ℕ) → is_bit_of (s n) l c ≡ true → IsDriven d (alone m) n l c → OneHas (drivers s m.items) n l c
   there-driven n needs l c bit (IsDriven.by_clock h) =
       by-driven s n l c m.items bit (DrivenBy.by_clock (and_parts (is_bit_of (s n) l c) (one_may_assign s (clocked_blocks m.items) n l c) h).1)
   there-driven n needs l c bit (IsDriven.by_block h) = by-driven s n l c m.items bit (DrivenBy.by_others h)
   there-driven n needs l c bit (IsDriven.by_assignment h) = by-driven s n l c m.items bit (DrivenBy.by_links h)
   there-driven n needs l c bit (IsDriven.by_top_input path has other) =
-      let p = and_parts (is_declared_among (declarations m) n) (not (is_input (entry_of (port_directions m) n))) (sym (needs-so n) ∙ needs) in
-      absurd (false≢true (sym (turned (is_input (entry_of (port_directions m) n)) p.1) ∙ ap is_input has))
+      absurd (false≢true (sym (turned (is_input_row (declared_in names n)) needs) ∙ input-there n ∙ ap is_input has))
   there-driven n needs l c bit (IsDriven.by_input around x at stands to) =
       no-connection (OneHas (drivers s m.items) n l c) x (to-top (λ (q : Placed). Contains (port_connections q.of_module.items) x) around at stands)
   there-driven n needs l c bit (IsDriven.by_output x below i t stands to is h) = no-connection (OneHas (drivers s m.items) n l c) x stands
@@ -258,8 +270,8 @@ module _ (d : Design) (m : Module) (names : ModuleScope) (clear : has_parts d.so
         name = n;
         word = k;
         bit = b;
-        needs = and_from (not (same_name d.clock n)) (is_no_input (declared_in names n)) (ap not apart)
-            (needs-so n ∙ and_from (is_declared_among (declarations m) n) (not (is_input (entry_of (port_directions m) n))) a.declared (ap not no_input));
+        needs = and_from (s n).is_declared (not (same_name d.clock n) && no_input_row n) (declared-there n ∙ a.declared)
+            (and_from (not (same_name d.clock n)) (no_input_row n) (ap not apart) (ap not (input-there n ∙ no_input)));
         is_read = read;
         undriven = λ i. a.undriven (as-driver d (alone m) (drivers s m.items) n k b (is_memory (s n)) (driven-there n) i);
       }
@@ -271,8 +283,8 @@ module _ (d : Design) (m : Module) (names : ModuleScope) (clear : has_parts d.so
 
   back : HasUndrivenBit s names d.clock m.items → HasUndriven d
   back h =
-      let p = and_parts (not (same_name d.clock h.name)) (is_no_input (declared_in names h.name)) h.needs in
-      let q = and_parts (is_declared_among (declarations m) h.name) (not (is_input (entry_of (port_directions m) h.name))) (sym (needs-so h.name) ∙ p.1) in
+      let p = and_parts (s h.name).is_declared (not (same_name d.clock h.name) && no_input_row h.name) h.needs in
+      let q = and_parts (not (same_name d.clock h.name)) (no_input_row h.name) p.1 in
       let bit = module-within s names m.items h.name h.word h.bit h.is_read in
       record {
         place = alone m;
@@ -280,10 +292,10 @@ module _ (d : Design) (m : Module) (names : ModuleScope) (clear : has_parts d.so
         word = h.word;
         bit = h.bit;
         is_placed = top;
-        is_declared = q.0;
+        is_declared = sym (declared-there h.name) ∙ p.0;
         is_read = there-read h.name h.word h.bit h.is_read;
-        no_clock = λ i. true≢false (sym (subst (λ (z : Name). same_name d.clock z ≡ true) (no-clock-net h.name (alone m) i) (itself d.clock)) ∙ turned (same_name d.clock h.name) p.0);
-        undriven = λ i. h.undriven (as-one d (alone m) (drivers s m.items) h.name h.word h.bit (is_memory (s h.name)) bit (there-driven h.name p.1) i);
+        no_clock = λ i. true≢false (sym (subst (λ (z : Name). same_name d.clock z ≡ true) (no-clock-net h.name (alone m) i) (itself d.clock)) ∙ turned (same_name d.clock h.name) q.0);
+        undriven = λ i. h.undriven (as-one d (alone m) (drivers s m.items) h.name h.word h.bit (is_memory (s h.name)) bit (there-driven h.name q.1) i);
       }
 
   pub as-the-rule : HasUndriven d ↔ HasUndrivenBit s names d.clock m.items

@@ -25,4 +25,4 @@ pub record HasMore (s : Scope) (f : Masks) (x : Span) : Type 0 where
 abbrev pub OneHasMore : Scope → ModuleScope → (clock : Name) → Masks → List Span → Type 0
 OneHasMore s names clock f [] = ⊥
 OneHasMore s names clock f (x ∷ spans) =
-    (IsTrue (needs_driver names clock x.name.now) × HasMore s f x) ⊎ OneHasMore s names clock f spans
+    (IsTrue (needs_driver s names clock x.name.now) × HasMore s f x) ⊎ OneHasMore s names clock f spans

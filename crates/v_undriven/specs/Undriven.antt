@@ -27,6 +27,6 @@ pub record HasUndrivenBit (s : Scope) (names : ModuleScope) (clock : Name) (item
   pub name : Name
   pub word : ℕ
   pub bit : ℕ
-  pub needs : IsTrue (needs_driver names clock name)
+  pub needs : IsTrue (needs_driver s names clock name)
   pub is_read : IsTrue (module_reads s names items name word bit)
   pub undriven : ¬ HasAny s (drivers s items) name word bit

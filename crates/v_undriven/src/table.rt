@@ -56,7 +56,7 @@ pub(crate) fn one_has_more(
     ensures { IsTrue result ↔ OneHasMore (scope_at scope.now) names.now clock.now (mask_under table.now) spans.now }
 {
     for span in spans {
-        if needs_driver(names, clock, span.name) {
+        if needs_driver(scope, names, clock, span.name) {
             if has_more(scope, table, *span) {
                 return true;
             }

@@ -1,4 +1,4 @@
-use Rattle.std.proofs.Common.{◌∙◌, sym, ap, subst, map, ◌++◌}
+use Rattle.std.proofs.Common.{◌∙◌, sym, ap, subst, map, [], ◌++◌}
 use Rattle.v_syntax.specs.Source.{item_of, module_of}
 use Rattle.v_value.specs.Scope.{scope_at}
 use Rattle.v_drivers.specs.Premises.{AreNarrowItems}
@@ -79,4 +79,4 @@ returns c = λ d h i k.
     joined d rule_kinds (block_kinds ++ driver_kinds) c.in_ok-drivers.drivers none
     (joined d block_kinds driver_kinds c.in_ok-drivers.drivers clear
     (c.in_ok-drivers.ensures d m h (ap (map item_of) (sym c.deref.ensures.value))
-    (c.in_ok-scope.ensures ∙ c.in_ok-names.ensures.scope ∙ scope_so d m h none) c.in_ok-names.ensures.declared k))
+    (c.in_ok-scope.ensures ∙ c.in_ok-names.ensures.scope ∙ scope_so d m h none) ([], c.in_ok-names.ensures.declared) k))
