@@ -1,8 +1,9 @@
 -- What the answers on the top say of the design.
-use Rattle.std.proofs.Common.{◌≡◌, ◌∙◌, sym, ap, subst, Bool, true, false, true≢false, List, [], ◌⊎◌, inl, inr}
-use Rattle.std.specs.Prelude.{◌↔◌, IsTrue}
+use Rattle.std.proofs.Common.{◌≡◌, ◌∙◌, refl, sym, ap, subst, Bool, true, false, true≢false, List, [], ◌∷◌, ◌⊎◌, inl, inr}
+use Rattle.std.specs.Prelude.{◌↔◌, ◌||◌, IsTrue}
 use Rattle.std.specs.List.{list_any}
-use Rattle.wb_values.specs.Value.{Name}
+use Rattle.std.proofs.lemmas.Slice.Eq.{bytes_eq-Decides}
+use Rattle.wb_values.specs.Value.{Name, same_name}
 use Rattle.verilog_trees.specs.Syntax.{Item, Module}
 use Rattle.verilog_meaning.specs.Expression.{Scope}
 use Rattle.verilog_meaning.specs.Register.{clocked_blocks, combinational_blocks}
@@ -33,6 +34,22 @@ use Rattle.v_judged.proofs.Ready.{decided, blocking_so, nonblocking_so}
 -- where the design breaks the rule, and where it does not
 abbrev pub Decides : Bool → Type 0 → Type 0
 Decides r B = (r ≡ true → B) × (r ≡ false → ¬ B)
+
+same_both : (m n : Name) → same_name m n ≡ true → same_name n m ≡ true
+same_both m n h = subst (λ x. same_name x m ≡ true) ((bytes_eq-Decides m n).0 h) ((bytes_eq-Decides m m).1 refl)
+
+turned : (m n : Name) → same_name m n ≡ same_name n m
+turned m n = by_value (same_name m n) (same_name n m) (same_both m n) (same_both n m)
+  where
+    by_value : (a b : Bool) → (a ≡ true → b ≡ true) → (b ≡ true → a ≡ true) → a ≡ b
+    by_value true b f g = sym (f refl)
+    by_value false true f g = g refl
+    by_value false false f g = refl
+
+-- a set of one name
+pub one_among : (f : Name → Bool) (n : Name) → ((q : Name) → f q ≡ same_name n q) → (ns : List Name) → list_any f ns ≡ is_among ns n
+one_among f n h [] = refl
+one_among f n h (m ∷ ns) = ap (λ b. b || list_any f ns) (h m ∙ turned n m) ∙ ap (λ b. same_name m n || b) (one_among f n h ns)
 
 pub clock_so : (d : Design) (m : Module) (h : IsTopOf d m) (clock : Name) → d.clock ≡ clock → (r : Bool) → r ≡ is_among (names_in_module m) clock → Decides r (HasClockAsData d)
 clock_so d m h clock k r g =
