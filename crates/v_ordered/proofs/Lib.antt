@@ -1,0 +1,5 @@
+mod Adding
+mod Texts
+mod Entered
+mod Lined
+mod Ordering

@@ -1,0 +1,145 @@
+-- Lists of names, member by member and place by place.
+use Rattle.std.proofs.Common.{◌≡◌, ◌≢◌, ◌∙◌, ◌<◌, ◌≤◌, ◌+◌, ◌-◌, ℕ, zero, suc, refl, ap, sym, subst, arith, List, [], ◌∷◌, ◌++◌, map, length, drop, get_or, ◌⊎◌, inl, inr, Option, Some, None, Bor, Vec, Global}
+use Rattle.std.specs.Prelude.{slice_get}
+use Rattle.std.proofs.lemmas.List.{append_assoc, append-nil, map-append, drop_more, at_drop_all, length-map}
+use Rattle.wb_values.specs.Value.{Name}
+use Rattle.verilog_registers.specs.Order.{Member, net, instance, members_in}
+use Rattle.v_ordered.specs.declared.member.Member as code
+use Rattle.v_ordered.specs.Membership.{member_of}
+use Rattle.v_places.specs.Below.{Spot}
+use Rattle.v_places.proofs.Spots.{get_within}
+use Rattle.v_ordered.specs.Lines.{list_at, line, AreBelow}
+use Rattle.v_ordered.specs.Tables.{seen, list_from, AreLinesBy}
+use Rattle.v_ordered.proofs.Entered.{same_or_other}
+
+-- one member, and all of a list
+pub line_more : (f : Name → Name) (child : Name → Option ℕ) (lists : ℕ → List Name) (x : Member) (xs : List Member)
+    → line f child lists (x ∷ xs) ≡ line f child lists (x ∷ []) ++ line f child lists xs
+line_more f child lists (net n) xs = refl
+line_more f child lists (instance u) xs = ap (λ ns. ns ++ line f child lists xs) (sym (append-nil (list_at lists (child u))))
+
+-- a turn that adds the names of one member
+pub line_turn : (f : Name → Name) (child : Name → Option ℕ) (lists : ℕ → List Name) (ms : List code.Member) (i : ℕ) (d : code.Member) (whole now new : List Name)
+    → i < length ms → now ++ line f child lists (map member_of (drop i ms)) ≡ whole → new ≡ now ++ line f child lists (member_of (get_or ms i d) ∷ [])
+    → new ++ line f child lists (map member_of (drop (i + 1) ms)) ≡ whole
+line_turn f child lists ms i d whole now new l h e =
+    ap (λ ns. ns ++ line f child lists (map member_of (drop (i + 1) ms))) e
+    ∙ append_assoc now (line f child lists (member_of (get_or ms i d) ∷ [])) (line f child lists (map member_of (drop (i + 1) ms)))
+    ∙ ap (λ ns. now ++ ns) (sym (line_more f child lists (member_of (get_or ms i d)) (map member_of (drop (i + 1) ms))))
+    ∙ ap (λ ys. now ++ line f child lists (map member_of ys)) (sym (drop_more ms i d l)) ∙ h
+
+pub line_end : (f : Name → Name) (child : Name → Option ℕ) (lists : ℕ → List Name) (ms : List code.Member) (i : ℕ) (whole now : List Name) → length ms ≤ i
+    → now ++ line f child lists (map member_of (drop i ms)) ≡ whole → now ≡ whole
+line_end f child lists ms i whole now l h =
+    sym (append-nil now) ∙ sym (at_drop_all (λ ys. now ++ line f child lists (map member_of ys)) ms i l) ∙ h
+
+-- ---- from the last place to the first
+
+less_or_not : (m n : ℕ) → (m ≤ n) ⊎ (n < m)
+less_or_not zero n = inl (omega arith)
+less_or_not (suc m) zero = inr (omega arith)
+less_or_not (suc m) (suc n) = step (less_or_not m n)
+  where
+    step : (m ≤ n) ⊎ (n < m) → (suc m ≤ suc n) ⊎ (suc n < suc m)
+    step (inl l) = inl (omega (arith, l))
+    step (inr l) = inr (omega (arith, l))
+
+-- it rests on the lists of the places below alone
+pub line_same : (f : Name → Name) (child : Name → Option ℕ) (l m : ℕ → List Name) → ((u : Name) (c : ℕ) → child u ≡ Some c → l c ≡ m c) → (xs : List Member)
+    → line f child l xs ≡ line f child m xs
+line_same f child l m h [] = refl
+line_same f child l m h (net n ∷ xs) = ap (λ ns. f n ∷ ns) (line_same f child l m h xs)
+line_same f child l m h (instance u ∷ xs) =
+    ap (λ ns. ns ++ line f child l xs) (by (child u) refl) ∙ ap (λ ns. list_at m (child u) ++ ns) (line_same f child l m h xs)
+  where
+    by : (o : Option ℕ) → child u ≡ o → list_at l o ≡ list_at m o
+    by None e = refl
+    by (Some c) e = h u c e
+
+get_left : {A : Type 0} (xs ys : List A) (i : ℕ) (d : A) → i < length xs → get_or (xs ++ ys) i d ≡ get_or xs i d
+get_left [] ys i d l = absurd (omega (arith, l))
+get_left (x ∷ xs) ys zero d l = refl
+get_left (x ∷ xs) ys (suc i) d l = get_left xs ys i d (omega (arith, l))
+
+get_pushed : {A : Type 0} (xs : List A) (y d : A) (i : ℕ) → i ≡ length xs → get_or (xs ++ y ∷ []) i d ≡ y
+get_pushed [] y d zero e = refl
+get_pushed [] y d (suc i) e = absurd (omega (arith, e))
+get_pushed (x ∷ xs) y d zero e = absurd (omega (arith, e))
+get_pushed (x ∷ xs) y d (suc i) e = get_pushed xs y d i (omega (arith, e))
+
+abbrev contents : List (Vec (Bor (List ℕ)) Global) → List (List (Bor (List ℕ)))
+contents ls = map (λ v. v.items) ls
+
+old_list : (count k : ℕ) (ls : List (Vec (Bor (List ℕ)) Global)) (v : Vec (Bor (List ℕ)) Global) → count - suc k < length ls
+    → list_from count (ls ++ v ∷ []) k ≡ list_from count ls k
+old_list count k ls v l =
+    let same : length (contents ls) ≡ length ls = length-map ls (λ w. w.items) in
+    ap (λ xs. seen (get_or xs (count - suc k) [])) (map-append (λ w. w.items) ls (v ∷ []))
+    ∙ ap seen (get_left (contents ls) (v.items ∷ []) (count - suc k) [] (omega (arith, l, same)))
+
+new_list : (count k : ℕ) (ls : List (Vec (Bor (List ℕ)) Global)) (v : Vec (Bor (List ℕ)) Global) → count - suc k ≡ length ls
+    → list_from count (ls ++ v ∷ []) k ≡ seen v.items
+new_list count k ls v e =
+    ap (λ xs. seen (get_or xs (count - suc k) [])) (map-append (λ w. w.items) ls (v ∷ []))
+    ∙ ap seen (get_pushed (contents ls) v.items [] (count - suc k) (e ∙ sym (length-map ls (λ w. w.items))))
+
+-- The lists of so many last places have the names of their modules, those of an instance where it stands.
+abbrev pub AreLinesDown : List Spot → List (Name → Name) → (child : ℕ → Name → Option ℕ) → (count done : ℕ) → (lists : ℕ → List Name) → Type 0
+AreLinesDown spots fs child count done lists =
+    (k : ℕ) (x : Spot) (f : Name → Name) → slice_get spots k ≡ Some x → slice_get fs k ≡ Some f → count ≤ k + done
+    → lists k ≡ line f (child k) lists (members_in x.of_module)
+
+module _ (spots : List Spot) (fs : List (Name → Name)) (child : ℕ → Name → Option ℕ) (below : (k : ℕ) → AreBelow spots k (child k)) where
+  pub none_done : (lists : ℕ → List Name) → AreLinesDown spots fs child (length spots) 0 lists
+  none_done lists k x f at is l = let w = get_within spots k x at in absurd (omega (arith, l, w))
+
+  pub all_done : (done : ℕ) (lists : ℕ → List Name) → length spots ≤ done → AreLinesDown spots fs child (length spots) done lists → AreLinesBy spots fs lists
+  all_done done lists l h = λ k x f at is. (child k, below k, h k x f at is (omega (arith, l)))
+
+  module _ (done : ℕ) (ls : List (Vec (Bor (List ℕ)) Global)) (v : Vec (Bor (List ℕ)) Global) (many : length ls ≡ done) (less : done < length spots)
+      (x : Spot) (f : Name → Name) (at : slice_get spots (length spots - suc done) ≡ Some x) (is : slice_get fs (length spots - suc done) ≡ Some f)
+      (made : seen v.items ≡ line f (child (length spots - suc done)) (list_from (length spots) ls) (members_in x.of_module))
+      (h : AreLinesDown spots fs child (length spots) done (list_from (length spots) ls)) where
+    abbrev now : ℕ → List Name
+    now = list_from (length spots) ls
+
+    abbrev new : ℕ → List Name
+    new = list_from (length spots) (ls ++ v ∷ [])
+
+    -- what stands below has been done
+    later : (k : ℕ) → length spots ≤ k + done → k < length spots → new k ≡ now k
+    later k l w = old_list (length spots) k ls v (omega (arith, many, l, w))
+
+    children : (k : ℕ) → length spots ≤ suc k + done → (u : Name) (c : ℕ) → child k u ≡ Some c → now c ≡ new c
+    children k l u c e =
+        let b = (below k).each u c e in
+        let w = get_within spots c b.0 b.1 in
+        let after = b.2.1 in
+        sym (later c (omega (arith, l, after)) w)
+
+    same_some : {A : Type 0} (a c : A) → Some a ≡ Some c → a ≡ c
+    same_some a c p = ap (λ o. elim o as (λ z. A) [ None ↦ a | Some z ↦ z ]) p
+
+    pub one_more_done : AreLinesDown spots fs child (length spots) (done + 1) new
+    one_more_done k y g aty isg l = by (same_or_other k (length spots - suc done))
+      where
+        by : (k ≡ length spots - suc done) ⊎ (k ≢ length spots - suc done) → new k ≡ line g (child k) new (members_in y.of_module)
+        by (inl e) =
+            let sx : y ≡ x = same_some y x (sym aty ∙ ap (slice_get spots) e ∙ at) in
+            let sf : g ≡ f = same_some g f (sym isg ∙ ap (slice_get fs) e ∙ is) in
+            new_list (length spots) k ls v (omega (arith, e, many, less)) ∙ made
+            ∙ ap (λ j. line f (child j) now (members_in x.of_module)) (sym e)
+            ∙ ap (λ z. line z (child k) now (members_in x.of_module)) (sym sf)
+            ∙ ap (λ (z : Spot). line g (child k) now (members_in z.of_module)) (sym sx)
+            ∙ line_same g (child k) now new (children k (omega (arith, l))) (members_in y.of_module)
+        by (inr n) =
+            let w = get_within spots k y aty in
+            let here : length spots ≤ k + done = before k n l w in
+            later k here w ∙ h k y g aty isg here ∙ line_same g (child k) now new (children k (omega (arith, here))) (members_in y.of_module)
+
+        before : (j : ℕ) → j ≢ length spots - suc done → length spots ≤ j + (done + 1) → j < length spots → length spots ≤ j + done
+        before j n l w = by_less (less_or_not (length spots) (j + done))
+          where
+            by_less : (length spots ≤ j + done) ⊎ (j + done < length spots) → length spots ≤ j + done
+            by_less (inl r) = r
+            by_less (inr r) = absurd (n (omega (arith, r, l, less)))
