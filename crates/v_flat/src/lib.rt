@@ -13,3 +13,4 @@ mod tables;
 pub use flat::{FlatDesign, flat_design};
 pub use names::{Dotted, DottedNames, PlaceNames, dotted_names};
 pub use own::items_with_outputs;
+pub use tables::tables_of;
