@@ -126,9 +126,6 @@ named_so (x ∷ source) n m e = chosen (same_name x.module_name n) refl (named_s
 
 -- ---- the rules, one after the other
 
-pub no_module : (d : Design) → module_named d.source d.top ≡ None → IsRefusedBy d no_top
-no_module d e = record { breaks = HasNoTop.no_module e; first = before_first d }
-
 abbrev pub known_top : Module → Placed
 known_top m = record { path = []; of_module = m; constants = known_constants m (λ n. None) }
 
