@@ -36,8 +36,8 @@ fn twice_kind(twice: bool) -> Option<NamesKind>
     }
 }
 
-/// The first of the kinds that one of these modules breaks, where the modules of the source have these names, and where two share a name
-/// if that is said.
+/// The first of the kinds that one of these modules breaks, where these are the names of all modules, and `shared` says whether two of
+/// them share one.
 fn kind_among<'t, 's>(
     modules: Vec<&'t Module<'s>>,
     names: &BTreeSet<&str>,
