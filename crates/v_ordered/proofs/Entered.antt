@@ -30,7 +30,7 @@ replaced [] p t n l = absurd (omega (arith, l))
 replaced (x ∷ ts) zero t n l = refl
 replaced (x ∷ ts) (suc p) t n l = replaced ts p t n (omega (arith, l))
 
-read : (ts : List (BTreeMap (Bor (List ℕ)) ℕ)) (p : ℕ) (d : BTreeMap (Bor (List ℕ)) ℕ) (n : Name) → p < length ts → number_at ts p n ≡ under_name (get_or ts p d) n
+pub read : (ts : List (BTreeMap (Bor (List ℕ)) ℕ)) (p : ℕ) (d : BTreeMap (Bor (List ℕ)) ℕ) (n : Name) → p < length ts → number_at ts p n ≡ under_name (get_or ts p d) n
 read [] p d n l = absurd (omega (arith, l))
 read (x ∷ ts) zero d n l = refl
 read (x ∷ ts) (suc p) d n l = read ts p d n (omega (arith, l))

@@ -3,3 +3,4 @@ mod Texts
 mod Entered
 mod Lined
 mod Ordering
+mod Whole

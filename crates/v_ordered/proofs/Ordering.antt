@@ -3,27 +3,28 @@ use Rattle.std.proofs.Common.{◌≡◌, ◌∙◌, ℕ, zero, suc, ◌+◌, ◌
 use Rattle.std.specs.Prelude.{IsTrue, ◌||◌, slice_get, is_some, is_none}
 use Rattle.std.proofs.lemmas.Bool.{false≢true, true≢false}
 use Rattle.std.proofs.lemmas.List.{append-nil}
-use Rattle.wb_values.specs.Value.{Name, same_name}
+use Rattle.wb_values.specs.Value.{Name, same_name, Entries}
 use Rattle.wb_values.specs.Choice.{first_of}
 use Rattle.verilog_trees.specs.Syntax.{Connections, Item, port, parameter, wires, variables, assign, always, instances, Module, Source}
+use Rattle.verilog_meaning.specs.Expression.{Object}
 use Rattle.verilog_meaning.specs.Hierarchy.{Declaration, item_declarations, port_declarations, header_ports, declarations, PathStep, instance_step, Placed, placed_scope, placed_below, placed_instance, module_named, Instance, instance_among, instance_named, dotted}
 use Rattle.verilog_meaning.specs.Settled.{Design, at_path, IsPlacedIn, is_declared_among}
 use Rattle.verilog_designs.specs.Names.{mentions, uses_unknown, instantiates_unknown, has_undeclared}
 use Rattle.verilog_registers.specs.Order.{Member, net, instance, same_member, nets, instances_in, is_passed_over, placed_among, item_members, others, each_once, members_in}
-use Rattle.verilog_unique.proofs.Options.{is_same, left_true, right_true, either_true, first_false, second_false, not_true}
+use Rattle.verilog_unique.proofs.Options.{same_is, is_same, left_true, right_true, either_true, first_false, second_false, not_true}
 use Rattle.verilog_unique.proofs.Descent.{IsAmong, among_either, contains_among, among_contains}
 use Rattle.verilog_unique.proofs.Paths.{placed_of as placed_instance_of, stands_at, placed_in}
 use Rattle.verilog_unique.proofs.Standing.{stands_in}
 use Rattle.v_places.specs.Below.{Spot}
-use Rattle.v_places.specs.Places.{placed_by, ArePlaces}
+use Rattle.v_places.specs.Places.{placed_by}
 use Rattle.v_places.proofs.Spots.{get_among, among_get, get_within, within_get, same_some}
 use Rattle.v_flat.specs.Paths.{front_of, paths_of, placed_of}
-use Rattle.v_flat.specs.Entries.{spot_entries, spot_names, names_of, naming_of}
+use Rattle.v_flat.specs.Entries.{spot_entries, dotted_entries, spot_names, names_of, named_after}
 use Rattle.v_flat.specs.Whole.{IsPlacing}
 use Rattle.v_flat.proofs.Places.{IsAt, at_number, number_at, at_path_number, apart_numbers}
-use Rattle.v_flat.proofs.Named.{front_dotted, declared_entry, renamed_there, get_names}
+use Rattle.v_flat.proofs.Named.{keys, front_dotted, declared_entry, get_names}
 use Rattle.v_ordered.specs.Order.{AreNamesInOrder, end, net_of, below as below_here}
-use Rattle.v_ordered.specs.Lines.{list_at, line, AreBelow, AreLines}
+use Rattle.v_ordered.specs.Lines.{list_at, one_name, dotted_under, line, AreBelow, AreLines}
 
 -- ---- members of a module
 
@@ -134,6 +135,24 @@ net_is_declared m n h =
       | inl k ↦ declared_left ports (item_declarations m.items) n (net_declared (declarations m) ports n k)
       | inr k ↦ declared_right ports (item_declarations m.items) n (item_declared (declarations m) m.items n k)
     ]
+
+-- ---- a name that a module has has its dotted name
+
+module _ (front : Name) (n : Name) where
+  named_kept : (es : Entries Object) (o : Option Name) → o ≡ Some (front ++ n) → named_after o (dotted_entries front es) n ≡ Some (front ++ n)
+  named_kept [] o h = h
+  named_kept (e ∷ es) o h = named_kept es (cond (same_name e.0 n) (Some (front ++ e.0)) o) (chosen (same_name e.0 n) (same_is e.0 n))
+    where
+      chosen : (b : Bool) → (b ≡ true → e.0 ≡ n) → cond b (Some (front ++ e.0)) o ≡ Some (front ++ n)
+      chosen true f = ap (λ m. Some (front ++ m)) (f refl)
+      chosen false f = h
+
+  named_there : (es : Entries Object) (o : Option Name) → IsAmong (keys es) n → named_after o (dotted_entries front es) n ≡ Some (front ++ n)
+  named_there [] o h = absurd h
+  named_there (e ∷ es) o (inl k) =
+      named_kept es (cond (same_name e.0 n) (Some (front ++ e.0)) o)
+      (ap (λ b. cond b (Some (front ++ e.0)) o) (subst (λ m. same_name e.0 m ≡ true) k (is_same e.0)) ∙ ap (λ m. Some (front ++ m)) k)
+  named_there (e ∷ es) o (inr h) = named_there es (cond (same_name e.0 n) (Some (front ++ e.0)) o) h
 
 -- ---- instances among them are of modules of the source
 
@@ -327,10 +346,11 @@ module _ (d : Design) (spots : List Spot) (h : IsPlacing d spots) where
         (not_true (has_undeclared d.source x.of_module)
         (λ t. h.no_undeclared (record { within = x.of_module; stands = stands_in d q (placed_by q x) s.in_design; names_unknown = t })))
 
-    -- the new name of a net is its dotted name
-    new_name : (n : Name) → IsAmong (members_in x.of_module) (net n) → naming_of (spot_names (front_of q) x) n ≡ dotted q n
-    new_name n g =
-        renamed_there (front_of q) n (spot_entries x) (declared_entry x.of_module x.constants n (net_is_declared x.of_module n g)) ∙ front_dotted q n
+    -- a net has its dotted name
+    its_name : (n : Name) → IsAmong (members_in x.of_module) (net n) → dotted_under (spot_names (front_of q) x) n ≡ Some (dotted q n)
+    its_name n g =
+        named_there (front_of q) n (spot_entries x) None (declared_entry x.of_module x.constants n (net_is_declared x.of_module n g))
+        ∙ ap (λ m. Some m) (front_dotted q n)
 
     -- something stands at an instance
     stands_below : (u : Name) → IsAmong (members_in x.of_module) (instance u) → (p : Placed) × (at_path d (instance_step u ∷ q) ≡ Some p)
@@ -403,14 +423,14 @@ module _ (d : Design) (spots : List Spot) (h : IsPlacing d spots) where
     along : (k : ℕ) (x : Spot) (q : List PathStep) (s : Stands d spots k x q) (child : Name → Option ℕ) → AreBelow spots k child
         → ((c : ℕ) (z : Spot) (r : List PathStep) → k < c → Stands d spots c z r → AreNamesInOrder d (placed_by r z) (members_in z.of_module) (lists c))
         → (xs : List Member) → ((z : Member) → IsAmong xs z → IsAmong (members_in x.of_module) z)
-        → AreNamesInOrder d (placed_by q x) xs (line (naming_of (spot_names (front_of q) x)) child lists xs)
+        → AreNamesInOrder d (placed_by q x) xs (line (dotted_under (spot_names (front_of q) x)) child lists xs)
     along k x q s child below deeper [] among = end (placed_by q x)
     along k x q s child below deeper (net n ∷ xs) among =
-        let f : Name → Name = naming_of (spot_names (front_of q) x) in
-        subst (λ m. AreNamesInOrder d (placed_by q x) (net n ∷ xs) (m ∷ line f child lists xs)) (sym (new_name k x q s n (among (net n) (inl refl))))
+        let f : Name → Option Name = dotted_under (spot_names (front_of q) x) in
+        subst (λ o. AreNamesInOrder d (placed_by q x) (net n ∷ xs) (one_name o ++ line f child lists xs)) (sym (its_name k x q s n (among (net n) (inl refl))))
         (net_of (placed_by q x) n xs (line f child lists xs) (along k x q s child below deeper xs (λ z g. among z (inr g))))
     along k x q s child below deeper (instance u ∷ xs) among =
-        let f : Name → Name = naming_of (spot_names (front_of q) x) in
+        let f : Name → Option Name = dotted_under (spot_names (front_of q) x) in
         let b = below_it k x q s child below u (among (instance u) (inl refl)) in
         subst (λ o. AreNamesInOrder d (placed_by q x) (instance u ∷ xs) (list_at lists o ++ line f child lists xs)) (sym b.is_child)
         (below_here (placed_by q x) (placed_by (instance_step u ∷ q) b.spot) u xs (lists b.number) (line f child lists xs) b.stands.in_design
@@ -436,6 +456,6 @@ module _ (d : Design) (spots : List Spot) (h : IsPlacing d spots) where
         (in_order (length spots) f.number f.spot f.path all f.stands))
 
 -- The top's list has the names of all nets and variables of the design in their order.
-pub lines_are_in_order : (d : Design) (spots : List Spot) (lists : ℕ → List Name) (top : Placed) → IsPlacing d spots → ArePlaces d spots
+pub lines_are_in_order : (d : Design) (spots : List Spot) (lists : ℕ → List Name) (top : Placed) → IsPlacing d spots
     → AreLines spots (names_of spots) lists → at_path d [] ≡ Some top → AreNamesInOrder d top (members_in top.of_module) (lists 0)
-lines_are_in_order d spots lists top placing places lines e = names_in_order d spots placing lists lines top e
+lines_are_in_order d spots lists top placing lines e = names_in_order d spots placing lists lines top e

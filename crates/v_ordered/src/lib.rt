@@ -6,6 +6,7 @@ mod below;
 mod lines;
 mod member;
 mod members;
+mod naming;
 mod variables;
 
 pub use lines::names_in_order;

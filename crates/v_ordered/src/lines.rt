@@ -5,28 +5,27 @@ ghost use Rattle.verilog_meaning.specs.Settled.{Design, at_path};
 ghost use Rattle.verilog_registers.specs.Order.{members_in};
 ghost use Rattle.v_hier.specs.Tables.{under_name};
 ghost use Rattle.v_syntax.specs.Source.{module_of};
-ghost use Rattle.v_renamed.specs.NewNames.{new_name};
 ghost use Rattle.v_places.specs.Views.{spots_of};
 ghost use Rattle.v_flat.specs.Entries.{names_of};
-ghost use Rattle.v_flat.specs.Views.{names_in, namings};
+ghost use Rattle.v_flat.specs.Views.{names_in};
 ghost use Rattle.v_flat.specs.Whole.{IsPlacing};
 ghost use Rattle.v_ordered.specs.Order.{AreNamesInOrder};
 ghost use Rattle.v_ordered.specs.Membership.{member_of};
 ghost use Rattle.v_ordered.specs.Lines.{line, AreBelow};
-ghost use Rattle.v_ordered.specs.Tables.{number_at, seen, list_from, AreLinesBy};
+ghost use Rattle.v_ordered.specs.Tables.{text_under, number_at, seen, list_from, AreLinesBy};
 
 use crate::below::tables_below;
 use crate::member::Member;
 use crate::members::members_of;
+use crate::naming::tables_of;
 use std::alloc::{AllocError, Global};
 use std::collections::BTreeMap;
-use v_flat::{DottedNames, tables_of};
+use v_flat::DottedNames;
 use v_places::Place;
-use v_renamed::{Names, name_for};
 use v_syntax::module::Module;
 
 /// Adds names.
-fn add_names<'a>(names: &[&'a str], out: &mut Vec<&'a str>) -> Result<(), AllocError>
+fn add_names<'n>(names: &[&'n str], out: &mut Vec<&'n str>) -> Result<(), AllocError>
     ensures { OnOk result (seen out.new.items ≡ seen out.old.items ++ seen names.now) }
 {
     out.extend_from_slice(names)?;
@@ -34,11 +33,11 @@ fn add_names<'a>(names: &[&'a str], out: &mut Vec<&'a str>) -> Result<(), AllocE
 }
 
 /// Adds the names of a place, which has this number, where there are so many places.
-fn add_place<'a>(
+fn add_place<'n>(
     number: usize,
     count: usize,
-    lists: &[Vec<&'a str>],
-    out: &mut Vec<&'a str>,
+    lists: &[Vec<&'n str>],
+    out: &mut Vec<&'n str>,
 ) -> Result<(), AllocError>
     ensures { OnOk result (seen out.new.items ≡ seen out.old.items ++ list_from count lists.now number) }
 {
@@ -50,21 +49,24 @@ fn add_place<'a>(
 }
 
 /// Adds the names of a member.
-fn add_member<'a>(
-    member: Member<'a>,
-    names: &Names<'a>,
-    below: &BTreeMap<&'a str, usize>,
+fn add_member<'n>(
+    member: Member<'_>,
+    names: &BTreeMap<&'n str, &'n str>,
+    below: &BTreeMap<&str, usize>,
     count: usize,
-    lists: &[Vec<&'a str>],
-    out: &mut Vec<&'a str>,
+    lists: &[Vec<&'n str>],
+    out: &mut Vec<&'n str>,
 ) -> Result<(), AllocError>
-    ensures { OnOk result (seen out.new.items ≡ seen out.old.items ++ line (new_name names.now) (under_name below.now) (list_from count lists.now) (member_of member.entry ∷ [])) }
+    ensures { OnOk result (seen out.new.items ≡ seen out.old.items ++ line (text_under names.now) (under_name below.now) (list_from count lists.now) (member_of member.entry ∷ [])) }
 {
     match member {
-        Member::Net(name) => {
-            out.push(name_for(names, name))?;
-            Ok(())
-        }
+        Member::Net(name) => match names.get(name) {
+            Some(dotted) => {
+                out.push(*dotted)?;
+                Ok(())
+            }
+            None => Ok(()),
+        },
         Member::Instance(name) => match below.get(name) {
             Some(number) => {
                 add_place(*number, count, lists, out)?;
@@ -76,15 +78,15 @@ fn add_member<'a>(
 }
 
 /// The names of a module with these members.
-fn line_of<'a>(
+fn line_of<'n>(
     alloc: Global,
-    members: &[Member<'a>],
-    names: &Names<'a>,
-    below: &BTreeMap<&'a str, usize>,
+    members: &[Member<'_>],
+    names: &BTreeMap<&'n str, &'n str>,
+    below: &BTreeMap<&str, usize>,
     count: usize,
-    lists: &[Vec<&'a str>],
-) -> Result<Vec<&'a str>, AllocError>
-    ensures { IfOk result (λ v. seen v.items ≡ line (new_name names.now) (under_name below.now) (list_from count lists.now) (map member_of members.now)) }
+    lists: &[Vec<&'n str>],
+) -> Result<Vec<&'n str>, AllocError>
+    ensures { IfOk result (λ v. seen v.items ≡ line (text_under names.now) (under_name below.now) (list_from count lists.now) (map member_of members.now)) }
 {
     let mut line = Vec::new(alloc);
     for member in members {
@@ -94,15 +96,15 @@ fn line_of<'a>(
 }
 
 /// The names of a module.
-fn module_line<'a>(
+fn module_line<'n>(
     alloc: Global,
-    within: &Module<'a>,
-    names: &Names<'a>,
-    below: &BTreeMap<&'a str, usize>,
+    within: &Module<'_>,
+    names: &BTreeMap<&'n str, &'n str>,
+    below: &BTreeMap<&str, usize>,
     count: usize,
-    lists: &[Vec<&'a str>],
-) -> Result<Vec<&'a str>, AllocError>
-    ensures { IfOk result (λ v. seen v.items ≡ line (new_name names.now) (under_name below.now) (list_from count lists.now) (members_in (module_of within.now))) }
+    lists: &[Vec<&'n str>],
+) -> Result<Vec<&'n str>, AllocError>
+    ensures { IfOk result (λ v. seen v.items ≡ line (text_under names.now) (under_name below.now) (list_from count lists.now) (members_in (module_of within.now))) }
 {
     let members = members_of(alloc, within)?;
     let line = line_of(alloc, &members, names, below, count, lists)?;
@@ -110,17 +112,17 @@ fn module_line<'a>(
 }
 
 /// The names of each place, from the last place to the first.
-fn all_lines<'a>(
+fn all_lines<'n>(
     alloc: Global,
-    places: &[Place<'a, 'a>],
-    tables: &[Names<'a>],
-    below: &[BTreeMap<&'a str, usize>],
-) -> Result<Vec<Vec<&'a str>>, AllocError>
+    places: &[Place<'_, '_>],
+    tables: &[BTreeMap<&'n str, &'n str>],
+    below: &[BTreeMap<&str, usize>],
+) -> Result<Vec<Vec<&'n str>>, AllocError>
     requires names { length tables.now ≡ length places.now }
     requires below { length below.now ≡ length places.now }
     requires numbers { (k : ℕ) → AreBelow (spots_of places.now) k (number_at below.now k) }
     ensures count { IfOk result (λ v. length v.items ≡ length places.now) }
-    ensures lines { IfOk result (λ v. AreLinesBy (spots_of places.now) (namings tables.now) (list_from (length places.now) v.items)) }
+    ensures lines { IfOk result (λ v. AreLinesBy (spots_of places.now) (map text_under tables.now) (list_from (length places.now) v.items)) }
 {
     let count = places.len();
     let mut lists = Vec::new(alloc);
@@ -141,11 +143,11 @@ fn all_lines<'a>(
 
 /// The dotted names of all nets and variables of the design that stands at these places, in the order in which registers are told: in a
 /// module that of its text, and those of an instance where it stands.
-pub fn names_in_order<'a>(
+pub fn names_in_order<'n>(
     alloc: Global,
-    places: &[Place<'a, 'a>],
-    names: &'a DottedNames<'a>,
-) -> Result<Vec<&'a str>, AllocError>
+    places: &[Place<'_, '_>],
+    names: &'n DottedNames<'n>,
+) -> Result<Vec<&'n str>, AllocError>
     requires { map names_in names.now.places.items ≡ names_of (spots_of places.now) }
     ensures { IfOk result (λ v. (d : Design) (top : Placed) → IsPlacing d (spots_of places.now) → at_path d [] ≡ Some top
         → AreNamesInOrder d top (members_in top.of_module) (seen v.items)) }
