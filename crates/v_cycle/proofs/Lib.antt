@@ -2,4 +2,5 @@ pub mod Steps
 pub mod Memory
 pub mod Terms
 pub mod Sorts
+pub mod Changed
 pub mod Cycles
