@@ -1,7 +1,10 @@
 -- What values are after numbers are stored in them.
-use Rattle.std.proofs.Common.{◌≡◌, ◌∙◌, ◌<◌, ◌≤◌, ◌++◌, ℕ, zero, suc, true, List, [], ◌∷◌, length, get_or, set, take, refl, sym, ap, arith}
+use Rattle.std.proofs.Common.{◌≡◌, ◌∙◌, ◌<◌, ◌≤◌, ◌++◌, ℕ, zero, suc, true, false, List, [], ◌∷◌, length, get_or, set, take, refl, sym, ap, arith}
+use Rattle.std.specs.Prelude.{◌==◌}
+use Rattle.std.proofs.lemmas.Bool.{false≢true}
 use Rattle.std.proofs.lemmas.List.{length-set, get_or-set_same, set-set, set-get_or}
-use Rattle.wb_values.specs.Value.{Value}
+use Rattle.wb_values.specs.Value.{Sort, truth, word, memory, Value, truth_value, number, words, numeral_of, HasSort}
+use Rattle.model_meaning.specs.Term.{is_memory_sort}
 use Rattle.v_cycle.specs.declared.changes.Stored.{Stored}
 use Rattle.v_cycle.specs.declared.changes.Change.{Change}
 use Rattle.v_cycle.specs.declared.changes.Changes.{Changes}
@@ -59,3 +62,18 @@ changed_at-set xs k (s ∷ ss) d lt =
     ∙ changed-set (set xs k y) k s d (omega (arith, lt, length-set xs k y))
     ∙ ap (λ z. set (set xs k y) k (stored_in z s)) (get_or-set_same xs k y d lt)
     ∙ set-set xs k y (stored_in y s)
+
+-- a number stored in what is no memory is all of it
+pub scalar : (s : Sort) (x y : Value) (a : Stored) → is_memory_sort s ≡ false → HasSort x s → HasSort y s → a.number ≡ numeral_of y → stored_in x a ≡ y
+scalar truth (truth_value b) (truth_value true) a none h k e = ap (λ n. truth_value (n == 1)) e
+scalar truth (truth_value b) (truth_value false) a none h k e = ap (λ n. truth_value (n == 1)) e
+scalar truth (truth_value b) (number n) a none h k e = absurd (false≢true k)
+scalar truth (truth_value b) (words ws) a none h k e = absurd (false≢true k)
+scalar truth (number n) y a none h k e = absurd (false≢true h)
+scalar truth (words ws) y a none h k e = absurd (false≢true h)
+scalar (word w) (truth_value b) y a none h k e = absurd (false≢true h)
+scalar (word w) (number m) (truth_value b) a none h k e = absurd (false≢true k)
+scalar (word w) (number m) (number n) a none h k e = ap number e
+scalar (word w) (number m) (words ws) a none h k e = absurd (false≢true k)
+scalar (word w) (words ws) y a none h k e = absurd (false≢true h)
+scalar (memory b d) x y a none h k e = absurd (false≢true (sym none))

@@ -3,4 +3,5 @@ pub mod Memory
 pub mod Terms
 pub mod Sorts
 pub mod Changed
+pub mod Links
 pub mod Cycles
