@@ -4,4 +4,5 @@ pub mod Terms
 pub mod Sorts
 pub mod Changed
 pub mod Links
+pub mod Shapes
 pub mod Cycles

@@ -10,6 +10,17 @@ ghost use Rattle.v_cycle.specs.Chain.{IsLinkAt};
 use crate::changes::{Changes, Stored};
 use wb_terms::{Env, Evaluated, NameId, Node, TermId, Terms};
 
+/// How many stores there are among the terms.
+pub(crate) fn store_count(terms: &Terms) -> usize {
+    let mut count = 0;
+    for k in 0..terms.len() as usize {
+        if let Node::Store(_, _, _) = terms.node(TermId(k)) {
+            count += 1;
+        }
+    }
+    count
+}
+
 /// What the value of a term is made of.
 enum Link {
     /// The value of a name.

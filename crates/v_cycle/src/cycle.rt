@@ -6,13 +6,14 @@ ghost use Rattle.wb_terms.specs.Environment.{AreOfSorts};
 ghost use Rattle.v_design.specs.Seen.{input_values, parts_of, register_values};
 ghost use Rattle.v_design.specs.Parts.{registers_of, inputs_of, registers_after, value_in};
 
+use crate::chain::store_count;
 use crate::changes::Changes;
 use crate::copying::{push_copies, push_zeros};
 use crate::following::follow;
 use crate::setting::{set_next, set_numbers};
 use std::alloc::Global;
 use v_design::{Design, Inputs, Registers};
-use wb_terms::{Env, Evaluated, NoMemory, Node, TermId, Terms};
+use wb_terms::{Env, Evaluated, NoMemory};
 
 /// A design that is simulated: the registers, and the values of all terms in the cycle that was run last.
 #[derive(Drop)]
@@ -24,17 +25,6 @@ pub struct Cycle {
     registers: Registers,
     /// What that edge changed.
     changes: Changes,
-}
-
-/// How many stores there are among the terms.
-fn store_count(terms: &Terms) -> usize {
-    let mut count = 0;
-    for k in 0..terms.len() as usize {
-        if let Node::Store(_, _, _) = terms.node(TermId(k)) {
-            count += 1;
-        }
-    }
-    count
 }
 
 impl Cycle {
