@@ -82,7 +82,7 @@ module _ (g : Graph) (n : ℕ) (env regs : Vec Value) (numbers : List ℕ) (held
         let a = length-append (map as_value regs.items) (map number numbers) in
         let b = written env followed long in
         ap (map as_value) (written (with_items env followed) set
-            (omega (arith, total, a, long, ap length b, ap length are, length-map set as_value, length-map regs.items as_value, length-map numbers number)))
+        (omega (arith, total, a, long, ap length b, ap length are, length-map set as_value, length-map regs.items as_value, length-map numbers number)))
         ∙ are
 
     pub names_fit : AreOfSorts g.names (map as_value (with_items (with_items env followed) set).items)

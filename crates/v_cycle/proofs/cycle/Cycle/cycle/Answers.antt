@@ -81,8 +81,8 @@ returns-clause-made c =
     let now = ap (map as_value) items ∙ c.set_next.ensures.values ∙ ap (values_of_terms d.terms e) c.deref-3.ensures.value in
     let terms = of_terms d.terms (take d.register_count d.terms.names) d.next.items (map as_value old) d.sorted r.made.registers in
     let before = names_of_registers d.terms d.register_count s.env.values s.registers.values c.args.inputs.now.numbers.items r.made.registers r.inputs r.made.names
-            c.follow.new.values c.set_numbers.new.values (long place) (are place) (length (map as_value (with_items s.registers.values xs).items))
-            (length-map (with_items s.registers.values xs).items as_value ∙ ap length items ∙ so_many) in
+    c.follow.new.values c.set_numbers.new.values (long place) (are place) (length (map as_value (with_items s.registers.values xs).items))
+    (length-map (with_items s.registers.values xs).items as_value ∙ ap length items ∙ so_many) in
     let none = ap (map as_value) c.deref_mut-3.ensures.value ∙ sym (ap (changed_by (map as_value old)) c.clear.ensures) in
     record {
       registers = next_sorts d.terms d.register_count e c.evaluate.new.self d.next.items (map as_value old) _ d.sorted c.evaluate.ensures.holds terms now;
@@ -106,5 +106,5 @@ returns-clause-registers c =
     ∙ c.set_next.ensures.values
     ∙ ap₂ (λ ids ws. map (λ id. val (tree g id.0) (valuation_of (values_by_name g.names ws))) ids) c.deref-3.ensures.value
     (names_at g d.register_count s.env.values s.registers.values c.args.inputs.now.numbers.items r.made.registers r.inputs r.made.names
-        c.follow.new.values c.set_numbers.new.values (long place) (are place))
+    c.follow.new.values c.set_numbers.new.values (long place) (are place))
     ∙ sym (map-map (value_in (parts_of d) (register_values s.registers) (input_values c.args.inputs.now)) (λ id. id.0) d.next.items)
