@@ -42,8 +42,8 @@ pub listed_more : (old new : Changes) (c : Change) (xs ys zs : List Value)
     → zs ≡ changed ys c.register c.stored → IsListed old xs ys → IsListed new xs zs
 listed_more old new c xs ys zs added made listed =
     λ complete.
-        let a = added complete in
-        made ∙ ap (λ l. changed l c.register c.stored) (listed a.0) ∙ sym (ap (changed_by xs) a.1 ∙ changed_by-push xs old.list.items c)
+    let a = added complete in
+    made ∙ ap (λ l. changed l c.register c.stored) (listed a.0) ∙ sym (ap (changed_by xs) a.1 ∙ changed_by-push xs old.list.items c)
 
 -- the store that is noted last is the first one
 pub stored_by-push : (x : Value) (ss : List Stored) (s : Stored) → stored_by x (ss ++ s ∷ []) ≡ stored_by (stored_in x s) ss

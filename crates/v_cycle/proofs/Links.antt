@@ -1,10 +1,10 @@
 -- What stands at a store and at a name among the terms.
-use Rattle.std.proofs.Common.{◌≡◌, ◌∙◌, ◌<◌, ℕ, List, [], ◌∷◌, length, get_or, Option, Some, IsSome, sym, ap, ap₂, subst, arith}
+use Rattle.std.proofs.Common.{◌≡◌, ◌∙◌, ◌<◌, ℕ, List, [], ◌∷◌, length, get_or, IsSome, sym, ap, ap₂, subst, arith}
 use Rattle.std.specs.Prelude.{slice_set}
 use Rattle.std.proofs.lemmas.Bool.{false≢true}
-use Rattle.wb_values.specs.Value.{Sort, truth, word, memory, Value, truth_value, number, words, as_number, as_words, numeral_of, HasSort}
+use Rattle.wb_values.specs.Value.{truth, word, memory, Value, truth_value, number, words, as_number, as_words, numeral_of, HasSort}
 use Rattle.wb_bits.specs.declared.Word.{Word}
-use Rattle.model_meaning.specs.Term.{sort_of, store_sort, val}
+use Rattle.model_meaning.specs.Term.{sort_of, val}
 use Rattle.wb_terms.specs.declared.nodes.NameId.{NameId}
 use Rattle.wb_terms.specs.declared.nodes.TermId.{TermId}
 use Rattle.wb_terms.specs.declared.nodes.Node.{Node}

@@ -61,11 +61,7 @@ impl Cycle {
         ensures ran { HasRun (parts_of design.now) self.new (registers_in self.old) (input_values inputs.now) }
         ensures registers { registers_in self.new ≡ registers_after (parts_of design.now) (registers_in self.old) (input_values inputs.now) }
     {
-        follow(
-            &mut self.env.values,
-            &self.registers.values,
-            &self.changes,
-        );
+        follow(&mut self.env.values, &self.registers.values, &self.changes);
         self.changes.clear();
         let first = self.registers.values.len();
         set_numbers(&mut self.env.values, first, &inputs.numbers);

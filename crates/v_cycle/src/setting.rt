@@ -9,7 +9,7 @@ ghost use Rattle.wb_terms.specs.Graph.{tree};
 ghost use Rattle.wb_terms.specs.Environment.{Fits, HasSortOf, as_value, value_of, values_of};
 ghost use Rattle.wb_terms.specs.Held.{Holds};
 ghost use Rattle.v_cycle.specs.Changing.{changed_at, IsListed};
-ghost use Rattle.v_cycle.specs.Setting.{AreOfTerms, HasRoomFor};
+ghost use Rattle.v_cycle.specs.Setting.{AreOfTerms, HasRoomFor, IsMemory};
 ghost use Rattle.v_cycle.specs.Next.{values_of_terms};
 
 use crate::chain::note_chain;
@@ -40,18 +40,18 @@ fn set_words(list: &mut [u128], terms: &Terms, env: &Env, words: &Evaluated, id:
     }
 }
 
-/// Gives a value that of a term, of whose sort it is.
-fn set_value(value: &mut Value, terms: &Terms, env: &Env, words: &Evaluated, id: TermId)
+/// Gives a memory all words of a term's value.
+fn set_all(value: &mut Value, terms: &Terms, env: &Env, words: &Evaluated, id: TermId)
     requires id { id.0 < length terms.now.nodes }
     requires holds { Holds terms.now env.now words.now }
     requires fits { Fits terms.now env.now }
+    requires memory { IsMemory (sort_of (tree terms.now id.0)) }
     requires sorted { HasSortOf (as_value value.old) (sort_of (tree terms.now id.0)) }
     ensures { as_value value.new ≡ value_of terms.now env.now id.0 }
 {
     match value {
-        Value::Truth(truth) => *truth = words.number(terms, env, id) == 1,
-        Value::Number(number) => *number = words.number(terms, env, id),
         Value::Words(list) => set_words(list, terms, env, words, id),
+        _ => unreachable!(),
     }
 }
 
@@ -78,6 +78,7 @@ fn set_memory(
     requires id { id.0 < length terms.now.nodes }
     requires holds { Holds terms.now env.now words.now }
     requires fits { Fits terms.now env.now }
+    requires memory { IsMemory (sort_of (tree terms.now id.0)) }
     requires register { register < length values.old }
     requires own { slice_index_or (map as_value values.old) register (number 0) ≡ slice_index_or (values_of env.now) register (number 0) }
     requires sorted { HasSortOf (slice_index_or (map as_value values.old) register (number 0)) (sort_of (tree terms.now id.0)) }
@@ -88,7 +89,7 @@ fn set_memory(
         make_chain(values, changes, register);
     } else {
         changes.is_complete = false;
-        set_value(&mut values[register], terms, env, words, id);
+        set_all(&mut values[register], terms, env, words, id);
     }
 }
 

@@ -1,4 +1,4 @@
-use Rattle.std.proofs.Common.{◌≡◌, ◌∙◌, ◌<◌, length, set, map, sym, ap, arith}
+use Rattle.std.proofs.Common.{◌∙◌, ◌<◌, length, set, map, sym, ap, arith}
 use Rattle.std.proofs.lemmas.List.{length-map, map-set, get_or-map}
 use Rattle.wb_terms.specs.Environment.{as_value}
 use Rattle.v_cycle.specs.Changing.{stored_in}

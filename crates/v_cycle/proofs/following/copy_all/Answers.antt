@@ -1,4 +1,4 @@
-use Rattle.std.proofs.Common.{◌≡◌, ◌∙◌, ◌+◌, ◌<◌, ◌≤◌, length, get_or, set, take, drop, map, sym, ap, subst, arith}
+use Rattle.std.proofs.Common.{◌∙◌, ◌+◌, ◌<◌, length, get_or, take, drop, map, sym, ap, subst, arith}
 use Rattle.std.proofs.lemmas.List.{length-map, length-take, map-set, get_or-map, get_or-take}
 use Rattle.wb_terms.specs.Environment.{as_value}
 use Rattle.v_cycle.specs.Alike.{IsAlike}
@@ -25,7 +25,7 @@ copy_over-requires c =
     let all = AreAlike-length (take n xs) (map as_value os) c.requires in
     let lt : k < length vs = omega (arith, all, length-take n xs, length-map c.args.values.now as_value, length-map os as_value, c.loop-k-test.true) in
     let here = get_or-take n xs k (as_value x) c.loop-k-test.true ∙ sym (left-at (map as_value vs) xs k (as_value x) c.loop-k.invariant.left)
-        ∙ get_or-map as_value vs k x (as_value x) lt in
+    ∙ get_or-map as_value vs k x (as_value x) lt in
     let there = get_or-map as_value os k y (as_value y) c.loop-k-test.true ∙ ap as_value (sym c.index-others-k.is) in
     subst (λ z. IsAlike z (as_value y)) here
     (subst (IsAlike (get_or (take n xs) k (as_value x))) there

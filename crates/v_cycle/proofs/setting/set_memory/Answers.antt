@@ -20,4 +20,4 @@ pub returns-else-note_chain-clause-values : goal.returns-else-note_chain-clause-
 returns-else-note_chain-clause-values c =
     let k = c.args.register in
     let vs = c.args.values.now in
-    map-set as_value vs k c.set_value.new.value ∙ ap (set (map as_value vs) k) c.set_value.ensures
+    map-set as_value vs k c.set_all.new.value ∙ ap (set (map as_value vs) k) c.set_all.ensures

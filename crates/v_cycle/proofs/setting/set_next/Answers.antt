@@ -1,4 +1,4 @@
-use Rattle.std.proofs.Common.{◌≡◌, ◌∙◌, ◌+◌, ◌<◌, ◌++◌, [], ◌∷◌, length, get_or, take, drop, map, sym, ap, subst, arith}
+use Rattle.std.proofs.Common.{◌∙◌, ◌+◌, ◌<◌, ◌++◌, [], ◌∷◌, length, get_or, take, drop, map, sym, ap, subst, arith}
 use Rattle.std.proofs.lemmas.List.{length-map, take_all, take_more_set, get_or-take, map_more}
 use Rattle.wb_values.specs.Value.{number}
 use Rattle.model_meaning.specs.Term.{sort_of}
