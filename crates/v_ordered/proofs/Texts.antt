@@ -2,7 +2,6 @@
 use Rattle.std.proofs.Common.{◌≡◌, ◌∙◌, ◌<◌, ◌+◌, ℕ, refl, ap, sym, Bool, true, false, cond, ◌&&◌, ◌||◌, List, [], ◌∷◌, ◌++◌, map, length, drop, get_or, Option, Some, None}
 use Rattle.std.proofs.lemmas.List.{append-nil, drop_more}
 use Rattle.wb_values.specs.Value.{Name, same_name}
-use Rattle.verilog_trees.specs.Syntax as pure
 use Rattle.verilog_trees.specs.Syntax.{Range, Expression, Connections, PortDeclaration, Item, port, parameter, wires, variables, assign, always, instances, Module}
 use Rattle.verilog_meaning.specs.Hierarchy.{Declaration, each_port, port_declarations, wire_declarations, variable_declarations, item_declarations, header_ports, declarations}
 use Rattle.verilog_meaning.specs.Settled.{names_of}
@@ -10,7 +9,7 @@ use Rattle.verilog_registers.specs.Order.{Member, net, instance, nets, instances
 use Rattle.v_syntax.specs.declared.module.Wire.{Wire}
 use Rattle.v_syntax.specs.declared.module.Variable.{Variable}
 use Rattle.v_syntax.specs.declared.module.Instance.{Instance}
-use Rattle.v_syntax.specs.Source.{boxed_tree_of, optional_range_of, connections_of, item_of}
+use Rattle.v_syntax.specs.Source.{boxed_tree_of, optional_range_of, connections_of}
 use Rattle.v_ordered.specs.Membership.{nets_named, instances_named, port_nets, header_nets, item_nets, all_item_nets, unseen}
 
 -- ---- names of the code's lists

@@ -1,5 +1,5 @@
 -- As many tables as places, and the list of the top.
-use Rattle.std.proofs.Common.{◌≡◌, ◌∙◌, ◌+◌, ◌-◌, ℕ, zero, suc, refl, ap, sym, subst, arith, List, [], ◌∷◌, ◌++◌, map, length, Option, Some, Bor, Vec, Global, option_map}
+use Rattle.std.proofs.Common.{◌≡◌, ◌∙◌, ◌+◌, ◌-◌, ℕ, refl, ap, sym, subst, arith, List, [], ◌∷◌, ◌++◌, map, length, Option, Some, Bor, Vec, Global, option_map}
 use Rattle.std.specs.Prelude.{slice_get}
 use Rattle.std.specs.BTreeMap.{BTreeMap}
 use Rattle.std.proofs.lemmas.List.{length-map, length-append}

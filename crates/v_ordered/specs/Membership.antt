@@ -1,5 +1,5 @@
 -- The code's members of a module, and members that are added where they are new.
-use Rattle.std.specs.Prelude.{◌≡◌, ℕ, Bool, cond, List, [], ◌∷◌, ◌++◌, map}
+use Rattle.std.specs.Prelude.{◌≡◌, Bool, cond, List, [], ◌∷◌, ◌++◌, map}
 use Rattle.wb_values.specs.Value.{Name}
 use Rattle.verilog_trees.specs.Syntax.{PortDeclaration, Item, port, parameter, wires, variables, assign, always, instances}
 use Rattle.verilog_meaning.specs.Settled.{names_of}

@@ -3,7 +3,7 @@ use Rattle.std.proofs.lemmas.Map.Text.{btree_map_updates_str}
 use Rattle.wb_values.specs.Value.{same_name}
 use Rattle.v_hier.specs.Tables.{under_name}
 use Rattle.v_places.specs.Views.{spot_of}
-use Rattle.v_ordered.proofs.Entered.{passed_over, entered}
+use Rattle.v_ordered.proofs.Entered.{entered}
 use Rattle.v_ordered.proofs.below.enter.Goals as goal
 
 pub returns-clause-entered : goal.returns-clause-entered

@@ -1,4 +1,4 @@
-use Rattle.std.proofs.Common.{◌∙◌, ap, sym, arith, length, Some}
+use Rattle.std.proofs.Common.{◌∙◌, ap, sym, arith, Some}
 use Rattle.std.proofs.lemmas.List.{length-map}
 use Rattle.v_places.specs.Views.{spot_of, spots_of}
 use Rattle.v_places.proofs.Spots.{get_within}

@@ -1,7 +1,6 @@
-use Rattle.std.proofs.Common.{◌∙◌, ◌++◌, ap, sym, arith}
-use Rattle.std.proofs.lemmas.List.{append-nil}
+use Rattle.std.proofs.Common.{◌∙◌, ◌++◌, ap, arith}
 use Rattle.v_ordered.specs.Tables.{seen}
-use Rattle.v_ordered.proofs.Lined.{list_there, list_missing}
+use Rattle.v_ordered.proofs.Lined.{list_there}
 use Rattle.v_ordered.proofs.lines.add_place.Goals as goal
 
 pub returns-in_ok-add_names : goal.returns-in_ok-add_names

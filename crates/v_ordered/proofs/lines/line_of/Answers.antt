@@ -1,7 +1,5 @@
-use Rattle.std.proofs.Common.{◌∙◌, ◌++◌, ◌∷◌, [], ap, arith}
+use Rattle.std.proofs.Common.{arith}
 use Rattle.v_hier.specs.Tables.{under_name}
-use Rattle.v_ordered.specs.Membership.{member_of}
-use Rattle.v_ordered.specs.Lines.{line}
 use Rattle.v_ordered.specs.Tables.{text_under, seen, list_from}
 use Rattle.v_ordered.proofs.Lined.{line_turn, line_end}
 use Rattle.v_ordered.proofs.lines.line_of.Goals as goal

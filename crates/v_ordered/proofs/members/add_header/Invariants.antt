@@ -2,7 +2,7 @@ use Rattle.std.proofs.Common.{◌≡◌, ◌++◌, List, map, drop}
 use Rattle.verilog_registers.specs.Order.{Member}
 use Rattle.v_syntax.specs.Source.{port_of}
 use Rattle.v_hier.specs.Tables.{has_name}
-use Rattle.v_ordered.specs.Membership.{with_new, Adds, port_nets, header_nets}
+use Rattle.v_ordered.specs.Membership.{with_new, header_nets}
 use Rattle.v_ordered.proofs.members.add_header.Given as goal
 
 abbrev pub invariant-loop-port : goal.invariant-loop-port

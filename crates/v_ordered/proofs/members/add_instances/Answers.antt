@@ -1,5 +1,5 @@
 use Rattle.std.proofs.Common.{◌∷◌, [], refl, map, arith, subst}
-use Rattle.v_ordered.specs.Membership.{with_new, Adds, instances_named}
+use Rattle.v_ordered.specs.Membership.{Adds, instances_named}
 use Rattle.v_ordered.proofs.Adding.{turn, end}
 use Rattle.v_ordered.proofs.members.add_instances.Goals as goal
 

@@ -1,6 +1,6 @@
 use Rattle.std.proofs.Common.{◌≡◌, ◌++◌, List, map, drop}
 use Rattle.verilog_registers.specs.Order.{Member}
-use Rattle.v_ordered.specs.Membership.{with_new, Adds, instances_named}
+use Rattle.v_ordered.specs.Membership.{with_new, instances_named}
 use Rattle.v_ordered.proofs.members.add_instances.Given as goal
 
 abbrev pub invariant-loop-each : goal.invariant-loop-each

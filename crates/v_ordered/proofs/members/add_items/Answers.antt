@@ -1,7 +1,7 @@
-use Rattle.std.proofs.Common.{◌∷◌, [], refl, map, arith, subst}
+use Rattle.std.proofs.Common.{refl, map, arith, subst}
 use Rattle.v_syntax.specs.Source.{item_of}
 use Rattle.v_hier.specs.Tables.{has_name}
-use Rattle.v_ordered.specs.Membership.{with_new, Adds, item_nets, all_item_nets}
+use Rattle.v_ordered.specs.Membership.{Adds, item_nets, all_item_nets}
 use Rattle.v_ordered.proofs.Adding.{turn, end}
 use Rattle.v_ordered.proofs.members.add_items.Goals as goal
 

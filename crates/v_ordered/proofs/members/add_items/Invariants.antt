@@ -2,7 +2,7 @@ use Rattle.std.proofs.Common.{◌≡◌, ◌++◌, List, map, drop}
 use Rattle.verilog_registers.specs.Order.{Member}
 use Rattle.v_syntax.specs.Source.{item_of}
 use Rattle.v_hier.specs.Tables.{has_name}
-use Rattle.v_ordered.specs.Membership.{with_new, Adds, item_nets, all_item_nets}
+use Rattle.v_ordered.specs.Membership.{with_new, all_item_nets}
 use Rattle.v_ordered.proofs.members.add_items.Given as goal
 
 abbrev pub invariant-loop-item : goal.invariant-loop-item

@@ -1,6 +1,6 @@
-use Rattle.std.proofs.Common.{◌∷◌, [], refl, map, arith, subst}
+use Rattle.std.proofs.Common.{◌∷◌, [], refl, map, arith}
 use Rattle.v_hier.specs.Tables.{has_name}
-use Rattle.v_ordered.specs.Membership.{with_new, Adds, port_nets}
+use Rattle.v_ordered.specs.Membership.{port_nets}
 use Rattle.v_ordered.proofs.Adding.{turn, end, ports_more}
 use Rattle.v_ordered.proofs.members.add_ports.Goals as goal
 

@@ -1,7 +1,7 @@
 use Rattle.std.proofs.Common.{◌≡◌, ◌++◌, List, map, drop}
 use Rattle.verilog_registers.specs.Order.{Member}
 use Rattle.v_hier.specs.Tables.{has_name}
-use Rattle.v_ordered.specs.Membership.{with_new, Adds, port_nets}
+use Rattle.v_ordered.specs.Membership.{with_new, port_nets}
 use Rattle.v_ordered.proofs.members.add_ports.Given as goal
 
 abbrev pub invariant-loop-name : goal.invariant-loop-name

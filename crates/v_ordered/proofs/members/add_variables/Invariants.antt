@@ -1,6 +1,6 @@
 use Rattle.std.proofs.Common.{◌≡◌, ◌++◌, List, map, drop}
 use Rattle.verilog_registers.specs.Order.{Member}
-use Rattle.v_ordered.specs.Membership.{with_new, Adds, nets_named}
+use Rattle.v_ordered.specs.Membership.{with_new, nets_named}
 use Rattle.v_ordered.proofs.members.add_variables.Given as goal
 
 abbrev pub invariant-loop-variable : goal.invariant-loop-variable

@@ -1,9 +1,9 @@
-use Rattle.std.proofs.Common.{◌≡◌, ◌∙◌, ◌++◌, [], refl, ap, sym, subst, map, false}
+use Rattle.std.proofs.Common.{◌≡◌, ◌∙◌, ◌++◌, [], ap, sym, subst, map, false}
 use Rattle.std.proofs.lemmas.List.{append-nil}
 use Rattle.std.proofs.Common.{Bool}
 use Rattle.wb_values.specs.Value.{Name}
 use Rattle.verilog_meaning.specs.Hierarchy.{header_ports, item_declarations}
-use Rattle.verilog_registers.specs.Order.{Member, net, instance, is_variable_among, each_once, members_in}
+use Rattle.verilog_registers.specs.Order.{Member, net, instance, is_variable_among, each_once}
 use Rattle.v_hier.specs.Tables.{has_name}
 use Rattle.v_syntax.specs.Source.{ports_of, item_of, module_of}
 use Rattle.v_ordered.specs.declared.members.Members.{Members}

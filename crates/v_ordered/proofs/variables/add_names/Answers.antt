@@ -1,4 +1,4 @@
-use Rattle.std.proofs.Common.{◌∙◌, ◌||◌, ap, subst, map, cond, true, arith}
+use Rattle.std.proofs.Common.{◌∙◌, ap, cond, true, arith}
 use Rattle.wb_values.specs.Value.{same_name}
 use Rattle.v_hier.specs.Tables.{has_name}
 use Rattle.v_ordered.proofs.Adding.{has_more}

@@ -1,4 +1,4 @@
-use Rattle.std.proofs.Common.{◌∙◌, ◌∷◌, ◌+◌, [], ◌||◌, ap, sym, map, drop, get_or, arith}
+use Rattle.std.proofs.Common.{◌∙◌, ◌∷◌, ◌+◌, ◌||◌, ap, sym, map, drop, arith}
 use Rattle.std.proofs.lemmas.List.{drop_more}
 use Rattle.verilog_meaning.specs.Hierarchy.{item_declarations}
 use Rattle.verilog_registers.specs.Order.{is_variable_among}
