@@ -9,15 +9,15 @@ use Rattle.model_files.specs.Shape.{unsigned_in}
 use Rattle.model_places.specs.Sites.{Spot, key_spot, item_spot, part_spot}
 use Rattle.model_places.specs.Notes.{note_at}
 use Rattle.model_places.specs.KeyPlaces.{first_other_key}
-use Rattle.map_files.specs.Shape.{under, version_in, active_in}
-use Rattle.map_files.specs.Keys.{map_keys, reset_keys, instruction_keys}
+use Rattle.map_files.specs.Shape.{read_under, version_in, active_in}
+use Rattle.map_files.specs.Keys.{map_keys, reset_keys, entry_keys}
 
 -- the spot, where what stands there is not of the kind
 abbrev pub unless : (fits : Bool) → Spot → Option Spot
 unless fits s = cond fits None (Some s)
 
 abbrev pub has : {A : Type 0} → (Data → Option A) → Name → Data → Bool
-has f k d = is_some (under f k d)
+has f k d = is_some (read_under f k d)
 
 -- a key under which something stands that the reading takes
 abbrev pub key_misfit : {A : Type 0} → (Data → Option A) → Name → Data → Option Spot
@@ -38,7 +38,7 @@ text_misfits k i no_items = None
 text_misfits k i (item d ds) = first_of (unless (is_some (as_str d)) (item_spot k i None)) (text_misfits k (i + 1) ds)
 
 abbrev pub list_misfit : (key : Name) → Data → Option Spot
-list_misfit k d = misfit_in (text_misfits k 0) (key_spot k) (under as_array k d)
+list_misfit k d = misfit_in (text_misfits k 0) (key_spot k) (read_under as_array k d)
 
 -- the texts of an object under a key, each by its own key
 abbrev pub entry_misfits : (key : Name) → Members → Option Spot
@@ -46,7 +46,7 @@ entry_misfits k no_members = None
 entry_misfits k (member n d ms) = first_of (unless (is_some (as_str d)) (part_spot (key_spot k) n)) (entry_misfits k ms)
 
 abbrev pub mapped_misfit : (key : Name) → Data → Option Spot
-mapped_misfit k d = misfit_in (entry_misfits k) (key_spot k) (under as_object k d)
+mapped_misfit k d = misfit_in (entry_misfits k) (key_spot k) (read_under as_object k d)
 
 -- the reset's object
 abbrev pub reset_misfit_in : Data → Option Spot
@@ -61,7 +61,7 @@ reset_misfit d = misfit_in reset_misfit_in (key_spot (codes "reset")) (get (code
 
 -- an instruction's entry by its place, with its name where it has one
 abbrev pub entry_spot : (i : ℕ) → Data → Spot
-entry_spot i d = item_spot (codes "instructions") i (under as_str (codes "name") d)
+entry_spot i d = item_spot (codes "instructions") i (read_under as_str (codes "name") d)
 
 -- an instruction's entry at a spot
 abbrev pub instruction_misfit : Spot → Data → Option Spot
@@ -75,7 +75,7 @@ instruction_misfits i no_items = None
 instruction_misfits i (item d ds) = first_of (instruction_misfit (entry_spot i d) d) (instruction_misfits (i + 1) ds)
 
 abbrev pub instructions_misfit : Data → Option Spot
-instructions_misfit d = misfit_in (instruction_misfits 0) (key_spot (codes "instructions")) (under as_array (codes "instructions") d)
+instructions_misfit d = misfit_in (instruction_misfits 0) (key_spot (codes "instructions")) (read_under as_array (codes "instructions") d)
 
 -- the keys up to the reset
 abbrev pub head_misfit : Data → Option Spot
@@ -113,7 +113,7 @@ abbrev pub reset_key_in : Data → Option Spot
 reset_key_in d = option_map (part_spot (key_spot (codes "reset"))) (other_key_of reset_keys (as_object d))
 
 abbrev pub instruction_key : (i : ℕ) → Data → Option Spot
-instruction_key i d = option_map (part_spot (entry_spot i d)) (other_key_of instruction_keys (as_object d))
+instruction_key i d = option_map (part_spot (entry_spot i d)) (other_key_of entry_keys (as_object d))
 
 abbrev pub instruction_keys_in : (i : ℕ) → Items → Option Spot
 instruction_keys_in i no_items = None
@@ -123,7 +123,7 @@ instruction_keys_in i (item d ds) = first_of (instruction_key i d) (instruction_
 abbrev pub unknown_key_spot : Data → Option Spot
 unknown_key_spot d =
     first_of (option_map key_spot (other_key_of map_keys (as_object d)))
-    (first_of (there reset_key_in (get (codes "reset") d)) (there (instruction_keys_in 0) (under as_array (codes "instructions") d)))
+    (first_of (there reset_key_in (get (codes "reset") d)) (there (instruction_keys_in 0) (read_under as_array (codes "instructions") d)))
 
 -- ---- notes
 

@@ -3,7 +3,7 @@ use Rattle.std.specs.Prelude.{◌≡◌, ⊤, ℕ, List, Option, Some, None, opt
 use Rattle.serde_json.specs.Data.{Data}
 use Rattle.model_places.specs.Sites.{Spot}
 use Rattle.ila_file.specs.Places.{note_text}
-use Rattle.map_files.specs.Meaning.{MapRule, BadJson, BadShape, UnknownKey, MapReading, says, refused_by, of_document}
+use Rattle.map_files.specs.Meaning.{MapRule, BadShape, UnknownKey, MapReading, says, refused_by, judged_document}
 use Rattle.map_file.specs.Places.{spot_note, shape_note, unknown_key_note}
 use Rattle.map_file.specs.Rule.{rule_view}
 use Rattle.map_file.specs.View.{map_view, heads_view}
@@ -28,7 +28,7 @@ IsStoppedBy NoMemory reading = ⊤
 -- the data of the bytes, by a view of it, or the refusal of bytes that have none
 abbrev pub IsDocument : {T : Type 0} → (T → Data) → Result T MapStop → Option Data → Type 0
 IsDocument view (Ok x) d = d ≡ Some (view x)
-IsDocument view (Err s) d = IsStoppedBy s (of_document d)
+IsDocument view (Err s) d = IsStoppedBy s (judged_document d)
 
 -- the written map, or the refusal
 abbrev pub IsWritten : Result WrittenMap MapStop → MapReading → Type 0

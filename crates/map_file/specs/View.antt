@@ -7,7 +7,7 @@ use Rattle.map_files.specs.Written as pure
 use Rattle.map_files.specs.Written.{Text}
 use Rattle.map_file.specs.declared.written.WrittenReset.{WrittenReset}
 use Rattle.map_file.specs.declared.written.Mapped.{Mapped}
-use Rattle.map_file.specs.declared.written.WrittenInstruction.{WrittenInstruction}
+use Rattle.map_file.specs.declared.written.InstructionEntry.{InstructionEntry}
 use Rattle.map_file.specs.declared.written.WrittenMap.{WrittenMap}
 use Rattle.map_file.specs.declared.heads.Heads.{Heads}
 
@@ -27,11 +27,11 @@ mapped_view m = (string_bytes m.name, string_bytes m.expression)
 abbrev pub entries_view : Vec Mapped Global → Entries Text
 entries_view v = map mapped_view v.items
 
-abbrev pub instruction_view : WrittenInstruction → pure.WrittenInstruction
-instruction_view i = record { called = string_bytes i.name; commit = string_bytes i.commit; bound = i.bound }
+abbrev pub entry_view : InstructionEntry → pure.InstructionEntry
+entry_view i = record { called = string_bytes i.name; commit = string_bytes i.commit; bound = i.bound }
 
-abbrev pub instructions_view : Vec WrittenInstruction Global → List pure.WrittenInstruction
-instructions_view v = map instruction_view v.items
+abbrev pub instructions_view : Vec InstructionEntry Global → List pure.InstructionEntry
+instructions_view v = map entry_view v.items
 
 abbrev pub map_view : WrittenMap → pure.WrittenMap
 map_view m = record {

@@ -5,7 +5,7 @@ ghost use Rattle.serde_json.specs.Data.{Data};
 ghost use Rattle.serde_json.specs.View.{view};
 ghost use Rattle.model_files.specs.Shape.{document};
 ghost use Rattle.map_files.specs.Meaning as meaning;
-ghost use Rattle.map_files.specs.Meaning.{map_reading, of_shape, refused_by};
+ghost use Rattle.map_files.specs.Meaning.{map_reading, judged_shape, refused_by};
 ghost use Rattle.map_files.specs.Shape.{map_in};
 ghost use Rattle.map_file.specs.Places.{shape_misfit};
 ghost use Rattle.map_file.specs.Reading.{IsDocument, IsHeadsRead, IsNoted, IsStoppedBy, IsWritten};
@@ -76,7 +76,7 @@ fn read_document(alloc: Global, bytes: &[u8]) -> Result<Value, MapStop>
 
 /// The written map of a file's data.
 fn read_written(alloc: Global, value: &Value) -> Result<WrittenMap, MapStop>
-    ensures reading { IsWritten result (of_shape (view value.now) (map_in (view value.now))) }
+    ensures reading { IsWritten result (judged_shape (view value.now) (map_in (view value.now))) }
     ensures note { IfErr result (IsNoted (Some (view value.now))) }
 {
     match map_in(alloc, value) {

@@ -6,7 +6,7 @@ ghost use Rattle.serde_json.specs.View.{view, items_view, members_view};
 ghost use Rattle.model_meaning.specs.Among.{is_name_in};
 ghost use Rattle.model_places.specs.KeyPlaces.{first_other_key};
 ghost use Rattle.ila_file.specs.Places.{spot_view};
-ghost use Rattle.map_files.specs.Shape.{under};
+ghost use Rattle.map_files.specs.Shape.{read_under};
 ghost use Rattle.map_file.specs.Places.{instruction_key, instruction_keys_in, other_key_of, reset_key_in, there, unknown_key_spot};
 
 use crate::json::list_under;
@@ -53,7 +53,7 @@ fn reset_key<'v>(value: &'v Value) -> Option<Spot<'v>>
 }
 
 fn instructions_key<'v>(value: &'v Value) -> Option<Spot<'v>>
-    ensures { option_map spot_view result ≡ there (instruction_keys_in 0) (under as_array (codes "instructions") (view value.now)) }
+    ensures { option_map spot_view result ≡ there (instruction_keys_in 0) (read_under as_array (codes "instructions") (view value.now)) }
 {
     match list_under(value, "instructions") {
         Some(items) => instruction_keys(items),

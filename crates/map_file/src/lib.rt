@@ -13,4 +13,4 @@ mod written;
 pub use heads::{Heads, map_heads};
 pub use refusal::{MapRefusal, MapRule};
 pub use stop::MapStop;
-pub use written::{Mapped, WrittenInstruction, WrittenMap, WrittenReset};
+pub use written::{InstructionEntry, Mapped, WrittenMap, WrittenReset};

@@ -4,15 +4,15 @@ ghost use Rattle.std.specs.Prelude.{◌≡◌, codes, string_bytes};
 ghost use Rattle.serde_json.specs.Find.{as_str};
 ghost use Rattle.serde_json.specs.View.{view, items_view, members_view};
 ghost use Rattle.model_files.specs.Shape.{all_in, list_in};
-ghost use Rattle.map_files.specs.Shape.{entries_in, instruction_in, map_in, mapped_in, named, reset_in, under};
+ghost use Rattle.map_files.specs.Shape.{members_mapped_in, entry_in, map_in, mapped_in, named, reset_in, read_under};
 ghost use Rattle.map_file.specs.Reading.{IsReading};
-ghost use Rattle.map_file.specs.View.{entries_view, instruction_view, instructions_view, map_view, mapped_view, reset_view, texts_view};
+ghost use Rattle.map_file.specs.View.{entries_view, entry_view, instructions_view, map_view, mapped_view, reset_view, texts_view};
 
 use crate::json::{
     active_under, list_under, members_under, text_under, unsigned_under, version_under,
 };
 use crate::stop::Stop;
-use crate::written::{Mapped, WrittenInstruction, WrittenMap, WrittenReset};
+use crate::written::{InstructionEntry, Mapped, WrittenMap, WrittenReset};
 use serde_json::{Map, Value};
 use std::alloc::Global;
 
@@ -45,14 +45,14 @@ pub(crate) fn map_in(alloc: Global, value: &Value) -> Result<WrittenMap, Stop>
 
 /// A copy of the text under a key.
 fn kept_text(alloc: Global, value: &Value, key: &str) -> Result<String, Stop>
-    ensures { IsReading string_bytes result (under as_str key.now (view value.now)) }
+    ensures { IsReading string_bytes result (read_under as_str key.now (view value.now)) }
 {
     let text = text_under(value, key).ok_or(Stop::Refused)?;
     Ok(String::from_str(alloc, text)?)
 }
 
 fn reset_under(alloc: Global, value: &Value) -> Result<WrittenReset, Stop>
-    ensures { IsReading reset_view result (under reset_in (codes "reset") (view value.now)) }
+    ensures { IsReading reset_view result (read_under reset_in (codes "reset") (view value.now)) }
 {
     let found = value.get("reset").ok_or(Stop::Refused)?;
     reset_in(alloc, found)
@@ -73,7 +73,7 @@ fn reset_in(alloc: Global, value: &Value) -> Result<WrittenReset, Stop>
 
 /// The texts of the list under a key.
 fn texts_under(alloc: Global, value: &Value, key: &str) -> Result<Vec<String>, Stop>
-    ensures { IsReading texts_view result (under (list_in as_str) key.now (view value.now)) }
+    ensures { IsReading texts_view result (read_under (list_in as_str) key.now (view value.now)) }
 {
     let items = list_under(value, key).ok_or(Stop::Refused)?;
     texts_in(alloc, items)
@@ -99,24 +99,24 @@ fn text_in(alloc: Global, value: &Value) -> Result<String, Stop>
 
 /// The entries of the object under a key, by ascending names.
 fn entries_under(alloc: Global, value: &Value, key: &str) -> Result<Vec<Mapped>, Stop>
-    ensures { IsReading entries_view result (under mapped_in key.now (view value.now)) }
+    ensures { IsReading entries_view result (read_under mapped_in key.now (view value.now)) }
 {
     let members = members_under(value, key).ok_or(Stop::Refused)?;
-    entries_in(alloc, members)
+    members_mapped_in(alloc, members)
 }
 
-fn entries_in(alloc: Global, members: &Map<String, Value>) -> Result<Vec<Mapped>, Stop>
-    ensures { IsReading entries_view result (entries_in (members_view members.now.entries)) }
+fn members_mapped_in(alloc: Global, members: &Map<String, Value>) -> Result<Vec<Mapped>, Stop>
+    ensures { IsReading entries_view result (members_mapped_in (members_view members.now.entries)) }
 {
     let mut entries = Vec::new(alloc);
     for (name, found) in members.iter() {
-        let entry = entry_in(alloc, name.as_str(), found)?;
+        let entry = named(alloc, name.as_str(), found)?;
         entries.push(entry)?;
     }
     Ok(entries)
 }
 
-fn entry_in(alloc: Global, name: &str, value: &Value) -> Result<Mapped, Stop>
+fn named(alloc: Global, name: &str, value: &Value) -> Result<Mapped, Stop>
     ensures { IsReading mapped_view result (named name.now (as_str (view value.now))) }
 {
     let expression = text_in(alloc, value)?;
@@ -124,31 +124,31 @@ fn entry_in(alloc: Global, name: &str, value: &Value) -> Result<Mapped, Stop>
     Ok(Mapped { name, expression })
 }
 
-fn instructions_under(alloc: Global, value: &Value) -> Result<Vec<WrittenInstruction>, Stop>
-    ensures { IsReading instructions_view result (under (list_in instruction_in) (codes "instructions") (view value.now)) }
+fn instructions_under(alloc: Global, value: &Value) -> Result<Vec<InstructionEntry>, Stop>
+    ensures { IsReading instructions_view result (read_under (list_in entry_in) (codes "instructions") (view value.now)) }
 {
     let items = list_under(value, "instructions").ok_or(Stop::Refused)?;
     instructions_in(alloc, items)
 }
 
-fn instructions_in(alloc: Global, items: &[Value]) -> Result<Vec<WrittenInstruction>, Stop>
-    ensures { IsReading instructions_view result (all_in instruction_in (items_view items.now)) }
+fn instructions_in(alloc: Global, items: &[Value]) -> Result<Vec<InstructionEntry>, Stop>
+    ensures { IsReading instructions_view result (all_in entry_in (items_view items.now)) }
 {
     let mut instructions = Vec::new(alloc);
     for item in items {
-        let instruction = instruction_in(alloc, item)?;
+        let instruction = entry_in(alloc, item)?;
         instructions.push(instruction)?;
     }
     Ok(instructions)
 }
 
-fn instruction_in(alloc: Global, value: &Value) -> Result<WrittenInstruction, Stop>
-    ensures { IsReading instruction_view result (instruction_in (view value.now)) }
+fn entry_in(alloc: Global, value: &Value) -> Result<InstructionEntry, Stop>
+    ensures { IsReading entry_view result (entry_in (view value.now)) }
 {
     let name = kept_text(alloc, value, "name")?;
     let commit = kept_text(alloc, value, "commit")?;
     let bound = unsigned_under(value, "bound").ok_or(Stop::Refused)?;
-    Ok(WrittenInstruction {
+    Ok(InstructionEntry {
         name,
         commit,
         bound,

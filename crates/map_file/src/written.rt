@@ -19,7 +19,7 @@ pub struct WrittenMap {
     /// By ascending names.
     pub inputs: Vec<Mapped>,
     /// In the file's order.
-    pub instructions: Vec<WrittenInstruction>,
+    pub instructions: Vec<InstructionEntry>,
 }
 
 /// How the reset is applied.
@@ -43,7 +43,7 @@ pub struct Mapped {
 
 /// How an instruction of the model ends.
 #[derive(Drop)]
-pub struct WrittenInstruction {
+pub struct InstructionEntry {
     /// The model's name for it.
     pub name: String,
     /// The condition of its commit.

@@ -5,7 +5,7 @@ use Rattle.wb_values.specs.Value.{Name}
 use Rattle.serde_json.specs.Data.{Data, object}
 use Rattle.serde_json.specs.Find.{get, as_array}
 use Rattle.model_files.specs.Keys.{has_other_key, some_item}
-use Rattle.map_files.specs.Shape.{under}
+use Rattle.map_files.specs.Shape.{read_under}
 
 abbrev pub map_keys : List Name
 map_keys =
@@ -15,8 +15,8 @@ map_keys =
 abbrev pub reset_keys : List Name
 reset_keys = codes "signal" ∷ codes "active" ∷ codes "cycles" ∷ []
 
-abbrev pub instruction_keys : List Name
-instruction_keys = codes "name" ∷ codes "commit" ∷ codes "bound" ∷ []
+abbrev pub entry_keys : List Name
+entry_keys = codes "name" ∷ codes "commit" ∷ codes "bound" ∷ []
 
 -- an object that has a key besides these
 abbrev pub has_key_besides : List Name → Data → Bool
@@ -32,4 +32,4 @@ abbrev pub map_has_unknown_key : Data → Bool
 map_has_unknown_key d =
     has_key_besides map_keys d
     || (is_there_and (has_key_besides reset_keys) (get (codes "reset") d)
-    || is_there_and (some_item (has_key_besides instruction_keys)) (under as_array (codes "instructions") d))
+    || is_there_and (some_item (has_key_besides entry_keys)) (read_under as_array (codes "instructions") d))

@@ -19,20 +19,20 @@ pub data MapReading : Type 0 where
   says : WrittenMap → MapReading
   refused_by : MapRule → MapReading
 
-abbrev pub with_known_keys : Data → WrittenMap → MapReading
-with_known_keys d m = cond (map_has_unknown_key d) (refused_by UnknownKey) (says m)
+abbrev pub judged_keys : Data → WrittenMap → MapReading
+judged_keys d m = cond (map_has_unknown_key d) (refused_by UnknownKey) (says m)
 
-abbrev pub of_shape : Data → Option WrittenMap → MapReading
-of_shape d None = refused_by BadShape
-of_shape d (Some m) = with_known_keys d m
+abbrev pub judged_shape : Data → Option WrittenMap → MapReading
+judged_shape d None = refused_by BadShape
+judged_shape d (Some m) = judged_keys d m
 
-abbrev pub of_document : Option Data → MapReading
-of_document None = refused_by BadJson
-of_document (Some d) = of_shape d (map_in d)
+abbrev pub judged_document : Option Data → MapReading
+judged_document None = refused_by BadJson
+judged_document (Some d) = judged_shape d (map_in d)
 
 -- The reading of a map file's bytes.
 abbrev pub map_reading : List ℕ → MapReading
-map_reading bytes = of_document (document bytes)
+map_reading bytes = judged_document (document bytes)
 
 -- The bytes say this map: none of the first three rules refuses them.
 abbrev pub SaysMap : List ℕ → WrittenMap → Type 0

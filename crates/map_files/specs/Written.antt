@@ -13,7 +13,7 @@ pub record WrittenReset : Type 0 where
   pub cycles : ℕ
 
 -- How an instruction of the model ends: the condition of its commit, and the number of cycles within which it comes.
-pub record WrittenInstruction : Type 0 where
+pub record InstructionEntry : Type 0 where
   pub called : Name
   pub commit : Text
   pub bound : ℕ
@@ -28,4 +28,4 @@ pub record WrittenMap : Type 0 where
   pub start : Text
   pub states : Entries Text
   pub inputs : Entries Text
-  pub instructions : List WrittenInstruction
+  pub instructions : List InstructionEntry

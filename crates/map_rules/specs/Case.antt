@@ -1,7 +1,8 @@
 -- What a map file is judged by besides itself: a model and a Verilog source.
-use Rattle.std.specs.Prelude.{Bool, true, false, List, [], ◌++◌, ◌∷◌, map, Option, Some, cond}
-use Rattle.wb_values.specs.Value.{Name, Sort, memory, Entries}
-use Rattle.model_meaning.specs.Model.{Model, states_of, state_named, instructions_in, instruction_name}
+use Rattle.std.specs.Prelude.{Bool, List, [], ◌++◌, ◌∷◌, map, Option, cond}
+use Rattle.wb_values.specs.Value.{Name, Sort, Entries}
+use Rattle.model_meaning.specs.Model.{Model, states_of, state_named}
+use Rattle.model_meaning.specs.Invariant.{is_memory_state}
 use Rattle.verilog_trees.specs.Syntax.{Source}
 use Rattle.verilog_meaning.specs.Settled.{Design}
 use Rattle.refinement.specs.Map.{sort_of_state, sort_of_input}
@@ -13,32 +14,23 @@ pub record MapCase : Type 0 where
   pub model : Model
   pub source : Source
 
-abbrev pub design_of : MapCase → Design
-design_of c = record { source = c.source; top = c.written.top; clock = c.written.clock }
+abbrev pub case_design : MapCase → Design
+case_design c = record { source = c.source; top = c.written.top; clock = c.written.clock }
 
--- ---- what the model declares: states and inputs of the model itself, and the instructions of its top machine
-
-abbrev pub state_names : Model → List Name
-state_names m = map (λ s. s.state_name) (states_of m.top)
+-- ---- what the model declares
 
 abbrev pub input_names : Model → List Name
 input_names m = map (λ i. i.input_name) m.inputs
 
-abbrev pub instruction_names : Model → List Name
-instruction_names m = map instruction_name (instructions_in m.top)
-
+-- of a state of the model itself: those of children are private
 abbrev pub state_sort : Model → Name → Option Sort
 state_sort m n = sort_of_state (state_named (states_of m.top) n)
 
 abbrev pub input_sort : Model → Name → Option Sort
 input_sort m n = sort_of_input m.inputs n
 
-abbrev pub is_memory_sort : Option Sort → Bool
-is_memory_sort (Some (memory a w)) = true
-is_memory_sort _ = false
-
-abbrev pub is_memory_state : Model → Name → Bool
-is_memory_state m n = is_memory_sort (state_sort m n)
+abbrev pub is_memory_named : Model → Name → Bool
+is_memory_named m n = is_memory_state (state_named (states_of m.top) n)
 
 -- ---- what the map names
 
@@ -51,7 +43,7 @@ called_names w = map (λ i. i.called) w.instructions
 -- the texts of the states that are no memories
 abbrev pub value_texts : Model → Entries Text → List Text
 value_texts m [] = []
-value_texts m (e ∷ es) = cond (is_memory_state m e.0) (value_texts m es) (e.1 ∷ value_texts m es)
+value_texts m (e ∷ es) = cond (is_memory_named m e.0) (value_texts m es) (e.1 ∷ value_texts m es)
 
 -- All expressions of the map: each text but those of memories, which are paths.
 abbrev pub expression_texts : MapCase → List Text

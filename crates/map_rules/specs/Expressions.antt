@@ -14,7 +14,7 @@ use Rattle.verilog_designs.specs.Clocks.{IsClockNet}
 use Rattle.verilog_designs.specs.Accepted.{is_input_port}
 use Rattle.refinement.specs.Map.{dotted_parts, object_at}
 use Rattle.map_files.specs.Written.{Text}
-use Rattle.map_rules.specs.Case.{MapCase, design_of, expression_texts}
+use Rattle.map_rules.specs.Case.{MapCase, case_design, expression_texts}
 
 -- The text is read as this expression. It is read by itself, as a file of its own: macros of the source mean nothing in it. Identifiers
 -- with dots between them are one name.
@@ -52,5 +52,5 @@ is_reset d n = is_one_bit_input (at_path d []) n && not (same_name n d.clock)
 
 -- BadExpression: an expression of the map is bad; or the reset is no one-bit input port of the top other than the clock.
 pub data HasBadExpression (c : MapCase) : Type 0 where
-  an_expression : (t : Text) → Contains (expression_texts c) t → IsBadExpression (design_of c) t → HasBadExpression c
-  the_reset : IsTrue (not (is_reset (design_of c) c.written.reset.signal)) → HasBadExpression c
+  an_expression : (t : Text) → Contains (expression_texts c) t → IsBadExpression (case_design c) t → HasBadExpression c
+  the_reset : IsTrue (not (is_reset (case_design c) c.written.reset.signal)) → HasBadExpression c

@@ -6,7 +6,7 @@ use Rattle.verilog_meaning.specs.Settled.{Design, IsPlacedIn, at_path, HasPort}
 use Rattle.verilog_designs.specs.Reads.{reads}
 use Rattle.verilog_designs.specs.Dependence.{Bit, PlacedBit, bit_of, DependsFar}
 use Rattle.map_files.specs.Written.{Text}
-use Rattle.map_rules.specs.Case.{MapCase, design_of, value_texts}
+use Rattle.map_rules.specs.Case.{MapCase, case_design, value_texts}
 use Rattle.map_rules.specs.Expressions.{ReadsAs, design_scope}
 
 -- The bit is one of an input port of the top.
@@ -35,4 +35,4 @@ pub record HasMapInput (c : MapCase) : Type 0 where
   pub tree : Expression
   pub stands : Contains (value_texts c.model c.written.states ++ c.written.invariants) text
   pub is_read : ReadsAs text tree
-  pub uses_input : UsesInput (design_of c) tree
+  pub uses_input : UsesInput (case_design c) tree

@@ -7,7 +7,7 @@ use Rattle.verilog_meaning.specs.Hierarchy.{Placed, placed_scope, dotted}
 use Rattle.verilog_meaning.specs.Settled.{Design, IsPlacedIn, is_counted}
 use Rattle.verilog_rules.specs.Expression.{has_width}
 use Rattle.map_files.specs.Written.{Text}
-use Rattle.map_rules.specs.Case.{MapCase, design_of, state_sort, input_sort}
+use Rattle.map_rules.specs.Case.{MapCase, case_design, state_sort, input_sort}
 use Rattle.map_rules.specs.Expressions.{ReadsAs, design_scope}
 
 -- the width of what a value of the sort is mapped to; a memory is mapped otherwise
@@ -29,8 +29,8 @@ pub record HasWidthMismatch (c : MapCase) : Type 0 where
   pub width : ℕ
   pub wants : WantsWidth c text width
   pub is_read : ReadsAs text tree
-  pub has_one : IsTrue (has_width (design_scope (design_of c)) tree)
-  pub differs : width_of (design_scope (design_of c)) tree ≢ width
+  pub has_one : IsTrue (has_width (design_scope (case_design c)) tree)
+  pub differs : width_of (design_scope (case_design c)) tree ≢ width
 
 -- The text is the path of a memory of words of w bits with the indexes 0 to 2^a - 1, in either order, of which a clocked block may
 -- assign a bit.
@@ -54,4 +54,4 @@ pub record HasMemoryMismatch (c : MapCase) : Type 0 where
   pub width : ℕ
   pub stands : Contains c.written.states (state, text)
   pub is_memory : state_sort c.model state ≡ Some (memory address_width width)
-  pub no_path : ¬ IsMemoryPath (design_of c) text address_width width
+  pub no_path : ¬ IsMemoryPath (case_design c) text address_width width

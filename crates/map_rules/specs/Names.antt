@@ -3,7 +3,8 @@ use Rattle.std.specs.Prelude.{ℕ, Bool, not, ◌&&◌, ◌||◌, nat_le, List}
 use Rattle.std.specs.List.{list_all}
 use Rattle.wb_values.specs.Value.{Name}
 use Rattle.model_meaning.specs.Among.{is_name_in, has_twice}
-use Rattle.map_rules.specs.Case.{MapCase, state_names, input_names, instruction_names, entry_names, called_names}
+use Rattle.model_meaning.specs.Invariant.{state_names, own_instruction_names}
+use Rattle.map_rules.specs.Case.{MapCase, input_names, entry_names, called_names}
 
 -- each of these names is one of those
 abbrev pub are_among : List Name → List Name → Bool
@@ -11,11 +12,11 @@ are_among these those = list_all (λ n. is_name_in n those) these
 
 -- UnknownState: the map has an entry for what is no state of the model. (States of children are private.)
 abbrev pub has_unknown_state : MapCase → Bool
-has_unknown_state c = not (are_among (entry_names c.written.states) (state_names c.model))
+has_unknown_state c = not (are_among (entry_names c.written.states) (state_names c.model.top))
 
 -- StateUnmapped: a state of the model has no entry.
 abbrev pub has_unmapped_state : MapCase → Bool
-has_unmapped_state c = not (are_among (state_names c.model) (entry_names c.written.states))
+has_unmapped_state c = not (are_among (state_names c.model.top) (entry_names c.written.states))
 
 -- UnknownInput, InputUnmapped: the same of inputs.
 abbrev pub has_unknown_input : MapCase → Bool
@@ -26,11 +27,11 @@ has_unmapped_input c = not (are_among (input_names c.model) (entry_names c.writt
 
 -- UnknownInstruction: an entry names no instruction of the model's top machine, or one that was named before.
 abbrev pub has_unknown_instruction : MapCase → Bool
-has_unknown_instruction c = not (are_among (called_names c.written) (instruction_names c.model)) || has_twice (called_names c.written)
+has_unknown_instruction c = not (are_among (called_names c.written) (own_instruction_names c.model.top)) || has_twice (called_names c.written)
 
 -- BoundMissing: an instruction of the model's top machine has no entry.
 abbrev pub has_missing_bound : MapCase → Bool
-has_missing_bound c = not (are_among (instruction_names c.model) (called_names c.written))
+has_missing_bound c = not (are_among (own_instruction_names c.model.top) (called_names c.written))
 
 abbrev pub is_from_1_to : (most : ℕ) → ℕ → Bool
 is_from_1_to most n = nat_le 1 n && nat_le n most

@@ -5,7 +5,14 @@ use std::alloc::{AllocError, Global};
 
 pub fn said_of(alloc: Global, heads: &Heads) -> Result<String, AllocError> {
     let map = heads.map();
-    let mut text = format!(in alloc; "top {} clock {} reset {} {} {}", heads.top(), heads.clock(), map.reset.signal, map.reset.is_active_high, map.reset.cycles)?;
+    let mut text = format!(in alloc;
+        "top {} clock {} reset {} {} {}",
+        heads.top(),
+        heads.clock(),
+        map.reset.signal,
+        map.reset.is_active_high,
+        map.reset.cycles
+    )?;
     add_texts(&mut text, " assume", &map.assume)?;
     add_texts(&mut text, " invariants", &map.invariants)?;
     text.push_str(" start ")?;
@@ -13,7 +20,10 @@ pub fn said_of(alloc: Global, heads: &Heads) -> Result<String, AllocError> {
     add_mapped(&mut text, " states", &map.states)?;
     add_mapped(&mut text, " inputs", &map.inputs)?;
     for instruction in &map.instructions {
-        let entry = format!(in alloc; " instruction {} {} {}", instruction.name, instruction.commit, instruction.bound)?;
+        let entry = format!(in alloc;
+            " instruction {} {} {}",
+            instruction.name, instruction.commit, instruction.bound
+        )?;
         text.push_str(entry.as_str())?;
     }
     Ok(text)

@@ -3,7 +3,7 @@ use Rattle.std.specs.Str.{is_utf8}
 use Rattle.std.proofs.lemmas.Str.{is_utf8-from_IsUtf8, IsUtf8-from_is_utf8}
 use Rattle.serde_json.specs.Read.{read}
 use Rattle.model_files.specs.Shape.{document}
-use Rattle.map_files.specs.Meaning.{of_document}
+use Rattle.map_files.specs.Meaning.{judged_document}
 use Rattle.map_file.specs.Reading.{IsStoppedBy}
 use Rattle.map_file.proofs.heads.read_document.Goals as goal
 
@@ -18,4 +18,4 @@ pub returns-in-Err-2-clause-document : goal.returns-in-Err-2-clause-document
 returns-in-Err-2-clause-document c =
     let none : document c.args.bytes.now ≡ None =
     refused c.args.bytes.now _ refl (c.in-Err.ensures.err (λ m. true≢false (sym (c.is_memory.ensures.1 m) ∙ c.if-is_memory.false))) in
-    subst (λ d. IsStoppedBy c.no_document.result (of_document d)) (sym none) c.no_document.ensures.stop
+    subst (λ d. IsStoppedBy c.no_document.result (judged_document d)) (sym none) c.no_document.ensures.stop
