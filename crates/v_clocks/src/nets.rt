@@ -69,7 +69,7 @@ fn none<'s>(alloc: Global) -> BTreeSet<&'s str>
 }
 
 /// Adds the port that is given a clock net, if one is.
-fn give<'s>(each: Use<'s>, ports: &mut BTreeSet<&'s str>) -> Result<(), AllocError>
+fn give<'n, 's: 'n>(each: Use<'s>, ports: &mut BTreeSet<&'n str>) -> Result<(), AllocError>
     ensures { OnOk result ((q : List ℕ) → has_name ports.new q ≡ (has_name ports.old q || gives q (use_of each.entry))) }
 {
     match each {
@@ -83,7 +83,7 @@ fn give<'s>(each: Use<'s>, ports: &mut BTreeSet<&'s str>) -> Result<(), AllocErr
 }
 
 /// The ports that are given a clock net.
-fn ports_given<'s>(alloc: Global, uses: &[Use<'s>]) -> Result<BTreeSet<&'s str>, AllocError>
+fn ports_given<'n, 's: 'n>(alloc: Global, uses: &[Use<'s>]) -> Result<BTreeSet<&'n str>, AllocError>
     ensures { IfOk result (λ s. (q : List ℕ) → has_name s q ≡ list_any (gives q) (uses_in uses.now)) }
 {
     let mut ports = none(alloc);
@@ -94,12 +94,12 @@ fn ports_given<'s>(alloc: Global, uses: &[Use<'s>]) -> Result<BTreeSet<&'s str>,
 }
 
 /// The clock nets of a place below a module with these ones.
-fn nets_below<'t, 's>(
+fn nets_below<'n, 't, 's: 'n>(
     alloc: Global,
     place: &Place<'t, 's>,
     around: &BTreeSet<&str>,
     interfaces: &Interfaces<'s>,
-) -> Result<BTreeSet<&'s str>, AllocError>
+) -> Result<BTreeSet<&'n str>, AllocError>
     ensures { IfOk result (λ s. (source : pure.Source) → AreInterfacesOf interfaces.now source → IsFirstOf source (module_of place.now.within.now)
         → (q : List ℕ) → has_name s q ≡ nets_below (has_name around.now) (spot_of place.now) q) }
 {
@@ -118,13 +118,13 @@ fn of_top<'s>(alloc: Global, clock: &'s str) -> Result<BTreeSet<&'s str>, AllocE
 }
 
 /// The clock nets of the next place, after those of the ones before it. The first is the top.
-fn nets_next<'t, 's>(
+fn nets_next<'n, 't, 's: 'n>(
     alloc: Global,
     place: &Place<'t, 's>,
-    before: &[BTreeSet<&'s str>],
+    before: &[BTreeSet<&'n str>],
     interfaces: &Interfaces<'s>,
-    clock: &'s str,
-) -> Result<BTreeSet<&'s str>, AllocError>
+    clock: &'n str,
+) -> Result<BTreeSet<&'n str>, AllocError>
     ensures { IfOk result (λ s. (source : pure.Source) → AreInterfacesOf interfaces.now source → IsFirstOf source (module_of place.now.within.now)
         → (q : List ℕ) → has_name s q ≡ nets_next clock.now (sets_of before.now) (spot_of place.now) q) }
 {
@@ -142,12 +142,12 @@ fn nets_next<'t, 's>(
 }
 
 /// The clock nets of each of these places, one after the other.
-fn all_nets<'t, 's>(
+fn all_nets<'n, 't, 's: 'n>(
     alloc: Global,
     places: &[Place<'t, 's>],
     interfaces: &Interfaces<'s>,
-    clock: &'s str,
-) -> Result<Vec<BTreeSet<&'s str>>, AllocError>
+    clock: &'n str,
+) -> Result<Vec<BTreeSet<&'n str>>, AllocError>
     ensures { IfOk result (λ v. (source : pure.Source) → AreInterfacesOf interfaces.now source → AreFirst source (spots_of places.now)
         → sets_of v.items ≡ nets_of clock.now (spots_of places.now)) }
 {
@@ -161,12 +161,12 @@ fn all_nets<'t, 's>(
 
 /// The clock nets of each module that stands in a design, in the order of the places: the clock of the top, and each input port whose
 /// whole connection is a clock net of the module around it. Answers `AllocError` where memory runs out.
-pub fn clock_nets<'t, 's>(
+pub fn clock_nets<'n, 't, 's: 'n>(
     alloc: Global,
     places: &[Place<'t, 's>],
     interfaces: &Interfaces<'s>,
-    clock: &'s str,
-) -> Result<Vec<BTreeSet<&'s str>>, AllocError>
+    clock: &'n str,
+) -> Result<Vec<BTreeSet<&'n str>>, AllocError>
     ensures { IfOk result (λ v. (d : Design) → AreKnownPlaces d (spots_of places.now) → AreInterfacesOf interfaces.now d.source → d.clock ≡ clock.now
         → AreClockNets d (spots_of places.now) (sets_of v.items)) }
 {
