@@ -22,6 +22,9 @@ not_among ns n h = by (is_among ns n) refl
     by true e = absurd (h (among_test ns n e))
     by false e = refl
 
+fewer : (xs ys : List Name) (n : Name) → (IsAmong xs n → IsAmong ys n) → is_among ys n ≡ false → is_among xs n ≡ false
+fewer xs ys n f h = not_among xs n (λ k. true≢false (sym (test_among ys n (f k)) ∙ h))
+
 -- ---- names of the store
 
 -- one name more in the middle

@@ -25,14 +25,22 @@ use v_instances::interface::Interfaces;
 use v_ordered::names_in_order;
 use v_places::Place;
 use v_scopes::{Constants, declared_scope};
+use v_syntax::module::Item;
 use v_write::laws::unbroken_statements_are_sound;
 
+/// The items of a design in one scope.
+fn items_of<'x, 'a>(flat: &'x FlatDesign<'a>) -> &'x [Item<'a>]
+    ensures { result.now ≡ flat.now.items.items }
+{
+    &flat.items
+}
+
 /// A design in one scope, whose nets and variables are these and whose top is the module at a place.
-fn design_below<'s>(
+fn design_below<'a>(
     top: &Place<'_, '_>,
-    flat: &FlatDesign<'s>,
+    flat: &FlatDesign<'a>,
     alloc: Global,
-    declared: Vec<&'s str>,
+    declared: Vec<&'a str>,
     clock: &str,
 ) -> Result<Design, NoMemory>
     requires { IsElaborable (body_in (scope_at flat.now.scope) (map item_of flat.now.items.items) (map (λ n. n.now) declared.items)) (is_data_port (module_of top.now.within.now) clock.now) }
@@ -44,29 +52,22 @@ fn design_below<'s>(
     };
     let names = declared_scope(alloc, constants, top.within)?;
     let outputs = outputs_of(alloc, &names, top.within)?;
-    let design = design_in(
-        alloc,
-        declared,
-        &names,
-        &flat.scope,
-        &flat.items,
-        clock,
-        outputs,
-    )?;
+    let items = items_of(flat);
+    let design = design_in(alloc, declared, &names, &flat.scope, items, clock, outputs)?;
     Ok(design)
 }
 
 /// The design that stands at these places, where its names have these dotted names.
-fn dotted_design(
-    places: &Vec<Place<'_, '_>>,
-    dotted: &DottedNames<'_>,
-    interfaces: &Interfaces<'_>,
+fn dotted_design<'a, 's: 'a>(
+    places: &[Place<'_, 's>],
+    dotted: &'a DottedNames<'a>,
+    interfaces: &Interfaces<'s>,
     alloc: Global,
     clock: &str,
 ) -> Result<Design, NoMemory>
-    requires names { map names_in dotted.now.places.items ≡ names_of (spots_of places.now.items) }
-    requires stands { (d : PureDesign) × StandsAt interfaces.now clock.now (spots_of places.now.items) d }
-    ensures { IfOk result (λ r. (d : PureDesign) → StandsAt interfaces.now clock.now (spots_of places.now.items) d → IsDesignOf d (parts_of r)) }
+    requires names { map names_in dotted.now.places.items ≡ names_of (spots_of places.now) }
+    requires stands { (d : PureDesign) × StandsAt interfaces.now clock.now (spots_of places.now) d }
+    ensures { IfOk result (λ r. (d : PureDesign) → StandsAt interfaces.now clock.now (spots_of places.now) d → IsDesignOf d (parts_of r)) }
 {
     places_are_placed();
     unbroken_statements_are_sound();
@@ -83,14 +84,14 @@ fn dotted_design(
 }
 
 /// The design that stands at these places, where the modules of its source have these interfaces.
-pub(crate) fn placed_design(
-    places: &Vec<Place<'_, '_>>,
-    interfaces: &Interfaces<'_>,
+pub(crate) fn placed_design<'s>(
+    places: &[Place<'_, 's>],
+    interfaces: &Interfaces<'s>,
     alloc: Global,
     clock: &str,
 ) -> Result<Design, NoMemory>
-    requires { (d : PureDesign) × StandsAt interfaces.now clock.now (spots_of places.now.items) d }
-    ensures { IfOk result (λ r. (d : PureDesign) → StandsAt interfaces.now clock.now (spots_of places.now.items) d → IsDesignOf d (parts_of r)) }
+    requires { (d : PureDesign) × StandsAt interfaces.now clock.now (spots_of places.now) d }
+    ensures { IfOk result (λ r. (d : PureDesign) → StandsAt interfaces.now clock.now (spots_of places.now) d → IsDesignOf d (parts_of r)) }
 {
     let dotted = dotted_names(alloc, places)?;
     let design = dotted_design(places, &dotted, interfaces, alloc, clock)?;

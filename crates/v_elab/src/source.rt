@@ -24,9 +24,9 @@ pub enum Elaborated {
 /// The design of a Verilog source, or the kind by which it is refused: the first, in their order, whose rule it breaks. The design is the
 /// module `top` of the tree with all that stands below it, and the clock `clock`. The tree is one of a text: its numbers fit their widths,
 /// parts have bits, and names have no dots.
-pub fn elaborate(
+pub fn elaborate<'s>(
     alloc: Global,
-    tree: &Tree<'_>,
+    tree: &Tree<'s>,
     top: &str,
     clock: &str,
 ) -> Result<Elaborated, NoMemory>

@@ -27,11 +27,11 @@ pub struct FlatDesign<'a> {
 }
 
 /// The design that stands at these places, in one scope under these names.
-pub fn flat_design<'a>(
+pub fn flat_design<'a, 's: 'a>(
     alloc: Global,
-    places: &[Place<'a, 'a>],
+    places: &[Place<'_, 's>],
     names: &'a DottedNames<'a>,
-    interfaces: &Interfaces<'a>,
+    interfaces: &Interfaces<'s>,
 ) -> Result<FlatDesign<'a>, AllocError>
     requires { map names_in names.now.places.items ≡ names_of (spots_of places.now) }
     ensures { IfOk result (λ f. (d : Design) → AreInterfacesOf interfaces.now d.source → IsPlacing d (spots_of places.now)

@@ -22,7 +22,7 @@ use v_renamed::Names;
 use v_syntax::module::{Assignment, Direction, Item};
 
 /// A table without new names.
-fn no_names<'a>(alloc: Global) -> Names<'a>
+fn no_names<'s>(alloc: Global) -> Names<'s>
     ensures { new_name result ≡ same_names }
 {
     Names {
@@ -31,11 +31,11 @@ fn no_names<'a>(alloc: Global) -> Names<'a>
 }
 
 /// What the module at a place drives, instances aside.
-fn own_items<'a>(
-    place: &Place<'a, 'a>,
-    names: &Names<'a>,
+fn own_items<'s>(
+    place: &Place<'_, 's>,
+    names: &Names<'s>,
     alloc: Global,
-) -> Result<Vec<Item<'a>>, AllocError>
+) -> Result<Vec<Item<'s>>, AllocError>
     ensures { IfOk result (λ v. items_of v ≡ own_items (new_name names.now) (spot_of place.now).of_module.items) }
 {
     let mut list = Vec::new(alloc);
@@ -44,11 +44,11 @@ fn own_items<'a>(
 }
 
 /// What the module at each place drives, instances aside.
-fn all_own_items<'a>(
-    places: &[Place<'a, 'a>],
-    names: &Names<'a>,
+fn all_own_items<'s>(
+    places: &[Place<'_, 's>],
+    names: &Names<'s>,
     alloc: Global,
-) -> Result<Vec<Vec<Item<'a>>>, AllocError>
+) -> Result<Vec<Vec<Item<'s>>>, AllocError>
     ensures { IfOk result (λ v. lists_of v.items ≡ own_lists (new_name names.now) (spots_of places.now)) }
 {
     let mut lists = Vec::new(alloc);
@@ -60,12 +60,12 @@ fn all_own_items<'a>(
 }
 
 /// What the outputs of a place's instance drive around it.
-fn outputs_of<'a>(
-    place: &Place<'a, 'a>,
-    names: &Names<'a>,
-    interfaces: &Interfaces<'a>,
+fn outputs_of<'s>(
+    place: &Place<'_, 's>,
+    names: &Names<'s>,
+    interfaces: &Interfaces<'s>,
     alloc: Global,
-) -> Result<Vec<Assignment<'a>>, AllocError>
+) -> Result<Vec<Assignment<'s>>, AllocError>
     ensures { IfOk result (λ v. (source : pure.Source) → AreInterfacesOf interfaces.now source
         → module_named source (spot_of place.now).of_module.module_name ≡ Some (spot_of place.now).of_module
         → assignments_of v.items ≡ spot_links pure.output (new_name names.now) (new_name names.now) (spot_of place.now)) }
@@ -84,11 +84,11 @@ fn outputs_of<'a>(
 }
 
 /// Adds what the outputs of a place's instance drive to the list of the module around it.
-fn add_outputs<'a>(
-    place: &Place<'a, 'a>,
-    names: &Names<'a>,
-    interfaces: &Interfaces<'a>,
-    lists: &mut Vec<Vec<Item<'a>>>,
+fn add_outputs<'s>(
+    place: &Place<'_, 's>,
+    names: &Names<'s>,
+    interfaces: &Interfaces<'s>,
+    lists: &mut Vec<Vec<Item<'s>>>,
     alloc: Global,
 ) -> Result<(), AllocError>
     ensures { OnOk result ((source : pure.Source) → AreInterfacesOf interfaces.now source
@@ -105,11 +105,11 @@ fn add_outputs<'a>(
 }
 
 /// Adds what the outputs of all instances drive, each to the list of the module around it.
-fn add_all_outputs<'a>(
-    places: &[Place<'a, 'a>],
-    names: &Names<'a>,
-    interfaces: &Interfaces<'a>,
-    lists: &mut Vec<Vec<Item<'a>>>,
+fn add_all_outputs<'s>(
+    places: &[Place<'_, 's>],
+    names: &Names<'s>,
+    interfaces: &Interfaces<'s>,
+    lists: &mut Vec<Vec<Item<'s>>>,
     alloc: Global,
 ) -> Result<(), AllocError>
     ensures { OnOk result ((source : pure.Source) → AreInterfacesOf interfaces.now source → AreRowsOf source (length places.now) (spots_of places.now)
@@ -123,11 +123,11 @@ fn add_all_outputs<'a>(
 
 /// What the module at each place drives: its continuous assignments and blocks, and what outputs of its instances drive, as assignments.
 /// The names are the module's own.
-pub fn items_with_outputs<'a>(
+pub fn items_with_outputs<'s>(
     alloc: Global,
-    places: &[Place<'a, 'a>],
-    interfaces: &Interfaces<'a>,
-) -> Result<Vec<Vec<Item<'a>>>, AllocError>
+    places: &[Place<'_, 's>],
+    interfaces: &Interfaces<'s>,
+) -> Result<Vec<Vec<Item<'s>>>, AllocError>
     ensures { IfOk result (λ v. (d : Design) → AreInterfacesOf interfaces.now d.source → IsPlacing d (spots_of places.now)
         → lists_of v.items ≡ with_outputs (spots_of places.now)) }
 {

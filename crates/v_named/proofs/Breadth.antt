@@ -1,7 +1,7 @@
 -- Whether a name is declared with a wide range, by the scopes of the parameters before.
-use Rattle.std.proofs.Common.{◌≡◌, ◌∙◌, refl, sym, ap, ap₂, subst, Bool, true, false, cond, not, ◌&&◌, ◌||◌, ◌==◌, ℕ, suc, ◌+◌, ◌<◌, List, [], ◌∷◌, ◌++◌, length, drop, get_or, map, Option, Some, None, add-one, drop-cons}
+use Rattle.std.proofs.Common.{◌≡◌, ◌∙◌, refl, sym, ap, ap₂, Bool, true, false, cond, not, ◌&&◌, ◌||◌, ℕ, suc, ◌+◌, ◌<◌, List, [], ◌∷◌, ◌++◌, length, drop, get_or, map, Option, Some, None, add-one, drop-cons}
 use mathlib.Core.Path.{fun_ext}
-use Rattle.wb_values.specs.Value.{Name, Entries, entry_of}
+use Rattle.wb_values.specs.Value.{Name, Entries}
 use Rattle.verilog_trees.specs.Syntax as pure
 use Rattle.verilog_trees.specs.Syntax.{Range, PortDeclaration, port, parameter, wires, variables, assign, always, instances, Module}
 use Rattle.verilog_meaning.specs.Expression.{Object, Scope, scope_of, object_or_undeclared, undeclared}

@@ -1,6 +1,5 @@
 -- The parameters that are declared before: one more, and those of a list one after the other.
 use Rattle.std.proofs.Common.{◌≡◌, ◌∙◌, refl, sym, ap, subst, Bool, true, false, cond, ◌||◌, ℕ, suc, ◌+◌, ◌<◌, List, [], ◌∷◌, ◌++◌, length, drop, get_or, map, Option, Some, None, add-one, drop-cons}
-use Rattle.std.specs.List.{list_any}
 use Rattle.wb_values.specs.Value.{Name, same_name, Entries, entry_of}
 use Rattle.wb_values.specs.Choice.{first_of}
 use Rattle.verilog_meaning.specs.Expression.{Object, Scope, scope_of, object_or_undeclared}

@@ -1,5 +1,5 @@
 -- Which kind on names a design breaks first.
-use Rattle.std.proofs.Common.{◌≡◌, ◌∙◌, refl, sym, ap, subst, ℕ, suc, zero, ◌<◌, arith, Bool, true, false, true≢false, cond, ◌||◌, List, [], ◌∷◌, inl, inr, slice_get, Option, Some, None, option_map}
+use Rattle.std.proofs.Common.{◌≡◌, ◌∙◌, refl, sym, ap, subst, ℕ, suc, zero, ◌<◌, arith, Bool, true, false, true≢false, cond, ◌||◌, List, [], ◌∷◌, inl, inr, slice_get, Some, None, option_map}
 use Rattle.std.specs.List.{list_any}
 use Rattle.wb_values.specs.Value.{Name, same_name}
 use Rattle.verilog_trees.specs.Syntax.{Module, Source}
@@ -7,7 +7,7 @@ use Rattle.verilog_meaning.specs.Hierarchy.{Placed, module_named}
 use Rattle.verilog_meaning.specs.Settled.{Design}
 use Rattle.verilog_designs.specs.Known.{known_at, known_constants}
 use Rattle.verilog_designs.specs.Names.{has_undeclared, has_duplicate, has_duplicate_module}
-use Rattle.verilog_designs.specs.Accepted.{DesignKind, kinds, no_top, undeclared, duplicate_name, bad_hierarchy, has_xz, bad_port, bad_constant, width_over_128, bad_select, memory_use, clock_as_data, bad_event_list, blocking_in_clocked, nonblocking_in_comb, latch, bad_driver, undriven, comb_loop, HasNoTop, has_no_clock, HasUndeclared, HasDuplicateName, StandsIn, Breaks, IsRefusedBy}
+use Rattle.verilog_designs.specs.Accepted.{DesignKind, kinds, no_top, undeclared, duplicate_name, bad_hierarchy, has_xz, bad_port, bad_constant, width_over_128, bad_select, memory_use, clock_as_data, bad_event_list, blocking_in_clocked, nonblocking_in_comb, latch, bad_driver, undriven, comb_loop, HasNoTop, has_no_clock, HasDuplicateName, Breaks, IsRefusedBy}
 use Rattle.verilog_unique.proofs.Options.{same_is}
 use Rattle.verilog_unique.proofs.Descent.{IsAmong, among_contains, contains_among}
 use Rattle.v_standing.specs.Standing.{AreStanding}
@@ -125,9 +125,6 @@ named_so (x ∷ source) n m e = chosen (same_name x.module_name n) refl (named_s
     chosen false t f h = f h
 
 -- ---- the rules, one after the other
-
-pub no_module : (d : Design) → module_named d.source d.top ≡ None → IsRefusedBy d no_top
-no_module d e = record { breaks = HasNoTop.no_module e; first = before_first d }
 
 abbrev pub known_top : Module → Placed
 known_top m = record { path = []; of_module = m; constants = known_constants m (λ n. None) }

@@ -1,5 +1,5 @@
 -- The parameters that are declared before a place of a module's text, as a scope.
-use Rattle.std.specs.Prelude.{◌≡◌, Bool, false, cond, ◌||◌, List, [], ◌∷◌, Option, Some, None}
+use Rattle.std.specs.Prelude.{◌≡◌, Bool, false, cond, ◌||◌, List, [], ◌∷◌, Some, None}
 use Rattle.wb_values.specs.Value.{Name, Entries, entry_of}
 use Rattle.verilog_trees.specs.Syntax.{Item, port, parameter, wires, variables, assign, always, instances}
 use Rattle.verilog_meaning.specs.Expression.{Object, Scope, undeclared}

@@ -1,5 +1,5 @@
 //! The parameters of a module that are declared before a place in its text.
-ghost use Rattle.std.specs.Prelude.{◌≡◌, ◌||◌, [], ℕ, List, Bool, map, IfOk};
+ghost use Rattle.std.specs.Prelude.{◌≡◌, ◌||◌, [], Bool, map, IfOk};
 ghost use Rattle.std.proofs.Props.{props};
 ghost use Rattle.wb_values.specs.Value.{Name, same_name};
 ghost use Rattle.verilog_meaning.specs.Hierarchy.{value_names};

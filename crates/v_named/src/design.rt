@@ -1,40 +1,17 @@
 //! The kinds on names of a design, one after the other.
-ghost use Rattle.std.specs.Prelude.{◌≡◌, ◌||◌, None, IfOk};
-ghost use Rattle.std.specs.List.{list_any};
-ghost use Rattle.verilog_meaning.specs.Hierarchy.{module_named};
+ghost use Rattle.std.specs.Prelude.{◌≡◌, None, IfOk};
 ghost use Rattle.verilog_meaning.specs.Settled.{Design};
-ghost use Rattle.verilog_designs.specs.Names.{has_undeclared, has_duplicate, has_duplicate_module};
 ghost use Rattle.v_syntax.specs.Source.{module_of, source_of};
-ghost use Rattle.v_standing.specs.Standing.{modules_of};
-ghost use Rattle.v_named.specs.Names.{IsTopOf, modules_kind, IsNamesKind, IsNamed};
+ghost use Rattle.v_named.specs.Names.{IsTopOf, IsNamesKind, IsNamed};
 
 use crate::clock::has_no_clock;
-use crate::judged::{any_duplicate, any_undeclared};
+use crate::judged::modules_kind;
 use crate::kind::{Named, NamesKind};
 use std::alloc::{AllocError, Global};
 use v_hier::top_of;
 use v_places::places;
 use v_standing::standing;
 use v_syntax::module::{Module, Tree};
-
-/// The first of the kinds that one of these modules breaks, if one does: a name is not declared, or declared twice.
-fn modules_kind<'t, 's>(
-    alloc: Global,
-    tree: &'t Tree<'s>,
-    modules: &Vec<&'t Module<'s>>,
-) -> Result<Option<NamesKind>, AllocError>
-    ensures { IfOk result (λ o. o ≡ modules_kind (list_any (has_undeclared (source_of tree.now)) (modules_of modules.now.items)) (has_duplicate_module (source_of tree.now) || list_any has_duplicate (modules_of modules.now.items))) }
-{
-    let unknown = any_undeclared(alloc, tree, modules)?;
-    if unknown {
-        return Ok(Some(NamesKind::Undeclared));
-    }
-    let twice = any_duplicate(alloc, tree, modules)?;
-    if twice {
-        return Ok(Some(NamesKind::DuplicateName));
-    }
-    Ok(None)
-}
 
 /// The first of the kinds before those on the hierarchy that a design with this top breaks, if it breaks one.
 fn names_kind<'t, 's>(
@@ -50,7 +27,7 @@ fn names_kind<'t, 's>(
         return Ok(Some(NamesKind::NoTop));
     }
     let modules = standing(alloc, tree, top.name)?;
-    let kind = modules_kind(alloc, tree, &modules)?;
+    let kind = modules_kind(modules, tree, alloc)?;
     Ok(kind)
 }
 

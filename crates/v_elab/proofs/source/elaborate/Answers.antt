@@ -1,7 +1,9 @@
-use Rattle.std.proofs.Common.{refl, subst}
+use Rattle.std.proofs.Common.{refl, sym, subst}
 use Rattle.verilog_meaning.specs.Settled.{Design}
 use Rattle.v_syntax.specs.Source.{source_of}
+use Rattle.v_places.specs.Views.{spots_of}
 use Rattle.v_judged.specs.Refusal.{IsJudged}
+use Rattle.v_elab.specs.Flat.{StandsAt}
 use Rattle.v_elab.proofs.source.elaborate.Goals as goal
 
 pub returns-in-Refused-clause-refused : goal.returns-in-Refused-clause-refused
@@ -12,17 +14,8 @@ returns-in-Refused-clause-refused c =
 pub placed_design-requires : goal.placed_design-requires
 placed_design-requires c =
     let d : Design = record { source = source_of c.args.tree.now; top = c.args.top.now; clock = c.args.clock.now } in
-    let h = subst (IsJudged d) c.in-Accepted.is c.in_ok-told.ensures in
-    (d, record { accepted = h.0; of_text = c.requires; is_clock = refl; are_interfaces = c.in_ok-interfaces.ensures; places = h.1 })
-
-pub returns-in_ok-design-in-Accepted-clause-refused : goal.returns-in_ok-design-in-Accepted-clause-refused
-returns-in_ok-design-in-Accepted-clause-refused c =
-    let d : Design = record { source = source_of c.args.tree.now; top = c.args.top.now; clock = c.args.clock.now } in
-    (subst (IsJudged d) c.in-Accepted.is c.in_ok-told.ensures).0
-
-pub returns-in_ok-design-in-Accepted-clause-design : goal.returns-in_ok-design-in-Accepted-clause-design
-returns-in_ok-design-in-Accepted-clause-design c =
-    let d : Design = record { source = source_of c.args.tree.now; top = c.args.top.now; clock = c.args.clock.now } in
-    let h = subst (IsJudged d) c.in-Accepted.is c.in_ok-told.ensures in
-    c.in_ok-design-in-Accepted.ensures d
-    (record { accepted = h.0; of_text = c.requires; is_clock = refl; are_interfaces = c.in_ok-interfaces.ensures; places = h.1 })
+    let h = subst (IsJudged d) c.in-Accepted.is c.in_ok-told.ensures in (
+      d,
+      subst (λ ps. StandsAt c.in_ok-interfaces.interfaces c.args.clock.now (spots_of ps) d) (sym c.deref.ensures.value)
+          (record { accepted = h.0; of_text = c.requires; is_clock = refl; are_interfaces = c.in_ok-interfaces.ensures; places = h.1 }),
+    )

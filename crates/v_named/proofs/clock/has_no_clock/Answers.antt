@@ -1,5 +1,5 @@
 use Rattle.verilog_designs.specs.Known.{known_constants}
-use Rattle.std.proofs.Common.{None, ap, subst, ◌∙◌}
+use Rattle.std.proofs.Common.{None, ap, ◌∙◌}
 use Rattle.verilog_designs.specs.Accepted.{is_wide_clock}
 use Rattle.v_syntax.specs.Source.{module_of}
 use Rattle.v_named.proofs.Breadth.{as_top, no_input, an_input}

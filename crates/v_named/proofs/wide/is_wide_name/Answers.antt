@@ -1,4 +1,4 @@
-use Rattle.std.proofs.Common.{ap, sym, subst, false, [], ◌||◌, ◌∙◌, map}
+use Rattle.std.proofs.Common.{ap, sym, subst, false, ◌||◌, ◌∙◌, map}
 use Rattle.v_syntax.specs.Source.{parameter_of, item_of, module_of}
 use Rattle.v_value.specs.Scope.{objects_of, scope_at}
 use Rattle.verilog_designs.specs.Names.{is_among, parameter_names}
