@@ -160,10 +160,10 @@ fn items_refusal(
 }
 
 /// The first of these kinds whose rule is broken by one of the modules that stand in a design, which are those at these places.
-pub(crate) fn blocks_refusal(
+pub(crate) fn blocks_refusal<'s>(
     alloc: Global,
-    places: &[Place<'_, '_>],
-    interfaces: &Interfaces<'_>,
+    places: &[Place<'_, 's>],
+    interfaces: &Interfaces<'s>,
     clock: &str,
 ) -> Result<Option<DesignKind>, AllocError>
     requires { (d : Design) × IsSoundDesign interfaces.now (spots_of places.now) d × (d.clock ≡ clock.now) }

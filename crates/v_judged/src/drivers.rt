@@ -62,13 +62,13 @@ pub(crate) fn any_bad_driver(
 }
 
 /// The kind on drivers, if one of the modules that stand at these places breaks its rule.
-pub(crate) fn driver_refusal(
+pub(crate) fn driver_refusal<'s>(
     alloc: Global,
-    places: &Vec<Place<'_, '_>>,
-    interfaces: &Interfaces<'_>,
+    places: &[Place<'_, 's>],
+    interfaces: &Interfaces<'s>,
 ) -> Result<Option<DesignKind>, AllocError>
-    requires { (d : Design) × IsSoundDesign interfaces.now (spots_of places.now.items) d }
-    ensures { IfOk result (λ k. (d : Design) → IsSoundDesign interfaces.now (spots_of places.now.items) d → IsFirst d (bad_driver ∷ []) k) }
+    requires { (d : Design) × IsSoundDesign interfaces.now (spots_of places.now) d }
+    ensures { IfOk result (λ k. (d : Design) → IsSoundDesign interfaces.now (spots_of places.now) d → IsFirst d (bad_driver ∷ []) k) }
 {
     places_are_placed();
     bad_drivers_are_at_places();

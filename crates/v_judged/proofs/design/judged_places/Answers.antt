@@ -12,6 +12,6 @@ returns-in-Some c = λ d h k.
 pub returns-in-None : goal.returns-in-None
 returns-in-None c = λ d h k. (
   subst (IsDesignRefusal d) c.in-None.is
-  (answered d c.in_ok-kind.kind (joined d name_kinds later_kinds c.in_ok-kind.kind h.names (c.in_ok-kind.ensures d h k))),
+      (answered d c.in_ok-kind.kind (joined d name_kinds later_kinds c.in_ok-kind.kind h.names (c.in_ok-kind.ensures d h k))),
   h.places,
 )
