@@ -46,7 +46,7 @@ module _ {X : Type 0} (view : X → Spot) (IsSo : Spot → Type 0) (xs : List X)
   spot_passed r d b lt is told e known = further b (IsSo (view r)) (SomeLeft (i + 1)) (SomeSpot IsSo (map view xs)) told (split r d lt is known) e
 
   pub no_spot : length xs ≤ i → AreLeft → IsTrue false ↔ SomeSpot IsSo (map view xs)
-  no_spot le known = no_more (SomeSpot IsSo (map view xs)) (subst (λ S. SomeSpot IsSo (map view xs) ↔ S) (at_drop_all (λ ys. SomeSpot IsSo (map view ys)) xs i le) known)
+  no_spot le known = no_more (SomeSpot IsSo (map view xs)) (subst (λ ys. SomeSpot IsSo (map view xs) ↔ SomeSpot IsSo (map view ys)) (drop_all i xs le) known)
 
 -- ---- tests, and rules that are gathered
 

@@ -43,6 +43,13 @@ fn has_bad_driver_at(
     Ok(twice)
 }
 
+/// The items of a list.
+fn items_in<'x, 'a>(list: &'x Vec<Item<'a>>) -> &'x [Item<'a>]
+    ensures { result.now ≡ list.now.items }
+{
+    list
+}
+
 /// Whether it is so at one of these places, where each module drives these.
 pub(crate) fn any_bad_driver(
     alloc: Global,
@@ -54,7 +61,7 @@ pub(crate) fn any_bad_driver(
     ensures { IfOk result (λ r. IsTrue r ↔ SomeWith HasBadDriverAt (lists_of lists.now) (spots_of places.now)) }
 {
     for (number, place) in places.iter().enumerate() {
-        if has_bad_driver_at(alloc, place, &lists[number])? {
+        if has_bad_driver_at(alloc, place, items_in(&lists[number]))? {
             return Ok(true);
         }
     }

@@ -13,24 +13,24 @@ loop-number-init c = ((λ x. x), (λ x. x))
 pub has_bad_driver_at-requires : goal.has_bad_driver_at-requires
 has_bad_driver_at-requires c =
     let same : length c.args.lists.now ≡ length c.args.places.now = c.requires.as_many in
-    subst (λ xs. IsDrivenSpot (map item_of xs) (spot_of c.place-item.result)) (sym c.deref.ensures.value)
-    (driven_at spot_of items_of c.args.lists.now c.args.places.now c.loop-number.number c.place-item.result _ c.index.result.now _
-    (omega arith) (omega (arith, same)) c.place-item.is c.index.ensures c.requires.ready)
+    subst (λ xs. IsDrivenSpot (map item_of xs) (spot_of c.index-places-number.result)) (sym c.items_in.ensures)
+    (driven_at spot_of items_of c.args.lists.now c.args.places.now c.loop-number.number c.index-places-number.result _ c.index-lists-number.result _
+    (omega arith) (omega (arith, same)) c.index-places-number.is c.index-lists-number.is c.requires.ready)
 
 pub loop-number-preserved : goal.loop-number-preserved
 loop-number-preserved c =
     let same : length c.args.lists.now ≡ length c.args.places.now = c.requires.as_many in
-    with_passed spot_of items_of HasBadDriverAt c.args.places.now c.args.lists.now c.loop-number.number c.place-item.result _ c.index.result.now _ _
-    (omega arith) (omega (arith, same)) c.place-item.is c.index.ensures
-    (subst (λ xs. IsTrue c.in_ok-has_bad_driver_at.value ↔ HasBadDriverAt (map item_of xs) (spot_of c.place-item.result)) c.deref.ensures.value c.in_ok-has_bad_driver_at.ensures)
+    with_passed spot_of items_of HasBadDriverAt c.args.places.now c.args.lists.now c.loop-number.number c.index-places-number.result _ c.index-lists-number.result _ _
+    (omega arith) (omega (arith, same)) c.index-places-number.is c.index-lists-number.is
+    (subst (λ xs. IsTrue c.in_ok-has_bad_driver_at.value ↔ HasBadDriverAt (map item_of xs) (spot_of c.index-places-number.result)) c.items_in.ensures c.in_ok-has_bad_driver_at.ensures)
     c.if-branch.false c.loop-number.invariant
 
 pub returns-then-branch : goal.returns-then-branch
 returns-then-branch c =
     let same : length c.args.lists.now ≡ length c.args.places.now = c.requires.as_many in
-    with_found spot_of items_of HasBadDriverAt c.args.places.now c.args.lists.now c.loop-number.number c.place-item.result _ c.index.result.now _ _
-    (omega arith) (omega (arith, same)) c.place-item.is c.index.ensures
-    (subst (λ xs. IsTrue c.in_ok-has_bad_driver_at.value ↔ HasBadDriverAt (map item_of xs) (spot_of c.place-item.result)) c.deref.ensures.value c.in_ok-has_bad_driver_at.ensures)
+    with_found spot_of items_of HasBadDriverAt c.args.places.now c.args.lists.now c.loop-number.number c.index-places-number.result _ c.index-lists-number.result _ _
+    (omega arith) (omega (arith, same)) c.index-places-number.is c.index-lists-number.is
+    (subst (λ xs. IsTrue c.in_ok-has_bad_driver_at.value ↔ HasBadDriverAt (map item_of xs) (spot_of c.index-places-number.result)) c.items_in.ensures c.in_ok-has_bad_driver_at.ensures)
     c.if-branch.true c.loop-number.invariant
 
 pub returns : goal.returns
