@@ -1,5 +1,5 @@
 //! The kind on drivers, module by module: two drivers of one bit, and names that may not be assigned.
-ghost use Rattle.std.specs.Prelude.{◌≡◌, ◌↔◌, ◌∷◌, [], length, map, IsTrue, IfOk};
+ghost use Rattle.std.specs.Prelude.{◌≡◌, ◌↔◌, ◌<◌, ◌∷◌, [], Some, length, map, slice_get, IsTrue, IfOk};
 ghost use Rattle.verilog_meaning.specs.Settled.{Design};
 ghost use Rattle.verilog_designs.specs.Accepted.{bad_driver};
 ghost use Rattle.v_syntax.specs.Source.{item_of};
@@ -43,11 +43,12 @@ fn has_bad_driver_at(
     Ok(twice)
 }
 
-/// The items of a list.
-fn items_in<'x, 'a>(list: &'x Vec<Item<'a>>) -> &'x [Item<'a>]
-    ensures { result.now ≡ list.now.items }
+/// The items of one of these lists.
+fn list_at<'x, 'a>(lists: &'x [Vec<Item<'a>>], number: usize) -> &'x [Item<'a>]
+    requires { number < length lists.now }
+    ensures { slice_get (lists_of lists.now) number ≡ Some (map item_of result.now) }
 {
-    list
+    &lists[number]
 }
 
 /// Whether it is so at one of these places, where each module drives these.
@@ -61,7 +62,7 @@ pub(crate) fn any_bad_driver(
     ensures { IfOk result (λ r. IsTrue r ↔ SomeWith HasBadDriverAt (lists_of lists.now) (spots_of places.now)) }
 {
     for (number, place) in places.iter().enumerate() {
-        if has_bad_driver_at(alloc, place, items_in(&lists[number]))? {
+        if has_bad_driver_at(alloc, place, list_at(lists, number))? {
             return Ok(true);
         }
     }
