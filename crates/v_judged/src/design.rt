@@ -71,6 +71,20 @@ fn places_refusal<'s>(
     Ok(drivers)
 }
 
+/// The same of places that are lent out of the list that owns them. They stay as they are.
+fn lent_refusal<'s>(
+    alloc: Global,
+    places: &mut [Place<'_, 's>],
+    interfaces: &Interfaces<'s>,
+    clock: &str,
+) -> Result<Option<DesignKind>, AllocError>
+    requires { (d : Design) × IsNamedDesign interfaces.now (spots_of places.now) d × (d.clock ≡ clock.now) }
+    ensures same { places.new ≡ places.old }
+    ensures refusal { IfOk result (λ k. (d : Design) → IsNamedDesign interfaces.now (spots_of places.old) d → d.clock ≡ clock.now → IsFirst d later_kinds k) }
+{
+    places_refusal(alloc, places, interfaces, clock)
+}
+
 /// What is told of the design that stands at these places.
 fn judged_places<'t, 's>(
     alloc: Global,
@@ -82,7 +96,7 @@ fn judged_places<'t, 's>(
     ensures { IfOk result (λ j. (d : Design) → IsNamedDesign interfaces.now (spots_of places.entry.items) d → d.clock ≡ clock.now → IsJudged d j) }
 {
     let mut list = places;
-    let kind = places_refusal(alloc, list.as_mut_slice(), interfaces, clock)?;
+    let kind = lent_refusal(alloc, list.as_mut_slice(), interfaces, clock)?;
     match kind {
         Some(kind) => Ok(Judged::Refused(kind)),
         None => Ok(Judged::Accepted(list)),

@@ -20,8 +20,8 @@ judged_places-requires c =
     let n = subst (IsNamed d) c.in-Places.is c.in_ok-named.ensures in
     (d, record { of_text = c.requires; interfaces = c.in_ok-interfaces.ensures; names = none_named d n.0 n.1 n.2 n.3; places = n.4 }, refl)
 
-pub returns-in_ok-told-in-Places : goal.returns-in_ok-told-in-Places
-returns-in_ok-told-in-Places c =
+pub returns : goal.returns
+returns c =
     let d : Design = record { source = source_of c.args.tree.now; top = c.args.top.now; clock = c.args.clock.now } in
     let n = subst (IsNamed d) c.in-Places.is c.in_ok-named.ensures in
     c.in_ok-told-in-Places.ensures d (record { of_text = c.requires; interfaces = c.in_ok-interfaces.ensures; names = none_named d n.0 n.1 n.2 n.3; places = n.4 }) refl
