@@ -4,4 +4,3 @@ mod Sound
 mod Listed
 mod Loops
 mod Asking
-mod Lent

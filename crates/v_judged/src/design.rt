@@ -71,38 +71,6 @@ fn places_refusal<'s>(
     Ok(drivers)
 }
 
-/// The same of places that are lent out of the list that owns them. They stay as they are.
-fn lent_refusal<'s>(
-    alloc: Global,
-    places: &mut [Place<'_, 's>],
-    interfaces: &Interfaces<'s>,
-    clock: &str,
-) -> Result<Option<DesignKind>, AllocError>
-    requires { (d : Design) × IsNamedDesign interfaces.now (spots_of places.now) d × (d.clock ≡ clock.now) }
-    ensures same { places.new ≡ places.old }
-    ensures refusal { IfOk result (λ k. (d : Design) → IsNamedDesign interfaces.now (spots_of places.old) d → d.clock ≡ clock.now → IsFirst d later_kinds k) }
-{
-    places_refusal(alloc, places, interfaces, clock)
-}
-
-/// What is told of the design that stands at these places.
-fn judged_places<'t, 's>(
-    alloc: Global,
-    places: Vec<Place<'t, 's>>,
-    interfaces: &Interfaces<'s>,
-    clock: &str,
-) -> Result<Judged<'t, 's>, AllocError>
-    requires { (d : Design) × IsNamedDesign interfaces.now (spots_of places.items) d × (d.clock ≡ clock.now) }
-    ensures { IfOk result (λ j. (d : Design) → IsNamedDesign interfaces.now (spots_of places.entry.items) d → d.clock ≡ clock.now → IsJudged d j) }
-{
-    let mut list = places;
-    let kind = lent_refusal(alloc, list.as_mut_slice(), interfaces, clock)?;
-    match kind {
-        Some(kind) => Ok(Judged::Refused(kind)),
-        None => Ok(Judged::Accepted(list)),
-    }
-}
-
 /// The design, judged by all rules: the first kind, in their order, whose rule it breaks, or all modules that stand in it. The design is the
 /// module `top` of the tree, with the clock `clock`. The tree is one of a text: its numbers fit their widths, parts have bits, and names
 /// have no dots.
@@ -120,8 +88,11 @@ pub fn judged<'t, 's>(
     match named {
         Named::Refused(kind) => Ok(Judged::Refused(of_names(kind))),
         Named::Places(places) => {
-            let told = judged_places(alloc, places, &interfaces, clock)?;
-            Ok(told)
+            let kind = places_refusal(alloc, &places, &interfaces, clock)?;
+            match kind {
+                Some(kind) => Ok(Judged::Refused(kind)),
+                None => Ok(Judged::Accepted(places)),
+            }
         }
     }
 }

@@ -1,4 +1,4 @@
-use Rattle.std.proofs.Common.{◌∙◌, sym, subst, Ok}
+use Rattle.std.proofs.Common.{sym, subst}
 use Rattle.std.specs.Prelude.{IfOk}
 use Rattle.verilog_meaning.specs.Settled.{Design}
 use Rattle.v_syntax.specs.Source.{source_of}

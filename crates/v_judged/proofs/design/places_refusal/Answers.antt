@@ -1,7 +1,7 @@
 use Rattle.std.proofs.Common.{◌∙◌, sym, subst, ◌++◌}
 use Rattle.v_places.specs.Views.{spots_of}
 use Rattle.v_judged.specs.First.{IsFirst, rule_kinds, block_kinds, driver_kinds}
-use Rattle.v_judged.specs.Standing.{IsNamedDesign, IsSoundDesign}
+use Rattle.v_judged.specs.Standing.{IsSoundDesign}
 use Rattle.v_judged.proofs.First.{joined, kept, none_is}
 use Rattle.v_judged.proofs.design.places_refusal.Goals as goal
 

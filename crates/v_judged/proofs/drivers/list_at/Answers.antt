@@ -1,4 +1,4 @@
-use Rattle.std.proofs.Common.{◌≡◌, ◌∙◌, sym, subst, map, slice_get, Some}
+use Rattle.std.proofs.Common.{◌≡◌, sym, subst, map, slice_get, Some}
 use Rattle.v_syntax.specs.Source.{item_of}
 use Rattle.v_flat.specs.Views.{items_of, lists_of}
 use Rattle.v_judged.proofs.Loops.{got}

@@ -1,13 +1,11 @@
-use Rattle.std.proofs.Common.{◌≡◌, ◌∙◌, ap, sym, subst, map}
+use Rattle.std.proofs.Common.{subst, map}
 use Rattle.std.specs.Prelude.{◌↔◌}
 use Rattle.verilog_designs.specs.Drivers.{HasUndriven}
 use Rattle.v_syntax.specs.Source.{item_of}
 use Rattle.v_value.specs.Scope.{scope_at}
 use Rattle.v_undriven.specs.Undriven.{HasUndrivenBit}
 use Rattle.v_places.specs.Views.{spots_of}
-use Rattle.v_flat.specs.Entries.{names_of}
-use Rattle.v_flat.specs.Views.{names_in}
-use Rattle.v_flat.specs.Whole.{IsPlacing, IsFlatDesign}
+use Rattle.v_flat.specs.Whole.{IsFlatDesign}
 use Rattle.v_judged.proofs.Sound.{sound_places, placing}
 use Rattle.v_judged.proofs.flat.dotted_refusal.Goals as goal
 

@@ -1,5 +1,4 @@
-use Rattle.v_places.specs.Views.{spot_of, spots_of}
-use Rattle.v_flat.specs.Entries.{names_of}
+use Rattle.v_places.specs.Views.{spot_of}
 use Rattle.v_judged.proofs.Sound.{some_first, first_is, not_empty}
 use Rattle.v_judged.proofs.flat.one_scope_refusal.Goals as goal
 

@@ -1,4 +1,4 @@
-use Rattle.std.proofs.Common.{arith, sym}
+use Rattle.std.proofs.Common.{arith}
 use Rattle.v_places.specs.Views.{spot_of, spots_of}
 use Rattle.v_judged.specs.Rules.{all_rules}
 use Rattle.v_judged.proofs.Loops.{gathered, all_gathered}
