@@ -1,6 +1,6 @@
 -- The rules that one of some places breaks are those that some module of the design breaks.
 use Rattle.std.proofs.Common.{◌≡◌, ◌∙◌, refl, ap, sym, Bool, true, false, ◌||◌, List, [], ◌∷◌, Option, Some, None, cond}
-use Rattle.std.specs.Prelude.{◌↔◌, IsTrue}
+use Rattle.std.specs.Prelude.{IsTrue}
 use Rattle.std.specs.List.{list_any}
 use Rattle.verilog_trees.specs.Syntax.{Source}
 use Rattle.verilog_rules.specs.Expression as rules

@@ -1,6 +1,5 @@
 -- Whether an item of a list is found.
 use Rattle.std.proofs.Common.{◌≡◌, ◌∙◌, ◌+◌, ℕ, suc, refl, ap, arith, nat_lt, position, Bool, true, false, cond, not, ◌||◌, List, [], ◌∷◌, map, length, Some, None, is_some}
-
 use Rattle.std.specs.List.{list_any, position_or_len}
 use Rattle.std.proofs.lemmas.Bool.Decides.{nat_tests}
 

@@ -1,9 +1,10 @@
 -- What is so at one place of a list, where the places are asked one after the other.
-use Rattle.std.proofs.Common.{◌≡◌, ◌∙◌, ◌<◌, ◌≤◌, ◌+◌, ℕ, zero, suc, ap, sym, subst, arith, inl, inr, Bool, true, false, true≢false, ◌⊎◌, ◌||◌, List, [], ◌∷◌, map, length, drop, get_or, refl}
+use Rattle.std.proofs.Common.{◌≡◌, ◌∙◌, ◌<◌, ◌≤◌, ◌+◌, ℕ, zero, suc, ap, sym, subst, arith, inl, inr, Bool, true, false, true≢false, ◌⊎◌, ◌||◌, List, [], ◌∷◌, map, length, drop, get_or, slice_get, Some, refl}
 use Rattle.std.specs.Prelude.{◌↔◌, IsTrue}
 use Rattle.std.specs.List.{list_any}
 use Rattle.std.proofs.lemmas.List.{drop_more, at_drop_all, drop_all}
 use Rattle.verilog_trees.specs.Syntax.{Item, Source}
+use Rattle.v_scopes.proofs.Parts.{some_is}
 use Rattle.v_size.specs.declared.rule.Broken.{Broken}
 use Rattle.v_size.specs.Rule.{both}
 use Rattle.v_places.specs.Below.{Spot}
@@ -46,7 +47,7 @@ module _ {X : Type 0} (view : X → Spot) (IsSo : Spot → Type 0) (xs : List X)
   spot_passed r d b lt is told e known = further b (IsSo (view r)) (SomeLeft (i + 1)) (SomeSpot IsSo (map view xs)) told (split r d lt is known) e
 
   pub no_spot : length xs ≤ i → AreLeft → IsTrue false ↔ SomeSpot IsSo (map view xs)
-  no_spot le known = no_more (SomeSpot IsSo (map view xs)) (subst (λ S. SomeSpot IsSo (map view xs) ↔ S) (at_drop_all (λ ys. SomeSpot IsSo (map view ys)) xs i le) known)
+  no_spot le known = no_more (SomeSpot IsSo (map view xs)) (subst (λ ys. SomeSpot IsSo (map view xs) ↔ SomeSpot IsSo (map view ys)) (drop_all i xs le) known)
 
 -- ---- tests, and rules that are gathered
 
@@ -77,6 +78,20 @@ module _ {X : Type 0} (view : X → Spot) (xs : List X) (i : ℕ) where
     pub all_gathered : length xs ≤ i → found ≡ all
     all_gathered le = sym (known ∙ at_drop_all (λ ys. rules_after source found (map view ys)) xs i le)
 
+-- ---- one of a list
+
+pub got : {Y A : Type 0} (part : Y → A) (ys : List Y) (i : ℕ) (s e : Y) → i < length ys → s ≡ get_or ys i e → slice_get (map part ys) i ≡ Some (part s)
+got part [] i s e lt is = absurd (omega (arith, lt))
+got part (y ∷ ys) zero s e lt is = ap (λ u. Some (part u)) (sym is)
+got part (y ∷ ys) (suc i) s e lt is = got part ys i s e (omega (arith, lt)) is
+
+parts_at : {Y A : Type 0} (part : Y → A) (ys : List Y) (i : ℕ) (q : A) → i < length ys → slice_get (map part ys) i ≡ Some q
+    → map part (drop i ys) ≡ (q ∷ map part (drop (i + 1) ys))
+parts_at part [] i q lt at = absurd (omega (arith, lt))
+parts_at part (y ∷ ys) i q lt at =
+    let one = sym (got part (y ∷ ys) i (get_or (y ∷ ys) i y) y lt refl) ∙ at in
+    ap (map part) (drop_more (y ∷ ys) i y lt) ∙ ap (λ u. u ∷ map part (drop (i + 1) (y ∷ ys))) (some_is (part (get_or (y ∷ ys) i y)) q one)
+
 -- ---- places with one of a list besides
 
 module _ {X Y A : Type 0} (view : X → Spot) (part : Y → A) (IsSo : A → Spot → Type 0) (xs : List X) (ys : List Y) (i : ℕ) where
@@ -89,19 +104,19 @@ module _ {X Y A : Type 0} (view : X → Spot) (part : Y → A) (IsSo : A → Spo
   abbrev AreLeftWith : Type 0
   AreLeftWith = AllWith ↔ LeftWith i
 
-  split_with : (r d : X) (s e : Y) → i < length xs → i < length ys → r ≡ get_or xs i d → s ≡ get_or ys i e → AreLeftWith
-      → AllWith ↔ (IsSo (part s) (view r) ⊎ LeftWith (i + 1))
-  split_with r d s e lt within is its known =
-      subst (λ us. AllWith ↔ SomeWith IsSo (map part us) (map view (r ∷ drop (i + 1) xs))) (drop_more ys i e within ∙ ap (λ y. y ∷ drop (i + 1) ys) (sym its))
+  split_with : (r d : X) (q : A) → i < length xs → i < length ys → r ≡ get_or xs i d → slice_get (map part ys) i ≡ Some q → AreLeftWith
+      → AllWith ↔ (IsSo q (view r) ⊎ LeftWith (i + 1))
+  split_with r d q lt within is its known =
+      subst (λ us. AllWith ↔ SomeWith IsSo us (map view (r ∷ drop (i + 1) xs))) (parts_at part ys i q within its)
       (subst (λ us. AllWith ↔ SomeWith IsSo (map part (drop i ys)) (map view us)) (drop_more xs i d lt ∙ ap (λ y. y ∷ drop (i + 1) xs) (sym is)) known)
 
-  pub with_found : (r d : X) (s e : Y) (b : Bool) → i < length xs → i < length ys → r ≡ get_or xs i d → s ≡ get_or ys i e
-      → IsTrue b ↔ IsSo (part s) (view r) → b ≡ true → AreLeftWith → IsTrue true ↔ AllWith
-  with_found r d s e b lt within is its told t known = here b (IsSo (part s) (view r)) (LeftWith (i + 1)) AllWith told (split_with r d s e lt within is its known) t
+  pub with_found : (r d : X) (q : A) (b : Bool) → i < length xs → i < length ys → r ≡ get_or xs i d → slice_get (map part ys) i ≡ Some q
+      → IsTrue b ↔ IsSo q (view r) → b ≡ true → AreLeftWith → IsTrue true ↔ AllWith
+  with_found r d q b lt within is its told t known = here b (IsSo q (view r)) (LeftWith (i + 1)) AllWith told (split_with r d q lt within is its known) t
 
-  pub with_passed : (r d : X) (s e : Y) (b : Bool) → i < length xs → i < length ys → r ≡ get_or xs i d → s ≡ get_or ys i e
-      → IsTrue b ↔ IsSo (part s) (view r) → b ≡ false → AreLeftWith → AllWith ↔ LeftWith (i + 1)
-  with_passed r d s e b lt within is its told t known = further b (IsSo (part s) (view r)) (LeftWith (i + 1)) AllWith told (split_with r d s e lt within is its known) t
+  pub with_passed : (r d : X) (q : A) (b : Bool) → i < length xs → i < length ys → r ≡ get_or xs i d → slice_get (map part ys) i ≡ Some q
+      → IsTrue b ↔ IsSo q (view r) → b ≡ false → AreLeftWith → AllWith ↔ LeftWith (i + 1)
+  with_passed r d q b lt within is its told t known = further b (IsSo q (view r)) (LeftWith (i + 1)) AllWith told (split_with r d q lt within is its known) t
 
   pub none_with : length xs ≤ i → AreLeftWith → IsTrue false ↔ AllWith
   none_with le known = no_more AllWith ((λ a. ended (map part (drop i ys)) (subst (λ us. SomeWith IsSo (map part (drop i ys)) (map view us)) (drop_all i xs le) (known.0 a))), (λ f. absurd f))
@@ -117,10 +132,10 @@ ready_at view [] i r d lt is h = absurd (omega (arith, lt))
 ready_at view (x ∷ xs) zero r d lt is h = subst (λ y. IsReadySpot (view y)) (sym is) h.0
 ready_at view (x ∷ xs) (suc i) r d lt is h = ready_at view xs i r d (omega (arith, lt)) is h.1
 
-pub driven_at : {X Y : Type 0} (view : X → Spot) (part : Y → List Item) (ys : List Y) (xs : List X) (i : ℕ) (r d : X) (s e : Y) → i < length xs → i < length ys
-    → r ≡ get_or xs i d → s ≡ get_or ys i e → AreDrivenSpots (map part ys) (map view xs) → IsDrivenSpot (part s) (view r)
-driven_at view part ys [] i r d s e lt within is its h = absurd (omega (arith, lt))
-driven_at view part [] (x ∷ xs) i r d s e lt within is its h = absurd (omega (arith, within))
-driven_at view part (y ∷ ys) (x ∷ xs) zero r d s e lt within is its h =
-    subst (λ u. IsDrivenSpot (part u) (view r)) (sym its) (subst (λ u. IsDrivenSpot (part y) (view u)) (sym is) h.0)
-driven_at view part (y ∷ ys) (x ∷ xs) (suc i) r d s e lt within is its h = driven_at view part ys xs i r d s e (omega (arith, lt)) (omega (arith, within)) is its h.1
+pub driven_at : {X Y : Type 0} (view : X → Spot) (part : Y → List Item) (ys : List Y) (xs : List X) (i : ℕ) (r d : X) (q : List Item) → i < length xs → i < length ys
+    → r ≡ get_or xs i d → slice_get (map part ys) i ≡ Some q → AreDrivenSpots (map part ys) (map view xs) → IsDrivenSpot q (view r)
+driven_at view part ys [] i r d q lt within is its h = absurd (omega (arith, lt))
+driven_at view part [] (x ∷ xs) i r d q lt within is its h = absurd (omega (arith, within))
+driven_at view part (y ∷ ys) (x ∷ xs) zero r d q lt within is its h =
+    subst (λ u. IsDrivenSpot u (view r)) (some_is (part y) q its) (subst (λ u. IsDrivenSpot (part y) (view u)) (sym is) h.0)
+driven_at view part (y ∷ ys) (x ∷ xs) (suc i) r d q lt within is its h = driven_at view part ys xs i r d q (omega (arith, lt)) (omega (arith, within)) is its h.1

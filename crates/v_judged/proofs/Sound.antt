@@ -1,5 +1,5 @@
 -- What the laws on places ask for holds where none of the kinds on names and rules refuses the design.
-use Rattle.std.proofs.Common.{◌≡◌, ◌∙◌, ◌<◌, arith, refl, ap, sym, get_or, subst, Bool, List, [], ◌∷◌, length, inl, inr, slice_get, Option, Some, None, map}
+use Rattle.std.proofs.Common.{◌≡◌, ◌∙◌, ◌<◌, arith, refl, ap, sym, get_or, subst, Bool, List, [], ◌∷◌, length, slice_get, Option, Some, None, map}
 use Rattle.std.specs.Prelude.{◌↔◌, IsTrue}
 use Rattle.std.specs.List.{list_any}
 use Rattle.wb_values.specs.Value.{Name}
@@ -9,7 +9,7 @@ use Rattle.verilog_meaning.specs.Settled.{Design}
 use Rattle.verilog_designs.specs.Clocks.{HasClockAsData}
 use Rattle.verilog_designs.specs.Paths.{HasBadEventList, HasBlockingInClocked, HasNonblockingInComb, HasLatch}
 use Rattle.verilog_designs.specs.Drivers.{HasBadDriver}
-use Rattle.verilog_designs.specs.Accepted.{no_top, undeclared, duplicate_name, has_xz, bad_port, bad_constant, width_over_128, bad_select, memory_use, Breaks, HasNoTop}
+use Rattle.verilog_designs.specs.Accepted.{no_top, undeclared, duplicate_name, has_xz, bad_port, bad_constant, width_over_128, bad_select, memory_use, HasNoTop}
 use Rattle.flat_rules.specs.Sound.{HasSoundModules, ModulesAreKnown}
 use Rattle.v_scopes.proofs.Parts.{none_some}
 use Rattle.v_instances.specs.declared.interface.Interfaces.{Interfaces}
@@ -19,7 +19,7 @@ use Rattle.v_flat.specs.Whole.{IsPlacing}
 use Rattle.v_clocks.specs.Whole.{AreKnownPlaces, AreClockNets}
 use Rattle.place_kinds.specs.Places.{SomeSpot, SomeWith, HasBadEventListAt, HasLatchAt, HasBadDriverAt, has_blocking_in_clocked, has_nonblocking_in_combinational}
 use Rattle.place_kinds.specs.Known.{HasSoundPlaces, PlacesArePlaced}
-use Rattle.place_kinds.specs.Blocks.{TellClockNets, EventListsAreAtPlaces, BlockingIsAtPlaces, NonblockingIsAtPlaces, LatchesAreAtPlaces}
+use Rattle.place_kinds.specs.Blocks.{EventListsAreAtPlaces, BlockingIsAtPlaces, NonblockingIsAtPlaces, LatchesAreAtPlaces}
 use Rattle.place_kinds.specs.Drivers.{AreAllDriven, ListsAreAllDriven, BadDriversAreAtPlaces}
 use Rattle.v_judged.specs.First.{name_kinds, rule_kinds}
 use Rattle.v_judged.specs.Standing.{IsSoundDesign}

@@ -23,6 +23,7 @@ use v_instances::interface::Interfaces;
 use v_paths::{has_bad_event_list, has_latch};
 use v_places::Place;
 use v_scopes::{Constants, declared_scope, placed_scope};
+use v_syntax::module::{Item, Module};
 use v_value::scope::Scope;
 
 /// The scope of the module at a place.
@@ -37,6 +38,13 @@ pub(crate) fn scope_of<'s>(alloc: Global, place: &Place<'_, 's>) -> Result<Scope
     Ok(scope)
 }
 
+/// The items of a module.
+fn items_of<'x, 's>(within: &'x Module<'s>) -> &'x [Item<'s>]
+    ensures { result.now ≡ within.now.items.items }
+{
+    &within.items
+}
+
 /// Whether a block of the module at a place has a list of events that it may not have, where these are its clock nets.
 fn has_bad_event_list_at(
     alloc: Global,
@@ -47,7 +55,7 @@ fn has_bad_event_list_at(
     ensures { IfOk result (λ r. IsTrue r ↔ HasBadEventListAt (has_name clocks.now) (spot_of place.now)) }
 {
     let scope = scope_of(alloc, place)?;
-    let bad = has_bad_event_list(alloc, &scope, clocks, &place.within.items)?;
+    let bad = has_bad_event_list(alloc, &scope, clocks, items_of(place.within))?;
     Ok(bad)
 }
 
@@ -73,7 +81,7 @@ fn any_bad_event_list(
 fn has_blocking_in_clocked(place: &Place<'_, '_>) -> bool
     ensures { result ≡ has_blocking_in_clocked (spot_of place.now) }
 {
-    first_blocking_in_clocked(&place.within.items).is_some()
+    first_blocking_in_clocked(items_of(place.within)).is_some()
 }
 
 /// Whether one of the modules at these places has one.
@@ -92,7 +100,7 @@ fn any_blocking_in_clocked(places: &[Place<'_, '_>]) -> bool
 fn has_nonblocking_in_combinational(place: &Place<'_, '_>) -> bool
     ensures { result ≡ has_nonblocking_in_combinational (spot_of place.now) }
 {
-    first_nonblocking_in_combinational(&place.within.items).is_some()
+    first_nonblocking_in_combinational(items_of(place.within)).is_some()
 }
 
 /// Whether one of the modules at these places has one.
@@ -113,7 +121,7 @@ fn has_latch_at(alloc: Global, place: &Place<'_, '_>) -> Result<bool, AllocError
     ensures { IfOk result (λ r. IsTrue r ↔ HasLatchAt (spot_of place.now)) }
 {
     let scope = scope_of(alloc, place)?;
-    let found = has_latch(alloc, &scope, &place.within.items)?;
+    let found = has_latch(alloc, &scope, items_of(place.within))?;
     Ok(found)
 }
 
@@ -160,10 +168,10 @@ fn items_refusal(
 }
 
 /// The first of these kinds whose rule is broken by one of the modules that stand in a design, which are those at these places.
-pub(crate) fn blocks_refusal(
+pub(crate) fn blocks_refusal<'s>(
     alloc: Global,
-    places: &[Place<'_, '_>],
-    interfaces: &Interfaces<'_>,
+    places: &[Place<'_, 's>],
+    interfaces: &Interfaces<'s>,
     clock: &str,
 ) -> Result<Option<DesignKind>, AllocError>
     requires { (d : Design) × IsSoundDesign interfaces.now (spots_of places.now) d × (d.clock ≡ clock.now) }

@@ -32,14 +32,14 @@ fn of_names(kind: NamesKind) -> DesignKind
 }
 
 /// The first of the kinds on drivers whose rule is broken by the design that stands at these places.
-fn drivers_refusal(
+fn drivers_refusal<'s>(
     alloc: Global,
-    places: &Vec<Place<'_, '_>>,
-    interfaces: &Interfaces<'_>,
+    places: &[Place<'_, 's>],
+    interfaces: &Interfaces<'s>,
     clock: &str,
 ) -> Result<Option<DesignKind>, AllocError>
-    requires { (d : Design) × IsSoundDesign interfaces.now (spots_of places.now.items) d }
-    ensures { IfOk result (λ k. (d : Design) → IsSoundDesign interfaces.now (spots_of places.now.items) d → d.clock ≡ clock.now → IsFirst d driver_kinds k) }
+    requires { (d : Design) × IsSoundDesign interfaces.now (spots_of places.now) d }
+    ensures { IfOk result (λ k. (d : Design) → IsSoundDesign interfaces.now (spots_of places.now) d → d.clock ≡ clock.now → IsFirst d driver_kinds k) }
 {
     let driver = driver_refusal(alloc, places, interfaces)?;
     if driver.is_some() {
@@ -50,14 +50,14 @@ fn drivers_refusal(
 }
 
 /// The first of the kinds after those on names whose rule is broken by the design that stands at these places.
-fn places_refusal(
+fn places_refusal<'s>(
     alloc: Global,
-    places: &Vec<Place<'_, '_>>,
-    interfaces: &Interfaces<'_>,
+    places: &[Place<'_, 's>],
+    interfaces: &Interfaces<'s>,
     clock: &str,
 ) -> Result<Option<DesignKind>, AllocError>
-    requires { (d : Design) × IsNamedDesign interfaces.now (spots_of places.now.items) d × (d.clock ≡ clock.now) }
-    ensures { IfOk result (λ k. (d : Design) → IsNamedDesign interfaces.now (spots_of places.now.items) d → d.clock ≡ clock.now → IsFirst d later_kinds k) }
+    requires { (d : Design) × IsNamedDesign interfaces.now (spots_of places.now) d × (d.clock ≡ clock.now) }
+    ensures { IfOk result (λ k. (d : Design) → IsNamedDesign interfaces.now (spots_of places.now) d → d.clock ≡ clock.now → IsFirst d later_kinds k) }
 {
     let rules = rules_refusal(alloc, places, interfaces)?;
     if rules.is_some() {
@@ -69,23 +69,6 @@ fn places_refusal(
     }
     let drivers = drivers_refusal(alloc, places, interfaces, clock)?;
     Ok(drivers)
-}
-
-/// What is told of the design that stands at these places.
-fn judged_places<'t, 's>(
-    alloc: Global,
-    places: Vec<Place<'t, 's>>,
-    interfaces: &Interfaces<'_>,
-    clock: &str,
-) -> Result<Judged<'t, 's>, AllocError>
-    requires { (d : Design) × IsNamedDesign interfaces.now (spots_of places.items) d × (d.clock ≡ clock.now) }
-    ensures { IfOk result (λ j. (d : Design) → IsNamedDesign interfaces.now (spots_of places.entry.items) d → d.clock ≡ clock.now → IsJudged d j) }
-{
-    let kind = places_refusal(alloc, &places, interfaces, clock)?;
-    match kind {
-        Some(kind) => Ok(Judged::Refused(kind)),
-        None => Ok(Judged::Accepted(places)),
-    }
 }
 
 /// The design, judged by all rules: the first kind, in their order, whose rule it breaks, or all modules that stand in it. The design is the
@@ -105,8 +88,11 @@ pub fn judged<'t, 's>(
     match named {
         Named::Refused(kind) => Ok(Judged::Refused(of_names(kind))),
         Named::Places(places) => {
-            let told = judged_places(alloc, places, &interfaces, clock)?;
-            Ok(told)
+            let kind = places_refusal(alloc, &places, &interfaces, clock)?;
+            match kind {
+                Some(kind) => Ok(Judged::Refused(kind)),
+                None => Ok(Judged::Accepted(places)),
+            }
         }
     }
 }

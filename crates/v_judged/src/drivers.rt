@@ -1,5 +1,5 @@
 //! The kind on drivers, module by module: two drivers of one bit, and names that may not be assigned.
-ghost use Rattle.std.specs.Prelude.{◌≡◌, ◌↔◌, ◌∷◌, [], length, map, IsTrue, IfOk};
+ghost use Rattle.std.specs.Prelude.{◌≡◌, ◌↔◌, ◌<◌, ◌∷◌, [], Some, length, map, slice_get, IsTrue, IfOk};
 ghost use Rattle.verilog_meaning.specs.Settled.{Design};
 ghost use Rattle.verilog_designs.specs.Accepted.{bad_driver};
 ghost use Rattle.v_syntax.specs.Source.{item_of};
@@ -43,6 +43,14 @@ fn has_bad_driver_at(
     Ok(twice)
 }
 
+/// The items of one of these lists.
+fn list_at<'x, 'a>(lists: &'x [Vec<Item<'a>>], number: usize) -> &'x [Item<'a>]
+    requires { number < length lists.now }
+    ensures { slice_get (lists_of lists.now) number ≡ Some (map item_of result.now) }
+{
+    &lists[number]
+}
+
 /// Whether it is so at one of these places, where each module drives these.
 pub(crate) fn any_bad_driver(
     alloc: Global,
@@ -54,7 +62,7 @@ pub(crate) fn any_bad_driver(
     ensures { IfOk result (λ r. IsTrue r ↔ SomeWith HasBadDriverAt (lists_of lists.now) (spots_of places.now)) }
 {
     for (number, place) in places.iter().enumerate() {
-        if has_bad_driver_at(alloc, place, &lists[number])? {
+        if has_bad_driver_at(alloc, place, list_at(lists, number))? {
             return Ok(true);
         }
     }
@@ -62,13 +70,13 @@ pub(crate) fn any_bad_driver(
 }
 
 /// The kind on drivers, if one of the modules that stand at these places breaks its rule.
-pub(crate) fn driver_refusal(
+pub(crate) fn driver_refusal<'s>(
     alloc: Global,
-    places: &Vec<Place<'_, '_>>,
-    interfaces: &Interfaces<'_>,
+    places: &[Place<'_, 's>],
+    interfaces: &Interfaces<'s>,
 ) -> Result<Option<DesignKind>, AllocError>
-    requires { (d : Design) × IsSoundDesign interfaces.now (spots_of places.now.items) d }
-    ensures { IfOk result (λ k. (d : Design) → IsSoundDesign interfaces.now (spots_of places.now.items) d → IsFirst d (bad_driver ∷ []) k) }
+    requires { (d : Design) × IsSoundDesign interfaces.now (spots_of places.now) d }
+    ensures { IfOk result (λ k. (d : Design) → IsSoundDesign interfaces.now (spots_of places.now) d → IsFirst d (bad_driver ∷ []) k) }
 {
     places_are_placed();
     bad_drivers_are_at_places();

@@ -38,10 +38,10 @@ fn names_of<'s>(alloc: Global, place: &Place<'_, 's>) -> Result<ModuleScope<'s>,
 }
 
 /// The first of these kinds whose rule a design breaks that is this one in one scope, whose top declares these names.
-fn flat_refusal<'a>(
+fn flat_refusal<'n, 's: 'n>(
     alloc: Global,
-    flat: &FlatDesign<'a>,
-    names: &ModuleScope<'a>,
+    flat: &FlatDesign<'n>,
+    names: &ModuleScope<'s>,
     clock: &str,
 ) -> Result<Option<DesignKind>, AllocError>
     requires { FlatIsReady (scope_at flat.now.scope) (map item_of flat.now.items.items) }
@@ -61,17 +61,17 @@ fn flat_refusal<'a>(
 }
 
 /// The same of the design that stands at these places, where its names have these dotted names.
-fn dotted_refusal(
+fn dotted_refusal<'s>(
     alloc: Global,
-    places: &Vec<Place<'_, '_>>,
-    dotted: &DottedNames<'_>,
-    top: &ModuleScope<'_>,
-    interfaces: &Interfaces<'_>,
+    places: &[Place<'_, 's>],
+    dotted: &DottedNames<'s>,
+    top: &ModuleScope<'s>,
+    interfaces: &Interfaces<'s>,
     clock: &str,
 ) -> Result<Option<DesignKind>, AllocError>
-    requires names { map names_in dotted.now.places.items ≡ names_of (spots_of places.now.items) }
-    requires sound { (d : Design) × IsSoundDesign interfaces.now (spots_of places.now.items) d }
-    ensures { IfOk result (λ k. (d : Design) (x : Spot) → IsSoundDesign interfaces.now (spots_of places.now.items) d → slice_get (spots_of places.now.items) 0 ≡ Some x
+    requires names { map names_in dotted.now.places.items ≡ names_of (spots_of places.now) }
+    requires sound { (d : Design) × IsSoundDesign interfaces.now (spots_of places.now) d }
+    ensures { IfOk result (λ k. (d : Design) (x : Spot) → IsSoundDesign interfaces.now (spots_of places.now) d → slice_get (spots_of places.now) 0 ≡ Some x
         → HasNamesOf top.now x.of_module → d.clock ≡ clock.now → IsFirst d flat_kinds k) }
 {
     places_are_placed();
@@ -83,14 +83,14 @@ fn dotted_refusal(
 
 /// The first of the kinds on bits without drivers and on loops whose rule is broken by the design that stands at these places, of which the
 /// first is its top.
-pub(crate) fn one_scope_refusal(
+pub(crate) fn one_scope_refusal<'s>(
     alloc: Global,
-    places: &Vec<Place<'_, '_>>,
-    interfaces: &Interfaces<'_>,
+    places: &[Place<'_, 's>],
+    interfaces: &Interfaces<'s>,
     clock: &str,
 ) -> Result<Option<DesignKind>, AllocError>
-    requires { (d : Design) × IsSoundDesign interfaces.now (spots_of places.now.items) d }
-    ensures { IfOk result (λ k. (d : Design) → IsSoundDesign interfaces.now (spots_of places.now.items) d → d.clock ≡ clock.now → IsFirst d flat_kinds k) }
+    requires { (d : Design) × IsSoundDesign interfaces.now (spots_of places.now) d }
+    ensures { IfOk result (λ k. (d : Design) → IsSoundDesign interfaces.now (spots_of places.now) d → d.clock ≡ clock.now → IsFirst d flat_kinds k) }
 {
     let names = names_of(alloc, &places[0])?;
     let dotted = dotted_names(alloc, places)?;

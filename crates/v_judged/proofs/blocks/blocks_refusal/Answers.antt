@@ -21,13 +21,13 @@ returns-then-data c = λ d h k.
     let spots = spots_of c.args.places.now in
     let known = known_places _ spots d h c.sound_modules_are_known.ensures in
     let own = c.in_ok-nets.ensures d known h.named.interfaces k in
-    let data = clock_so _ spots d h _ (c.in_ok-data.ensures d known h.named.interfaces (subst (λ ns. AreClockNets d spots (sets_of ns)) (sym c.deref.ensures.value) own)) in
-    inl (refl, data.0 c.if-data.true)
+    let told = clock_so _ spots d h _ (c.in_ok-data.ensures d known h.named.interfaces (subst (λ ns. AreClockNets d spots (sets_of ns)) (sym c.deref.ensures.value) own)) in
+    inl (refl, told.0 c.if-data.true)
 
 pub returns : goal.returns
 returns c = λ d h k.
     let spots = spots_of c.args.places.now in
     let known = known_places _ spots d h c.sound_modules_are_known.ensures in
     let own = c.in_ok-nets.ensures d known h.named.interfaces k in
-    let data = clock_so _ spots d h _ (c.in_ok-data.ensures d known h.named.interfaces (subst (λ ns. AreClockNets d spots (sets_of ns)) (sym c.deref.ensures.value) own)) in
-    inr (data.1 c.if-data.false, c.in_ok-kind.ensures d c.args.interfaces.now h (subst (λ ns. AreClockNets d spots (sets_of ns)) (sym c.deref-2.ensures.value) own))
+    let told = clock_so _ spots d h _ (c.in_ok-data.ensures d known h.named.interfaces (subst (λ ns. AreClockNets d spots (sets_of ns)) (sym c.deref.ensures.value) own)) in
+    inr (told.1 c.if-data.false, c.in_ok-kind.ensures d c.args.interfaces.now h (subst (λ ns. AreClockNets d spots (sets_of ns)) (sym c.deref-2.ensures.value) own))

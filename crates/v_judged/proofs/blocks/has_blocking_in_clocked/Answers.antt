@@ -7,5 +7,5 @@ use Rattle.v_judged.proofs.blocks.has_blocking_in_clocked.Goals as goal
 
 pub returns : goal.returns
 returns c =
-    c.is_some.ensures ∙ (ap is_some c.first_blocking_in_clocked.ensures ∙ (position_so is_blocking_in_clocked item_of c.deref.result.now
-    ∙ ap (λ xs. list_any is_blocking_in_clocked (map item_of xs)) c.deref.ensures.value))
+    c.is_some.ensures ∙ (ap is_some c.first_blocking_in_clocked.ensures ∙ (position_so is_blocking_in_clocked item_of c.items_of.result.now
+    ∙ ap (λ xs. list_any is_blocking_in_clocked (map item_of xs)) c.items_of.ensures))

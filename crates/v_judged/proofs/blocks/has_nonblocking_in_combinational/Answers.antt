@@ -7,5 +7,5 @@ use Rattle.v_judged.proofs.blocks.has_nonblocking_in_combinational.Goals as goal
 
 pub returns : goal.returns
 returns c =
-    c.is_some.ensures ∙ (ap is_some c.first_nonblocking_in_combinational.ensures ∙ (position_so is_nonblocking_in_combinational item_of c.deref.result.now
-    ∙ ap (λ xs. list_any is_nonblocking_in_combinational (map item_of xs)) c.deref.ensures.value))
+    c.is_some.ensures ∙ (ap is_some c.first_nonblocking_in_combinational.ensures ∙ (position_so is_nonblocking_in_combinational item_of c.items_of.result.now
+    ∙ ap (λ xs. list_any is_nonblocking_in_combinational (map item_of xs)) c.items_of.ensures))

@@ -31,8 +31,10 @@ returns-then-latched c = λ d t h own.
     let blocked = blocked_so t (spots_of c.args.places.now) d h laws.blocking _ c.any_blocking_in_clocked.ensures in
     let waiting = waiting_so t (spots_of c.args.places.now) d h laws.nonblocking _ c.any_nonblocking_in_combinational.ensures in
     let latch = latch_so t (spots_of c.args.places.now) d h laws.latches _ c.in_ok-latched.ensures in
-    inr (events.1 c.if-events.false,
-    inr (blocked.1 c.if-any_blocking_in_clocked.false, inr (waiting.1 c.if-any_nonblocking_in_combinational.false, inl (refl, latch.0 c.if-latched.true))))
+    inr (
+      events.1 c.if-events.false,
+      inr (blocked.1 c.if-any_blocking_in_clocked.false, inr (waiting.1 c.if-any_nonblocking_in_combinational.false, inl (refl, latch.0 c.if-latched.true))),
+    )
 
 pub returns : goal.returns
 returns c = λ d t h own.
@@ -41,5 +43,7 @@ returns c = λ d t h own.
     let blocked = blocked_so t (spots_of c.args.places.now) d h laws.blocking _ c.any_blocking_in_clocked.ensures in
     let waiting = waiting_so t (spots_of c.args.places.now) d h laws.nonblocking _ c.any_nonblocking_in_combinational.ensures in
     let latch = latch_so t (spots_of c.args.places.now) d h laws.latches _ c.in_ok-latched.ensures in
-    inr (events.1 c.if-events.false,
-    inr (blocked.1 c.if-any_blocking_in_clocked.false, inr (waiting.1 c.if-any_nonblocking_in_combinational.false, inr (latch.1 c.if-latched.false, refl))))
+    inr (
+      events.1 c.if-events.false,
+      inr (blocked.1 c.if-any_blocking_in_clocked.false, inr (waiting.1 c.if-any_nonblocking_in_combinational.false, inr (latch.1 c.if-latched.false, refl))),
+    )

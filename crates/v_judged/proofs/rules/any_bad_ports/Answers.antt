@@ -1,6 +1,5 @@
 use Rattle.std.proofs.Common.{arith}
-use Rattle.std.specs.List.{list_any}
-use Rattle.v_places.specs.Views.{spot_of, spots_of}
+use Rattle.v_places.specs.Views.{spot_of}
 use Rattle.v_judged.specs.Rules.{has_bad_ports}
 use Rattle.v_judged.proofs.Loops.{one_passes, one_fails, none_passes}
 use Rattle.v_judged.proofs.rules.any_bad_ports.Goals as goal
