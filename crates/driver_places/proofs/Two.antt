@@ -321,7 +321,7 @@ block_in s f i (z ∷ xs) (suc y) x h =
 -- ---- what an output drives
 
 module _ (d : Design) (p : Placed) where
-  target_is : (c : Connection) (t : Target) → output_target d p c ≡ Some t → IsOutputTarget d p c t
+  pub target_is : (c : Connection) (t : Target) → output_target d p c ≡ Some t → IsOutputTarget d p c t
   target_is c t e = found (at_path d (instance_step c.of_instance ∷ p.path)) refl e
     where
       direction : (below : Placed) (o : Option Name) → port_meant below.of_module c.to_port ≡ o → is_output (port_direction below.of_module o) ≡ true
@@ -345,7 +345,7 @@ module _ (d : Design) (p : Placed) where
           let w = direction below (port_meant below.of_module c.to_port) refl r.0 in
           record { below = below; port = w.0; is_output = record { is_below = f; is_meant = w.1; is_port = w.2 }; is_target = r.1 }
 
-  is_target : (c : Connection) (t : Target) → IsOutputTarget d p c t → output_target d p c ≡ Some t
+  pub is_target : (c : Connection) (t : Target) → IsOutputTarget d p c t → output_target d p c ≡ Some t
   is_target c t h =
       let to = h.is_output in
       ap (λ x. target_below x c) to.is_below

@@ -226,7 +226,7 @@ module _ (d : Design) (declared : ¬ HasUndeclared d) (once : ¬ HasDuplicateNam
   no_duplicate p at = not_true (has_duplicate p.of_module) (λ t. once (HasDuplicateName.names p.of_module (stands_in d p.path p at) t))
 
   -- a net or variable has no number
-  net_without : (p : Placed) (n : Name) → IsPlacedIn d p → IsDeclared p n → IsTrue (is_none (placed_scope p n).constant)
+  pub net_without : (p : Placed) (n : Name) → IsPlacedIn d p → IsDeclared p n → IsTrue (is_none (placed_scope p n).constant)
   net_without p n at h =
       found (entry_of p.constants n) (λ t. net_no_parameter p.of_module n (no_duplicate p at) h (known_parameter t)) (declaration_of (declarations p.of_module) n)
     where

@@ -2,11 +2,12 @@
 
 ghost use Rattle.std.specs.Prelude.{◌≡◌, IfOk};
 ghost use Rattle.verilog_meaning.specs.Settled.{Design as PureDesign};
+ghost use Rattle.verilog_designs.specs.Accepted.{IsAccepted};
 ghost use Rattle.verilog_exists.specs.Exists.{IsOfText};
 ghost use Rattle.v_syntax.specs.Source.{source_of};
 ghost use Rattle.v_design.specs.Design.{IsDesignOf};
 ghost use Rattle.v_design.specs.Seen.{parts_of};
-ghost use Rattle.rtl_simulation.specs.Ending.{IsRun, IsEnding};
+ghost use Rattle.rtl_simulation.specs.Ending.{IsEnding};
 ghost use Rattle.rtl_simulation.specs.Seen.{ending_of};
 
 use design_cycles::laws::an_accepted_design_has_cycles;
@@ -23,7 +24,7 @@ use v_syntax::module::Tree;
 pub enum RtlSimulation {
     /// The lines that tell it.
     Text(Vec<u8>),
-    /// The design breaks the rule of this kind, or has parts that are not read yet.
+    /// The design breaks the rule of this kind.
     Design(DesignKind),
     /// The text is no script for the design.
     Script(ScriptRefusal),
@@ -31,7 +32,7 @@ pub enum RtlSimulation {
 
 /// The answer for a design that is run.
 fn run(design: &Design, script: &[u8], alloc: Global) -> Result<RtlSimulation, AllocError>
-    ensures { IfOk result (λ r. (d : PureDesign) → IsDesignOf d (parts_of design.now) → IsRun d → IsOfText d → IsEnding d script.now (ending_of r)) }
+    ensures { IfOk result (λ r. (d : PureDesign) → IsDesignOf d (parts_of design.now) → IsAccepted d → IsOfText d → IsEnding d script.now (ending_of r)) }
 {
     an_accepted_design_has_cycles();
     match simulated(alloc, design, script)? {
@@ -40,7 +41,7 @@ fn run(design: &Design, script: &[u8], alloc: Global) -> Result<RtlSimulation, A
     }
 }
 
-/// What the module `top` of a tree, with the clock `clock`, does under the script of these bytes: its settled outputs at each cycle and
+/// What the module `top` of a tree, with all that stands below it and the clock `clock`, does under the script of these bytes: its settled outputs at each cycle and
 /// its registers after the last edge; or the first kind of design whose rule it breaks; or how the text is no script for it. The tree is
 /// one of a text: its numbers fit their widths, parts have bits, and names have no dots.
 ///

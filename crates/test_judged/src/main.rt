@@ -66,10 +66,10 @@ fn answer_of_tree(alloc: Global, tree: &Tree<'_>) -> Result<String, AllocError>
 fn word_of(kind: Option<DesignKind>) -> &'static str {
     match kind {
         None => "accepted",
-        Some(DesignKind::NotYet) => "NotYet",
         Some(DesignKind::NoTop) => "NoTop",
         Some(DesignKind::Undeclared) => "Undeclared",
         Some(DesignKind::DuplicateName) => "DuplicateName",
+        Some(DesignKind::BadHierarchy) => "BadHierarchy",
         Some(DesignKind::HasXz) => "HasXz",
         Some(DesignKind::BadPort) => "BadPort",
         Some(DesignKind::BadConstant) => "BadConstant",

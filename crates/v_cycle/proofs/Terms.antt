@@ -1,5 +1,5 @@
 -- Values of terms, each of its term's sort.
-use Rattle.std.proofs.Common.{◌≡◌, ◌<◌, ℕ, zero, suc, List, [], ◌∷◌, length, get_or, set, refl, ap, arith}
+use Rattle.std.proofs.Common.{◌≡◌, ◌<◌, ℕ, zero, suc, List, [], ◌∷◌, length, get_or, refl, ap, arith}
 use Rattle.wb_values.specs.Value.{Value}
 use Rattle.model_meaning.specs.Term.{sort_of}
 use Rattle.wb_terms.specs.declared.nodes.TermId.{TermId}
@@ -26,12 +26,3 @@ AreOfTerms-at g [] xs k d e h lt = absurd (omega (arith, lt))
 AreOfTerms-at g (id ∷ ids) [] k d e h lt = absurd h
 AreOfTerms-at g (id ∷ ids) (x ∷ xs) zero d e h lt = h.1
 AreOfTerms-at g (id ∷ ids) (x ∷ xs) (suc k) d e h lt = AreOfTerms-at g ids xs k d e h.2 (omega (arith, lt))
-
-pub AreOfTerms-set : (g : Graph) (ids : List TermId) (xs : List Value) (k : ℕ) (d : TermId) (y : Value) → AreOfTerms g ids xs
-    → HasSortOf y (sort_of (tree g (get_or ids k d).0)) → AreOfTerms g ids (set xs k y)
-AreOfTerms-set g [] [] zero d y h s = h
-AreOfTerms-set g [] [] (suc k) d y h s = h
-AreOfTerms-set g [] (x ∷ xs) k d y h s = absurd h
-AreOfTerms-set g (id ∷ ids) [] k d y h s = absurd h
-AreOfTerms-set g (id ∷ ids) (x ∷ xs) zero d y h s = (h.0, s, h.2)
-AreOfTerms-set g (id ∷ ids) (x ∷ xs) (suc k) d y h s = (h.0, h.1, AreOfTerms-set g ids xs k d y h.2 s)

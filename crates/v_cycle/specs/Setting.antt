@@ -11,6 +11,10 @@ abbrev pub HasRoomFor : ℕ → Option Sort → Type 0
 HasRoomFor n (Some (memory a w)) = n ≡ 2 ^ a
 HasRoomFor n _ = ⊥
 
+abbrev pub IsMemory : Option Sort → Type 0
+IsMemory (Some (memory a w)) = ⊤
+IsMemory _ = ⊥
+
 -- There is a value for each term of the store, of its sort.
 abbrev pub AreOfTerms : Graph → List TermId → List Value → Type 0
 AreOfTerms g [] [] = ⊤

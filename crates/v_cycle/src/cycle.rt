@@ -6,8 +6,11 @@ ghost use Rattle.wb_terms.specs.Environment.{AreOfSorts};
 ghost use Rattle.v_design.specs.Seen.{input_values, parts_of, register_values};
 ghost use Rattle.v_design.specs.Parts.{registers_of, inputs_of, registers_after, value_in};
 
+use crate::chain::store_count;
+use crate::changes::Changes;
 use crate::copying::{push_copies, push_zeros};
-use crate::setting::{set_names, set_next};
+use crate::following::follow;
+use crate::setting::{set_next, set_numbers};
 use std::alloc::Global;
 use v_design::{Design, Inputs, Registers};
 use wb_terms::{Env, Evaluated, NoMemory};
@@ -20,6 +23,8 @@ pub struct Cycle {
     words: Evaluated,
     /// The registers after the edge.
     registers: Registers,
+    /// What that edge changed.
+    changes: Changes,
 }
 
 impl Cycle {
@@ -37,10 +42,13 @@ impl Cycle {
         let mut first = Vec::with_capacity(alloc, design.register_count())?;
         push_copies(&mut first, &registers.values)?;
         let words = Evaluated::new(alloc, &design.terms)?;
+        let stores = store_count(&design.terms);
+        let changes = Changes::new(alloc, design.register_count(), stores)?;
         Ok(Cycle {
             env: Env { values },
             words,
             registers: Registers { values: first },
+            changes,
         })
     }
 
@@ -53,14 +61,14 @@ impl Cycle {
         ensures ran { HasRun (parts_of design.now) self.new (registers_in self.old) (input_values inputs.now) }
         ensures registers { registers_in self.new ≡ registers_after (parts_of design.now) (registers_in self.old) (input_values inputs.now) }
     {
-        set_names(
-            &mut self.env.values,
-            &mut self.registers.values,
-            &inputs.numbers,
-        );
+        follow(&mut self.env.values, &self.registers.values, &self.changes);
+        self.changes.clear();
+        let first = self.registers.values.len();
+        set_numbers(&mut self.env.values, first, &inputs.numbers);
         self.words.evaluate(&design.terms, &self.env);
         set_next(
             &mut self.registers.values,
+            &mut self.changes,
             &design.terms,
             &self.env,
             &self.words,

@@ -8,7 +8,6 @@ use Rattle.verilog_meaning.specs.Expression.{Scope}
 use Rattle.verilog_designs.specs.Names.{is_among}
 use Rattle.verilog_unique.proofs.Options.{is_same}
 use Rattle.verilog_unique.proofs.Descent.{IsAmong, among_either, among_left, among_right}
-use Rattle.v_registers.specs.Once.{others, each_once}
 use Rattle.v_registers.specs.Registers.{Counted, AreSplit}
 use Rattle.v_elab.specs.Names.{AreDistinct, ArePlain, AreMasksOf, chosen, left_out}
 use Rattle.v_elab.specs.Elaborated.{register_names}
@@ -25,38 +24,6 @@ not_among ns n h = by (is_among ns n) refl
 
 fewer : (xs ys : List Name) (n : Name) → (IsAmong xs n → IsAmong ys n) → is_among ys n ≡ false → is_among xs n ≡ false
 fewer xs ys n f h = not_among xs n (λ k. true≢false (sym (test_among ys n (f k)) ∙ h))
-
--- ---- names once each
-
-others_among : (m : Name) (ns : List Name) (n : Name) → IsAmong (others m ns) n → IsAmong ns n
-others_among m [] n h = absurd h
-others_among m (k ∷ ns) n h = by (same_name m k) h (others_among m ns n)
-  where
-    by : (t : Bool) → IsAmong (cond t (others m ns) (k ∷ others m ns)) n → (IsAmong (others m ns) n → IsAmong ns n) → (k ≡ n) ⊎ IsAmong ns n
-    by true h g = inr (g h)
-    by false (inl i) g = inl i
-    by false (inr h) g = inr (g h)
-
-others_lack : (m : Name) (ns : List Name) → ¬ IsAmong (others m ns) m
-others_lack m [] h = h
-others_lack m (k ∷ ns) h = by (same_name m k) refl h (others_lack m ns)
-  where
-    by : (t : Bool) → same_name m k ≡ t → IsAmong (cond t (others m ns) (k ∷ others m ns)) m → ¬ IsAmong (others m ns) m → ⊥
-    by true e h g = g h
-    by false e (inl i) g = true≢false (sym (is_same m) ∙ ap (same_name m) (sym i) ∙ e)
-    by false e (inr h) g = g h
-
-others_distinct : (m : Name) (ns : List Name) → AreDistinct ns → AreDistinct (others m ns)
-others_distinct m [] h = tt
-others_distinct m (k ∷ ns) h = by (same_name m k) (others_distinct m ns h.1)
-  where
-    by : (t : Bool) → AreDistinct (others m ns) → AreDistinct (cond t (others m ns) (k ∷ others m ns))
-    by true g = g
-    by false g = (fewer (others m ns) ns k (others_among m ns k) h.0, g)
-
-pub once_distinct : (ns : List Name) → AreDistinct (each_once ns)
-once_distinct [] = tt
-once_distinct (n ∷ ns) = (not_among (others n (each_once ns)) n (others_lack n (each_once ns)), others_distinct n (each_once ns) (once_distinct ns))
 
 -- ---- names of the store
 

@@ -10,7 +10,6 @@ use Rattle.verilog_meaning.specs.Expression.{Object, Scope, object_width, is_mem
 use Rattle.verilog_meaning.specs.Statement.{with_updates}
 use Rattle.verilog_meaning.specs.Register.{value_bit, is_set, is_bit_of, word_count, counts, one_may_assign, after_edge, updates_of_blocks, clocked_blocks}
 use Rattle.verilog_meaning.specs.Settled.{IsValueOf, names_of}
-use Rattle.verilog_designs.specs.Names.{is_among}
 use Rattle.wb_terms.specs.Environment.{values_by_name}
 use Rattle.verilog_settled.specs.Locality.{HasNoConstantMemory}
 use Rattle.verilog_settled.proofs.Bits.{unset_past}

@@ -1,5 +1,5 @@
 -- Which names a module declares, each once, and which of them are registers.
-use Rattle.std.proofs.Common.{◌≡◌, ◌∙◌, refl, ap, sym, subst, Bool, true, false, cond, List, [], ◌∷◌, ◌⊎◌, inl, inr}
+use Rattle.std.proofs.Common.{◌≡◌, ◌∙◌, refl, ap, sym, subst, Bool, true, false, List, [], ◌∷◌, ◌⊎◌, inl, inr}
 use Rattle.std.specs.Prelude.{IsTrue, ◌||◌}
 use Rattle.std.proofs.lemmas.Bool.{false≢true}
 use Rattle.wb_values.specs.Value.{Name, same_name}
@@ -10,44 +10,10 @@ use Rattle.verilog_meaning.specs.Settled.{is_declared_among}
 use Rattle.verilog_designs.specs.Names.{is_among}
 use Rattle.verilog_unique.proofs.Options.{same_is, is_same}
 use Rattle.verilog_unique.proofs.Descent.{IsAmong}
-use Rattle.v_registers.specs.Once.{others, each_once}
 use Rattle.v_registers.specs.Registers.{IsRegister, Counted, IsCounted, AreSplit}
 use Rattle.v_elab.specs.Elaborated.{names_in, register_names}
 
--- ---- each once
-
-kept_other : (n : Name) (ns : List Name) (m : Name) → IsAmong ns m → (same_name n m ≡ false) → IsAmong (others n ns) m
-kept_other n [] m h e = absurd h
-kept_other n (k ∷ ns) m h e = by (same_name n k) refl h (λ g. kept_other n ns m g e)
-  where
-    by : (t : Bool) → same_name n k ≡ t → (k ≡ m) ⊎ IsAmong ns m → (IsAmong ns m → IsAmong (others n ns) m) → IsAmong (cond t (others n ns) (k ∷ others n ns)) m
-    by true q (inl i) f = absurd (false≢true (sym e ∙ ap (same_name n) (sym i) ∙ q))
-    by true q (inr g) f = f g
-    by false q (inl i) f = inl i
-    by false q (inr g) f = inr (f g)
-
-among_others : (n : Name) (ns : List Name) (m : Name) → IsAmong (others n ns) m → IsAmong ns m
-among_others n [] m h = h
-among_others n (k ∷ ns) m h = by (same_name n k) h (among_others n ns m)
-  where
-    by : (t : Bool) → IsAmong (cond t (others n ns) (k ∷ others n ns)) m → (IsAmong (others n ns) m → IsAmong ns m) → (k ≡ m) ⊎ IsAmong ns m
-    by true g f = inr (f g)
-    by false (inl e) f = inl e
-    by false (inr g) f = inr (f g)
-
-pub among_once : (ns : List Name) (n : Name) → IsAmong ns n → IsAmong (each_once ns) n
-among_once [] n h = h
-among_once (m ∷ ns) n (inl e) = inl e
-among_once (m ∷ ns) n (inr h) = by (same_name m n) refl (among_once ns n h)
-  where
-    by : (t : Bool) → same_name m n ≡ t → IsAmong (each_once ns) n → (m ≡ n) ⊎ IsAmong (others m (each_once ns)) n
-    by true e g = inl (same_is m n e)
-    by false e g = inr (kept_other m (each_once ns) n g e)
-
-pub once_among : (ns : List Name) (n : Name) → IsAmong (each_once ns) n → IsAmong ns n
-once_among [] n h = h
-once_among (m ∷ ns) n (inl e) = inl e
-once_among (m ∷ ns) n (inr h) = inr (once_among ns n (among_others m (each_once ns) n h))
+-- ---- names of a list
 
 pub test_among : (ns : List Name) (n : Name) → IsAmong ns n → is_among ns n ≡ true
 test_among [] n h = absurd h

@@ -1,40 +1,14 @@
--- Names in the order of the text: in a module's scope as in the module, and each declared name among them.
-use Rattle.std.proofs.Common.{◌≡◌, ◌∙◌, refl, ap, sym, subst, Bool, true, false, cond, ◌&&◌, List, [], ◌∷◌, ◌++◌, ◌⊎◌, inl, inr, Option, Some, None, is_some, is_none}
+-- Declarations in the order of the text, where a port that is a variable besides stands as that: each declared name is among them.
+use Rattle.std.proofs.Common.{◌≡◌, refl, ap, sym, subst, Bool, true, false, cond, ◌&&◌, List, [], ◌∷◌, ◌++◌, append-nil, ◌⊎◌, inl, inr, Option, Some, None, is_some, is_none}
 use Rattle.std.specs.Prelude.{◌||◌}
 use Rattle.std.proofs.lemmas.Bool.{and_parts, false≢true}
 use Rattle.wb_values.specs.Value.{Name, same_name}
-use Rattle.verilog_trees.specs.Syntax.{Direction}
-use Rattle.verilog_meaning.specs.Expression.{Scope}
-use Rattle.verilog_meaning.specs.Hierarchy.{Declaration}
+use Rattle.verilog_trees.specs.Syntax.{Direction, Item, port, parameter, wires, variables, assign, always, instances}
+use Rattle.verilog_meaning.specs.Hierarchy.{Declaration, each_port, wire_declarations, variable_declarations, item_declarations}
 use Rattle.verilog_registers.specs.Order.{declares_variable, is_variable_among, is_passed_over, placed_among}
 use Rattle.verilog_unique.proofs.Options.{same_is}
 use Rattle.verilog_unique.proofs.Descent.{IsAmong}
-use Rattle.v_scopes.specs.Rows.{rows}
-use Rattle.v_registers.specs.Once.{each_once}
-use Rattle.v_registers.specs.Placed as coded
 use Rattle.v_elab.specs.Elaborated.{names_in}
-
--- ---- rows
-
-variables_are : (s : Scope) (ds : List Declaration) (n : Name) → coded.is_variable_among (rows s ds) n ≡ is_variable_among ds n
-variables_are s [] n = refl
-variables_are s (d ∷ ds) n = ap (λ t. (same_name d.of_name n && declares_variable d) || t) (variables_are s ds n)
-
-names_are : (s : Scope) (all ds : List Declaration) → coded.placed_names (coded.is_variable_among (rows s all)) (rows s ds) ≡ names_in (placed_among all ds)
-names_are s all [] = refl
-names_are s all (d ∷ ds) =
-    ap (λ t. cond (is_some d.direction && t) (coded.placed_names (coded.is_variable_among (rows s all)) (rows s ds))
-    (d.of_name ∷ coded.placed_names (coded.is_variable_among (rows s all)) (rows s ds))) (variables_are s all d.of_name)
-    ∙ by (is_passed_over all d) (names_are s all ds)
-  where
-    by : (t : Bool) → coded.placed_names (coded.is_variable_among (rows s all)) (rows s ds) ≡ names_in (placed_among all ds)
-        → cond t (coded.placed_names (coded.is_variable_among (rows s all)) (rows s ds)) (d.of_name ∷ coded.placed_names (coded.is_variable_among (rows s all)) (rows s ds))
-        ≡ names_in (cond t (placed_among all ds) (d ∷ placed_among all ds))
-    by true e = e
-    by false e = ap (λ ns. d.of_name ∷ ns) e
-
-pub in_order : (s : Scope) (ds : List Declaration) → coded.names_in_order (rows s ds) ≡ each_once (names_in (placed_among ds ds))
-in_order s ds = ap each_once (names_are s ds ds)
 
 -- ---- names that are declared
 
@@ -99,3 +73,14 @@ placed_append all (d ∷ ds) es = by (is_passed_over all d) (placed_append all d
         → cond t (placed_among all (ds ++ es)) (d ∷ placed_among all (ds ++ es)) ≡ cond t (placed_among all ds) (d ∷ placed_among all ds) ++ placed_among all es
     by true e = e
     by false e = ap (λ xs. d ∷ xs) e
+
+-- ---- items
+
+pub one_item : (i : Item) (items : List Item) → item_declarations (i ∷ items) ≡ item_declarations (i ∷ []) ++ item_declarations items
+one_item (port d) items = ap (λ xs. xs ++ item_declarations items) (sym (append-nil (each_port d d.names)))
+one_item (parameter d) items = refl
+one_item (wires signed r ws) items = ap (λ xs. xs ++ item_declarations items) (sym (append-nil (wire_declarations signed r ws)))
+one_item (variables signed r vs) items = ap (λ xs. xs ++ item_declarations items) (sym (append-nil (variable_declarations signed r vs)))
+one_item (assign ts) items = refl
+one_item (always es x) items = refl
+one_item (instances k given is) items = refl

@@ -1,18 +1,17 @@
 -- Addresses of a module's memories are below 65,536.
-use Rattle.std.proofs.Common.{◌≡◌, ◌∙◌, ◌≤◌, ℕ, refl, ap, sym, subst, Bool, true, false, nat_le, [], Option, Some, None, option_map, arith}
+use Rattle.std.proofs.Common.{◌≡◌, ◌∙◌, ◌≤◌, ℕ, refl, ap, sym, subst, Bool, true, false, nat_le, Option, Some, None, option_map, arith}
 use Rattle.std.specs.Prelude.{ℤ, pos, negsuc, option_and_then, unwrap_or, ⊤}
 use Rattle.std.proofs.lemmas.Bool.Decides.{nat_tests}
-use Rattle.wb_values.specs.Value.{Name}
 use Rattle.wb_values.specs.Choice.{some_if}
-use Rattle.verilog_trees.specs.Syntax.{Range, Module}
-use Rattle.verilog_meaning.specs.Expression.{Object, Scope, object_or_undeclared, scope_of}
+use Rattle.verilog_trees.specs.Syntax.{Range}
+use Rattle.verilog_meaning.specs.Expression.{Object, Scope, object_or_undeclared}
 use Rattle.verilog_meaning.specs.Register.{words_between}
-use Rattle.verilog_meaning.specs.Hierarchy.{Declaration, declarations, declaration_of}
+use Rattle.verilog_meaning.specs.Hierarchy.{Declaration}
 use Rattle.verilog_rules.specs.Expression.{constant_number}
-use Rattle.verilog_designs.specs.Known.{as_bound, both_bounds, known_range, with_range, known_object, with_known_addresses, known_declaration, known_module_scope}
+use Rattle.verilog_designs.specs.Known.{as_bound, both_bounds, known_range, with_range, known_object, with_known_addresses, known_declaration}
 use Rattle.v_elab.specs.Names.{HasSmallAddresses, HasFewWords}
 
-abbrev IsSmall : Option (ℕ × ℕ) → Type 0
+abbrev pub IsSmall : Option (ℕ × ℕ) → Type 0
 IsSmall None = ⊤
 IsSmall (Some a) = (a.0 ≤ 65535) × (a.1 ≤ 65535)
 
@@ -70,20 +69,11 @@ known_none s signed (Some r) = ranged_none signed (known_range s r)
 no_addresses : (s : Scope) (signed : Bool) (r : Option Range) (x : Object) → known_object s signed r ≡ Some x → x.addresses ≡ None
 no_addresses s signed r x e = sym (ap addresses_in e) ∙ known_none s signed r
 
-declared_small : (s : Scope) (o : Option Declaration) → IsSmall (object_or_undeclared (option_and_then (known_declaration s) o)).addresses
+pub declared_small : (s : Scope) (o : Option Declaration) → IsSmall (object_or_undeclared (option_and_then (known_declaration s) o)).addresses
 declared_small s None = tt
 declared_small s (Some d) =
     mapped (with_known_addresses s d.addresses) (known_object s d.signed d.range)
     (λ x e. with_addresses s d.addresses x (no_addresses s d.signed d.range x e))
-
-small_known : (m : Module) (n : Name) → IsSmall (known_module_scope m [] n).addresses
-small_known m n = declared_small (scope_of []) (declaration_of (declarations m) n)
-
-pub small_in : (m : Module) (s : Scope) → known_module_scope m [] ≡ s → HasSmallAddresses s
-small_in m s e n a h = subst IsSmall h (ap_scope (small_known m n))
-  where
-    ap_scope : IsSmall (known_module_scope m [] n).addresses → IsSmall (s n).addresses
-    ap_scope k = subst (λ (t : Scope). IsSmall (t n).addresses) e k
 
 pub few_words : (s : Scope) → HasSmallAddresses s → HasFewWords s
 few_words s h n = by (s n).addresses refl

@@ -1,10 +1,8 @@
 -- What can be elaborated.
-use Rattle.std.specs.Prelude.{◌≡◌, Bool, true, false, [], IsTrue}
+use Rattle.std.specs.Prelude.{◌≡◌, Bool, true, false, IsTrue}
 use Rattle.std.specs.List.{list_any}
 use Rattle.wb_values.specs.Value.{Name}
-use Rattle.verilog_trees.specs.Syntax.{Module}
 use Rattle.verilog_meaning.specs.Register.{clocked_blocks}
-use Rattle.verilog_designs.specs.Known.{known_module_scope}
 use Rattle.verilog_designs.specs.Names.{is_among}
 use Rattle.verilog_designs.specs.Paths.{has_blocking}
 use Rattle.v_value.specs.Narrow.{HasNarrowObjects}
@@ -15,7 +13,7 @@ use Rattle.v_settle.specs.OneModule.{IsEvaluable}
 use Rattle.v_edge.specs.Edge.{AreSound}
 use Rattle.v_registers.specs.Registers.{IsRegister}
 use Rattle.v_elab.specs.Names.{AreDistinct, HasSmallAddresses}
-use Rattle.v_elab.specs.Elaborated.{Body, scope, body_of}
+use Rattle.v_elab.specs.Elaborated.{Body}
 
 -- Names fit their words, nets can be evaluated and come to be settled, clocked blocks can be lowered and assign nothing at once, all that
 -- may have a value is declared, once, and nothing is given to a register from outside.
@@ -30,8 +28,3 @@ pub record IsElaborable (b : Body) (is_given : Name → Bool) : Type 0 where
   pub distinct : AreDistinct b.declared
   pub all_declared : (n : Name) → IsTrue (has_sort (b.scope n)) → has_number (b.scope n) ≡ false → is_among b.declared n ≡ true
   pub apart : (n : Name) → is_given n ≡ true → ¬ IsRegister b.scope (clocked_blocks b.items) n
-
--- A module without parameters can be elaborated, and its names stand for the same in the rules and in the meaning.
-pub record IsElaborableModule (m : Module) (is_given : Name → Bool) : Type 0 where
-  pub same_scope : known_module_scope m [] ≡ scope m
-  pub elaborable : IsElaborable (body_of m) is_given

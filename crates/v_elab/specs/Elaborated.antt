@@ -1,13 +1,12 @@
 -- What is elaborated, and to what: registers and inputs as names of a store, tables of terms at the start, when nets have settled and
 -- after the clock's edge, and the parts of a design that are taken from them.
-use Rattle.std.specs.Prelude.{◌≡◌, ℕ, Bool, cond, not, ◌&&◌, ◌++◌, min, List, [], map, length, Option, Some, None, is_some, option_map}
+use Rattle.std.specs.Prelude.{◌≡◌, ℕ, Bool, cond, not, ◌&&◌, ◌++◌, min, List, map, length, Option, Some, None, is_some, option_map}
 use Rattle.wb_values.specs.Value.{Name}
-use Rattle.verilog_trees.specs.Syntax.{Statement, Item, Module}
+use Rattle.verilog_trees.specs.Syntax.{Item}
 use Rattle.verilog_meaning.specs.Expression.{Scope, is_memory}
 use Rattle.verilog_meaning.specs.Register.{clocked_blocks}
-use Rattle.verilog_meaning.specs.Hierarchy.{Declaration, declarations, module_scope}
+use Rattle.verilog_meaning.specs.Hierarchy.{Declaration}
 use Rattle.verilog_designs.specs.Names.{is_among}
-use Rattle.verilog_registers.specs.Order.{placed_among}
 use Rattle.wb_terms.specs.Graph.{Graph, HasDistinctNames}
 use Rattle.v_operators.specs.Meaning.{Grows}
 use Rattle.v_lower.specs.Lowered.{Images}
@@ -15,7 +14,6 @@ use Rattle.v_settle.specs.OneModule.{IsEvaluated}
 use Rattle.v_edge.specs.Edge.{AreUpdated}
 use Rattle.v_design.specs.Registers.{CountedBits}
 use Rattle.v_design.specs.Parts.{Parts}
-use Rattle.v_registers.specs.Once.{each_once}
 use Rattle.v_registers.specs.Registers.{Counted, AreSplit}
 use Rattle.v_elab.specs.Names.{AreEntriesOf, chosen}
 use Rattle.v_elab.specs.Start.{IsStart}
@@ -30,24 +28,8 @@ pub record Body : Type 0 where
 abbrev pub body_in : Scope → List Item → List Name → Body
 body_in s items ds = record { scope = s; items = items; declared = ds }
 
--- ---- a module without parameters
-
--- its scope, and its clocked blocks
-abbrev pub scope : Module → Scope
-scope m = module_scope m []
-
-abbrev pub clocked : Module → List Statement
-clocked m = clocked_blocks m.items
-
 abbrev pub names_in : List Declaration → List Name
 names_in ds = map (λ d. d.of_name) ds
-
--- the names that a module declares, in the order of the text
-abbrev pub declared : Module → List Name
-declared m = each_once (names_in (placed_among (declarations m) (declarations m)))
-
-abbrev pub body_of : Module → Body
-body_of m = body_in (scope m) m.items (declared m)
 
 -- ---- what it is elaborated to
 

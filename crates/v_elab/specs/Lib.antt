@@ -7,3 +7,4 @@ pub mod Cycles
 pub mod Elaborable
 pub mod Begun
 pub mod Answer
+pub mod Flat

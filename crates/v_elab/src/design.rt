@@ -1,28 +1,25 @@
 //! The design of what can be elaborated.
 
 ghost use Rattle.std.specs.Prelude.{◌≡◌, ◌≤◌, IfOk, map, length, string_bytes};
-ghost use Rattle.v_syntax.specs.Source.{item_of, module_of};
+ghost use Rattle.v_syntax.specs.Source.{item_of};
 ghost use Rattle.v_value.specs.Scope.{scope_at};
 ghost use Rattle.v_lower.specs.Table.{images_at};
 ghost use Rattle.v_design.specs.Seen.{parts_of};
-ghost use Rattle.v_design.specs.Design.{outputs_of};
 ghost use Rattle.v_registers.specs.Registers.{counted_of};
-ghost use Rattle.v_elab.specs.Names.{is_data_input, is_data_port};
+ghost use Rattle.v_elab.specs.Names.{is_data_input};
 ghost use Rattle.v_elab.specs.Begun.{IsLowered};
-ghost use Rattle.v_elab.specs.Elaborable.{IsElaborable, IsElaborableModule};
-ghost use Rattle.v_elab.specs.Elaborated.{IsElaborated, body_in, body_of};
+ghost use Rattle.v_elab.specs.Elaborable.{IsElaborable};
+ghost use Rattle.v_elab.specs.Elaborated.{IsElaborated, body_in};
 
 use crate::NoMemory;
 use crate::parts::{bits_of, next_of, settled_of};
-use crate::ports::outputs_of;
 use crate::start::{Begun, begin};
 use std::alloc::Global;
 use v_design::Design;
 use v_edge::lower_edge;
-use v_registers::first_names;
-use v_scopes::{ModuleScope, module_scope};
+use v_scopes::ModuleScope;
 use v_settle::settle;
-use v_syntax::module::{Item, Module};
+use v_syntax::module::Item;
 use v_value::scope::Scope;
 
 /// The terms of what names settle to, and of registers after the clock's edge.
@@ -59,7 +56,7 @@ fn lowered<'s>(
 
 /// The design whose nets and variables are these, in this scope, and driven by these items. Its inputs are those that the table of names
 /// says, but the clock.
-fn design_in<'s>(
+pub(crate) fn design_in<'s>(
     alloc: Global,
     declared: Vec<&'s str>,
     names: &ModuleScope<'_>,
@@ -84,26 +81,4 @@ fn design_in<'s>(
         settled,
         outputs,
     })
-}
-
-/// The design of a module without parameters and instances.
-pub(crate) fn design_of(alloc: Global, within: &Module<'_>, clock: &str) -> Result<Design, NoMemory>
-    requires { IsElaborableModule (module_of within.now) (is_data_port (module_of within.now) clock.now) }
-    ensures { IfOk result (λ r. IsElaborated (body_of (module_of within.now)) (is_data_port (module_of within.now) clock.now)
-        (outputs_of (module_of within.now)) (parts_of r)) }
-{
-    let names = module_scope(alloc, within)?;
-    let scope = names.to_scope(alloc)?;
-    let outputs = outputs_of(alloc, &names, within)?;
-    let declared = first_names(alloc, names.declarations())?;
-    let design = design_in(
-        alloc,
-        declared,
-        &names,
-        &scope,
-        &within.items,
-        clock,
-        outputs,
-    )?;
-    Ok(design)
 }

@@ -1,8 +1,9 @@
-//! From the tree of a Verilog source to the design that it is, for one module without parameters and instances.
+//! From the tree of a Verilog source to the design that it is: its top and all modules below it, elaborated in one scope.
 #![tactic(auto)]
 
 mod declaring;
 mod design;
+mod flat;
 mod keeping;
 mod memory;
 mod naming;

@@ -1,10 +1,11 @@
 //! The outputs of a module in the order of its ports.
 
 ghost use Rattle.std.specs.Prelude.{◌≡◌, ◌++◌, ◌∷◌, [], map, string_bytes, IfOk, OnOk};
+ghost use Rattle.verilog_meaning.specs.Expression.{Scope};
 ghost use Rattle.verilog_meaning.specs.Settled.{declared_ports, header_names, names_of};
 ghost use Rattle.verilog_registers.specs.Outputs.{outputs_of};
 ghost use Rattle.v_syntax.specs.Source.{module_of, port_of, ports_of};
-ghost use Rattle.v_ports.specs.Ports.{IsScopeOf};
+ghost use Rattle.v_ports.specs.Ports.{IsScopeIn};
 ghost use Rattle.v_elab.specs.Names.{is_output_of, chosen};
 
 use crate::NoMemory;
@@ -87,7 +88,7 @@ pub(crate) fn outputs_of(
     names: &ModuleScope<'_>,
     within: &Module<'_>,
 ) -> Result<Vec<String>, NoMemory>
-    requires { IsScopeOf names.now (module_of within.now) }
+    requires { (s : Scope) × IsScopeIn s names.now (module_of within.now) }
     ensures { IfOk result (λ v. map string_bytes v.items ≡ outputs_of (module_of within.now)) }
 {
     let order = order_of(alloc, &within.ports)?;

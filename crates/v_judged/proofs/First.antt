@@ -1,15 +1,15 @@
 -- The first kind that is broken, and what it says of a design.
-use Rattle.std.proofs.Common.{◌≡◌, ◌∙◌, refl, sym, ap, subst, ℕ, zero, suc, ◌+◌, ◌<◌, arith, true, false, true≢false, inl, inr, List, [], ◌∷◌, ◌++◌, slice_get, Option, Some, None, is_some}
+use Rattle.std.proofs.Common.{◌≡◌, ◌∙◌, refl, sym, ap, subst, ℕ, zero, suc, ◌+◌, ◌<◌, arith, Bool, true, false, true≢false, cond, inl, inr, List, [], ◌∷◌, ◌++◌, slice_get, Option, Some, None, is_some}
+use Rattle.std.specs.Prelude.{◌↔◌, IsTrue}
 use Rattle.verilog_meaning.specs.Settled.{Design}
 use Rattle.verilog_designs.specs.Accepted as designs
 use Rattle.verilog_designs.specs.Accepted.{kinds, Breaks, IsAccepted, IsRefusedBy, no_top, undeclared, duplicate_name, bad_hierarchy, has_xz, bad_port, bad_constant, width_over_128, bad_select, memory_use, clock_as_data, bad_event_list, blocking_in_clocked, nonblocking_in_comb, latch, bad_driver, undriven, comb_loop}
-use Rattle.v_hier.specs.Instances.{has_parts}
 use Rattle.v_scopes.proofs.Parts.{some_is, none_some}
 use Rattle.v_judged.specs.declared.kind.DesignKind.{DesignKind}
-use Rattle.v_scopes.specs.declared.refusal.ScopesKind.{ScopesKind}
-use Rattle.v_scopes.specs.declared.refusal.ScopesKind.TheVariants.{NotYet, NoTop, Undeclared, DuplicateName}
-use Rattle.v_scopes.specs.Refusals.{IsNamesRefusal}
-use Rattle.v_judged.specs.Refusal.{kind_of, IsBy, IsDesignRefusal, of_names}
+use Rattle.v_named.specs.declared.kind.NamesKind.{NamesKind}
+use Rattle.v_named.specs.declared.kind.NamesKind.TheVariants.{NoTop, Undeclared, DuplicateName, BadHierarchy}
+use Rattle.v_named.specs.Names as names
+use Rattle.v_judged.specs.Refusal.{kind_of, IsDesignRefusal, of_names}
 use Rattle.v_judged.specs.First.{kind_in, IsFirst, name_kinds}
 
 -- ---- one list after another
@@ -30,6 +30,20 @@ kept d (k ∷ ks) ls o e (inr h) = inr (h.0, kept d ks ls o e h.1)
 pub none_is : (o : Option DesignKind) → is_some o ≡ false → o ≡ None
 none_is None e = refl
 none_is (Some k) e = absurd (true≢false e)
+
+-- ---- one kind after another
+
+-- the design breaks the rule where it is told so, and does not where it is told so
+abbrev pub Decides : Bool → Type 0 → Type 0
+Decides b B = (b ≡ true → B) × (b ≡ false → ¬ B)
+
+pub decided : (b : Bool) (A B : Type 0) → (IsTrue b ↔ A) → (A ↔ B) → Decides b B
+decided b A B told same = ((λ e. same.0 (told.0 e)), (λ e h. true≢false (sym (told.1 (same.1 h)) ∙ e)))
+
+pub asked : (d : Design) (b : Bool) (k : DesignKind) (ks : List designs.DesignKind) (o : Option DesignKind) → Decides b (Breaks d (kind_of k)) → IsFirst d ks o
+    → IsFirst d (kind_of k ∷ ks) (cond b (Some k) o)
+asked d true k ks o h rest = inl (refl, h.0 refl)
+asked d false k ks o h rest = inr (h.1 refl, rest)
 
 -- ---- the numbers of the kinds in their order
 
@@ -91,7 +105,7 @@ at_number comb_loop = refl
 -- ---- what is first is broken, and nothing before it
 
 module _ (d : Design) where
-  none_at : (ks : List designs.DesignKind) (i : ℕ) (k : designs.DesignKind) → IsFirst d ks None → slice_get ks i ≡ Some k → ¬ Breaks d k
+  pub none_at : (ks : List designs.DesignKind) (i : ℕ) (k : designs.DesignKind) → IsFirst d ks None → slice_get ks i ≡ Some k → ¬ Breaks d k
   none_at [] i k h e = absurd (none_some k e)
   none_at (x ∷ ks) zero k h e = subst (λ y. ¬ Breaks d y) (some_is x k e) (not_here d x ks h).0
   none_at (x ∷ ks) (suc i) k h e = none_at ks i k (not_here d x ks h).1 e
@@ -114,27 +128,18 @@ module _ (d : Design) where
     before n (x ∷ ks) num (inr h) (suc i) zero b f g l = absurd (omega (arith, l))
     before n (x ∷ ks) num (inr h) (suc i) (suc j) b f g l = before (suc n) ks num.1 h.1 i j b f g (omega (arith, l))
 
-  no_kind : (o : Option DesignKind) → kind_in o ≡ None → (ks : List designs.DesignKind) → IsFirst d ks o → o ≡ None
-  no_kind o e [] h = h
-  no_kind o e (x ∷ ks) (inl h) = absurd (none_some x (sym e ∙ h.0))
-  no_kind o e (x ∷ ks) (inr h) = no_kind o e ks h.1
-
   -- the answer, where the first of all kinds is told
-  pub answered : has_parts d.source ≡ false → (o : Option DesignKind) → IsFirst d kinds o → IsDesignRefusal d o
-  answered w None h = (w, λ k. none_at kinds (number k) k h (at_number k))
-  answered w (Some c) h = by_kind (kind_of c) refl
-    where
-      by_kind : (x : Option designs.DesignKind) → kind_of c ≡ x → IsBy d x
-      by_kind None e = absurd (none_some c (sym (no_kind (Some c) e kinds h)))
-      by_kind (Some k) e = (w, record { breaks = broken (Some c) k e kinds h; first = before (Some c) k e 0 kinds all_numbered h })
+  pub answered : (o : Option DesignKind) → IsFirst d kinds o → IsDesignRefusal d o
+  answered None h = λ k. none_at kinds (number k) k h (at_number k)
+  answered (Some c) h = record { breaks = broken (Some c) (kind_of c) refl kinds h; first = before (Some c) (kind_of c) refl 0 kinds all_numbered h }
 
 -- ---- kinds on names
 
-pub named : (d : Design) (k : ScopesKind) → IsNamesRefusal d (Some k) → IsDesignRefusal d (Some (of_names k))
-named d NotYet h = h
+pub named : (d : Design) (k : NamesKind) → IsRefusedBy d (names.kind_of k) → IsRefusedBy d (kind_of (of_names k))
 named d NoTop h = h
 named d Undeclared h = h
 named d DuplicateName h = h
+named d BadHierarchy h = h
 
-pub none_named : (d : Design) → IsNamesRefusal d None → IsFirst d name_kinds None
-none_named d h = inr (h.1, inr (h.2, inr (h.3, inr (h.4, refl))))
+pub none_named : (d : Design) → ¬ Breaks d no_top → ¬ Breaks d undeclared → ¬ Breaks d duplicate_name → ¬ Breaks d bad_hierarchy → IsFirst d name_kinds None
+none_named d a b c e = inr (a, inr (b, inr (c, inr (e, refl))))

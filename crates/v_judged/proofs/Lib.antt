@@ -1,7 +1,6 @@
 mod First
-mod Tops
-mod Valued
-mod Declared
-mod Ready
-mod Sets
-mod Asked
+mod Breaking
+mod Sound
+mod Listed
+mod Loops
+mod Asking

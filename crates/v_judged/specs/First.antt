@@ -10,7 +10,7 @@ use Rattle.v_judged.specs.Refusal.{kind_of}
 
 abbrev pub kind_in : Option DesignKind → Option designs.DesignKind
 kind_in None = None
-kind_in (Some k) = kind_of k
+kind_in (Some k) = Some (kind_of k)
 
 -- The first of these kinds that is broken, or none of them.
 abbrev pub IsFirst : Design → List designs.DesignKind → Option DesignKind → Type 0
@@ -31,8 +31,12 @@ item_kinds = bad_event_list ∷ blocking_in_clocked ∷ nonblocking_in_comb ∷ 
 abbrev pub block_kinds : List designs.DesignKind
 block_kinds = clock_as_data ∷ item_kinds
 
+-- judged over the design in one scope
+abbrev pub flat_kinds : List designs.DesignKind
+flat_kinds = undriven ∷ comb_loop ∷ []
+
 abbrev pub driver_kinds : List designs.DesignKind
-driver_kinds = bad_driver ∷ undriven ∷ comb_loop ∷ []
+driver_kinds = bad_driver ∷ flat_kinds
 
 -- after those on names
 abbrev pub later_kinds : List designs.DesignKind

@@ -1,4 +1,4 @@
 pub mod Refusal
 pub mod First
-pub mod Tops
-pub mod Laws
+pub mod Rules
+pub mod Standing

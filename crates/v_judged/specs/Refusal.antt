@@ -1,48 +1,51 @@
--- What an answer says: by which kind a design is refused, if by any.
-use Rattle.std.specs.Prelude.{◌≡◌, true, false, Option, Some, None}
+-- What an answer says: by which kind a design is refused, or that it is accepted.
+use Rattle.std.specs.Prelude.{Option, Some, None}
 use Rattle.verilog_meaning.specs.Settled.{Design}
 use Rattle.verilog_designs.specs.Accepted as designs
 use Rattle.verilog_designs.specs.Accepted.{IsAccepted, IsRefusedBy}
-use Rattle.v_hier.specs.Instances.{has_parts}
-use Rattle.v_scopes.specs.declared.refusal.ScopesKind.{ScopesKind}
-use Rattle.v_scopes.specs.declared.refusal.ScopesKind.TheVariants as scopes
+use Rattle.v_places.specs.Places.{ArePlaces}
+use Rattle.v_places.specs.Views.{spots_of}
+use Rattle.v_named.specs.declared.kind.NamesKind.{NamesKind}
+use Rattle.v_named.specs.declared.kind.NamesKind.TheVariants as names
 use Rattle.v_judged.specs.declared.kind.DesignKind.{DesignKind}
-use Rattle.v_judged.specs.declared.kind.DesignKind.TheVariants.{NotYet, NoTop, Undeclared, DuplicateName, HasXz, BadPort, BadConstant, WidthOver128, BadSelect, MemoryUse, ClockAsData, BadEventList, BlockingInClocked, NonblockingInComb, Latch, BadDriver, Undriven, CombLoop}
+use Rattle.v_judged.specs.declared.kind.DesignKind.TheVariants.{NoTop, Undeclared, DuplicateName, BadHierarchy, HasXz, BadPort, BadConstant, WidthOver128, BadSelect, MemoryUse, ClockAsData, BadEventList, BlockingInClocked, NonblockingInComb, Latch, BadDriver, Undriven, CombLoop}
+use Rattle.v_judged.specs.declared.kind.Judged.{Judged}
+use Rattle.v_judged.specs.declared.kind.Judged.TheVariants.{Refused, Accepted}
 
--- The kind of the definition. Of what is not read yet it has none.
-abbrev pub kind_of : DesignKind → Option designs.DesignKind
-kind_of NotYet = None
-kind_of NoTop = Some designs.no_top
-kind_of Undeclared = Some designs.undeclared
-kind_of DuplicateName = Some designs.duplicate_name
-kind_of HasXz = Some designs.has_xz
-kind_of BadPort = Some designs.bad_port
-kind_of BadConstant = Some designs.bad_constant
-kind_of WidthOver128 = Some designs.width_over_128
-kind_of BadSelect = Some designs.bad_select
-kind_of MemoryUse = Some designs.memory_use
-kind_of ClockAsData = Some designs.clock_as_data
-kind_of BadEventList = Some designs.bad_event_list
-kind_of BlockingInClocked = Some designs.blocking_in_clocked
-kind_of NonblockingInComb = Some designs.nonblocking_in_comb
-kind_of Latch = Some designs.latch
-kind_of BadDriver = Some designs.bad_driver
-kind_of Undriven = Some designs.undriven
-kind_of CombLoop = Some designs.comb_loop
+-- the kind of the definition
+abbrev pub kind_of : DesignKind → designs.DesignKind
+kind_of NoTop = designs.no_top
+kind_of Undeclared = designs.undeclared
+kind_of DuplicateName = designs.duplicate_name
+kind_of BadHierarchy = designs.bad_hierarchy
+kind_of HasXz = designs.has_xz
+kind_of BadPort = designs.bad_port
+kind_of BadConstant = designs.bad_constant
+kind_of WidthOver128 = designs.width_over_128
+kind_of BadSelect = designs.bad_select
+kind_of MemoryUse = designs.memory_use
+kind_of ClockAsData = designs.clock_as_data
+kind_of BadEventList = designs.bad_event_list
+kind_of BlockingInClocked = designs.blocking_in_clocked
+kind_of NonblockingInComb = designs.nonblocking_in_comb
+kind_of Latch = designs.latch
+kind_of BadDriver = designs.bad_driver
+kind_of Undriven = designs.undriven
+kind_of CombLoop = designs.comb_loop
 
--- It is refused by this kind. Without one: the source has a parameter or an instance.
-abbrev pub IsBy : Design → Option designs.DesignKind → Type 0
-IsBy d None = has_parts d.source ≡ true
-IsBy d (Some k) = (has_parts d.source ≡ false) × IsRefusedBy d k
-
--- No kind: the source has no parameter and no instance, and the design is accepted. Else the first kind of those that it breaks.
+-- No kind: the design is accepted. Else it is the first kind of those that it breaks.
 abbrev pub IsDesignRefusal : Design → Option DesignKind → Type 0
-IsDesignRefusal d None = (has_parts d.source ≡ false) × IsAccepted d
-IsDesignRefusal d (Some k) = IsBy d (kind_of k)
+IsDesignRefusal d None = IsAccepted d
+IsDesignRefusal d (Some k) = IsRefusedBy d (kind_of k)
+
+-- The same, and the modules that stand in an accepted design are at these places.
+abbrev pub IsJudged : Design → Judged → Type 0
+IsJudged d (Refused k) = IsRefusedBy d (kind_of k)
+IsJudged d (Accepted places) = IsAccepted d × ArePlaces d (spots_of places.items)
 
 -- kinds on names
-abbrev pub of_names : ScopesKind → DesignKind
-of_names scopes.NotYet = NotYet
-of_names scopes.NoTop = NoTop
-of_names scopes.Undeclared = Undeclared
-of_names scopes.DuplicateName = DuplicateName
+abbrev pub of_names : NamesKind → DesignKind
+of_names names.NoTop = NoTop
+of_names names.Undeclared = Undeclared
+of_names names.DuplicateName = DuplicateName
+of_names names.BadHierarchy = BadHierarchy

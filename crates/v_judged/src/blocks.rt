@@ -1,84 +1,189 @@
-//! The kinds on the clock and on blocks.
-ghost use Rattle.std.specs.Prelude.{◌≡◌, [], map, IfOk};
-ghost use Rattle.wb_values.specs.Value.{Name, same_name};
-ghost use Rattle.verilog_trees.specs.Syntax as pure;
-ghost use Rattle.verilog_meaning.specs.Hierarchy.{module_scope};
+//! The kinds on clock nets and on blocks, over all modules of a design.
+ghost use Rattle.std.specs.Prelude.{◌≡◌, ◌↔◌, length, IsTrue, IfOk};
+ghost use Rattle.std.specs.List.{list_any};
 ghost use Rattle.verilog_meaning.specs.Settled.{Design};
-ghost use Rattle.v_syntax.specs.Source.{item_of, module_of};
 ghost use Rattle.v_value.specs.Scope.{scope_at};
-ghost use Rattle.v_value.specs.Narrow.{HasNarrowObjects};
 ghost use Rattle.v_hier.specs.Tables.{has_name};
-ghost use Rattle.v_paths.specs.Modules.{AreFitItems};
+ghost use Rattle.v_instances.specs.declared.interface.Interfaces.{Interfaces};
+ghost use Rattle.v_places.specs.Views.{spot_of, spots_of};
+ghost use Rattle.v_clocks.specs.Views.{sets_of};
+ghost use Rattle.v_clocks.specs.Whole.{AreClockNets};
 ghost use Rattle.v_judged.specs.First.{IsFirst, item_kinds, block_kinds};
-ghost use Rattle.v_judged.specs.Tops.{IsTopOf};
+ghost use Rattle.place_kinds.specs.Places.{SomeSpot, SomeWith, spot_scope, IsReadySpot, AreReadySpots, HasBadEventListAt, HasLatchAt, has_blocking_in_clocked, has_nonblocking_in_combinational};
+ghost use Rattle.v_judged.specs.Standing.{IsSoundDesign};
 
 use crate::kind::DesignKind;
+use flat_rules::laws::sound_modules_are_known;
+use place_kinds::laws::block_kinds_are_at_places;
 use std::alloc::{AllocError, Global};
 use std::collections::BTreeSet;
 use v_blocks::{first_blocking_in_clocked, first_nonblocking_in_combinational};
-use v_hier::has_clock_as_data;
-use v_paths::laws::{bad_event_lists_of_one_module, latches_of_one_module};
+use v_clocks::{clock_nets, has_clock_as_data};
+use v_instances::interface::Interfaces;
 use v_paths::{has_bad_event_list, has_latch};
+use v_places::Place;
+use v_scopes::{Constants, declared_scope, placed_scope};
 use v_syntax::module::{Item, Module};
 use v_value::scope::Scope;
 
-/// A set of one name.
-fn set_with<'s>(alloc: Global, name: &'s str) -> Result<BTreeSet<&'s str>, AllocError>
-    ensures { IfOk result (λ s. (n : Name) → has_name s n ≡ same_name name.now n) }
+/// The scope of the module at a place.
+pub(crate) fn scope_of<'s>(alloc: Global, place: &Place<'_, 's>) -> Result<Scope<'s>, AllocError>
+    ensures { IfOk result (λ s. scope_at s ≡ spot_scope (spot_of place.now)) }
 {
-    let mut names = BTreeSet::new(alloc);
-    names.insert(name)?;
-    Ok(names)
+    let constants = Constants {
+        scope: &place.constants,
+    };
+    let names = declared_scope(alloc, constants, place.within)?;
+    let scope = placed_scope(alloc, &names, &place.constants)?;
+    Ok(scope)
 }
 
-/// The first of the kinds on blocks whose rule is broken by such items, which are those of the top, where the clock is the one name of the
-/// set.
+/// The items of a module.
+fn items_of<'x, 's>(within: &'x Module<'s>) -> &'x [Item<'s>]
+    ensures { result.now ≡ within.now.items.items }
+{
+    &within.items
+}
+
+/// Whether a block of the module at a place has a list of events that it may not have, where these are its clock nets.
+fn has_bad_event_list_at(
+    alloc: Global,
+    place: &Place<'_, '_>,
+    clocks: &BTreeSet<&str>,
+) -> Result<bool, AllocError>
+    requires { IsReadySpot (spot_of place.now) }
+    ensures { IfOk result (λ r. IsTrue r ↔ HasBadEventListAt (has_name clocks.now) (spot_of place.now)) }
+{
+    let scope = scope_of(alloc, place)?;
+    let bad = has_bad_event_list(alloc, &scope, clocks, items_of(place.within))?;
+    Ok(bad)
+}
+
+/// Whether one of the modules at these places has such a block, where these are the clock nets of each.
+fn any_bad_event_list(
+    alloc: Global,
+    places: &[Place<'_, '_>],
+    nets: &[BTreeSet<&str>],
+) -> Result<bool, AllocError>
+    requires as_many { length nets.now ≡ length places.now }
+    requires ready { AreReadySpots (spots_of places.now) }
+    ensures { IfOk result (λ r. IsTrue r ↔ SomeWith HasBadEventListAt (sets_of nets.now) (spots_of places.now)) }
+{
+    for (number, place) in places.iter().enumerate() {
+        if has_bad_event_list_at(alloc, place, &nets[number])? {
+            return Ok(true);
+        }
+    }
+    Ok(false)
+}
+
+/// Whether the module at a place has a blocking assignment in a clocked block.
+fn has_blocking_in_clocked(place: &Place<'_, '_>) -> bool
+    ensures { result ≡ has_blocking_in_clocked (spot_of place.now) }
+{
+    first_blocking_in_clocked(items_of(place.within)).is_some()
+}
+
+/// Whether one of the modules at these places has one.
+fn any_blocking_in_clocked(places: &[Place<'_, '_>]) -> bool
+    ensures { result ≡ list_any has_blocking_in_clocked (spots_of places.now) }
+{
+    for place in places {
+        if has_blocking_in_clocked(place) {
+            return true;
+        }
+    }
+    false
+}
+
+/// Whether the module at a place has a nonblocking assignment in a combinational block.
+fn has_nonblocking_in_combinational(place: &Place<'_, '_>) -> bool
+    ensures { result ≡ has_nonblocking_in_combinational (spot_of place.now) }
+{
+    first_nonblocking_in_combinational(items_of(place.within)).is_some()
+}
+
+/// Whether one of the modules at these places has one.
+fn any_nonblocking_in_combinational(places: &[Place<'_, '_>]) -> bool
+    ensures { result ≡ list_any has_nonblocking_in_combinational (spots_of places.now) }
+{
+    for place in places {
+        if has_nonblocking_in_combinational(place) {
+            return true;
+        }
+    }
+    false
+}
+
+/// Whether the module at a place has a latch.
+fn has_latch_at(alloc: Global, place: &Place<'_, '_>) -> Result<bool, AllocError>
+    requires { IsReadySpot (spot_of place.now) }
+    ensures { IfOk result (λ r. IsTrue r ↔ HasLatchAt (spot_of place.now)) }
+{
+    let scope = scope_of(alloc, place)?;
+    let found = has_latch(alloc, &scope, items_of(place.within))?;
+    Ok(found)
+}
+
+/// Whether one of the modules at these places has a latch.
+fn any_latch(alloc: Global, places: &[Place<'_, '_>]) -> Result<bool, AllocError>
+    requires { AreReadySpots (spots_of places.now) }
+    ensures { IfOk result (λ r. IsTrue r ↔ SomeSpot HasLatchAt (spots_of places.now)) }
+{
+    for place in places {
+        if has_latch_at(alloc, place)? {
+            return Ok(true);
+        }
+    }
+    Ok(false)
+}
+
+/// The first of the kinds on blocks whose rule one of these modules breaks, where these are the clock nets of each.
 fn items_refusal(
     alloc: Global,
-    items: &[Item<'_>],
-    scope: &Scope<'_>,
-    clocks: &BTreeSet<&str>,
+    places: &[Place<'_, '_>],
+    nets: &[BTreeSet<&str>],
 ) -> Result<Option<DesignKind>, AllocError>
-    requires objects { HasNarrowObjects (scope_at scope.now) }
-    requires fit { AreFitItems (scope_at scope.now) (map item_of items.now) }
-    ensures { IfOk result (λ k. (d : Design) (m : pure.Module) → IsTopOf d m → m.items ≡ map item_of items.now
-        → scope_at scope.now ≡ module_scope m [] → ((n : Name) → has_name clocks.now n ≡ same_name d.clock n) → IsFirst d item_kinds k) }
+    requires as_many { length nets.now ≡ length places.now }
+    requires ready { AreReadySpots (spots_of places.now) }
+    ensures { IfOk result (λ k. (d : Design) (t : Interfaces) → IsSoundDesign t (spots_of places.now) d → AreClockNets d (spots_of places.now) (sets_of nets.now)
+        → IsFirst d item_kinds k) }
 {
-    bad_event_lists_of_one_module();
-    latches_of_one_module();
-    let events = has_bad_event_list(alloc, scope, clocks, items)?;
+    block_kinds_are_at_places();
+    let events = any_bad_event_list(alloc, places, nets)?;
     if events {
         return Ok(Some(DesignKind::BadEventList));
     }
-    if first_blocking_in_clocked(items).is_some() {
+    if any_blocking_in_clocked(places) {
         return Ok(Some(DesignKind::BlockingInClocked));
     }
-    if first_nonblocking_in_combinational(items).is_some() {
+    if any_nonblocking_in_combinational(places) {
         return Ok(Some(DesignKind::NonblockingInComb));
     }
-    let latched = has_latch(alloc, scope, items)?;
+    let latched = any_latch(alloc, places)?;
     if latched {
         return Ok(Some(DesignKind::Latch));
     }
     Ok(None)
 }
 
-/// The first of these kinds whose rule is broken by the module, which is the top.
-pub(crate) fn blocks_refusal(
+/// The first of these kinds whose rule is broken by one of the modules that stand in a design, which are those at these places.
+pub(crate) fn blocks_refusal<'s>(
     alloc: Global,
-    within: &Module<'_>,
-    scope: &Scope<'_>,
+    places: &[Place<'_, 's>],
+    interfaces: &Interfaces<'s>,
     clock: &str,
 ) -> Result<Option<DesignKind>, AllocError>
-    requires objects { HasNarrowObjects (scope_at scope.now) }
-    requires fit { AreFitItems (scope_at scope.now) (module_of within.now).items }
-    requires same { scope_at scope.now ≡ module_scope (module_of within.now) [] }
-    ensures { IfOk result (λ k. (d : Design) → IsTopOf d (module_of within.now) → d.clock ≡ clock.now → IsFirst d block_kinds k) }
+    requires { (d : Design) × IsSoundDesign interfaces.now (spots_of places.now) d × (d.clock ≡ clock.now) }
+    ensures { IfOk result (λ k. (d : Design) → IsSoundDesign interfaces.now (spots_of places.now) d → d.clock ≡ clock.now → IsFirst d block_kinds k) }
 {
-    let clocks = set_with(alloc, clock)?;
-    if has_clock_as_data(alloc, within, &clocks) {
+    sound_modules_are_known();
+    block_kinds_are_at_places();
+    let nets = clock_nets(alloc, places, interfaces, clock)?;
+    let data = has_clock_as_data(alloc, places, &nets, interfaces)?;
+    if data {
         return Ok(Some(DesignKind::ClockAsData));
     }
-    let kind = items_refusal(alloc, &within.items, scope, &clocks)?;
+    let kind = items_refusal(alloc, places, &nets)?;
     Ok(kind)
 }

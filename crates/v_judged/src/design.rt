@@ -1,100 +1,115 @@
-//! All rules on a design, one after the other in the order of the kinds.
-ghost use Rattle.std.specs.Prelude.{◌≡◌, None, IfOk};
+//! All rules on designs, one after the other in the order of the kinds.
+ghost use Rattle.std.specs.Prelude.{◌≡◌, IfOk};
 ghost use Rattle.verilog_meaning.specs.Settled.{Design};
-ghost use Rattle.verilog_exists.specs.Exists.{IsShapely};
-ghost use Rattle.v_syntax.specs.Source.{module_of, source_of};
-ghost use Rattle.v_scopes.specs.Refusals.{IsNamesRefusal};
-ghost use Rattle.v_instances.specs.Interface.{AreInterfacesOf};
-ghost use Rattle.v_judged.specs.First.{IsFirst, later_kinds};
-ghost use Rattle.v_judged.specs.Refusal.{of_names, IsDesignRefusal};
-ghost use Rattle.v_judged.specs.Tops.{IsTopOf, IsTop};
+ghost use Rattle.verilog_exists.specs.Exists.{IsOfText};
+ghost use Rattle.v_syntax.specs.Source.{source_of};
+ghost use Rattle.v_places.specs.Views.{spots_of};
+ghost use Rattle.v_judged.specs.First.{IsFirst, later_kinds, block_kinds, driver_kinds};
+ghost use Rattle.v_judged.specs.Refusal.{of_names, IsDesignRefusal, IsJudged};
+ghost use Rattle.v_judged.specs.Standing.{IsNamedDesign, IsSoundDesign};
 
 use crate::blocks::blocks_refusal;
-use crate::drivers::drivers_refusal;
-use crate::kind::DesignKind;
+use crate::drivers::driver_refusal;
+use crate::flat::one_scope_refusal;
+use crate::kind::{DesignKind, Judged};
 use crate::rules::rules_refusal;
 use std::alloc::{AllocError, Global};
-use v_hier::top_of;
 use v_instances::interface::{Interfaces, interfaces_of};
-use v_scopes::{ScopesKind, module_scope, names_refusal};
-use v_syntax::module::{Module, Tree};
+use v_named::{Named, NamesKind, judged_names};
+use v_places::Place;
+use v_syntax::module::Tree;
 
 /// A kind on names as a kind of a design.
-fn of_names(kind: ScopesKind) -> DesignKind
+fn of_names(kind: NamesKind) -> DesignKind
     ensures { result ≡ of_names kind }
 {
     match kind {
-        ScopesKind::NotYet => DesignKind::NotYet,
-        ScopesKind::NoTop => DesignKind::NoTop,
-        ScopesKind::Undeclared => DesignKind::Undeclared,
-        ScopesKind::DuplicateName => DesignKind::DuplicateName,
+        NamesKind::NoTop => DesignKind::NoTop,
+        NamesKind::Undeclared => DesignKind::Undeclared,
+        NamesKind::DuplicateName => DesignKind::DuplicateName,
+        NamesKind::BadHierarchy => DesignKind::BadHierarchy,
     }
 }
 
-/// The first of the kinds after those on names whose rule is broken by the module, which is the top of a design whose names are in order.
-fn top_refusal(
+/// The first of the kinds on drivers whose rule is broken by the design that stands at these places.
+fn drivers_refusal<'s>(
     alloc: Global,
-    within: &Module<'_>,
-    interfaces: &Interfaces<'_>,
+    places: &[Place<'_, 's>],
+    interfaces: &Interfaces<'s>,
     clock: &str,
 ) -> Result<Option<DesignKind>, AllocError>
-    requires { IsTop interfaces.now (module_of within.now) }
-    ensures { IfOk result (λ k. (d : Design) → IsTopOf d (module_of within.now) → AreInterfacesOf interfaces.now d.source → d.clock ≡ clock.now → IsFirst d later_kinds k) }
+    requires { (d : Design) × IsSoundDesign interfaces.now (spots_of places.now) d }
+    ensures { IfOk result (λ k. (d : Design) → IsSoundDesign interfaces.now (spots_of places.now) d → d.clock ≡ clock.now → IsFirst d driver_kinds k) }
 {
-    let names = module_scope(alloc, within)?;
-    let rules = rules_refusal(alloc, within, &names, interfaces)?;
+    let driver = driver_refusal(alloc, places, interfaces)?;
+    if driver.is_some() {
+        return Ok(driver);
+    }
+    let kind = one_scope_refusal(alloc, places, interfaces, clock)?;
+    Ok(kind)
+}
+
+/// The first of the kinds after those on names whose rule is broken by the design that stands at these places.
+fn places_refusal<'s>(
+    alloc: Global,
+    places: &[Place<'_, 's>],
+    interfaces: &Interfaces<'s>,
+    clock: &str,
+) -> Result<Option<DesignKind>, AllocError>
+    requires { (d : Design) × IsNamedDesign interfaces.now (spots_of places.now) d × (d.clock ≡ clock.now) }
+    ensures { IfOk result (λ k. (d : Design) → IsNamedDesign interfaces.now (spots_of places.now) d → d.clock ≡ clock.now → IsFirst d later_kinds k) }
+{
+    let rules = rules_refusal(alloc, places, interfaces)?;
     if rules.is_some() {
         return Ok(rules);
     }
-    let scope = names.to_scope(alloc)?;
-    let blocks = blocks_refusal(alloc, within, &scope, clock)?;
+    let blocks = blocks_refusal(alloc, places, interfaces, clock)?;
     if blocks.is_some() {
         return Ok(blocks);
     }
-    let drivers = drivers_refusal(alloc, &within.items, &names, &scope, clock)?;
+    let drivers = drivers_refusal(alloc, places, interfaces, clock)?;
     Ok(drivers)
 }
 
-/// By which kind a design is refused whose names are in order, if by any.
-fn named_refusal(
+/// The design, judged by all rules: the first kind, in their order, whose rule it breaks, or all modules that stand in it. The design is the
+/// module `top` of the tree, with the clock `clock`. The tree is one of a text: its numbers fit their widths, parts have bits, and names
+/// have no dots.
+pub fn judged<'t, 's>(
     alloc: Global,
-    tree: &Tree<'_>,
+    tree: &'t Tree<'s>,
     top: &str,
     clock: &str,
-) -> Result<Option<DesignKind>, AllocError>
-    requires names { IsNamesRefusal (record { source = source_of tree.now; top = top.now; clock = clock.now }) None }
-    requires shapely { IsShapely (record { source = source_of tree.now; top = top.now; clock = clock.now }) }
-    ensures { IfOk result (λ k. IsDesignRefusal (record { source = source_of tree.now; top = top.now; clock = clock.now }) k) }
+) -> Result<Judged<'t, 's>, AllocError>
+    requires { IsOfText (record { source = source_of tree.now; top = top.now; clock = clock.now }) }
+    ensures { IfOk result (IsJudged (record { source = source_of tree.now; top = top.now; clock = clock.now })) }
 {
-    match top_of(tree, top) {
-        Some(within) => {
-            let interfaces = interfaces_of(alloc, tree)?;
-            let kind = top_refusal(alloc, within, &interfaces, clock)?;
-            Ok(kind)
+    let interfaces = interfaces_of(alloc, tree)?;
+    let named = judged_names(alloc, tree, top, clock)?;
+    match named {
+        Named::Refused(kind) => Ok(Judged::Refused(of_names(kind))),
+        Named::Places(places) => {
+            let kind = places_refusal(alloc, &places, &interfaces, clock)?;
+            match kind {
+                Some(kind) => Ok(Judged::Refused(kind)),
+                None => Ok(Judged::Accepted(places)),
+            }
         }
-        // Such a design has a top.
-        None => Ok(Some(DesignKind::NoTop)),
     }
 }
 
-/// By which kind a design is refused, if by any: the first, in their order, whose rule it breaks. The design is the module `top` of the
-/// tree, with the clock `clock`. A source with a parameter or an instance is `NotYet`, whatever rules it breaks. The tree is one of a text:
-/// its numbers fit their widths, and parts have bits.
+/// By which kind a design is refused, if by any.
 pub fn design_refusal(
     alloc: Global,
     tree: &Tree<'_>,
     top: &str,
     clock: &str,
 ) -> Result<Option<DesignKind>, AllocError>
-    requires { IsShapely (record { source = source_of tree.now; top = top.now; clock = clock.now }) }
+    requires { IsOfText (record { source = source_of tree.now; top = top.now; clock = clock.now }) }
     ensures { IfOk result (λ k. IsDesignRefusal (record { source = source_of tree.now; top = top.now; clock = clock.now }) k) }
 {
-    let names = names_refusal(alloc, tree, top, clock)?;
-    match names {
-        Some(kind) => Ok(Some(of_names(kind))),
-        None => {
-            let kind = named_refusal(alloc, tree, top, clock)?;
-            Ok(kind)
-        }
+    let told = judged(alloc, tree, top, clock)?;
+    match told {
+        Judged::Refused(kind) => Ok(Some(kind)),
+        Judged::Accepted(_) => Ok(None),
     }
 }

@@ -1,19 +1,21 @@
-//! The kinds by which designs are refused.
+//! The kinds by which designs are refused, and what is told of a design.
+use v_places::Place;
 
 /// Why a design is refused, in the order in which the kinds are answered.
 #[derive(Clone, Copy, PartialEq, Eq, Debug)]
 pub enum DesignKind {
-    /// Some module has a parameter or an instance, which is not read yet.
-    NotYet,
     /// No module has the name of the top, or the clock is not an input port of it of one bit.
     NoTop,
-    /// A net, a variable or a module is not declared.
+    /// A net, a variable, a parameter or a module is not declared, or a parameter is used before its declaration.
     Undeclared,
     /// Two modules share a name, or two declarations of one module.
     DuplicateName,
+    /// A module stands below itself, or more than 65,536 instances stand below the top.
+    BadHierarchy,
     /// A number has an x, z or `?` digit where none may stand.
     HasXz,
-    /// A port without a direction, a direction without a port, an input that is a variable, or ranges that differ.
+    /// A port without a direction, a direction without a port, an input that is a variable, ranges that differ, or connections or overrides
+    /// that the module below does not have.
     BadPort,
     /// A constant reads a net, divides by 0, or has no value that may stand there.
     BadConstant,
@@ -23,7 +25,7 @@ pub enum DesignKind {
     BadSelect,
     /// A memory where none may stand, or with too many words.
     MemoryUse,
-    /// The clock is read or assigned.
+    /// A clock net is read or assigned, or is a part of what is connected to a port.
     ClockAsData,
     /// A block has a list of events that none may have.
     BadEventList,
@@ -39,4 +41,11 @@ pub enum DesignKind {
     Undriven,
     /// A bit depends on itself.
     CombLoop,
+}
+
+/// The first kind whose rule a design breaks, or that it is accepted, with all modules that stand in it.
+#[derive(Drop)]
+pub enum Judged<'t, 's> {
+    Refused(DesignKind),
+    Accepted(Vec<Place<'t, 's>>),
 }

@@ -1,13 +1,12 @@
-//! By which kind a design is refused, if by any: one answer for all rules on designs, where no module of the source has a parameter or an
-//! instance.
+//! By which kind a design is refused, if by any: one answer for all rules on designs, over the top and all modules below it.
 #![tactic(auto)]
 
 mod blocks;
 mod design;
 mod drivers;
+mod flat;
 mod kind;
-pub mod laws;
 mod rules;
 
-pub use design::design_refusal;
-pub use kind::DesignKind;
+pub use design::{design_refusal, judged};
+pub use kind::{DesignKind, Judged};

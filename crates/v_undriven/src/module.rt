@@ -21,10 +21,10 @@ use v_syntax::module::Item;
 use v_value::scope::Scope;
 
 /// All that is read in a module, and its outputs.
-fn reads_of<'s>(
+fn reads_of<'s, 'm: 's>(
     alloc: Global,
     scope: &Scope<'_>,
-    names: &ModuleScope<'s>,
+    names: &ModuleScope<'m>,
     items: &[Item<'s>],
 ) -> Result<Vec<Span<'s>>, AllocError>
     requires objects { HasNarrowObjects (scope_at scope.now) }
@@ -40,10 +40,10 @@ fn reads_of<'s>(
 /// Whether a bit that is read in a module, or a bit of its output, has no driver (1364-2005, 4.2): a continuous assignment or a block that
 /// may assign it, or the world outside for an input port. Of a memory one bit with a driver is enough. The module has no parameters and
 /// no instances, and these are its names and its clock. Answers `AllocError` where memory runs out.
-pub fn has_undriven<'s>(
+pub fn has_undriven<'s, 'm: 's>(
     alloc: Global,
     scope: &Scope<'_>,
-    names: &ModuleScope<'s>,
+    names: &ModuleScope<'m>,
     clock: &str,
     items: &[Item<'s>],
 ) -> Result<bool, AllocError>

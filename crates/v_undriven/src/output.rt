@@ -17,10 +17,10 @@ use v_syntax::tree::{Expression, Selects};
 use v_value::scope::Scope;
 
 /// Adds all bits of a declared name, where it is an output.
-fn add_output<'s>(
+fn add_output<'s, 'm: 's>(
     scope: &Scope<'_>,
     names: &ModuleScope<'_>,
-    declared: Declared<'s>,
+    declared: Declared<'m>,
     found: &mut Vec<Span<'s>>,
 ) -> Result<(), AllocError>
     requires { HasNarrowObjects (scope_at scope.now) }
@@ -34,10 +34,10 @@ fn add_output<'s>(
 }
 
 /// Adds all bits of the declared names that are outputs.
-pub(crate) fn add_outputs<'s>(
+pub(crate) fn add_outputs<'s, 'm: 's>(
     scope: &Scope<'_>,
     names: &ModuleScope<'_>,
-    declared: &[Declared<'s>],
+    declared: &[Declared<'m>],
     found: &mut Vec<Span<'s>>,
 ) -> Result<(), AllocError>
     requires { HasNarrowObjects (scope_at scope.now) }

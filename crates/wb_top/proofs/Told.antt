@@ -10,7 +10,7 @@ use Rattle.wb_top.specs.Words.{Verb, check, simulate, simulate_rtl, Command, com
 use Rattle.std.proofs.lemmas.Bool.Decides.{nat_tests}
 use Rattle.wb_top.specs.Files.{most_bytes, has_fitting_length, first_long, AreHeld}
 use Rattle.wb_top.specs.Simulated.{Pair, runs, refused, pair_of, IsSimulated, AreSimulated}
-use Rattle.rtl_simulation.specs.Ending.{Ending, not_yet, broken, bad_line, missing_input, ran}
+use Rattle.rtl_simulation.specs.Ending.{Ending, broken, bad_line, missing_input, ran}
 use Rattle.wb_top.specs.SimulatedRtl.{IsWrittenFor, IsSimulatedText, AreRtlSimulated}
 use Rattle.wb_top.specs.Asked.{wanted_names, AskedAll, AskedSome}
 use Rattle.wb_top.specs.Outcome.{Told, IsEnd, IsWithin, IsAnswer, IsAnswered, IsCallOutcome}
@@ -165,7 +165,6 @@ no_simulation_is_usage (m ∷ s ∷ []) text h = no_pair_is_usage (pair_of m s) 
 no_simulation_is_usage (m ∷ s ∷ x ∷ xs) text h = h
 
 no_ending_is_usage : (e : Ending) (text : List ℕ) → IsWrittenFor e Usage text → ⊥
-no_ending_is_usage not_yet text h = h
 no_ending_is_usage (broken kind) text h = h
 no_ending_is_usage bad_line text h = h
 no_ending_is_usage missing_input text h = h

@@ -1,5 +1,5 @@
 -- How files are refused, and which model, map and module the bytes of files stand for in the first profile.
-use Rattle.std.specs.Prelude.{◌≡◌, ◌⊎◌, ℕ, suc, Bool, true, false, cond, nat_le, List, [], ◌∷◌, length, map, Option, Some, None, Result, Ok, Err, codes, IfSome, IsTrue}
+use Rattle.std.specs.Prelude.{◌≡◌, ℕ, suc, Bool, cond, nat_le, List, [], ◌∷◌, length, map, Option, Some, None, Result, Ok, Err, codes, IfSome, IsTrue}
 use Rattle.wb_values.specs.Value.{Name}
 use Rattle.model_files.specs.Meaning.{ModelRule, model_reading}
 use Rattle.verilog_text.specs.Token.{Token}
@@ -8,7 +8,6 @@ use Rattle.verilog_trees.specs.Syntax.{Source}
 use Rattle.verilog_text.specs.Grammar.{IsSource, IsTreeOf}
 use Rattle.verilog_meaning.specs.Settled.{Design}
 use Rattle.verilog_designs.specs.Accepted.{DesignKind, IsAccepted, IsRefusedBy}
-use Rattle.v_hier.specs.Instances.{has_parts}
 use Rattle.refinement.specs.Map.{Map}
 use Rattle.ila_rules.specs.Rule.{rule_name}
 use Rattle.ila_json.specs.Reading.{refusal_in}
@@ -46,11 +45,10 @@ IsKindOfText (Err r) kind = kind ≡ Some (text_kind r)
 IsKindOfText (Ok tokens) (Some kind) = (kind ≡ codes "V6 Syntax") × ((ms : Source) → ¬ IsSource ms tokens)
 IsKindOfText (Ok tokens) None = (ms : Source) × IsSource ms tokens
 
--- The kind by which a design is refused, if there is one. None refuses a design that is accepted; nor, so far, one of a source with a
--- parameter or an instance.
+-- The kind by which a design is refused, if there is one. None refuses a design that is accepted.
 abbrev pub IsKindOfDesign : Design → Option (List ℕ) → Type 0
-IsKindOfDesign d (Some kind) = (k : DesignKind) × (has_parts d.source ≡ false) × IsRefusedBy d k × (kind ≡ kind_name k)
-IsKindOfDesign d None = (has_parts d.source ≡ true) ⊎ IsAccepted d
+IsKindOfDesign d (Some kind) = (k : DesignKind) × IsRefusedBy d k × (kind ≡ kind_name k)
+IsKindOfDesign d None = IsAccepted d
 
 -- The design has the top and the clock that a map names, where the map is one of the profile.
 abbrev pub IsKindByMap : Option Map → Source → Option (List ℕ) → Type 0

@@ -1,13 +1,12 @@
 -- What a judgement of files means.
-use Rattle.std.specs.Prelude.{ℕ, List, Option, Some, None, option_map, codes}
+use Rattle.std.specs.Prelude.{ℕ, List, Some, None, codes}
 use Rattle.wb_first.specs.Names.{First}
 use Rattle.wb_first.specs.CaseView.{case_of}
 use Rattle.ila_rules.specs.Rule.{rule_view, rule_name}
 use Rattle.v_lex.specs.Reading.{refusal_of}
 use Rattle.v_judged.specs.Refusal.{kind_of}
 use Rattle.wb_top.specs.Files.{IsCaseOf, IsKind, text_kind}
-use Rattle.v_judged.specs.declared.kind.DesignKind.{DesignKind}
-use Rattle.wb_top.specs.Kinds.{kind_name, name_of_refusal}
+use Rattle.wb_top.specs.Kinds.{kind_name}
 use Rattle.wb_top.specs.Profile.{Obstacle, several_designs, model_file, map_file, design_file, all_together, KeepsOutside}
 use Rattle.wb_top.specs.declared.judged.Place.{Place}
 use Rattle.wb_top.specs.declared.judged.Place.TheVariants.{Model, Map, Design, Designs, Together}
@@ -40,9 +39,4 @@ IsJudged m p ds (Outside place) = IsOutside m p ds place × IsKind m p ds None
 IsJudged m p ds (Refused r) = IsKind m p ds (Some (rule_name (rule_view r.rule)))
 IsJudged m p ds (RefusedText r) = IsKind m p ds (Some (text_kind (refusal_of r.kind)))
 IsJudged m p ds (RefusedTree note) = IsKind m p ds (Some (codes "V6 Syntax"))
-IsJudged m p ds (RefusedDesign kind) = IsKind m p ds (Some (name_of_refusal (kind_of kind)))
-
--- the kind that an answer of the rules of designs names
-abbrev pub told_kind : Option DesignKind → Option (List ℕ)
-told_kind None = None
-told_kind (Some kind) = option_map kind_name (kind_of kind)
+IsJudged m p ds (RefusedDesign kind) = IsKind m p ds (Some (kind_name (kind_of kind)))

@@ -1,5 +1,5 @@
 -- The names of the kinds by which designs are refused.
-use Rattle.std.specs.Prelude.{ℕ, List, Option, Some, None, codes}
+use Rattle.std.specs.Prelude.{ℕ, List, codes}
 use Rattle.verilog_designs.specs.Accepted.{DesignKind, no_top, undeclared, duplicate_name, bad_hierarchy, has_xz, bad_port, bad_constant, width_over_128, bad_select, memory_use, clock_as_data, bad_event_list, blocking_in_clocked, nonblocking_in_comb, latch, bad_driver, undriven, comb_loop}
 
 abbrev pub kind_name : DesignKind → List ℕ
@@ -21,8 +21,3 @@ kind_name latch = codes "V21 Latch"
 kind_name bad_driver = codes "V22 BadDriver"
 kind_name undriven = codes "V23 Undriven"
 kind_name comb_loop = codes "V24 CombLoop"
-
--- the kind's name; without a kind the design has parts that are not read yet
-abbrev pub name_of_refusal : Option DesignKind → List ℕ
-name_of_refusal (Some kind) = kind_name kind
-name_of_refusal None = codes "N1 NotYet"

@@ -5,9 +5,9 @@ use Rattle.verilog_trees.specs.Syntax.{Source}
 use Rattle.verilog_text.specs.Text.{tokens_in}
 use Rattle.verilog_text.specs.Grammar.{IsTreeOf}
 use Rattle.verilog_meaning.specs.Settled.{Design}
-use Rattle.rtl_simulation.specs.Ending.{Ending, not_yet, broken, bad_line, missing_input, ran, IsEnding}
+use Rattle.rtl_simulation.specs.Ending.{Ending, broken, bad_line, missing_input, ran, IsEnding}
 use Rattle.wb_top.specs.Files.{IsKindOfText}
-use Rattle.wb_top.specs.Kinds.{name_of_refusal}
+use Rattle.wb_top.specs.Kinds.{kind_name}
 use Rattle.wb_top.specs.Texts.{IsRefusalBy}
 use Rattle.wb_top.specs.declared.status.Status.{Status}
 use Rattle.wb_top.specs.declared.status.Status.TheVariants.{Done, Refused}
@@ -15,8 +15,7 @@ use Rattle.wb_top.specs.declared.status.Status.TheVariants.{Done, Refused}
 -- Done: the text of what the design does under the script. Refused: by what keeps it from being run.
 abbrev pub IsWrittenFor : Ending → Status → List ℕ → Type 0
 IsWrittenFor (ran lines) Done text = text ≡ lines
-IsWrittenFor not_yet Refused text = IsRefusalBy (name_of_refusal None) text
-IsWrittenFor (broken kind) Refused text = IsRefusalBy (name_of_refusal (Some kind)) text
+IsWrittenFor (broken kind) Refused text = IsRefusalBy (kind_name kind) text
 IsWrittenFor bad_line Refused text = IsRefusalBy (codes "S1 BadLine") text
 IsWrittenFor missing_input Refused text = IsRefusalBy (codes "S2 MissingInput") text
 IsWrittenFor _ status text = ⊥

@@ -1,6 +1,6 @@
 //! Whether files are a case of the first profile, and which kind refuses the model file or the Verilog files.
 
-ghost use Rattle.std.specs.Prelude.{◌≡◌, ◌<◌, ◌∷◌, [], None, Ok, IfOk, IfSome, IfNone, is_some, map, length, option_map};
+ghost use Rattle.std.specs.Prelude.{◌≡◌, ◌<◌, ◌∷◌, [], None, Ok, IfOk, IfSome, IfNone, map, length, option_map};
 ghost use Rattle.model_files.specs.Meaning.{model_reading};
 ghost use Rattle.verilog_text.specs.Text.{tokens_in};
 ghost use Rattle.verilog_text.specs.Grammar.{IsTreeOf};
@@ -15,11 +15,11 @@ ghost use Rattle.ila_json.specs.Reading.{refusal_in};
 ghost use Rattle.v_token.specs.View.{tokens_of};
 ghost use Rattle.v_syntax.specs.Source.{source_of};
 ghost use Rattle.verilog_meaning.specs.Settled.{Design};
-ghost use Rattle.verilog_exists.specs.Exists.{IsShapely};
+ghost use Rattle.verilog_exists.specs.Exists.{IsOfText};
 ghost use Rattle.v_judged.specs.Refusal.{kind_of};
 ghost use Rattle.wb_top.specs.Files.{IsKindByMap};
-ghost use Rattle.wb_top.specs.Kinds.{name_of_refusal};
-ghost use Rattle.wb_top.specs.Judged.{IsJudged, IsInProfile, told_kind};
+ghost use Rattle.wb_top.specs.Kinds.{kind_name};
+ghost use Rattle.wb_top.specs.Judged.{IsJudged, IsInProfile};
 
 use crate::stop::NoMemory;
 use designs_of_texts::laws::trees_are_of_texts;
@@ -151,50 +151,23 @@ fn of_tree(
 {
     let map = read_map(alloc, map_file)?;
     trees_are_of_texts();
-    match broken_rule(tree, alloc, &map)? {
+    match kind_by_map(tree, alloc, &map)? {
         Some(kind) => Ok(Judged::RefusedDesign(kind)),
         None => in_profile(alloc, model, first, map_file, map, designs, tree),
     }
 }
 
-/// Whether a kind is that of a broken rule: a source with parameters or instances breaks none so far.
-fn is_rule(kind: DesignKind) -> bool
-    ensures { result ≡ is_some (kind_of kind) }
-{
-    kind != DesignKind::NotYet
-}
-
-/// What the rules of designs say of the design with the top and the clock of a map, where that was read.
+/// The kind that refuses the design with the top and the clock of a map, where that was read, if one does.
 fn kind_by_map(
     tree: &Tree<'_>,
     alloc: Global,
     map: &Option<FirstMap>,
 ) -> Result<Option<DesignKind>, NoMemory>
-    requires { (d : Design) → d.source ≡ source_of tree.now → IsShapely d }
-    ensures { IfOk result (λ k. IsKindByMap (option_map map_of map.now) (source_of tree.now) (told_kind k)) }
+    requires { (d : Design) → d.source ≡ source_of tree.now → IsOfText d }
+    ensures { IfOk result (λ k. IsKindByMap (option_map map_of map.now) (source_of tree.now) (option_map (λ k. kind_name (kind_of k)) k)) }
 {
     match map {
         Some(map) => design_refusal(alloc, tree, &map.top, &map.clock),
-        None => Ok(None),
-    }
-}
-
-/// The kind of the rule that the design with the top and the clock of a map breaks, if it breaks one.
-fn broken_rule(
-    tree: &Tree<'_>,
-    alloc: Global,
-    map: &Option<FirstMap>,
-) -> Result<Option<DesignKind>, NoMemory>
-    requires { (d : Design) → d.source ≡ source_of tree.now → IsShapely d }
-    ensures { IfOk result (λ k. IsKindByMap (option_map map_of map.now) (source_of tree.now) (option_map (λ k. name_of_refusal (kind_of k)) k)) }
-{
-    match kind_by_map(tree, alloc, map)? {
-        Some(kind) => {
-            if is_rule(kind) {
-                return Ok(Some(kind));
-            }
-            Ok(None)
-        }
         None => Ok(None),
     }
 }

@@ -6,7 +6,7 @@ ghost use Rattle.v_token.specs.View.{tokens_of};
 ghost use Rattle.verilog_text.specs.Text.{tokens_in};
 ghost use Rattle.verilog_text.specs.Grammar.{IsTreeOf};
 ghost use Rattle.v_judged.specs.Refusal.{kind_of};
-ghost use Rattle.wb_top.specs.Kinds.{name_of_refusal};
+ghost use Rattle.wb_top.specs.Kinds.{kind_name};
 ghost use Rattle.wb_top.specs.Texts.{IsRefusalBy};
 ghost use Rattle.wb_top.specs.Showing.{told_of};
 ghost use Rattle.wb_top.specs.SimulatedRtl.{IsSimulatedDesign, IsRtlSimulated};
@@ -101,7 +101,7 @@ fn of_tree(
 /// The answer where a design is refused by a kind.
 fn refused_design(alloc: Global, kind: DesignKind) -> Result<Outcome, NoMemory>
     ensures status { IfOk result (λ o. o.status ≡ Status.Refused) }
-    ensures text { IfOk result (λ o. IsRefusalBy (name_of_refusal (kind_of kind)) o.text.items) }
+    ensures text { IfOk result (λ o. IsRefusalBy (kind_name (kind_of kind)) o.text.items) }
     ensures nothing { IfOk result (λ o. (told_of o).spent ≡ []) }
 {
     let text = refusal_of_design(alloc, kind)?;

@@ -7,7 +7,7 @@ ghost use Rattle.v_lex.specs.Reading.{refusal_of};
 ghost use Rattle.wb_top.specs.Files.{text_kind};
 ghost use Rattle.wb_top.specs.Judged.{obstacle_of};
 ghost use Rattle.v_judged.specs.Refusal.{kind_of};
-ghost use Rattle.wb_top.specs.Kinds.{name_of_refusal};
+ghost use Rattle.wb_top.specs.Kinds.{kind_name};
 ghost use Rattle.wb_top.specs.Texts.{usage_text, limit_text, fits_note, IsRefusalBy, not_yet_text};
 
 use crate::judged::Place;
@@ -117,9 +117,9 @@ fn text_kind(kind: LexKind) -> &'static str
     }
 }
 
-/// The text for a design that breaks a rule, or that is not read yet.
+/// The text for a design that breaks a rule.
 pub(crate) fn refusal_of_design(alloc: Global, kind: DesignKind) -> Result<Vec<u8>, NoMemory>
-    ensures { IfOk result (λ text. IsRefusalBy (name_of_refusal (kind_of kind)) text.items) }
+    ensures { IfOk result (λ text. IsRefusalBy (kind_name (kind_of kind)) text.items) }
 {
     refusal_text_by(
         alloc,
@@ -130,13 +130,13 @@ pub(crate) fn refusal_of_design(alloc: Global, kind: DesignKind) -> Result<Vec<u
 
 /// The name of a kind by which designs are refused.
 fn design_kind(kind: DesignKind) -> &'static str
-    ensures { result.now ≡ name_of_refusal (kind_of kind) }
+    ensures { result.now ≡ kind_name (kind_of kind) }
 {
     match kind {
-        DesignKind::NotYet => "N1 NotYet",
         DesignKind::NoTop => "V7 NoTop",
         DesignKind::Undeclared => "V8 Undeclared",
         DesignKind::DuplicateName => "V9 DuplicateName",
+        DesignKind::BadHierarchy => "V10 BadHierarchy",
         DesignKind::HasXz => "V11 HasXZ",
         DesignKind::BadPort => "V12 BadPort",
         DesignKind::BadConstant => "V13 BadConstant",
@@ -159,10 +159,11 @@ fn design_note(kind: DesignKind) -> &'static str
     ensures { IsTrue (fits_note result.now) }
 {
     match kind {
-        DesignKind::NotYet => "modules with parameters or instances are not read yet",
         DesignKind::NoTop => "no module has the top's name, or the clock is no one-bit input of it",
         DesignKind::Undeclared => "a net, a variable, a parameter or a module is not declared",
         DesignKind::DuplicateName => "two modules share a name, or two declarations of one module",
+        DesignKind::BadHierarchy =>
+            "a module stands below itself, or more than 65,536 instances stand below the top",
         DesignKind::HasXz => "a number has an x, z or ? digit where none may stand",
         DesignKind::BadPort =>
             "a port lacks a direction or a place in the list, or is declared two ways",

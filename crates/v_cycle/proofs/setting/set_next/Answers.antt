@@ -1,61 +1,75 @@
-use Rattle.std.proofs.Common.{◌∙◌, ◌++◌, [], ◌∷◌, get_or, take, map, sym, ap, subst, arith}
-use Rattle.std.proofs.lemmas.List.{length-map, map-set, map-append, take_all, take_more_set, get_or-map, map_more}
+use Rattle.std.proofs.Common.{◌∙◌, ◌+◌, ◌<◌, ◌++◌, [], ◌∷◌, length, get_or, take, drop, map, sym, ap, subst, arith}
+use Rattle.std.proofs.lemmas.List.{length-map, take_all, take_more_set, get_or-take, map_more}
+use Rattle.wb_values.specs.Value.{number}
 use Rattle.model_meaning.specs.Term.{sort_of}
 use Rattle.wb_terms.specs.declared.nodes.TermId.{TermId}
 use Rattle.wb_terms.specs.Graph.{tree}
-use Rattle.wb_terms.specs.Environment.{HasSortOf, as_value, value_of}
-use Rattle.v_cycle.specs.Setting.{AreOfTerms}
+use Rattle.wb_terms.specs.Environment.{HasSortOf, as_value, value_of, values_of}
 use Rattle.v_cycle.specs.Next.{values_of_terms}
-use Rattle.v_cycle.proofs.Terms.{AreOfTerms-length, AreOfTerms-within, AreOfTerms-at, AreOfTerms-set}
+use Rattle.v_cycle.proofs.Steps.{set-left, left-at}
+use Rattle.v_cycle.proofs.Terms.{AreOfTerms-length, AreOfTerms-within, AreOfTerms-at}
 use Rattle.v_cycle.proofs.setting.set_next.Goals as goal
 
-pub bounds-values-k : goal.bounds-values-k
-bounds-values-k c =
-    let vs = c.loop-k.values in
-    let a = AreOfTerms-length c.args.terms.now c.args.next.now (map as_value vs) c.loop-k.invariant.sorted in
-    omega (arith, a, length-map vs as_value, c.loop-k-test.true)
+pub set_register-requires-clause-id : goal.set_register-requires-clause-id
+set_register-requires-clause-id c =
+    AreOfTerms-within c.args.terms.now c.args.next.now (map as_value c.args.values.now) c.loop-k.k (record { 0 = 0 }) c.requires.sorted c.loop-k-test.true
 
-pub set_value-requires-clause-id : goal.set_value-requires-clause-id
-set_value-requires-clause-id c =
-    AreOfTerms-within c.args.terms.now c.args.next.now (map as_value c.loop-k.values) c.loop-k.k (record { 0 = 0 }) c.loop-k.invariant.sorted c.loop-k-test.true
+pub set_register-requires-clause-register : goal.set_register-requires-clause-register
+set_register-requires-clause-register c =
+    let xs = c.args.values.now in
+    let all = AreOfTerms-length c.args.terms.now c.args.next.now (map as_value xs) c.requires.sorted in
+    omega (arith, all, length-map xs as_value, c.loop-k-test.true)
 
-pub set_value-requires-clause-sorted : goal.set_value-requires-clause-sorted
-set_value-requires-clause-sorted c =
-    let g = c.args.terms.now in
-    let vs = c.loop-k.values in
+pub set_register-requires-clause-own : goal.set_register-requires-clause-own
+set_register-requires-clause-own c =
+    let xs = c.args.values.now in
     let k = c.loop-k.k in
+    let all = AreOfTerms-length c.args.terms.now c.args.next.now (map as_value xs) c.requires.sorted in
+    let lt : k < length xs = omega (arith, all, length-map xs as_value, c.loop-k-test.true) in
+    left-at (map as_value c.loop-k.values) (map as_value xs) k (number 0) c.loop-k.invariant.left
+    ∙ ap (λ l. get_or l k (number 0)) c.requires.own
+    ∙ get_or-take (length xs) (values_of c.args.env.now) k (number 0) lt
+
+pub set_register-requires-clause-sorted : goal.set_register-requires-clause-sorted
+set_register-requires-clause-sorted c =
+    let g = c.args.terms.now in
     let ids = c.args.next.now in
+    let xs = map as_value c.args.values.now in
+    let k = c.loop-k.k in
     let d : TermId = record { 0 = 0 } in
-    let a = AreOfTerms-length g ids (map as_value vs) c.loop-k.invariant.sorted in
-    let r = c.index-values-k.result in
-    subst (λ x. HasSortOf x (sort_of (tree g (get_or ids k d).0))) (get_or-map as_value vs k r (as_value r) (omega (arith, a, length-map vs as_value, c.loop-k-test.true)))
-    (AreOfTerms-at g ids (map as_value vs) k d (as_value r) c.loop-k.invariant.sorted c.loop-k-test.true)
+    subst (λ x. HasSortOf x (sort_of (tree g (get_or ids k d).0))) (sym (left-at (map as_value c.loop-k.values) xs k (number 0) c.loop-k.invariant.left))
+    (AreOfTerms-at g ids xs k d (number 0) c.requires.sorted c.loop-k-test.true)
 
 pub loop-k-preserved : goal.loop-k-preserved
 loop-k-preserved c =
     let g = c.args.terms.now in
+    let e = c.args.env.now in
+    let ids = c.args.next.now in
+    let xs = c.args.values.now in
     let vs = c.loop-k.values in
     let k = c.loop-k.k in
-    let ids = c.args.next.now in
     let d : TermId = record { 0 = 0 } in
-    let y = c.set_value.new.value in
-    let a = AreOfTerms-length g ids (map as_value vs) c.loop-k.invariant.sorted in
+    let y = value_of g e (get_or ids k d).0 in
+    let all = AreOfTerms-length g ids (map as_value xs) c.requires.sorted in
+    let now = c.set_register.ensures.values in
     record {
       set =
-          ap (map as_value) (take_more_set vs k y (omega (arith, a, length-map vs as_value, c.loop-k-test.true)))
-          ∙ map-append as_value (take k vs) (y ∷ [])
-          ∙ (λ j. c.loop-k.invariant.set j ++ c.set_value.ensures.value j ∷ [])
-          ∙ sym (map_more (λ id. value_of g c.args.env.now id.0) ids k d c.loop-k-test.true);
-      sorted =
-          subst (AreOfTerms g ids) (sym (map-set as_value vs k y))
-          (AreOfTerms-set g ids (map as_value vs) k d (as_value y) c.loop-k.invariant.sorted c.set_value.ensures.sorted);
+          ap (take (k + 1)) now
+          ∙ take_more_set (map as_value vs) k y (omega (arith, all, length-map xs as_value, length-map vs as_value, c.loop-k-test.true))
+          ∙ ap (λ l. l ++ y ∷ []) c.loop-k.invariant.set
+          ∙ sym (map_more (λ id. value_of g e id.0) ids k d c.loop-k-test.true);
+      left = ap (drop (k + 1)) now ∙ set-left (map as_value vs) (map as_value xs) k y c.loop-k.invariant.left;
+      listed = λ zs h. c.set_register.ensures.listed zs (c.loop-k.invariant.listed zs h);
     }
 
 pub returns-clause-values : goal.returns-clause-values
 returns-clause-values c =
     let g = c.args.terms.now in
-    let vs = c.loop-k.values in
     let ids = c.args.next.now in
-    let a = AreOfTerms-length g ids (map as_value vs) c.loop-k.invariant.sorted in
-    ap (map as_value) (sym (take_all c.loop-k.k vs (omega (arith, a, length-map vs as_value)))) ∙ c.loop-k.invariant.set
-    ∙ ap (values_of_terms g c.args.env.now) (take_all c.loop-k.k ids (omega arith))
+    let xs = c.args.values.now in
+    let vs = c.loop-k.values in
+    let k = c.loop-k.k in
+    let all = AreOfTerms-length g ids (map as_value xs) c.requires.sorted in
+    sym (take_all k (map as_value vs) (omega (arith, all, length-map xs as_value, length-map vs as_value)))
+    ∙ c.loop-k.invariant.set
+    ∙ ap (values_of_terms g c.args.env.now) (take_all k ids (omega arith))

@@ -9,4 +9,4 @@ pub returns : goal.returns
 returns c =
     c.in_ok-found.ensures
     ∙ ap (chosen (is_output_of c.args.names.now)) (ap (map (λ n. n.now)) c.deref.ensures.value ∙ c.in_ok-order.ensures)
-    ∙ outputs_are c.args.names.now (module_of c.args.within.now) (port_order (module_of c.args.within.now)) c.requires
+    ∙ outputs_are c.requires.0 c.args.names.now (module_of c.args.within.now) (port_order (module_of c.args.within.now)) c.requires.1

@@ -1,28 +1,33 @@
-use Rattle.std.proofs.Common.{◌∙◌, refl, sym, ap, subst, map, inl, inr}
-use Rattle.wb_values.specs.Value.{same_name}
-use Rattle.v_syntax.specs.Source.{item_of, module_of}
-use Rattle.v_value.specs.Scope.{scope_at}
-use Rattle.verilog_designs.specs.Clocks.{names_in_module}
+use Rattle.std.proofs.Common.{◌∙◌, refl, ap, sym, subst, inl, inr, length}
 use Rattle.v_hier.specs.Tables.{has_name}
-use Rattle.v_judged.proofs.Asked.{one_among, clock_so}
-use Rattle.v_paths.specs.Modules.{AreFitItems}
+use Rattle.v_places.specs.Views.{spot_of, spots_of}
+use Rattle.v_clocks.specs.Views.{sets_of}
+use Rattle.v_clocks.specs.Whole.{AreClockNets}
+use Rattle.v_judged.proofs.Sound.{sound_places, known_places, clock_so}
+use Rattle.v_judged.proofs.Asking.{as_many}
 use Rattle.v_judged.proofs.blocks.blocks_refusal.Goals as goal
 
-pub items_refusal-requires-clause-fit : goal.items_refusal-requires-clause-fit
-items_refusal-requires-clause-fit c = subst (λ xs. AreFitItems (scope_at c.args.scope.now) (map item_of xs)) (sym c.deref.ensures.value) c.requires.fit
+pub items_refusal-requires-clause-as_many : goal.items_refusal-requires-clause-as_many
+items_refusal-requires-clause-as_many c =
+    let h = c.requires.1 in
+    let own = c.in_ok-nets.ensures c.requires.0 (known_places _ _ _ h c.sound_modules_are_known.ensures) h.named.interfaces c.requires.2 in
+    ap length c.deref-2.ensures.value ∙ as_many has_name spot_of c.in_ok-nets.nets.items c.args.places.now own.as_many
 
-pub returns-then-has_clock_as_data : goal.returns-then-has_clock_as_data
-returns-then-has_clock_as_data c = λ d h k.
-    let m = module_of c.args.within.now in
-    let same = one_among (has_name c.in_ok-clocks.clocks) c.args.clock.now c.in_ok-clocks.ensures (names_in_module m) in
-    inl (refl, (clock_so d m h c.args.clock.now k c.has_clock_as_data.result (c.has_clock_as_data.ensures ∙ same)).0 c.if-has_clock_as_data.true)
+pub items_refusal-requires-clause-ready : goal.items_refusal-requires-clause-ready
+items_refusal-requires-clause-ready c = c.block_kinds_are_at_places.ensures.ready c.requires.0 (spots_of c.args.places.now) (sound_places _ _ _ c.requires.1)
+
+pub returns-then-data : goal.returns-then-data
+returns-then-data c = λ d h k.
+    let spots = spots_of c.args.places.now in
+    let known = known_places _ spots d h c.sound_modules_are_known.ensures in
+    let own = c.in_ok-nets.ensures d known h.named.interfaces k in
+    let told = clock_so _ spots d h _ (c.in_ok-data.ensures d known h.named.interfaces (subst (λ ns. AreClockNets d spots (sets_of ns)) (sym c.deref.ensures.value) own)) in
+    inl (refl, told.0 c.if-data.true)
 
 pub returns : goal.returns
 returns c = λ d h k.
-    let m = module_of c.args.within.now in
-    let same = one_among (has_name c.in_ok-clocks.clocks) c.args.clock.now c.in_ok-clocks.ensures (names_in_module m) in
-    inr (
-      (clock_so d m h c.args.clock.now k c.has_clock_as_data.result (c.has_clock_as_data.ensures ∙ same)).1 c.if-has_clock_as_data.false,
-      c.in_ok-kind.ensures d m h (ap (map item_of) (sym c.deref.ensures.value)) c.requires.same
-          (λ n. c.in_ok-clocks.ensures n ∙ ap (λ c. same_name c n) (sym k)),
-    )
+    let spots = spots_of c.args.places.now in
+    let known = known_places _ spots d h c.sound_modules_are_known.ensures in
+    let own = c.in_ok-nets.ensures d known h.named.interfaces k in
+    let told = clock_so _ spots d h _ (c.in_ok-data.ensures d known h.named.interfaces (subst (λ ns. AreClockNets d spots (sets_of ns)) (sym c.deref.ensures.value) own)) in
+    inr (told.1 c.if-data.false, c.in_ok-kind.ensures d c.args.interfaces.now h (subst (λ ns. AreClockNets d spots (sets_of ns)) (sym c.deref-2.ensures.value) own))

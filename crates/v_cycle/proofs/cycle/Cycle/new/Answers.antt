@@ -3,6 +3,7 @@ use Rattle.std.proofs.lemmas.List.{length-drop}
 use Rattle.wb_values.specs.Value.{number}
 use Rattle.wb_terms.specs.Environment.{AreOfSorts, as_value}
 use Rattle.v_cycle.proofs.Sorts.{joined, zeros}
+use Rattle.v_cycle.proofs.Cycles.{first_listed}
 use Rattle.v_cycle.proofs.cycle.Cycle.new.Goals as goal
 
 pub returns-clause-made : goal.returns-clause-made
@@ -21,4 +22,5 @@ returns-clause-made c =
           subst (AreOfSorts ns) (sym (all ∙ ap (λ k. xs ++ replicate k (number 0)) count))
           (joined n ns xs (replicate (length (drop n ns)) (number 0)) c.requires (zeros (drop n ns) d.words));
       room = omega (arith, c.in_ok-words.ensures);
+      listed = λ complete. first_listed c.in_ok-changes.changes.list.items _ _ xs (replicate c.input_count.result (number 0)) c.in_ok-changes.ensures again all;
     }

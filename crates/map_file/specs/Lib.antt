@@ -1,0 +1,4 @@
+pub mod Rule
+pub mod Places
+pub mod View
+pub mod Reading

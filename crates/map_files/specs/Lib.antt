@@ -1,0 +1,4 @@
+pub mod Written
+pub mod Shape
+pub mod Keys
+pub mod Meaning

@@ -1,0 +1,7 @@
+pub mod Case
+pub mod Names
+pub mod Expressions
+pub mod Inputs
+pub mod Mapped
+pub mod Accepted
+pub mod Worked

@@ -1,0 +1,5 @@
+pub mod Places
+pub mod Known
+pub mod Blocks
+pub mod Drivers
+pub mod Flat

@@ -1,0 +1,13 @@
+mod Belonging
+mod Nexts
+mod Given
+mod Standing
+mod Clocked
+mod AsData
+mod Arms
+mod Listed
+mod Alone
+mod Turns
+mod Walks
+mod Ends
+mod Places

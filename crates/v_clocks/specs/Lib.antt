@@ -1,0 +1,5 @@
+pub mod Uses
+pub mod Nets
+pub mod Data
+pub mod Whole
+pub mod Views

@@ -1,0 +1,15 @@
+pub mod Alike
+pub mod Places
+pub mod Items
+pub mod Links
+pub mod Named
+pub mod Instances
+pub mod Whole
+pub mod Loops
+pub mod Made
+pub mod Connected
+pub mod Rows
+pub mod Added
+pub mod Unchanged
+pub mod Reordering
+pub mod Children

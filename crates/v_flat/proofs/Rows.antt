@@ -1,0 +1,45 @@
+-- The rows of a list of places by their numbers, and the new names in each.
+use Rattle.std.proofs.Common.{◌≡◌, ◌<◌, ◌∙◌, ◌+◌, ℕ, zero, suc, List, [], ◌∷◌, map, length, get_or, refl, ap, sym, Some, arith}
+use Rattle.std.specs.Prelude.{slice_get}
+use Rattle.std.proofs.lemmas.List.{get_or-map, length-map}
+use Rattle.verilog_trees.specs.Syntax.{Source}
+use Rattle.v_renamed.specs.declared.names.Names.{Names}
+use Rattle.v_renamed.specs.NewNames.{new_name}
+use Rattle.v_places.specs.Below.{Spot}
+use Rattle.verilog_meaning.specs.Hierarchy.{PathStep}
+use Rattle.v_flat.specs.Paths.{IsRowOf, AreRowsOf, paths_of}
+use Rattle.v_flat.specs.Entries.{SpotNames, names_at_paths, names_of, naming_of}
+use Rattle.v_flat.proofs.Places.{paths_length}
+use Rattle.v_flat.specs.Items.{naming_at}
+use Rattle.v_flat.specs.Views.{namings}
+
+pub row_at : {A : Type 0} (source : Source) (n : ℕ) (view : A → Spot) (xs : List A) (k : ℕ) (d : A) → k < length xs → AreRowsOf source n (map view xs)
+    → IsRowOf source n (view (get_or xs k d))
+row_at source n view [] k d l h = absurd (omega (arith, l))
+row_at source n view (x ∷ xs) zero d l h = h.0
+row_at source n view (x ∷ xs) (suc k) d l h = row_at source n view xs k d (omega (arith, l)) h.1
+
+-- the names of a table are those with its number
+pub naming_here : (ts : List Names) (k : ℕ) (t d : Names) → k < length ts → t ≡ get_or ts k d → new_name t ≡ naming_at (namings ts) k
+naming_here ts k t d l e = ap new_name e ∙ sym (get_or-map new_name ts k d (λ n. n) l)
+
+-- the rows of all places, from those of each
+pub all_rows : (source : Source) (n : ℕ) (xs : List Spot) → ((k : ℕ) (x : Spot) → slice_get xs k ≡ Some x → IsRowOf source n x) → AreRowsOf source n xs
+all_rows source n [] h = tt
+all_rows source n (x ∷ xs) h = (h 0 x refl, all_rows source n xs (λ k y e. h (suc k) y e))
+
+-- ---- as many of each
+
+names_length : (qs : List (List PathStep)) (xs : List Spot) → length qs ≡ length xs → length (names_at_paths qs xs) ≡ length xs
+names_length [] [] l = refl
+names_length [] (x ∷ xs) l = absurd (omega (arith, l))
+names_length (q ∷ qs) [] l = absurd (omega (arith, l))
+names_length (q ∷ qs) (x ∷ xs) l = let r = names_length qs xs (omega (arith, l)) in omega (arith, r)
+
+pub as_many : {A : Type 0} (ts : List Names) (ns : List SpotNames) (view : A → Spot) (xs : List A) → namings ts ≡ map naming_of ns → ns ≡ names_of (map view xs)
+    → length ts ≡ length xs
+as_many ts ns view xs e n =
+    let many : length (paths_of (map view xs)) ≡ 0 + length (map view xs) = paths_length [] (map view xs) in
+    let paths : length (paths_of (map view xs)) ≡ length (map view xs) = omega (arith, many) in
+    sym (length-map ts new_name) ∙ ap length (e ∙ ap (map naming_of) n) ∙ length-map (names_of (map view xs)) naming_of
+    ∙ names_length (paths_of (map view xs)) (map view xs) paths ∙ length-map xs view

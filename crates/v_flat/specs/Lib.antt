@@ -1,0 +1,9 @@
+pub mod Paths
+pub mod Links
+pub mod Items
+pub mod Entries
+pub mod Views
+pub mod Whole
+pub mod Outputs
+pub mod Reordered
+pub mod Drivers

@@ -1,0 +1,147 @@
+//! The dotted names of all modules that stand in a design (IEEE 1364-2005, 12.5).
+ghost use Rattle.std.specs.Prelude.{◌≡◌, ◌++◌, ◌∷◌, [], map, option_map, slice_get, IfOk, OnOk};
+ghost use Rattle.std.specs.String.{string_bytes};
+ghost use Rattle.v_value.specs.Scope.{object_of, objects_of};
+ghost use Rattle.v_scopes.specs.Rows.{rows_of, objects_by};
+ghost use Rattle.v_scopes.specs.Scopes.{scope_in};
+ghost use Rattle.v_places.specs.Views.{spot_of, spots_of};
+ghost use Rattle.v_flat.specs.Entries.{dotted_entry, dotted_entries, spot_names, names_of, front_below};
+ghost use Rattle.v_flat.specs.Views.{entry_in, names_in};
+
+use std::alloc::{AllocError, Global};
+use v_places::Place;
+use v_scopes::{Constants, Declared, ModuleScope, declared_scope};
+use v_value::scope::{Declaration, Object};
+
+/// A name of a module that stands in a design, its dotted name, and what it stands for.
+#[derive(Drop)]
+pub struct Dotted<'s> {
+    pub name: &'s str,
+    pub text: String,
+    pub object: Object,
+}
+
+/// The names of a module that stands in a design, and what stands before them in their dotted names.
+#[derive(Drop)]
+pub struct PlaceNames<'s> {
+    pub front: String,
+    pub names: Vec<Dotted<'s>>,
+}
+
+/// The names of all modules that stand in a design.
+#[derive(Drop)]
+pub struct DottedNames<'s> {
+    pub places: Vec<PlaceNames<'s>>,
+}
+
+/// A name with its dotted name.
+fn with_front<'s>(
+    alloc: Global,
+    front: &str,
+    name: &'s str,
+    object: Object,
+) -> Result<Dotted<'s>, AllocError>
+    ensures { IfOk result (λ x. entry_in x ≡ dotted_entry front.now (name.now, object_of object)) }
+{
+    let mut text = String::from_str(alloc, front)?;
+    text.push_str(name)?;
+    Ok(Dotted { name, text, object })
+}
+
+/// Adds constants.
+fn add_constants<'s>(
+    constants: &[Declaration<'s>],
+    front: &str,
+    list: &mut Vec<Dotted<'s>>,
+    alloc: Global,
+) -> Result<(), AllocError>
+    ensures { OnOk result (map entry_in list.new.items ≡ map entry_in list.old.items ++ dotted_entries front.now (objects_of constants.now)) }
+{
+    for each in constants {
+        let entry = with_front(alloc, front, each.name, each.object)?;
+        list.push(entry)?;
+    }
+    Ok(())
+}
+
+/// Adds what is declared.
+fn add_declared<'s>(
+    names: &ModuleScope<'s>,
+    declared: &[Declared<'s>],
+    front: &str,
+    list: &mut Vec<Dotted<'s>>,
+    alloc: Global,
+) -> Result<(), AllocError>
+    ensures { OnOk result (map entry_in list.new.items ≡ map entry_in list.old.items ++ dotted_entries front.now (objects_by (scope_in names.now) (rows_of declared.now))) }
+{
+    for each in declared {
+        let object = names.object(each.name);
+        let entry = with_front(alloc, front, each.name, object)?;
+        list.push(entry)?;
+    }
+    Ok(())
+}
+
+/// The names of a module that stands in a design.
+fn place_names<'s>(
+    place: &Place<'_, 's>,
+    front: String,
+    alloc: Global,
+) -> Result<PlaceNames<'s>, AllocError>
+    ensures { IfOk result (λ p. names_in p ≡ spot_names (string_bytes front) (spot_of place.now)) }
+{
+    let around = Constants {
+        scope: &place.constants,
+    };
+    let scope = declared_scope(alloc, around, place.within)?;
+    let mut names = Vec::new(alloc);
+    add_constants(place.constants.declarations(), &front, &mut names, alloc)?;
+    add_declared(&scope, scope.declarations(), &front, &mut names, alloc)?;
+    Ok(PlaceNames { front, names })
+}
+
+/// The name of a place's instance. That of the top is empty.
+fn instance_name<'s>(place: &Place<'_, 's>) -> &'s str
+    ensures { result.now ≡ (spot_of place.now).instance }
+{
+    match place.instance {
+        Some(instance) => instance.name,
+        None => "",
+    }
+}
+
+/// What stands before the names of an instance in their dotted names: what stands before those of the module around it, the instance's
+/// name and a dot. Before those of the top, which is in no module, stands nothing.
+fn front_below(
+    before: &[PlaceNames<'_>],
+    place: &Place<'_, '_>,
+    alloc: Global,
+) -> Result<String, AllocError>
+    ensures { IfOk result (λ s. string_bytes s ≡ front_below (slice_get (map names_in before.now) place.now.parent) (spot_of place.now).instance) }
+{
+    match before.get(place.parent) {
+        Some(around) => {
+            let mut front = String::from_str(alloc, &around.front)?;
+            front.push_str(instance_name(place))?;
+            front.push('.')?;
+            Ok(front)
+        }
+        None => Ok(String::new(alloc)),
+    }
+}
+
+/// The names of all modules that stand in a design, each with its dotted name.
+pub fn dotted_names<'s>(
+    alloc: Global,
+    places: &[Place<'_, 's>],
+) -> Result<DottedNames<'s>, AllocError>
+    ensures { IfOk result (λ n. map names_in n.places.items ≡ names_of (spots_of places.now)) }
+{
+    let mut list = Vec::new(alloc);
+    for place in places {
+        let front = front_below(&list, place, alloc)?;
+        let names = place_names(place, front, alloc)?;
+        list.push(names)?;
+    }
+    Ok(DottedNames { places: list })
+}

@@ -1,0 +1,11 @@
+use Rattle.std.proofs.Common.{◌∙◌, ap, map, is_some}
+use Rattle.std.specs.List.{list_any}
+use Rattle.v_syntax.specs.Source.{item_of}
+use Rattle.v_blocks.specs.Blocks.{is_blocking_in_clocked}
+use Rattle.v_judged.proofs.Listed.{position_so}
+use Rattle.v_judged.proofs.blocks.has_blocking_in_clocked.Goals as goal
+
+pub returns : goal.returns
+returns c =
+    c.is_some.ensures ∙ (ap is_some c.first_blocking_in_clocked.ensures ∙ (position_so is_blocking_in_clocked item_of c.items_of.result.now
+    ∙ ap (λ xs. list_any is_blocking_in_clocked (map item_of xs)) c.items_of.ensures))

@@ -1,0 +1,5 @@
+mod Earlier
+mod Breadth
+mod Directions
+mod Refusals
+mod Walks

@@ -1,0 +1,6 @@
+mod Adding
+mod Texts
+mod Entered
+mod Lined
+mod Ordering
+mod Whole

@@ -1,0 +1,4 @@
+pub mod Order
+pub mod Membership
+pub mod Lines
+pub mod Tables

@@ -1,0 +1,6 @@
+pub mod Below
+pub mod Places
+pub mod Walk
+pub mod Added
+pub mod Views
+pub mod Whole
