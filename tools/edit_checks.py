@@ -8,6 +8,7 @@ import tempfile
 import threading
 from dataclasses import dataclass
 
+import crate_list
 from edits import TOP, above_of, apply, functions_in, read
 
 KIT = "/opt/rattle"
@@ -50,9 +51,7 @@ def try_above(room, name, edit, above):
 def libraries_of(name):
     """The words that give a check the libraries that the crate stands on."""
     words = ["--extern", f"std={KIT}/rlibs/std.rlib", "-L", f"dependency={KIT}/rlibs"]
-    with open(os.path.join(TOP, "crates.txt")) as lines:
-        below = next(line for line in lines if line.startswith(f"{name}:")).split(":")[1].split()
-    for it in below:
+    for it in crate_list.below()[name]:
         own = os.path.join(TOP, "crates", it, "out", "rlib", f"{it}.rlib")
         given = os.path.join(os.environ.get("RLIBS", ""), it, f"{it}.rlib")
         path = next((at for at in (given, own, f"{KIT}/rlibs/{it}.rlib") if os.path.isdir(at)), None)

@@ -3,13 +3,14 @@ import os
 import re
 from dataclasses import dataclass
 
+import crate_list
+
 TOP = os.path.realpath(os.path.join(os.path.dirname(os.path.abspath(__file__)), ".."))
 FUNCTION = re.compile(r"^( *)(?:pub(?:\([a-z]+\))? )?(const )?(?:ghost )?(?:unsafe )?fn ([a-z_0-9]+)", re.M)
 
 
 def crates():
-    with open(os.path.join(TOP, "crates.txt")) as lines:
-        return [line.split(":")[0].split()[0] for line in lines if line.strip() and not line.startswith("#")]
+    return list(crate_list.named())
 
 
 def edits_of(name):
