@@ -11,7 +11,7 @@ use Rattle.wb_terms.specs.declared.nodes.TermId.{TermId}
 use Rattle.wb_terms.specs.declared.nodes.Node.{Node}
 use Rattle.wb_terms.specs.declared.nodes.Node.TheVariants.{Name as NameNode, Truth, Const, Not, And, Or, Xor, Neg, Add, Sub, Mul, Shl, Lshr, Ashr, Eq, Ult, Ule, Slt, Sle, Concat, Extract, Zext, Sext, Ite, Load, Store}
 use Rattle.wb_terms.specs.Graph.{Graph, IsOver, tree, tree_of_node, with_node, AllBelow, operands_of, names_of}
-use Rattle.term_copies.specs.Copies.{IsExtended, id_at, name_at, AreLeaves, GiveValues, IsCopy, AreCopiesOf, over_copies, leaf_name}
+use Rattle.term_copies.specs.Copies.{IsExtended, id_at, declared_at, AreLeaves, GiveValues, IsCopy, AreCopiesOf, over_copies, leaf_name}
 use Rattle.term_copies.proofs.Extending.{tree_kept, count_grows, last_tree, last_below, extended_by}
 
 -- The first term has the sort of the second, and is worth under v what that is worth under u, wherever the two are related.
@@ -19,7 +19,7 @@ pub record IsLike (A : Valuation → Valuation → Type 0) (x y : Term) : Type 0
   pub sort : sort_of x ≡ sort_of y
   pub value : (v u : Valuation) → A v u → val x v ≡ val y u
 
-is_leaf : Option NameId → Bool
+abbrev is_leaf : Option NameId → Bool
 is_leaf (Some n) = true
 is_leaf None = false
 
@@ -240,7 +240,7 @@ put_is_copy g h source leaves ids n id k l c leaf e i w =
           ∙ (like.value v u (given_before source.names leaves v u (extended_by m w) leaf given) ∙ ap (λ (t : Term). val t u) (sym e));
     }
 
-taken : Option NameId → NameId → NameId
+abbrev taken : Option NameId → NameId → NameId
 taken (Some z) d = z
 taken None d = d
 
@@ -257,7 +257,7 @@ leaf_is_copy g source leaves (NameNode m) leaf_of id k l leaf b e s i =
     let at : id ≡ id_at leaves m.0 = i ∙ ap (λ (x : NameId). id_at leaves x.0) (sym same) in
     record {
       below = subst (λ j. j < length g.nodes) (sym at) (leaf.below m.0 b.0);
-      sort = ap (λ j. sort_of (tree g j)) at ∙ (leaf.sort m.0 b.0 ∙ (sym (chosen (is_sort (name_at source.names m.0).1) (name_at source.names m.0).1 (subst (λ (t : Term). IsSome (sort_of t)) e s)) ∙ ap sort_of (sym e)));
+      sort = ap (λ j. sort_of (tree g j)) at ∙ (leaf.sort m.0 b.0 ∙ (sym (chosen (is_sort (declared_at source.names m.0).1) (declared_at source.names m.0).1 (subst (λ (t : Term). IsSome (sort_of t)) e s)) ∙ ap sort_of (sym e)));
       value = λ v u given. ap (λ j. val (tree g j) v) at ∙ (given m.0 b.0 ∙ ap (λ (t : Term). val t u) (sym e));
     }
 leaf_is_copy g source leaves _ leaf_of id k l leaf b e s i = absurd (false≢true (ap is_leaf l))

@@ -19,18 +19,18 @@ abbrev pub id_at : List TermId → ℕ → ℕ
 id_at ids k = (slice_index_or ids k (record { 0 = 0 })).0
 
 -- the entry at a place of a table of names
-abbrev pub name_at : Entries Sort → ℕ → Name × Sort
-name_at names k = slice_index_or names k ([], truth)
+abbrev pub declared_at : Entries Sort → ℕ → Name × Sort
+declared_at names k = slice_index_or names k ([], truth)
 
 -- For each name there is a term of the store, of the name's sort.
 pub record AreLeaves (g : Graph) (names : Entries Sort) (leaves : List TermId) : Type 0 where
   pub count : length leaves ≡ length names
   pub below : (j : ℕ) → j < length names → id_at leaves j < length g.nodes
-  pub sort : (j : ℕ) → j < length names → sort_of (tree g (id_at leaves j)) ≡ Some (name_at names j).1
+  pub sort : (j : ℕ) → j < length names → sort_of (tree g (id_at leaves j)) ≡ Some (declared_at names j).1
 
 -- Under v the term for each name is worth what the name is under u.
 abbrev pub GiveValues : Graph → Entries Sort → List TermId → (v u : Valuation) → Type 0
-GiveValues g names leaves v u = (j : ℕ) → j < length names → val (tree g (id_at leaves j)) v ≡ u (name_at names j).0
+GiveValues g names leaves v u = (j : ℕ) → j < length names → val (tree g (id_at leaves j)) v ≡ u (declared_at names j).0
 
 -- The term of the store is a copy of term k of the source: it has the same sort, and wherever the terms for the names are worth what the
 -- names are, it is worth what term k is.

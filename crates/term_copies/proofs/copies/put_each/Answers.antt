@@ -6,13 +6,21 @@ use Rattle.term_copies.proofs.Copying.{no_copies, leaves_kept, copies_more}
 use Rattle.term_copies.proofs.copies.put_each.Goals as goal
 
 pub loop-k-init : goal.loop-k-init
-loop-k-init c = (extended_refl c.args.terms.now, no_copies c.args.terms.now c.args.source.now c.args.leaves.now)
+loop-k-init c =
+    let g = c.args.terms.now in
+    let source = c.args.source.now in
+    let leaves = c.args.leaves.now in (
+      extended_refl g,
+      subst (λ (ids : List TermId). AreCopiesOf 0 g source leaves ids) (sym c.new-copies.ensures.items) (no_copies g source leaves),
+    )
 
 pub put_copy-requires-clause-leaves : goal.put_copy-requires-clause-leaves
 put_copy-requires-clause-leaves c = leaves_kept c.args.source.now.names c.args.leaves.now c.loop-k.invariant.0 c.requires
 
 pub put_copy-requires-clause-earlier : goal.put_copy-requires-clause-earlier
-put_copy-requires-clause-earlier c = c.loop-k.invariant.1
+put_copy-requires-clause-earlier c =
+    let l = c.loop-k in
+    subst (λ (ids : List TermId). AreCopiesOf l.k l.terms c.args.source.now c.args.leaves.now ids) (sym c.deref.ensures.value) l.invariant.1
 
 pub loop-k-preserved : goal.loop-k-preserved
 loop-k-preserved c =
