@@ -11,6 +11,7 @@ use Rattle.refinement.specs.Run.{Run, IsRun, HoldsOf, IsFromReset}
 use Rattle.refinement.specs.Refinement.{state_at, inputs_at, StartsAt, IsMapEntry, CommitsAt, IsCommandOf, EndsAt, IsIdle, HasOneInFlight, HasState, Refines}
 use Rattle.refinement.specs.Obligation.{Fact, invariant, assumed, reset_active, start, no_start, decoded, commit, no_commit, initial, same, result_of, MeansAll, Holds, for_each, invariants_at, premises_at, start_hypotheses, started_by, running_at, running, not_ended, ended_at, invariant_obligations, state_obligations, reset_obligations, idle_obligations, decode_obligation, child_obligations, bound_obligation, commit_obligations, instruction_obligations, all_instruction_obligations, obligations, bound_named, bound_in, with_initial_values}
 use Rattle.refinement.specs.Soundness.{AllHold, IsComplete, ObligationsGiveRefinement}
+use Rattle.soundness.specs.Invariants.{ObligationsKeepInvariants}
 use Rattle.soundness.proofs.FactLists.{AllHold-left, AllHold-right, AllHold-for_each, MeansAll-append, MeansAll-for_each}
 use Rattle.soundness.proofs.Shifted.{later, later_sum, later_from, shifted, IsRun-shifted, IsRun-shorter}
 use Rattle.model_meaning.proofs.OneInstruction.{step_done, step_by_decoded}
@@ -404,6 +405,22 @@ module _ (s : Setting) (complete : IsComplete s) (all : AllHold s (obligations s
             | inr large ↦ absurd (bound_broken k t (is_idle h) (past_reset h) low (known h).0 starts j i is_i is_j b.0 b.1 (omega (arith, later_sum t b.0))
                 (λ x from to. none x from (omega (arith, later_sum t b.0))))
           ]
+
+module _ (s : Setting) (complete : IsComplete s) (all : AllHold s (obligations s.model s.map))
+    (run : Run) (n : ℕ) (r : IsRun s run n) (reset : IsFromReset s run n) (flight : HasOneInFlight s run n) where
+  -- the model has a state at each idle cycle
+  has_state : {k t : ℕ} → IsIdle s run n k t → (q : Valuation) × HasState s run n k q t
+  has_state (IsIdle.after_reset h) = (state_at s run s.map.reset_cycles, HasState.after_reset h)
+  has_state (IsIdle.after_idle h low quiet) = let before = has_state h in (before.0, HasState.after_idle before.1 low quiet)
+  has_state (IsIdle.after_command {n = k} {t = t} j c h starts is_j end low) =
+      let before = has_state h in
+      let next = (command_given s complete all run n r reset flight t before.0 (known s complete all run n r reset flight before.1)
+      (past_reset s complete all run n r reset flight before.1) (omega (arith, end.from, low)) starts).1 in
+      (next.0, HasState.after_command j c next.0 before.1 starts is_j end low next.1)
+
+pub invariants_kept : ObligationsKeepInvariants
+invariants_kept s complete all run n r reset flight m t k idle =
+    (known s complete all run n r reset flight (has_state s complete all run n r reset flight idle).1).0 k
 
 pub refined : ObligationsGiveRefinement
 refined s complete all run n r reset flight = refines s complete all run n r reset flight

@@ -1,4 +1,4 @@
-//! That the obligations of a map give refinement of every run. The function has no code: it carries the law.
+//! That the obligations of a map give refinement of every run, and keep the invariants. The functions have no code: they carry the laws.
 #![tactic(auto)]
 
 pub mod laws;
