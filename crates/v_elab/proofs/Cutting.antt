@@ -4,6 +4,7 @@ use Rattle.std.specs.Prelude.{◌&&◌, ◌==◌}
 use Rattle.std.proofs.lemmas.Bool.{cases_lt, cases_eq, and_from, false≢true}
 use Rattle.std.proofs.lemmas.Bool.Decides.{nat_tests}
 use Rattle.std.proofs.lemmas.Nat.Bits.{bit_at_ones}
+use lib.Bits.{and_zero_r}
 use Rattle.wb_values.specs.Value.{Name, Sort, word, memory, number, words, as_words, as_number, Valuation}
 use Rattle.wb_values.specs.Choice.{some_if}
 use Rattle.model_meaning.specs.Term.{val, load, store, load_sort, store_sort, sort_of}
@@ -101,13 +102,13 @@ whole_cut g whole m a w address bits all e sort full =
     }
 
 -- what is kept of a word where that is nothing
-pub no_part : (g h : Graph) (m w address kept zero : ℕ) → kept ≡ 0 → IsOfSort h zero (word w) → ((p : Valuation) → HasNumber h zero w p 0)
-    → IsWordPart g h m w address kept zero
-no_part g h m w address kept zero e sort constant =
+pub no_part : (g h : Graph) (m w address kept nought : ℕ) → kept ≡ 0 → IsOfSort h nought (word w) → ((p : Valuation) → HasNumber h nought w p 0)
+    → IsWordPart g h m w address kept nought
+no_part g h m w address kept nought e sort constant =
     record {
       of_sort = sort;
       value = λ p xs is fits.
-          subst (HasNumber h zero w p) (sym (ap (bit_and (slice_index xs address)) e ∙ bit_and_zero (slice_index xs address))) (constant p);
+          subst (HasNumber h nought w p) (sym (ap (bit_and (slice_index xs address)) e ∙ and_zero_r (slice_index xs address))) (constant p);
     }
 
 -- and where it is something

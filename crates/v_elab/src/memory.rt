@@ -26,27 +26,27 @@ fn mask_at(masks: &[u128], address: usize) -> u128
 /// What is kept of a word of a memory: 0 where that is nothing, without a look at the word.
 fn word_part(
     terms: &mut Terms,
-    memory: TermId,
+    whole: TermId,
     place: TermId,
     address_width: u32,
     width: u32,
     address: u128,
     kept: u128,
 ) -> Result<TermId, NoMemory>
-    requires memory { IsOfSort terms.old memory.0 (memory address_width width) }
+    requires whole { IsOfSort terms.old whole.0 (memory address_width width) }
     requires place { IsOfSort terms.old place.0 (word address_width) }
     requires address { (p : Valuation) → HasNumber terms.old place.0 address_width p address }
     requires some_bits { 1 ≤ width }
     requires at_most_128 { width ≤ 128 }
     requires fits { kept < 2 ^ width }
     ensures grows { Grows terms.old terms.new }
-    ensures part { IfOk result (λ r. IsWordPart terms.old terms.new memory.0 width address kept r.0) }
+    ensures part { IfOk result (λ r. IsWordPart terms.old terms.new whole.0 width address kept r.0) }
 {
     if kept == 0 {
         let zero = constant(terms, width, 0)?;
         return Ok(zero);
     }
-    let word = put(terms, Node::Load(memory, place))?;
+    let word = put(terms, Node::Load(whole, place))?;
     let known = constant(terms, width, kept)?;
     let cut = conjunction(terms, word, known, width)?;
     Ok(cut)
