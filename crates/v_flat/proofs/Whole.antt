@@ -357,7 +357,7 @@ module _ (d : Design) (spots : List Spot) (h : IsPlacing d spots) where
 
   -- ---- under a naming
 
-  module _ (called : Naming) (names : List SpotNames) (own : AreCalled d called spots names) where
+  module _ (called : Naming) (names : List SpotNames) (are : AreCalled d called spots names) where
     abbrev fs : List (Name → Name)
     fs = map naming_of (names_of called spots)
 
@@ -369,7 +369,7 @@ module _ (d : Design) (spots : List Spot) (h : IsPlacing d spots) where
     named k x q s n is =
         ap (λ f. f n) (naming_found (names_of called spots) k (spot_names (called q []) x) (names_there k x q s))
         ∙ renamed_there (called q []) n (spot_entries x) (name_keyed d (placed_by q x) s.in_design n is)
-        ∙ own.fronts q n
+        ∙ are.fronts q n
 
     -- ---- connections
 
@@ -643,8 +643,8 @@ module _ (d : Design) (spots : List Spot) (h : IsPlacing d spots) where
         subst (λ (w : SpotNames). entry_of (scope_entries w) (called q n) ≡ None) f.is_names
         (others_found (called f.path []) (spot_entries f.spot) (called q n)
         (λ m key i.
-        let one = one_place d called own.naming (placed_by f.path f.spot) (placed_by q x) m n t.in_design s.in_design
-        (keyed_name d (placed_by f.path f.spot) t.in_design m key) is (sym (own.fronts f.path m) ∙ i) in
+        let one = one_place d called are.naming (placed_by f.path f.spot) (placed_by q x) m n t.in_design s.in_design
+        (keyed_name d (placed_by f.path f.spot) t.in_design m key) is (sym (are.fronts f.path m) ∙ i) in
         let number : 0 + j ≡ k = one_number (0 + j) k f.spot x f.path q t s (ap (λ (p : Placed). p.path) one.0) in
         apart (sym (from_zero j) ∙ number)))
 
@@ -657,7 +657,7 @@ module _ (d : Design) (spots : List Spot) (h : IsPlacing d spots) where
         let key : IsAmong (keys (spot_entries x)) n = name_keyed d (placed_by q x) s.in_design n is in
         let v : HasEntry (spot_entries x) n = keyed_some (spot_entries x) n key in
         let own : entry_of (scope_entries (spot_names (called q []) x)) (called q n) ≡ Some v.value
-        = ap (entry_of (scope_entries (spot_names (called q []) x))) (sym (own.fronts q n)) ∙ own_found (called q []) (spot_entries x) n ∙ v.is_value in
+        = ap (entry_of (scope_entries (spot_names (called q []) x))) (sym (are.fronts q n)) ∙ own_found (called q []) (spot_entries x) n ∙ v.is_value in
         let all : entry_of entries (called q n) ≡ Some v.value
         = somewhere_found (names_of called spots) (called q n) k (spot_names (called q []) x) v.value (names_there k x q s) own (other_names k x q s n is) in
         ap object_or_undeclared all ∙ sym (ap object_or_undeclared v.is_value) ∙ ap (λ (t : Scope). t n) (known_entries x)
@@ -678,14 +678,14 @@ module _ (d : Design) (spots : List Spot) (h : IsPlacing d spots) where
         let t : Stands d spots (0 + k) f.spot f.path = at_paths k f.path f.spot f.is_path f.is_spot in
         subst (λ (w : SpotNames). entry_of (scope_entries w) n ≡ None) f.is_names
         (others_found (called f.path []) (spot_entries f.spot) n
-        (λ m key i. none (placed_by f.path f.spot) m t.in_design (keyed_name d (placed_by f.path f.spot) t.in_design m key) (sym (own.fronts f.path m) ∙ i)))))
+        (λ m key i. none (placed_by f.path f.spot) m t.in_design (keyed_name d (placed_by f.path f.spot) t.in_design m key) (sym (are.fronts f.path m) ∙ i)))))
 
     pub is_flat_design : IsFlatDesign d called (scope_of entries) (all_items fs spots)
     is_flat_design =
         let turn = modules_in_turn_are_in_order d called (placed_of spots) h.placed in
         record {
-          naming = own.naming;
-          plain = own.plain;
+          naming = are.naming;
+          plain = are.plain;
           flat = record {
             says_the_same = says_the_same;
             are_links = λ a. ((λ c. link_is_flat a (among_contains links a c)), (λ f. contains_among links a (flat_is_link a f)));
