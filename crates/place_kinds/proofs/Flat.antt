@@ -7,7 +7,7 @@ use Rattle.wb_values.specs.Value.{Name, same_name, entry_of}
 use Rattle.verilog_trees.specs.Syntax.{name, whole, Direction, input, output, Item}
 use Rattle.verilog_meaning.specs.Expression.{Scope, scope_of, is_memory}
 use Rattle.verilog_meaning.specs.Register.{clocked_blocks, combinational_blocks, is_bit_of, one_may_assign}
-use Rattle.verilog_meaning.specs.Hierarchy.{all_parameters, Declaration, declarations, declaration_of, Placed, placed_scope, dotted}
+use Rattle.verilog_meaning.specs.Hierarchy.{all_parameters, Declaration, declarations, declaration_of, Placed, placed_scope}
 use Rattle.verilog_meaning.specs.Settled.{Design, at_path, IsPlacedIn, is_declared_among, IsDeclared, port_directions, port_order, HasPort, assignments, IsBitOf}
 use Rattle.verilog_designs.specs.Names.{is_among, parameter_names}
 use Rattle.verilog_designs.specs.Ports.{is_input}
@@ -19,9 +19,9 @@ use Rattle.verilog_unique.proofs.Options.{same_is, is_same, not_true, left_true,
 use Rattle.verilog_unique.proofs.Descent.{IsAmong, among_left, among_right, among_either, among_contains, contains_among}
 use Rattle.verilog_unique.proofs.Ports.{port_is_declared}
 use Rattle.verilog_unique.proofs.Parameters.{parameter_number}
-use Rattle.flat_designs.specs.Flat.{IsNameOf, IsNaming}
+use Rattle.flat_designs.specs.Flat.{IsNameOf, Naming}
 use Rattle.flat_designs.specs.Depending.{DependsFlat, DependsFlatFar}
-use Rattle.flat_designs.proofs.Known.{dotted_names_are_a_naming, one_place}
+use Rattle.flat_designs.proofs.Known.{one_place}
 use Rattle.flat_designs.proofs.Depending.{bits_depend_on_the_same}
 use Rattle.flat_rules.proofs.Judged.{test_among}
 use Rattle.flat_rules.proofs.Placed.{modules_are_known}
@@ -53,11 +53,11 @@ use Rattle.place_kinds.proofs.Known.{are_numbered, is_placing, top_path}
 use Rattle.place_kinds.proofs.Nets.{items_of}
 
 pub flat_designs_are_ready : FlatDesignsAreReady
-flat_designs_are_ready d spots s items h flat =
+flat_designs_are_ready d called spots s items h flat =
     record {
       objects =
-          flat_scopes_are_narrow d dotted s (assignments items) (combinational_blocks items) (clocked_blocks items) h.sound flat.flat flat.no_others;
-      fit = flat_items_are_fit d dotted s items h.sound flat.flat flat.no_others;
+          flat_scopes_are_narrow d called s (assignments items) (combinational_blocks items) (clocked_blocks items) h.sound flat.flat flat.no_others;
+      fit = flat_items_are_fit d called s items h.sound flat.flat flat.no_others;
     }
 
 -- ---- loops
@@ -80,9 +80,8 @@ module _ (s : Scope) (items : List Item) where
   in_far _ _ (DependsFarIn.further u x y g h) = DependsFlatFar.further u x y (in_step u x g) (in_far x y h)
 
 pub loops_are_flat : LoopsAreFlat
-loops_are_flat d spots s items h flat =
-    let naming : IsNaming d dotted = (dotted_names_are_a_naming d).naming h.no_dots in
-    let same = (bits_depend_on_the_same d dotted s (assignments items) (combinational_blocks items) (clocked_blocks items) h.sound.names_declared naming flat.flat).loops in (
+loops_are_flat d called spots s items h flat =
+    let same = (bits_depend_on_the_same d called s (assignments items) (combinational_blocks items) (clocked_blocks items) h.sound.names_declared flat.naming flat.flat).loops in (
       (λ l. let g = same.0 l in record { bit = g.bit; loops = far_in s items g.bit g.bit g.loops }),
       (λ g. same.1 (record { bit = g.bit; loops = in_far s items g.bit g.bit g.loops })),
     )
@@ -149,28 +148,28 @@ found_own f (m ∷ ns) n = one (same_name (f m) n) refl (found_own f ns n)
         none k (inl i) g = true≢false (sym (subst (λ (z : Name). same_name (f m) z ≡ true) (ap f i ∙ g) (is_same (f m))) ∙ e)
         none k (inr i) g = o k i g
 
-record IsOfPlace (ps : List Placed) (n : Name) : Type 0 where
+record IsOfPlace (called : Naming) (ps : List Placed) (n : Name) : Type 0 where
   pub place : Placed
   pub own : Name
   pub is_place : IsAmong ps place
   pub is_own : IsNameOf place own
-  pub is_name : dotted place.path own ≡ n
+  pub is_name : called place.path own ≡ n
 
-found_place : (ps : List Placed) (n : Name) → ((p : Placed) (m : Name) → IsAmong ps p → IsNameOf p m → dotted p.path m ≢ n) ⊎ IsOfPlace ps n
+found_place : (called : Naming) (ps : List Placed) (n : Name) → ((p : Placed) (m : Name) → IsAmong ps p → IsNameOf p m → called p.path m ≢ n) ⊎ IsOfPlace called ps n
 unfolding NoneOwn
-found_place [] n = inl (λ p m h i e. absurd h)
-found_place (p ∷ ps) n = one (found_own (dotted p.path) (own_names p) n) (found_place ps n)
+found_place called [] n = inl (λ p m h i e. absurd h)
+found_place called (p ∷ ps) n = one (found_own (called p.path) (own_names p) n) (found_place called ps n)
   where
-    one : IsOwn (dotted p.path) (own_names p) n ⊎ NoneOwn (dotted p.path) (own_names p) n
-        → ((q : Placed) (m : Name) → IsAmong ps q → IsNameOf q m → dotted q.path m ≢ n) ⊎ IsOfPlace ps n
-        → ((q : Placed) (m : Name) → IsAmong (p ∷ ps) q → IsNameOf q m → dotted q.path m ≢ n) ⊎ IsOfPlace (p ∷ ps) n
+    one : IsOwn (called p.path) (own_names p) n ⊎ NoneOwn (called p.path) (own_names p) n
+        → ((q : Placed) (m : Name) → IsAmong ps q → IsNameOf q m → called q.path m ≢ n) ⊎ IsOfPlace called ps n
+        → ((q : Placed) (m : Name) → IsAmong (p ∷ ps) q → IsNameOf q m → called q.path m ≢ n) ⊎ IsOfPlace called (p ∷ ps) n
     one (inl o) r = inr (record { place = p; own = o.own; is_place = inl refl; is_own = listed_name p o.own o.is_own; is_name = o.is_name })
     one (inr o) (inr r) = inr (record { place = r.place; own = r.own; is_place = inr r.is_place; is_own = r.is_own; is_name = r.is_name })
     one (inr o) (inl r) = inl none
       where
-        none : (q : Placed) (m : Name) → IsAmong (p ∷ ps) q → IsNameOf q m → dotted q.path m ≢ n
+        none : (q : Placed) (m : Name) → IsAmong (p ∷ ps) q → IsNameOf q m → called q.path m ≢ n
         none q m (inl e) i g =
-            o m (name_listed p m (subst (λ (z : Placed). IsNameOf z m) (sym e) i)) (ap (λ (z : Placed). dotted z.path m) e ∙ g)
+            o m (name_listed p m (subst (λ (z : Placed). IsNameOf z m) (sym e) i)) (ap (λ (z : Placed). called z.path m) e ∙ g)
         none q m (inr h) i g = r q m h i g
 
 -- ---- rows of ports
@@ -283,21 +282,22 @@ some_same e = cc
 
 -- ---- the design
 
-module _ (d : Design) (spots : List Spot) (s : Scope) (items : List Item) (names : ModuleScope) (first : Spot) (h : HasSoundPlaces d spots) (flat : IsFlatDesign d s items)
-    (is_first : slice_get spots 0 ≡ Some first) (known : HasNamesOf names first.of_module) where
+module _ (d : Design) (called : Naming) (spots : List Spot) (s : Scope) (items : List Item) (names : ModuleScope) (first : Spot) (h : HasSoundPlaces d spots)
+    (flat : IsFlatDesign d called s items) (is_first : slice_get spots 0 ≡ Some first) (known : HasNamesOf names first.of_module) where
   at_top : IsPlacedIn d (placed_by [] first)
   at_top =
       let n : AreNumbered d spots = are_numbered d spots h.places h.sound in
       let f = n.each 0 first is_first in
       subst (λ q. IsPlacedIn d (placed_by q first)) (top_path spots f.0 f.1.stands) (n.stands 0 f.0 (placed_by f.0 first) f.1)
 
-  naming : IsNaming d dotted
-  naming = (dotted_names_are_a_naming d).naming h.no_dots
+  -- the top's names are called what they are
+  top_called : (n : Name) → called (placed_by [] first).path n ≡ n
+  top_called n = flat.plain n
 
   -- a port of the top has its own name in the one scope
-  of_top : (p : Placed) (m : Name) (way : Direction) (n : Name) → IsPlacedIn d p → IsNameOf p m → HasPort first.of_module n way → dotted p.path m ≡ n
+  of_top : (p : Placed) (m : Name) (way : Direction) (n : Name) → IsPlacedIn d p → IsNameOf p m → HasPort first.of_module n way → called p.path m ≡ n
       → (p ≡ placed_by [] first) × (m ≡ n)
-  of_top p m way n at is port e = one_place d dotted naming p (placed_by [] first) m n at at_top is (inl (port_is_declared (placed_by [] first) n way port)) e
+  of_top p m way n at is port e = one_place d called flat.naming p (placed_by [] first) m n at at_top is (inl (port_is_declared (placed_by [] first) n way port)) (e ∙ sym (top_called n))
 
   clock_port : HasPort first.of_module d.clock input
   clock_port =
@@ -322,16 +322,16 @@ module _ (d : Design) (spots : List Spot) (s : Scope) (items : List Item) (names
       ap is_output_row (row-so (placed_by [] first) names known n) ∙ output-row (scope_of known.0) (declaration_of (declarations first.of_module) n)
       ∙ ap is_output (directions-agree n first.of_module)
 
-  says : (p : Placed) (m n : Name) → IsPlacedIn d p → IsNameOf p m → dotted p.path m ≡ n → s n ≡ placed_scope p m
+  says : (p : Placed) (m n : Name) → IsPlacedIn d p → IsNameOf p m → called p.path m ≡ n → s n ≡ placed_scope p m
   says p m n at is e = ap s (sym e) ∙ flat.flat.says_the_same p m at is
 
   -- a net or variable has no value as a constant
-  no_constant : (p : Placed) (m n : Name) → IsPlacedIn d p → IsDeclared p m → dotted p.path m ≡ n → IsTrue (is_none (s n).constant)
+  no_constant : (p : Placed) (m n : Name) → IsPlacedIn d p → IsDeclared p m → called p.path m ≡ n → IsTrue (is_none (s n).constant)
   no_constant p m n at net e =
       subst (λ o. IsTrue (is_none o.constant)) (sym (says p m n at (inl net) e)) (net_without d h.sound.names_declared h.sound.names_once h.ports p m at net)
 
   -- a name with bits that are read is a net or variable
-  is_net : (p : Placed) (m n : Name) → IsPlacedIn d p → IsNameOf p m → dotted p.path m ≡ n → IsTrue (is_none (s n).constant) → IsDeclared p m
+  is_net : (p : Placed) (m n : Name) → IsPlacedIn d p → IsNameOf p m → called p.path m ≡ n → IsTrue (is_none (s n).constant) → IsDeclared p m
   is_net p m n at (inl net) e none = net
   is_net p m n at (inr is) e none =
       absurd (apart (placed_scope p m).constant (parameter_number d p.path p at m is) (subst (λ o. IsTrue (is_none o.constant)) (says p m n at (inr is) e) none))
@@ -340,10 +340,10 @@ module _ (d : Design) (spots : List Spot) (s : Scope) (items : List Item) (names
       apart None f g = cc
       apart (Some k) f g = cc
 
-  found : (n : Name) → IsTrue ((s n).is_declared) → IsOfPlace (placed_of spots) n
-  found n is = one (found_place (placed_of spots) n)
+  found : (n : Name) → IsTrue ((s n).is_declared) → IsOfPlace called (placed_of spots) n
+  found n is = one (found_place called (placed_of spots) n)
     where
-      one : ((p : Placed) (m : Name) → IsAmong (placed_of spots) p → IsNameOf p m → dotted p.path m ≢ n) ⊎ IsOfPlace (placed_of spots) n → IsOfPlace (placed_of spots) n
+      one : ((p : Placed) (m : Name) → IsAmong (placed_of spots) p → IsNameOf p m → called p.path m ≢ n) ⊎ IsOfPlace called (placed_of spots) n → IsOfPlace called (placed_of spots) n
       one (inr r) = r
       one (inl none) =
           let placing : IsPlacing d spots = is_placing d spots h.places h.sound h.no_dots in
@@ -380,67 +380,67 @@ module _ (d : Design) (spots : List Spot) (s : Scope) (items : List Item) (names
   -- ---- one way
 
   abbrev FlatUndriven : Type 0
-  FlatUndriven = HasUndrivenFlat d dotted s (assignments items) (combinational_blocks items) (clocked_blocks items)
+  FlatUndriven = HasUndrivenFlat d called s (assignments items) (combinational_blocks items) (clocked_blocks items)
 
   there : FlatUndriven → HasUndrivenBit s names d.clock items
   there g =
       record {
-        name = dotted g.place.path g.name;
+        name = called g.place.path g.name;
         word = g.word;
         bit = g.bit;
-        needs = and_from ((s (dotted g.place.path g.name)).is_declared) (not (same_name d.clock (dotted g.place.path g.name)) && not (is_input_row (declared_in names (dotted g.place.path g.name)))) declared
-            (and_from (not (same_name d.clock (dotted g.place.path g.name))) (not (is_input_row (declared_in names (dotted g.place.path g.name))))
-            (not-false (same_name d.clock (dotted g.place.path g.name)) (λ e. clock (same_is d.clock (dotted g.place.path g.name) e)))
-            (not-false (is_input_row (declared_in names (dotted g.place.path g.name))) is_input_name));
+        needs = and_from ((s (called g.place.path g.name)).is_declared) (not (same_name d.clock (called g.place.path g.name)) && not (is_input_row (declared_in names (called g.place.path g.name)))) declared
+            (and_from (not (same_name d.clock (called g.place.path g.name))) (not (is_input_row (declared_in names (called g.place.path g.name))))
+            (not-false (same_name d.clock (called g.place.path g.name)) (λ e. clock (same_is d.clock (called g.place.path g.name) e)))
+            (not-false (is_input_row (declared_in names (called g.place.path g.name))) is_input_name));
         is_read = read;
-        undriven = λ a. g.undriven (any-driver s items (dotted g.place.path g.name) (is_memory (s (dotted g.place.path g.name))) g.word g.bit a);
+        undriven = λ a. g.undriven (any-driver s items (called g.place.path g.name) (is_memory (s (called g.place.path g.name))) g.word g.bit a);
       }
     where
-      declared : IsTrue ((s (dotted g.place.path g.name)).is_declared)
+      declared : IsTrue ((s (called g.place.path g.name)).is_declared)
       declared =
-          subst (λ o. IsTrue (o.is_declared)) (sym (says g.place g.name (dotted g.place.path g.name) g.is_placed (inl g.is_declared) refl))
+          subst (λ o. IsTrue (o.is_declared)) (sym (says g.place g.name (called g.place.path g.name) g.is_placed (inl g.is_declared) refl))
           (declared_name d h.sound g.place g.is_placed g.name (inl g.is_declared))
 
-      top_port : (way : Direction) → HasPort first.of_module (dotted g.place.path g.name) way → (g.place ≡ placed_by [] first) × (g.name ≡ dotted g.place.path g.name)
-      top_port way port = of_top g.place g.name way (dotted g.place.path g.name) g.is_placed (inl g.is_declared) port refl
+      top_port : (way : Direction) → HasPort first.of_module (called g.place.path g.name) way → (g.place ≡ placed_by [] first) × (g.name ≡ called g.place.path g.name)
+      top_port way port = of_top g.place g.name way (called g.place.path g.name) g.is_placed (inl g.is_declared) port refl
 
-      clock : d.clock ≡ dotted g.place.path g.name → ⊥
+      clock : d.clock ≡ called g.place.path g.name → ⊥
       clock e =
           let r = top_port input (subst (λ k. HasPort first.of_module k input) e clock_port) in
           g.needs (ap (λ (z : Placed). z.path) r.0) (inl (r.1 ∙ sym e))
 
-      is_input_name : is_input_row (declared_in names (dotted g.place.path g.name)) ≡ true → ⊥
+      is_input_name : is_input_row (declared_in names (called g.place.path g.name)) ≡ true → ⊥
       is_input_name e =
-          let port : HasPort first.of_module (dotted g.place.path g.name) input =
-          input-is (entry_of (port_directions first.of_module) (dotted g.place.path g.name)) (sym (input-found (dotted g.place.path g.name)) ∙ e) in
+          let port : HasPort first.of_module (called g.place.path g.name) input =
+          input-is (entry_of (port_directions first.of_module) (called g.place.path g.name)) (sym (input-found (called g.place.path g.name)) ∙ e) in
           let r = top_port input port in
           g.needs (ap (λ (z : Placed). z.path) r.0)
           (inr (subst (λ (z : Placed). HasPort z.of_module g.name input) (sym r.0) (subst (λ k. HasPort first.of_module k input) (sym r.1) port)))
 
-      read : module_reads s names items (dotted g.place.path g.name) g.word g.bit ≡ true
+      read : module_reads s names items (called g.place.path g.name) g.word g.bit ≡ true
       read = at g.is_read
         where
-          at : IsReadFlat s (assignments items) (combinational_blocks items) (clocked_blocks items) (dotted g.place.path g.name) g.word g.bit
+          at : IsReadFlat s (assignments items) (combinational_blocks items) (clocked_blocks items) (called g.place.path g.name) g.word g.bit
               ⊎ (IsOutputOfTop g.place g.name × IsBitOf g.place g.name g.word g.bit)
-              → module_reads s names items (dotted g.place.path g.name) g.word g.bit ≡ true
+              → module_reads s names items (called g.place.path g.name) g.word g.bit ≡ true
           at (inl r) =
-              or_left (all_items_read s items (dotted g.place.path g.name) g.word g.bit)
-              (outputs_read s names (rows_of names.declared.items) (dotted g.place.path g.name) g.word g.bit) (flat_lists (dotted g.place.path g.name) g.word g.bit r)
+              or_left (all_items_read s items (called g.place.path g.name) g.word g.bit)
+              (outputs_read s names (rows_of names.declared.items) (called g.place.path g.name) g.word g.bit) (flat_lists (called g.place.path g.name) g.word g.bit r)
           at (inr r) =
-              or_right (all_items_read s items (dotted g.place.path g.name) g.word g.bit)
-              (outputs_read s names (rows_of names.declared.items) (dotted g.place.path g.name) g.word g.bit)
-              (are-outputs s names (dotted g.place.path g.name) g.word g.bit (rows_of names.declared.items) (row-there s names (dotted g.place.path g.name) g.word g.bit out) out
-              (whole-reads s names (dotted g.place.path g.name) g.word g.bit
-              (no_constant g.place g.name (dotted g.place.path g.name) g.is_placed g.is_declared refl)
-              (subst (λ o. is_bit_of o g.word g.bit ≡ true) (sym (says g.place g.name (dotted g.place.path g.name) g.is_placed (inl g.is_declared) refl)) r.1)))
+              or_right (all_items_read s items (called g.place.path g.name) g.word g.bit)
+              (outputs_read s names (rows_of names.declared.items) (called g.place.path g.name) g.word g.bit)
+              (are-outputs s names (called g.place.path g.name) g.word g.bit (rows_of names.declared.items) (row-there s names (called g.place.path g.name) g.word g.bit out) out
+              (whole-reads s names (called g.place.path g.name) g.word g.bit
+              (no_constant g.place g.name (called g.place.path g.name) g.is_placed g.is_declared refl)
+              (subst (λ o. is_bit_of o g.word g.bit ≡ true) (sym (says g.place g.name (called g.place.path g.name) g.is_placed (inl g.is_declared) refl)) r.1)))
             where
               same : g.place ≡ placed_by [] first
               same = some_same (sym g.is_placed ∙ (ap (at_path d) r.0.at_top ∙ at_top))
 
-              plain : dotted g.place.path g.name ≡ g.name
-              plain = ap (λ q. dotted q g.name) r.0.at_top
+              plain : called g.place.path g.name ≡ g.name
+              plain = ap (λ q. called q g.name) r.0.at_top ∙ flat.plain g.name
 
-              out : is_output_name names (dotted g.place.path g.name) ≡ true
+              out : is_output_name names (called g.place.path g.name) ≡ true
               out =
                   ap (is_output_name names) plain
                   ∙ (output-found g.name ∙ ap is_output (subst (λ (z : Placed). HasPort z.of_module g.name output) same r.0.is_port))
@@ -468,7 +468,7 @@ module _ (d : Design) (spots : List Spot) (s : Scope) (items : List Item) (names
       others : (not (same_name d.clock g.name) ≡ true) × (not (is_input_row (declared_in names g.name)) ≡ true)
       others = and_parts (not (same_name d.clock g.name)) (not (is_input_row (declared_in names g.name))) parts.1
 
-      own : IsOfPlace (placed_of spots) g.name
+      own : IsOfPlace called (placed_of spots) g.name
       own = found g.name parts.0
 
       at : IsPlacedIn d own.place
@@ -512,7 +512,7 @@ module _ (d : Design) (spots : List Spot) (s : Scope) (items : List Item) (names
 
       needs : own.place.path ≡ [] → (own.own ≡ d.clock) ⊎ HasPort own.place.of_module own.own input → ⊥
       needs path e =
-          let plain : own.own ≡ g.name = ap (λ q. dotted q own.own) (sym path) ∙ own.is_name in
+          let plain : own.own ≡ g.name = sym (flat.plain own.own) ∙ ap (λ q. called q own.own) (sym path) ∙ own.is_name in
           let same : own.place ≡ placed_by [] first = some_same (sym at ∙ (ap (at_path d) path ∙ at_top)) in
           elim e as (λ _. ⊥) [
             | inl i ↦ true≢false (sym (subst (λ k. same_name k g.name ≡ true) (sym plain ∙ i) (is_same g.name)) ∙ not-true (same_name d.clock g.name) others.0)
@@ -523,9 +523,8 @@ module _ (d : Design) (spots : List Spot) (s : Scope) (items : List Item) (names
           ]
 
 pub undriven_bits_are_flat : UndrivenBitsAreFlat
-undriven_bits_are_flat d spots s items names top h flat is_first known =
-    let naming : IsNaming d dotted = (dotted_names_are_a_naming d).naming h.no_dots in
-    let law = undriven_bits_are_the_same d dotted s (assignments items) (combinational_blocks items) (clocked_blocks items) h.sound.names_declared h.sound.names_once h.ports naming flat.flat in (
-      (λ u. there d spots s items names top h flat is_first known (law.0 u)),
-      (λ u. law.1 (back d spots s items names top h flat is_first known u)),
+undriven_bits_are_flat d called spots s items names top h flat is_first known =
+    let law = undriven_bits_are_the_same d called s (assignments items) (combinational_blocks items) (clocked_blocks items) h.sound.names_declared h.sound.names_once h.ports flat.naming flat.flat in (
+      (λ u. there d called spots s items names top h flat is_first known (law.0 u)),
+      (λ u. law.1 (back d called spots s items names top h flat is_first known u)),
     )

@@ -1,4 +1,4 @@
--- The rules on bits without drivers and on loops, judged on a design in one scope.
+-- The rules on bits without drivers and on loops, judged on a design in one scope, whatever its names are called there.
 use Rattle.std.specs.Prelude.{◌≡◌, ◌↔◌, List, slice_get, Some}
 use Rattle.verilog_trees.specs.Syntax.{Item}
 use Rattle.verilog_meaning.specs.Expression.{Scope}
@@ -11,6 +11,7 @@ use Rattle.v_assigned.specs.Names.{HasNamesOf}
 use Rattle.v_undriven.specs.Undriven.{HasUndrivenBit}
 use Rattle.v_loops.specs.OneModule.{HasLoopIn}
 use Rattle.v_places.specs.Below.{Spot}
+use Rattle.flat_designs.specs.Flat.{Naming}
 use Rattle.v_flat.specs.Whole.{IsFlatDesign}
 use Rattle.flat_fitting.specs.Fitting.{AreFitForAll}
 use Rattle.place_kinds.specs.Known.{HasSoundPlaces}
@@ -21,14 +22,17 @@ pub record FlatIsReady (s : Scope) (items : List Item) : Type 0 where
   pub fit : AreFitForAll s items
 
 abbrev pub FlatDesignsAreReady : Type 0
-FlatDesignsAreReady = (d : Design) (spots : List Spot) (s : Scope) (items : List Item) → HasSoundPlaces d spots → IsFlatDesign d s items → FlatIsReady s items
+FlatDesignsAreReady =
+    (d : Design) (called : Naming) (spots : List Spot) (s : Scope) (items : List Item) → HasSoundPlaces d spots → IsFlatDesign d called s items → FlatIsReady s items
 
 -- The design leaves a bit without a driver exactly where its items in one scope do, where the table has the names of its top.
 abbrev pub UndrivenBitsAreFlat : Type 0
 UndrivenBitsAreFlat =
-    (d : Design) (spots : List Spot) (s : Scope) (items : List Item) (names : ModuleScope) (top : Spot) → HasSoundPlaces d spots → IsFlatDesign d s items
-    → slice_get spots 0 ≡ Some top → HasNamesOf names top.of_module → HasUndriven d ↔ HasUndrivenBit s names d.clock items
+    (d : Design) (called : Naming) (spots : List Spot) (s : Scope) (items : List Item) (names : ModuleScope) (top : Spot) → HasSoundPlaces d spots
+    → IsFlatDesign d called s items → slice_get spots 0 ≡ Some top → HasNamesOf names top.of_module → HasUndriven d ↔ HasUndrivenBit s names d.clock items
 
 -- It has a combinational loop exactly where these have one.
 abbrev pub LoopsAreFlat : Type 0
-LoopsAreFlat = (d : Design) (spots : List Spot) (s : Scope) (items : List Item) → HasSoundPlaces d spots → IsFlatDesign d s items → HasLoop d ↔ HasLoopIn s items
+LoopsAreFlat =
+    (d : Design) (called : Naming) (spots : List Spot) (s : Scope) (items : List Item) → HasSoundPlaces d spots → IsFlatDesign d called s items
+    → HasLoop d ↔ HasLoopIn s items

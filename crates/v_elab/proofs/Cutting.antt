@@ -4,6 +4,7 @@ use Rattle.std.specs.Prelude.{◌&&◌, ◌==◌}
 use Rattle.std.proofs.lemmas.Bool.{cases_lt, cases_eq, and_from, false≢true}
 use Rattle.std.proofs.lemmas.Bool.Decides.{nat_tests}
 use Rattle.std.proofs.lemmas.Nat.Bits.{bit_at_ones}
+use lib.Bits.{and_zero_r}
 use Rattle.wb_values.specs.Value.{Name, Sort, word, memory, number, words, as_words, as_number, Valuation}
 use Rattle.wb_values.specs.Choice.{some_if}
 use Rattle.model_meaning.specs.Term.{val, load, store, load_sort, store_sort, sort_of}
@@ -13,7 +14,7 @@ use Rattle.verilog_settled.proofs.Bits.{unset_past}
 use Rattle.v_masks.proofs.Bits.{set-and}
 use Rattle.v_operators.specs.Meaning.{Grows, IsOfSort, HasNumber, Joins}
 use Rattle.v_operators.proofs.Growing.{Grows-trans, number_kept, tree_kept}
-use Rattle.v_elab.specs.Tables.{IsWordKept, IsOneCut, AreCut, IsCut, IsWordCut}
+use Rattle.v_elab.specs.Tables.{IsWordKept, IsOneCut, AreCut, IsCut, IsWordPart, IsWordCut}
 
 -- ---- numbers
 
@@ -85,11 +86,12 @@ cut_kept g h k n t w bits all id known cut e a grows sort same constant made =
 
 -- ---- memories
 
-pub whole_cut : (g : Graph) (m a w address bits all : ℕ) → all ≡ 2 ^ w - 1 → IsOfSort g m (memory a w) → bit_and bits all ≡ all → IsWordCut g g m a w address bits m
-whole_cut g m a w address bits all e sort full =
+pub whole_cut : (g : Graph) (whole m a w address bits all : ℕ) → all ≡ 2 ^ w - 1 → IsOfSort g m (memory a w) → bit_and bits all ≡ all
+    → IsWordCut g g whole m a w address bits m
+whole_cut g whole m a w address bits all e sort full =
     record {
       of_sort = sort;
-      value = λ p xs is long narrow. record {
+      value = λ p ys xs has same is long narrow. record {
         now = xs;
         is_worth = is;
         long = refl;
@@ -99,40 +101,57 @@ whole_cut g m a w address bits all e sort full =
       };
     }
 
+-- what is kept of a word where that is nothing
+pub no_part : (g h : Graph) (m w address kept nought : ℕ) → kept ≡ 0 → IsOfSort h nought (word w) → ((p : Valuation) → HasNumber h nought w p 0)
+    → IsWordPart g h m w address kept nought
+no_part g h m w address kept nought e sort constant =
+    record {
+      of_sort = sort;
+      value = λ p xs is fits.
+          subst (HasNumber h nought w p) (sym (ap (bit_and (slice_index xs address)) e ∙ and_zero_r (slice_index xs address))) (constant p);
+    }
+
+-- and where it is something
+pub some_part : (g i j k : Graph) (m w a address kept place read known cut : ℕ) → Grows i j → IsOfSort i read (word w) → ((p : Valuation) → HasNumber g place a p address)
+    → tree i read ≡ load (tree g m) (tree g place) → ((p : Valuation) → HasNumber j known w p kept) → Joins j k read w known w cut w bit_and
+    → IsWordPart g k m w address kept cut
+some_part g i j k m w a address kept place read known cut ij read_sort at loaded constant made =
+    record {
+      of_sort = made.of_sort;
+      value = λ p xs is fits.
+          let first : HasNumber i read w p (slice_index xs address) =
+          record {
+            value = ap (λ t. val t p) loaded
+                ∙ ap (λ z. number (slice_index (as_words z) (as_number (val (tree g place) p)))) is
+                ∙ ap (λ z. number (slice_index xs (as_number z))) (at p).value;
+            fits = fits;
+          } in
+          made.value p (slice_index xs address) kept (number_kept read w p (slice_index xs address) ij read_sort.below first) (constant p);
+    }
+
 -- a word of a memory is cut, and put back
-module _ (g h i j k l : Graph) (m a w address bits all place read known cut id : ℕ) (e : all ≡ 2 ^ w - 1) (within : address < 2 ^ a) (sort : IsOfSort g m (memory a w))
-    (gh : Grows g h) (hi : Grows h i) (ij : Grows i j) (jk : Grows j k) (at : (p : Valuation) → HasNumber h place a p address) (below : place < length h.nodes)
-    (loaded : tree i read ≡ load (tree h m) (tree h place)) (read_sort : IsOfSort i read (word w)) (constant : (p : Valuation) → HasNumber j known w p (bit_and bits all))
-    (made : Joins j k read w known w cut w bit_and) (stored : tree l id ≡ store (tree k m) (tree k place) (tree k cut)) (stored_sort : IsOfSort l id (memory a w)) where
-  gk : Grows g k
-  gk = Grows-trans gh (Grows-trans hi (Grows-trans ij jk))
-
-  hk : Grows h k
-  hk = Grows-trans hi (Grows-trans ij jk)
-
-  module _ (p : Valuation) (xs : List ℕ) (is : val (tree g m) p ≡ words xs) (long : length xs ≡ 2 ^ a) (narrow : (q : ℕ) → slice_index xs q < 2 ^ w) where
+module _ (g h k l : Graph) (whole m a w address bits all place cut id : ℕ) (e : all ≡ 2 ^ w - 1) (within : address < 2 ^ a)
+    (whole_sort : IsOfSort g whole (memory a w)) (sort : IsOfSort g m (memory a w)) (gh : Grows g h) (hk : Grows h k)
+    (at : (p : Valuation) → HasNumber h place a p address) (below : place < length h.nodes) (part : IsWordPart h k whole w address (bit_and bits all) cut)
+    (stored : tree l id ≡ store (tree k m) (tree k place) (tree k cut)) (stored_sort : IsOfSort l id (memory a w)) where
+  module _ (p : Valuation) (ys xs : List ℕ) (has : val (tree g whole) p ≡ words ys) (same : slice_index ys address ≡ slice_index xs address)
+      (is : val (tree g m) p ≡ words xs) (long : length xs ≡ 2 ^ a) (narrow : (q : ℕ) → slice_index xs q < 2 ^ w) where
     abbrev x : ℕ
     x = slice_index xs address
 
     abbrev y : ℕ
     y = bit_and x (bit_and bits all)
 
-    first_word : HasNumber i read w p x
-    first_word =
-        record {
-          value = ap (λ t. val t p) loaded
-              ∙ ap (λ z. number (slice_index (as_words z) (as_number (val (tree h place) p)))) (ap (λ t. val t p) (tree_kept m gh sort.below) ∙ is)
-              ∙ ap (λ z. number (slice_index xs (as_number z))) (at p).value;
-          fits = narrow address;
-        }
-
     cut_word : HasNumber k cut w p y
-    cut_word = made.value p x (bit_and bits all) (number_kept read w p x ij read_sort.below first_word) (constant p)
+    cut_word =
+        subst (λ z. HasNumber k cut w p (bit_and z (bit_and bits all))) same
+        (part.value p ys (ap (λ t. val t p) (tree_kept whole gh whole_sort.below) ∙ has) (subst (λ z. z < 2 ^ w) (sym same) (narrow address)))
 
     is_stored : val (tree l id) p ≡ words (slice_set xs address y)
     is_stored =
         ap (λ t. val t p) stored
-        ∙ ap (λ z. words (slice_set (as_words z) (as_number (val (tree k place) p)) (as_number (val (tree k cut) p)))) (ap (λ t. val t p) (tree_kept m gk sort.below) ∙ is)
+        ∙ ap (λ z. words (slice_set (as_words z) (as_number (val (tree k place) p)) (as_number (val (tree k cut) p))))
+        (ap (λ t. val t p) (tree_kept m (Grows-trans gh hk) sort.below) ∙ is)
         ∙ ap (λ z. words (slice_set xs (as_number z) (as_number (val (tree k cut) p)))) (ap (λ t. val t p) (tree_kept place hk below) ∙ (at p).value)
         ∙ ap (λ z. words (slice_set xs address (as_number z))) cut_word.value
 
@@ -153,17 +172,17 @@ module _ (g h i j k l : Graph) (m a w address bits all place read known cut id :
         ap (λ z. is_set z b) (get_or-set_same xs address y 0 inside) ∙ ap (λ z. is_set (bit_and x (bit_and bits z)) b) e
         ∙ part_mask w x bits b (narrow address)
 
-  pub word_put : IsWordCut g l m a w address bits id
+  pub word_put : IsWordCut g l whole m a w address bits id
   word_put =
       record {
         of_sort = stored_sort;
-        value = λ p xs is long narrow. record {
-          now = slice_set xs address (y p xs is long narrow);
-          is_worth = is_stored p xs is long narrow;
-          long = length-set xs address (y p xs is long narrow);
-          narrow = still_narrow p xs is long narrow;
-          cut = cut_bits p xs is long narrow;
-          rest = λ q d. get_or-set_other xs address q (y p xs is long narrow) 0 d;
+        value = λ p ys xs has same is long narrow. record {
+          now = slice_set xs address (y p ys xs has same is long narrow);
+          is_worth = is_stored p ys xs has same is long narrow;
+          long = length-set xs address (y p ys xs has same is long narrow);
+          narrow = still_narrow p ys xs has same is long narrow;
+          cut = cut_bits p ys xs has same is long narrow;
+          rest = λ q d. get_or-set_other xs address q (y p ys xs has same is long narrow) 0 d;
         };
       }
 
@@ -184,15 +203,15 @@ none_cut g n t a w masks id e sort same =
       };
     }
 
-pub one_cut : (g h : Graph) (n : Name) (a w : ℕ) (masks : List ℕ) (k mask old id : ℕ) → mask ≡ slice_index masks k → IsCut g n a w masks k old
-    → IsWordCut g h old a w k mask id → IsCut h n a w masks (k + 1) id
-one_cut g h n a w masks k mask old id e c o =
+pub one_cut : (g h : Graph) (n : Name) (a w : ℕ) (masks : List ℕ) (k mask whole old id : ℕ) → mask ≡ slice_index masks k
+    → ((p : Valuation) → val (tree g whole) p ≡ p n) → IsCut g n a w masks k old → IsWordCut g h whole old a w k mask id → IsCut h n a w masks (k + 1) id
+one_cut g h n a w masks k mask whole old id e same c o =
     record { of_sort = o.of_sort; value = worth }
   where
     worth : (p : Valuation) (xs : List ℕ) → p n ≡ words xs → length xs ≡ 2 ^ a → ((j : ℕ) → slice_index xs j < 2 ^ w) → AreCut h id w p masks xs (k + 1)
     worth p xs is long narrow =
         let f = c.value p xs is long narrow in
-        let q = o.value p f.now f.is_worth (f.long ∙ long) f.narrow in
+        let q = o.value p xs f.now (same p ∙ is) (sym (f.rest k (λ r. omega (arith, r)))) f.is_worth (f.long ∙ long) f.narrow in
         record { now = q.now; is_worth = q.is_worth; long = q.long ∙ f.long; narrow = q.narrow; cut = λ j b l. cut f q j b l (cases_eq j k); rest = rest f q }
       where
         cut : (f : AreCut g old w p masks xs k) (q : IsOneCut h id w p f.now k mask) (j b : ℕ) → j < k + 1 → (j ≡ k) ⊎ (j ≡ k → ⊥)

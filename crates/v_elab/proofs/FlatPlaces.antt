@@ -5,7 +5,7 @@ use Rattle.std.proofs.lemmas.Bool.{false≢true}
 use Rattle.wb_values.specs.Value.{Name}
 use Rattle.verilog_trees.specs.Syntax.{Item, Module}
 use Rattle.verilog_meaning.specs.Expression.{Scope}
-use Rattle.verilog_meaning.specs.Hierarchy.{PathStep, Placed, module_named}
+use Rattle.verilog_meaning.specs.Hierarchy.{PathStep, Placed, module_named, dotted}
 use Rattle.verilog_meaning.specs.Settled.{Design, at_path}
 use Rattle.verilog_registers.specs.Order.{members_in}
 use Rattle.verilog_designs.specs.Accepted.{no_top, HasNoTop}
@@ -53,7 +53,7 @@ module _ (t : Interfaces) (clock : Name) (spots : List Spot) (d : Design) (x : S
 
 -- what is promised of a scope and items, and of names, of each design that stands at these places
 abbrev pub IsFlatAt : Interfaces → List Spot → Scope → List Item → Type 0
-IsFlatAt t spots s items = (d : Design) → AreInterfacesOf t d.source → IsPlacing d spots → IsFlatDesign d s items
+IsFlatAt t spots s items = (d : Design) → AreInterfacesOf t d.source → IsPlacing d spots → IsFlatDesign d dotted s items
 
 abbrev pub AreOrderedAt : List Spot → List Name → Type 0
 AreOrderedAt spots ns = (d : Design) (top : Placed) → IsPlacing d spots → at_path d [] ≡ Some top → AreNamesInOrder d top (members_in top.of_module) ns

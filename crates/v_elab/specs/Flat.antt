@@ -3,7 +3,7 @@ use Rattle.std.specs.Prelude.{◌≡◌, List, [], Some}
 use Rattle.wb_values.specs.Value.{Name}
 use Rattle.verilog_trees.specs.Syntax.{Item}
 use Rattle.verilog_meaning.specs.Expression.{Scope}
-use Rattle.verilog_meaning.specs.Hierarchy.{Placed}
+use Rattle.verilog_meaning.specs.Hierarchy.{Placed, dotted}
 use Rattle.verilog_meaning.specs.Settled.{Design, at_path}
 use Rattle.verilog_registers.specs.Order.{members_in}
 use Rattle.verilog_designs.specs.Accepted.{IsAccepted}
@@ -19,7 +19,7 @@ use Rattle.v_ordered.specs.Order.{AreNamesInOrder}
 -- is its top.
 pub record IsFlatBody (d : Design) (top : Placed) (s : Scope) (items : List Item) (ns : List Name) : Type 0 where
   pub is_top : at_path d [] ≡ Some top
-  pub flat : IsFlatDesign d s items
+  pub flat : IsFlatDesign d dotted s items
   pub in_order : AreNamesInOrder d top (members_in top.of_module) ns
 
 -- The design is accepted, its tree is one of a text, its clock has this name, its modules have these interfaces, and those that stand in it

@@ -1,5 +1,5 @@
 -- How the tables at the start are filled, name after name.
-use Rattle.std.specs.Prelude.{◌≡◌, ◌&&◌, ◌<◌, ◌^◌, ℕ, suc, Bool, false, cond, List, [], ◌∷◌, length, slice_index, Some}
+use Rattle.std.specs.Prelude.{◌≡◌, ◌&&◌, ◌<◌, ◌^◌, ℕ, suc, Bool, false, cond, List, [], ◌∷◌, length, slice_index, bit_and, Some}
 use Rattle.wb_values.specs.Value.{Name, same_name, Sort, word, memory, number, words, Valuation}
 use Rattle.model_meaning.specs.Term.{val}
 use Rattle.verilog_meaning.specs.Expression.{Object, Scope, object_width, is_memory}
@@ -106,7 +106,13 @@ pub record IsOneCut (g : Graph) (id w : ℕ) (p : Valuation) (xs : List ℕ) (ad
   pub cut : (b : ℕ) → is_set (slice_index now address) b ≡ (is_set (slice_index xs address) b && is_set mask b)
   pub rest : (j : ℕ) → (j ≡ address → ⊥) → slice_index now j ≡ slice_index xs j
 
--- The term of the second store is the memory of the first with one word cut to a mask.
-pub record IsWordCut (g h : Graph) (m a w address mask id : ℕ) : Type 0 where
+-- The term of the second store is what a mask keeps of a word of a memory of the first.
+pub record IsWordPart (g h : Graph) (m w address mask id : ℕ) : Type 0 where
+  pub of_sort : IsOfSort h id (word w)
+  pub value : (p : Valuation) (xs : List ℕ) → val (tree g m) p ≡ words xs → slice_index xs address < 2 ^ w → HasNumber h id w p (bit_and (slice_index xs address) mask)
+
+-- The term of the second store is the memory m of the first with one word cut to a mask, where another memory has the same word there.
+pub record IsWordCut (g h : Graph) (whole m a w address mask id : ℕ) : Type 0 where
   pub of_sort : IsOfSort h id (memory a w)
-  pub value : (p : Valuation) (xs : List ℕ) → val (tree g m) p ≡ words xs → length xs ≡ 2 ^ a → ((j : ℕ) → slice_index xs j < 2 ^ w) → IsOneCut h id w p xs address mask
+  pub value : (p : Valuation) (ys xs : List ℕ) → val (tree g whole) p ≡ words ys → slice_index ys address ≡ slice_index xs address → val (tree g m) p ≡ words xs
+      → length xs ≡ 2 ^ a → ((j : ℕ) → slice_index xs j < 2 ^ w) → IsOneCut h id w p xs address mask

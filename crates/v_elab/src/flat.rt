@@ -1,6 +1,7 @@
 //! The design of modules that stand at a list of places, elaborated in one scope.
 
 ghost use Rattle.std.specs.Prelude.{◌≡◌, map, IfOk};
+ghost use Rattle.verilog_meaning.specs.Hierarchy.{dotted};
 ghost use Rattle.verilog_meaning.specs.Settled.{Design as PureDesign};
 ghost use Rattle.v_syntax.specs.Source.{item_of, module_of};
 ghost use Rattle.v_value.specs.Scope.{scope_at};
@@ -60,19 +61,19 @@ fn design_below<'a>(
 /// The design that stands at these places, where its names have these dotted names.
 fn dotted_design<'a, 's: 'a>(
     places: &[Place<'_, 's>],
-    dotted: &'a DottedNames<'a>,
+    names: &'a DottedNames<'a>,
     interfaces: &Interfaces<'s>,
     alloc: Global,
     clock: &str,
 ) -> Result<Design, NoMemory>
-    requires names { map names_in dotted.now.places.items ≡ names_of (spots_of places.now) }
+    requires names { map names_in names.now.places.items ≡ names_of dotted (spots_of places.now) }
     requires stands { (d : PureDesign) × StandsAt interfaces.now clock.now (spots_of places.now) d }
     ensures { IfOk result (λ r. (d : PureDesign) → StandsAt interfaces.now clock.now (spots_of places.now) d → IsDesignOf d (parts_of r)) }
 {
     places_are_placed();
     unbroken_statements_are_sound();
-    let declared = names_in_order(alloc, places, dotted)?;
-    let flat = flat_design(alloc, places, dotted, interfaces)?;
+    let declared = names_in_order(alloc, places, names)?;
+    let flat = flat_design(alloc, places, names, interfaces)?;
     match places.first() {
         Some(top) => {
             let design = design_below(top, &flat, alloc, declared, clock)?;

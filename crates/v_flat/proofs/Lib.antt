@@ -3,6 +3,7 @@ pub mod Places
 pub mod Items
 pub mod Links
 pub mod Named
+pub mod Numbers
 pub mod Instances
 pub mod Whole
 pub mod Loops

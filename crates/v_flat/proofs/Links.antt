@@ -2,13 +2,13 @@
 use Rattle.std.proofs.Common.{◌≡◌, List, [], ◌∷◌, ◌++◌, ◌⊎◌, inl, inr, refl, sym, ◌∙◌, subst, Option, Some, None}
 use Rattle.wb_values.specs.Value.{Name, entry_of}
 use Rattle.verilog_trees.specs.Syntax.{Expression, Target, Direction, input, output, Module}
-use Rattle.verilog_meaning.specs.Hierarchy.{instance_step, Placed, dotted}
+use Rattle.verilog_meaning.specs.Hierarchy.{instance_step, Placed}
 use Rattle.verilog_meaning.specs.Settled.{Design, at_path, as_target, whole_of, whole_name, Connection, port_meant, port_directions, HasPort, IsConnectedTo}
 use Rattle.verilog_unique.proofs.Descent.{IsAmong, among_left, among_right, among_either}
 use Rattle.verilog_renamed.specs.EachName.{EachIn, EachInTarget}
 use Rattle.verilog_renamed.proofs.EachName.{as_target_named}
 use Rattle.verilog_renamed.proofs.Paths.{ap2}
-use Rattle.flat_designs.specs.Flat.{into_input, out_of_output, IsLink, to_input, of_output}
+use Rattle.flat_designs.specs.Flat.{Naming, into_input, out_of_output, IsLink, to_input, of_output}
 use Rattle.v_places.proofs.Spots.{same_some}
 use Rattle.v_flat.specs.Links.{from_port, port_link, meant_link, connection_link, connection_links}
 use Rattle.v_flat.proofs.Alike.{Alike, expression_alike, target_alike}
@@ -66,45 +66,45 @@ one_of way f g m (b ∷ cs) c a (inr h) k = among_right (connection_link way f g
 
 -- ---- it is the connection's link
 
-module _ (d : Design) (r b : Placed) (c : Connection) (at : at_path d (instance_step c.of_instance ∷ r.path) ≡ Some b) where
+module _ (d : Design) (called : Naming) (r b : Placed) (c : Connection) (at : at_path d (instance_step c.of_instance ∷ r.path) ≡ Some b) where
   module _ (a : Target × Expression) where
     outward : (n : Name) → IsConnectedTo d r c b n output → (o : Option Target) → as_target c.expression ≡ o
-        → IsAmong (from_port (dotted r.path) (dotted b.path) n o) a → IsLink d dotted r c a
+        → IsAmong (from_port (called r.path) (called b.path) n o) a → IsLink d called r c a
     outward n to None e h = absurd h
-    outward n to (Some t) e (inl k) = subst (IsLink d dotted r c) k (of_output b n t to e)
+    outward n to (Some t) e (inl k) = subst (IsLink d called r c) k (of_output b n t to e)
     outward n to (Some t) e (inr k) = absurd k
 
     at_port : (way : Direction) (n : Name) → port_meant b.of_module c.to_port ≡ Some n → (x : Option Direction) → entry_of (port_directions b.of_module) n ≡ x
-        → IsAmong (port_link way (dotted r.path) (dotted b.path) n c.expression x) a → IsLink d dotted r c a
+        → IsAmong (port_link way (called r.path) (called b.path) n c.expression x) a → IsLink d called r c a
     at_port input n e None g h = absurd h
     at_port output n e None g h = absurd h
-    at_port input n e (Some input) g (inl k) = subst (IsLink d dotted r c) k (to_input b n (record { is_below = at; is_meant = e; is_port = g }))
+    at_port input n e (Some input) g (inl k) = subst (IsLink d called r c) k (to_input b n (record { is_below = at; is_meant = e; is_port = g }))
     at_port input n e (Some input) g (inr k) = absurd k
     at_port input n e (Some output) g h = absurd h
     at_port output n e (Some input) g h = absurd h
     at_port output n e (Some output) g h = outward n (record { is_below = at; is_meant = e; is_port = g }) (as_target c.expression) refl h
 
     meant_port : (way : Direction) (o : Option Name) → port_meant b.of_module c.to_port ≡ o
-        → IsAmong (meant_link way (dotted r.path) (dotted b.path) b.of_module c.expression o) a → IsLink d dotted r c a
+        → IsAmong (meant_link way (called r.path) (called b.path) b.of_module c.expression o) a → IsLink d called r c a
     meant_port way None e h = absurd h
     meant_port way (Some n) e h = at_port way n e (entry_of (port_directions b.of_module) n) refl h
 
-    pub link_found : (way : Direction) → IsAmong (connection_link way (dotted r.path) (dotted b.path) b.of_module c) a → IsLink d dotted r c a
+    pub link_found : (way : Direction) → IsAmong (connection_link way (called r.path) (called b.path) b.of_module c) a → IsLink d called r c a
     link_found way h = meant_port way (port_meant b.of_module c.to_port) refl h
 
   -- the link of a connection to a port of this direction
   placed_in : (way : Direction) (x : Placed) (n : Name) (a : Target × Expression) → IsConnectedTo d r c x n way
-      → IsAmong (port_link way (dotted r.path) (dotted x.path) n c.expression (Some way)) a
-      → IsAmong (connection_link way (dotted r.path) (dotted b.path) b.of_module c) a
+      → IsAmong (port_link way (called r.path) (called x.path) n c.expression (Some way)) a
+      → IsAmong (connection_link way (called r.path) (called b.path) b.of_module c) a
   placed_in way x n a to h =
-      subst (λ (z : Placed). IsAmong (connection_link way (dotted r.path) (dotted z.path) z.of_module c) a) (same_some x b (sym to.is_below ∙ at))
-      (subst (λ o. IsAmong (meant_link way (dotted r.path) (dotted x.path) x.of_module c.expression o) a) (sym to.is_meant)
-      (subst (λ o. IsAmong (port_link way (dotted r.path) (dotted x.path) n c.expression o) a) (sym to.is_port) h))
+      subst (λ (z : Placed). IsAmong (connection_link way (called r.path) (called z.path) z.of_module c) a) (same_some x b (sym to.is_below ∙ at))
+      (subst (λ o. IsAmong (meant_link way (called r.path) (called x.path) x.of_module c.expression o) a) (sym to.is_meant)
+      (subst (λ o. IsAmong (port_link way (called r.path) (called x.path) n c.expression o) a) (sym to.is_port) h))
 
-  pub link_listed : (a : Target × Expression) → IsLink d dotted r c a
-      → IsAmong (connection_link input (dotted r.path) (dotted b.path) b.of_module c) a
-      ⊎ IsAmong (connection_link output (dotted r.path) (dotted b.path) b.of_module c) a
-  link_listed _ (to_input x n to) = inl (placed_in input x n (into_input dotted r x n c.expression) to (inl refl))
+  pub link_listed : (a : Target × Expression) → IsLink d called r c a
+      → IsAmong (connection_link input (called r.path) (called b.path) b.of_module c) a
+      ⊎ IsAmong (connection_link output (called r.path) (called b.path) b.of_module c) a
+  link_listed _ (to_input x n to) = inl (placed_in input x n (into_input called r x n c.expression) to (inl refl))
   link_listed _ (of_output x n t to e) =
-      inr (placed_in output x n (out_of_output dotted r x n t) to
-      (subst (λ o. IsAmong (from_port (dotted r.path) (dotted x.path) n o) (out_of_output dotted r x n t)) (sym e) (inl refl)))
+      inr (placed_in output x n (out_of_output called r x n t) to
+      (subst (λ o. IsAmong (from_port (called r.path) (called x.path) n o) (out_of_output called r x n t)) (sym e) (inl refl)))

@@ -76,7 +76,7 @@ paths_so before (x ∷ xs) =
     paths_so (before ++ p ∷ []) xs ∙ append_assoc before (p ∷ []) (new_paths (before ++ p ∷ []) xs)
 
 made_so : (before : List (List PathStep)) (made : List SpotNames) (xs : List Spot) → map front_in made ≡ map front_of before
-    → names_after made xs ≡ made ++ names_at_paths (new_paths before xs) xs
+    → names_after made xs ≡ made ++ names_at_paths dotted (new_paths before xs) xs
 unfolding new_paths
 made_so before made [] h = sym (append-nil made)
 made_so before made (x ∷ xs) h =
@@ -88,11 +88,11 @@ made_so before made (x ∷ xs) h =
     let more : map front_in (made ++ n ∷ []) ≡ map front_of (before ++ p ∷ [])
     = map-append front_in made (n ∷ []) ∙ (λ i. h i ++ front i ∷ []) ∙ sym (map-append front_of before (p ∷ [])) in
     made_so (before ++ p ∷ []) (made ++ n ∷ []) xs more
-    ∙ append_assoc made (n ∷ []) (names_at_paths (new_paths (before ++ p ∷ []) xs) xs)
-    ∙ ap (λ f. made ++ spot_names f x ∷ names_at_paths (new_paths (before ++ p ∷ []) xs) xs) front
+    ∙ append_assoc made (n ∷ []) (names_at_paths dotted (new_paths (before ++ p ∷ []) xs) xs)
+    ∙ ap (λ f. made ++ spot_names f x ∷ names_at_paths dotted (new_paths (before ++ p ∷ []) xs) xs) front
 
-pub all_made : (spots : List Spot) → names_after [] spots ≡ names_of spots
-all_made spots = made_so [] [] spots refl ∙ ap (λ qs. names_at_paths qs spots) (sym (paths_so [] spots))
+pub all_made : (spots : List Spot) → names_after [] spots ≡ names_of dotted spots
+all_made spots = made_so [] [] spots refl ∙ ap (λ qs. names_at_paths dotted qs spots) (sym (paths_so [] spots))
 
 -- a turn that makes the names of one more
 pub made_turn : {A : Type 0} (view : A → Spot) (xs : List A) (i : ℕ) (d : A) (now new whole : List SpotNames) (n : SpotNames) → i < length xs

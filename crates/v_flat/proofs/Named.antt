@@ -13,6 +13,7 @@ use Rattle.verilog_designs.specs.Names.{parameter_names}
 use Rattle.verilog_unique.proofs.Options.{split, same_is, is_same, not_true, left_true, right_true}
 use Rattle.verilog_unique.proofs.Descent.{IsAmong, among_left, among_right, among_either}
 use Rattle.verilog_renamed.proofs.Paths.{ap2}
+use Rattle.flat_designs.specs.Flat.{Naming}
 use Rattle.v_scopes.specs.Rows.{rows, scope_by, objects_by}
 use Rattle.v_places.specs.Below.{Spot}
 use Rattle.v_places.proofs.Spots.{same_some}
@@ -140,27 +141,27 @@ naming_found (p ∷ ps) (suc k) z e = naming_found ps k z e
 abbrev some_names : SpotNames → Option SpotNames
 some_names p = Some p
 
-pub get_names : (qs : List (List PathStep)) (xs : List Spot) (k : ℕ) (q : List PathStep) (x : Spot) → slice_get qs k ≡ Some q → slice_get xs k ≡ Some x
-    → slice_get (names_at_paths qs xs) k ≡ Some (spot_names (front_of q) x)
-get_names [] xs k q x e g = cc
-get_names (r ∷ qs) [] k q x e g = cc
-get_names (r ∷ qs) (y ∷ xs) zero q x e g = ap2 (λ a b. some_names (spot_names (front_of a) b)) (same_some r q e) (same_some y x g)
-get_names (r ∷ qs) (y ∷ xs) (suc k) q x e g = get_names qs xs k q x e g
+pub get_names : (called : Naming) (qs : List (List PathStep)) (xs : List Spot) (k : ℕ) (q : List PathStep) (x : Spot) → slice_get qs k ≡ Some q → slice_get xs k ≡ Some x
+    → slice_get (names_at_paths called qs xs) k ≡ Some (spot_names (called q []) x)
+get_names called [] xs k q x e g = cc
+get_names called (r ∷ qs) [] k q x e g = cc
+get_names called (r ∷ qs) (y ∷ xs) zero q x e g = ap2 (λ a b. some_names (spot_names (called a []) b)) (same_some r q e) (same_some y x g)
+get_names called (r ∷ qs) (y ∷ xs) (suc k) q x e g = get_names called qs xs k q x e g
 
-pub record IsOfSpot (qs : List (List PathStep)) (xs : List Spot) (k : ℕ) (z : SpotNames) : Type 0 where
+pub record IsOfSpot (called : Naming) (qs : List (List PathStep)) (xs : List Spot) (k : ℕ) (z : SpotNames) : Type 0 where
   pub path : List PathStep
   pub spot : Spot
   pub is_path : slice_get qs k ≡ Some path
   pub is_spot : slice_get xs k ≡ Some spot
-  pub is_names : spot_names (front_of path) spot ≡ z
+  pub is_names : spot_names (called path []) spot ≡ z
 
-pub names_of_spot : (qs : List (List PathStep)) (xs : List Spot) (k : ℕ) (z : SpotNames) → slice_get (names_at_paths qs xs) k ≡ Some z → IsOfSpot qs xs k z
-names_of_spot [] xs k z e = cc
-names_of_spot (r ∷ qs) [] k z e = cc
-names_of_spot (r ∷ qs) (y ∷ xs) zero z e =
-    record { path = r; spot = y; is_path = refl; is_spot = refl; is_names = same_some (spot_names (front_of r) y) z e }
-names_of_spot (r ∷ qs) (y ∷ xs) (suc k) z e =
-    let f = names_of_spot qs xs k z e in record { path = f.path; spot = f.spot; is_path = f.is_path; is_spot = f.is_spot; is_names = f.is_names }
+pub names_of_spot : (called : Naming) (qs : List (List PathStep)) (xs : List Spot) (k : ℕ) (z : SpotNames) → slice_get (names_at_paths called qs xs) k ≡ Some z → IsOfSpot called qs xs k z
+names_of_spot called [] xs k z e = cc
+names_of_spot called (r ∷ qs) [] k z e = cc
+names_of_spot called (r ∷ qs) (y ∷ xs) zero z e =
+    record { path = r; spot = y; is_path = refl; is_spot = refl; is_names = same_some (spot_names (called r []) y) z e }
+names_of_spot called (r ∷ qs) (y ∷ xs) (suc k) z e =
+    let f = names_of_spot called qs xs k z e in record { path = f.path; spot = f.spot; is_path = f.is_path; is_spot = f.is_spot; is_names = f.is_names }
 
 -- ---- one scope
 
@@ -201,17 +202,18 @@ module _ (front : Name) where
   after_front [] ys zs e = e
   after_front (x ∷ xs) ys zs e = after_front xs ys zs cc
 
+  pub front_apart : (m n : Name) → same_name (front ++ m) (front ++ n) ≡ same_name m n
+  front_apart m n =
+      elim (split (same_name m n)) as (λ _. same_name (front ++ m) (front ++ n) ≡ same_name m n) [
+        | inl t ↦ ap (λ k. same_name (front ++ m) (front ++ k)) (sym (same_is m n t)) ∙ is_same (front ++ m) ∙ sym t
+        | inr t ↦ not_true (same_name (front ++ m) (front ++ n))
+            (λ k. false≢true (sym t ∙ subst (λ z. same_name m z ≡ true) (after_front front m n (same_is (front ++ m) (front ++ n) k)) (is_same m)))
+            ∙ sym t
+      ]
+
   pub own_found : (es : Entries Object) (n : Name) → entry_of (map flat_entry (dotted_entries front es)) (front ++ n) ≡ entry_of es n
   own_found [] n = refl
-  own_found (e ∷ es) n =
-      ap2 (λ b o. cond b (Some e.1) o)
-      (elim (split (same_name e.0 n)) as (λ _. same_name (front ++ e.0) (front ++ n) ≡ same_name e.0 n) [
-        | inl t ↦ ap (λ m. same_name (front ++ e.0) (front ++ m)) (sym (same_is e.0 n t)) ∙ is_same (front ++ e.0) ∙ sym t
-        | inr t ↦ not_true (same_name (front ++ e.0) (front ++ n))
-            (λ k. false≢true (sym t ∙ subst (λ m. same_name e.0 m ≡ true) (after_front front e.0 n (same_is (front ++ e.0) (front ++ n) k)) (is_same e.0)))
-            ∙ sym t
-      ])
-      (own_found es n)
+  own_found (e ∷ es) n = ap2 (λ b o. cond b (Some e.1) o) (front_apart e.0 n) (own_found es n)
 
   -- it is found under no name that is none of its dotted names
   pub others_found : (es : Entries Object) (n : Name) → ((m : Name) → IsAmong (keys es) m → front ++ m ≢ n)

@@ -5,10 +5,12 @@ use Rattle.std.proofs.lemmas.List.{get_or-map, length-map}
 use Rattle.verilog_trees.specs.Syntax.{Source}
 use Rattle.v_renamed.specs.declared.names.Names.{Names}
 use Rattle.v_renamed.specs.NewNames.{new_name}
+use Rattle.flat_designs.specs.Flat.{Naming}
 use Rattle.v_places.specs.Below.{Spot}
 use Rattle.verilog_meaning.specs.Hierarchy.{PathStep}
 use Rattle.v_flat.specs.Paths.{IsRowOf, AreRowsOf, paths_of}
 use Rattle.v_flat.specs.Entries.{SpotNames, names_at_paths, names_of, naming_of}
+use Rattle.v_flat.specs.Numbered.{numbered_from}
 use Rattle.v_flat.proofs.Places.{paths_length}
 use Rattle.v_flat.specs.Items.{naming_at}
 use Rattle.v_flat.specs.Views.{namings}
@@ -30,16 +32,21 @@ all_rows source n (x ∷ xs) h = (h 0 x refl, all_rows source n xs (λ k y e. h 
 
 -- ---- as many of each
 
-names_length : (qs : List (List PathStep)) (xs : List Spot) → length qs ≡ length xs → length (names_at_paths qs xs) ≡ length xs
-names_length [] [] l = refl
-names_length [] (x ∷ xs) l = absurd (omega (arith, l))
-names_length (q ∷ qs) [] l = absurd (omega (arith, l))
-names_length (q ∷ qs) (x ∷ xs) l = let r = names_length qs xs (omega (arith, l)) in omega (arith, r)
+pub names_length : (called : Naming) (qs : List (List PathStep)) (xs : List Spot) → length qs ≡ length xs → length (names_at_paths called qs xs) ≡ length xs
+names_length called [] [] l = refl
+names_length called [] (x ∷ xs) l = absurd (omega (arith, l))
+names_length called (q ∷ qs) [] l = absurd (omega (arith, l))
+names_length called (q ∷ qs) (x ∷ xs) l = let r = names_length called qs xs (omega (arith, l)) in omega (arith, r)
 
-pub as_many : {A : Type 0} (ts : List Names) (ns : List SpotNames) (view : A → Spot) (xs : List A) → namings ts ≡ map naming_of ns → ns ≡ names_of (map view xs)
-    → length ts ≡ length xs
-as_many ts ns view xs e n =
-    let many : length (paths_of (map view xs)) ≡ 0 + length (map view xs) = paths_length [] (map view xs) in
-    let paths : length (paths_of (map view xs)) ≡ length (map view xs) = omega (arith, many) in
-    sym (length-map ts new_name) ∙ ap length (e ∙ ap (map naming_of) n) ∙ length-map (names_of (map view xs)) naming_of
-    ∙ names_length (paths_of (map view xs)) (map view xs) paths ∙ length-map xs view
+-- as many names as places
+pub named_all : (called : Naming) (xs : List Spot) → length (names_of called xs) ≡ length xs
+named_all called xs =
+    let many : length (paths_of xs) ≡ 0 + length xs = paths_length [] xs in
+    names_length called (paths_of xs) xs (omega (arith, many))
+
+pub numbered_length : (k : ℕ) (xs : List Spot) → length (numbered_from k xs) ≡ length xs
+numbered_length k [] = refl
+numbered_length k (x ∷ xs) = let r = numbered_length (k + 1) xs in omega (arith, r)
+
+pub as_many : (ts : List Names) (ns : List SpotNames) → namings ts ≡ map naming_of ns → length ts ≡ length ns
+as_many ts ns e = sym (length-map ts new_name) ∙ ap length e ∙ length-map ns naming_of

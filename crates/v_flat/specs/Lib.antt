@@ -2,6 +2,7 @@ pub mod Paths
 pub mod Links
 pub mod Items
 pub mod Entries
+pub mod Numbered
 pub mod Views
 pub mod Whole
 pub mod Outputs

@@ -1,20 +1,21 @@
 -- What is promised of a flat design that is made of a list of places.
-use Rattle.std.specs.Prelude.{◌≡◌, ◌≢◌, ◌<◌, ℕ, List, [], slice_get, Some}
+use Rattle.std.specs.Prelude.{◌≡◌, ◌≢◌, ◌<◌, ◌++◌, ℕ, List, [], slice_get, Some}
 use Rattle.wb_values.specs.Value.{Name}
 use Rattle.verilog_trees.specs.Syntax.{by_order, Item}
 use Rattle.verilog_meaning.specs.Expression.{Scope, undeclared}
 use Rattle.verilog_meaning.specs.Register.{clocked_blocks, combinational_blocks}
-use Rattle.verilog_meaning.specs.Hierarchy.{Placed, placed_scope, dotted}
+use Rattle.verilog_meaning.specs.Hierarchy.{PathStep, Placed, placed_scope}
 use Rattle.verilog_meaning.specs.Settled.{Design, IsPlacedIn, assignments}
 use Rattle.verilog_designs.specs.Known.{known_scope}
 use Rattle.verilog_designs.specs.Accepted as accepted
 use Rattle.verilog_designs.specs.Accepted.{Breaks}
 use Rattle.verilog_exists.specs.Exists.{NamesHaveNoDots}
-use Rattle.flat_designs.specs.Flat.{IsNameOf, IsFlat}
+use Rattle.flat_designs.specs.Flat.{IsNameOf, Naming, IsNaming, IsFlat}
 use Rattle.flat_designs.specs.Edge.{AreThePlaced, AreInTextOrder}
 use Rattle.v_places.specs.Below.{Spot}
 use Rattle.v_places.specs.Places.{IsConnected}
 use Rattle.v_flat.specs.Paths.{placed_of}
+use Rattle.v_flat.specs.Entries.{SpotNames, names_of}
 
 -- The list has the modules that stand in the design, each once, at its path and with the values of its parameters. Each but the top,
 -- which is connected to nothing, has what is connected to its instance. No name is undeclared, is declared twice or has a dot; and the
@@ -28,9 +29,19 @@ pub record IsPlacing (d : Design) (spots : List Spot) : Type 0 where
   pub alone : (x : Spot) → slice_get spots 0 ≡ Some x → x.connections ≡ by_order []
   pub scopes : (p : Placed) (n : Name) → IsPlacedIn d p → known_scope p n ≡ placed_scope p n
 
--- The scope and the items are the design in one scope: its drivers, with the clocked blocks of each module in the order of its text; and
--- the scope knows no other names than those of the design.
-pub record IsFlatDesign (d : Design) (s : Scope) (items : List Item) : Type 0 where
-  pub flat : IsFlat d dotted s (assignments items) (combinational_blocks items) (clocked_blocks items)
-  pub in_order : AreInTextOrder d dotted (clocked_blocks items)
-  pub no_others : (n : Name) → ((p : Placed) (m : Name) → IsPlacedIn d p → IsNameOf p m → dotted p.path m ≢ n) → s n ≡ undeclared
+-- The names of the modules of the list are those that a naming gives them: in each module what is called so begins with what stands before
+-- its names, and in the top with nothing.
+pub record AreCalled (d : Design) (called : Naming) (spots : List Spot) (names : List SpotNames) : Type 0 where
+  pub naming : IsNaming d called
+  pub plain : (n : Name) → called [] n ≡ n
+  pub fronts : (path : List PathStep) (n : Name) → called path [] ++ n ≡ called path n
+  pub names : names ≡ names_of called spots
+
+-- The scope and the items are the design in one scope, under a naming that leaves the names of the top as they are: its drivers, with the
+-- clocked blocks of each module in the order of its text; and the scope knows no other names than those of the design.
+pub record IsFlatDesign (d : Design) (called : Naming) (s : Scope) (items : List Item) : Type 0 where
+  pub naming : IsNaming d called
+  pub plain : (n : Name) → called [] n ≡ n
+  pub flat : IsFlat d called s (assignments items) (combinational_blocks items) (clocked_blocks items)
+  pub in_order : AreInTextOrder d called (clocked_blocks items)
+  pub no_others : (n : Name) → ((p : Placed) (m : Name) → IsPlacedIn d p → IsNameOf p m → called p.path m ≢ n) → s n ≡ undeclared

@@ -1,13 +1,13 @@
 //! A design with instances in one scope.
-ghost use Rattle.std.specs.Prelude.{◌≡◌, map, IfOk};
+ghost use Rattle.std.specs.Prelude.{◌≡◌, length, map, IfOk};
 ghost use Rattle.verilog_meaning.specs.Settled.{Design};
 ghost use Rattle.v_syntax.specs.Source.{item_of};
 ghost use Rattle.v_value.specs.Scope.{scope_at};
 ghost use Rattle.v_instances.specs.Interface.{AreInterfacesOf};
 ghost use Rattle.v_places.specs.Views.{spots_of};
-ghost use Rattle.v_flat.specs.Entries.{names_of};
+ghost use Rattle.flat_designs.specs.Flat.{Naming};
 ghost use Rattle.v_flat.specs.Views.{names_in};
-ghost use Rattle.v_flat.specs.Whole.{IsPlacing, IsFlatDesign};
+ghost use Rattle.v_flat.specs.Whole.{IsPlacing, AreCalled, IsFlatDesign};
 
 use crate::driven::all_items;
 use crate::names::DottedNames;
@@ -18,7 +18,7 @@ use v_places::Place;
 use v_syntax::module::Item;
 use v_value::scope::Scope;
 
-/// A design in one scope: what its dotted names stand for, and its assignments and blocks under these names, connections of ports among
+/// A design in one scope: what its names there stand for, and its assignments and blocks under these names, connections of ports among
 /// the assignments.
 #[derive(Drop)]
 pub struct FlatDesign<'a> {
@@ -33,9 +33,9 @@ pub fn flat_design<'a, 's: 'a>(
     names: &'a DottedNames<'a>,
     interfaces: &Interfaces<'s>,
 ) -> Result<FlatDesign<'a>, AllocError>
-    requires { map names_in names.now.places.items ≡ names_of (spots_of places.now) }
-    ensures { IfOk result (λ f. (d : Design) → AreInterfacesOf interfaces.now d.source → IsPlacing d (spots_of places.now)
-        → IsFlatDesign d (scope_at f.scope) (map item_of f.items.items)) }
+    requires { length names.now.places.items ≡ length places.now }
+    ensures { IfOk result (λ f. (d : Design) (called : Naming) → AreInterfacesOf interfaces.now d.source → IsPlacing d (spots_of places.now)
+        → AreCalled d called (spots_of places.now) (map names_in names.now.places.items) → IsFlatDesign d called (scope_at f.scope) (map item_of f.items.items)) }
 {
     let tables = tables_of(alloc, &names.places)?;
     let scope = scope_of(alloc, &names.places)?;

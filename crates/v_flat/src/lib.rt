@@ -11,6 +11,6 @@ mod own;
 mod tables;
 
 pub use flat::{FlatDesign, flat_design};
-pub use names::{Dotted, DottedNames, PlaceNames, dotted_names};
+pub use names::{Dotted, DottedNames, PlaceNames, dotted_names, numbered_names};
 pub use own::items_with_outputs;
 pub use tables::tables_of;

@@ -1,11 +1,16 @@
-//! The dotted names of all modules that stand in a design (IEEE 1364-2005, 12.5).
-ghost use Rattle.std.specs.Prelude.{◌≡◌, ◌++◌, ◌∷◌, [], map, option_map, slice_get, IfOk, OnOk};
+//! What the names of all modules that stand in a design are called in one scope: their dotted names (IEEE 1364-2005, 12.5), or names by
+//! the number of their module.
+ghost use Rattle.std.specs.Prelude.{◌≡◌, ◌++◌, ◌∷◌, [], length, map, option_map, slice_get, IfOk, OnOk};
 ghost use Rattle.std.specs.String.{string_bytes};
+ghost use Rattle.verilog_meaning.specs.Hierarchy.{dotted};
+ghost use Rattle.verilog_meaning.specs.Settled.{Design};
 ghost use Rattle.v_value.specs.Scope.{object_of, objects_of};
 ghost use Rattle.v_scopes.specs.Rows.{rows_of, objects_by};
 ghost use Rattle.v_scopes.specs.Scopes.{scope_in};
 ghost use Rattle.v_places.specs.Views.{spot_of, spots_of};
 ghost use Rattle.v_flat.specs.Entries.{dotted_entry, dotted_entries, spot_names, names_of, front_below};
+ghost use Rattle.v_flat.specs.Numbered.{number_front, numbered, numbered_from};
+ghost use Rattle.v_flat.specs.Whole.{IsPlacing, AreCalled};
 ghost use Rattle.v_flat.specs.Views.{entry_in, names_in};
 
 use std::alloc::{AllocError, Global};
@@ -13,7 +18,7 @@ use v_places::Place;
 use v_scopes::{Constants, Declared, ModuleScope, declared_scope};
 use v_value::scope::{Declaration, Object};
 
-/// A name of a module that stands in a design, its dotted name, and what it stands for.
+/// A name of a module that stands in a design, what it is called in one scope, and what it stands for.
 #[derive(Drop)]
 pub struct Dotted<'s> {
     pub name: &'s str,
@@ -21,7 +26,7 @@ pub struct Dotted<'s> {
     pub object: Object,
 }
 
-/// The names of a module that stands in a design, and what stands before them in their dotted names.
+/// The names of a module that stands in a design, and what stands before them in one scope.
 #[derive(Drop)]
 pub struct PlaceNames<'s> {
     pub front: String,
@@ -34,7 +39,7 @@ pub struct DottedNames<'s> {
     pub places: Vec<PlaceNames<'s>>,
 }
 
-/// A name with its dotted name.
+/// A name with what it is called.
 fn with_front<'s>(
     alloc: Global,
     front: &str,
@@ -135,11 +140,42 @@ pub fn dotted_names<'s>(
     alloc: Global,
     places: &[Place<'_, 's>],
 ) -> Result<DottedNames<'s>, AllocError>
-    ensures { IfOk result (λ n. map names_in n.places.items ≡ names_of (spots_of places.now)) }
+    ensures count { IfOk result (λ n. length n.places.items ≡ length places.now) }
+    ensures names { IfOk result (λ n. map names_in n.places.items ≡ names_of dotted (spots_of places.now)) }
 {
     let mut list = Vec::new(alloc);
     for place in places {
         let front = front_below(&list, place, alloc)?;
+        let names = place_names(place, front, alloc)?;
+        list.push(names)?;
+    }
+    Ok(DottedNames { places: list })
+}
+
+/// What stands before the names of the module with a number: the number and a dot, and before those of the top nothing.
+fn number_front(number: usize, alloc: Global) -> Result<String, AllocError>
+    ensures { IfOk result (λ s. string_bytes s ≡ number_front number) }
+{
+    if number == 0 {
+        return Ok(String::new(alloc));
+    }
+    let front = format!(in alloc; "{number}.")?;
+    Ok(front)
+}
+
+/// The names of all modules that stand in a design, each with the number of its module before it. They are about as long as in the text,
+/// however deep their modules stand.
+pub fn numbered_names<'s>(
+    alloc: Global,
+    places: &[Place<'_, 's>],
+) -> Result<DottedNames<'s>, AllocError>
+    ensures count { IfOk result (λ n. length n.places.items ≡ length places.now) }
+    ensures called { IfOk result (λ n. (d : Design) → IsPlacing d (spots_of places.now)
+        → AreCalled d (numbered (spots_of places.now)) (spots_of places.now) (map names_in n.places.items)) }
+{
+    let mut list = Vec::new(alloc);
+    for (number, place) in places.iter().enumerate() {
+        let front = number_front(number, alloc)?;
         let names = place_names(place, front, alloc)?;
         list.push(names)?;
     }

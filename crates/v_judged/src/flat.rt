@@ -1,5 +1,5 @@
 //! The kinds on bits without drivers and on combinational loops, over the design in one scope.
-ghost use Rattle.std.specs.Prelude.{◌≡◌, ◌↔◌, map, slice_get, Some, IfOk};
+ghost use Rattle.std.specs.Prelude.{◌≡◌, ◌↔◌, length, map, slice_get, Some, IfOk};
 ghost use Rattle.verilog_meaning.specs.Settled.{Design};
 ghost use Rattle.verilog_designs.specs.Drivers.{HasUndriven};
 ghost use Rattle.verilog_designs.specs.Dependence.{HasLoop};
@@ -10,7 +10,8 @@ ghost use Rattle.v_undriven.specs.Undriven.{HasUndrivenBit};
 ghost use Rattle.v_loops.specs.OneModule.{HasLoopIn};
 ghost use Rattle.v_places.specs.Below.{Spot};
 ghost use Rattle.v_places.specs.Views.{spot_of, spots_of};
-ghost use Rattle.v_flat.specs.Entries.{names_of};
+ghost use Rattle.v_flat.specs.Numbered.{numbered};
+ghost use Rattle.v_flat.specs.Whole.{IsPlacing, AreCalled};
 ghost use Rattle.v_flat.specs.Views.{names_in};
 ghost use Rattle.place_kinds.specs.Flat.{FlatIsReady};
 ghost use Rattle.v_judged.specs.First.{IsFirst, flat_kinds};
@@ -19,7 +20,7 @@ ghost use Rattle.v_judged.specs.Standing.{IsSoundDesign};
 use crate::kind::DesignKind;
 use place_kinds::laws::{flat_kinds_are_kinds_of_the_design, places_are_placed};
 use std::alloc::{AllocError, Global};
-use v_flat::{DottedNames, FlatDesign, dotted_names, flat_design};
+use v_flat::{DottedNames, FlatDesign, flat_design, numbered_names};
 use v_instances::interface::Interfaces;
 use v_loops::has_loop;
 use v_places::Place;
@@ -60,23 +61,25 @@ fn flat_refusal<'n, 's: 'n>(
     Ok(None)
 }
 
-/// The same of the design that stands at these places, where its names have these dotted names.
-fn dotted_refusal<'s>(
+/// The same of the design that stands at these places, where its names are called by the numbers of their modules.
+fn numbered_refusal<'s>(
     alloc: Global,
     places: &[Place<'_, 's>],
-    dotted: &DottedNames<'s>,
+    names: &DottedNames<'s>,
     top: &ModuleScope<'s>,
     interfaces: &Interfaces<'s>,
     clock: &str,
 ) -> Result<Option<DesignKind>, AllocError>
-    requires names { map names_in dotted.now.places.items ≡ names_of (spots_of places.now) }
+    requires count { length names.now.places.items ≡ length places.now }
+    requires called { (d : Design) → IsPlacing d (spots_of places.now)
+        → AreCalled d (numbered (spots_of places.now)) (spots_of places.now) (map names_in names.now.places.items) }
     requires sound { (d : Design) × IsSoundDesign interfaces.now (spots_of places.now) d }
     ensures { IfOk result (λ k. (d : Design) (x : Spot) → IsSoundDesign interfaces.now (spots_of places.now) d → slice_get (spots_of places.now) 0 ≡ Some x
         → HasNamesOf top.now x.of_module → d.clock ≡ clock.now → IsFirst d flat_kinds k) }
 {
     places_are_placed();
     flat_kinds_are_kinds_of_the_design();
-    let flat = flat_design(alloc, places, dotted, interfaces)?;
+    let flat = flat_design(alloc, places, names, interfaces)?;
     let kind = flat_refusal(alloc, &flat, top, clock)?;
     Ok(kind)
 }
@@ -93,7 +96,7 @@ pub(crate) fn one_scope_refusal<'s>(
     ensures { IfOk result (λ k. (d : Design) → IsSoundDesign interfaces.now (spots_of places.now) d → d.clock ≡ clock.now → IsFirst d flat_kinds k) }
 {
     let names = names_of(alloc, &places[0])?;
-    let dotted = dotted_names(alloc, places)?;
-    let kind = dotted_refusal(alloc, places, &dotted, &names, interfaces, clock)?;
+    let numbered = numbered_names(alloc, places)?;
+    let kind = numbered_refusal(alloc, places, &numbered, &names, interfaces, clock)?;
     Ok(kind)
 }

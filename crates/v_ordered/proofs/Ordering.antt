@@ -418,7 +418,7 @@ module _ (d : Design) (spots : List Spot) (h : IsPlacing d spots) where
 
   -- ---- lists
 
-  module _ (lists : ℕ → List Name) (lines : AreLines spots (names_of spots) lists) where
+  module _ (lists : ℕ → List Name) (lines : AreLines spots (names_of dotted spots) lists) where
     -- the members of one place, where the lists of all places behind it have their names in order
     along : (k : ℕ) (x : Spot) (q : List PathStep) (s : Stands d spots k x q) (child : Name → Option ℕ) → AreBelow spots k child
         → ((c : ℕ) (z : Spot) (r : List PathStep) → k < c → Stands d spots c z r → AreNamesInOrder d (placed_by r z) (members_in z.of_module) (lists c))
@@ -441,7 +441,7 @@ module _ (d : Design) (spots : List Spot) (h : IsPlacing d spots) where
         → AreNamesInOrder d (placed_by q x) (members_in x.of_module) (lists k)
     in_order zero k x q l s = let w = get_within spots k x s.is_at.is_spot in absurd (omega (arith, l, w))
     in_order (suc n) k x q l s =
-        let r = lines k x (spot_names (front_of q) x) s.is_at.is_spot (get_names (paths_of spots) spots k q x s.is_at.is_there s.is_at.is_spot) in
+        let r = lines k x (spot_names (front_of q) x) s.is_at.is_spot (get_names dotted (paths_of spots) spots k q x s.is_at.is_there s.is_at.is_spot) in
         subst (AreNamesInOrder d (placed_by q x) (members_in x.of_module)) (sym r.2)
         (along k x q s r.0 r.1 (λ c z w b t. in_order n c z w (omega (arith, l, b)) t) (members_in x.of_module) (λ z g. g))
 
@@ -457,5 +457,5 @@ module _ (d : Design) (spots : List Spot) (h : IsPlacing d spots) where
 
 -- The top's list has the names of all nets and variables of the design in their order.
 pub lines_are_in_order : (d : Design) (spots : List Spot) (lists : ℕ → List Name) (top : Placed) → IsPlacing d spots
-    → AreLines spots (names_of spots) lists → at_path d [] ≡ Some top → AreNamesInOrder d top (members_in top.of_module) (lists 0)
+    → AreLines spots (names_of dotted spots) lists → at_path d [] ≡ Some top → AreNamesInOrder d top (members_in top.of_module) (lists 0)
 lines_are_in_order d spots lists top placing lines e = names_in_order d spots placing lists lines top e

@@ -1,6 +1,6 @@
 //! The names of each place with those of the places that stand in it, from the last place to the first.
 ghost use Rattle.std.specs.Prelude.{◌≡◌, ◌++◌, ◌∷◌, [], ℕ, length, map, IfOk, OnOk, Some};
-ghost use Rattle.verilog_meaning.specs.Hierarchy.{Placed};
+ghost use Rattle.verilog_meaning.specs.Hierarchy.{Placed, dotted};
 ghost use Rattle.verilog_meaning.specs.Settled.{Design, at_path};
 ghost use Rattle.verilog_registers.specs.Order.{members_in};
 ghost use Rattle.v_hier.specs.Tables.{under_name};
@@ -148,7 +148,7 @@ pub fn names_in_order<'n>(
     places: &[Place<'_, '_>],
     names: &'n DottedNames<'n>,
 ) -> Result<Vec<&'n str>, AllocError>
-    requires { map names_in names.now.places.items ≡ names_of (spots_of places.now) }
+    requires { map names_in names.now.places.items ≡ names_of dotted (spots_of places.now) }
     ensures { IfOk result (λ v. (d : Design) (top : Placed) → IsPlacing d (spots_of places.now) → at_path d [] ≡ Some top
         → AreNamesInOrder d top (members_in top.of_module) (seen v.items)) }
 {

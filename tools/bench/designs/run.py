@@ -198,6 +198,22 @@ def two_memories():
     )
 
 
+def odd_memory():
+    """A memory of which 25,535 words are not there, read and written."""
+    return lines(
+        "module t(input clk, input [15:0] a, input [31:0] b, output [31:0] q);",
+        "  reg [31:0] m [0:40000]; reg [31:0] s;",
+        "  assign q = s;",
+        "  always @(posedge clk) begin s <= m[a ^ b[15:0]]; m[a] <= b + s; end",
+        "endmodule",
+    )
+
+
+def refused_chain():
+    """The chain of instances, with a loop in the last one."""
+    return chain().replace("assign y = ~x;", "wire v; assign v = ~v; assign y = v & x;")
+
+
 BESIDE = [("a datapath of 40 stages", datapath, ("a", 32, "b", 32)), ("2,000 instances of a small block", instances, ("a", 8, "b", 8)), ("a memory of 65,536 words", memory, ("a", 16, "b", 32))]
 
 # name, text, inputs of a cycle, seconds, MiB
@@ -217,6 +233,8 @@ LARGE = [
     ("300,000 registers", registers, "a=1", 2, 800),
     ("1,000,000 additions", additions, "a=1", 2, 800),
     ("two memories of 65,536 words of 128 bits", two_memories, "a=3 b=4", 1, 300),
+    ("a memory of 40,001 words", odd_memory, "a=3 b=4", 1, 300),
+    ("a chain of instances with a loop", refused_chain, "a=1", 3, 1024),
 ]
 
 

@@ -14,16 +14,17 @@ use Rattle.v_flat.proofs.flat.flat_design.Goals as goal
 pub all_items-requires : goal.all_items-requires
 all_items-requires c =
     ap length c.deref-3.ensures.value
-    ∙ as_many c.in_ok-tables.tables.items (map names_in c.args.names.now.places.items) spot_of c.args.places.now
-    (c.in_ok-tables.ensures ∙ ap (λ ps. map naming_of (map names_in ps)) c.deref.ensures.value) c.requires
+    ∙ as_many c.in_ok-tables.tables.items (map names_in c.args.names.now.places.items)
+    (c.in_ok-tables.ensures ∙ ap (λ ps. map naming_of (map names_in ps)) c.deref.ensures.value)
+    ∙ length-map c.args.names.now.places.items names_in ∙ c.requires
 
 pub returns : goal.returns
-returns c = λ d i h.
+returns c = λ d called i h are.
     let spots = spots_of c.args.places.now in
     let rows : AreRowsOf d.source (length c.args.places.now) spots
     = subst (λ n. AreRowsOf d.source n spots) (length-map c.args.places.now spot_of) (all_rows d.source (length spots) spots (row_of d spots h)) in
-    whole_design d spots (map names_in c.args.names.now.places.items) (namings c.in_ok-tables.tables.items) (objects_of c.in_ok-scope.scope.declarations.items)
-    (map item_of c.in_ok-items.items.items) h c.requires
+    whole_design d called spots (map names_in c.args.names.now.places.items) (namings c.in_ok-tables.tables.items) (objects_of c.in_ok-scope.scope.declarations.items)
+    (map item_of c.in_ok-items.items.items) h are
     (c.in_ok-tables.ensures ∙ ap (λ ps. map naming_of (map names_in ps)) c.deref.ensures.value)
     (c.in_ok-scope.ensures ∙ ap (λ ps. flat_entries (map names_in ps)) c.deref-2.ensures.value)
     (c.in_ok-items.ensures d.source i rows ∙ ap (λ ts. items_by (namings ts) spots) c.deref-3.ensures.value)

@@ -2,8 +2,11 @@ use Rattle.v_places.specs.Views.{spot_of}
 use Rattle.v_judged.proofs.Sound.{some_first, first_is, not_empty}
 use Rattle.v_judged.proofs.flat.one_scope_refusal.Goals as goal
 
-pub dotted_refusal-requires-clause-names : goal.dotted_refusal-requires-clause-names
-dotted_refusal-requires-clause-names c = c.in_ok-dotted.ensures
+pub numbered_refusal-requires-clause-count : goal.numbered_refusal-requires-clause-count
+numbered_refusal-requires-clause-count c = c.in_ok-numbered.ensures.count
+
+pub numbered_refusal-requires-clause-called : goal.numbered_refusal-requires-clause-called
+numbered_refusal-requires-clause-called c = c.in_ok-numbered.ensures.called
 
 pub returns : goal.returns
 returns c = λ d h k.
