@@ -121,12 +121,12 @@ fn covers(
     Ok(true)
 }
 
-/// A block with these pieces, with its paths: all bits are open before it.
+/// A block with these pieces, with its paths: all bits are open before it. None where it takes too much.
 fn paths_of<'s>(
     block: &[Piece<'_, 's>],
     alloc: Global,
     names: Names<'_, '_>,
-) -> Result<Flow<'s>, AllocError> {
+) -> Result<Option<Flow<'s>>, AllocError> {
     let none = BTreeMap::new(alloc);
     let flow = after_block(block, alloc, names, &none, true)?;
     Ok(flow)
@@ -147,7 +147,9 @@ fn has_bad_events(
     if site == Site::Clocked {
         return Ok(!are_clocked_events(names, clocks, &events));
     }
-    let paths = paths_of(block, alloc, names)?;
+    let Some(paths) = paths_of(block, alloc, names)? else {
+        return Ok(false);
+    };
     let all = covers(alloc, &paths.read, &events)?;
     Ok(!all)
 }
@@ -158,7 +160,9 @@ fn latch_in(
     alloc: Global,
     names: Names<'_, '_>,
 ) -> Result<Option<usize>, AllocError> {
-    let paths = paths_of(block, alloc, names)?;
+    let Some(paths) = paths_of(block, alloc, names)? else {
+        return Ok(None);
+    };
     for (place, piece) in block.iter().enumerate() {
         let bits = match piece.what {
             What::Written(name, selects, _) => {

@@ -44,7 +44,12 @@ pub(crate) struct Flow<'s> {
     choices: Vec<Choice<'s>>,
     /// Where the assignment begins that is read.
     start: Option<usize>,
+    /// How many names were gone through at the ends of branches.
+    pub(crate) moves: usize,
 }
+
+/// The most names that are gone through at the ends of the branches of a block: what is assigned deep inside is so at each depth.
+const MOST_MOVES: usize = 1 << 22;
 
 /// A block before its first statement.
 fn start_of<'s>(alloc: Global, of_paths: bool) -> Flow<'s> {
@@ -55,6 +60,7 @@ fn start_of<'s>(alloc: Global, of_paths: bool) -> Flow<'s> {
         branches: Vec::new(alloc),
         choices: Vec::new(alloc),
         start: None,
+        moves: 0,
     }
 }
 
@@ -237,6 +243,10 @@ fn end_branch(flow: &mut Flow<'_>) -> Result<(), AllocError> {
         return Ok(());
     };
     choice.branches = choice.branches.saturating_add(1);
+    flow.moves = flow.moves.saturating_add(branch.len());
+    if flow.moves > MOST_MOVES {
+        return Ok(());
+    }
     for (name, before) in &branch {
         let state = state_in(&flow.known, *name);
         let end = match choice.ends.get(*name).copied() {
@@ -312,18 +322,37 @@ fn pass<'s>(
     Ok(())
 }
 
-/// A block or an assignment with these pieces, read to its end.
+/// A block or an assignment with these pieces, read to its end. None where it takes too much.
 pub(crate) fn after_block<'s>(
     pieces: &[Piece<'_, 's>],
     alloc: Global,
     names: Names<'_, '_>,
     outside: &BTreeMap<&str, u128>,
     of_paths: bool,
-) -> Result<Flow<'s>, AllocError> {
+) -> Result<Option<Flow<'s>>, AllocError> {
     let mut flow = start_of(alloc, of_paths);
     for (place, piece) in pieces.iter().enumerate() {
         pass(pieces, place, *piece, alloc, names, &mut flow, outside)?;
     }
+    if flow.moves > MOST_MOVES {
+        return Ok(None);
+    }
+    Ok(Some(flow))
+}
+
+/// One name that is assigned, with these bits, of which these are open.
+pub(crate) fn after_name<'s>(
+    alloc: Global,
+    name: &'s str,
+    bits: u128,
+    open: u128,
+) -> Result<Flow<'s>, AllocError> {
+    let mut flow = start_of(alloc, false);
+    let state = State {
+        assigned: bits,
+        open,
+    };
+    flow.known.insert(name, state)?;
     Ok(flow)
 }
 

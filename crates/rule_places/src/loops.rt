@@ -5,7 +5,7 @@ ghost use Rattle.v_value.specs.Scope.{scope_at};
 ghost use Rattle.v_value.specs.Narrow.{HasNarrowObjects};
 
 use crate::bits::{all_bits, is_net, may_reach};
-use crate::flow::{after_block, after_word, word_of};
+use crate::flow::{Flow, after_block, after_name, after_word, word_of};
 use crate::hierarchy::{Edge, all_with, is_inside, trim};
 use crate::links::{Act, Driver, add_connections, add_own, children_of};
 use crate::listing::pieces_of;
@@ -109,7 +109,9 @@ fn read_by<'t, 's>(
         return Ok(found);
     };
     let none = BTreeMap::new(alloc);
-    let flow = after_block(list, alloc, names, &none, true)?;
+    let Some(flow) = after_block(list, alloc, names, &none, true)? else {
+        return Ok(found);
+    };
     for (name, bits) in &flow.read {
         if *bits != 0 {
             found.push((driver.place, *name, *bits))?;
@@ -127,30 +129,12 @@ fn unsettled_at<'n, 's>(
     unsettled.get(place).unwrap_or(none)
 }
 
-/// One name that is assigned, with these bits, of which these are open.
-fn one_name<'s>(
-    alloc: Global,
-    name: &'s str,
-    bits: u128,
-    open: u128,
-) -> Result<BTreeMap<&'s str, State>, AllocError> {
-    let mut known = BTreeMap::new(alloc);
-    known.insert(
-        name,
-        State {
-            assigned: bits,
-            open,
-        },
-    )?;
-    Ok(known)
-}
-
-/// What a driver assigns at which place, and what of it is open now.
+/// What a driver assigns at which place, and what of it is open now. None where it takes too much.
 fn after<'t, 's>(
     whole: &Whole<'t, 's>,
     driver: Driver<'t, 's>,
     alloc: Global,
-) -> Result<Option<(usize, BTreeMap<&'s str, State>)>, AllocError> {
+) -> Result<Option<(usize, Flow<'s>)>, AllocError> {
     let none = BTreeMap::new(alloc);
     let outside = unsettled_at(&whole.unsettled, &none, driver.place);
     let Some(seat) = whole.seats.get(driver.place) else {
@@ -161,18 +145,18 @@ fn after<'t, 's>(
         return Ok(None);
     };
     match driver.act {
-        Act::Own => {
-            let flow = after_block(list, alloc, names, outside, false)?;
-            Ok(Some((driver.place, flow.known)))
-        }
+        Act::Own => match after_block(list, alloc, names, outside, false)? {
+            Some(flow) => Ok(Some((driver.place, flow))),
+            None => Ok(None),
+        },
         Act::Into(child, port, value) => {
             let word = word_of(value, list, alloc, names, outside);
             let Some(below) = whole.seats.get(child) else {
                 return Ok(None);
             };
             let bits = all_bits(below.scope.object(port));
-            let known = one_name(alloc, port, bits, word)?;
-            Ok(Some((child, known)))
+            let flow = after_name(alloc, port, bits, word)?;
+            Ok(Some((child, flow)))
         }
         Act::OutOf(child, port) => {
             let Some(below) = whole.seats.get(child) else {
@@ -184,7 +168,7 @@ fn after<'t, 's>(
                 width: last_place(object).saturating_add(1).min(128),
             };
             let flow = after_word(list, alloc, names, outside, widened(word, object.signed))?;
-            Ok(Some((driver.place, flow.known)))
+            Ok(Some((driver.place, flow)))
         }
     }
 }
@@ -268,22 +252,23 @@ fn settle<'s>(
     Ok(())
 }
 
-/// Takes away the bits that the driver with this number settles.
+/// Takes away the bits that a driver settles. Says how many names it went through, or none where it takes too much.
 fn settle_one<'t, 's>(
     whole: &mut Whole<'t, 's>,
     driver: Driver<'t, 's>,
     alloc: Global,
     readers: &[BTreeMap<&'s str, Vec<usize>>],
     waiting: &mut Waiting,
-) -> Result<(), AllocError> {
-    if let Some((place, known)) = after(whole, driver, alloc)? {
-        if let Some(table) = whole.unsettled.get_mut(place) {
-            if let Some(own) = readers.get(place) {
-                settle(table, &known, own, waiting)?;
-            }
+) -> Result<Option<usize>, AllocError> {
+    let Some((place, flow)) = after(whole, driver, alloc)? else {
+        return Ok(None);
+    };
+    if let Some(table) = whole.unsettled.get_mut(place) {
+        if let Some(own) = readers.get(place) {
+            settle(table, &flow.known, own, waiting)?;
         }
     }
-    Ok(())
+    Ok(Some(flow.moves))
 }
 
 /// The next driver that waits.
@@ -308,13 +293,16 @@ fn settle_all<'t, 's>(
         let Some(number) = next_waiting(&mut waiting) else {
             return Ok(true);
         };
-        if let Some(driver) = drivers.get(number) {
-            let size = driver.to.saturating_sub(driver.from);
-            if size > left {
-                return Ok(false);
-            }
-            left = left.saturating_sub(size);
-            settle_one(whole, *driver, alloc, &readers, &mut waiting)?;
+        let Some(driver) = drivers.get(number) else {
+            return Ok(false);
+        };
+        let size = driver.to.saturating_sub(driver.from);
+        let Some(moves) = settle_one(whole, *driver, alloc, &readers, &mut waiting)? else {
+            return Ok(false);
+        };
+        left = left.saturating_sub(size).saturating_sub(moves);
+        if left == 0 {
+            return Ok(false);
         }
     }
     Ok(false)
