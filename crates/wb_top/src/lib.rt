@@ -6,6 +6,7 @@ mod judged;
 pub mod laws;
 mod length;
 mod outcome;
+mod places;
 mod rtl;
 mod simulation;
 mod status;
