@@ -162,7 +162,7 @@ module _ (called : Naming) (sel : List Item → List Statement) (appended : (xs 
       let rest : sel (items_from fs (k + 1) xs) ≡ in_turn (placed_at_paths qs xs)
       = turn_from fs qs xs (k + 1) (omega (arith, l)) (λ j r y e i.
       let number : k + suc j ≡ k + 1 + j = omega arith in
-      subst (λ m. renamed_blocks (naming_at fs m) (sel y.of_module.items) ≡ renamed_blocks (dotted r) (sel y.of_module.items)) number (h (suc j) r y e i)) in
+      subst (λ m. renamed_blocks (naming_at fs m) (sel y.of_module.items) ≡ renamed_blocks (called r) (sel y.of_module.items)) number (h (suc j) r y e i)) in
       appended (spot_items f g x) (items_from fs (k + 1) xs) ∙ ap2 (λ as_ bs. as_ ++ bs) (one_spot f g x ∙ here) rest
 
 -- ---- the assignments of all modules

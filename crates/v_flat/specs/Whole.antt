@@ -31,11 +31,11 @@ pub record IsPlacing (d : Design) (spots : List Spot) : Type 0 where
 
 -- The names of the modules of the list are those that a naming gives them: in each module what is called so begins with what stands before
 -- its names, and in the top with nothing.
-pub record AreCalled (d : Design) (called : Naming) (spots : List Spot) (names : List SpotNames) : Type 0 where
+pub record AreCalled (d : Design) (called : Naming) (spots : List Spot) (made : List SpotNames) : Type 0 where
   pub naming : IsNaming d called
   pub plain : (n : Name) → called [] n ≡ n
   pub fronts : (path : List PathStep) (n : Name) → called path [] ++ n ≡ called path n
-  pub names : names ≡ names_of called spots
+  pub names : made ≡ names_of called spots
 
 -- The scope and the items are the design in one scope, under a naming that leaves the names of the top as they are: its drivers, with the
 -- clocked blocks of each module in the order of its text; and the scope knows no other names than those of the design.
