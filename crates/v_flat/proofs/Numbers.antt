@@ -123,7 +123,7 @@ numbered_turn called (q ∷ qs) (x ∷ xs) k l h =
     let none : k + 0 ≡ k = omega arith in
     let front : number_front k ≡ called q [] = ap number_front (sym none) ∙ sym (h 0 q refl) in
     let rest = numbered_turn called qs xs (k + 1) (omega (arith, l))
-        (λ j r e. let one : k + suc j ≡ k + 1 + j = omega arith in h (suc j) r e ∙ ap number_front one) in
+    (λ j r e. let one : k + suc j ≡ k + 1 + j = omega arith in h (suc j) r e ∙ ap number_front one) in
     λ i. spot_names (front i) x ∷ rest i
 
 module _ (d : Design) (spots : List Spot) (h : IsPlacing d spots) (few : length spots < 2 ^ 64) where
@@ -135,7 +135,7 @@ module _ (d : Design) (spots : List Spot) (h : IsPlacing d spots) (few : length 
       let f = at_path_number spots j r e in
       let t : Stands d spots j f.0 r = listed d spots h j f.0 r f.1 in
       let same = dots_tell r q [] [] (plain_path d h.no_dots r (placed_by r f.0) t.in_design) (plain_path d h.no_dots q (placed_by q x) s.in_design)
-          (λ z. absurd z) (λ z. absurd z) g in
+      (λ z. absurd z) (λ z. absurd z) g in
       one_number d spots h j k f.0 x r q t s same.0)
 
   number_of_placed : (p : Placed) (at : IsPlacedIn d p) → number_among (paths_of spots) p.path ≡ (found d spots h p at).number
@@ -154,7 +154,7 @@ module _ (d : Design) (spots : List Spot) (h : IsPlacing d spots) (few : length 
       → (p.path ≡ q.path) × (n ≡ m)
   numbers_tell p q n m at_p at_q is_n is_m e =
       let r = front_tells (number_among (paths_of spots) p.path) (number_among (paths_of spots) q.path) n m (below_all p at_p) (below_all q at_q)
-          (plain_name d h.no_dots p n at_p is_n) (plain_name d h.no_dots q m at_q is_m) e in
+      (plain_name d h.no_dots p n at_p is_n) (plain_name d h.no_dots q m at_q is_m) e in
       let f = found d spots h p at_p in
       let g = found d spots h q at_q in
       let number : f.number ≡ g.number = sym (number_of_placed p at_p) ∙ r.0 ∙ number_of_placed q at_q in
