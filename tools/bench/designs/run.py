@@ -4,7 +4,9 @@
 usage: ./run.py [PROGRAM] [WORD]      PROGRAM: crates/wb_main/out/wb_main; WORD: the forms whose name has it alone
 
 The first forms run 20,000 cycles; each side prints the outputs of each cycle, the two texts are compared, and the time is set beside that
-of `vvp`. The others are large texts with two cycles. It wants Debian's `iverilog`.
+of `vvp`. It wants Debian's `iverilog`. The others are large texts with two cycles, of which processor time (user and system) counts, and
+wall time is told beside it. With them stand the same texts refused: by `NoTop`, which reads them and no more, and by `CombLoop`, which is
+the last kind, so that all rules are asked and no design is made.
 """
 import importlib.machinery
 import importlib.util
@@ -198,22 +200,6 @@ def two_memories():
     )
 
 
-def odd_memory():
-    """A memory of which 25,535 words are not there, read and written."""
-    return lines(
-        "module t(input clk, input [15:0] a, input [31:0] b, output [31:0] q);",
-        "  reg [31:0] m [0:40000]; reg [31:0] s;",
-        "  assign q = s;",
-        "  always @(posedge clk) begin s <= m[a ^ b[15:0]]; m[a] <= b + s; end",
-        "endmodule",
-    )
-
-
-def refused_chain():
-    """The chain of instances, with a loop in the last one."""
-    return chain().replace("assign y = ~x;", "wire v; assign v = ~v; assign y = v & x;")
-
-
 BESIDE = [("a datapath of 40 stages", datapath, ("a", 32, "b", 32)), ("2,000 instances of a small block", instances, ("a", 8, "b", 8)), ("a memory of 65,536 words", memory, ("a", 16, "b", 32))]
 
 # name, text, inputs of a cycle, seconds, MiB
@@ -233,9 +219,13 @@ LARGE = [
     ("300,000 registers", registers, "a=1", 2, 800),
     ("1,000,000 additions", additions, "a=1", 2, 800),
     ("two memories of 65,536 words of 128 bits", two_memories, "a=3 b=4", 1, 300),
-    ("a memory of 40,001 words", odd_memory, "a=3 b=4", 1, 300),
-    ("a chain of instances with a loop", refused_chain, "a=1", 3, 1024),
 ]
+
+
+def with_loop(text):
+    """The text with a loop in its last module."""
+    at = text.rindex("endmodule")
+    return text[:at] + "wire loop0; wire loop1; assign loop0 = loop1; assign loop1 = loop0; endmodule\n"
 
 
 def limited():
@@ -243,7 +233,7 @@ def limited():
 
 
 def timed(words):
-    """Seconds, MiB, the exit status and what was written."""
+    """Seconds on the wall and of processor time, MiB, the exit status and what was written."""
     start = time.monotonic()
     with tempfile.TemporaryFile() as out:
         ran = subprocess.Popen(words, stdout=out, stderr=subprocess.DEVNULL, preexec_fn=limited)
@@ -252,10 +242,11 @@ def timed(words):
         except TimeoutError:
             ran.kill()
             _, status, used = os.wait4(ran.pid, 0)
-            return time.monotonic() - start, used.ru_maxrss / 1024, None, ""
+            return time.monotonic() - start, used.ru_utime + used.ru_stime, used.ru_maxrss / 1024, None, ""
         ran.returncode = status
         out.seek(0)
-        return time.monotonic() - start, used.ru_maxrss / 1024, os.waitstatus_to_exitcode(status), out.read().decode(errors="replace")
+        took = time.monotonic() - start
+        return took, used.ru_utime + used.ru_stime, used.ru_maxrss / 1024, os.waitstatus_to_exitcode(status), out.read().decode(errors="replace")
 
 
 def wait(pid, until):
@@ -282,25 +273,35 @@ def beside_vvp(program, designs, name, form, inputs, draw):
         stimuli = "".join("in " + " ".join(f"{it}={draw.randrange(1 << width)}" for it, width in pairs) + "\n" for _ in range(CYCLES))
         source, script, made = written(folder, "t.v", text), written(folder, "s", stimuli), os.path.join(folder, "bench")
         bench = written(folder, "bench.v", designs.bench_of(designs.Design(text), stimuli))
-        ours, room, status, found = timed([program, "simulate-rtl", "--top", "t", "--clock", "clk", "--script", script, source])
-        compiled, _, _, _ = timed(["iverilog", "-g2005", "-o", made, bench, source])
-        theirs, _, _, wanted = timed(["vvp", "-n", made])
+        ours, _, room, status, found = timed([program, "simulate-rtl", "--top", "t", "--clock", "clk", "--script", script, source])
+        compiled, _, _, _, _ = timed(["iverilog", "-g2005", "-o", made, bench, source])
+        theirs, _, _, _, wanted = timed(["vvp", "-n", made])
     told, shown = ([it for it in text.splitlines() if not it.startswith("end")] for text in (found, wanted))
     alike = "alike" if told == shown else "DIFFERENT"
     print(f"{name}: {ours:.2f} s, {room:.0f} MiB, status {status}; iverilog {compiled:.2f} s, vvp {theirs:.2f} s: {ours / theirs:.2f} of vvp (bound 0.20); {alike}", flush=True)
 
 
+def tell(name, text, ran, seconds, most):
+    """Prints what a run took, beside its bound."""
+    took, used, room, status, found = ran
+    first = found.split("\n", 1)[0][:40]
+    over = "" if status is not None and used <= seconds and room <= most else " OVER"
+    how = f"status {status}" if status is not None else f"stopped after {LIMIT} s"
+    size = f"{len(text) / (1 << 20):.1f} MiB"
+    print(f"{name} ({size}): {used:.2f} s of processor, {took:.2f} s, {room:.0f} MiB, {how}, `{first}` (bound {seconds} s, {most} MiB){over}", flush=True)
+
+
 def large(program, name, form, inputs, seconds, most):
-    """A large text, two cycles (one where a line of the script is large)."""
+    """A large text: read alone, judged alone, and run for two cycles (one where a line of the script is large)."""
     with tempfile.TemporaryDirectory() as folder:
         text = form()
         cycles = 2 if len(inputs) < 1000000 else 1
-        source, script = written(folder, "t.v", text), written(folder, "s", f"in {inputs}\n" * cycles)
-        took, room, status, found = timed([program, "simulate-rtl", "--top", "t", "--clock", "clk", "--script", script, source])
-    first = found.split("\n", 1)[0][:40]
-    over = "" if status is not None and took <= seconds and room <= most else " OVER"
-    how = f"status {status}" if status is not None else f"stopped after {LIMIT} s"
-    print(f"{name} ({len(text) / (1 << 20):.1f} MiB): {took:.2f} s, {room:.0f} MiB, {how}, `{first}` (bound {seconds} s, {most} MiB){over}", flush=True)
+        source, looped = written(folder, "t.v", text), written(folder, "loop.v", with_loop(text))
+        script = written(folder, "s", f"in {inputs}\n" * cycles)
+        words = [program, "simulate-rtl", "--clock", "clk", "--script", script]
+        tell(f"{name}, read", text, timed([*words, "--top", "no_such_module", source]), seconds, most)
+        tell(f"{name}, judged", text, timed([*words, "--top", "t", looped]), seconds, most)
+        tell(name, text, timed([*words, "--top", "t", source]), seconds, most)
 
 
 def main(words):
