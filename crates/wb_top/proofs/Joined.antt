@@ -12,7 +12,7 @@ judged_of m p ds (Outside place) unbroken h = (h, unbroken)
 judged_of m p ds (Refused r) unbroken h = absurd h
 judged_of m p ds (RefusedText r) unbroken h = absurd h
 judged_of m p ds (RefusedTree note) unbroken h = absurd h
-judged_of m p ds (RefusedDesign kind note) unbroken h = absurd h
+judged_of m p ds (RefusedDesign kind) unbroken h = absurd h
 
 pub judged_in_profile : {E : Type 0} (m p : List ℕ) (ds : List (List ℕ)) (r : Result Judged E) → IsKind m p ds None
     → IfOk r (IsInProfile m p ds) → IfOk r (IsJudged m p ds)

@@ -39,4 +39,4 @@ IsJudged m p ds (Outside place) = IsOutside m p ds place × IsKind m p ds None
 IsJudged m p ds (Refused r) = IsKind m p ds (Some (rule_name (rule_view r.rule)))
 IsJudged m p ds (RefusedText r) = IsKind m p ds (Some (text_kind (refusal_of r.kind)))
 IsJudged m p ds (RefusedTree note) = IsKind m p ds (Some (codes "V6 Syntax"))
-IsJudged m p ds (RefusedDesign kind note) = IsKind m p ds (Some (kind_name (kind_of kind)))
+IsJudged m p ds (RefusedDesign kind) = IsKind m p ds (Some (kind_name (kind_of kind)))

@@ -140,8 +140,8 @@ fn checked(
             let text = refusal_of_tree(alloc, names, &note)?;
             Ok(Outcome::plain(alloc, Status::Refused, text))
         }
-        Judged::RefusedDesign(kind, note) => {
-            let text = refusal_of_design(alloc, names, kind, &note)?;
+        Judged::RefusedDesign(kind) => {
+            let text = refusal_of_design(alloc, kind)?;
             Ok(Outcome::plain(alloc, Status::Refused, text))
         }
     }

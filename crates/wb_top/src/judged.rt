@@ -21,7 +21,6 @@ ghost use Rattle.wb_top.specs.Files.{IsKindByMap};
 ghost use Rattle.wb_top.specs.Kinds.{kind_name};
 ghost use Rattle.wb_top.specs.Judged.{IsJudged, IsInProfile};
 
-use crate::places::note_of_design;
 use crate::stop::NoMemory;
 use designs_of_texts::laws::trees_are_of_texts;
 use first_accept::accept;
@@ -66,8 +65,8 @@ pub(crate) enum Judged {
     RefusedText(LexRefusal),
     /// The tokens of the Verilog files have no tree.
     RefusedTree(Note),
-    /// The design of the Verilog files breaks a rule, there where that can be told.
-    RefusedDesign(DesignKind, Option<Note>),
+    /// The design of the Verilog files breaks a rule.
+    RefusedDesign(DesignKind),
 }
 
 /// Judges the bytes of a model file, a map file and Verilog files.
@@ -123,7 +122,7 @@ fn of_tokens(
     ensures { IfOk result (IsJudged model.now map_file.now (map (λ d. d.items) designs.now)) }
 {
     match parse(alloc, tokens) {
-        Ok(tree) => of_tree(alloc, model, first, map_file, designs, &tree, tokens),
+        Ok(tree) => of_tree(alloc, model, first, map_file, designs, &tree),
         Err(ParseStop::Refused(left)) => {
             let token = tokens.get(tokens.len().saturating_sub(left)).copied();
             match note_at(alloc, designs, token) {
@@ -135,7 +134,7 @@ fn of_tokens(
     }
 }
 
-/// The same of files whose Verilog files have this tree, made of these tokens.
+/// The same of files whose Verilog files have this tree.
 fn of_tree(
     alloc: Global,
     model: &[u8],
@@ -143,7 +142,6 @@ fn of_tree(
     map_file: &[u8],
     designs: &[Vec<u8>],
     tree: &Tree<'_>,
-    tokens: &[Token<'_>],
 ) -> Result<Judged, NoMemory>
     requires some { 0 < length designs.now }
     requires unbroken { refusal_in (model_reading model.now) ≡ None }
@@ -154,10 +152,7 @@ fn of_tree(
     let map = read_map(alloc, map_file)?;
     trees_are_of_texts();
     match kind_by_map(tree, alloc, &map)? {
-        Some(kind) => {
-            let note = note_by_map(tree, tokens, alloc, &map, designs, kind)?;
-            Ok(Judged::RefusedDesign(kind, note))
-        }
+        Some(kind) => Ok(Judged::RefusedDesign(kind)),
         None => in_profile(alloc, model, first, map_file, map, designs, tree),
     }
 }
@@ -173,21 +168,6 @@ fn kind_by_map(
 {
     match map {
         Some(map) => design_refusal(alloc, tree, &map.top, &map.clock),
-        None => Ok(None),
-    }
-}
-
-/// The note that leads to the place at which the design with the top and the clock of a map breaks the rule of a kind, if it can be told.
-fn note_by_map(
-    tree: &Tree<'_>,
-    tokens: &[Token<'_>],
-    alloc: Global,
-    map: &Option<FirstMap>,
-    designs: &[Vec<u8>],
-    kind: DesignKind,
-) -> Result<Option<Note>, NoMemory> {
-    match map {
-        Some(map) => note_of_design(tree, tokens, alloc, &map.top, &map.clock, designs, kind),
         None => Ok(None),
     }
 }

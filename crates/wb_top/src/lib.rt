@@ -6,7 +6,6 @@ mod judged;
 pub mod laws;
 mod length;
 mod outcome;
-mod places;
 mod rtl;
 mod simulation;
 mod status;

@@ -15,8 +15,8 @@ kind_by_map-requires c d is =
     c.trees_are_of_texts.ensures (map (λ f. f.items) c.args.designs.now) d
     (subst (λ (ms : Source). IsTreeOf (map (λ f. f.items) c.args.designs.now) ms) (sym is) c.requires.is_tree)
 
-pub returns-in_ok-note-in-Some : goal.returns-in_ok-note-in-Some
-returns-in_ok-note-in-Some c =
+pub returns-in-Some : goal.returns-in-Some
+returns-in-Some c =
     kind_of_tree c.args.model.now c.args.map_file.now _ (source_of c.args.tree.now) (Some (kind_name (kind_of c.in-Some.kind))) c.requires.unbroken
     c.requires.is_tree
     (subst (λ (m : Option Map). IsKindByMap m (source_of c.args.tree.now) (Some (kind_name (kind_of c.in-Some.kind)))) c.in_ok-map.ensures
