@@ -62,12 +62,13 @@ one-more p q f (z ∷ us) u (inr h) a b =
 -- where as many are marked as there are, each is
 all-marked : (p : BitSet) (us : List Bit) → length us ≤ marked_of p us → (u : Bit) → IsAmong us u → is_in p u ≡ true
 all-marked p [] l u h = absurd h
-all-marked p (z ∷ us) l u h = by (is_in p z) refl l h
+all-marked p (z ∷ us) l u h = by (is_in p z) refl l (λ k g. all-marked p us k u g) h
   where
-    by : (b : Bool) → is_in p z ≡ b → suc (length us) ≤ cond b (suc (marked_of p us)) (marked_of p us) → IsAmong (z ∷ us) u → is_in p u ≡ true
-    by true e k (inl g) = subst (λ (y : Bit). is_in p y ≡ true) g e
-    by true e k (inr g) = all-marked p us (omega (arith, k)) u g
-    by false e k g = let m = at-most p us in absurd (omega (arith, k, m))
+    by : (b : Bool) → is_in p z ≡ b → suc (length us) ≤ cond b (suc (marked_of p us)) (marked_of p us) → (length us ≤ marked_of p us → IsAmong us u → is_in p u ≡ true)
+        → IsAmong (z ∷ us) u → is_in p u ≡ true
+    by true e k f (inl g) = subst (λ (y : Bit). is_in p y ≡ true) g e
+    by true e k f (inr g) = f (omega (arith, k)) g
+    by false e k f g = let m = at-most p us in absurd (omega (arith, k, m))
 
 -- ---- rounds
 
