@@ -6,6 +6,7 @@ use Rattle.wb_values.specs.Value.{Name, same_name}
 use Rattle.verilog_trees.specs.Syntax.{whole, place, Item}
 use Rattle.verilog_meaning.specs.Expression.{Scope, is_memory}
 use Rattle.verilog_meaning.specs.Register.{is_bit_of, may_reach}
+use Rattle.std.proofs.lemmas.List.{drop_more}
 use Rattle.std.proofs.lemmas.Slice.Eq.{bytes_eq-Decides}
 use Rattle.verilog_designs.specs.Reads.{BitSet, no_bits, or_in}
 use Rattle.verilog_designs.specs.Dependence.{Bit, is_in}
@@ -91,6 +92,13 @@ names-begun s ns found e = ap (λ (ys : List Span). or_in (bits_in ys) (input_bi
 pub names-turn : (s : Scope) (ns rest : List Name) (m : Name) (all old new : BitSet) → ns ≡ m ∷ rest → all ≡ or_in old (input_bits s ns) → new ≡ or_in old (name_bits s m)
     → all ≡ or_in new (input_bits s rest)
 names-turn s ns rest m all old new e f g = turn all old new (name_bits s m) (input_bits s rest) (f ∙ ap (λ (ys : List Name). or_in old (input_bits s ys)) e) g
+
+-- the turn of a loop over the names
+pub names-at : (s : Scope) (xs : List (Bor (List ℕ))) (i : ℕ) (d : Bor (List ℕ)) (all old new : BitSet) → i < length xs → all ≡ or_in old (input_bits s (map (λ x. x.now) (drop i xs)))
+    → new ≡ or_in old (name_bits s ((get_or xs i d).now)) → all ≡ or_in new (input_bits s (map (λ x. x.now) (drop (i + 1) xs)))
+names-at s xs i d all old new h f g =
+    names-turn s (map (λ x. x.now) (drop i xs)) (map (λ x. x.now) (drop (i + 1) xs)) ((get_or xs i d).now) all old new
+    (ap (λ (ys : List (Bor (List ℕ))). map (λ x. x.now) ys) (drop_more xs i d h)) f g
 
 pub names-end : (s : Scope) (ns : List Name) (all found : BitSet) → ns ≡ [] → all ≡ or_in found (input_bits s ns) → found ≡ all
 names-end s ns all found e f = sym (f ∙ ap (λ (ys : List Name). or_in found (input_bits s ys)) e ∙ (λ i n k b. sym (same-or (found n k b)) i))

@@ -91,6 +91,12 @@ turn-so f whole rest found more x y h r e p = (there, λ k. back ((h p).1 k))
         at (inl l) = let o = (r p).1 l in inl (more-so o.0 (or_right (is_in (bits_in found) o.0) (is_in (bits_of y) o.0) o.1) o.2)
         at (inr l) = inr l
 
+-- the turn of a loop over the spans
+pub turn-at : (f : Name → Name) (xs : List Span) (i : ℕ) (d : Span) (found more : List Span) (y : Span) → i < length xs → IsRenamedSpan f (get_or xs i d) y → more ≡ found ++ y ∷ []
+    → AreSoFar f xs (drop i xs) found → AreSoFar f xs (drop (i + 1) xs) more
+turn-at f xs i d found more y h r e s =
+    turn-so f xs (drop (i + 1) xs) found more (get_or xs i d) y (subst (λ (ys : List Span). AreSoFar f xs ys found) (drop_more xs i d h) s) r e
+
 pub ended-so : (f : Name → Name) (whole rest found : List Span) → rest ≡ [] → AreSoFar f whole rest found → AreRenamedSpans f whole found
 ended-so f whole rest found e h p = ((λ k. (h p).0 (inl k)), (λ k. at ((h p).1 k)))
   where

@@ -5,7 +5,7 @@ ghost use Rattle.verilog_meaning.specs.Expression.{is_memory};
 ghost use Rattle.verilog_designs.specs.Reads.{or_in};
 ghost use Rattle.verilog_designs.specs.Dependence.{Bit, is_in};
 ghost use Rattle.v_syntax.specs.Source.{item_of};
-ghost use Rattle.v_value.specs.Scope.{scope_at};
+ghost use Rattle.v_value.specs.Scope.{object_of, scope_at};
 ghost use Rattle.v_value.specs.Narrow.{HasNarrowObjects};
 ghost use Rattle.v_flow.specs.Spans.{bits_in};
 ghost use Rattle.v_masks.specs.Masks.{masked};
@@ -22,13 +22,20 @@ use v_paths::mask::masks_of;
 use v_reach::mark_dependents;
 use v_syntax::module::Item;
 use v_syntax::tree::{Selects, Target};
-use v_value::scope::Scope;
+use v_value::scope::{Object, Scope};
+
+/// Whether an object has addresses.
+fn has_addresses(object: Object) -> bool
+    ensures { result ≡ is_memory (object_of object) }
+{
+    object.addresses.is_some()
+}
 
 /// Whether a name is that of a memory.
 fn is_memory(scope: &Scope<'_>, name: &str) -> bool
     ensures { result ≡ is_memory (scope_at scope.now name.now) }
 {
-    scope.object(name).addresses.is_some()
+    has_addresses(scope.object(name))
 }
 
 /// Adds all bits of a name, where it is no memory.
@@ -59,7 +66,7 @@ fn spans_of<'s>(
 {
     let mut found = Vec::new(alloc);
     for name in names {
-        add_name(scope, name, &mut found)?;
+        add_name(scope, *name, &mut found)?;
     }
     Ok(found)
 }

@@ -21,7 +21,7 @@ use v_syntax::tree::Expression;
 use v_value::scope::Scope;
 
 /// A span under the new name of its name.
-fn renamed<'a>(names: &Names<'a>, span: Span<'a>) -> Span<'a>
+fn renamed<'a, 's: 'a>(names: &Names<'a>, span: Span<'s>) -> Span<'a>
     ensures { IsRenamedSpan (new_name names.now) span.entry result }
 {
     Span {
@@ -33,10 +33,10 @@ fn renamed<'a>(names: &Names<'a>, span: Span<'a>) -> Span<'a>
 }
 
 /// Spans under the new names of their names.
-fn all_renamed<'a>(
+fn all_renamed<'a, 's: 'a>(
     alloc: Global,
     names: &Names<'a>,
-    spans: &[Span<'a>],
+    spans: &[Span<'s>],
 ) -> Result<Vec<Span<'a>>, AllocError>
     ensures { IfOk result (λ v. AreRenamedSpans (new_name names.now) spans.now v.items) }
 {

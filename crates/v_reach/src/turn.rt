@@ -39,7 +39,8 @@ fn turn<'s>(
     let mut some = false;
     for driver in drivers {
         let more = visit(alloc, *driver, scope, marked)?;
-        some = either(some, more);
+        let any = either(some, more);
+        some = any;
     }
     Ok(some)
 }

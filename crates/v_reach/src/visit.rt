@@ -63,7 +63,7 @@ fn visit_at<'s>(
     rests_where_it_depends();
     match drivers.get(index) {
         Some(driver) => {
-            let _ = visit(alloc, *driver, scope, marked)?;
+            visit(alloc, *driver, scope, marked)?;
             Ok(())
         }
         None => Ok(()),

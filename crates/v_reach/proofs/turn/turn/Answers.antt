@@ -39,7 +39,7 @@ loop-driver-preserved c =
     record {
       spread = spread-then s xs before now after c.loop-driver.invariant.spread
           (visited-spread c.rests_where_it_depends.ensures s xs (statement_in r) among c.in_ok-more.more now after c.in_ok-more.ensures);
-      grown = subst (λ b. IsGrownSoFar b s xs (statements_in (drop (i + 1) ds)) before after) (sym c.either-some.ensures)
+      grown = subst (λ b. IsGrownSoFar b s xs (statements_in (drop (i + 1) ds)) before after) (sym c.either-any.ensures)
           (grown-turn c.loop-driver.some c.in_ok-more.more s xs (statements_in (drop (i + 1) ds)) (statement_in r) among before now after c.in_ok-more.ensures.more
           (subst (λ ys. IsGrownSoFar c.loop-driver.some s xs (statements_in ys) before now) e c.loop-driver.invariant.grown) c.in_ok-more.ensures.grown);
       fit = (fit-turn s ds i r e c.loop-driver.invariant.fit).1;
