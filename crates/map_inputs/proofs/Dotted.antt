@@ -8,7 +8,7 @@ use Rattle.wb_values.specs.Value.{Name, same_name, Entries, entry_of}
 use Rattle.wb_values.specs.Choice.{first_of}
 use Rattle.verilog_trees.specs.Syntax.{Expression, ParameterDeclaration, Module}
 use Rattle.verilog_meaning.specs.Expression.{Object, Scope, undeclared, object_or_undeclared, scope_of}
-use Rattle.verilog_meaning.specs.Hierarchy.{Declaration, declarations, declaration_of, declared_object, and_later, Overrides, no_overrides, with_values, with_parameters, constants_of, overrides_of, all_parameters, value_names, PathStep, instance_step, step_text, Placed, placed_scope, placed_below, placed_instance, instance_reached, module_named, dotted}
+use Rattle.verilog_meaning.specs.Hierarchy.{Declaration, declarations, declaration_of, declared_object, and_later, Overrides, no_overrides, one_parameter, override_of, with_values, with_parameters, constants_of, overrides_of, all_parameters, value_names, PathStep, instance_step, step_text, Placed, placed_scope, placed_below, placed_instance, instance_reached, module_named, dotted}
 use Rattle.verilog_meaning.specs.Settled.{Design, IsPlacedIn, at_path, is_declared_among}
 use Rattle.refinement.specs.Map.{dotted_parts, with_character, object_in, object_at}
 use Rattle.verilog_unique.proofs.Options.{from_map, from_chain}
@@ -36,20 +36,24 @@ one-entry m o n h = by (same_name m n) h
     by true g = refl
     by false g = absurd (false≢true g)
 
+-- the object that a value of a declaration gives
+abbrev given-object : ParameterDeclaration → Overrides → Name × Expression → Entries Object → Object
+given-object d given v known = one_parameter (scope_of known) d.signed d.range v.1 (override_of d given v.0)
+
 values-named : (d : ParameterDeclaration) (given : Overrides) (vs : List (Name × Expression)) (known : Entries Object) (n : Name)
     → is_some (entry_of (with_values d given vs known) n) ≡ true → (is_some (entry_of known n) ≡ true) ⊎ (is_among (value_names vs) n ≡ true)
 values-named d given [] known n h = inl h
-values-named d given (v ∷ vs) known n h = at (values-named d given vs _ n h)
+values-named d given (v ∷ vs) known n h = at (values-named d given vs (known ++ (v.0, given-object d given v known) ∷ []) n h)
   where
-    last : (o : Object) → (is_some (entry_of known n) ≡ true) ⊎ (is_some (entry_of ((v.0, o) ∷ []) n) ≡ true)
+    last : (is_some (entry_of known n) ≡ true) ⊎ (is_some (entry_of ((v.0, given-object d given v known) ∷ []) n) ≡ true)
         → (is_some (entry_of known n) ≡ true) ⊎ (is_among (v.0 ∷ value_names vs) n ≡ true)
-    last o (inl k) = inl k
-    last o (inr k) = inr (or_left (same_name v.0 n) (is_among (value_names vs) n) (one-entry v.0 o n k))
+    last (inl k) = inl k
+    last (inr k) = inr (or_left (same_name v.0 n) (is_among (value_names vs) n) (one-entry v.0 (given-object d given v known) n k))
 
-    at : {o : Object} → (is_some (entry_of (known ++ (v.0, o) ∷ []) n) ≡ true) ⊎ (is_among (value_names vs) n ≡ true)
+    at : (is_some (entry_of (known ++ (v.0, given-object d given v known) ∷ []) n) ≡ true) ⊎ (is_among (value_names vs) n ≡ true)
         → (is_some (entry_of known n) ≡ true) ⊎ (is_among (v.0 ∷ value_names vs) n ≡ true)
-    at {o} (inl k) = last o (either-entry known ((v.0, o) ∷ []) n k)
-    at {o} (inr k) = inr (or_right (same_name v.0 n) (is_among (value_names vs) n) k)
+    at (inl k) = last (either-entry known ((v.0, given-object d given v known) ∷ []) n k)
+    at (inr k) = inr (or_right (same_name v.0 n) (is_among (value_names vs) n) k)
 
 among-both : (ns ms : List Name) (n : Name) → (is_among ns n ≡ true) ⊎ (is_among ms n ≡ true) → is_among (ns ++ ms) n ≡ true
 among-both [] ms n (inl h) = absurd (false≢true h)
@@ -97,20 +101,20 @@ declaration-named (d ∷ ds) n h = by (same_name d.of_name n) h (declaration-nam
     by true g f = refl
     by false g f = f g
 
+abbrev no-entries : Entries Object
+no-entries = []
+
 known-name : (d : Design) (path : List PathStep) (p : Placed) (n : Name) → at_path d path ≡ Some p → IsTrue ((placed_scope p n).is_declared) → IsNameOf p n
 known-name d path p n at h = by (entry_of p.constants n) refl h
   where
-    none : Entries Object
-    none = []
-
-    parameter : is_some (entry_of p.constants n) ≡ true → (is_some (entry_of none n) ≡ true) ⊎ (is_among (parameter_names (all_parameters p.of_module)) n ≡ true) → IsNameOf p n
+    parameter : is_some (entry_of p.constants n) ≡ true → (is_some (entry_of no-entries n) ≡ true) ⊎ (is_among (parameter_names (all_parameters p.of_module)) n ≡ true) → IsNameOf p n
     parameter e (inl k) = absurd (false≢true k)
     parameter e (inr k) = inr k
 
     from-constants : is_some (entry_of p.constants n) ≡ true → IsNameOf p n
     from-constants e =
         let g = placed-given d path p at in
-        parameter e (parameters-named (all_parameters p.of_module) g.given none n (subst (λ (es : Entries Object). is_some (entry_of es n) ≡ true) (sym g.is_given) e))
+        parameter e (parameters-named (all_parameters p.of_module) g.given no-entries n (subst (λ (es : Entries Object). is_some (entry_of es n) ≡ true) (sym g.is_given) e))
 
     by-declaration : (o : Option Declaration) → declaration_of (declarations p.of_module) n ≡ o
         → IsTrue ((object_or_undeclared (option_map (declared_object (scope_of p.constants)) o)).is_declared) → IsNameOf p n
@@ -124,17 +128,16 @@ known-name d path p n at h = by (entry_of p.constants n) refl h
 
 -- ---- parts of a name, between its dots
 
-joined : List Name → Name
+abbrev joined : List Name → Name
 joined [] = []
 joined (n ∷ []) = n
 joined (u ∷ n ∷ ns) = u ++ 46 ∷ joined (n ∷ ns)
 
-IsSome : List Name → Type 0
+abbrev IsSome : List Name → Type 0
 IsSome [] = ⊥
 IsSome (n ∷ ns) = Unit {0}
 
 parts-some : (n : Name) → IsSome (dotted_parts n)
-unfolding IsSome
 parts-some [] = tt
 parts-some (c ∷ cs) = by (c == 46) (dotted_parts cs)
   where
@@ -147,7 +150,6 @@ is-dot : (c : ℕ) → (c == 46) ≡ true → 46 ≡ c
 is-dot c h = grind (arith, nat_tests)
 
 joined-parts : (n : Name) → joined (dotted_parts n) ≡ n
-unfolding joined IsSome
 joined-parts [] = refl
 joined-parts (c ∷ cs) = by (c == 46) refl (dotted_parts cs) (parts-some cs) (joined-parts cs)
   where
@@ -168,7 +170,6 @@ record Standing (d : Design) (path : List PathStep) (parts : List Name) : Type 0
   means : object_at d path parts ≡ placed_scope within own
 
 standing : (d : Design) (path : List PathStep) (parts : List Name) → IsTrue ((object_at d path parts).is_declared) → Standing d path parts
-unfolding joined
 standing d path [] h = absurd (false≢true h)
 standing d path (n ∷ []) h = by (at_path d path) refl h
   where
