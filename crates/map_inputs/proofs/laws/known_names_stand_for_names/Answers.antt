@@ -2,4 +2,4 @@ use Rattle.map_inputs.proofs.Dotted.{stands-somewhere}
 use Rattle.map_inputs.proofs.laws.known_names_stand_for_names.Goals as goal
 
 pub returns : goal.returns
-returns c d n h = stands-somewhere d n h
+returns c = λ d n h. stands-somewhere d n h
