@@ -1,0 +1,7 @@
+use Rattle.std.proofs.Common.{refl}
+use Rattle.v_renamed.specs.NewNames.{new_name}
+use Rattle.map_inputs.proofs.Renaming.{renamed-span}
+use Rattle.map_inputs.proofs.uses.renamed.Goals as goal
+
+pub returns : goal.returns
+returns c = renamed-span (new_name c.args.names.now) c.args.span _ c.name_for.ensures refl refl refl
