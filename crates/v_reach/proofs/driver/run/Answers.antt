@@ -27,7 +27,7 @@ take-requires-clause-variables c = c.requires.variables
 pub returns-in_ok-take-in-Link : goal.returns-in_ok-take-in-Link
 returns-in_ok-take-in-Link c =
     subst (λ (d : Driver). (u : Bit) → IsThere (scope_at c.args.scope.now) u
-    → IsTrue (is_in (masked c.take.new.marked) u) ↔ RestsAfter (masked c.args.marked.now) (scope_at c.args.scope.now) (statement_in d) u)
+    → IsTrue (is_in (masked c.take.new.unsettled) u) ↔ RestsAfter (masked c.args.marked.now) (scope_at c.args.scope.now) (statement_in d) u)
     (sym c.in-Link.is) c.in_ok-take-in-Link.ensures
 
 pub run_net-requires-clause-fit : goal.run_net-requires-clause-fit
@@ -57,5 +57,5 @@ after-requires-clause-variables c = c.requires.variables
 pub returns-in_ok-after-in-Block : goal.returns-in_ok-after-in-Block
 returns-in_ok-after-in-Block c =
     subst (λ (d : Driver). (u : Bit) → IsThere (scope_at c.args.scope.now) u
-    → IsTrue (is_in (masked c.after.new.marked) u) ↔ RestsAfter (masked c.args.marked.now) (scope_at c.args.scope.now) (statement_in d) u)
+    → IsTrue (is_in (masked c.after.new.unsettled) u) ↔ RestsAfter (masked c.args.marked.now) (scope_at c.args.scope.now) (statement_in d) u)
     (sym c.in-Block.is) c.in_ok-after-in-Block.ensures
