@@ -2,4 +2,4 @@ mod Coming
 mod Dotted
 mod Using
 mod Renaming
-mod Inputs
+mod InputBits

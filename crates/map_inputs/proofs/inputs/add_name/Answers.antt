@@ -1,7 +1,7 @@
 use Rattle.std.proofs.Common.{◌∙◌, sym}
 use Rattle.v_value.specs.Scope.{scope_at}
 use Rattle.v_flow.specs.Spans.{bits_in}
-use Rattle.map_inputs.proofs.Inputs.{plain-name, memory-name}
+use Rattle.map_inputs.proofs.InputBits.{plain-name, memory-name}
 use Rattle.map_inputs.proofs.inputs.add_name.Goals as goal
 
 pub returns-then-is_memory : goal.returns-then-is_memory

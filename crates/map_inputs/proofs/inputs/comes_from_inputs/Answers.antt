@@ -5,7 +5,7 @@ use Rattle.v_value.specs.Scope.{scope_at}
 use Rattle.v_flow.specs.Spans.{bits_in}
 use Rattle.v_masks.specs.Masks.{masked, spread}
 use Rattle.map_inputs.specs.Bits.{input_bits}
-use Rattle.map_inputs.proofs.Inputs.{inputs-free, table-free, by-table}
+use Rattle.map_inputs.proofs.InputBits.{inputs-free, table-free, by-table}
 use Rattle.map_inputs.proofs.inputs.comes_from_inputs.Goals as goal
 
 pub mark_dependents-requires-clause-fit : goal.mark_dependents-requires-clause-fit

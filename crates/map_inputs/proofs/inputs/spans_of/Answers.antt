@@ -3,7 +3,7 @@ use Rattle.std.proofs.lemmas.List.{at_drop_all}
 use Rattle.v_value.specs.Scope.{scope_at}
 use Rattle.v_flow.specs.Spans.{bits_in}
 use Rattle.map_inputs.specs.Bits.{input_bits}
-use Rattle.map_inputs.proofs.Inputs.{names-begun, names-at, names-end}
+use Rattle.map_inputs.proofs.InputBits.{names-begun, names-at, names-end}
 use Rattle.map_inputs.proofs.inputs.spans_of.Goals as goal
 
 pub loop-name-init : goal.loop-name-init

@@ -4,4 +4,6 @@ use Rattle.map_inputs.proofs.Renaming.{renamed-span}
 use Rattle.map_inputs.proofs.uses.renamed.Goals as goal
 
 pub returns : goal.returns
-returns c = renamed-span (new_name c.args.names.now) c.args.span _ c.name_for.ensures refl refl refl
+returns c =
+    renamed-span (new_name c.args.names.now) c.args.span
+    (record { name = c.name_for.result; from_word = c.args.span.from_word; to_word = c.args.span.to_word; bits = c.args.span.bits }) c.name_for.ensures refl refl refl
