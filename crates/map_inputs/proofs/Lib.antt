@@ -1,0 +1,5 @@
+mod Coming
+mod Dotted
+mod Using
+mod Renaming
+mod InputBits

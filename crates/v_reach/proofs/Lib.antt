@@ -1,0 +1,5 @@
+mod Local
+mod Visiting
+mod Spreading
+mod Counting
+mod Answering
