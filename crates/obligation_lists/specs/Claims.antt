@@ -1,11 +1,9 @@
 -- The pure facts and obligations that the code's stand for.
-use Rattle.std.specs.Prelude.{◌≡◌, List, [], ◌∷◌, ◌++◌, map, Some, option_map, slice_get, ⊤}
+use Rattle.std.specs.Prelude.{List, [], ◌∷◌, ◌++◌}
 use Rattle.std.specs.String.{string_bytes}
-use Rattle.model_meaning.specs.Model.{Model, states_of}
 use Rattle.refinement.specs.Map.{Map}
 use Rattle.refinement.specs.Obligation as pure
 use Rattle.refinement.specs.Obligation.{for_each, invariants_at, premises_at, start_hypotheses, started_by, not_ended, ended_at}
-use Rattle.obligation_lists.specs.declared.claims.StateAt.{StateAt}
 use Rattle.obligation_lists.specs.declared.claims.Fact.{Fact}
 use Rattle.obligation_lists.specs.declared.claims.Fact.TheVariants.{ResetActive, ResetInactive, Assumed, Invariant, Start, NoStart, Decoded, Commit, NoCommit, Initial, Same, OneDecodes, Ends, ResultOf, Never}
 use Rattle.obligation_lists.specs.declared.claims.Hypotheses.{Hypotheses}
@@ -45,14 +43,3 @@ obligation_of p o = record {
   hypotheses = hypotheses_of p o.hypotheses;
   claim = fact_of o.claim;
 }
-
--- It is the state of the model at its place.
-abbrev pub IsStateOf : Model → StateAt → Type 0
-IsStateOf m s = option_map (λ d. d.state_name) (slice_get (states_of m.top) s.place) ≡ Some s.name.now
-
--- The state that a fact speaks of, if any, is one of the model's.
-abbrev pub IsFactOf : Model → Fact → Type 0
-IsFactOf m (Initial s t) = IsStateOf m s
-IsFactOf m (Same s) = IsStateOf m s
-IsFactOf m (ResultOf j s t) = IsStateOf m s
-IsFactOf m _ = ⊤
