@@ -1,3 +1,5 @@
 pub mod Claims
 pub mod Counts
 pub mod Within
+pub mod Growth
+pub mod Parts

@@ -2,5 +2,7 @@
 #![tactic(auto)]
 
 mod claims;
+mod groups;
 
 pub use claims::{Fact, Hypotheses, MapCounts, Obligation, StateAt};
+pub use wb_terms::NoMemory;
