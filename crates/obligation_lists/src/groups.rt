@@ -5,7 +5,7 @@ ghost use Rattle.model_meaning.specs.Model.{Model, StateDeclaration, states_of};
 ghost use Rattle.refinement.specs.Obligation.{initial, numbered, invariant_obligations, state_obligations, with_initial_values};
 ghost use Rattle.ila_model.specs.Model.{model_of};
 ghost use Rattle.obligation_lists.specs.Claims.{fact_of, hypotheses_of};
-ghost use Rattle.obligation_lists.specs.Within.{AreHypothesesOf};
+ghost use Rattle.obligation_lists.specs.Within.{AreHypothesesOf, IsStateIn, IsFactOf};
 ghost use Rattle.obligation_lists.specs.Growth.{Adds, claim_by, AreClaimsOf};
 
 use crate::claims::{Fact, Hypotheses, MapCounts, Obligation, StateAt};
@@ -92,7 +92,8 @@ pub(crate) fn add_invariants(
 
 /// What is claimed of a state at a cycle.
 fn claim<'a>(claims: StateClaims, state: StateAt<'a>, cycle: u64) -> Fact<'a>
-    ensures { fact_of result ≡ claim_by claims cycle state.entry.name.now }
+    ensures claimed { fact_of result ≡ claim_by claims cycle state.entry.name.now }
+    ensures within { (m : Model) (counts : MapCounts) → IsStateIn m state.entry → AreClaimsOf m cycle claims → IsFactOf m counts cycle result }
 {
     match claims {
         StateClaims::Initial => Fact::Initial(state, cycle),
@@ -142,6 +143,28 @@ pub(crate) fn add_states<'a>(
     Ok(())
 }
 
+/// Where the state has a stated initial value: it has it.
+fn add_initial_of<'a>(
+    alloc: Global,
+    list: &mut Vec<Obligation<'a>>,
+    model: &'a IlaModel,
+    group: Group<'_>,
+    place: usize,
+) -> Result<(), NoMemory>
+    requires { place < length (states_of (model_of model.now).top) }
+    ensures { OnOk result ((counts : MapCounts) (d : StateDeclaration) → slice_get (states_of (model_of model.now).top) place ≡ Some d
+        → AreHypothesesOf (model_of model.now) counts group.entry.cycles group.entry.hypotheses
+        → Adds (model_of model.now) counts list.old.items list.new.items
+        (λ p. state_obligations group.entry.text.now group.entry.cycles (hypotheses_of p group.entry.hypotheses) (λ n. initial n group.entry.cycles)
+        (with_initial_values (d ∷ [])))) }
+{
+    if model.initial_value(place).is_none() {
+        return Ok(());
+    }
+    add_state(alloc, list, model, group, StateClaims::Initial, place)?;
+    Ok(())
+}
+
 /// The claim of each state with a stated initial value: it has it.
 pub(crate) fn add_initial<'a>(
     alloc: Global,
@@ -155,9 +178,7 @@ pub(crate) fn add_initial<'a>(
         (with_initial_values (states_of (model_of model.now).top)))) }
 {
     for place in 0..model.state_count() {
-        if model.initial_value(place).is_some() {
-            add_state(alloc, list, model, group, StateClaims::Initial, place)?;
-        }
+        add_initial_of(alloc, list, model, group, place)?;
     }
     Ok(())
 }

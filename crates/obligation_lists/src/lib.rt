@@ -2,7 +2,11 @@
 #![tactic(auto)]
 
 mod claims;
+mod facts;
 mod groups;
+mod listing;
 
 pub use claims::{Fact, Hypotheses, MapCounts, Obligation, StateAt};
+pub use facts::hypotheses;
+pub use listing::{cover_names, obligations};
 pub use wb_terms::NoMemory;

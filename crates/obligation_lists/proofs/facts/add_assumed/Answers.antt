@@ -1,0 +1,25 @@
+use Rattle.std.proofs.Common.{◌≡◌, ◌+◌, ◌<◌, ◌≤◌, [], ◌∷◌, length, ap, arith}
+use Rattle.refinement.specs.Obligation.{for_each, assumed}
+use Rattle.obligation_lists.specs.declared.claims.Fact.TheVariants.{Assumed}
+use Rattle.obligation_lists.proofs.Growing.{one_fact, next_facts, facts_as, for_each_next}
+use Rattle.obligation_lists.proofs.facts.add_assumed.Goals as goal
+
+pub loop-place-preserved : goal.loop-place-preserved
+loop-place-preserved c =
+    let counts = c.args.counts in
+    let t = c.args.cycle in
+    let k = c.loop-place.place in
+    let here : k < counts.assume = omega (arith, c.loop-place-test.true) in
+    let stop : k + 1 ≤ counts.assume = omega (arith, here) in (
+      stop,
+      facts_as counts _ _ _ _ _
+          (next_facts counts _ _ _ _ _ _ c.loop-place.invariant.1
+          (one_fact counts _ _ (Assumed k t) _ c.in_ok-push.ensures.items (λ m last fits. (here, fits))))
+          (λ m p h. for_each_next (λ i. assumed i t ∷ []) k),
+    )
+
+pub returns : goal.returns
+returns c =
+    facts_as c.args.counts _ _ _ _ _ c.loop-place.invariant.1
+    (λ m p h. let end : c.loop-place.place ≡ length p.assume = omega (arith, c.loop-place.invariant.0, c.loop-place-test.false, h.assume) in
+    ap (λ n. for_each (λ i. assumed i c.args.cycle ∷ []) 0 n) end)

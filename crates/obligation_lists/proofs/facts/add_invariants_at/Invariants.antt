@@ -1,0 +1,9 @@
+use Rattle.std.proofs.Common.{◌≤◌, [], ◌∷◌}
+use Rattle.refinement.specs.Obligation.{for_each, invariant}
+use Rattle.obligation_lists.specs.Growth.{AddsFacts}
+use Rattle.obligation_lists.proofs.facts.add_invariants_at.Given as goal
+
+abbrev pub invariant-loop-place : goal.invariant-loop-place
+invariant-loop-place l =
+    (l.place ≤ l.fn.counts.invariants)
+    × AddsFacts l.fn.counts l.fn.facts.items l.facts.items (λ p. for_each (λ k. invariant k l.fn.cycle ∷ []) 0 l.place) (λ m last. l.fn.cycle ≤ last)

@@ -1,0 +1,17 @@
+use Rattle.std.proofs.Common.{take}
+use Rattle.model_meaning.specs.Model.{states_of}
+use Rattle.refinement.specs.Obligation.{state_obligations}
+use Rattle.ila_model.specs.Model.{model_of}
+use Rattle.obligation_lists.specs.declared.claims.MapCounts.{MapCounts}
+use Rattle.obligation_lists.specs.Claims.{hypotheses_of}
+use Rattle.obligation_lists.specs.Within.{AreHypothesesOf}
+use Rattle.obligation_lists.specs.Growth.{Adds, claim_by, AreClaimsOf}
+use Rattle.obligation_lists.proofs.groups.add_states.Given as goal
+
+abbrev pub invariant-loop-place : goal.invariant-loop-place
+invariant-loop-place l =
+    (counts : MapCounts) → AreHypothesesOf (model_of l.model) counts l.fn.group.cycles l.fn.group.hypotheses
+    → AreClaimsOf (model_of l.model) l.fn.group.cycles l.fn.claims
+    → Adds (model_of l.model) counts l.fn.list.items l.list.items
+    (λ p. state_obligations l.fn.group.text.now l.fn.group.cycles (hypotheses_of p l.fn.group.hypotheses) (claim_by l.fn.claims l.fn.group.cycles)
+    (take l.place (states_of (model_of l.model).top)))
