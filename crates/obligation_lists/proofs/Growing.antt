@@ -1,6 +1,6 @@
 -- Lists that grow: nothing added, one obligation or fact, and one part after another.
-use Rattle.std.proofs.Common.{◌≡◌, ℕ, zero, suc, ◌+◌, ◌<◌, Bool, true, false, cond, List, [], ◌∷◌, ◌++◌, length, take, map, Option, Some, None, is_none, option_map, refl, subst, sym, ap, ◌∙◌, append_assoc, slice_get, arith}
-use Rattle.std.specs.Prelude.{is_some, not}
+use Rattle.std.proofs.Common.{◌≡◌, ℕ, zero, suc, ◌+◌, ◌<◌, Bool, true, false, cond, List, [], ◌∷◌, ◌++◌, length, take, map, Option, Some, None, option_map, refl, subst, sym, ap, ◌∙◌, append_assoc, slice_get, arith}
+use Rattle.std.specs.Prelude.{is_some}
 use Rattle.std.specs.String.{string_bytes}
 use Rattle.std.proofs.lemmas.List.{append-nil, map-append}
 use Rattle.wb_values.specs.Value.{Name, Value}
@@ -150,19 +150,15 @@ initial_there f ss k d i here stated =
     let same : option_map f i ≡ d.init = cc in
     ap is_some (sym same) ∙ is_some_map f i
 
-some_by_none : {A : Type 0} (o : Option A) (b : Bool) → is_none o ≡ b → is_some o ≡ not b
-some_by_none None b e = ap not e
-some_by_none (Some x) b e = ap not e
-
 pub without_initial : {A : Type 0} (f : A → Value) (ss : List StateDeclaration) (k : ℕ) (d : StateDeclaration) (i : Option A) → slice_get ss k ≡ Some d
-    → option_map (λ (s : StateDeclaration). s.init) (slice_get ss k) ≡ Some (option_map f i) → is_none i ≡ true → with_initial_values (d ∷ []) ≡ []
+    → option_map (λ (s : StateDeclaration). s.init) (slice_get ss k) ≡ Some (option_map f i) → is_some i ≡ false → with_initial_values (d ∷ []) ≡ []
 without_initial f ss k d i here stated absent =
-    ap (λ b. cond b (d ∷ []) []) (initial_there f ss k d i here stated ∙ some_by_none i true absent)
+    ap (λ b. cond b (d ∷ []) []) (initial_there f ss k d i here stated ∙ absent)
 
 pub with_initial : {A : Type 0} (f : A → Value) (ss : List StateDeclaration) (k : ℕ) (d : StateDeclaration) (i : Option A) → slice_get ss k ≡ Some d
-    → option_map (λ (s : StateDeclaration). s.init) (slice_get ss k) ≡ Some (option_map f i) → is_none i ≡ false → with_initial_values (d ∷ []) ≡ d ∷ []
+    → option_map (λ (s : StateDeclaration). s.init) (slice_get ss k) ≡ Some (option_map f i) → is_some i ≡ true → with_initial_values (d ∷ []) ≡ d ∷ []
 with_initial f ss k d i here stated present =
-    ap (λ b. cond b (d ∷ []) []) (initial_there f ss k d i here stated ∙ some_by_none i false present)
+    ap (λ b. cond b (d ∷ []) []) (initial_there f ss k d i here stated ∙ present)
 
 -- those of the first so many invariants
 abbrev pub invariant_lines : Name → ℕ → Hypotheses → ℕ → Map → List pure.Obligation

@@ -1,6 +1,6 @@
 -- The instructions of a model, one more at a time.
-use Rattle.std.proofs.Common.{◌≡◌, ℕ, zero, suc, ◌+◌, ◌<◌, Bool, true, false, List, [], ◌∷◌, ◌++◌, length, take, map, get_or, Option, Some, None, is_none, slice_get, codes, refl, sym, ap, ◌∙◌, append_assoc, arith}
-use Rattle.std.specs.Prelude.{decimal}
+use Rattle.std.proofs.Common.{◌≡◌, ℕ, zero, suc, ◌+◌, ◌<◌, Bool, true, false, List, [], ◌∷◌, ◌++◌, length, take, map, get_or, Option, Some, None, slice_get, codes, refl, sym, ap, ◌∙◌, append_assoc, arith}
+use Rattle.std.specs.Prelude.{decimal, is_some}
 use Rattle.std.proofs.lemmas.Bool.{and_parts, false≢true}
 use Rattle.std.proofs.lemmas.List.{append-nil, length-take-le}
 use Rattle.wb_values.specs.Value.{Name}
@@ -48,16 +48,16 @@ program_there g inner [] k h = absurd (omega (arith, h))
 program_there g inner (c ∷ cs) zero h = (_, _, refl)
 program_there g inner (c ∷ cs) (suc k) h = program_there g inner cs k (omega (arith, h))
 
-pub no_child_lines : (p : Map) (j : ℕ) (n : Name) (g : Graph) (cs : List Child) (o : Option ChildId) → is_none o ≡ true
+pub no_child_lines : (p : Map) (j : ℕ) (n : Name) (g : Graph) (cs : List Child) (o : Option ChildId) → is_some o ≡ false
     → child_obligations p j n (program_of g cs nesting o) ≡ []
 unfolding nesting
 no_child_lines p j n g cs None e = refl
-no_child_lines p j n g cs (Some i) e = absurd (false≢true e)
+no_child_lines p j n g cs (Some i) e = absurd (false≢true (sym e))
 
-pub child_line : (p : Map) (j : ℕ) (n : Name) (g : Graph) (cs : List Child) (o : Option ChildId) → is_none o ≡ false → IsChildBelow (length cs) o
+pub child_line : (p : Map) (j : ℕ) (n : Name) (g : Graph) (cs : List Child) (o : Option ChildId) → is_some o ≡ true → IsChildBelow (length cs) o
     → line (codes "child." ++ n) 1 (started_by p j) (ends j) ∷ [] ≡ child_obligations p j n (program_of g cs nesting o)
 unfolding nesting
-child_line p j n g cs None e h = absurd (false≢true (sym e))
+child_line p j n g cs None e h = absurd (false≢true e)
 child_line p j n g cs (Some i) e h =
     let r = program_there g (program_of g cs 2) cs i.0 h in
     ap (child_obligations p j n) (sym r.2)

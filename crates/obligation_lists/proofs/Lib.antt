@@ -1,3 +1,5 @@
 pub mod Growing
 pub mod Commands
 pub mod Instructions
+pub mod Apart
+pub mod NameParts

@@ -4,6 +4,7 @@
 mod claims;
 mod facts;
 mod groups;
+pub mod laws;
 mod listing;
 
 pub use claims::{Fact, Hypotheses, MapCounts, Obligation, StateAt};

@@ -1,7 +1,7 @@
 //! All obligations of a model and a map, in order, and the names of covers.
 
-ghost use Rattle.std.specs.Prelude.{◌≡◌, ◌<◌, ◌+◌, ◌++◌, [], ◌∷◌, length, map, codes, decimal, IfOk, OnOk, string_bytes};
-ghost use Rattle.model_meaning.specs.Model.{instruction_name, child_program, instructions_in};
+ghost use Rattle.std.specs.Prelude.{◌≡◌, ◌<◌, ◌+◌, ◌^◌, ◌++◌, [], ◌∷◌, length, map, codes, decimal, IfOk, OnOk, string_bytes};
+ghost use Rattle.model_meaning.specs.Model.{Model, instruction_name, child_program, instructions_in};
 ghost use Rattle.refinement.specs.Map.{Map};
 ghost use Rattle.refinement.specs.Obligation.{for_each, obligations as all_obligations, reset_obligations, idle_obligations, decode_obligation, child_obligations, bound_obligation, commit_obligations, all_instruction_obligations};
 ghost use Rattle.ila_model.specs.Model.{model_of};
@@ -228,7 +228,7 @@ fn add_instructions<'a>(
     model: &'a IlaModel,
     counts: MapCounts<'_>,
 ) -> Result<(), NoMemory>
-    requires { length counts.entry.bounds.now ≡ length (instructions_in (model_of model.now).top) }
+    requires { length counts.bounds.now ≡ length (instructions_in (model_of model.now).top) }
     ensures { OnOk result (Adds (model_of model.now) counts.entry list.old.items list.new.items
         (λ p. all_instruction_obligations (model_of model.now) p 0 (instructions_in (model_of model.now).top))) }
 {
@@ -253,7 +253,7 @@ pub fn obligations<'a>(
     model: &'a IlaModel,
     counts: MapCounts<'_>,
 ) -> Result<Vec<Obligation<'a>>, NoMemory>
-    requires { length counts.entry.bounds.now ≡ length (instructions_in (model_of model.now).top) }
+    requires { length counts.bounds.now ≡ length (instructions_in (model_of model.now).top) }
     ensures listed { IfOk result (λ list. (p : Map) → AreCountsOf (model_of model.now) p counts.entry
         → map (obligation_of p) list.items ≡ all_obligations (model_of model.now) p) }
     ensures within { IfOk result (λ list. Each (IsObligationOf (model_of model.now) counts.entry) list.items) }

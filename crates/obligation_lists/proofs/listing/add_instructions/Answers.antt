@@ -1,7 +1,7 @@
-use Rattle.std.proofs.Common.{◌≡◌, ◌+◌, ◌<◌, ◌≤◌, ◌++◌, length, take, sym, ap, subst, ◌∙◌, arith}
+use Rattle.std.proofs.Common.{◌≡◌, ◌+◌, ◌<◌, ◌≤◌, ◌++◌, length, take, refl, sym, ap, subst, ◌∙◌, arith}
 use Rattle.std.proofs.lemmas.List.{take_all}
-use Rattle.model_meaning.specs.Model.{instructions_in}
-use Rattle.refinement.specs.Obligation.{all_instruction_obligations}
+use Rattle.model_meaning.specs.Model.{instruction_name, instructions_in}
+use Rattle.refinement.specs.Obligation.{bound_named, instruction_obligations, all_instruction_obligations}
 use Rattle.ila_model.specs.Scope.{nesting}
 use Rattle.ila_model.specs.Sorted.{IsChildBelow}
 use Rattle.ila_model.specs.Meaning.{program_of}
@@ -36,7 +36,7 @@ loop-place-preserved c =
     let same = same_there parts.terms inner parts.instructions.items k c.index.result.now r.0 there c.index.ensures r.1 in
     read_as m counts _ _ _ _ (next m counts _ _ _ _ _ c.loop-place.invariant c.in_ok-add_instruction.ensures)
     (λ p h. ap (λ os. all_instruction_obligations m p 0 (take k is) ++ os)
-    (with_bound m p k _ _ (bound_at p is _ k _ r.0 h.bounds here r.1 refl ∙ ap _ (sym same)) ∙ ap (instruction_obligations m p k) same)
+    (with_bound m p k _ _ (bound_at p is _ k _ r.0 h.bounds here r.1 refl ∙ ap (λ i. bound_named p (instruction_name i)) (sym same)) ∙ ap (instruction_obligations m p k) same)
     ∙ all_more m p is k r.0 here r.2)
 
 pub returns : goal.returns
