@@ -107,10 +107,10 @@ map_at f (a ∷ xs) zero x y h e =
 map_at f (a ∷ xs) (suc k) x y h e = map_at f xs k x y (omega (arith, h)) e
 
 -- the bound at an instruction's place
-pub bound_at : (p : Map) (is : List Instruction) (bs : List ℕ) (k b : ℕ) (i : Instruction) → map (λ i. bound_named p (instruction_name i)) is ≡ bs
-    → k < length is → slice_get is k ≡ Some i → b ≡ get_or bs k b → b ≡ bound_named p (instruction_name i)
-bound_at p is bs k b i same here there e =
-    e ∙ ap (λ l. get_or l k b) (sym same) ∙ map_at (λ i. bound_named p (instruction_name i)) is k i b here there
+pub bound_at : (p : Map) (is : List Instruction) (bs : List ℕ) (k b d : ℕ) (i : Instruction) → map (λ i. bound_named p (instruction_name i)) is ≡ bs
+    → k < length is → slice_get is k ≡ Some i → b ≡ get_or bs k d → b ≡ bound_named p (instruction_name i)
+bound_at p is bs k b d i same here there e =
+    e ∙ ap (λ l. get_or l k d) (sym same) ∙ map_at (λ i. bound_named p (instruction_name i)) is k i d here there
 
 pub with_bound : (m : Model) (p : Map) (k b : ℕ) (i : Instruction) → b ≡ bound_named p (instruction_name i)
     → child_obligations p k (instruction_name i) (child_program i) ++ bound_obligation p k (instruction_name i) b

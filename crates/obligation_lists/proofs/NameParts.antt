@@ -3,10 +3,10 @@ use Rattle.std.proofs.Common.{◌≡◌, ℕ, zero, suc, ◌+◌, ◌^◌, ◌<�
 use Rattle.std.specs.Prelude.{decimal, ◌==◌, ⊤, IsTrue, IsFalse}
 use Rattle.std.specs.List.{list_all}
 use Rattle.std.proofs.lemmas.Bool.{and_parts, false≢true, ne_eqb}
-use Rattle.core.specs.Str.Parse.{AllDigits}
+use Rattle.std.specs.Str.Parse.{AllDigits}
 use Rattle.std.proofs.lemmas.Fmt.{decimal_is_IsNumeral}
 use Rattle.std.proofs.lemmas.Slice.Eq.{bytes_eq-Decides}
-use Rattle.core.proofs.str.DigitBytes.{digit_from_value}
+use Rattle.std.proofs.lemmas.Str.Parse.{digit_from_value}
 use Rattle.wb_values.specs.Value.{Name, same_name}
 use Rattle.wb_values.specs.Names.{is_name_byte, is_model_name}
 use Rattle.model_meaning.specs.Among.{is_name_in, has_twice}
@@ -147,13 +147,14 @@ module _ (m : Model) (p : Map) (j : ℕ) (n : Name) where
             → Each (λ o. byte 1 o.called ≡ 104 → ⊥) (bound_obligation p j n b ∷ for_each (commit_obligations m p j n) 0 b)
             → Apart (child_obligations p j n k ++ bound_obligation p j n b ∷ for_each (commit_obligations m p j n) 0 b)
         by_child no_child r s = r
-        by_child (child steps program) r s = apart_append (byte 1) 104 (child_obligations p j n (child steps program)) _ (refl, tt) s (tt, tt) r
+        by_child (child steps program) r s = apart_append (byte 1) 104 (child_obligations p j n (child steps program))
+            (bound_obligation p j n b ∷ for_each (commit_obligations m p j n) 0 b) (refl, tt) s (tt, tt) r
 
   -- what holds of the three kinds of names
   each_of_one : (P : Name → Type 0) (k : Child) (b : ℕ) → P (codes "child." ++ n) → P (codes "bound." ++ n) → ((c : ℕ) (tail : Name) → P (commit_name n c tail))
       → Each (λ o. P o.called) (child_obligations p j n k ++ bound_obligation p j n b ∷ for_each (commit_obligations m p j n) 0 b)
   each_of_one P no_child b x y z = (y, each_for_each (λ o. P o.called) (commit_obligations m p j n) 0 b (λ c. each_commit P c (z c)))
-  each_of_one P (child steps program) b x y z = (x, y, each_for_each (λ o. P o.called) (commit_obligations m p j n) 0 b (λ c. each_commit P c (z c)))
+  each_of_one P (child steps program) b x y z = (x, (y, each_for_each (λ o. P o.called) (commit_obligations m p j n) 0 b (λ c. each_commit P c (z c))))
 
 -- ---- all obligations
 

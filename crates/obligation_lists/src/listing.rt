@@ -1,6 +1,6 @@
 //! All obligations of a model and a map, in order, and the names of covers.
 
-ghost use Rattle.std.specs.Prelude.{◌≡◌, ◌<◌, ◌+◌, ◌^◌, ◌++◌, [], ◌∷◌, length, map, codes, decimal, IfOk, OnOk, string_bytes};
+ghost use Rattle.std.specs.Prelude.{◌≡◌, ◌<◌, ◌+◌, ◌^◌, ◌++◌, [], ◌∷◌, length, map, slice_index_or, codes, decimal, IfOk, OnOk, string_bytes};
 ghost use Rattle.model_meaning.specs.Model.{Model, instruction_name, child_program, instructions_in};
 ghost use Rattle.refinement.specs.Map.{Map};
 ghost use Rattle.refinement.specs.Obligation.{for_each, obligations as all_obligations, reset_obligations, idle_obligations, decode_obligation, child_obligations, bound_obligation, commit_obligations, all_instruction_obligations};
@@ -221,6 +221,14 @@ fn add_instruction<'a>(
     Ok(())
 }
 
+/// The bound of an instruction.
+fn bound_of(counts: MapCounts<'_>, place: usize) -> u64
+    requires { place < length counts.bounds.now }
+    ensures { result ≡ slice_index_or counts.entry.bounds.now place 0 }
+{
+    counts.bounds[place]
+}
+
 /// Those of all instructions.
 fn add_instructions<'a>(
     alloc: Global,
@@ -234,15 +242,8 @@ fn add_instructions<'a>(
 {
     for place in 0..model.parts.instructions.len() {
         let instruction = &model.parts.instructions[place];
-        add_instruction(
-            alloc,
-            list,
-            model,
-            counts,
-            place,
-            instruction,
-            counts.bounds[place],
-        )?;
+        let bound = bound_of(counts, place);
+        add_instruction(alloc, list, model, counts, place, instruction, bound)?;
     }
     Ok(())
 }

@@ -15,6 +15,6 @@ returns c =
     (next m counts _ _ _ _ _ (c.in_ok-add_invariants.ensures m (c.requires.there, low))
     (c.in_ok-add_states.ensures counts (c.requires.there, low) c.requires.there))
     (λ p h. commit_lines m p c.args.place c.args.name.now t _ _ _
-    (c.as_str-text.ensures.value ∙ (c.in_ok-of_invariants.ensures ∙ ap (λ x. x ++ codes ".inv.") (c.as_str.ensures.value ∙ c.in_ok-text.ensures)))
-    (c.as_str-text-1.ensures.value ∙ (c.in_ok-of_states.ensures ∙ ap (λ x. x ++ codes ".state.") (c.as_str-1.ensures.value ∙ c.in_ok-text.ensures)))
+    (c.as_str-2.ensures.value ∙ (c.in_ok-of_invariants.ensures ∙ ap (λ x. x ++ codes ".inv.") (c.as_str.ensures.value ∙ c.in_ok-text.ensures)))
+    (c.as_str-4.ensures.value ∙ (c.in_ok-of_states.ensures ∙ ap (λ x. x ++ codes ".state.") (c.as_str-3.ensures.value ∙ c.in_ok-text.ensures)))
     k)
