@@ -1,7 +1,7 @@
 -- The hypotheses of a command, one more cycle at a time.
 use Rattle.std.proofs.Common.{◌≡◌, ℕ, zero, suc, ◌+◌, ◌-◌, ◌≤◌, List, [], ◌∷◌, ◌++◌, sym, ap, ◌∙◌, append_assoc, arith}
 use Rattle.refinement.specs.Map.{Map}
-use Rattle.refinement.specs.Obligation.{Fact, commit, no_commit, for_each, started_by, running_at, running, not_ended, ended_at}
+use Rattle.refinement.specs.Obligation.{Fact, commit, no_commit, started_by, running_at, running, not_ended, ended_at}
 use Rattle.obligation_lists.proofs.Growing.{for_each_more}
 
 -- a cycle of a command without commit

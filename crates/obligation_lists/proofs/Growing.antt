@@ -1,7 +1,6 @@
 -- Lists that grow: nothing added, one obligation or fact, and one part after another.
 use Rattle.std.proofs.Common.{◌≡◌, ℕ, zero, suc, ◌+◌, ◌<◌, Bool, true, false, cond, List, [], ◌∷◌, ◌++◌, length, take, map, Option, Some, None, option_map, refl, subst, sym, ap, ◌∙◌, append_assoc, slice_get, arith}
 use Rattle.std.specs.Prelude.{is_some}
-use Rattle.std.specs.String.{string_bytes}
 use Rattle.std.proofs.lemmas.List.{append-nil, map-append}
 use Rattle.wb_values.specs.Value.{Name, Value}
 use Rattle.model_meaning.specs.Model.{Model, StateDeclaration}

@@ -1,5 +1,5 @@
 -- The instructions of a model, one more at a time.
-use Rattle.std.proofs.Common.{◌≡◌, ℕ, zero, suc, ◌+◌, ◌<◌, Bool, true, false, List, [], ◌∷◌, ◌++◌, length, take, map, get_or, Option, Some, None, slice_get, codes, refl, sym, ap, ◌∙◌, append_assoc, arith}
+use Rattle.std.proofs.Common.{◌≡◌, ℕ, zero, suc, ◌+◌, ◌<◌, true, false, List, [], ◌∷◌, ◌++◌, length, take, map, get_or, Option, Some, None, slice_get, codes, refl, sym, ap, ◌∙◌, append_assoc, arith}
 use Rattle.std.specs.Prelude.{decimal, is_some}
 use Rattle.std.proofs.lemmas.Bool.{and_parts, false≢true}
 use Rattle.std.proofs.lemmas.List.{append-nil, length-take-le}
@@ -7,7 +7,7 @@ use Rattle.wb_values.specs.Value.{Name}
 use Rattle.model_meaning.specs.Model as pure
 use Rattle.model_meaning.specs.Model.{Model, Instruction, instruction_list, instruction_name, child_program, states_of}
 use Rattle.refinement.specs.Map.{Map}
-use Rattle.refinement.specs.Obligation.{Obligation, for_each, ends, result_of, started_by, ended_at, invariant_obligations, state_obligations, child_obligations, bound_obligation, commit_obligations, bound_named, instruction_obligations, all_instruction_obligations}
+use Rattle.refinement.specs.Obligation.{for_each, ends, result_of, started_by, ended_at, invariant_obligations, state_obligations, child_obligations, bound_obligation, commit_obligations, bound_named, instruction_obligations, all_instruction_obligations}
 use Rattle.wb_terms.specs.Graph.{Graph}
 use Rattle.ila_model.specs.declared.parts.Instruction as code
 use Rattle.ila_model.specs.declared.parts.ChildId.{ChildId}

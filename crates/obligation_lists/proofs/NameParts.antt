@@ -1,6 +1,6 @@
 -- The parts of an obligation's name between its dots, and all obligations put together from parts that differ.
-use Rattle.std.proofs.Common.{◌≡◌, ℕ, zero, suc, ◌+◌, ◌^◌, ◌<◌, ◌≤◌, Bool, true, false, cond, ◌||◌, ◌&&◌, List, [], ◌∷◌, ◌++◌, length, map, get_or, codes, refl, sym, ap, ◌∙◌, append_assoc, subst, arith}
-use Rattle.std.specs.Prelude.{decimal, ◌==◌, ⊤, IsTrue, IsFalse}
+use Rattle.std.proofs.Common.{◌≡◌, ℕ, suc, ◌+◌, ◌^◌, ◌<◌, ◌≤◌, Bool, true, false, cond, ◌||◌, List, [], ◌∷◌, ◌++◌, length, map, get_or, codes, refl, sym, ap, ◌∙◌, append_assoc, subst, arith}
+use Rattle.std.specs.Prelude.{decimal, ◌==◌, IsFalse}
 use Rattle.std.specs.List.{list_all}
 use Rattle.std.proofs.lemmas.Bool.{and_parts, false≢true, ne_eqb}
 use Rattle.std.specs.Str.Parse.{AllDigits}
@@ -10,7 +10,7 @@ use Rattle.std.proofs.lemmas.Str.Parse.{digit_from_value}
 use Rattle.wb_values.specs.Value.{Name, same_name}
 use Rattle.wb_values.specs.Names.{is_name_byte, is_model_name}
 use Rattle.model_meaning.specs.Among.{is_name_in, has_twice}
-use Rattle.model_meaning.specs.Model.{Model, Machine, machine, StateDeclaration, Instruction, instruction_name, Child, no_child, child, child_program, states_of, instructions_in}
+use Rattle.model_meaning.specs.Model.{Model, Machine, machine, Instruction, instruction_name, Child, no_child, child, child_program, states_of, instructions_in}
 use Rattle.model_meaning.specs.Invariant.{IsModel, all_machines, gathered, state_names, own_instruction_names, valued_names, instruction_names_of}
 use Rattle.refinement.specs.Map.{Map}
 use Rattle.refinement.specs.Obligation.{Obligation, for_each, invariant_obligations, state_obligations, child_obligations, bound_obligation, commit_obligations, instruction_obligations, all_instruction_obligations, reset_obligations, idle_obligations, decode_obligation, obligations, bound_named, with_initial_values, ended_at, result_of, initial, same, reset_active, no_start, invariants_at, premises_at, Fact}

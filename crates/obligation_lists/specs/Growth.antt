@@ -1,5 +1,5 @@
 -- Lists that grow at their end by the pure obligations or facts of every map with the same counts.
-use Rattle.std.specs.Prelude.{◌≡◌, ℕ, ◌≤◌, ⊤, List, [], ◌∷◌, ◌++◌, map}
+use Rattle.std.specs.Prelude.{◌≡◌, ℕ, ◌≤◌, ⊤, List, ◌++◌, map}
 use Rattle.wb_values.specs.Value.{Name}
 use Rattle.model_meaning.specs.Model.{Model}
 use Rattle.refinement.specs.Map.{Map}

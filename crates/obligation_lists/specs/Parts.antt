@@ -1,5 +1,4 @@
 -- Instructions of the code's record of a model.
-use Rattle.std.specs.Prelude.{ℕ, ◌<◌, length, ⊤, Option, Some, None}
 use Rattle.model_meaning.specs.Model as pure
 use Rattle.ila_model.specs.declared.model.IlaModel.{IlaModel}
 use Rattle.ila_model.specs.declared.parts.Instruction.{Instruction}

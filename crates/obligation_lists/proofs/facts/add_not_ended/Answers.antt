@@ -1,4 +1,4 @@
-use Rattle.std.proofs.Common.{◌≡◌, ◌+◌, ◌-◌, ◌<◌, ◌≤◌, refl, arith}
+use Rattle.std.proofs.Common.{◌≡◌, ◌+◌, ◌-◌, ◌<◌, ◌≤◌, arith}
 use Rattle.obligation_lists.specs.declared.claims.Fact.TheVariants.{NoCommit}
 use Rattle.obligation_lists.proofs.Growing.{one_fact, next_facts, facts_as, fits_as}
 use Rattle.obligation_lists.proofs.Commands.{not_ended_more, not_ended_same}

@@ -1,8 +1,7 @@
 use Rattle.std.proofs.Common.{◌≤◌, ◌<◌, ◌+◌, ◌≡◌, ap, length, [], ◌∷◌, refl, arith}
 use Rattle.refinement.specs.Obligation.{numbered, invariant}
 use Rattle.obligation_lists.specs.Claims.{hypotheses_of}
-use Rattle.obligation_lists.specs.Growth.{Adds}
-use Rattle.obligation_lists.proofs.Growing.{none, one, next, read_as, line, line_same, invariant_lines, for_each_next}
+use Rattle.obligation_lists.proofs.Growing.{one, next, read_as, line, line_same, invariant_lines, for_each_next}
 use Rattle.obligation_lists.proofs.groups.add_invariants.Goals as goal
 
 pub loop-place-preserved : goal.loop-place-preserved
