@@ -163,6 +163,7 @@ fn add_ended_at(
     Ok(())
 }
 
+/// The facts that hypotheses are.
 fn add_hypotheses(
     facts: &mut Vec<Fact<'_>>,
     counts: MapCounts<'_>,
