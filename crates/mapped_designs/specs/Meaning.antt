@@ -32,8 +32,8 @@ pub record Tells (s : Setting) (e : Mapped) (registers inputs v : Valuation) : T
   pub start : worth e.parts registers inputs e.start ≡ condition_value s v s.map.start
   pub assume : map (worth e.parts registers inputs) e.assume ≡ map (condition_value s v) s.map.assume
   pub invariants : map (worth e.parts registers inputs) e.invariants ≡ map (condition_value s v) s.map.invariants
-  pub states : map (worth e.parts registers inputs) e.states ≡ map (λ d. mapped_state s v d.state_name) (states_of s.model.top)
-  pub inputs : map (worth e.parts registers inputs) e.inputs ≡ map (λ i. mapped_inputs s v i.input_name) s.model.inputs
+  pub model_states : map (worth e.parts registers inputs) e.states ≡ map (λ d. mapped_state s v d.state_name) (states_of s.model.top)
+  pub model_inputs : map (worth e.parts registers inputs) e.inputs ≡ map (λ i. mapped_inputs s v i.input_name) s.model.inputs
   pub commits :
       map (λ (i : MappedInstruction). worth e.parts registers inputs i.commit) e.instructions ≡ map (commit_value s v) (instructions_in s.model.top)
 
