@@ -1,6 +1,6 @@
 -- A design with a map as terms of one store: which terms stand for what the map says of a cycle.
-use Rattle.std.specs.Prelude.{◌≡◌, ℕ, true, List, [], ◌∷◌, ◌++◌, map, length, All, IsTrue}
-use Rattle.wb_values.specs.Value.{Sort, truth, Entries}
+use Rattle.std.specs.Prelude.{◌≡◌, ℕ, List, ◌∷◌, ◌++◌, map, length, All, IsTrue}
+use Rattle.wb_values.specs.Value.{truth}
 use Rattle.model_meaning.specs.Model.{Model, states_of, instructions_in}
 use Rattle.ila_child.specs.State.{sorts_of_states, sorts_of_inputs}
 use Rattle.v_design.specs.Parts.{Parts, is_term_of, are_terms_of}

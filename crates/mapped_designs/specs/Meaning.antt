@@ -1,6 +1,6 @@
 -- When terms are those of a map: wherever registers and inputs have a settled valuation, each is worth what the map's expression is there.
-use Rattle.std.specs.Prelude.{◌≡◌, ℕ, Bool, false, ◌==◌, List, map, ◌++◌, Option, Some, None}
-use Rattle.wb_values.specs.Value.{Name, Value, truth_value, as_number, Valuation}
+use Rattle.std.specs.Prelude.{◌≡◌, Bool, false, ◌==◌, map, ◌++◌, Option, Some, None}
+use Rattle.wb_values.specs.Value.{Value, truth_value, as_number, Valuation}
 use Rattle.model_meaning.specs.Model.{Instruction, instruction_name, states_of, instructions_in}
 use Rattle.verilog_trees.specs.Syntax.{Expression}
 use Rattle.verilog_meaning.specs.Settled.{IsSettled}

@@ -1,7 +1,7 @@
 -- What a design with a map shows in the cycles of a run, as values of its terms: the registers of each cycle come from the first ones by
 -- the clock's edges, and nothing is said of nets.
 use Rattle.std.specs.Prelude.{◌≡◌, ℕ, zero, suc, false, List, [], ◌∷◌, map, slice_get, slice_index, Some, IsTrue, ⊤}
-use Rattle.wb_values.specs.Value.{Name, Sort, Value, as_truth, Valuation, Entries}
+use Rattle.wb_values.specs.Value.{Value, as_truth, Valuation}
 use Rattle.model_meaning.specs.Model.{Model, StateDeclaration, Instruction, states_of, state_named}
 use Rattle.model_meaning.specs.Instruction.{Does, DecodesAt, IsInstruction, IsStarted}
 use Rattle.refinement.specs.Obligation.{Fact, reset_active, reset_inactive, assumed, invariant, start, no_start, decoded, commit, no_commit, initial, same, one_decodes, ends, result_of, never}
