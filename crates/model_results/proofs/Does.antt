@@ -1,11 +1,11 @@
 -- What an instruction does is its result.
-use Rattle.std.proofs.Common.{◌≡◌, ℕ, zero, suc, ◌+◌, ◌-◌, ◌≤◌, Bool, true, false, cond, ◌&&◌, ◌⊎◌, inl, inr, refl, sym, ap, ◌∙◌, subst, arith}
+use Rattle.std.proofs.Common.{◌≡◌, ℕ, ◌+◌, ◌-◌, Bool, true, false, cond, ◌⊎◌, inl, inr, refl, sym, ap, ◌∙◌, subst, arith}
 use Rattle.std.specs.Prelude.{not}
 use Rattle.std.proofs.lemmas.Bool.{and_parts, and_from, false≢true}
 use Rattle.wb_values.specs.Value.{Valuation}
-use Rattle.model_meaning.specs.Model.{Machine, machine, Instruction, instruction, Instructions, no_instructions, and_then, Child, no_child, child, Model, states_of, valid_of, holds, decode_of, updated, entered, left_behind, point_of}
-use Rattle.model_meaning.specs.Instruction.{Reaches, NoneDecodes, DoesInstruction, DoesChild, DoesStep, DoesOne, Does, own_states}
-use Rattle.model_results.specs.Results.{Result, ended_at, failed_at, followed, iterated, none_decodes, only_where, out_of, result_of, child_result, stepped, one_result, IsEndedAt, result_at, InstructionDoesItsResult, ModelDoesItsResult}
+use Rattle.model_meaning.specs.Model.{Machine, machine, Instruction, instruction, Instructions, no_instructions, and_then, Child, no_child, child, states_of, valid_of, holds, decode_of, updated, entered, left_behind, point_of}
+use Rattle.model_meaning.specs.Instruction.{NoneDecodes, DoesInstruction, DoesChild, DoesStep, DoesOne, own_states}
+use Rattle.model_results.specs.Results.{Result, ended_at, iterated, none_decodes, only_where, result_of, child_result, stepped, one_result, IsEndedAt, result_at, InstructionDoesItsResult, ModelDoesItsResult}
 use Rattle.model_results.proofs.Iterated.{reached, reaches}
 
 pub none_from : (is : Instructions) (p : Valuation) → NoneDecodes is p → none_decodes is p ≡ true

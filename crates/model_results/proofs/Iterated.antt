@@ -1,6 +1,6 @@
 -- Steps of a relation, and the same steps as a function.
-use Rattle.std.proofs.Common.{◌≡◌, ℕ, zero, suc, ◌+◌, ◌-◌, ◌≤◌, Bool, true, false, cond, ◌&&◌, ◌⊎◌, inl, inr, refl, sym, ap, ◌∙◌, subst, arith}
-use Rattle.std.proofs.lemmas.Bool.{and_parts, and_from, false≢true}
+use Rattle.std.proofs.Common.{◌≡◌, ℕ, zero, suc, ◌+◌, ◌≤◌, Bool, true, false, refl, sym, ap, ◌∙◌, subst, arith}
+use Rattle.std.proofs.lemmas.Bool.{and_parts, and_from}
 use Rattle.wb_values.specs.Value.{Valuation}
 use Rattle.model_meaning.specs.Instruction.{Reaches}
 use Rattle.model_results.specs.Results.{Result, ended_at, followed, iterated, IsEndedAt}
