@@ -1,0 +1,3 @@
+pub mod Symbolic
+pub mod Copied
+pub mod Programs

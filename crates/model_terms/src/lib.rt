@@ -1,0 +1,10 @@
+//! A step of an instruction-level model as terms: its conditions, and what each instruction does with its child programs, at a state and
+//! inputs that are terms themselves.
+#![tactic(auto)]
+
+mod choices;
+mod joining;
+mod points;
+
+/// Out of memory.
+pub type NoMemory = std::alloc::AllocError;
