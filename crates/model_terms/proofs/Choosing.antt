@@ -196,3 +196,6 @@ choosing_values g h names c xs ys n ids v e x y a =
     ∙ ap (λ t. cond b t (val (tree g (id_at ys k)) v)) (sym (worths-at g xs v k (omega (arith, here, e, x.count))))
     ∙ ap (λ t. cond b (get_or (worths g xs v) k (number 0)) t) (sym (worths-at g ys v k (omega (arith, here, e, y.count))))
     ∙ sym (cond_at b (worths g xs v) (worths g ys v) k))
+
+pub worths_names : {g h : Graph} (names : Entries Sort) (ids : List TermId) (v : Valuation) → IsExtended g h → AreLeaves g names ids → worths h ids v ≡ worths g ids v
+worths_names names ids v e a = worths_kept ids v e (λ k l. a.below k (omega (arith, l, a.count)))

@@ -1,2 +1,4 @@
 pub mod Choosing
 pub mod Pointing
+pub mod Turning
+pub mod Programming

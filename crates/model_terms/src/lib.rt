@@ -4,6 +4,7 @@
 
 mod choices;
 mod joining;
+mod listing;
 mod points;
 
 /// Out of memory.
