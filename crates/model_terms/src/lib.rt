@@ -6,6 +6,7 @@ mod choices;
 mod joining;
 mod listing;
 mod points;
+mod programs;
 
 /// Out of memory.
 pub type NoMemory = std::alloc::AllocError;
