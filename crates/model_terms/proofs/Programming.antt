@@ -6,11 +6,12 @@ use Rattle.std.proofs.lemmas.List.{drop_more, append-nil}
 use Rattle.wb_values.specs.Value as meaning
 use Rattle.wb_values.specs.Value.{truth, Entries, Sort, Valuation}
 use Rattle.model_meaning.specs.Model as pure
+use Rattle.model_meaning.specs.Term.{sort_of}
 use Rattle.model_meaning.specs.Model.{holds, entered, left_behind, states_of, valid_of}
 use Rattle.model_results.specs.Results.{Result, ended_at, iterated, out_of, child_result, stepped, one_result}
 use Rattle.wb_terms.specs.declared.nodes.TermId.{TermId}
 use Rattle.wb_terms.specs.Graph.{Graph, tree}
-use Rattle.term_copies.specs.Copies.{IsExtended, AreLeaves, IsCopy, id_at}
+use Rattle.term_copies.specs.Copies.{IsExtended, AreLeaves, IsCopy, copy_of, id_at}
 use Rattle.term_copies.proofs.Extending.{extended_trans}
 use Rattle.term_copies.proofs.Copying.{leaves_kept}
 use Rattle.wanted_terms.specs.Wanted.{IsListed, AreListed, AreBelow, AreCopied}
@@ -191,3 +192,14 @@ end_reached {g0} {g1} {g2} {h} p s at i d n x valid ended after before point ids
           ∙ subst (λ a. left_behind (privates_of p.terms x) (point_at p a (worths g0 before v)) (point_at p (Some i.0) (worths g2 point v)) ≡ point_at p a (worths g2 point v)) run
             (left_point p s i.0 d x (worths g0 before v) (worths g2 point v) child.inside (length-worths g0 before v ∙ leaves.count) (length-worths g2 point v ∙ leaves2.count))));
     })
+
+-- the copy of the first of the listed terms
+pub first_copy : (g source : Graph) (point copies read listed more : List TermId) (valid copy : TermId) → read ≡ copies → listed ≡ valid ∷ more → HasCopies g source point copies listed → copy ≡ copy_of read valid → IsCopy g source point copy.0 valid.0
+first_copy g source point copies read listed more valid copy r l h e =
+    let has = (subst (λ (ts : List TermId). HasCopies g source point copies ts) l h).0 in
+    subst (λ (x : TermId). IsCopy g source point x.0 valid.0) (sym (e ∙ ap (λ (ids : List TermId). copy_of ids valid) r)) has
+
+pub copy_condition : (g source : Graph) (point copies read listed more : List TermId) (valid copy : TermId) → read ≡ copies → listed ≡ valid ∷ more → HasCopies g source point copies listed → copy ≡ copy_of read valid → sort_of (tree source valid.0) ≡ Some truth → IsCondition g copy.0
+copy_condition g source point copies read listed more valid copy r l h e s =
+    let c = first_copy g source point copies read listed more valid copy r l h e in
+    record { below = c.below; sort = c.sort ∙ s }

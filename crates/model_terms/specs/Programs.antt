@@ -9,7 +9,7 @@ use Rattle.ila_model.specs.declared.parts.Instruction.{Instruction}
 use Rattle.ila_model.specs.declared.parts.Parts.{Parts}
 use Rattle.ila_model.specs.Meaning.{instructions_of}
 use Rattle.ila_child.specs.Running.{program_in}
-use Rattle.term_copies.specs.Copies.{AreLeaves}
+use Rattle.term_copies.specs.Copies.{IsExtended, AreLeaves, IsCopy}
 use Rattle.model_terms.specs.Symbolic.{worths, is_true, IsTest, IsReached}
 
 -- the instructions of a machine that has so many children around it, itself included
@@ -43,3 +43,14 @@ pub record IsTurned (g h : Graph) (names : Entries Sort) (valid : ℕ) (taken be
   pub leaves : AreLeaves h names after.point
   pub ended_value : (v : Valuation) → is_true h after.ended v ≡ (is_true g before.ended v && cond (is_true g valid v) (is_true g taken.ended v) true)
   pub point_value : (v : Valuation) → worths h after.point v ≡ cond (is_true g valid v) (worths g taken.point v) (worths g before.point v)
+
+-- The end of a run: the valid condition is copied over its last point, and it ended if that fails.
+pub record IsEnding (g h source : Graph) (valid : ℕ) (ended : ℕ) (point : List TermId) (after : ℕ) (ids : List TermId) : Type 0 where
+  pub middle : Graph
+  pub copy : ℕ
+  pub first : IsExtended g middle
+  pub second : IsExtended middle h
+  pub copied : IsCopy middle source point copy valid
+  pub same : ids ≡ point
+  pub test : IsTest h after
+  pub value : (v : Valuation) → is_true h after v ≡ cond (is_true middle copy v) false (is_true middle ended v)

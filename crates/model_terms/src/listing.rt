@@ -1,6 +1,10 @@
 //! Beginnings of programs as terms: which terms of a machine are copied, and where its private states begin.
 
-ghost use Rattle.std.specs.Prelude.{◌≡◌, ◌≤◌, ◌+◌, ◌∷◌, ◌++◌, true, length, drop, IfOk, OnOk};
+ghost use Rattle.std.specs.Prelude.{◌≡◌, ◌≤◌, ◌<◌, ◌+◌, ◌∷◌, ◌++◌, true, length, drop, Some, IfOk, OnOk};
+ghost use Rattle.wb_values.specs.Value.{truth};
+ghost use Rattle.model_meaning.specs.Term.{sort_of};
+ghost use Rattle.wb_terms.specs.Graph.{tree};
+ghost use Rattle.model_terms.specs.Programs.{IsEnding};
 ghost use Rattle.ila_model.specs.Sorted.{are_states};
 ghost use Rattle.ila_child.specs.Updating.{with_initial};
 ghost use Rattle.term_copies.specs.Copies.{IsExtended, AreLeaves};
@@ -10,8 +14,8 @@ ghost use Rattle.model_terms.specs.Copied.{HasCopies, terms_of_instruction, term
 
 use crate::NoMemory;
 use crate::choices::put_truth;
-use crate::joining::Reached;
-use crate::points::begin;
+use crate::joining::{Reached, put_end};
+use crate::points::{begin, copy_of};
 use ila_model::Instruction;
 use std::alloc::Global;
 use wanted_terms::put_wanted_copies;
@@ -100,4 +104,30 @@ pub(crate) fn put_nothing(terms: &mut Terms, source: &Terms, point: Vec<TermId>)
     let _source = source;
     let ended = put_truth(terms, true)?;
     Ok(Reached { ended, point })
+}
+
+/// The end of a child's run: it ended if its valid condition fails at its last point. The condition is the first of the listed terms.
+pub(crate) fn put_ending(
+    alloc: Global,
+    terms: &mut Terms,
+    source: &Terms,
+    wanted: &[TermId],
+    listed: &[TermId],
+    valid: TermId,
+    run: Reached,
+) -> Result<Reached, NoMemory>
+    requires wanted { IsClosed source.now wanted.now }
+    requires listed { AreListed wanted.now listed.now }
+    requires first { (more : _) × (listed.now ≡ valid ∷ more) }
+    requires valid { valid.0 < length source.now.nodes }
+    requires sort { sort_of (tree source.now valid.0) ≡ Some truth }
+    requires test { IsTest terms.old run.ended.0 }
+    requires leaves { AreLeaves terms.old source.now.names run.point.items }
+    ensures extended { IsExtended terms.old terms.new }
+    ensures ending { IfOk result (λ r. IsEnding terms.old terms.new source.now valid.0 run.ended.0 run.point.items r.ended.0 r.point.items) }
+{
+    let copies = put_copies_of(alloc, terms, source, &run.point, wanted, listed)?;
+    let copy = copy_of(&copies, valid);
+    let ended = put_end(terms, copy, run)?;
+    Ok(ended)
 }

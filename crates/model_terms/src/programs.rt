@@ -10,8 +10,8 @@ ghost use Rattle.model_terms.specs.Copied.{HasCopies, terms_of_instructions};
 ghost use Rattle.model_terms.specs.Programs.{IsTaken};
 
 use crate::NoMemory;
-use crate::joining::{Reached, Taken, put_before, put_end, put_none, put_turn};
-use crate::listing::{put_copies_of, put_nothing, put_start, terms_of_machine};
+use crate::joining::{Reached, Taken, put_before, put_none, put_turn};
+use crate::listing::{put_copies_of, put_ending, put_nothing, put_start, terms_of_machine};
 use crate::points::{copy_of, updated};
 use ila_model::{ChildId, IlaModel, Instruction};
 use std::alloc::Global;
@@ -50,10 +50,10 @@ pub(crate) fn put_program(
     for turn in 0..child.steps {
         let copies = put_copies_of(alloc, terms, source, &run.point, &wanted, &listed)?;
         let taken = put_taken(alloc, terms, model, inside, depth + 1, &child.instructions, &copies, &run.point)?;
-        run = put_turn(alloc, terms, source, copy_of(&copies, child.valid), &taken, &run)?;
+        let valid = copy_of(&copies, child.valid);
+        run = put_turn(alloc, terms, source, valid, &taken, &run)?;
     }
-    let copies = put_copies_of(alloc, terms, source, &run.point, &wanted, &listed)?;
-    let ended = put_end(terms, copy_of(&copies, child.valid), run)?;
+    let ended = put_ending(alloc, terms, source, &wanted, &listed, child.valid, run)?;
     Ok(ended)
 }
 
@@ -84,7 +84,8 @@ fn put_taken(
         let instruction = &instructions[instructions.len() - 1 - done];
         let after = updated(alloc, source, point, copies, &instruction.updates)?;
         let reached = put_program(alloc, terms, model, at, depth, instruction.child, after)?;
-        taken = put_before(alloc, terms, source, copy_of(copies, instruction.decode), &reached, &taken)?;
+        let decode = copy_of(copies, instruction.decode);
+        taken = put_before(alloc, terms, source, decode, &reached, &taken)?;
     }
     Ok(taken)
 }
