@@ -18,7 +18,7 @@ abbrev pub invariant-put_program-loop-turn : goal.invariant-put_program-loop-tur
 invariant-put_program-loop-turn l = record {
   extended : IsExtended l.fn.terms l.terms;
   reached : IsReached l.terms l.model.parts l.inside l.run.ended.0 l.run.point.items
-      (λ v. iterated (step_at l.model.parts (suc l.depth) l.child.valid.0 l.child.instructions.items) l.turn (entered (privates_of l.model.parts.terms l.child) (sees l.fn.terms l.model.parts l.at l.fn.point.items v)));
+      (λ v. iterated (step_at l.model.parts (suc l.depth) l.child.valid.0 l.child.instructions.items) l.turn (entered (privates_of l.model.parts.terms l.child) (sees l.fn.terms l.model.parts l.fn.at l.fn.point.items v)));
 }
 
 abbrev pub invariant-put_taken-loop-done : goal.invariant-put_taken-loop-done
