@@ -6,3 +6,6 @@ pub mod Named
 pub mod Facts
 pub mod Agreeing
 pub mod ValuesOfRuns
+pub mod Within
+pub mod Breaking
+pub mod Commands

@@ -67,12 +67,12 @@ there_is (y ∷ xs) zero x d e = some_same e
 there_is (y ∷ xs) (suc k) x d e = there_is xs k x d e
 
 -- what stands at a place of one list where another stands under another map
-pub record Beside {A B : Type 0} (f : A → Value) (g : B → Value) (ys : List B) (k : ℕ) (x : A) : Type 0 where
+pub record Beside {A B C : Type 0} (f : A → C) (g : B → C) (ys : List B) (k : ℕ) (x : A) : Type 0 where
   pub other : B
   pub is_there : slice_get ys k ≡ Some other
   pub is_same : f x ≡ g other
 
-pub beside : {A B : Type 0} (f : A → Value) (g : B → Value) (xs : List A) (ys : List B) (k : ℕ) (x : A) → map f xs ≡ map g ys → slice_get xs k ≡ Some x
+pub beside : {A B C : Type 0} (f : A → C) (g : B → C) (xs : List A) (ys : List B) (k : ℕ) (x : A) → map f xs ≡ map g ys → slice_get xs k ≡ Some x
     → Beside f g ys k x
 beside f g [] ys k x e h = absurd (let c : None ≡ Some x = h in cc)
 beside f g (y ∷ xs) [] k x e h = absurd (let c : f y ∷ map f xs ≡ [] = e in cc)

@@ -1,2 +1,4 @@
 pub mod Sound
 pub mod Valued
+pub mod Breaking
+pub mod Commands

@@ -1,4 +1,6 @@
 //! The laws, each the contract of a function without code.
+ghost use Rattle.mapped_runs.specs.Breaking.{ObligationsAreWithin, BreakingRestsOnItsCycles, FalsifyingRunsBreak};
+ghost use Rattle.mapped_runs.specs.Commands.{CommandRestsOnItsBound, WholeCommandsAreShown};
 ghost use Rattle.mapped_runs.specs.Sound.{SortedTermsKeepSorts};
 ghost use Rattle.mapped_runs.specs.Valued.{RunsShow, LaterInputsDoNotMatter, RunsHaveValues};
 
@@ -20,4 +22,29 @@ pub fn later_inputs_do_not_matter()
 /// Every run has values, of the design's sorts, and 0 in what does not count.
 pub fn runs_have_values()
     ensures { RunsHaveValues }
+{}
+
+/// Each obligation of a map speaks of its own cycles alone.
+pub fn obligations_are_within()
+    ensures { ObligationsAreWithin }
+{}
+
+/// Whether values break an obligation does not rest on inputs of later cycles.
+pub fn breaking_rests_on_its_cycles()
+    ensures { BreakingRestsOnItsCycles }
+{}
+
+/// The values of a run that falsifies an obligation break it.
+pub fn falsifying_runs_break()
+    ensures { FalsifyingRunsBreak }
+{}
+
+/// Whether values are a whole command of an instruction does not rest on inputs past its bound.
+pub fn command_rests_on_its_bound()
+    ensures { CommandRestsOnItsBound }
+{}
+
+/// A run that is a whole command of an instruction has values that are one.
+pub fn whole_commands_are_shown()
+    ensures { WholeCommandsAreShown }
 {}
