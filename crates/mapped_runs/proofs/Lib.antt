@@ -9,3 +9,6 @@ pub mod ValuesOfRuns
 pub mod Within
 pub mod Breaking
 pub mod Commands
+pub mod Stable
+pub mod RunsOfValues
+pub mod Decides
