@@ -1,0 +1,5 @@
+pub mod Locality
+pub mod Steps
+pub mod Scope
+pub mod Leaves
+pub mod Free
