@@ -34,7 +34,7 @@ inputs_are_not_seen d v w p u a at is_bit alone =
     stable (value_bit (inside v p u.of_name) u.word u.place) (value_bit (inside w p u.of_name) u.word u.place)
     (λ differ. ends d finite.0 (Differs d v w) (a.accepted comb_loop) among
     (agrees_or_differs d a.registers a.inputs a.others v w (a.accepted undeclared) a.first a.second
-    (are_local settled_value_fits assigned_bit_is_local block_bit_is_local d a.accepted a.numbers_fit a.registers a.inputs a.others v w a.first a.second))
+    (are_local settled_value_fits assigned_bit_is_local block_bit_is_local d a.accepted a.of_text.numbers_fit a.registers a.inputs a.others v w a.first a.second))
     (bit_of p u)
     (record { place = p; bit = u; is_placed = at; is_at = refl; is_declared = is_bit; differ = differ; inside_alone = alone }))
   where
@@ -84,7 +84,7 @@ values_are_free d v w e a free =
 
     known_readable : AreReadable (design_scope d) v w Known Known
     known_readable n k =
-        let r = readable (design_scope d) v w Known (all_fit d a.registers a.inputs v a.numbers_fit a.first) (all_fit d a.registers a.others w a.numbers_fit a.second) n k in
+        let r = readable (design_scope d) v w Known (all_fit d a.registers a.inputs v a.of_text.numbers_fit a.first) (all_fit d a.registers a.others w a.of_text.numbers_fit a.second) n k in
         record { small = r.small; alike = r.alike; has_value = λ e. k }
 
 pub conditions_are_free : ConditionsAreInputFree

@@ -3,3 +3,4 @@ pub mod Steps
 pub mod Scope
 pub mod Leaves
 pub mod Free
+pub mod Memories

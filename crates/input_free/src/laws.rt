@@ -1,5 +1,5 @@
 //! The laws, each the contract of a function without code.
-ghost use Rattle.input_free.specs.Free.{InputsAreNotSeen, ValuesAreInputFree, ConditionsAreInputFree};
+ghost use Rattle.input_free.specs.Free.{InputsAreNotSeen, ValuesAreInputFree, ConditionsAreInputFree, MemoriesAreInputFree};
 
 /// Where two valuations of an accepted design have settled for the same registers, they have the same bits but for those that come from
 /// inputs.
@@ -11,4 +11,9 @@ pub fn inputs_are_not_seen()
 pub fn states_and_invariants_do_not_depend_on_inputs()
     ensures values { ValuesAreInputFree }
     ensures conditions { ConditionsAreInputFree }
+{}
+
+/// A memory has the same words in both.
+pub fn memories_do_not_depend_on_inputs()
+    ensures { MemoriesAreInputFree }
 {}
