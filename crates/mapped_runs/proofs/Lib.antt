@@ -12,3 +12,4 @@ pub mod Commands
 pub mod Stable
 pub mod RunsOfValues
 pub mod Decides
+pub mod Still

@@ -4,3 +4,4 @@ pub mod Breaking
 pub mod Commands
 pub mod Existing
 pub mod Decided
+pub mod Still

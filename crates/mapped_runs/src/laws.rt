@@ -4,6 +4,7 @@ ghost use Rattle.mapped_runs.specs.Commands.{CommandRestsOnItsBound, WholeComman
 ghost use Rattle.mapped_runs.specs.Decided.{BreakingValuesFalsify, ValuesDecide, CommandsAreWhole};
 ghost use Rattle.mapped_runs.specs.Existing.{ValuesHaveRuns};
 ghost use Rattle.mapped_runs.specs.Sound.{SortedTermsKeepSorts};
+ghost use Rattle.mapped_runs.specs.Still.{StillMapsStandStill};
 ghost use Rattle.mapped_runs.specs.Valued.{RunsShow, LaterInputsDoNotMatter, RunsHaveValues};
 
 /// Where the registers' terms are of their sorts, the clock's edge keeps sorts.
@@ -69,4 +70,9 @@ pub fn values_decide()
 /// Values that are a whole command of an instruction are those of a run that is one.
 pub fn commands_are_whole()
     ensures { CommandsAreWhole }
+{}
+
+/// Where what is mapped to states and invariants uses no input, their terms are worth the same under all inputs.
+pub fn still_maps_stand_still()
+    ensures { StillMapsStandStill }
 {}
