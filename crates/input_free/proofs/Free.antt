@@ -1,15 +1,14 @@
 -- What does not come from inputs is the same whatever the inputs are.
-use Rattle.std.proofs.Common.{◌≡◌, ◌∙◌, ◌⊎◌, inl, inr, ap, sym, subst, List, refl}
+use Rattle.std.proofs.Common.{◌≡◌, ◌⊎◌, inl, inr, ap, sym, subst, List, refl}
 use Rattle.std.specs.Prelude.{IsTrue, is_none}
 use Rattle.std.specs.List.{Contains}
-use Rattle.wb_values.specs.Value.{Name, Valuation}
-use Rattle.verilog_trees.specs.Syntax.{Expression}
+use Rattle.wb_values.specs.Value.{Name}
 use Rattle.verilog_meaning.specs.Expression.{width_of, sign_of, self_value, is_nonzero}
 use Rattle.verilog_meaning.specs.Register.{value_bit, is_bit_of}
-use Rattle.verilog_meaning.specs.Hierarchy.{Placed, placed_scope, dotted}
-use Rattle.verilog_meaning.specs.Settled.{Design, IsPlacedIn, inside, IsDeclared}
+use Rattle.verilog_meaning.specs.Hierarchy.{Placed}
+use Rattle.verilog_meaning.specs.Settled.{IsPlacedIn, inside, IsDeclared}
 use Rattle.verilog_designs.specs.Reads.{reads}
-use Rattle.verilog_designs.specs.Dependence.{Bit, is_in, PlacedBit, bit_of, IsBitIn}
+use Rattle.verilog_designs.specs.Dependence.{Bit, PlacedBit, bit_of, IsBitIn}
 use Rattle.verilog_designs.specs.Accepted.{undeclared, bad_hierarchy, comb_loop}
 use Rattle.wb_laws.proofs.Settled.{settled_value_fits}
 use Rattle.verilog_settled.proofs.Assigned.{assigned_bit_is_local}
@@ -22,8 +21,7 @@ use Rattle.verilog_unique.proofs.Chains.{ends}
 use Rattle.verilog_unique.proofs.Reading.{read}
 use Rattle.verilog_unique.proofs.Steps.{stable}
 use Rattle.map_rules.specs.Expressions.{design_scope}
-use Rattle.map_rules.specs.Inputs.{ComesFromInput}
-use Rattle.input_free.specs.Free.{SettleAlike, IsInputFree, InputsAreNotSeen, ValuesAreInputFree, ConditionsAreInputFree}
+use Rattle.input_free.specs.Free.{InputsAreNotSeen, ValuesAreInputFree, ConditionsAreInputFree}
 use Rattle.input_free.proofs.Locality.{are_local}
 use Rattle.input_free.proofs.Steps.{Differs, agrees_or_differs}
 use Rattle.input_free.proofs.Scope.{stands_for, net_of, no_memory_constant, all_fit}

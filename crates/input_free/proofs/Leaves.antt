@@ -1,11 +1,11 @@
 -- Where an expression breaks no rule on names, all names that it reads are declared.
-use Rattle.std.proofs.Common.{◌≡◌, Bool, true, false, cond, not, Some, None, refl}
-use Rattle.std.specs.Prelude.{IsTrue, ◌||◌, ◌&&◌, pos}
+use Rattle.std.proofs.Common.{◌≡◌, Bool, true, false, cond, Some, None, refl}
+use Rattle.std.specs.Prelude.{IsTrue, ◌&&◌, pos}
 use Rattle.wb_values.specs.Choice.{some_if}
 use Rattle.wb_values.specs.Value.{Name}
 use Rattle.verilog_trees.specs.Syntax.{Expression, number, name, concatenation, replication, as_signed, as_unsigned, unary, reduction, binary, shift, power, comparison, logical, conditional, Expressions, no_expressions, expression, Select, index, part, part_up, part_down, Selects, whole, one, two}
 use Rattle.verilog_meaning.specs.Expression.{Object, Scope, is_memory, width_of, widths_of, sign_of}
-use Rattle.verilog_rules.specs.Expression.{Kind, undeclared_name, Broken, nothing, also, constant_if, first_broken, Position, anywhere, in_context, wider, by_name, is_below, by_total, copies, is_unsized, divides, is_bad_divisor, is_bad_exponent, number_if, is_unbroken, by_itself, as_constant, broken, broken_parts, broken_selects, broken_select, broken_bits, has_width, have_widths, refusal_of}
+use Rattle.verilog_rules.specs.Expression.{undeclared_name, Broken, nothing, also, constant_if, first_broken, Position, anywhere, in_context, wider, by_name, is_below, by_total, copies, is_unsized, divides, is_bad_divisor, is_bad_exponent, number_if, is_unbroken, by_itself, as_constant, broken, broken_parts, broken_selects, broken_select, broken_bits, has_width, have_widths, refusal_of}
 use Rattle.verilog_settled.specs.Locality.{LeavesAre, AllLeavesAre, SelectIs, SelectsAre}
 use Rattle.verilog_unique.specs.Unique.{AnyName}
 use Rattle.verilog_unique.proofs.Options.{first_false, second_false, not_is_false}

@@ -4,3 +4,4 @@ pub mod Scope
 pub mod Leaves
 pub mod Free
 pub mod Memories
+pub mod Still

@@ -1,15 +1,13 @@
 -- In an accepted design two valuations that settled for the same registers, whatever the inputs are, agree on each bit that is driven, if they
 -- agree on all on which it depends.
-use Rattle.std.proofs.Common.{◌≡◌, true, false, List, [], ◌∷◌, ◌++◌, ◌⊎◌, inl, inr, refl, sym, ap, ◌∙◌, subst, Some}
+use Rattle.std.proofs.Common.{◌≡◌, true, false, ◌∷◌, ◌++◌, ◌⊎◌, inl, inr, refl, sym, ap, ◌∙◌, subst, Some}
 use Rattle.std.specs.Prelude.{IsTrue, ◌&&◌}
 use Rattle.std.specs.List.{Contains}
 use Rattle.wb_values.specs.Value.{Name, Valuation}
 use Rattle.verilog_trees.specs.Syntax.{Expression, Target, Statement, input, output, instances}
-use Rattle.verilog_meaning.specs.Expression.{Scope, assigned_value}
-use Rattle.verilog_meaning.specs.Statement.{target_width}
 use Rattle.verilog_meaning.specs.Register.{combinational_blocks, may_reach, may_assign}
 use Rattle.verilog_meaning.specs.Hierarchy.{header_ports, instance_step, Placed, placed_scope, module_named, instance_named}
-use Rattle.verilog_meaning.specs.Settled.{Design, IsPlacedIn, inside, IsValueOf, HasPort, Has, whole_of, whole_name, assignments, HasAssigned, HasRun, HasRunAll, as_target, Connection, instance_connections, port_connections, port_meant, IsConnectedTo, HasConnection, HasConnected, IsSettled}
+use Rattle.verilog_meaning.specs.Settled.{Design, IsPlacedIn, inside, IsValueOf, HasPort, whole_of, whole_name, assignments, as_target, Connection, instance_connections, port_connections, port_meant, IsConnectedTo, IsSettled}
 use Rattle.verilog_designs.specs.Names.{names_in, names_in_statement, names_in_connections, names_in_parameters, names_in_ports, all_item_mentions, has_duplicate}
 use Rattle.verilog_designs.specs.Ports.{is_output, port_direction}
 use Rattle.verilog_designs.specs.Constants.{index_names, constant_names_in_instances, constant_names_in_module_items, constant_names_in_module, has_net_as_constant}

@@ -1,8 +1,7 @@
 -- No bit of a memory comes from an input.
-use Rattle.std.proofs.Common.{◌≡◌, ◌∙◌, ◌∷◌, true, false, ap, refl, sym, subst, Some}
+use Rattle.std.proofs.Common.{◌≡◌, ◌∙◌, ◌∷◌, false, ap, refl, sym, subst, Some}
 use Rattle.std.specs.Prelude.{IsTrue}
 use Rattle.std.proofs.lemmas.Bool.{false≢true}
-use Rattle.wb_values.specs.Value.{Name}
 use Rattle.verilog_trees.specs.Syntax.{Expression, Target, input}
 use Rattle.verilog_meaning.specs.Expression.{Scope, is_memory}
 use Rattle.verilog_meaning.specs.Register.{combinational_blocks, may_reach}
@@ -13,7 +12,6 @@ use Rattle.verilog_settled.proofs.Assigned.{takes_reach}
 use Rattle.verilog_unique.proofs.Descent.{among_contains}
 use Rattle.verilog_unique.proofs.Paths.{placed_in}
 use Rattle.verilog_unique.proofs.Values.{same_values}
-use Rattle.verilog_exists.specs.Exists.{IsOfText}
 use Rattle.verilog_exists.proofs.Links.{Link, IsLink, of_assignment, of_output, of_input, assignment_link, output_link, input_link}
 use Rattle.verilog_exists.proofs.Givers.{IsSound}
 use Rattle.verilog_exists.proofs.Rounds.{reached_name}
@@ -21,7 +19,7 @@ use Rattle.verilog_exists.proofs.Declared.{assigned_name}
 use Rattle.verilog_exists.proofs.Drivers.{is_sound}
 use Rattle.verilog_exists.proofs.Valued.{ranges_have_values}
 use Rattle.map_rules.specs.Inputs.{ComesFromInput, itself, through}
-use Rattle.input_free.specs.Free.{SettleAlike, IsInnerMemory, MemoriesAreInputFree}
+use Rattle.input_free.specs.Free.{IsInnerMemory, MemoriesAreInputFree}
 use Rattle.input_free.proofs.Free.{inputs_are_not_seen}
 
 some_same : {A : Type 0} {x y : A} → Some x ≡ Some y → x ≡ y

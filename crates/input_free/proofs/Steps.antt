@@ -1,12 +1,12 @@
 -- Where two valuations that settled for the same registers differ at a bit that comes from no input, they differ at such a bit on which it depends.
-use Rattle.std.proofs.Common.{◌≡◌, ℕ, Bool, true, false, List, [], ◌∷◌, inl, inr, refl, sym, ap, ◌∙◌, subst, Some}
+use Rattle.std.proofs.Common.{◌≡◌, ℕ, List, [], ◌∷◌, inl, inr, refl, sym, ◌∙◌, subst, Some}
 use Rattle.std.specs.Prelude.{IsTrue}
 use Rattle.std.specs.List.{Contains}
 use Rattle.wb_values.specs.Value.{Name, Valuation}
 use Rattle.verilog_trees.specs.Syntax.{Expression, Target, Statement, Direction, output}
 use Rattle.verilog_meaning.specs.Expression.{Scope}
 use Rattle.verilog_meaning.specs.Register.{combinational_blocks, value_bit, may_reach, may_assign, one_may_assign}
-use Rattle.verilog_meaning.specs.Hierarchy.{instance_step, Placed, placed_scope, dotted}
+use Rattle.verilog_meaning.specs.Hierarchy.{instance_step, Placed, placed_scope}
 use Rattle.verilog_meaning.specs.Settled.{Design, at_path, IsPlacedIn, inside, IsDeclared, HasPort, assignments, whole_of, whole_name, port_connections, one_may_reach, IsDriven, by_clock, by_block, by_assignment, by_top_input, by_input, by_output, IsSettled}
 use Rattle.verilog_designs.specs.Names.{names_in, names_in_statement, all_item_mentions}
 use Rattle.verilog_designs.specs.Dependence.{Bit, PlacedBit, bit_of, Depends, DependsFar}
@@ -21,7 +21,7 @@ use Rattle.verilog_unique.proofs.Mentioned.{AreUsed, in_module, assignment_used,
 use Rattle.verilog_unique.proofs.Parameters.{net_is_declared}
 use Rattle.verilog_unique.proofs.Ports.{port_is_declared}
 use Rattle.verilog_unique.proofs.Steps.{stable}
-use Rattle.map_rules.specs.Inputs.{IsInputBit, ComesFromInput, itself, through}
+use Rattle.map_rules.specs.Inputs.{ComesFromInput, itself, through}
 
 -- ---- one of a list
 

@@ -1,4 +1,5 @@
-//! What an expression that uses no input is worth does not depend on inputs. The functions have no code: each carries a law.
+//! What uses no input is worth the same whatever the inputs are: bits, expressions of a map, and the terms that are mapped to states and
+//! invariants. The functions have no code: they carry the laws.
 #![tactic(auto)]
 
 pub mod laws;

@@ -1,5 +1,5 @@
 -- Values that agree on the first registers and on the inputs of some cycles show the same facts within these.
-use Rattle.std.proofs.Common.{◌≡◌, ◌∙◌, ℕ, zero, suc, ◌<◌, ◌≤◌, List, [], ◌∷◌, map, slice_get, Some, refl, sym, ap, ap₂, subst, arith}
+use Rattle.std.proofs.Common.{◌≡◌, ◌∙◌, ℕ, zero, suc, ◌<◌, ◌≤◌, List, [], ◌∷◌, Some, sym, ap, ap₂, subst, arith}
 use Rattle.std.specs.Prelude.{IsTrue}
 use Rattle.wb_values.specs.Value.{Value, as_truth, Valuation}
 use Rattle.model_meaning.specs.Model.{Model, StateDeclaration, Instruction, states_of, state_named}
@@ -7,8 +7,8 @@ use Rattle.model_meaning.specs.Instruction.{Does, DecodesAt, IsInstruction, IsSt
 use Rattle.refinement.specs.Obligation.{Fact, reset_active, reset_inactive, assumed, invariant, start, no_start, decoded, commit, no_commit, initial, same, one_decodes, ends, result_of, never}
 use Rattle.ila_child.specs.State.{state_valuation, input_valuation}
 use Rattle.v_design.specs.Parts.{Parts, value_in, registers_after}
-use Rattle.mapped_designs.specs.Mapped.{Mapped, MappedInstruction}
-use Rattle.mapped_designs.specs.Runs.{Values, registers_at, worth_at, zero_inputs, worth_of_registers_at, HoldsAt, ShowsCommit, shown_state, shown_inputs, Shows, ShowsAll}
+use Rattle.mapped_designs.specs.Mapped.{Mapped}
+use Rattle.mapped_designs.specs.Runs.{Values, registers_at, worth_at, zero_inputs, worth_of_registers_at, HoldsAt, shown_state, shown_inputs, Shows, ShowsAll}
 use Rattle.mapped_runs.specs.Valued.{IsWithin, AreWithin, Agree, LaterInputsDoNotMatter}
 use Rattle.mapped_runs.proofs.Lists.{alike}
 

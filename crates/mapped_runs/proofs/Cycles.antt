@@ -1,10 +1,9 @@
 -- The registers at each cycle of a run are those that its values go on to.
-use Rattle.std.proofs.Common.{◌≡◌, ◌≢◌, ◌∙◌, ℕ, zero, suc, ◌<◌, ◌≤◌, ◌^◌, Bool, true, false, not, List, [], ◌∷◌, ◌++◌, length, get_or, map, Some, refl, sym, ap, ap₂, subst, arith, pow_pos}
-use Rattle.std.specs.Prelude.{IsTrue}
+use Rattle.std.proofs.Common.{◌≡◌, ◌≢◌, ◌∙◌, ℕ, zero, suc, ◌<◌, ◌≤◌, Bool, true, false, not, List, [], ◌∷◌, length, get_or, map, Some, refl, sym, ap, ap₂, subst, arith, pow_pos}
 use Rattle.std.proofs.lemmas.Bool.{and_parts, false≢true}
-use Rattle.wb_values.specs.Value.{Name, Sort, truth, word, memory, Value, number, Valuation, HasSort, Entries, valuation_of, value_or_zero}
+use Rattle.wb_values.specs.Value.{Name, Sort, truth, word, memory, Value, number, Valuation, HasSort, Entries, value_or_zero}
 use Rattle.verilog_trees.specs.Syntax.{input}
-use Rattle.verilog_meaning.specs.Expression.{Object, object_width, is_memory}
+use Rattle.verilog_meaning.specs.Expression.{object_width, is_memory}
 use Rattle.verilog_meaning.specs.Register.{word_count, value_bit}
 use Rattle.verilog_meaning.specs.Hierarchy.{Placed, placed_scope, dotted}
 use Rattle.verilog_meaning.specs.Settled.{Design, at_path, HasPort, IsValueOf, is_counted, inside, IsSettled}
@@ -14,7 +13,7 @@ use Rattle.refinement.specs.Map.{Setting, design_of}
 use Rattle.refinement.specs.Run.{Run, IsRun}
 use Rattle.ila_model.specs.Meaning.{zero_of}
 use Rattle.wb_terms.specs.Graph.{HasDistinctNames}
-use Rattle.wb_terms.specs.Environment.{AreOfSorts, values_by_name}
+use Rattle.wb_terms.specs.Environment.{AreOfSorts}
 use Rattle.wb_terms.proofs.EnvironmentLemmas.{length-AreOfSorts}
 use Rattle.wb_terms.proofs.EnvironmentLemmas as environment
 use Rattle.v_design.specs.Parts.{Parts, registers_of, inputs_of, value_in, registers_after, is_word, are_words}

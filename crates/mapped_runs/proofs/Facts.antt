@@ -1,14 +1,13 @@
 -- A fact within the cycles of a run holds of it exactly where its values show it.
-use Rattle.std.proofs.Common.{◌≡◌, ◌∙◌, ◌↔◌, ℕ, zero, suc, ◌<◌, ◌≤◌, Bool, true, false, ◌==◌, List, [], ◌∷◌, ◌++◌, map, slice_get, Option, Some, None, refl, sym, ap, ap₂, subst, arith}
+use Rattle.std.proofs.Common.{◌≡◌, ◌∙◌, ◌↔◌, ℕ, ◌<◌, ◌≤◌, Bool, ◌==◌, List, [], ◌∷◌, ◌++◌, map, slice_get, Option, Some, None, refl, sym, subst, arith}
 use Rattle.std.specs.Prelude.{IsTrue}
 use Rattle.std.proofs.lemmas.Bool.{false≢true}
 use Rattle.std.proofs.lemmas.Bool.Decides.{nat_tests}
-use Rattle.wb_values.specs.Value.{Name, Value, truth_value, as_truth, as_number, Valuation}
+use Rattle.wb_values.specs.Value.{Value, truth_value, as_truth, as_number, Valuation}
 use Rattle.model_meaning.specs.Model.{StateDeclaration, Instruction, instruction_name, states_of, instructions_in, state_named}
 use Rattle.model_meaning.specs.Instruction.{Does, DecodesAt, IsInstruction, IsStarted}
 use Rattle.verilog_trees.specs.Syntax.{Expression}
-use Rattle.verilog_meaning.specs.Settled.{IsSettled}
-use Rattle.refinement.specs.Map.{Setting, InstructionMap, design_of, condition_holds, mapped_state, mapped_inputs, instruction_map}
+use Rattle.refinement.specs.Map.{Setting, InstructionMap, design_of, condition_holds, instruction_map}
 use Rattle.refinement.specs.Run.{Run, IsRun, IsResetAt, HoldsOf}
 use Rattle.refinement.specs.Refinement.{state_at, inputs_at, CommitsAt}
 use Rattle.refinement.specs.Obligation.{Fact, reset_active, reset_inactive, assumed, invariant, start, no_start, decoded, commit, no_commit, initial, same, one_decodes, ends, result_of, never, Means, MeansAll}
@@ -18,7 +17,7 @@ use Rattle.mapped_designs.specs.Runs.{Values, worth_at, worth_of_registers_at, H
 use Rattle.mapped_designs.specs.Meaning.{Tells, IsMappedBy, is_reset_active, condition_value, commit_holds, commit_value}
 use Rattle.mapped_runs.specs.Sound.{IsSoundDesign}
 use Rattle.mapped_runs.specs.Valued.{HasValues, IsWithin, AreWithin, RunsShow}
-use Rattle.mapped_runs.proofs.Lists.{Beside, beside, front_same, back_same, alike}
+use Rattle.mapped_runs.proofs.Lists.{beside, front_same, back_same, alike}
 use Rattle.mapped_runs.proofs.Cycles.{no_inputs, no_inputs_are, registers_are, worth_is, worth_of_registers_is}
 use Rattle.mapped_runs.proofs.Named.{state_listed, inputs_listed}
 

@@ -1,19 +1,19 @@
 -- Where the terms of registers are of their sorts, the clock's edge keeps sorts.
-use Rattle.std.proofs.Common.{◌≡◌, ◌∙◌, ◌<◌, ◌++◌, ◌==◌, nat_lt, ℕ, zero, suc, Bool, true, false, ◌&&◌, List, [], ◌∷◌, length, get_or, take, drop, map, Option, Some, None, refl, sym, ap, subst, arith}
-use Rattle.std.specs.Prelude.{Contains, ⊤}
+use Rattle.std.proofs.Common.{◌≡◌, ◌∙◌, ◌<◌, ◌++◌, ◌==◌, nat_lt, ℕ, zero, suc, true, List, [], ◌∷◌, length, get_or, map, Option, Some, None, refl, sym, ap, subst, arith}
+use Rattle.std.specs.Prelude.{All, ⊤}
 use Rattle.std.proofs.lemmas.Bool.{and_parts, false≢true}
 use Rattle.std.proofs.lemmas.Bool.Decides.{nat_tests}
 use Rattle.std.proofs.lemmas.List.{take-append-drop}
 use Rattle.wb_values.specs.Value.{Sort, truth, word, memory, Value, number, Entries, HasSort, Valuation}
-use Rattle.model_meaning.specs.Term.{Term, sort_of, same_sort, val}
+use Rattle.model_meaning.specs.Term.{Term, sort_of, same_sort}
 use Rattle.wb_terms.specs.declared.nodes.Node.{Node}
 use Rattle.wb_terms.specs.declared.nodes.Node.TheVariants.{Name, Truth, Const, Not, And, Or, Xor, Neg, Add, Sub, Mul, Shl, Lshr, Ashr, Eq, Ult, Ule, Slt, Sle, Concat, Extract, Zext, Sext, Ite, Load, Store}
-use Rattle.wb_terms.specs.Graph.{Graph, tree, tree_at, tree_of, trees_after, trees_of, leaf_at, AllBelow, names_of}
+use Rattle.wb_terms.specs.Graph.{tree, tree_at, tree_of, trees_after, trees_of, leaf_at, AllBelow, names_of}
 use Rattle.wb_terms.specs.Environment.{AreOfSorts}
 use Rattle.wb_terms.proofs.EnvironmentLemmas.{value_at, sort_at}
 use Rattle.wb_terms.proofs.ValueSorts.{NamesFit, HasSort-val}
 use Rattle.wb_terms.specs.Graph.{HasDistinctNames}
-use Rattle.v_design.specs.Parts.{Parts, registers_of, inputs_of, at_cycle, value_in, registers_after, has_sort, is_term_of, are_terms_of}
+use Rattle.v_design.specs.Parts.{Parts, registers_of, inputs_of, at_cycle, value_in, has_sort, is_term_of, are_terms_of}
 use Rattle.mapped_runs.specs.Sound.{NamesAreDeclared, KeepsSorts}
 
 joined : (ns ms : Entries Sort) (xs ys : List Value) → AreOfSorts ns xs → AreOfSorts ms ys → AreOfSorts (ns ++ ms) (xs ++ ys)
@@ -27,9 +27,9 @@ abbrev AllNamed : ℕ → List Node → Type 0
 AllNamed count [] = ⊤
 AllNamed count (n ∷ ns) = AllBelow count (names_of n) × AllNamed count ns
 
-all_named : (count : ℕ) (ns : List Node) → ((n : Node) → Contains ns n → AllBelow count (names_of n)) → AllNamed count ns
+all_named : (count : ℕ) (ns : List Node) → All (λ n. AllBelow count (names_of n)) ns → AllNamed count ns
 all_named count [] h = tt
-all_named count (n ∷ ns) h = (h n (0, omega arith, refl), all_named count ns (λ m c. let l = c.1 in h m (suc c.0, omega (arith, l), c.2)))
+all_named count (n ∷ ns) h = (h 0 n (omega arith), all_named count ns (λ k d l. h (suc k) d (omega (arith, l))))
 
 abbrev AllFit : Valuation → List Term → Type 0
 AllFit v [] = ⊤

@@ -6,10 +6,4 @@ pub mod Named
 pub mod Facts
 pub mod Agreeing
 pub mod ValuesOfRuns
-pub mod Within
-pub mod Breaking
-pub mod Commands
-pub mod Stable
 pub mod RunsOfValues
-pub mod Decides
-pub mod Still

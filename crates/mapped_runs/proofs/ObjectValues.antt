@@ -1,5 +1,5 @@
 -- Values of nets, variables and memories, and values of sorts.
-use Rattle.std.proofs.Common.{◌≡◌, ◌∙◌, ℕ, zero, suc, ◌^◌, ◌<◌, ◌≤◌, Bool, true, false, not, ◌==◌, nat_lt, nat_le, List, [], ◌∷◌, length, slice_index, replicate, map, ◌⊎◌, inl, inr, refl, sym, ap, subst, arith, pow_pos, pow_mono, le_antisymm}
+use Rattle.std.proofs.Common.{◌≡◌, ◌∙◌, ℕ, zero, suc, ◌^◌, ◌<◌, ◌≤◌, Bool, true, false, not, ◌==◌, nat_lt, nat_le, List, [], ◌∷◌, length, slice_index, map, inl, inr, refl, sym, ap, subst, arith, pow_pos, pow_mono, le_antisymm}
 use Rattle.std.specs.Int.{bit_at}
 use Rattle.std.proofs.lemmas.Bool.{and_parts, and_from, false≢true, cases_lt}
 use Rattle.std.proofs.lemmas.Bool.Decides.{nat_tests}
@@ -8,7 +8,7 @@ use Rattle.std.proofs.lemmas.Nat.Bits.{bit_at-lt, bit_at-zero, same_from_bits}
 use Rattle.wb_values.specs.Value.{Sort, truth, word, memory, Value, truth_value, number, words, all_below, HasSort}
 use Rattle.verilog_meaning.specs.Expression.{Object, object_width, is_memory}
 use Rattle.verilog_meaning.specs.Register.{word_count, is_set, value_bit}
-use Rattle.verilog_meaning.specs.Settled.{IsAddressWidth, AreWords, IsValueOf}
+use Rattle.verilog_meaning.specs.Settled.{IsAddressWidth, IsValueOf}
 use Rattle.v_design.specs.Design.{IsSortOf}
 
 -- ---- numbers and words

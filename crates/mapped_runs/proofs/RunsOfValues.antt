@@ -1,18 +1,16 @@
 -- Values of the design's sorts, 0 in what does not count, are those of a run of every length.
-use Rattle.std.proofs.Common.{◌≡◌, ◌≢◌, ◌∙◌, ℕ, zero, suc, ◌<◌, ◌≤◌, ◌^◌, Bool, true, false, not, nat_lt, List, [], ◌∷◌, length, get_or, slice_index, slice_get, Option, Some, None, refl, sym, ap, subst, arith}
+use Rattle.std.proofs.Common.{◌≡◌, ◌∙◌, ℕ, zero, suc, ◌<◌, ◌≤◌, ◌^◌, true, false, not, nat_lt, List, [], ◌∷◌, length, get_or, slice_index, slice_get, Option, Some, None, refl, sym, ap, subst, arith}
 use Rattle.std.proofs.lemmas.Bool.{false≢true}
 use Rattle.std.proofs.lemmas.Bool.Decides.{nat_tests}
-use Rattle.wb_values.specs.Value.{Name, Sort, truth, word, Value, truth_value, number, words, Valuation, HasSort, entry_of, value_or_zero, valuation_of}
+use Rattle.wb_values.specs.Value.{Name, truth, word, Value, truth_value, number, words, Valuation, HasSort, entry_of, value_or_zero, valuation_of}
 use Rattle.model_meaning.specs.Model.{value_or}
-use Rattle.verilog_trees.specs.Syntax.{input}
 use Rattle.verilog_meaning.specs.Expression.{Object, object_width, is_memory}
-use Rattle.verilog_meaning.specs.Register.{word_count, is_set, value_bit}
+use Rattle.verilog_meaning.specs.Register.{is_set, value_bit}
 use Rattle.verilog_meaning.specs.Hierarchy.{Placed, placed_scope, dotted}
-use Rattle.verilog_meaning.specs.Settled.{Design, at_path, IsPlacedIn, IsDeclared, HasPort, IsValueOf, is_counted, IsSettled}
+use Rattle.verilog_meaning.specs.Settled.{Design, at_path, IsPlacedIn, IsDeclared, IsValueOf, is_counted, IsSettled}
 use Rattle.verilog_meaning.specs.Next.{AreRegisters, AreInputs}
 use Rattle.verilog_designs.specs.Accepted.{IsAccepted}
 use Rattle.refinement.specs.Map.{design_of}
-use Rattle.refinement.specs.Run.{Run, IsRun}
 use Rattle.verilog_exists.specs.Exists.{NamesHaveNoDots, IsOfText}
 use Rattle.verilog_exists.proofs.Dots.{dots_tell}
 use Rattle.verilog_exists.proofs.Spots.{plain_path, plain_declared}
@@ -134,10 +132,10 @@ values_have_runs s e x accepted text meant sound sorted rest =
     (are_registers d e meant sound accepted text x sorted rest) (are_inputs d e meant sound accepted text x sorted rest) in (
       run.0,
       λ cycles. (
-          run.3 cycles,
-          record {
-            first = ap (values_under (registers_of e)) run.1 ∙ registers_have d e meant sound accepted text x sorted rest;
-            inputs = λ t l. ap (λ (f : ℕ → Valuation). values_under (inputs_of e) (f t)) run.2 ∙ inputs_have d e meant sound accepted text x sorted rest t;
-          },
-        ),
+        run.3 cycles,
+        record {
+          first = ap (values_under (registers_of e)) run.1 ∙ registers_have d e meant sound accepted text x sorted rest;
+          inputs = λ t l. ap (λ (f : ℕ → Valuation). values_under (inputs_of e) (f t)) run.2 ∙ inputs_have d e meant sound accepted text x sorted rest t;
+        },
+      ),
     )

@@ -1,23 +1,22 @@
 -- Every run has values, of the design's sorts, and 0 in what does not count.
-use Rattle.std.proofs.Common.{◌≡◌, ◌∙◌, ℕ, zero, suc, ◌<◌, ◌≤◌, Bool, true, false, cond, nat_lt, List, [], ◌∷◌, length, get_or, map, slice_get, slice_index, Some, None, refl, sym, ap, subst, arith}
-use Rattle.std.specs.Prelude.{Contains, IsTrue}
+use Rattle.std.proofs.Common.{◌≡◌, ◌∙◌, ℕ, zero, suc, ◌<◌, ◌≤◌, Bool, true, false, cond, nat_lt, List, [], ◌∷◌, length, slice_get, Some, None, refl, sym, ap, subst, arith}
+use Rattle.std.specs.Prelude.{Contains}
 use Rattle.std.proofs.lemmas.Bool.{and_parts, false≢true}
 use Rattle.std.proofs.lemmas.Bool.Decides.{nat_tests}
 use Rattle.std.proofs.lemmas.List.{length-map}
 use Rattle.wb_values.specs.Value.{Name, Sort, Value, number, Valuation, Entries}
-use Rattle.verilog_meaning.specs.Register.{is_set, value_bit}
-use Rattle.verilog_meaning.specs.Hierarchy.{Placed, dotted}
-use Rattle.verilog_meaning.specs.Settled.{Design, is_counted, inside}
+use Rattle.verilog_meaning.specs.Register.{value_bit}
+use Rattle.verilog_meaning.specs.Settled.{Design, inside}
 use Rattle.verilog_meaning.specs.Next.{AreRegisters}
-use Rattle.refinement.specs.Map.{Setting, design_of}
-use Rattle.refinement.specs.Run.{Run, IsRun}
+use Rattle.refinement.specs.Map.{design_of}
+use Rattle.refinement.specs.Run.{Run}
 use Rattle.wb_terms.specs.Environment.{AreOfSorts}
 use Rattle.v_design.specs.Registers.{CountedBits, AreBitsOf}
 use Rattle.v_design.specs.Parts.{Parts, registers_of, inputs_of, under_names, are_bits_of, are_bits_for}
 use Rattle.v_design.specs.Design.{values_under, IsDesignOf}
-use Rattle.mapped_designs.specs.Runs.{Values, AreValuesOf, IsRestZero, zero_inputs}
+use Rattle.mapped_designs.specs.Runs.{IsRestZero, zero_inputs}
 use Rattle.mapped_runs.specs.Sound.{IsSoundDesign}
-use Rattle.mapped_runs.specs.Valued.{HasValues, RunsHaveValues}
+use Rattle.mapped_runs.specs.Valued.{RunsHaveValues}
 use Rattle.mapped_runs.proofs.Lists.{name_at, there_inside, there_is, values_at}
 use Rattle.mapped_runs.proofs.Cycles.{IsRegisterAt, register_at, fit_registers, fit_inputs, no_inputs, no_inputs_are, zeros_are}
 

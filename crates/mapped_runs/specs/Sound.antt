@@ -1,7 +1,6 @@
 -- What holds of the parts of every design that is kept as terms, whatever the design is.
-use Rattle.std.specs.Prelude.{List, length, Contains, IsTrue}
+use Rattle.std.specs.Prelude.{List, length, All, IsTrue}
 use Rattle.wb_values.specs.Value.{Value}
-use Rattle.wb_terms.specs.declared.nodes.Node.{Node}
 use Rattle.wb_terms.specs.Graph.{AllBelow, names_of, HasDistinctNames}
 use Rattle.wb_terms.specs.Environment.{AreOfSorts}
 use Rattle.v_design.specs.Parts.{Parts, registers_of, inputs_of, registers_after, are_terms_of, are_bits_for, are_words}
@@ -18,7 +17,7 @@ pub record IsSoundDesign (e : Parts) : Type 0 where
 
 -- The store's nodes name no name that is not in its table.
 abbrev pub NamesAreDeclared : Parts → Type 0
-NamesAreDeclared e = (n : Node) → Contains e.graph.nodes n → AllBelow (length e.graph.names) (names_of n)
+NamesAreDeclared e = All (λ n. AllBelow (length e.graph.names) (names_of n)) e.graph.nodes
 
 -- Where the registers' terms are of their sorts, the edge keeps sorts.
 abbrev pub SortedTermsKeepSorts : Type 0

@@ -1,5 +1,5 @@
 -- Values of a run: those of its first registers, and of its inputs at each cycle. Each fact says the same of a run and of its values.
-use Rattle.std.specs.Prelude.{◌≡◌, ◌↔◌, ℕ, suc, ◌<◌, ◌≤◌, List, [], ◌∷◌, ⊤}
+use Rattle.std.specs.Prelude.{◌≡◌, ◌↔◌, ℕ, ◌<◌, ◌≤◌, List, [], ◌∷◌, ⊤}
 use Rattle.refinement.specs.Map.{Setting, design_of}
 use Rattle.refinement.specs.Run.{Run, IsRun}
 use Rattle.refinement.specs.Obligation.{Fact, reset_active, reset_inactive, assumed, invariant, start, no_start, decoded, commit, no_commit, initial, same, one_decodes, ends, result_of, never, Means}

@@ -1,17 +1,17 @@
 -- Values that are a whole command of an instruction, and runs that are one.
-use Rattle.std.proofs.Common.{◌≡◌, ◌∙◌, ℕ, suc, ◌<◌, ◌≤◌, slice_get, Some, sym, subst, arith}
+use Rattle.std.proofs.Common.{◌≡◌, ◌∙◌, ℕ, suc, ◌<◌, ◌≤◌, sym, subst, arith}
 use Rattle.model_meaning.specs.Model.{Instruction, instruction_name, instructions_in}
-use Rattle.refinement.specs.Map.{design_of}
 use Rattle.refinement.specs.Obligation.{ended_at, bound_named}
 use Rattle.mapped_designs.specs.Mapped.{MappedInstruction}
 use Rattle.mapped_designs.specs.Runs.{Values, IsRestZero}
 use Rattle.mapped_runs.specs.Valued.{Agree}
-use Rattle.mapped_runs.specs.Commands.{CommandRestsOnItsBound, WholeCommandsAreShown}
+use Rattle.mapped_obligations.specs.Commands.{CommandRestsOnItsBound, WholeCommandsAreShown, CommandsAreWhole}
 use Rattle.mapped_runs.proofs.Lists.{beside, some_same}
-use Rattle.mapped_runs.proofs.Within.{ended_within}
+use Rattle.mapped_obligations.proofs.Within.{ended_within}
 use Rattle.mapped_runs.proofs.Agreeing.{shown_all}
 use Rattle.mapped_runs.proofs.Facts.{shows_all}
 use Rattle.mapped_runs.proofs.ValuesOfRuns.{runs_have_values}
+use Rattle.mapped_runs.proofs.RunsOfValues.{values_have_runs}
 
 -- fewer cycles
 agree_on : (many few : ℕ) (x y : Values) → few ≤ many → Agree many x y → Agree few x y
@@ -48,4 +48,23 @@ whole_shown s e j run mapped sound h =
         below = subst (λ n. c < n) b.is_same h.3;
         hypotheses = (shows_all s e run (suc c) values.0 mapped sound is_run values.1 (ended_at s.map j c) (ended_within s.map j c)).0 h.5;
       },
+    )
+
+pub commands_are_whole : CommandsAreWhole
+commands_are_whole s e j x accepted text mapped sound sorted h =
+    let r = values_have_runs s e.parts x accepted text mapped.design sound sorted h.rest in
+    let run = r.0 in
+    let c = h.cycle in
+    let n = r.1 (suc c) in
+    let b = beside (λ (k : MappedInstruction). k.bound) (λ (i : Instruction). bound_named s.map (instruction_name i)) e.instructions (instructions_in s.model.top) j h.ending mapped.bounds h.is_ending in (
+      run,
+      (
+        b.other,
+        b.is_there,
+        c,
+        subst (λ k. c < k) b.is_same h.below,
+        n.0,
+        (shows_all s e run (suc c) x mapped sound n.0 n.1 (ended_at s.map j c) (ended_within s.map j c)).1 h.hypotheses,
+      ),
+      λ cycles. (r.1 cycles).1,
     )

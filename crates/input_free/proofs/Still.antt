@@ -1,21 +1,16 @@
 -- Terms of states and invariants do not depend on inputs, where what is mapped uses none.
-use Rattle.std.proofs.Common.{◌≡◌, ◌∙◌, ℕ, zero, suc, List, [], ◌∷◌, ◌++◌, map, slice_get, Option, Some, None, refl, sym, ap}
+use Rattle.std.proofs.Common.{◌≡◌, ◌∙◌, ℕ, suc, List, [], ◌∷◌, ◌++◌, map, slice_get, Option, Some, None, refl, sym, ap}
 use Rattle.wb_values.specs.Value.{Name, Sort, truth, word, memory, Value, truth_value, number, words, as_words, Valuation, entry_of}
 use Rattle.model_meaning.specs.Model.{StateDeclaration, states_of, state_named}
 use Rattle.verilog_trees.specs.Syntax.{Expression}
-use Rattle.verilog_meaning.specs.Settled.{IsSettled}
-use Rattle.verilog_meaning.specs.Next.{AreRegisters, AreInputs}
-use Rattle.verilog_designs.specs.Accepted.{IsAccepted}
-use Rattle.verilog_exists.specs.Exists.{IsOfText}
 use Rattle.verilog_exists.proofs.Exists.{settled_exists}
-use Rattle.refinement.specs.Map.{Setting, design_of, condition_holds, mapped_memory, mapped_value, mapped_or_zero, mapped_state, sort_of_state}
+use Rattle.refinement.specs.Map.{Setting, design_of, mapped_memory, mapped_value, mapped_or_zero, mapped_state, sort_of_state}
 use Rattle.input_free.specs.Free.{SettleAlike}
 use Rattle.input_free.proofs.Free.{values_are_free, conditions_are_free}
 use Rattle.input_free.proofs.Memories.{memories_are_free}
 use Rattle.v_design.specs.Design.{worth}
-use Rattle.mapped_designs.specs.Mapped.{Mapped}
 use Rattle.mapped_designs.specs.Meaning.{condition_value}
-use Rattle.mapped_runs.specs.Still.{IsStillFor, IsStillMap, TellsEverywhere, StillMapsStandStill}
+use Rattle.input_free.specs.Still.{IsStillFor, IsStillMap, StillMapsStandStill}
 
 alike_at : {A : Type 0} (f g : A → Value) (xs : List A) → ((k : ℕ) (x : A) → slice_get xs k ≡ Some x → f x ≡ g x) → map f xs ≡ map g xs
 alike_at f g [] h = refl

@@ -1,13 +1,12 @@
 -- All obligations of a map speak of their own cycles alone.
-use Rattle.std.proofs.Common.{◌≡◌, ◌∙◌, ℕ, zero, suc, ◌+◌, ◌-◌, ◌<◌, ◌≤◌, Bool, true, false, cond, List, [], ◌∷◌, ◌++◌, length, get_or, slice_get, Some, refl, sym, ap, subst, arith}
-use Rattle.std.specs.Prelude.{Contains, ⊤, is_some, codes, decimal}
+use Rattle.std.proofs.Common.{◌≡◌, ℕ, zero, suc, ◌+◌, ◌-◌, ◌<◌, ◌≤◌, List, [], ◌∷◌, ◌++◌, length, get_or, slice_get, Some, refl, sym, ap, subst, arith}
+use Rattle.std.specs.Prelude.{⊤, codes, decimal}
 use Rattle.wb_values.specs.Value.{Name}
 use Rattle.model_meaning.specs.Model.{Model, StateDeclaration, Instruction, instruction_name, Child, no_child, child, child_program, states_of, instructions_in}
-use Rattle.refinement.specs.Map.{Setting, Map, instruction_map}
-use Rattle.refinement.specs.Obligation.{Fact, reset_active, reset_inactive, assumed, invariant, start, no_start, decoded, commit, no_commit, initial, same, one_decodes, ends, result_of, never, Obligation, for_each, invariants_at, premises_at, numbered, invariant_obligations, state_obligations, with_initial_values, reset_obligations, idle_obligations, start_hypotheses, decode_obligation, started_by, running_at, running, not_ended, ended_at, child_obligations, bound_obligation, commit_obligations, bound_in, bound_named, instruction_obligations, all_instruction_obligations, obligations}
-use Rattle.refinement.specs.Soundness.{IsComplete}
+use Rattle.refinement.specs.Map.{Map}
+use Rattle.refinement.specs.Obligation.{Fact, reset_active, assumed, invariant, start, no_start, decoded, commit, no_commit, initial, same, result_of, Obligation, for_each, invariants_at, premises_at, numbered, invariant_obligations, state_obligations, with_initial_values, reset_obligations, idle_obligations, start_hypotheses, decode_obligation, started_by, running_at, running, not_ended, ended_at, child_obligations, bound_obligation, commit_obligations, bound_in, bound_named, instruction_obligations, all_instruction_obligations, obligations}
 use Rattle.mapped_runs.specs.Valued.{IsWithin, AreWithin}
-use Rattle.mapped_runs.specs.Breaking.{IsWithinCycles, ObligationsAreWithin}
+use Rattle.mapped_obligations.specs.Breaking.{IsWithinCycles, ObligationsAreWithin}
 
 -- ---- facts
 

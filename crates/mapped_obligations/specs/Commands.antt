@@ -1,7 +1,9 @@
 -- Values that are a whole command of an instruction, and runs that are one.
 use Rattle.std.specs.Prelude.{◌≡◌, ℕ, slice_get, Some}
 use Rattle.model_meaning.specs.Model.{Model}
-use Rattle.refinement.specs.Map.{Map, Setting}
+use Rattle.verilog_designs.specs.Accepted.{IsAccepted}
+use Rattle.verilog_exists.specs.Exists.{IsOfText}
+use Rattle.refinement.specs.Map.{Map, Setting, design_of}
 use Rattle.refinement.specs.Run.{Run}
 use Rattle.refinement.specs.Obligation.{IsWholeCommand}
 use Rattle.mapped_designs.specs.Mapped.{Mapped, MappedInstruction}
@@ -9,7 +11,7 @@ use Rattle.mapped_designs.specs.Runs.{Values, AreValuesOf}
 use Rattle.mapped_designs.specs.Broken.{IsCommandBy}
 use Rattle.mapped_designs.specs.Meaning.{IsMappedBy}
 use Rattle.mapped_runs.specs.Sound.{IsSoundDesign}
-use Rattle.mapped_runs.specs.Valued.{Agree}
+use Rattle.mapped_runs.specs.Valued.{HasValues, Agree}
 
 -- Whether values are a whole command does not rest on inputs past the instruction's bound.
 abbrev pub CommandRestsOnItsBound : Type 0
@@ -22,3 +24,9 @@ abbrev pub WholeCommandsAreShown : Type 0
 WholeCommandsAreShown =
     (s : Setting) (e : Mapped) (j : ℕ) (run : Run) → IsMappedBy s e → IsSoundDesign e.parts → IsWholeCommand s j run
     → (x : Values) × AreValuesOf e.parts x × IsCommandBy s.model e s.map x j
+
+-- Values that are a whole command of an instruction are those of a run that is one.
+abbrev pub CommandsAreWhole : Type 0
+CommandsAreWhole =
+    (s : Setting) (e : Mapped) (j : ℕ) (x : Values) → IsAccepted (design_of s) → IsOfText (design_of s) → IsMappedBy s e → IsSoundDesign e.parts
+    → AreValuesOf e.parts x → IsCommandBy s.model e s.map x j → (run : Run) × IsWholeCommand s j run × ((cycles : ℕ) → HasValues e.parts run cycles x)

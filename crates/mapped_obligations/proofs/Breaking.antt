@@ -1,9 +1,8 @@
 -- Values that break an obligation, and runs that falsify it.
-use Rattle.std.proofs.Common.{◌≡◌, subst, sym}
+use Rattle.std.proofs.Common.{subst}
 use Rattle.refinement.specs.Map.{design_of}
-use Rattle.refinement.specs.Obligation.{Obligation, Falsifies}
 use Rattle.mapped_designs.specs.Runs.{IsRestZero}
-use Rattle.mapped_runs.specs.Breaking.{BreakingRestsOnItsCycles, FalsifyingRunsBreak}
+use Rattle.mapped_obligations.specs.Breaking.{BreakingRestsOnItsCycles, FalsifyingRunsBreak}
 use Rattle.mapped_runs.proofs.Agreeing.{shown, shown_all, other_way}
 use Rattle.mapped_runs.proofs.Facts.{shows, shows_all}
 use Rattle.mapped_runs.proofs.ValuesOfRuns.{rest_is_zero}

@@ -1,9 +1,9 @@
 -- What is not false of a fact is true: each can be told from values.
-use Rattle.std.proofs.Common.{◌≡◌, ◌≢◌, ◌∙◌, ℕ, Bool, true, false, List, [], ◌∷◌, ◌⊎◌, inl, inr, slice_get, Option, Some, None, refl, sym, ap, subst, arith}
+use Rattle.std.proofs.Common.{◌≡◌, ◌≢◌, ◌∙◌, ℕ, Bool, true, false, List, ◌⊎◌, inl, inr, slice_get, Option, Some, None, refl, sym, ap, subst, arith}
 use Rattle.std.specs.Prelude.{IsTrue}
 use Rattle.std.proofs.lemmas.Bool.{false≢true, cases_eq}
-use Rattle.wb_values.specs.Value.{Name, same_name, Value, truth_value, number, words, as_truth, Valuation}
-use Rattle.model_meaning.specs.Model.{Model, Instruction, states_of, instructions_in, holds, decode_of, point_of}
+use Rattle.wb_values.specs.Value.{same_name, Value, truth_value, number, words, as_truth, Valuation}
+use Rattle.model_meaning.specs.Model.{Model, Instruction, instructions_in, holds, decode_of, point_of}
 use Rattle.model_meaning.specs.Instruction.{Does, DecodesAt, IsInstruction, IsStarted, own_states}
 use Rattle.model_meaning.specs.Outcome.{Outcome, next, not_valid, no_instruction, several, trouble, IsOutcome}
 use Rattle.refinement.specs.Obligation.{Fact, reset_active, reset_inactive, assumed, invariant, start, no_start, decoded, commit, no_commit, initial, same, one_decodes, ends, result_of, never}
@@ -81,11 +81,10 @@ module _ (m : Model) (e : Mapped) (x : Values) where
     some_end j h (Some i) is = elim (instruction_ends i (point_of m q w) 1) as (λ _. (k : Instruction) × IsInstruction m j k × (r : Valuation) × Does m k q w r) [
       | inl does ↦ (i, is, own_states m does.0, (does.0, does.1, refl))
       | inr fails ↦ absurd (h (λ c.
-            let same : c.0 ≡ i = some_same (sym c.1 ∙ is) in
-            let done = subst (λ k. Does m k q w c.2) same c.3 in
-            no_instruction_trouble i (point_of m q w) done.0 1 fails.0 done.1 fails.1))
+          let same : c.0 ≡ i = some_same (sym c.1 ∙ is) in
+          let done = subst (λ k. Does m k q w c.2) same c.3 in
+          no_instruction_trouble i (point_of m q w) done.0 1 fails.0 done.1 fails.1))
     ]
-
 
   -- a fact that is not false is true
   pub stable : (fact : Fact) → ¬ (¬ Shows m e x fact) → Shows m e x fact

@@ -1,0 +1,5 @@
+pub mod Within
+pub mod Breaking
+pub mod Stable
+pub mod Decides
+pub mod Commands
