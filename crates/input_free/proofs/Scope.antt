@@ -113,7 +113,7 @@ no_memory_constant d n t = some (in_map d n)
 
 -- ---- names of a module
 
-declaration_named : (ds : List Declaration) (n : Name) → is_some (declaration_of ds n) ≡ true → is_declared_among ds n ≡ true
+pub declaration_named : (ds : List Declaration) (n : Name) → is_some (declaration_of ds n) ≡ true → is_declared_among ds n ≡ true
 declaration_named [] n h = absurd (false≢true h)
 declaration_named (d ∷ ds) n h = by (same_name d.of_name n) h (declaration_named ds n)
   where

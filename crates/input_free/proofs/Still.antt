@@ -1,6 +1,8 @@
 -- Terms of states and invariants do not depend on inputs, where what is mapped uses none.
-use Rattle.std.proofs.Common.{◌≡◌, ◌∙◌, ℕ, suc, List, [], ◌∷◌, ◌++◌, map, slice_get, Option, Some, None, refl, sym, ap}
-use Rattle.wb_values.specs.Value.{Name, Sort, truth, word, memory, Value, truth_value, number, words, as_words, Valuation, entry_of}
+use Rattle.std.proofs.Common.{◌≡◌, Bool, true, false, ◌∙◌, ℕ, suc, List, [], ◌∷◌, ◌++◌, map, slice_get, Option, Some, None, refl, sym, ap}
+use Rattle.std.proofs.lemmas.Bool.{false≢true}
+use Rattle.std.proofs.lemmas.Slice.Eq.{bytes_eq-Decides}
+use Rattle.wb_values.specs.Value.{Name, same_name, Sort, truth, word, memory, Value, truth_value, number, words, as_words, Valuation, entry_of}
 use Rattle.model_meaning.specs.Model.{StateDeclaration, states_of, state_named}
 use Rattle.verilog_trees.specs.Syntax.{Expression}
 use Rattle.verilog_exists.proofs.Exists.{settled_exists}
@@ -10,7 +12,7 @@ use Rattle.input_free.proofs.Free.{values_are_free, conditions_are_free}
 use Rattle.input_free.proofs.Memories.{memories_are_free}
 use Rattle.v_design.specs.Design.{worth}
 use Rattle.mapped_designs.specs.Meaning.{condition_value}
-use Rattle.input_free.specs.Still.{IsStillFor, IsStillMap, StillMapsStandStill}
+use Rattle.input_free.specs.Still.{NamesMemory, IsStillFor, IsStillMap, StillMapsStandStill}
 
 alike_at : {A : Type 0} (f g : A → Value) (xs : List A) → ((k : ℕ) (x : A) → slice_get xs k ≡ Some x → f x ≡ g x) → map f xs ≡ map g xs
 alike_at f g [] h = refl
@@ -28,14 +30,24 @@ in_turn {A = A} f p q xs ys bs cs e g = both xs e
     both : (zs : List A) → map f zs ≡ map p bs → map f (zs ++ ys) ≡ map p bs ++ map q cs
     both zs h = front zs ∙ (ap (λ vs. vs ++ map f ys) h ∙ ap (λ vs. map p bs ++ vs) g)
 
+-- two lists of which it is refuted that they differ
+one_list : (xs ys : List ℕ) → ¬ (¬ (xs ≡ ys)) → xs ≡ ys
+one_list xs ys h = by (same_name xs ys) refl
+  where
+    by : (t : Bool) → same_name xs ys ≡ t → xs ≡ ys
+    by true e = (bytes_eq-Decides xs ys).0 e
+    by false e = absurd (h (λ f. false≢true (sym e ∙ (bytes_eq-Decides xs ys).1 f)))
+
 module _ (s : Setting) (v w : Valuation) (alike : SettleAlike (design_of s) v w) (still : IsStillMap s) where
+  memory_same : (e : Expression) → NamesMemory (design_of s) e → mapped_memory v e ≡ mapped_memory w e
+  memory_same e h =
+      ap (mapped_memory v) h.is_name
+      ∙ (ap as_words (memories_are_free (design_of s) v w h.within h.own alike h.is_memory) ∙ ap (mapped_memory w) (sym h.is_name))
+
   value_same : (t : Sort) (e : Expression) → IsStillFor (design_of s) t e → mapped_value s v t e ≡ mapped_value s w t e
   value_same truth e h = ap truth_value (conditions_are_free (design_of s) v w e alike h)
   value_same (word u) e h = ap number (values_are_free (design_of s) v w e alike h)
-  value_same (memory a u) e h =
-      ap words
-      (ap (mapped_memory v) h.is_name
-      ∙ (ap as_words (memories_are_free (design_of s) v w h.within h.own alike h.is_memory) ∙ ap (mapped_memory w) (sym h.is_name)))
+  value_same (memory a u) e h = ap words (one_list (mapped_memory v e) (mapped_memory w e) (λ no. h (λ m. no (memory_same e m))))
 
   state_same : (n : Name) → mapped_state s v n ≡ mapped_state s w n
   state_same n = by (state_named (states_of s.model.top) n) refl (entry_of s.map.states n) refl

@@ -1,2 +1,3 @@
 pub mod Free
 pub mod Still
+pub mod AcceptedMaps

@@ -22,11 +22,11 @@ pub record NamesMemory (d : Design) (e : Expression) : Type 0 where
   pub is_memory : IsInnerMemory d within own
   pub is_name : e ≡ name (dotted within.path own) selects
 
--- What a state of this sort is mapped to uses no input.
+-- What a state of this sort is mapped to uses no input. (Of a memory of an accepted map it is known that no rule refuses it.)
 abbrev pub IsStillFor : Design → Sort → Expression → Type 0
 IsStillFor d truth e = IsInputFree d e
 IsStillFor d (word w) e = IsInputFree d e
-IsStillFor d (memory a w) e = NamesMemory d e
+IsStillFor d (memory a w) e = ¬ (¬ NamesMemory d e)
 
 -- So it is with each state of the model, and with each invariant.
 pub record IsStillMap (s : Setting) : Type 0 where
