@@ -7,3 +7,8 @@ pub mod Facts
 pub mod Agreeing
 pub mod ValuesOfRuns
 pub mod RunsOfValues
+pub mod Within
+pub mod Breaking
+pub mod Stable
+pub mod Decides
+pub mod Commands

@@ -1,5 +1,0 @@
-use Rattle.mapped_obligations.proofs.Commands.{command_rests}
-use Rattle.mapped_obligations.proofs.laws.command_rests_on_its_bound.Goals as goal
-
-pub returns : goal.returns
-returns c = command_rests

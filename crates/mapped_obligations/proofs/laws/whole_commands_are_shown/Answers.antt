@@ -1,5 +1,0 @@
-use Rattle.mapped_obligations.proofs.Commands.{whole_shown}
-use Rattle.mapped_obligations.proofs.laws.whole_commands_are_shown.Goals as goal
-
-pub returns : goal.returns
-returns c = whole_shown
