@@ -5,5 +5,3 @@ pub mod Leaves
 pub mod Free
 pub mod Memories
 pub mod Still
-pub mod Spelled
-pub mod AcceptedMaps

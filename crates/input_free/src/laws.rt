@@ -1,5 +1,4 @@
 //! The laws, each the contract of a function without code.
-ghost use Rattle.input_free.specs.AcceptedMaps.{AcceptedMapsAreStill};
 ghost use Rattle.input_free.specs.Free.{InputsAreNotSeen, ValuesAreInputFree, ConditionsAreInputFree, MemoriesAreInputFree};
 ghost use Rattle.input_free.specs.Still.{StillMapsStandStill};
 
@@ -23,9 +22,4 @@ pub fn memories_do_not_depend_on_inputs()
 /// Where what is mapped to states and invariants uses no input, their terms are worth the same under all inputs.
 pub fn still_maps_stand_still()
     ensures { StillMapsStandStill }
-{}
-
-/// A map that no rule refuses gives states and invariants what uses no input.
-pub fn accepted_maps_are_still()
-    ensures { AcceptedMapsAreStill }
 {}

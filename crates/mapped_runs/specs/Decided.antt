@@ -28,6 +28,7 @@ BreakingValuesFalsify =
     (s : Setting) (e : Mapped) (o : Obligation) (x : Values) → IsJudged s e o → AreValuesOf e.parts x → BreaksObligation s.model e x o
     → (run : Run) × Falsifies s run o × HasValues e.parts run o.cycles x
 
+-- It holds exactly where no values of the design's sorts break it.
 abbrev pub ValuesDecide : Type 0
 ValuesDecide =
     (s : Setting) (e : Mapped) (o : Obligation) → IsJudged s e o → Holds s o ↔ ((x : Values) → AreValuesOf e.parts x → ¬ BreaksObligation s.model e x o)

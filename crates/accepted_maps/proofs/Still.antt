@@ -28,9 +28,9 @@ use Rattle.map_rules.specs.Mapped.{IsMemoryPath}
 use Rattle.map_rules.specs.Accepted.{IsMapAccepted, case_of, AreRead, IsStateRead, a_value, a_memory, AreStatesRead}
 use Rattle.input_free.specs.Free.{IsInputFree}
 use Rattle.input_free.specs.Still.{NamesMemory, IsStillFor}
-use Rattle.input_free.specs.AcceptedMaps.{AcceptedMapsAreStill}
+use Rattle.accepted_maps.specs.Still.{AcceptedMapsAreStill}
 use Rattle.input_free.proofs.Scope.{declaration_named}
-use Rattle.input_free.proofs.Spelled.{spelled}
+use Rattle.accepted_maps.proofs.Spelled.{spelled}
 
 some_same : {A : Type 0} {x y : A} → Some x ≡ Some y → x ≡ y
 some_same e = cc
