@@ -1,0 +1,14 @@
+pub mod Lists
+pub mod ObjectValues
+pub mod Keeping
+pub mod Cycles
+pub mod Named
+pub mod Facts
+pub mod Agreeing
+pub mod ValuesOfRuns
+pub mod RunsOfValues
+pub mod Within
+pub mod Breaking
+pub mod Stable
+pub mod Decides
+pub mod Commands
