@@ -1,0 +1,9 @@
+pub mod Dotted
+pub mod Named
+pub mod Values
+pub mod Cycles
+pub mod Grown
+pub mod Standing
+pub mod Made
+pub mod Filling
+pub mod Pathed
