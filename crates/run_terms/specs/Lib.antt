@@ -1,0 +1,4 @@
+pub mod Names
+pub mod Worth
+pub mod Leaves
+pub mod Unrolled
