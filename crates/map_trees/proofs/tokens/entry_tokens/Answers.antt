@@ -1,0 +1,15 @@
+use Rattle.std.proofs.Common.{refl, subst, arith}
+use Rattle.map_file.specs.View.{mapped_view}
+use Rattle.map_trees.specs.Tokens.{IsTokens, IsInputEntry}
+use Rattle.map_trees.proofs.Places.{each_turn, each_end, each_viewed}
+use Rattle.map_trees.proofs.tokens.entry_tokens.Goals as goal
+
+pub loop-entry-preserved : goal.loop-entry-preserved
+loop-entry-preserved c =
+    each_turn (λ x e. IsInputEntry x (mapped_view e)) c.loop-entry.list.items c.push.new.self.items c.args.entries.now c.loop-entry.entry-index _ c.entry-item.result _
+    (omega arith) c.entry-item.is c.in_ok-push.ensures.items (refl, subst (IsTokens c.in_ok-tokens.tokens) c.as_str.ensures.value c.in_ok-tokens.ensures) c.loop-entry.invariant
+
+pub returns : goal.returns
+returns c =
+    each_viewed IsInputEntry mapped_view c.loop-entry.list.items c.args.entries.now
+    (each_end (λ x e. IsInputEntry x (mapped_view e)) c.loop-entry.list.items c.args.entries.now c.loop-entry.entry-index c.loop-entry-test.false c.loop-entry.invariant)
