@@ -1,0 +1,9 @@
+pub mod Placed
+pub mod Hexadecimal
+pub mod Bits
+pub mod Listed
+pub mod Cycles
+pub mod Turns
+pub mod Dots
+pub mod Sorted
+pub mod Told

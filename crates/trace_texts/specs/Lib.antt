@@ -1,0 +1,4 @@
+pub mod Numbers
+pub mod Order
+pub mod Told
+pub mod Texts
