@@ -1,0 +1,10 @@
+pub mod Distinct
+pub mod Signal
+pub mod Told
+pub mod Assembled
+pub mod Firsts
+pub mod Wants
+pub mod Signalled
+pub mod Listed
+pub mod Named
+pub mod Grown

@@ -1,0 +1,4 @@
+pub mod Terms
+pub mod Ready
+pub mod Places
+pub mod View

@@ -1,0 +1,6 @@
+pub mod Bits
+pub mod Spread
+pub mod Claims
+pub mod Gathered
+pub mod Found
+pub mod Decided

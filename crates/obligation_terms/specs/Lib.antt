@@ -1,0 +1,3 @@
+pub mod Rest
+pub mod Open
+pub mod Asked
