@@ -1,4 +1,0 @@
-pub mod Judged
-pub mod Asked
-pub mod Listed
-pub mod Flags

@@ -1,7 +1,0 @@
-mod Trees
-mod Marked
-mod Whole
-mod Declared
-mod Leading
-mod Told
-mod Turning

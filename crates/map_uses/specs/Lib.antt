@@ -1,4 +1,0 @@
-pub mod Users
-pub mod Table
-pub mod Texts
-pub mod Whole

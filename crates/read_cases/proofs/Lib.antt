@@ -1,4 +1,0 @@
-pub mod Naming
-pub mod Models
-pub mod Scopes
-pub mod Staged
