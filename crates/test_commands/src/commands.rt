@@ -6,7 +6,7 @@ use crate::sheet::Sheet;
 use crate::spent::is_spent;
 use std::alloc::Global;
 use wb_outside::{MemShelf, MemSink};
-use wb_top::{Ended, workbench};
+use wb_top::{Ended, Spent, workbench};
 
 /// Room for the longest text that a row writes.
 const ROOM: u64 = 65_536;
@@ -86,12 +86,23 @@ fn are_spent(alloc: Global, ended: &Ended, text: &str) -> bool {
         return true;
     }
     let (count, budget) = halves(text, " ");
-    for entry in &ended.spent {
-        if !is_spent(alloc, &entry.formula.cnf, &entry.log, number(budget)) {
+    match &ended.spent {
+        Some(spent) => {
+            spent.entries.len() == number(count)
+                && are_each_spent(alloc, &spent.entries, number(budget))
+        }
+        None => number(count) == 0,
+    }
+}
+
+/// Whether the log of each entry is spent on the budget.
+fn are_each_spent(alloc: Global, entries: &[Spent], budget: usize) -> bool {
+    for entry in entries {
+        if !is_spent(alloc, &entry.formula.cnf, &entry.log, budget) {
             return false;
         }
     }
-    ended.spent.len() == number(count)
+    true
 }
 
 /// Whether a row asks for as many files as it says, if it does.

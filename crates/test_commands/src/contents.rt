@@ -111,14 +111,6 @@ fn content_of(alloc: Global, row: Row<'_>, name: &str, lines: &[&str]) -> Vec<u8
     bytes_of(alloc, text.text())
 }
 
-/// The bytes of a file of this name, with the changes of the row; no bytes where there is none.
-pub fn content(alloc: Global, row: Row<'_>, name: &str) -> Vec<u8> {
-    match lines_of(row.before, name) {
-        Some(lines) => content_of(alloc, row, name, lines),
-        None => Vec::new(alloc),
-    }
-}
-
 /// Adds the file that a word names, where there is one. It is wanting where no memory is left for it.
 fn add_named(alloc: Global, row: Row<'_>, name: &str, files: &mut Vec<(String, Vec<u8>)>) {
     let Some(lines) = lines_of(row.before, name) else {

@@ -4,7 +4,6 @@
 
 mod commands;
 mod contents;
-mod profile;
 mod requests;
 mod rows;
 mod sheet;

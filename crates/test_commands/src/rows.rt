@@ -15,15 +15,11 @@
 //! | `spent COUNT BUDGET` | the next row shows of so many formulas that so many lemmas were spent on each |
 //! | `=STATUS TEXT` | a row: the call ends with this status, and its text begins or ends with TEXT, or is what `>` and `<` lines say |
 //! | `ask LINE => ANSWER` | a row: what the words of this line, apart by one blank, ask for; `ask => ANSWER` is of no words at all |
-//! | `reads map => ANSWER`, `reads model => ANSWER` | a row: whether the first profile reads the file `p` as a map, `m` as a model |
-//! | `shown map => TEXT`, `shown model => TEXT` | a row: the parts of that map or model |
 //!
 //! Empty lines and those that begin with `#` are skipped. In OLD, NEW and TEXT `¶` stands for a line feed, `␍` for a carriage return, `␠` for
 //! a blank, and in a file `⊘` for a byte that is in no text.
 
 use crate::commands::add_wrong;
-use crate::contents::content;
-use crate::profile::{add_map, add_model};
 use crate::requests::add_answer;
 use crate::sheet::Sheet;
 use std::alloc::{AllocError, Global};
@@ -189,7 +185,7 @@ fn is_right(alloc: Global, row: Row<'_>, line: &str, told: &mut Sheet) -> bool {
     let mut found = Sheet::new(alloc);
     match line.strip_prefix("=") {
         Some(text) => add_wrong(alloc, row, text, &mut found),
-        None => add_otherwise(alloc, row, line, &mut found),
+        None => add_otherwise(alloc, line, &mut found),
     }
     if found.is("") {
         return true;
@@ -201,26 +197,23 @@ fn is_right(alloc: Global, row: Row<'_>, line: &str, told: &mut Sheet) -> bool {
     false
 }
 
-/// Adds what is found for a row that needs no command, where it is not what the row wants.
-fn add_otherwise(alloc: Global, row: Row<'_>, line: &str, out: &mut Sheet) {
+/// Adds what the words of a line ask for, where it is not what the row wants.
+fn add_otherwise(alloc: Global, line: &str, out: &mut Sheet) {
     let (left, right) = halves(line, " => ");
     let mut wanted = Sheet::new(alloc);
     wanted.add_unmarked(right);
     let mut found = Sheet::new(alloc);
-    add_found(alloc, row, left, &mut found);
+    add_found(alloc, left, &mut found);
     if !found.is(wanted.text()) {
         out.add("found ");
         out.add(found.text());
     }
 }
 
-/// Adds what is found for a row that needs no command: the words of a line, or a map or a model by itself.
-fn add_found(alloc: Global, row: Row<'_>, left: &str, out: &mut Sheet) {
-    let (kind, text) = halves(left, " ");
-    match kind {
-        "ask" => add_answer(alloc, text, out),
-        "reads" | "shown" if text == "map" => add_map(alloc, kind, &content(alloc, row, "p"), out),
-        "reads" | "shown" => add_model(alloc, kind, &content(alloc, row, "m"), out),
+/// Adds what the words of a line ask for.
+fn add_found(alloc: Global, left: &str, out: &mut Sheet) {
+    match halves(left, " ") {
+        ("ask", text) => add_answer(alloc, text, out),
         _ => out.add("is no line of a table"),
     }
 }

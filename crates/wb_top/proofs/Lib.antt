@@ -1,5 +1,4 @@
 pub mod Cases
-pub mod Designs
 pub mod Read
 pub mod Joined
 pub mod Lines

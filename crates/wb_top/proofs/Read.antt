@@ -1,11 +1,12 @@
 -- Verilog files without tokens, or whose tokens have no tree, are refused by that.
-use Rattle.std.proofs.Common.{◌≡◌, ℕ, List, Result, Ok, Err, Some, codes, refl, sym, subst}
+use Rattle.std.proofs.Common.{◌≡◌, ℕ, List, Result, Ok, Err, Some, refl, sym, subst}
 use Rattle.wb_values.specs.Value.{Name}
 use Rattle.verilog_trees.specs.Syntax.{Source}
 use Rattle.verilog_text.specs.Token.{Token}
 use Rattle.verilog_text.specs.Text.{Refusal, tokens_in}
 use Rattle.verilog_text.specs.Grammar.{IsSource}
-use Rattle.wb_top.specs.Files.{IsKindOfText, text_kind}
+use Rattle.check_cases.specs.Kinds.{text_kind, tree_kind}
+use Rattle.wb_top.specs.Files.{IsKindOfText}
 use Rattle.wb_top.specs.Texts.{IsRefusalBy}
 use Rattle.wb_top.specs.SimulatedRtl.{IsSimulatedText, IsRtlSimulated}
 use Rattle.wb_top.specs.declared.status.Status.{Status}
@@ -29,6 +30,6 @@ module _ (top clock : Name) (script : List ℕ) (ds : List (List ℕ)) where
       refused_by (text_kind r) text status (kind_of_text ds (Err r) (Some (text_kind r)) is refl) refused h
 
   pub tree_refused : (tokens : List Token) (text : List ℕ) (status : Status) → tokens_in ds ≡ Ok tokens → ((ms : Source) → ¬ IsSource ms tokens)
-      → status ≡ Refused → IsRefusalBy (codes "V6 Syntax") text → IsRtlSimulated top clock script ds status text
+      → status ≡ Refused → IsRefusalBy tree_kind text → IsRtlSimulated top clock script ds status text
   tree_refused tokens text status is none refused h =
-      refused_by (codes "V6 Syntax") text status (kind_of_text ds (Ok tokens) (Some (codes "V6 Syntax")) is (refl, none)) refused h
+      refused_by tree_kind text status (kind_of_text ds (Ok tokens) (Some tree_kind) is (refl, none)) refused h

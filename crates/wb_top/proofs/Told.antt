@@ -5,6 +5,8 @@ use Rattle.std.proofs.Math.Seq.{take-length}
 use Rattle.std.specs.declared.option.Option.{Option}
 use Rattle.std.specs.Option.{option_map}
 use Rattle.wb_values.specs.Value.{Name}
+use Rattle.refinement.specs.Map.{Setting}
+use Rattle.check_limits.specs.Limits as limits
 use Rattle.wb_outside.specs.Outside.{with_appended, GrewByPrefix, AreStartsOf}
 use Rattle.wb_top.specs.Words.{Verb, check, simulate, simulate_rtl, Command, command_of}
 use Rattle.std.proofs.lemmas.Bool.Decides.{nat_tests}
@@ -13,7 +15,7 @@ use Rattle.wb_top.specs.Simulated.{Pair, runs, refused, pair_of, IsSimulated, Ar
 use Rattle.rtl_simulation.specs.Ending.{Ending, broken, bad_line, missing_input, ran}
 use Rattle.wb_top.specs.SimulatedRtl.{IsWrittenFor, IsSimulatedText, AreRtlSimulated}
 use Rattle.wb_top.specs.Asked.{wanted_names, AskedAll, AskedSome}
-use Rattle.wb_top.specs.Outcome.{Told, IsEnd, IsWithin, IsAnswer, IsAnswered, IsCallOutcome}
+use Rattle.wb_top.specs.Outcome.{Told, IsCheckedWithin, IsEnd, IsWithin, IsAnswer, IsAnswered, IsCallOutcome}
 use Rattle.wb_top.specs.declared.status.Status.{Status}
 use Rattle.wb_top.specs.declared.status.Status.TheVariants.{Done, Failed, Unknown, Usage, Refused, ReadFault, WriteFault, NoMemory, Limit}
 
@@ -179,9 +181,13 @@ no_rtl_is_usage : (top clock : Name) (contents : List (List ℕ)) (text : List �
 no_rtl_is_usage top clock [] text h = h
 no_rtl_is_usage top clock (script ∷ designs) text h = no_design_is_usage top clock script designs h.kind text h.is_simulated
 
+no_check_is_usage : (limit : Option limits.Limit) (s : Setting) (budget : ℕ) (text : Told) → IsCheckedWithin limit s budget Usage text → ⊥
+no_check_is_usage None s budget text h = h
+no_check_is_usage (Some limit) s budget text h = usage_is_no_limit h.0
+
 no_end_is_usage : (o : Option ℕ) (verb : Verb) (contents : List (List ℕ)) (text : Told) → IsWithin o verb contents Usage text → ⊥
 no_end_is_usage (Some k) verb contents text h = usage_is_no_limit h.0
-no_end_is_usage None (check budget) contents text h = h.2
+no_end_is_usage None (check budget) contents text h = no_check_is_usage h.2.0 h.0 budget text h.2.2
 no_end_is_usage None simulate contents text h = no_simulation_is_usage contents text.text h.0
 no_end_is_usage None (simulate_rtl top clock) contents text h = no_rtl_is_usage top clock contents text.text h.0
 

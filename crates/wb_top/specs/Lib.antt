@@ -1,9 +1,8 @@
 pub mod Words
 pub mod Verbs
 pub mod Wanted
-pub mod Kinds
 pub mod Files
-pub mod Profile
+pub mod Limits
 pub mod Texts
 pub mod Simulated
 pub mod SimulatedRtl
@@ -11,5 +10,4 @@ pub mod Outcome
 pub mod Showing
 pub mod StatusNumber
 pub mod Stops
-pub mod Judged
 pub mod Asked

@@ -5,15 +5,16 @@ use Rattle.wb_words.specs.Application.{workbench_app}
 use Rattle.wb_values.specs.Value.{Name}
 use Rattle.reports.specs.Encoding.{Spent}
 use Rattle.reports.specs.Report.{IsReport, all_proved, some_unknown, some_failed}
+use Rattle.refinement.specs.Map.{Setting}
 use Rattle.refinement.specs.Soundness.{EveryRunRefines}
+use Rattle.check_limits.specs.Limits as limits
 use Rattle.wb_outside.specs.Outside.{with_appended, GrewByPrefix}
-use Rattle.wb_first.specs.Names.{First, setting_of}
 use Rattle.wb_top.specs.Words.{Verb, check, simulate, simulate_rtl, Command, command_of}
-use Rattle.wb_top.specs.Files.{first_long, IsRefusingKind, IsCase, AreHeld}
+use Rattle.wb_top.specs.Files.{first_long, StandFor, AreRefusedBy, AreHeld}
 use Rattle.wb_top.specs.Simulated.{AreSimulated}
 use Rattle.wb_top.specs.SimulatedRtl.{AreRtlSimulated}
-use Rattle.wb_top.specs.Profile.{Obstacle, KeepFilesOutside}
-use Rattle.wb_top.specs.Texts.{usage_text, limit_text, IsRefusalBy, not_yet_text}
+use Rattle.wb_top.specs.Limits.{IsLimitOf}
+use Rattle.wb_top.specs.Texts.{usage_text, length_text, limit_text, IsRefusalBy}
 use Rattle.wb_top.specs.declared.status.Status.{Status}
 use Rattle.wb_top.specs.declared.status.Status.TheVariants.{Done, Failed, Unknown, Usage, Refused, Limit}
 
@@ -24,24 +25,24 @@ pub record Told : Type 0 where
 
 -- The text is a report. Done: all obligations are proved, and every run refines the model. Failed: a line is `failed`. Unknown: none
 -- is, and an obligation is `unknown`.
-abbrev pub IsReported : First → (budget : ℕ) → Status → Told → Type 0
-IsReported f budget Done t = IsReport (setting_of f) budget t.text all_proved t.spent × EveryRunRefines (setting_of f)
-IsReported f budget Failed t = IsReport (setting_of f) budget t.text some_failed t.spent
-IsReported f budget Unknown t = IsReport (setting_of f) budget t.text some_unknown t.spent
-IsReported f budget _ t = ⊥
+abbrev pub IsReported : Setting → (budget : ℕ) → Status → Told → Type 0
+IsReported s budget Done t = IsReport s budget t.text all_proved t.spent × EveryRunRefines s
+IsReported s budget Failed t = IsReport s budget t.text some_failed t.spent
+IsReported s budget Unknown t = IsReport s budget t.text some_unknown t.spent
+IsReported s budget _ t = ⊥
 
--- Refused: by the first kind that refuses the model file or the Verilog files; where none does, the files stand for no case of the
--- profile, and the text says what keeps them outside.
-abbrev pub IsRefused : List (List ℕ) → Option (List ℕ) → List ℕ → Type 0
-IsRefused contents (Some kind) text = IsRefusalBy kind text
-IsRefused contents None text =
-    ((f : First) → ¬ IsCase contents f) × (obstacle : Obstacle) × KeepFilesOutside contents obstacle × (text ≡ not_yet_text obstacle)
+-- A check of a setting that is over this limit, or over none: the limit is answered; where there is none, a report.
+abbrev pub IsCheckedWithin : Option limits.Limit → Setting → (budget : ℕ) → Status → Told → Type 0
+IsCheckedWithin None s budget status t = IsReported s budget status t
+IsCheckedWithin (Some limit) s budget status t = (status ≡ Limit) × (t.text ≡ limit_text limit) × (t.spent ≡ [])
 
--- A check of these files, and what it tells.
+abbrev pub IsCheckedSetting : Setting → (budget : ℕ) → Status → Told → Type 0
+IsCheckedSetting s budget status t = (limit : Option limits.Limit) × IsLimitOf s limit × IsCheckedWithin limit s budget status t
+
+-- A check of these files, and what it tells. Refused: by the first kind that refuses them. Else they stand for a setting, which is checked.
 abbrev pub IsChecked : (budget : ℕ) → List (List ℕ) → Status → Told → Type 0
-IsChecked budget contents Refused t =
-    (kind : Option (List ℕ)) × IsRefusingKind contents kind × IsRefused contents kind t.text × (t.spent ≡ [])
-IsChecked budget contents status t = (f : First) × IsCase contents f × IsReported f budget status t × IsRefusingKind contents None
+IsChecked budget contents Refused t = (kind : List ℕ) × AreRefusedBy contents kind × IsRefusalBy kind t.text × (t.spent ≡ [])
+IsChecked budget contents status t = (s : Setting) × StandFor contents s × IsCheckedSetting s budget status t
 
 -- what a command ends with on files of which none is too long
 abbrev pub IsEnd : Verb → List (List ℕ) → Status → Told → Type 0
@@ -52,7 +53,7 @@ IsEnd (simulate_rtl top clock) contents status t = AreRtlSimulated top clock con
 -- A file that is too long is answered before any is read as text: by the number of the first such, from 0.
 abbrev pub IsWithin : Option ℕ → Verb → List (List ℕ) → Status → Told → Type 0
 IsWithin None verb contents status t = IsEnd verb contents status t
-IsWithin (Some k) verb contents status t = (status ≡ Limit) × (t.text ≡ limit_text k) × (t.spent ≡ [])
+IsWithin (Some k) verb contents status t = (status ≡ Limit) × (t.text ≡ length_text k) × (t.spent ≡ [])
 
 -- The answer to a command on these files, and what it tells.
 abbrev pub IsAnswer : Verb → List (List ℕ) → Status → Told → Type 0
@@ -83,9 +84,9 @@ WrotePrefix held words spent before after =
 abbrev pub AskForCheck : List Name → Type 0
 AskForCheck words = (c : Command) × (command_of words ≡ Some c) × (budget : ℕ) × (c.verb ≡ check budget)
 
--- Every run of the design refines the model, for the model, the map and the module that the contents of the files named in the words
+-- Every run of the design refines the model, for the model, the map and the Verilog that the contents of the files named in the words
 -- stand for: those that are held, where it is told what is held.
 abbrev pub Headline : Option (Name → Option (List ℕ)) → List Name → Type 0
 Headline held words =
     (c : Command) × (command_of words ≡ Some c) × (contents : List (List ℕ)) × AreHeld held c.files contents
-    × (f : First) × IsCase contents f × EveryRunRefines (setting_of f)
+    × (s : Setting) × StandFor contents s × EveryRunRefines s

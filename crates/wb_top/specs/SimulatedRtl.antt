@@ -7,7 +7,7 @@ use Rattle.verilog_text.specs.Grammar.{IsTreeOf}
 use Rattle.verilog_meaning.specs.Settled.{Design}
 use Rattle.rtl_simulation.specs.Ending.{Ending, broken, bad_line, missing_input, ran, IsEnding}
 use Rattle.wb_top.specs.Files.{IsKindOfText}
-use Rattle.wb_top.specs.Kinds.{kind_name}
+use Rattle.check_cases.specs.Kinds.{kind_name}
 use Rattle.wb_top.specs.Texts.{IsRefusalBy}
 use Rattle.wb_top.specs.declared.status.Status.{Status}
 use Rattle.wb_top.specs.declared.status.Status.TheVariants.{Done, Refused}

@@ -1,14 +1,19 @@
 -- The texts that a call writes beside reports.
 use Rattle.std.specs.Prelude.{◌≡◌, ◌<◌, ◌≤◌, ℕ, Bool, ◌&&◌, nat_le, nat_lt, List, [], ◌∷◌, ◌++◌, length, codes, decimal, IsTrue}
 use Rattle.std.specs.List.{list_all}
-use Rattle.wb_top.specs.Profile.{Obstacle, obstacle_text}
+use Rattle.check_limits.specs.Limits.{Limit, limit_memory, limit_unroll}
 
 abbrev pub usage_text : List ℕ
 usage_text = codes "usage" ++ 10 ∷ []
 
 -- a file is too long: its number in the order of reading, from 0
-abbrev pub limit_text : ℕ → List ℕ
-limit_text k = codes "limit length " ++ (decimal k ++ 10 ∷ [])
+abbrev pub length_text : ℕ → List ℕ
+length_text k = codes "limit length " ++ (decimal k ++ 10 ∷ [])
+
+-- a check is over a limit: how many bits of memory there are, or how many unrolled micro-steps
+abbrev pub limit_text : Limit → List ℕ
+limit_text (limit_memory bits) = codes "limit memory " ++ (decimal bits ++ 10 ∷ [])
+limit_text (limit_unroll steps) = codes "limit unroll " ++ (decimal steps ++ 10 ∷ [])
 
 -- printable ASCII, the space included
 abbrev pub is_printable : ℕ → Bool
@@ -28,7 +33,3 @@ fits_note text = nat_lt 0 (length text) && nat_le (length text) 80 && list_all i
 abbrev pub IsRefusalBy : List ℕ → List ℕ → Type 0
 IsRefusalBy rule text =
     (note : List ℕ) × IsNote note × (text ≡ codes "refused " ++ (rule ++ 10 ∷ (codes "note " ++ (note ++ 10 ∷ []))))
-
--- what is written of files that are outside the first profile: the kind of the refusal, and what keeps them outside
-abbrev pub not_yet_text : Obstacle → List ℕ
-not_yet_text obstacle = codes "refused N1 NotYet" ++ 10 ∷ (codes "note " ++ (obstacle_text obstacle ++ 10 ∷ []))

@@ -1,40 +1,45 @@
 //! The answer to a command on files that were read.
 
 ghost use Rattle.std.specs.Prelude.{◌≡◌, ◌<◌, [], ◌∷◌, IfOk, IsTrue, map, length};
-ghost use Rattle.wb_first.specs.CaseView.{case_of};
+ghost use Rattle.ila_model.specs.Model.{model_of};
+ghost use Rattle.refinement.specs.Map.{Setting};
+ghost use Rattle.mapped_designs.specs.Mapped.{IsSortedFor};
+ghost use Rattle.mapped_designs.specs.View.{mapped_of};
+ghost use Rattle.obligation_check.specs.Decided.{IsSettingBy};
 ghost use Rattle.wb_top.specs.Files.{first_long};
 ghost use Rattle.wb_top.specs.Words.{is_command};
 ghost use Rattle.wb_top.specs.Verbs.{verb_view};
 ghost use Rattle.wb_top.specs.Showing.{told_of, status_by};
-ghost use Rattle.wb_top.specs.Outcome.{IsAnswer, IsEnd, IsChecked, IsReported};
+ghost use Rattle.wb_top.specs.Outcome.{IsAnswer, IsEnd, IsChecked, IsCheckedSetting, IsReported};
 
-use crate::judged::{Judged, judge};
 use crate::length::first_long;
 use crate::rtl::simulated_rtl;
 use crate::simulation::simulated;
-use crate::status::Status;
+use crate::status::{AllSpent, Status};
 use crate::stop::NoMemory;
 use crate::texts::{
-    limit, refusal, refusal_by, refusal_of_design, refusal_of_text, refusal_of_tree,
+    limit_of_check, limit_of_length, refusal_by, refusal_of_design, refusal_of_map,
+    refusal_of_text, refusal_of_tree,
 };
 use crate::verb::Verb;
-use first_check::BitName;
-use first_report::{Ending, Spent, check};
+use check_limits::limit_of;
+use check_report::{Ending, check};
+use ila_model::IlaModel;
+use mapped_designs::MappedDesign;
+use read_cases::{FilesCase, case_of_files};
 use std::alloc::Global;
-use wb_first::FirstCase;
 
 /// What a call answers and what it is to write.
 #[derive(Drop)]
 pub(crate) struct Outcome {
     pub(crate) status: Status,
     pub(crate) text: Vec<u8>,
-    pub(crate) names: Vec<BitName>,
-    pub(crate) spent: Vec<Spent>,
+    pub(crate) spent: Option<AllSpent>,
 }
 
 impl Outcome {
     /// An outcome beside whose text nothing is shown.
-    pub(crate) fn plain(alloc: Global, status: Status, text: Vec<u8>) -> Outcome
+    pub(crate) fn plain(status: Status, text: Vec<u8>) -> Outcome
         ensures status { result.status ≡ status }
         ensures text { result.text.items ≡ text.items }
         ensures nothing { told_of result ≡ record { text = text.items; spent = [] } }
@@ -42,8 +47,7 @@ impl Outcome {
         Outcome {
             status,
             text,
-            names: Vec::new(alloc),
-            spent: Vec::new(alloc),
+            spent: None,
         }
     }
 }
@@ -61,8 +65,8 @@ pub(crate) fn answer(
 {
     match first_long(contents) {
         Some(number) => {
-            let text = limit(alloc, number)?;
-            Ok(Outcome::plain(alloc, Status::Limit, text))
+            let text = limit_of_length(alloc, number)?;
+            Ok(Outcome::plain(Status::Limit, text))
         }
         None => {
             let outcome = ended(alloc, verb, names, contents)?;
@@ -115,49 +119,79 @@ fn checked(
     designs: &[Vec<u8>],
     budget: u64,
 ) -> Result<Outcome, NoMemory>
-    requires budget { 0 < budget }
-    requires some { 0 < length designs.now }
+    requires { 0 < budget }
     ensures { IfOk result (λ o. IsChecked budget (model.now ∷ map_file.now ∷ map (λ d. d.items) designs.now) o.status (told_of o)) }
 {
-    match judge(alloc, model, map_file, designs)? {
-        Judged::Case(case) => {
-            let outcome = reported(alloc, &case, budget)?;
+    match case_of_files(alloc, model, map_file, designs)? {
+        FilesCase::Case(model, mapped) => {
+            let outcome = checked_case(alloc, &model, mapped, budget)?;
             Ok(outcome)
         }
-        Judged::Outside(place) => {
-            let text = refusal(alloc, place)?;
-            Ok(Outcome::plain(alloc, Status::Refused, text))
-        }
-        Judged::Refused(broken) => {
+        FilesCase::Model(broken) => {
             let text = refusal_by(alloc, &broken)?;
-            Ok(Outcome::plain(alloc, Status::Refused, text))
+            Ok(Outcome::plain(Status::Refused, text))
         }
-        Judged::RefusedText(broken) => {
+        FilesCase::MapFile(broken) => {
+            let text = refusal_of_map(alloc, &broken)?;
+            Ok(Outcome::plain(Status::Refused, text))
+        }
+        FilesCase::Text(broken) => {
             let text = refusal_of_text(alloc, names, &broken)?;
-            Ok(Outcome::plain(alloc, Status::Refused, text))
+            Ok(Outcome::plain(Status::Refused, text))
         }
-        Judged::RefusedTree(note) => {
+        FilesCase::Tokens(note) => {
             let text = refusal_of_tree(alloc, names, &note)?;
-            Ok(Outcome::plain(alloc, Status::Refused, text))
+            Ok(Outcome::plain(Status::Refused, text))
         }
-        Judged::RefusedDesign(kind) => {
+        FilesCase::Design(kind) => {
             let text = refusal_of_design(alloc, kind)?;
-            Ok(Outcome::plain(alloc, Status::Refused, text))
+            Ok(Outcome::plain(Status::Refused, text))
         }
     }
 }
 
-/// The report of a case.
-fn reported(alloc: Global, case: &FirstCase, budget: u64) -> Result<Outcome, NoMemory>
-    requires { 0 < budget }
-    ensures { IfOk result (λ o. IsReported (case_of case.now) budget o.status (told_of o)) }
+/// A check of a model against a design with its map: the limit that they are over, or their report.
+fn checked_case(
+    alloc: Global,
+    model: &IlaModel,
+    mapped: MappedDesign,
+    budget: u64,
+) -> Result<Outcome, NoMemory>
+    requires sorted { IsSortedFor (model_of model.now) (mapped_of mapped) }
+    requires budget { 0 < budget }
+    ensures { IfOk result (λ o. (s : Setting) → IsSettingBy (model_of model.now) (mapped_of mapped) s → IsCheckedSetting s budget o.status (told_of o)) }
 {
-    let report = check(alloc, case, budget)?;
+    match limit_of(model, &mapped.design) {
+        Some(limit) => {
+            let text = limit_of_check(alloc, limit)?;
+            Ok(Outcome::plain(Status::Limit, text))
+        }
+        None => {
+            let outcome = reported(alloc, model, mapped, budget)?;
+            Ok(outcome)
+        }
+    }
+}
+
+/// The report of a model and a design with its map.
+fn reported(
+    alloc: Global,
+    model: &IlaModel,
+    mapped: MappedDesign,
+    budget: u64,
+) -> Result<Outcome, NoMemory>
+    requires sorted { IsSortedFor (model_of model.now) (mapped_of mapped) }
+    requires budget { 0 < budget }
+    ensures { IfOk result (λ o. (s : Setting) → IsSettingBy (model_of model.now) (mapped_of mapped) s → IsReported s budget o.status (told_of o)) }
+{
+    let report = check(alloc, model, &mapped, budget)?;
     Ok(Outcome {
         status: status_of(report.ending),
         text: report.text,
-        names: report.names,
-        spent: report.spent,
+        spent: Some(AllSpent {
+            design: mapped.design,
+            entries: report.spent,
+        }),
     })
 }
 

@@ -2,7 +2,6 @@
 #![tactic(auto)]
 
 mod answer;
-mod judged;
 pub mod laws;
 mod length;
 mod outcome;
@@ -16,5 +15,6 @@ mod verb;
 mod wanted;
 mod words;
 
-pub use status::{Ended, Status};
+pub use check_report::Spent;
+pub use status::{AllSpent, Ended, Status};
 pub use top::workbench;

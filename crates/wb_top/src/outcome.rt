@@ -42,7 +42,7 @@ pub(crate) fn outcome<S: Shelf>(
         }
         None => {
             let text = usage(alloc)?;
-            Ok(Outcome::plain(alloc, Status::Usage, text))
+            Ok(Outcome::plain(Status::Usage, text))
         }
     }
 }

@@ -6,7 +6,7 @@ ghost use Rattle.v_token.specs.View.{tokens_of};
 ghost use Rattle.verilog_text.specs.Text.{tokens_in};
 ghost use Rattle.verilog_text.specs.Grammar.{IsTreeOf};
 ghost use Rattle.v_judged.specs.Refusal.{kind_of};
-ghost use Rattle.wb_top.specs.Kinds.{kind_name};
+ghost use Rattle.check_cases.specs.Kinds.{kind_name};
 ghost use Rattle.wb_top.specs.Texts.{IsRefusalBy};
 ghost use Rattle.wb_top.specs.Showing.{told_of};
 ghost use Rattle.wb_top.specs.SimulatedRtl.{IsSimulatedDesign, IsRtlSimulated};
@@ -40,7 +40,7 @@ pub(crate) fn simulated_rtl(
         Ok(tokens) => of_tokens(alloc, names, design, script, designs, &tokens),
         Err(LexStop::Refused(broken)) => {
             let text = refusal_of_text(alloc, names, &broken)?;
-            Ok(Outcome::plain(alloc, Status::Refused, text))
+            Ok(Outcome::plain(Status::Refused, text))
         }
         Err(LexStop::NoMemory) => Err(AllocError),
     }
@@ -66,7 +66,7 @@ fn of_tokens(
             match note_at(alloc, designs, token) {
                 Some(note) => {
                     let text = refusal_of_tree(alloc, names, &note)?;
-                    Ok(Outcome::plain(alloc, Status::Refused, text))
+                    Ok(Outcome::plain(Status::Refused, text))
                 }
                 None => Err(AllocError),
             }
@@ -89,11 +89,11 @@ fn of_tree(
 {
     trees_are_of_texts();
     match rtl_simulation::simulated_rtl(tree, &design.top, &design.clock, script, alloc)? {
-        RtlSimulation::Text(text) => Ok(Outcome::plain(alloc, Status::Done, text)),
+        RtlSimulation::Text(text) => Ok(Outcome::plain(Status::Done, text)),
         RtlSimulation::Design(kind) => refused_design(alloc, kind),
         RtlSimulation::Script(refusal) => {
             let text = refusal_of_script(alloc, &refusal)?;
-            Ok(Outcome::plain(alloc, Status::Refused, text))
+            Ok(Outcome::plain(Status::Refused, text))
         }
     }
 }
@@ -105,5 +105,5 @@ fn refused_design(alloc: Global, kind: DesignKind) -> Result<Outcome, NoMemory>
     ensures nothing { IfOk result (λ o. (told_of o).spent ≡ []) }
 {
     let text = refusal_of_design(alloc, kind)?;
-    Ok(Outcome::plain(alloc, Status::Refused, text))
+    Ok(Outcome::plain(Status::Refused, text))
 }

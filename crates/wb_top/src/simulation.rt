@@ -27,7 +27,7 @@ pub(crate) fn simulated(alloc: Global, model: &[u8], script: &[u8]) -> Result<Ou
         }
         Err(ModelStop::Refused(broken)) => {
             let text = refusal_by(alloc, &broken)?;
-            Ok(Outcome::plain(alloc, Status::Refused, text))
+            Ok(Outcome::plain(Status::Refused, text))
         }
         Err(ModelStop::NoMemory) => Err(AllocError),
     }
@@ -38,10 +38,10 @@ fn run(alloc: Global, model: &IlaModel, script: &[u8]) -> Result<Outcome, NoMemo
     ensures { IfOk result (λ o. IsSimulated (with_script (model_of model.now) (script_reading (settables_of (model_of model.now)) script.now)) o.status o.text.items × ((told_of o).spent ≡ [])) }
 {
     match ila_sim::simulated(alloc, model, script)? {
-        Simulation::Text(text) => Ok(Outcome::plain(alloc, Status::Done, text)),
+        Simulation::Text(text) => Ok(Outcome::plain(Status::Done, text)),
         Simulation::Refused(refusal) => {
             let text = refusal_of_script(alloc, &refusal)?;
-            Ok(Outcome::plain(alloc, Status::Refused, text))
+            Ok(Outcome::plain(Status::Refused, text))
         }
     }
 }

@@ -1,7 +1,7 @@
 //! How a call ends.
 
-use first_check::BitName;
-use first_report::Spent;
+use check_report::Spent;
+use v_design::Design;
 
 /// How a call ends; its number is the program's exit status.
 #[derive(Clone, Copy, PartialEq, Eq, Debug)]
@@ -22,7 +22,7 @@ pub enum Status {
     WriteFault,
     /// Memory could not be found. Nothing was written.
     NoMemory,
-    /// A file is longer than files may be.
+    /// A file is longer than files may be; or a check has more bits of memory, or more micro-steps of an instruction, than it may have.
     Limit,
 }
 
@@ -48,12 +48,19 @@ impl Status {
     }
 }
 
+/// What shows that the budget was spent on the `unknown` lines of a report.
+#[derive(Drop)]
+pub struct AllSpent {
+    /// The design, whose registers and inputs the formulas speak of.
+    pub design: Design,
+    /// For each `unknown` line, in order, its formula and the lemmas on which the budget was spent.
+    pub entries: Vec<Spent>,
+}
+
 /// What a call answers.
 #[derive(Drop)]
 pub struct Ended {
     pub status: Status,
-    /// The names whose bits have variables in the formulas of `spent`.
-    pub names: Vec<BitName>,
-    /// For each `unknown` line of the report, in order, its formula and the lemmas on which the budget was spent.
-    pub spent: Vec<Spent>,
+    /// Beside a report, what shows that the budget was spent.
+    pub spent: Option<AllSpent>,
 }

@@ -4,17 +4,18 @@ ghost use Rattle.std.specs.Prelude.{◌≡◌, ◌<◌, ◌++◌, ◌∷◌, [],
 ghost use Rattle.ila_rules.specs.Rule.{rule_view, rule_name};
 ghost use Rattle.ila_sim.specs.Scripts.{name_of_kind};
 ghost use Rattle.v_lex.specs.Reading.{refusal_of};
-ghost use Rattle.wb_top.specs.Files.{text_kind};
-ghost use Rattle.wb_top.specs.Judged.{obstacle_of};
+ghost use Rattle.map_file.specs.Rule as map_rules;
 ghost use Rattle.v_judged.specs.Refusal.{kind_of};
-ghost use Rattle.wb_top.specs.Kinds.{kind_name};
-ghost use Rattle.wb_top.specs.Texts.{usage_text, limit_text, fits_note, IsRefusalBy, not_yet_text};
+ghost use Rattle.check_cases.specs.Kinds.{text_kind, tree_kind, kind_name};
+ghost use Rattle.check_limits.specs.View.{as_limit};
+ghost use Rattle.wb_top.specs.Texts.{usage_text, length_text, limit_text, fits_note, IsRefusalBy};
 
-use crate::judged::Place;
 use crate::stop::NoMemory;
+use check_limits::Limit;
 use ila_rules::ModelRefusal;
 use ila_sim::ScriptRefusal;
 use itoa::Buffer;
+use map_file::MapRefusal;
 use std::alloc::{AllocError, Global};
 use v_judged::DesignKind;
 use v_lex::{LexKind, LexRefusal, Note};
@@ -31,6 +32,14 @@ pub(crate) fn refusal_by(alloc: Global, broken: &ModelRefusal) -> Result<Vec<u8>
     ensures { IfOk result (λ text. IsRefusalBy (rule_name (rule_view broken.now.rule)) text.items) }
 {
     refusal_text_by(alloc, broken.rule.name().as_bytes(), broken.note.as_bytes())
+}
+
+/// The text for a map file that breaks a rule.
+pub(crate) fn refusal_of_map(alloc: Global, refusal: &MapRefusal) -> Result<Vec<u8>, NoMemory>
+    ensures { IfOk result (λ text. IsRefusalBy (map_rules.rule_name (map_rules.rule_view refusal.now.rule)) text.items) }
+{
+    let rule = refusal.rule.name();
+    refusal_text_by(alloc, rule.as_bytes(), refusal.note.as_bytes())
 }
 
 /// The text of a refusal by the rule of this name, with this note.
@@ -98,7 +107,7 @@ pub(crate) fn refusal_of_tree(
     names: &[String],
     note: &Note,
 ) -> Result<Vec<u8>, NoMemory>
-    ensures { IfOk result (λ text. IsRefusalBy (codes "V6 Syntax") text.items) }
+    ensures { IfOk result (λ text. IsRefusalBy tree_kind text.items) }
 {
     let note = with_name(alloc, names, note)?;
     refusal_text_by(alloc, b"V6 Syntax", note.as_bytes())
@@ -189,31 +198,34 @@ fn design_note(kind: DesignKind) -> &'static str
 }
 
 /// The text for a file that is too long, by its number in the order of reading, from 0.
-pub(crate) fn limit(alloc: Global, number: usize) -> Result<Vec<u8>, NoMemory>
-    ensures { IfOk result (λ text. text.items ≡ limit_text number) }
+pub(crate) fn limit_of_length(alloc: Global, number: usize) -> Result<Vec<u8>, NoMemory>
+    ensures { IfOk result (λ text. text.items ≡ length_text number) }
 {
-    let mut text = Vec::from_slice(alloc, b"limit length ")?;
     let mut buffer = Buffer::new();
-    text.extend_from_slice(buffer.format(number as u64).as_bytes())?;
+    limit_line(alloc, b"limit length ", buffer.format(number).as_bytes())
+}
+
+/// The text for a check that is over a limit.
+pub(crate) fn limit_of_check(alloc: Global, limit: Limit) -> Result<Vec<u8>, NoMemory>
+    ensures { IfOk result (λ text. text.items ≡ limit_text (as_limit limit)) }
+{
+    let mut buffer = Buffer::new();
+    match limit {
+        Limit::Memory(bits) => limit_line(alloc, b"limit memory ", buffer.format(bits).as_bytes()),
+        Limit::Unroll(steps) => limit_line(
+            alloc,
+            b"limit unroll ",
+            buffer.format(steps).as_bytes(),
+        ),
+    }
+}
+
+/// A line of a limit and the number that is over it.
+fn limit_line(alloc: Global, limit: &[u8], number: &[u8]) -> Result<Vec<u8>, NoMemory>
+    ensures { IfOk result (λ text. text.items ≡ limit.now ++ (number.now ++ 10 ∷ [])) }
+{
+    let mut text = Vec::from_slice(alloc, limit)?;
+    text.extend_from_slice(number)?;
     text.extend_from_slice(b"\n")?;
     Ok(text)
-}
-
-/// The text for files that are not accepted yet.
-pub(crate) fn refusal(alloc: Global, place: Place) -> Result<Vec<u8>, NoMemory>
-    ensures { IfOk result (λ text. text.items ≡ not_yet_text (obstacle_of place)) }
-{
-    Vec::from_slice(alloc, refusal_text(place))
-}
-
-fn refusal_text(place: Place) -> &'static [u8]
-    ensures { result.now ≡ not_yet_text (obstacle_of place) }
-{
-    match place {
-        Place::Model => b"refused N1 NotYet\nnote the model file\n",
-        Place::Map => b"refused N1 NotYet\nnote the map file\n",
-        Place::Design => b"refused N1 NotYet\nnote the Verilog file\n",
-        Place::Designs => b"refused N1 NotYet\nnote more than one Verilog file\n",
-        Place::Together => b"refused N1 NotYet\nnote the files together\n",
-    }
 }

@@ -62,23 +62,21 @@ pub fn workbench<S: Shelf, K: Sink>(
             let status = written(&outcome, out);
             Ended {
                 status,
-                names: outcome.names,
                 spent: outcome.spent,
             }
         }
-        Err(Stop::ReadFault) => nothing_shown(alloc, Status::ReadFault),
-        Err(Stop::NoMemory) => nothing_shown(alloc, Status::NoMemory),
+        Err(Stop::ReadFault) => nothing_shown(Status::ReadFault),
+        Err(Stop::NoMemory) => nothing_shown(Status::NoMemory),
     }
 }
 
 /// A call that ends with a status and shows nothing beside it.
-fn nothing_shown(alloc: Global, status: Status) -> Ended
+fn nothing_shown(status: Status) -> Ended
     ensures status { result.status ≡ status }
     ensures nothing { shown_by result ≡ [] }
 {
     Ended {
         status,
-        names: Vec::new(alloc),
-        spent: Vec::new(alloc),
+        spent: None,
     }
 }

@@ -1,6 +1,6 @@
 use Rattle.std.proofs.Common.{ℕ, List, map, string_bytes, subst, sym}
 use Rattle.v_lex.specs.Reading.{refusal_of}
-use Rattle.wb_top.specs.Files.{text_kind}
+use Rattle.check_cases.specs.Kinds.{text_kind}
 use Rattle.wb_top.specs.Texts.{IsRefusalBy}
 use Rattle.wb_top.proofs.Read.{text_refused}
 use Rattle.wb_top.proofs.rtl.simulated_rtl.Goals as goal

@@ -1,0 +1,3 @@
+pub mod Kinds
+pub mod Files
+pub mod Laws

@@ -1,8 +1,0 @@
-use Rattle.std.proofs.Common.{◌≡◌, map, drop}
-use Rattle.first_json.specs.View.{entry_of_mapped}
-use Rattle.wb_first.specs.Accepted.{inputs_are_mapped}
-use Rattle.first_accept.specs.View.{first_in}
-use Rattle.first_accept.proofs.map_rules.inputs_are_mapped.Given as goal
-
-abbrev pub invariant-loop-entry : goal.invariant-loop-entry
-invariant-loop-entry l = inputs_are_mapped (first_in l.case) (map entry_of_mapped l.entries) ≡ inputs_are_mapped (first_in l.case) (map entry_of_mapped (drop l.entry-index l.entries))

@@ -1,8 +1,0 @@
-use Rattle.std.proofs.Common.{◌≡◌, ◌++◌, map, drop, Bor, List, ℕ}
-use Rattle.first_text.specs.View.{part_of}
-use Rattle.wb_first.specs.Names.{assigned_among}
-use Rattle.wb_first.specs.Accepted.{keys}
-use Rattle.first_accept.proofs.names.assigned_names.Given as goal
-
-abbrev pub invariant-loop-part : goal.invariant-loop-part
-invariant-loop-part l = map (λ (x : Bor (List ℕ)). x.now) l.names.items ++ keys (assigned_among (map part_of (drop l.part-index l.parts))) ≡ keys (assigned_among (map part_of l.parts))

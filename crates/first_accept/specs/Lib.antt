@@ -1,4 +1,0 @@
-pub mod Known
-pub mod Groups
-pub mod Tables
-pub mod View

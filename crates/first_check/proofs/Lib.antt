@@ -1,4 +1,0 @@
-pub mod Asked
-pub mod Counted
-pub mod Numbers
-pub mod Verdicts

@@ -1,4 +1,0 @@
-pub mod Profile
-pub mod Names
-pub mod Making
-pub mod Reading

@@ -1,4 +1,0 @@
-pub mod Listed
-pub mod Lines
-pub mod Totals
-pub mod Spending

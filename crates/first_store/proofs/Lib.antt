@@ -1,4 +1,0 @@
-pub mod Growing
-pub mod Plain
-pub mod Forms
-pub mod Chains

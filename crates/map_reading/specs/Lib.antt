@@ -1,0 +1,4 @@
+pub mod Judged
+pub mod Asked
+pub mod Listed
+pub mod Flags

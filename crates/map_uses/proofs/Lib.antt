@@ -1,0 +1,7 @@
+mod Trees
+mod Marked
+mod Whole
+mod Declared
+mod Leading
+mod Told
+mod Turning

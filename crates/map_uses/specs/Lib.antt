@@ -1,0 +1,4 @@
+pub mod Users
+pub mod Table
+pub mod Texts
+pub mod Whole

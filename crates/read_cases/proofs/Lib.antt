@@ -1,0 +1,4 @@
+pub mod Naming
+pub mod Models
+pub mod Scopes
+pub mod Staged
