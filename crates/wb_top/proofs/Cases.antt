@@ -83,6 +83,7 @@ limit_of_setting : (model : IlaModel) (mapped : MappedDesign) (s : Setting) (lim
 limit_of_setting model mapped s limit by is = record {
   parts = parts_of mapped.design;
   is_design = by.mapped.design;
+  counting = by.sound.counting;
   is_limit = subst (λ (q : Model). limits.IsLimit q (parts_of mapped.design) limit) (sym by.model) is;
 }
 

@@ -6,7 +6,7 @@ use v_design::Design;
 /// How a call ends; its number is the program's exit status.
 #[derive(Clone, Copy, PartialEq, Eq, Debug)]
 pub enum Status {
-    /// A report was written in which all obligations are `proved`: every run of the design refines the model.
+    /// A report was written in which all obligations are `proved`, so every run of the design refines the model; or a simulation.
     Done,
     /// A report with a `failed` line was written.
     Failed,
