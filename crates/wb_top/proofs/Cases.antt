@@ -93,3 +93,10 @@ pub over_limit : (model : IlaModel) (mapped : MappedDesign) (budget : ℕ) (limi
     → (s : Setting) → IsSettingBy (model_of model) (mapped_of mapped) s → IsCheckedSetting s budget status t
 over_limit model mapped budget limit status t is answered text spent s by =
     (Some limit, limit_of_setting model mapped s (Some limit) by is, (answered, text, spent))
+
+-- A case that is over no limit is checked by its report.
+pub within_limits : (model : IlaModel) (mapped : MappedDesign) (budget : ℕ) (status : Status) (t : Told)
+    → limits.IsLimit (model_of model) (parts_of mapped.design) None
+    → ((s : Setting) → IsSettingBy (model_of model) (mapped_of mapped) s → IsReported s budget status t)
+    → (s : Setting) → IsSettingBy (model_of model) (mapped_of mapped) s → IsCheckedSetting s budget status t
+within_limits model mapped budget status t is told s by = (None, limit_of_setting model mapped s None by is, told s by)
