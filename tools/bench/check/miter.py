@@ -144,7 +144,7 @@ def miter(model, mapping, texts, name):
         lines.append(f"  wire [{width(s['sort']) - 1}:0] m_{s['name']} = {expression(s['sort'], e)};")
     machine = Program(lines, sorts, mapped, dict(model.get("define", [])), model.get("fetch"))
     active = mapping["reset"]["signal"] if mapping["reset"]["active"] else f"!{mapping['reset']['signal']}"
-    invariants = " && ".join(f"({e})" for e in mapping["invariants"]) or "1'b1"
+    invariants = " && ".join(f"(({e}) != 0)" for e in mapping["invariants"]) or "1'b1"
     assume = " && ".join([f"!({active})", *[f"(({e}) != 0)" for e in mapping["assume"]]])
     lines += [f"  (* keep *) reg [15:0] wb_t = 0;", f"  always @(posedge {mapping['clock']}) wb_t <= wb_t + 1;", f"  wire wb_inv = {invariants};",
               f"  wire wb_a = {assume};", f"  wire wb_start = ({mapping['start']}) != 0;", f"  wire wb_active = {active};"]
