@@ -44,6 +44,7 @@ pub record IsPastBound (s : Setting) (run : Run) (cycles t j : ℕ) : Type 0 whe
   pub starts : StartsAt s run begun
   pub is_command : IsCommandOf s run begun j
   pub is_entry : IsMapEntry s j entry
+  pub from : begun ≤ t
   pub is_last : suc t ≡ begun + entry.bound
   pub within : t < cycles
   pub not_ended : (u : ℕ) → begun ≤ u → u ≤ t → ¬ CommitsAt s run j u

@@ -1,3 +1,4 @@
 pub mod Premises
 pub mod Disagreements
 pub mod Watched
+pub mod Laws
