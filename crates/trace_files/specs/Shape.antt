@@ -1,15 +1,15 @@
 -- The trace that a file's data has the shape of: each key of a trace is there and no other, and each value is a number as a text, or a list
 -- of such numbers. What the names are, and whether values fit, is not looked at.
-use Rattle.std.specs.Prelude.{◌≡◌, ℕ, false, List, [], ◌∷◌, Some, codes}
+use Rattle.std.specs.Prelude.{◌≡◌, ℕ, ◌<◌, ◌^◌, false, List, [], ◌∷◌, Some, codes}
 use Rattle.wb_values.specs.Value.{Name, Value, number, words, Entries}
 use Rattle.serde_json.specs.Data.{Data, Items, no_items, item, Members, no_members, member}
 use Rattle.serde_json.specs.Find.{get, as_str, as_array, as_object}
 use Rattle.map_files.specs.Keys.{has_key_besides}
 use Rattle.reports.specs.Report.{Trace, hexadecimal}
 
--- a number: a text that is `0x` and its lower-case hexadecimal digits without leading zeros
+-- a number of at most 128 bits: a text that is `0x` and its lower-case hexadecimal digits without leading zeros
 abbrev pub IsNumeral : Data → ℕ → Type 0
-IsNumeral d x = as_str d ≡ Some (hexadecimal x)
+IsNumeral d x = (x < 2 ^ 128) × (as_str d ≡ Some (hexadecimal x))
 
 abbrev pub AreNumerals : Items → List ℕ → Type 0
 AreNumerals no_items xs = xs ≡ []

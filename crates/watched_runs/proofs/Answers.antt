@@ -6,8 +6,7 @@ use Rattle.refinement.specs.Refinement.{IsIdle, Refines}
 use Rattle.watched_runs.specs.Premises.{Premise, of_reset, of_assumption, of_flight, PremiseFails, ComesBefore, IsFirstFailing, HavePremises, IsPremiseEnd}
 use Rattle.watched_runs.specs.Disagreements.{Disagreement, initial_value, no_step, past_bound, other_state, StandsBefore, IsFirstDisagreement}
 use Rattle.watched_runs.specs.Watched.{agrees, outside, disagrees, HasEnded, in_reset, at_last, it_disagrees, it_is_outside, it_agrees}
-use Rattle.watched_runs.specs.Laws.{StatesAreNamed, RunsHaveOneAnswer}
-use Rattle.watched_runs.proofs.Refining.{no_disagreement}
+use Rattle.watched_runs.specs.Laws.{RunsHaveOneAnswer}
 
 compared : (m n : ℕ) → (m < n) ⊎ ((n < m) ⊎ (m ≡ n))
 compared m n = grind arith
@@ -108,10 +107,9 @@ same_end s run p q same h = subst (λ (x : ℕ). Refines s run x) (sym same) h
 whole : (s : Setting) (run : Run) (cycles : ℕ) → HavePremises s run cycles → IsPremiseEnd s run cycles cycles
 whole s run cycles h = record { within = omega arith; before = h; fails = λ less. absurd (omega (arith, less)); }
 
-none_disagrees : (s : Setting) (run : Run) (cycles p q t : ℕ) (which : Disagreement) → StatesAreNamed s.model → IsPremiseEnd s run cycles p
-    → IsPremiseEnd s run cycles q → Refines s run p → IsFirstDisagreement s run q t which → ⊥
-none_disagrees s run cycles p q t which named x y refines d =
-    no_disagreement s run q t which named (same_end s run p q (one_end s run cycles q p y x) refines) d.disagrees
+none_disagrees : (s : Setting) (run : Run) (cycles p q : ℕ) → IsPremiseEnd s run cycles p → IsPremiseEnd s run cycles q → Refines s run p
+    → ¬ Refines s run q → ⊥
+none_disagrees s run cycles p q x y refines not = not (same_end s run p q (one_end s run cycles q p y x) refines)
 
 same_disagreement : (s : Setting) (run : Run) (cycles p q t u : ℕ) (a b : Disagreement) → IsPremiseEnd s run cycles p → IsPremiseEnd s run cycles q
     → IsFirstDisagreement s run p t a → IsFirstDisagreement s run q u b → disagrees t a ≡ disagrees u b
@@ -129,16 +127,14 @@ same_outside s run cycles p q a b x y f g =
     subst (λ (r : ℕ). outside p a ≡ outside r b) same (ap (outside p) (one_premise s run p a b f at_p))
 
 pub one_answer : RunsHaveOneAnswer
-one_answer s run cycles _ _ named (it_disagrees p t a x d) (it_disagrees q u b y e) = same_disagreement s run cycles p q t u a b x y d e
-one_answer s run cycles _ _ named (it_disagrees p t a x d) (it_is_outside q b y less refines f) =
-    absurd (none_disagrees s run cycles q p t a named y x refines d)
-one_answer s run cycles _ _ named (it_disagrees p t a x d) (it_agrees n h refines e) =
-    absurd (none_disagrees s run cycles cycles p t a named (whole s run cycles h) x refines d)
-one_answer s run cycles _ _ named (it_is_outside q b y less refines f) (it_disagrees p t a x d) =
-    absurd (none_disagrees s run cycles q p t a named y x refines d)
-one_answer s run cycles _ _ named (it_is_outside p a x less refines f) (it_is_outside q b y low also g) = same_outside s run cycles p q a b x y f g
-one_answer s run cycles _ _ named (it_is_outside p a x less refines f) (it_agrees n h also e) = absurd (h p a less f.fails)
-one_answer s run cycles _ _ named (it_agrees n h refines e) (it_disagrees p t a x d) =
-    absurd (none_disagrees s run cycles cycles p t a named (whole s run cycles h) x refines d)
-one_answer s run cycles _ _ named (it_agrees n h refines e) (it_is_outside p a x less also f) = absurd (h p a less f.fails)
-one_answer s run cycles _ _ named (it_agrees m h refines e) (it_agrees n g also f) = ap agrees (one_count s run cycles m n e f)
+one_answer s run cycles _ _ (it_disagrees p t a x not d) (it_disagrees q u b y also e) = same_disagreement s run cycles p q t u a b x y d e
+one_answer s run cycles _ _ (it_disagrees p t a x not d) (it_is_outside q b y less refines f) = absurd (none_disagrees s run cycles q p y x refines not)
+one_answer s run cycles _ _ (it_disagrees p t a x not d) (it_agrees n h refines e) =
+    absurd (none_disagrees s run cycles cycles p (whole s run cycles h) x refines not)
+one_answer s run cycles _ _ (it_is_outside q b y less refines f) (it_disagrees p t a x not d) = absurd (none_disagrees s run cycles q p y x refines not)
+one_answer s run cycles _ _ (it_is_outside p a x less refines f) (it_is_outside q b y low also g) = same_outside s run cycles p q a b x y f g
+one_answer s run cycles _ _ (it_is_outside p a x less refines f) (it_agrees n h also e) = absurd (h p a less f.fails)
+one_answer s run cycles _ _ (it_agrees n h refines e) (it_disagrees p t a x not d) =
+    absurd (none_disagrees s run cycles cycles p (whole s run cycles h) x refines not)
+one_answer s run cycles _ _ (it_agrees n h refines e) (it_is_outside p a x less also f) = absurd (h p a less f.fails)
+one_answer s run cycles _ _ (it_agrees m h refines e) (it_agrees n g also f) = ap agrees (one_count s run cycles m n e f)

@@ -20,4 +20,4 @@ RefiningRunsDoNotDisagree =
 -- A run has at most one answer.
 abbrev pub RunsHaveOneAnswer : Type 0
 RunsHaveOneAnswer =
-    (s : Setting) (run : Run) (cycles : ℕ) (a b : Watched) → StatesAreNamed s.model → IsWatched s run cycles a → IsWatched s run cycles b → a ≡ b
+    (s : Setting) (run : Run) (cycles : ℕ) (a b : Watched) → IsWatched s run cycles a → IsWatched s run cycles b → a ≡ b

@@ -11,7 +11,7 @@ pub data Premise : Type 0 where
   of_flight : Premise
 
 -- There is a start at cycle u inside a command: after the start of one that does not end before u. (A start at the cycle in which the
--- command ends is inside it, unless it is the command's own.)
+-- command ends is inside it too, where that cycle is after the command's start.)
 pub record IsStartInside (s : Setting) (run : Run) (u : ℕ) : Type 0 where
   pub ended : ℕ
   pub begun : ℕ

@@ -22,7 +22,7 @@ pub data HasEnded (s : Setting) (run : Run) (cycles : ℕ) : ℕ → Type 0 wher
 -- the model, it is their first disagreement; else, where p is a cycle of the run, that and the first premise that fails at it; else how
 -- many commands have ended.
 pub data IsWatched (s : Setting) (run : Run) (cycles : ℕ) : Watched → Type 0 where
-  it_disagrees : (p t : ℕ) (which : Disagreement) → IsPremiseEnd s run cycles p → IsFirstDisagreement s run p t which
+  it_disagrees : (p t : ℕ) (which : Disagreement) → IsPremiseEnd s run cycles p → ¬ Refines s run p → IsFirstDisagreement s run p t which
       → IsWatched s run cycles (disagrees t which)
   it_is_outside : (p : ℕ) (premise : Premise) → IsPremiseEnd s run cycles p → p < cycles → Refines s run p → IsFirstFailing s run p premise
       → IsWatched s run cycles (outside p premise)
