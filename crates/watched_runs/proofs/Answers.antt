@@ -19,9 +19,9 @@ premises_compared of_reset (of_assumption k) = inl tt
 premises_compared of_reset of_flight = inl tt
 premises_compared (of_assumption k) of_reset = inr (inl tt)
 premises_compared (of_assumption k) (of_assumption l) = elim (compared k l) [
-    | inl less ↦ inl less
-    | inr rest ↦ elim rest [ | inl more ↦ inr (inl more) | inr same ↦ inr (inr (ap of_assumption same)) ]
-  ]
+  | inl less ↦ inl less
+  | inr rest ↦ elim rest [ inl more ↦ inr (inl more) | inr same ↦ inr (inr (ap of_assumption same)) ]
+]
 premises_compared (of_assumption k) of_flight = inl tt
 premises_compared of_flight of_reset = inr (inl tt)
 premises_compared of_flight (of_assumption l) = inr (inl tt)
@@ -29,9 +29,9 @@ premises_compared of_flight of_flight = inr (inr refl)
 
 disagreements_compared : (a b : Disagreement) → StandsBefore a b ⊎ (StandsBefore b a ⊎ (a ≡ b))
 disagreements_compared (initial_value k) (initial_value l) = elim (compared k l) [
-    | inl less ↦ inl less
-    | inr rest ↦ elim rest [ | inl more ↦ inr (inl more) | inr same ↦ inr (inr (ap initial_value same)) ]
-  ]
+  | inl less ↦ inl less
+  | inr rest ↦ elim rest [ inl more ↦ inr (inl more) | inr same ↦ inr (inr (ap initial_value same)) ]
+]
 disagreements_compared (initial_value k) no_step = inl tt
 disagreements_compared (initial_value k) (past_bound l) = inl tt
 disagreements_compared (initial_value k) (other_state l) = inl tt
@@ -42,25 +42,25 @@ disagreements_compared no_step (other_state l) = inl tt
 disagreements_compared (past_bound k) (initial_value l) = inr (inl tt)
 disagreements_compared (past_bound k) no_step = inr (inl tt)
 disagreements_compared (past_bound k) (past_bound l) = elim (compared k l) [
-    | inl less ↦ inl less
-    | inr rest ↦ elim rest [ | inl more ↦ inr (inl more) | inr same ↦ inr (inr (ap past_bound same)) ]
-  ]
+  | inl less ↦ inl less
+  | inr rest ↦ elim rest [ inl more ↦ inr (inl more) | inr same ↦ inr (inr (ap past_bound same)) ]
+]
 disagreements_compared (past_bound k) (other_state l) = inl tt
 disagreements_compared (other_state k) (initial_value l) = inr (inl tt)
 disagreements_compared (other_state k) no_step = inr (inl tt)
 disagreements_compared (other_state k) (past_bound l) = inr (inl tt)
 disagreements_compared (other_state k) (other_state l) = elim (compared k l) [
-    | inl less ↦ inl less
-    | inr rest ↦ elim rest [ | inl more ↦ inr (inl more) | inr same ↦ inr (inr (ap other_state same)) ]
-  ]
+  | inl less ↦ inl less
+  | inr rest ↦ elim rest [ inl more ↦ inr (inl more) | inr same ↦ inr (inr (ap other_state same)) ]
+]
 
 -- ---- what is first is one
 
 one_premise : (s : Setting) (run : Run) (t : ℕ) (a b : Premise) → IsFirstFailing s run t a → IsFirstFailing s run t b → a ≡ b
 one_premise s run t a b x y = elim (premises_compared a b) [
-    | inl before ↦ absurd (y.first a before x.fails)
-    | inr rest ↦ elim rest [ | inl after ↦ absurd (x.first b after y.fails) | inr same ↦ same ]
-  ]
+  | inl before ↦ absurd (y.first a before x.fails)
+  | inr rest ↦ elim rest [ inl after ↦ absurd (x.first b after y.fails) | inr same ↦ same ]
+]
 
 -- No premise end comes before another.
 not_before : (s : Setting) (run : Run) (cycles p q : ℕ) → IsPremiseEnd s run cycles p → IsPremiseEnd s run cycles q → ¬ (p < q)
@@ -70,21 +70,21 @@ not_before s run cycles p q x y less =
 
 one_end : (s : Setting) (run : Run) (cycles p q : ℕ) → IsPremiseEnd s run cycles p → IsPremiseEnd s run cycles q → p ≡ q
 one_end s run cycles p q x y = elim (compared p q) [
-    | inl less ↦ absurd (not_before s run cycles p q x y less)
-    | inr rest ↦ elim rest [ | inl more ↦ absurd (not_before s run cycles q p y x more) | inr same ↦ same ]
-  ]
+  | inl less ↦ absurd (not_before s run cycles p q x y less)
+  | inr rest ↦ elim rest [ inl more ↦ absurd (not_before s run cycles q p y x more) | inr same ↦ same ]
+]
 
 one_cycle : (s : Setting) (run : Run) (cycles t u : ℕ) (a b : Disagreement) → IsFirstDisagreement s run cycles t a → IsFirstDisagreement s run cycles u b → t ≡ u
 one_cycle s run cycles t u a b x y = elim (compared t u) [
-    | inl less ↦ absurd (y.least t a less x.disagrees)
-    | inr rest ↦ elim rest [ | inl more ↦ absurd (x.least u b more y.disagrees) | inr same ↦ same ]
-  ]
+  | inl less ↦ absurd (y.least t a less x.disagrees)
+  | inr rest ↦ elim rest [ inl more ↦ absurd (x.least u b more y.disagrees) | inr same ↦ same ]
+]
 
 one_disagreement : (s : Setting) (run : Run) (cycles t : ℕ) (a b : Disagreement) → IsFirstDisagreement s run cycles t a → IsFirstDisagreement s run cycles t b → a ≡ b
 one_disagreement s run cycles t a b x y = elim (disagreements_compared a b) [
-    | inl before ↦ absurd (y.first a before x.disagrees)
-    | inr rest ↦ elim rest [ | inl after ↦ absurd (x.first b after y.disagrees) | inr same ↦ same ]
-  ]
+  | inl before ↦ absurd (y.first a before x.disagrees)
+  | inr rest ↦ elim rest [ inl after ↦ absurd (x.first b after y.disagrees) | inr same ↦ same ]
+]
 
 -- ---- how many have ended
 
@@ -105,7 +105,7 @@ same_end : (s : Setting) (run : Run) (p q : ℕ) → q ≡ p → Refines s run p
 same_end s run p q same h = subst (λ (x : ℕ). Refines s run x) (sym same) h
 
 whole : (s : Setting) (run : Run) (cycles : ℕ) → HavePremises s run cycles → IsPremiseEnd s run cycles cycles
-whole s run cycles h = record { within = omega arith; before = h; fails = λ less. absurd (omega (arith, less)); }
+whole s run cycles h = record { within = omega arith; before = h; fails = λ less. absurd (omega (arith, less)) }
 
 none_disagrees : (s : Setting) (run : Run) (cycles p q : ℕ) → IsPremiseEnd s run cycles p → IsPremiseEnd s run cycles q → Refines s run p
     → ¬ Refines s run q → ⊥

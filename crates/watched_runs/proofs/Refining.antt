@@ -21,7 +21,7 @@ soon s run cycles t j refines x u from within commits first = omega (arith, in_b
     in_bound : u < x.begun + x.entry.bound
     in_bound =
         refines.ended x.ended x.begun j u x.q x.entry x.is_state x.starts x.is_command x.is_entry
-        (record { from = from; commits = commits; first = first; }) within
+        (record { from = from; commits = commits; first = first }) within
 
 -- There is no commit of a command that is past its bound: the first one would be too late.
 no_commit : (s : Setting) (run : Run) (cycles t j : ℕ) → Refines s run cycles → (x : IsPastBound s run cycles t j)
@@ -37,6 +37,7 @@ within_bound s run cycles t j refines x = absurd (omega (arith, past_run, x.is_l
   where
     begun_within : x.begun < cycles
     begun_within = omega (arith, x.from, x.within)
+
     past_run : cycles < x.begun + x.entry.bound
     past_run =
         refines.open_command x.ended x.begun j x.q x.entry x.is_state begun_within x.starts x.is_command x.is_entry
