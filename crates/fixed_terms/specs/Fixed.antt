@@ -1,5 +1,5 @@
 -- What is known where a term is false, and what is worth the same where names have fixed values.
-use Rattle.std.specs.Prelude.{◌≡◌, ℕ, ◌<◌, ◌≤◌, ⊤, Bool, true, false, not, List, [], ◌∷◌, length, drop, slice_index_or, slice_set, Option, Some, None}
+use Rattle.std.specs.Prelude.{◌≡◌, ℕ, ◌<◌, ◌≤◌, ⊤, Bool, true, false, not, List, [], ◌∷◌, length, drop, slice_index_or, slice_set, Option, Some, None, IsSome}
 use Rattle.wb_values.specs.Value.{truth, Valuation}
 use Rattle.model_meaning.specs.Term.{sort_of, val}
 use Rattle.wb_terms.specs.declared.nodes.TermId.{TermId}
@@ -40,6 +40,7 @@ IsConstant _ = ⊥
 -- The value is a constant, which the term is worth wherever this holds.
 pub record IsFixed (g : Graph) (k : ℕ) (P : Valuation → Type 0) (value : Node) : Type 0 where
   pub constant : IsConstant value
+  pub sorted : IsSome (sort_of (tree_of_node g value))
   pub sort : sort_of (tree_of_node g value) ≡ sort_of (tree g k)
   pub worth : (v : Valuation) → FitsNames g.names v → P v → val (tree_of_node g value) v ≡ val (tree g k) v
 
