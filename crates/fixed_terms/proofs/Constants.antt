@@ -112,7 +112,7 @@ is_above_fixed g x y all l same e h =
 
 -- ---- comparisons have operands of one sort
 
-is_there : Option Sort → Bool
+abbrev is_there : Option Sort → Bool
 is_there (Some s) = true
 is_there None = false
 

@@ -3,14 +3,14 @@ use Rattle.std.proofs.Common.{◌≡◌, ℕ, zero, suc, ◌+◌, ◌<◌, ◌�
 use Rattle.std.proofs.lemmas.Bool.{false≢true}
 use Rattle.std.proofs.lemmas.List.{drop_more}
 use Rattle.wb_values.specs.Value.{truth, Value, truth_value, as_truth, Valuation, HasSort}
-use Rattle.model_meaning.specs.Term.{Term, val}
+use Rattle.model_meaning.specs.Term.{Term, sort_of, val}
 use Rattle.wb_terms.specs.declared.nodes.Node.TheVariants.{Name as NameNode}
 use Rattle.wb_terms.specs.Graph.{Graph, tree}
 use Rattle.term_copies.specs.Copies.{IsExtended}
 use Rattle.term_copies.proofs.Extending.{tree_kept, extended_trans}
 use Rattle.run_terms.specs.Names.{FitsNames}
 use Rattle.run_terms.proofs.Values.{fits_before}
-use Rattle.condition_terms.specs.Told.{IsTermOf, IsJoined, is_true}
+use Rattle.condition_terms.specs.Told.{IsTermOf, AreAllOfSorts, IsJoined, is_true}
 use Rattle.condition_terms.proofs.Forming.{IsTermOf-kept, truth_form}
 use Rattle.fixed_terms.specs.declared.fixes.Fix.{Fix}
 use Rattle.fixed_terms.specs.Fixed.{Follows, AllFollow, Holds, AreFixes, AllHold, IsSame, IsGuarded}
@@ -107,3 +107,7 @@ guarded_same g h k fs id copy all v w a b x n s u fit =
         (λ e. sym (where_hold (hold_before fs v way x (u.holds v fit_k e))) ∙ e)
         (λ e. where_hold (all_hold g id fs v n fit e) ∙ e) in
     truth_form (val (tree k all) v) (u.condition.is_of v fit_k) ∙ (ap truth_value same ∙ sym (truth_form (val (tree g id) v) (w.is_of v fit)))
+
+-- a copy of a condition is a condition
+pub copy_is_term : {g h : Graph} (fs : List Fix) (id copy : ℕ) → IsExtended g h → AreAllOfSorts h → IsTermOf g id truth → IsSame h fs copy id → IsTermOf h copy truth
+copy_is_term {g} {h} fs id copy a all w s = all copy truth s.below (s.sort ∙ (ap sort_of (tree_kept id a w.below) ∙ w.sort))

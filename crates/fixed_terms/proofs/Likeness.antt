@@ -287,6 +287,9 @@ own_same g fs ids o =
           subst (λ i. IsSame g fs i k) (sym (o.own k l)) (record { below = l; sort = refl; value = λ v f h. refl });
     }
 
+pub same_own : (g : Graph) (fs : List Fix) (k : ℕ) → k < length g.nodes → IsSame g fs k k
+same_own g fs k l = record { below = l; sort = refl; value = λ v f h. refl }
+
 pub own_none : AreOwn 0 []
 own_none = record { room = refl; own = λ k b. absurd (omega (arith, b)) }
 

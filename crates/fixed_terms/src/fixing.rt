@@ -33,6 +33,7 @@ pub fn with_fixed(alloc: Global, terms: &mut Terms, id: TermId) -> Result<TermId
         return Ok(id);
     }
     let copy = put_copy(alloc, terms, id, &fixes)?;
+    check_sorts(terms);
     let all = put_guards(terms, copy, &fixes)?;
     Ok(all)
 }
