@@ -1,7 +1,7 @@
 -- What is known where a term is false, and what is worth the same where names have fixed values.
 use Rattle.std.specs.Prelude.{◌≡◌, ℕ, ◌<◌, ◌≤◌, ⊤, Bool, true, false, not, List, [], ◌∷◌, length, drop, slice_index_or, slice_set, Option, Some, None, IsSome}
-use Rattle.wb_values.specs.Value.{truth, Valuation}
-use Rattle.model_meaning.specs.Term.{sort_of, val}
+use Rattle.wb_values.specs.Value.{truth, as_truth, as_number, Valuation}
+use Rattle.model_meaning.specs.Term.{Term, sort_of, val}
 use Rattle.wb_terms.specs.declared.nodes.TermId.{TermId}
 use Rattle.wb_terms.specs.declared.nodes.Node.{Node}
 use Rattle.wb_terms.specs.declared.nodes.Node.TheVariants.{Truth, Const, Not, And, Or}
@@ -30,6 +30,16 @@ known_by (Not x) b ks = slice_set ks x.0 (Some (not b))
 known_by (And x y) true ks = slice_set (slice_set ks x.0 (Some true)) y.0 (Some true)
 known_by (Or x y) false ks = slice_set (slice_set ks x.0 (Some false)) y.0 (Some false)
 known_by _ _ ks = ks
+
+-- The condition is true exactly where this term is.
+pub record IsCase (g : Graph) (t : Term) (k : ℕ) : Type 0 where
+  pub below : k < length g.nodes
+  pub sort : sort_of (tree g k) ≡ Some truth
+  pub same : (v : Valuation) → as_truth (val t v) ≡ is_true g k v
+
+-- Two words are the constants 1 and 0.
+abbrev pub IsOneAndZero : Graph → (j k : ℕ) → Type 0
+IsOneAndZero g j k = (v : Valuation) → (as_number (val (tree g j) v) ≡ 1) × (as_number (val (tree g k) v) ≡ 0)
 
 -- a constant
 abbrev pub IsConstant : Node → Type 0

@@ -1,8 +1,8 @@
 //! A term over constants in place of what is fixed where it is false.
 
-ghost use Rattle.std.specs.Prelude.{◌≡◌, IfOk};
+ghost use Rattle.std.specs.Prelude.{◌≡◌, ◌<◌, length, IfOk, Some};
 ghost use Rattle.wb_values.specs.Value.{truth};
-ghost use Rattle.model_meaning.specs.Term.{val};
+ghost use Rattle.model_meaning.specs.Term.{val, sort_of};
 ghost use Rattle.wb_terms.specs.Graph.{tree};
 ghost use Rattle.term_copies.specs.Copies.{IsExtended};
 ghost use Rattle.run_terms.specs.Names.{FitsNames};
@@ -21,7 +21,8 @@ use wb_terms::{TermId, Terms};
 /// one of the conditions that fix them does not hold, or that the copy of the term is true. It is the given term itself where nothing is
 /// fixed.
 pub fn with_fixed(alloc: Global, terms: &mut Terms, id: TermId) -> Result<TermId, NoMemory>
-    requires { IsTermOf terms.old id.0 truth }
+    requires id { id.0 < length terms.old.nodes }
+    requires sort { sort_of (tree terms.old id.0) ≡ Some truth }
     ensures extended { IsExtended terms.old terms.new }
     ensures term { IfOk result (λ r. IsTermOf terms.new r.0 truth) }
     ensures value { IfOk result (λ r. (v : _) → FitsNames terms.old.names v → val (tree terms.new r.0) v ≡ val (tree terms.old id.0) v) }
