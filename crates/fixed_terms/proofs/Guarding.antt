@@ -101,11 +101,11 @@ guarded_same g h k fs id copy all v w a b x n s u fit =
     let fit_k : FitsNames k.names v = subst (λ ns. FitsNames ns v) (sym way.names) fit in
     let fit_h : FitsNames h.names v = subst (λ ns. FitsNames ns v) (sym a.names) fit in
     let where_hold : AllHold g fs v → is_true k all v ≡ is_true g id v =
-        λ p. u.opens v fit_k (hold_after fs v way x p) ∙ (true_kept copy v b s.below ∙ (ap as_truth (s.value v fit_h (hold_after fs v a x p)) ∙ true_kept id v a w.below)) in
+    λ p. u.opens v fit_k (hold_after fs v way x p) ∙ (true_kept copy v b s.below ∙ (ap as_truth (s.value v fit_h (hold_after fs v a x p)) ∙ true_kept id v a w.below)) in
     let same : is_true k all v ≡ is_true g id v =
-        one_truth (is_true k all v) (is_true g id v)
-        (λ e. sym (where_hold (hold_before fs v way x (u.holds v fit_k e))) ∙ e)
-        (λ e. where_hold (all_hold g id fs v n fit e) ∙ e) in
+    one_truth (is_true k all v) (is_true g id v)
+    (λ e. sym (where_hold (hold_before fs v way x (u.holds v fit_k e))) ∙ e)
+    (λ e. where_hold (all_hold g id fs v n fit e) ∙ e) in
     truth_form (val (tree k all) v) (u.condition.is_of v fit_k) ∙ (ap truth_value same ∙ sym (truth_form (val (tree g id) v) (w.is_of v fit)))
 
 -- a copy of a condition is a condition

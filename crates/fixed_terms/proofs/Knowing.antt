@@ -97,18 +97,18 @@ known_more g id place (And x y) true ks all e o l f a =
     let w = all x.0 truth (omega (arith, o.operands.0, l, room)) s.0 in
     let u = all y.0 truth (omega (arith, o.operands.1.0, l, room)) s.1 in
     let both = λ (v : Valuation) (fit : FitsNames g.names v) (h : is_true g id v ≡ false).
-        and_value (val (tree g x.0) v) (val (tree g y.0) v) (w.is_of v fit) (sym (ap (λ (t : Term). as_truth (val t v)) e) ∙ f.value v fit h) in
+    and_value (val (tree g x.0) v) (val (tree g y.0) v) (w.is_of v fit) (sym (ap (λ (t : Term). as_truth (val t v)) e) ∙ f.value v fit h) in
     known_two g id ks x.0 y.0 true true (omega (arith, o.operands.0, l)) (omega (arith, o.operands.1.0, l))
-        (record { condition = w; value = λ v fit h. (both v fit h).0 }) (record { condition = u; value = λ v fit h. (both v fit h).1 }) a
+    (record { condition = w; value = λ v fit h. (both v fit h).0 }) (record { condition = u; value = λ v fit h. (both v fit h).1 }) a
 known_more g id place (Or x y) false ks all e o l f a =
     let room = a.room in
     let s = same_bits_truth (sort_of (tree g x.0)) (sort_of (tree g y.0)) (sym (ap sort_of e) ∙ f.condition.sort) in
     let w = all x.0 truth (omega (arith, o.operands.0, l, room)) s.0 in
     let u = all y.0 truth (omega (arith, o.operands.1.0, l, room)) s.1 in
     let both = λ (v : Valuation) (fit : FitsNames g.names v) (h : is_true g id v ≡ false).
-        or_value (val (tree g x.0) v) (val (tree g y.0) v) (w.is_of v fit) (sym (ap (λ (t : Term). as_truth (val t v)) e) ∙ f.value v fit h) in
+    or_value (val (tree g x.0) v) (val (tree g y.0) v) (w.is_of v fit) (sym (ap (λ (t : Term). as_truth (val t v)) e) ∙ f.value v fit h) in
     known_two g id ks x.0 y.0 false false (omega (arith, o.operands.0, l)) (omega (arith, o.operands.1.0, l))
-        (record { condition = w; value = λ v fit h. (both v fit h).0 }) (record { condition = u; value = λ v fit h. (both v fit h).1 }) a
+    (record { condition = w; value = λ v fit h. (both v fit h).0 }) (record { condition = u; value = λ v fit h. (both v fit h).1 }) a
 known_more g id place _ _ ks all e o l f a = a
 
 abbrev is_there : Option Bool → Bool

@@ -12,11 +12,7 @@ use condition_terms::{either, negation};
 use wb_terms::{TermId, Terms};
 
 /// A condition that is true where one of the fixes does not hold, and else is worth what `copy` is.
-pub(crate) fn put_guards(
-    terms: &mut Terms,
-    copy: TermId,
-    fixes: &[Fix],
-) -> Result<TermId, NoMemory>
+pub(crate) fn put_guards(terms: &mut Terms, copy: TermId, fixes: &[Fix]) -> Result<TermId, NoMemory>
     requires copy { IsTermOf terms.old copy.0 truth }
     requires fixes { AreFixes terms.old fixes.now }
     ensures extended { IsExtended terms.old terms.new }

@@ -61,9 +61,8 @@ fn condition_of_bit(terms: &Terms, node: Node) -> Option<TermId>
         return None;
     };
     match (node_of(terms, zero), node_of(terms, bit)) {
-        (Node::Const(_, 0), Node::Ite(condition, chosen, other)) if is_bit(terms, chosen, other) => {
-            Some(condition)
-        }
+        (Node::Const(_, 0), Node::Ite(condition, chosen, other)) if is_bit(terms, chosen, other) =>
+            { Some(condition) }
         _ => None,
     }
 }

@@ -26,9 +26,10 @@ loop-place-preserved c =
           let now : c.match-known-place.fixes.items ≡ l.fixes.items ++ f ∷ [] = ap (λ (v : Vec Fix Global). v.items) w.fixes-is ∙ w.in_ok-push.ensures.items in
           let at : Follows g id l.place w.in-Some.holds = c.requires.known.follows l.place w.in-Some.holds within w.in-Some.is in
           let here : Follows g id f.condition.0 w.in-Some.holds = subst (λ (x : TermId). Follows g id x.0 w.in-Some.holds) (sym w.in-Some-fix_of.ensures.condition) at in
-          let follows : Follows g id f.condition.0 f.holds = subst (Follows g id f.condition.0) (sym w.in-Some-fix_of.ensures.holds) here in
-          (subst (AreFixes g) (sym now) (fixes_push g l.fixes.items f l.invariant.0 w.in-Some-fix_of.ensures.fix),
-            subst (AllFollow g id) (sym now) (follow_push g id l.fixes.items f l.invariant.1 follows))
+          let follows : Follows g id f.condition.0 f.holds = subst (Follows g id f.condition.0) (sym w.in-Some-fix_of.ensures.holds) here in (
+            subst (AreFixes g) (sym now) (fixes_push g l.fixes.items f l.invariant.0 w.in-Some-fix_of.ensures.fix),
+            subst (AllFollow g id) (sym now) (follow_push g id l.fixes.items f l.invariant.1 follows),
+          )
       | in-Some+in_default-fix_of w ↦
           let now = ap (λ (v : Vec Fix Global). v.items) w.fixes-is in
           (subst (AreFixes g) (sym now) l.invariant.0, subst (AllFollow g id) (sym now) l.invariant.1)
