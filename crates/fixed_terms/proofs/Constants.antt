@@ -1,16 +1,15 @@
 -- Conditions that give a name one value.
-use Rattle.std.proofs.Common.{◌≡◌, ℕ, zero, suc, ◌<◌, ◌^◌, Bool, true, false, cond, ◌&&◌, ◌==◌, nat_lt, length, Option, Some, None, refl, sym, ap, ◌∙◌, subst, arith}
-use Rattle.std.specs.Prelude.{IsSome, IsTrue}
+use Rattle.std.proofs.Common.{◌≡◌, ℕ, zero, suc, ◌<◌, ◌^◌, Bool, true, false, ◌&&◌, ◌==◌, nat_lt, length, Option, Some, None, refl, sym, ap, ◌∙◌, subst, arith}
+use Rattle.std.specs.Prelude.{IsSome}
 use Rattle.std.proofs.lemmas.Bool.{false≢true}
-use Rattle.wb_values.specs.Value.{Sort, truth, word, memory, Value, truth_value, number, words, as_truth, as_number, Valuation, HasSort}
+use Rattle.wb_values.specs.Value.{Sort, truth, word, Value, truth_value, number, words, as_number, Valuation, HasSort}
 use Rattle.wb_values.specs.Number.{word_ult}
 use Rattle.wb_values.specs.Choice.{some_if}
-use Rattle.model_meaning.specs.Term.{Term, constant_truth, const, eq, ult, same_bits_sort, same_word_sort, compared, is_width, is_equal, sort_of, val}
+use Rattle.model_meaning.specs.Term.{Term, const, eq, ult, same_bits_sort, same_word_sort, compared, is_width, is_equal, sort_of, val}
 use Rattle.wb_terms.specs.declared.nodes.Node.{Node}
 use Rattle.wb_terms.specs.declared.nodes.Node.TheVariants.{Truth, Const}
-use Rattle.wb_terms.specs.Graph.{Graph, tree, tree_of_node}
+use Rattle.wb_terms.specs.Graph.{Graph, tree}
 use Rattle.wb_terms.proofs.HeldLemmas.{same_number, below, test_of}
-use Rattle.run_terms.specs.Names.{FitsNames}
 use Rattle.condition_terms.specs.Told.{IsTermOf, AreAllOfSorts, is_true}
 use Rattle.condition_terms.proofs.Forming.{truth_form, number_form}
 use Rattle.fixed_terms.specs.Fixed.{IsFixed}

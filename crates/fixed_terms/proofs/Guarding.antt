@@ -2,7 +2,7 @@
 use Rattle.std.proofs.Common.{◌≡◌, ℕ, zero, suc, ◌+◌, ◌<◌, ◌≤◌, Bool, true, false, cond, not as truth_not, ◌||◌, List, [], ◌∷◌, length, get_or, drop, refl, sym, ap, ◌∙◌, subst, arith}
 use Rattle.std.proofs.lemmas.Bool.{false≢true}
 use Rattle.std.proofs.lemmas.List.{drop_more}
-use Rattle.wb_values.specs.Value.{truth, Value, truth_value, as_truth, Valuation, HasSort}
+use Rattle.wb_values.specs.Value.{truth, truth_value, as_truth, Valuation}
 use Rattle.model_meaning.specs.Term.{Term, sort_of, val}
 use Rattle.wb_terms.specs.declared.nodes.Node.TheVariants.{Name as NameNode}
 use Rattle.wb_terms.specs.Graph.{Graph, tree}
@@ -11,10 +11,10 @@ use Rattle.term_copies.proofs.Extending.{tree_kept, extended_trans}
 use Rattle.run_terms.specs.Names.{FitsNames}
 use Rattle.run_terms.proofs.Values.{fits_before}
 use Rattle.condition_terms.specs.Told.{IsTermOf, AreAllOfSorts, IsJoined, is_true}
-use Rattle.condition_terms.proofs.Forming.{IsTermOf-kept, truth_form}
+use Rattle.condition_terms.proofs.Forming.{truth_form}
 use Rattle.fixed_terms.specs.declared.fixes.Fix.{Fix}
-use Rattle.fixed_terms.specs.Fixed.{Follows, AllFollow, Holds, AreFixes, AllHold, IsSame, IsGuarded}
-use Rattle.fixed_terms.proofs.Likeness.{hold_before, hold_at, fixes_kept}
+use Rattle.fixed_terms.specs.Fixed.{AllFollow, Holds, AreFixes, AllHold, IsSame, IsGuarded}
+use Rattle.fixed_terms.proofs.Likeness.{hold_before, hold_at}
 
 -- what a read past the end of a list of fixes would give
 abbrev pub no_fix : Fix

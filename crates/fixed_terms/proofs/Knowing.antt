@@ -1,19 +1,17 @@
 -- What the truth value of a condition says of its operands.
-use Rattle.std.proofs.Common.{◌≡◌, ℕ, zero, suc, ◌<◌, Bool, true, false, cond, not as truth_not, ◌&&◌, ◌||◌, ◌==◌, List, [], ◌∷◌, length, get_or, set, replicate, Option, Some, None, inl, inr, refl, sym, ap, ◌∙◌, subst, arith}
-use Rattle.std.specs.Prelude.{IsSome}
+use Rattle.std.proofs.Common.{◌≡◌, ℕ, zero, suc, ◌<◌, Bool, true, false, not as truth_not, ◌==◌, List, [], ◌∷◌, length, get_or, set, replicate, Option, Some, None, inl, inr, refl, sym, ap, ◌∙◌, subst, arith}
 use Rattle.std.proofs.lemmas.Bool.{cases_eq, false≢true}
 use Rattle.std.proofs.lemmas.List.{length-replicate, get_or-set_same, get_or-set_other}
 use Rattle.std.proofs.Math.ListN.{length-set}
-use Rattle.wb_values.specs.Value.{Sort, truth, word, memory, Value, truth_value, number, words, as_truth, as_number, Valuation, HasSort}
-use Rattle.wb_values.specs.Number.{word_ult}
+use Rattle.wb_values.specs.Value.{Sort, truth, word, memory, Value, truth_value, number, words, as_truth, Valuation, HasSort}
 use Rattle.wb_values.specs.Choice.{some_if}
-use Rattle.model_meaning.specs.Term.{Term, const, ult, ite, ite_sort, bits_sort, same_bits_sort, sort_of, width_of_sort, complement, conjunction, disjunction, val}
+use Rattle.model_meaning.specs.Term.{Term, bits_sort, same_bits_sort, sort_of, width_of_sort, complement, conjunction, disjunction, val}
 use Rattle.wb_terms.specs.declared.nodes.Node.{Node}
 use Rattle.wb_terms.specs.declared.nodes.Node.TheVariants.{Not, And, Or}
 use Rattle.wb_terms.specs.Graph.{Graph, IsOver, tree, tree_of_node}
 use Rattle.run_terms.specs.Names.{FitsNames}
 use Rattle.condition_terms.specs.Told.{IsTermOf, AreAllOfSorts, is_true}
-use Rattle.fixed_terms.specs.Fixed.{Follows, known_at, AreKnown, known_by, IsCase, IsOneAndZero}
+use Rattle.fixed_terms.specs.Fixed.{Follows, known_at, AreKnown, known_by, IsCase}
 
 -- ---- sorts of operands
 

@@ -1,10 +1,10 @@
 -- Terms that are worth the same where all fixes hold.
-use Rattle.std.proofs.Common.{◌≡◌, ℕ, zero, suc, ◌+◌, ◌<◌, ◌≤◌, Bool, false, true, cond, List, [], ◌∷◌, ◌++◌, length, length-append, get_or, set, Option, Some, None, refl, sym, ap, ◌∙◌, subst, arith, inl, inr}
+use Rattle.std.proofs.Common.{◌≡◌, ℕ, zero, suc, ◌+◌, ◌<◌, ◌≤◌, cond, List, [], ◌∷◌, ◌++◌, length, length-append, get_or, set, refl, sym, ap, ◌∙◌, subst, arith, inl, inr}
 use Rattle.std.specs.Prelude.{IsSome, ⊤, slice_set, slice_index}
 use Rattle.std.proofs.lemmas.Bool.{cases_eq, cases_lt}
 use Rattle.std.proofs.lemmas.List.{get_or-set_same, get_or-set_other, get_or_append_left, get_or_at}
 use Rattle.std.proofs.Math.ListN.{length-set}
-use Rattle.wb_values.specs.Value.{Sort, truth, Value, truth_value, number, words, as_truth, as_number, as_words, Valuation}
+use Rattle.wb_values.specs.Value.{truth, truth_value, number, words, as_truth, as_number, as_words, Valuation}
 use Rattle.wb_values.specs.Number.{word_neg, word_add, word_sub, word_mul, word_shl, word_lshr, word_ashr, word_ult, word_ule, word_slt, word_sle, word_concat, word_extract, word_zext, word_sext}
 use Rattle.model_meaning.specs.Term.{Term, bits_sort, same_bits_sort, word_sort, same_word_sort, compared, concat_sort, extract_sort, extended_sort, ite_sort, load_sort, store_sort, sort_of, width_of_sort, complement, conjunction, disjunction, exclusive_or, is_equal, val}
 use Rattle.wb_terms.specs.declared.nodes.TermId.{TermId}
@@ -15,10 +15,10 @@ use Rattle.term_copies.specs.Copies.{IsExtended, id_at, over_copies}
 use Rattle.term_copies.proofs.Extending.{tree_kept, count_grows}
 use Rattle.run_terms.specs.Names.{FitsNames}
 use Rattle.run_terms.proofs.Values.{fits_before}
-use Rattle.condition_terms.specs.Told.{IsTermOf, is_true}
+use Rattle.condition_terms.specs.Told.{is_true}
 use Rattle.condition_terms.proofs.Forming.{IsTermOf-kept}
 use Rattle.fixed_terms.specs.declared.fixes.Fix.{Fix}
-use Rattle.fixed_terms.specs.Fixed.{Follows, AllFollow, IsConstant, IsFixed, Holds, IsFix, AreFixes, AllHold, IsSame, AreSame, AreOwn, AreWithin}
+use Rattle.fixed_terms.specs.Fixed.{Follows, AllFollow, IsConstant, Holds, IsFix, AreFixes, AllHold, IsSame, AreSame, AreOwn}
 
 -- The terms have one sort, and one value where this holds.
 pub record IsLike (P : Valuation → Type 0) (x y : Term) : Type 0 where

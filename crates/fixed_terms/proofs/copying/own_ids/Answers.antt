@@ -1,4 +1,4 @@
-use Rattle.std.proofs.Common.{◌≡◌, ◌∙◌, ◌+◌, ◌<◌, ◌≤◌, length, ap, refl, sym, subst, arith}
+use Rattle.std.proofs.Common.{◌≡◌, ◌+◌, length, refl, sym, subst, arith}
 use Rattle.fixed_terms.specs.Fixed.{AreOwn}
 use Rattle.fixed_terms.proofs.Likeness.{own_none, own_more}
 use Rattle.fixed_terms.proofs.copying.own_ids.Goals as goal

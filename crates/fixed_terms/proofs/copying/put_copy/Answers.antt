@@ -1,6 +1,5 @@
-use Rattle.std.proofs.Common.{◌≡◌, ◌∙◌, ◌+◌, ◌<◌, List, length, ap, refl, sym, subst, arith}
-use Rattle.wb_terms.specs.declared.nodes.TermId.{TermId}
-use Rattle.fixed_terms.specs.Fixed.{AreSame, IsSame, AreWithin}
+use Rattle.std.proofs.Common.{◌∙◌, length, sym, subst}
+use Rattle.fixed_terms.specs.Fixed.{AreWithin}
 use Rattle.fixed_terms.proofs.Likeness.{fixes_kept, own_same}
 use Rattle.fixed_terms.proofs.copying.put_copy.Goals as goal
 

@@ -1,10 +1,10 @@
-use Rattle.std.proofs.Common.{◌≡◌, ◌∙◌, ◌+◌, ◌<◌, Vec, Global, List, get_or, length, ap, refl, sym, subst, arith}
+use Rattle.std.proofs.Common.{◌∙◌, ◌<◌, Vec, Global, length, ap, refl, sym, subst, arith}
 use Rattle.std.proofs.Math.ListN.{length-set}
 use Rattle.wb_terms.specs.declared.nodes.TermId.{TermId}
 use Rattle.wb_terms.specs.Graph.{Graph}
 use Rattle.term_copies.specs.Copies.{IsExtended, id_at}
-use Rattle.term_copies.proofs.Extending.{extended_refl, extended_trans, count_grows}
-use Rattle.fixed_terms.specs.Fixed.{AreSame, IsSame}
+use Rattle.term_copies.proofs.Extending.{extended_refl, extended_trans}
+use Rattle.fixed_terms.specs.Fixed.{AreSame}
 use Rattle.fixed_terms.proofs.Likeness.{fixes_kept, same_set, are_same_kept}
 use Rattle.fixed_terms.proofs.copying.put_each.Goals.{then-eq+in_ok-copy, else-eq}
 use Rattle.fixed_terms.proofs.copying.put_each.Goals as goal

@@ -1,11 +1,9 @@
-use Rattle.std.proofs.Common.{◌≡◌, ◌∙◌, ◌+◌, ◌<◌, length, ap, refl, sym, subst, arith}
+use Rattle.std.proofs.Common.{◌∙◌, length, ap, sym, subst, arith}
 use Rattle.std.specs.Prelude.{IsSome}
 use Rattle.model_meaning.specs.Term.{sort_of}
 use Rattle.wb_terms.specs.declared.nodes.Node.{Node}
-use Rattle.wb_terms.specs.Graph.{IsOver, operands_of, tree, tree_of_node}
-use Rattle.term_copies.proofs.Extending.{extended_refl, extended_trans, count_grows}
-use Rattle.fixed_terms.specs.Fixed.{AreSame, IsSame}
-use Rattle.fixed_terms.proofs.Likeness.{all_below_more, have_same, over_is_over, over_is_sorted, same_over, same_own}
+use Rattle.wb_terms.specs.Graph.{IsOver, operands_of, tree_of_node}
+use Rattle.fixed_terms.proofs.Likeness.{all_below_more, have_same, over_is_over, over_is_sorted, same_over}
 use Rattle.fixed_terms.proofs.copying.put_over.Goals as goal
 
 pub has_changed-requires : goal.has_changed-requires

@@ -1,6 +1,6 @@
-use Rattle.std.proofs.Common.{◌≡◌, ◌∙◌, ◌+◌, ◌<◌, get_or, length, ap, refl, sym, subst, arith}
+use Rattle.std.proofs.Common.{◌∙◌, get_or, length, refl, arith}
 use Rattle.std.proofs.Math.ListN.{length-set}
-use Rattle.term_copies.proofs.Extending.{extended_refl, extended_trans, count_grows}
+use Rattle.term_copies.proofs.Extending.{extended_refl, extended_trans}
 use Rattle.fixed_terms.proofs.Likeness.{fix_at, fixes_kept, same_value, same_set, are_same_kept, constant_over}
 use Rattle.fixed_terms.proofs.Guarding.{no_fix}
 use Rattle.fixed_terms.proofs.copying.put_values.Goals as goal

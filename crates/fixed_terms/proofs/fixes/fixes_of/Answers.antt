@@ -1,4 +1,4 @@
-use Rattle.std.proofs.Common.{◌≡◌, ◌∙◌, ◌+◌, ◌<◌, Vec, Global, List, [], ◌∷◌, ◌++◌, length, ap, refl, sym, subst, arith}
+use Rattle.std.proofs.Common.{◌≡◌, ◌∙◌, ◌<◌, Vec, Global, [], ◌∷◌, ◌++◌, length, ap, sym, subst, arith}
 use Rattle.wb_terms.specs.declared.nodes.TermId.{TermId}
 use Rattle.fixed_terms.specs.declared.fixes.Fix.{Fix}
 use Rattle.fixed_terms.specs.Fixed.{AreFixes, AllFollow, Follows}

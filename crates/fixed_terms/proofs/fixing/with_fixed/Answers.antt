@@ -1,7 +1,7 @@
-use Rattle.std.proofs.Common.{◌≡◌, ◌∙◌, ◌<◌, List, length, ap, refl, sym, subst, arith}
+use Rattle.std.proofs.Common.{List, sym, subst}
 use Rattle.wb_values.specs.Value.{truth}
 use Rattle.fixed_terms.specs.declared.fixes.Fix.{Fix}
-use Rattle.fixed_terms.specs.Fixed.{AreFixes, AllFollow, AreKnown, IsSame, IsGuarded}
+use Rattle.fixed_terms.specs.Fixed.{AreFixes, AreKnown, IsSame, IsGuarded}
 use Rattle.fixed_terms.proofs.Likeness.{fixes_kept}
 use Rattle.fixed_terms.proofs.Guarding.{guarded_same, copy_is_term}
 use Rattle.fixed_terms.proofs.fixing.with_fixed.Goals as goal

@@ -1,4 +1,4 @@
-use Rattle.std.proofs.Common.{◌≡◌, ◌∙◌, ◌-◌, ◌+◌, ◌<◌, get_or, length, ap, refl, sym, subst, arith}
+use Rattle.std.proofs.Common.{◌≡◌, ◌-◌, ◌+◌, ◌<◌, get_or, length, refl, subst, arith}
 use Rattle.wb_values.specs.Value.{truth}
 use Rattle.term_copies.proofs.Extending.{extended_refl, extended_trans, count_grows}
 use Rattle.condition_terms.proofs.Forming.{IsTermOf-kept}

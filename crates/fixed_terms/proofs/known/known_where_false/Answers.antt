@@ -1,5 +1,4 @@
-use Rattle.std.proofs.Common.{◌≡◌, ◌∙◌, ◌<◌, ◌-◌, Vec, Global, Bool, Option, Some, None, ℕ, replicate, rules, length, ap, sym, subst, arith}
-use Rattle.wb_terms.specs.declared.nodes.TermId.{TermId}
+use Rattle.std.proofs.Common.{◌∙◌, ◌<◌, ◌-◌, Vec, Global, Bool, Option, None, ℕ, replicate, rules, length, ap, sym, subst, arith}
 use Rattle.fixed_terms.specs.Fixed.{AreKnown}
 use Rattle.fixed_terms.proofs.Knowing.{known_first, known_more, known_case, read_known}
 use Rattle.fixed_terms.proofs.Likeness.{all_below_more}
