@@ -1,0 +1,4 @@
+pub mod Knowing
+pub mod Constants
+pub mod Likeness
+pub mod Guarding
