@@ -1,115 +1,85 @@
 #!/usr/bin/env python3
-"""Measures the built program on large Verilog files: time and memory of each, and yosys on the ordinary one in the same run.
+"""Measures how a built program reads Verilog files that are made to hurt: time and memory of each, beside its bound.
 
-usage: run.py [PROGRAM]      (PROGRAM: the built workbench, default crates/wb_main/out/wb_main)
+usage: run.py [PROGRAM] [WORD]      PROGRAM: the built workbench, default crates/wb_main/out/wb_main; WORD: the forms whose name has it alone
 
-The status is 1 where a file takes more than a tenth of yosys' time, or more than 600 MiB.
-
-`check` reads each file as tokens and a tree before it says whether it is of the profile, so its time is that of reading. The counter's
-model and map stand beside the file. yosys is Debian's; without it the ordinary file is measured alone.
+`check` reads each file as tokens and a tree before it asks whether the design has its top, and none of these has one, so its time is that of
+reading. The counter's model and map stand beside the file. Time is processor time, of which a machine full of other work takes some more.
+The ordinary file is also read by yosys (Debian's), of whose time a tenth is the bound; without yosys that row is left out. A form that
+passes a bound is marked OVER, and then the status is 1.
 """
+import json
 import os
+import resource
 import shutil
 import subprocess
 import sys
 import tempfile
-import time
 
 HERE = os.path.dirname(os.path.abspath(__file__))
 TOP = os.path.join(HERE, "../../..")
-PROGRAM = os.path.abspath(sys.argv[1]) if len(sys.argv) > 1 else os.path.join(TOP, "crates/wb_main/out/wb_main")
+BUILT = os.path.join(TOP, "crates/wb_main/out/wb_main")
 COUNTER = os.path.join(TOP, "examples/counter")
-LIMIT = 4_194_304
-
-ORDINARY = """module m{n} #(parameter W = 8) (input clk, input rst, input [W-1:0] a, b, output reg [W-1:0] q, output [W:0] s);
-  // s
-  wire [W:0] s0 = a + b; wire [W-1:0] n = a & ~b;
-  reg [W-1:0] last, m [0:15];
-  assign s = rst ? 9'd0 : s0 + {{1'b0, n}};
-  always @(posedge clk)
-    if (rst) q <= 8'h00;
-    else begin
-      case (a[1:0]) 2'd0: q <= b; 2'd1, 2'd2: q <= q + 1; default: q <= {{q[6:0], q[7]}}; endcase
-      m[a[3:0]] <= last; last <= m[b[3:0]];
-    end
-endmodule
-"""
+BOUND_SECONDS, BOUND_MEMORY = 2.0, 700
+SECONDS, ROOM = 60, 6 << 30
 
 
-def filled(head, unit, tail):
-    """As many units as fit between a head and a tail."""
-    return head + unit * ((LIMIT - len(head) - len(tail)) // len(unit)) + tail
+def limited():
+    resource.setrlimit(resource.RLIMIT_CPU, (SECONDS, SECONDS))
+    resource.setrlimit(resource.RLIMIT_AS, (ROOM, ROOM))
 
 
-def ordinary():
-    modules, size, n = [], 0, 0
-    while True:
-        text = ORDINARY.format(n=n)
-        if size + len(text) > LIMIT:
-            return "".join(modules), n
-        modules.append(text)
-        size, n = size + len(text), n + 1
+def written(room, wanted):
+    """Writes the forms, in a process of its own, since a process that is started counts the memory of the one that starts it as its own."""
+    writer = os.fork()
+    if writer == 0:
+        from forms import forms
+
+        titles = []
+        for title, text in forms():
+            if wanted in title:
+                with open(os.path.join(room, f"t{len(titles)}.v"), "w", encoding="utf8") as it:
+                    it.write(text)
+                titles.append(title)
+        with open(os.path.join(room, "titles"), "w", encoding="utf8") as it:
+            json.dump(titles, it)
+        os._exit(0)
+    os.waitpid(writer, 0)
+    with open(os.path.join(room, "titles"), encoding="utf8") as it:
+        return json.load(it)
 
 
-def body(head, unit, tail):
-    return filled("module t; " + head, unit, tail + " endmodule\n")
-
-
-def files():
-    text, count = ordinary()
-    yield f"{count} ordinary modules", text
-    yield "one chain of +", body("assign x = a", "+ab", ";")
-    yield "one chain of mixed operators", body("assign x = a", "&b+c*d", ";")
-    yield "one ladder of else if", body("always @* ", "if (a) x=b; else ", "x=c;")
-    yield "one chain of ?:", body("assign x = ", "a?b:", "c;")
-    yield "prefix operators", body("assign x = ", "~", "a;")
-    yield "brackets nested 200 deep", body("", "assign x = " + "(" * 200 + "a" + ")" * 200 + ";", "")
-    yield "braces and selects nested 200 deep", body("", "assign x = " + "{a[" * 100 + "a" + "]}" * 100 + ";", "")
-    yield "one identifier", filled("module ", "a", "; endmodule\n")
-    yield "one number", body("assign x = ", "1", ";")
-    yield "one comment", filled("module t; /*", " ", "*/ endmodule\n")
-    yield "blanks", " " * LIMIT
-    yield "`define lines", filled("", "`define A b\n", "")
-    yield "macro uses", filled("`define A wire b;\nmodule t; ", "`A ", "endmodule\n")
-    yield "a macro bomb", "".join(f"`define A{k + 1} `A{k} `A{k}\n" for k in range(60)) + "`define A0 a\n`A60"
-    yield "begin end pairs", body("always @* begin ", "begin end ", "end")
-    yield "blocks nested 200 deep", body("", "always @* " + "begin " * 200 + "end " * 200, "")
-    yield "ports", filled("module t(input p", ",p", "); endmodule\n")
-    yield "names of ports", filled("module t(p", ",p", "); endmodule\n")
-    yield "case items", body("always @* case (a) ", "0:x=b;", "endcase")
-    yield "connections", body("u v(a", ",a", ");")
-    yield "opening brackets", "(" * LIMIT
-    yield "quotes", '"' * LIMIT
-
-
-def timed(words, room):
+def measured(words, room):
+    """Seconds of processor time, MiB, the exit status (below 0: a signal), and the first line that was written."""
     with open(os.path.join(room, "out"), "wb") as out:
-        start = time.monotonic()
-        child = subprocess.Popen(words, cwd=room, stdout=out, stderr=subprocess.STDOUT)
+        child = subprocess.Popen(words, cwd=room, stdout=out, stderr=subprocess.STDOUT, preexec_fn=limited)
         _, status, used = os.wait4(child.pid, 0)
-        seconds = time.monotonic() - start
+        child.returncode = status
     with open(os.path.join(room, "out"), "rb") as it:
         first = it.read(200).split(b"\n")[0].decode()
-    return seconds, used.ru_maxrss // 1024, os.waitstatus_to_exitcode(status), first
+    return used.ru_utime + used.ru_stime, used.ru_maxrss // 1024, os.waitstatus_to_exitcode(status), first
 
 
 def main():
-    bound, is_over = None, False
+    program = os.path.abspath(sys.argv[1]) if len(sys.argv) > 1 else BUILT
+    wanted = sys.argv[2] if len(sys.argv) > 2 else ""
+    over = count = 0
     with tempfile.TemporaryDirectory() as room:
         for name in ("model.json", "map.json"):
             shutil.copy(os.path.join(COUNTER, name), room)
-        for title, text in files():
-            with open(os.path.join(room, "t.v"), "w", encoding="utf8") as it:
-                it.write(text)
-            if bound is None and shutil.which("yosys"):
-                seconds, memory, status, _ = timed(["yosys", "-q", "-p", "read_verilog t.v"], room)
-                bound = seconds / 10
-                print(f"{title}, yosys: {seconds:.2f} s, {memory} MiB, status {status}")
-            seconds, memory, status, first = timed([PROGRAM, "check", "--model", "model.json", "--map", "map.json", "t.v"], room)
-            is_over |= memory > 600 or (bound is not None and seconds > bound)
-            held = "" if bound is None else f" (bound {bound:.2f} s, 600 MiB)"
-            print(f"{title}: {seconds:.2f} s, {memory} MiB, status {status}, `{first}`{held}")
-    return int(is_over)
+        for place, title in enumerate(written(room, wanted)):
+            text = f"t{place}.v"
+            bound = BOUND_SECONDS
+            if "ordinary" in title and shutil.which("yosys"):
+                seconds, memory, status, _ = measured(["yosys", "-q", "-p", f"read_verilog {text}"], room)
+                bound = min(bound, seconds / 10)
+                print(f"{title}, yosys: {seconds:.2f} s, {memory} MiB, status {status}", flush=True)
+            seconds, memory, status, first = measured([program, "check", "--model", "model.json", "--map", "map.json", text], room)
+            is_over = seconds > bound or memory > BOUND_MEMORY or status < 0
+            print(f"{title}: {seconds:.2f} s, {memory} MiB, status {status}, `{first}` (bound {bound:.2f} s, {BOUND_MEMORY} MiB){' OVER' if is_over else ''}", flush=True)
+            count, over = count + 1, over + is_over
+    print(f"{count} forms, {over} over their bounds")
+    return int(over > 0)
 
 
 if __name__ == "__main__":
