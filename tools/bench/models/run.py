@@ -1,103 +1,77 @@
 #!/usr/bin/env python3
-"""Measures the built program on large model files and scripts: time and memory of each call, beside its bound.
+"""Measures `simulate` of a built program on model files and scripts that are made to hurt: time and memory of each, beside its bound.
 
-usage: run.py [PROGRAM]      (PROGRAM: the built workbench, default crates/wb_main/out/wb_main)
+usage: run.py [PROGRAM] [WORD]      PROGRAM: the built workbench, default crates/wb_main/out/wb_main; WORD: the forms whose name has it alone
+
+Time is processor time, of which a machine full of other work takes some more. A form that passes a bound is marked OVER. A run ends after
+30 seconds of processor time. It gets at most 4 GiB: what asks for more has to answer by itself that it is out of memory (status 7). The status is 1 where a form passes its bound, or ends by a signal of its own.
 """
 import json
 import os
+import resource
 import subprocess
 import sys
 import tempfile
-import time
 
 HERE = os.path.dirname(os.path.abspath(__file__))
-PROGRAM = os.path.abspath(sys.argv[1]) if len(sys.argv) > 1 else os.path.join(HERE, "../../../crates/wb_main/out/wb_main")
-LIMIT = 4_194_304
+BUILT = os.path.join(HERE, "../../../crates/wb_main/out/wb_main")
+SECONDS = 30
+ROOM = 4 << 30
 
 
-def model(states=(), inputs=(), instructions=(), **more):
-    return {"name": "m", "states": list(states), "inputs": list(inputs), "valid": True, "instructions": list(instructions), **more}
+def limited():
+    resource.setrlimit(resource.RLIMIT_CPU, (SECONDS, SECONDS))
+    resource.setrlimit(resource.RLIMIT_AS, (ROOM, ROOM))
 
 
-def compact(value):
-    return json.dumps(value, separators=(",", ":"))
+def written(room, wanted):
+    """Writes the forms, in a process of its own, since a process that is started counts the memory of the one that starts it as its own."""
+    writer = os.fork()
+    if writer == 0:
+        from forms import rows
+
+        told = []
+        for name, model_text, script_text, *bound in rows():
+            if wanted in name:
+                for letter, text in (("m", model_text), ("s", script_text)):
+                    with open(os.path.join(room, f"{letter}{len(told)}"), "w", encoding="utf8") as it:
+                        it.write(text)
+                told.append((name, *bound))
+        with open(os.path.join(room, "told"), "w", encoding="utf8") as it:
+            json.dump(told, it)
+        os._exit(0)
+    os.waitpid(writer, 0)
+    with open(os.path.join(room, "told"), encoding="utf8") as it:
+        return json.load(it)
 
 
-def counter():
-    return compact(model(
-        [{"name": "cnt", "sort": 8, "init": 0}], [{"name": "op", "sort": 1}],
-        [{"name": "INC", "decode": ["eq", "op", ["const", 1, 1]], "update": {"cnt": ["add", "cnt", ["const", 8, 1]]}},
-         {"name": "CLR", "decode": ["eq", "op", ["const", 1, 0]], "update": {"cnt": ["const", 8, 0]}}]))
-
-
-def many_states(count):
-    return compact(model([{"name": f"s{k}", "sort": 8, "init": 0} for k in range(count)], [],
-                         [{"name": "GO", "decode": True, "update": {f"s{count - 1}": ["add", "s0", ["const", 8, 7]]}}]))
-
-
-def chain_of_definitions(count):
-    definitions = [["d0", ["add", "s", ["const", 8, 1]]]] + [[f"d{k}", ["add", f"d{k - 1}", "s"]] for k in range(1, count)]
-    return compact(model([{"name": "s", "sort": 8, "init": 1}], [],
-                         [{"name": "GO", "decode": True, "update": {"s": f"d{count - 1}"}}], define=definitions))
-
-
-def nested_terms(depth):
-    term = "s"
-    for _ in range(depth):
-        term = ["not", term]
-    return compact(model([{"name": "s", "sort": 8, "init": 1}], [], [{"name": "GO", "decode": True, "update": {"s": term}}]))
-
-
-def nested_children(steps):
-    inner = {"states": [{"name": "j", "sort": 13, "init": 0}], "valid": ["ult", "j", ["const", 13, steps]], "steps": steps,
-             "instructions": [{"name": "IN", "decode": True, "update": {"j": ["add", "j", ["const", 13, 1]], "s": ["add", "s", ["const", 32, 1]]}}]}
-    outer = {"states": [{"name": "i", "sort": 13, "init": 0}], "valid": ["ult", "i", ["const", 13, steps]], "steps": steps,
-             "instructions": [{"name": "OUT", "decode": True, "update": {"i": ["add", "i", ["const", 13, 1]]}, "child": inner}]}
-    return compact(model([{"name": "s", "sort": 32, "init": 0}], [], [{"name": "GO", "decode": True, "update": {}, "child": outer}]))
-
-
-def full(make, unit):
-    """The largest text of at most the limit that make gives, in steps of unit."""
-    count = unit
-    while len(make(count + unit)) <= LIMIT:
-        count += unit
-    return make(count), count
-
-
-def measured(model_text, script_text, room):
-    with open(os.path.join(room, "m"), "w", encoding="utf8") as it:
-        it.write(model_text)
-    with open(os.path.join(room, "s"), "w", encoding="utf8") as it:
-        it.write(script_text)
+def measured(program, place, room):
+    """Seconds of processor time, MiB, the exit status (below 0: a signal), and the end of what was written."""
     with open(os.path.join(room, "out"), "wb") as out:
-        start = time.monotonic()
-        child = subprocess.Popen([PROGRAM, "simulate", "--model", "m", "--script", "s"], cwd=room, stdout=out)
+        words = [program, "simulate", "--model", f"m{place}", "--script", f"s{place}"]
+        child = subprocess.Popen(words, cwd=room, stdout=out, preexec_fn=limited)
         _, status, used = os.wait4(child.pid, 0)
-        seconds = time.monotonic() - start
+        child.returncode = status
     with open(os.path.join(room, "out"), "rb") as it:
-        text = it.read()
-    last = text.rstrip(b"\n").split(b"\n")[-1][-40:].decode()
-    return seconds, used.ru_maxrss // 1024, os.waitstatus_to_exitcode(status), last
+        it.seek(max(0, os.path.getsize(it.name) - 200))
+        last = it.read().rstrip(b"\n").split(b"\n")[-1][-40:].decode()
+    return used.ru_utime + used.ru_stime, used.ru_maxrss // 1024, os.waitstatus_to_exitcode(status), last
 
 
 def main():
-    lines = "in op=1\n" * (LIMIT // 8)
-    states, state_count = full(many_states, 5000)
-    definitions, definition_count = full(chain_of_definitions, 5000)
-    rows = [
-        (f"a model of 4 MiB: {state_count} states, one step", states, "in\n", "1.0 s, 400 MiB"),
-        (f"a model of 4 MiB: a chain of {definition_count} definitions, one step", definitions, "in\n", "1.0 s, 400 MiB"),
-        ("100,000 states, one step", many_states(100_000), "in\n", "1.0 s, 400 MiB"),
-        ("a chain of 100,000 definitions, three steps", chain_of_definitions(100_000), "in\nin\nin\n", "1.0 s, 400 MiB"),
-        ("a term nested as deep as JSON goes, one step", nested_terms(121), "in\n", "1.0 s"),
-        (f"a script of 4 MiB on the counter: {LIMIT // 8} steps", counter(), lines, "1.0 s"),
-        ("a child of 4,096 steps in a child of 4,096 steps", nested_children(4096), "in\n", "10 s"),
-    ]
+    program = os.path.abspath(sys.argv[1]) if len(sys.argv) > 1 else BUILT
+    wanted = sys.argv[2] if len(sys.argv) > 2 else ""
+    over = count = 0
     with tempfile.TemporaryDirectory() as room:
-        for name, model_text, script_text, bound in rows:
-            seconds, memory, status, last = measured(model_text, script_text, room)
-            print(f"{name}: {seconds:.2f} s, {memory} MiB, status {status}, `..{last}` (bound {bound})", flush=True)
+        for place, (name, seconds, memory) in enumerate(written(room, wanted)):
+            took, used, status, last = measured(program, place, room)
+            is_over = took > seconds or used > memory or status < 0
+            ended = f"status {status}, `{last}`" if status >= 0 else f"ended after {SECONDS} s"
+            print(f"{name}: {took:.2f} s, {used} MiB, {ended} (bound {seconds:g} s, {memory} MiB){' OVER' if is_over else ''}", flush=True)
+            count, over = count + 1, over + is_over
+    print(f"{count} forms, {over} over their bounds")
+    return int(over > 0)
 
 
 if __name__ == "__main__":
-    main()
+    sys.exit(main())
