@@ -143,10 +143,10 @@ module _ (s : Setting) (run : Run) where
       | inr not ↦ inl (inl (less, not))
     ]
     | inr rest ↦ let past : s.map.reset_cycles ≤ t = elim rest [ inl more ↦ omega (arith, more) | inr e ↦ omega (arith, e) ] in
-      elim (equal (as_number (run.valuations t s.map.reset_signal)) s.map.reset_active) [
-        | inl active ↦ inl (inr (past, active))
-        | inr not ↦ inr (λ x. elim x [ inl a ↦ let l = a.0 in omega (arith, past, l) | inr b ↦ not b.1 ])
-      ]
+        elim (equal (as_number (run.valuations t s.map.reset_signal)) s.map.reset_active) [
+          | inl active ↦ inl (inr (past, active))
+          | inr not ↦ inr (λ x. elim x [ inl a ↦ let l = a.0 in omega (arith, past, l) | inr b ↦ not b.1 ])
+        ]
   ]
     where
       equal : (m n : ℕ) → Told (m ≡ n)
@@ -193,10 +193,10 @@ module _ (s : Setting) (run : Run) where
       | inr flight ↦ elim (compared t s.map.reset_cycles) [
         | inl less ↦ inr (none_of t reset flight (λ k past within. absurd (omega (arith, less, past))))
         | inr rest ↦ let past : s.map.reset_cycles ≤ t = elim rest [ inl more ↦ omega (arith, more) | inr e ↦ omega (arith, e) ] in
-          elim (assumptions_told t (length s.map.assume) past (omega arith)) [
-            | inl x ↦ inl (of_assumption x.0, x.1)
-            | inr each ↦ inr (none_of t reset flight (λ k from within. each k within))
-          ]
+            elim (assumptions_told t (length s.map.assume) past (omega arith)) [
+              | inl x ↦ inl (of_assumption x.0, x.1)
+              | inr each ↦ inr (none_of t reset flight (λ k from within. each k within))
+            ]
       ]
     ]
   ]
