@@ -14,7 +14,7 @@ use Rattle.watched_runs.specs.Disagreements.{Disagreement, initial_value, no_ste
 use Rattle.watched_runs.specs.Watched.{agrees, outside, disagrees, HasEnded, in_reset, at_last, IsWatched, it_disagrees, it_is_outside, it_agrees}
 use Rattle.watched_runs.specs.Laws.{StatesAreNamed}
 use Rattle.watched_runs.proofs.Refining.{no_disagreement}
-use Rattle.watch_laws.specs.Positions.{Position, IsRunning, AgreesBefore, IsWatchedTo, IsIdleAt}
+use Rattle.watch_laws.specs.Positions.{WatchPosition, IsRunning, AgreesBefore, IsWatchedTo, IsIdleAt}
 use Rattle.watch_laws.specs.Positions as position
 use Rattle.watch_laws.proofs.Idle.{compared, one_command, after_reset, idle_within, cut, not_inside, ended_before, not_idle, idle_of, state_cut}
 use Rattle.watch_laws.proofs.Deciding.{some_same, one_more, premise_end}

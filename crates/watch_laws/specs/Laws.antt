@@ -11,7 +11,7 @@ use Rattle.watched_runs.specs.Premises.{Premise, PremiseFails, IsFirstFailing, H
 use Rattle.watched_runs.specs.Disagreements.{Disagreement, DisagreesAt, StandsBefore}
 use Rattle.watched_runs.specs.Watched.{IsWatched, Watched, agrees, outside, disagrees}
 use Rattle.watched_runs.specs.Laws.{StatesAreNamed}
-use Rattle.watch_laws.specs.Positions.{Position, running, IsWatchedTo}
+use Rattle.watch_laws.specs.Positions.{WatchPosition, running, IsWatchedTo}
 
 -- A run that disagrees with the model nowhere refines it, where each instruction has its bound.
 abbrev pub AgreeingRunsRefine : Type 0

@@ -11,10 +11,10 @@ use Rattle.watched_runs.specs.Disagreements.{Disagreement, IsOtherInitial, Disag
 -- In the reset, up to the cycle after its last; after it at an idle cycle, with the number of commands that have ended and the model's
 -- state; or inside a command, with the number of those that ended before it, the cycle at which it began, the number of its instruction,
 -- and the state to which it leads the model.
-pub data Position : Type 0 where
-  in_reset : Position
-  idle : (ended : ℕ) (q : Valuation) → Position
-  running : (ended begun j : ℕ) (r : Valuation) → Position
+pub data WatchPosition : Type 0 where
+  in_reset : WatchPosition
+  idle : (ended : ℕ) (q : Valuation) → WatchPosition
+  running : (ended begun j : ℕ) (r : Valuation) → WatchPosition
 
 -- A command of instruction number j that began before cycle t has not ended before it, its bound lies past t, and it leads the model
 -- to state r.
@@ -31,7 +31,7 @@ pub record IsRunning (s : Setting) (run : Run) (t ended begun j : ℕ) (r : Valu
   pub in_bound : t < begun + entry.bound
 
 -- what the position says of the run
-abbrev pub StandsAt : Setting → Run → ℕ → Position → Type 0
+abbrev pub StandsAt : Setting → Run → ℕ → WatchPosition → Type 0
 StandsAt s run t in_reset = t ≤ s.map.reset_cycles
 StandsAt s run t (idle ended q) = (s.map.reset_cycles < t) × HasState s run t ended q t
 StandsAt s run t (running ended begun j r) = IsRunning s run t ended begun j r
@@ -41,13 +41,13 @@ abbrev pub AgreesBefore : Setting → Run → ℕ → Type 0
 AgreesBefore s run t = (cycles u : ℕ) (which : Disagreement) → u < t → ¬ DisagreesAt s run cycles u which
 
 -- The watch stands there before cycle t: no premise failed before it, and nothing disagreed.
-pub record IsWatchedTo (s : Setting) (run : Run) (t : ℕ) (p : Position) : Type 0 where
+pub record IsWatchedTo (s : Setting) (run : Run) (t : ℕ) (p : WatchPosition) : Type 0 where
   pub stands : StandsAt s run t p
   pub premises : HavePremises s run t
   pub agrees : AgreesBefore s run t
 
 -- how many commands have ended before the cycle at which the watch stands
-abbrev pub ended_in : Position → ℕ
+abbrev pub ended_in : WatchPosition → ℕ
 ended_in in_reset = 0
 ended_in (idle ended q) = ended
 ended_in (running ended begun j r) = ended
