@@ -46,12 +46,6 @@ pub record IsWatchedTo (s : Setting) (run : Run) (t : ℕ) (p : WatchPosition) :
   pub premises : HavePremises s run t
   pub agrees : AgreesBefore s run t
 
--- how many commands have ended before the cycle at which the watch stands
-abbrev pub ended_in : WatchPosition → ℕ
-ended_in in_reset = 0
-ended_in (idle ended q) = ended
-ended_in (running ended begun j r) = ended
-
 -- Cycle t is idle, in this state of the model. Nothing disagrees and no premise fails before it; and if it is the cycle after the reset,
 -- the stated initial values are there.
 pub record IsIdleAt (s : Setting) (run : Run) (t ended : ℕ) (q : Valuation) : Type 0 where
