@@ -5,5 +5,5 @@ mod laws;
 mod limits;
 mod memories;
 
-pub use laws::registers_count_as_declared;
+pub use laws::{a_design_has_one_limit, registers_count_as_declared};
 pub use limits::{Limit, limit_of};

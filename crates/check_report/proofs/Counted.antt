@@ -45,7 +45,7 @@ stated_of m e counts c (x ∷ os) h (suc k) o is_o = stated_of m e counts c os h
 module _ (m : Model) (e : Mapped) (counts : MapCounts) (numbers : AreCountsIn e counts)
     (bounds : map (λ (i : MappedInstruction). i.bound) e.instructions ≡ counts.bounds.now) (os : List Obligation)
     (listed : (p : Map) → AreCountsOf m p counts → map (obligation_of p) os ≡ obligations m p) where
-  counts_of : (s : Setting) → IsSettingBy m e s → AreCountsOf m s.map counts
+  pub counts_of : (s : Setting) → IsSettingBy m e s → AreCountsOf m s.map counts
   counts_of s own = record {
     reset_cycles = sym own.mapped.reset_cycles ∙ numbers.reset_cycles;
     assume = sym own.counts.assume ∙ numbers.assume;
@@ -54,7 +54,7 @@ module _ (m : Model) (e : Mapped) (counts : MapCounts) (numbers : AreCountsIn e 
         subst (λ (q : Model). map (λ i. bound_named s.map (instruction_name i)) (instructions_in q.top) ≡ counts.bounds.now) own.model (sym own.mapped.bounds ∙ bounds);
   }
 
-  all : (s : Setting) → IsSettingBy m e s → map (obligation_of s.map) os ≡ obligations s.model s.map
+  pub all : (s : Setting) → IsSettingBy m e s → map (obligation_of s.map) os ≡ obligations s.model s.map
   all s own = subst (λ (q : Model). map (obligation_of s.map) os ≡ obligations q s.map) (sym own.model) (listed s.map (counts_of s own))
 
   module _ (budget : ℕ) (xs : List Finding) (long : length xs ≡ length os)

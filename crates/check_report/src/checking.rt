@@ -37,8 +37,8 @@ pub struct Report {
     pub spent: Vec<Spent>,
 }
 
-/// The bound of each instruction of the model.
-fn bounds(alloc: Global, mapped: &MappedDesign) -> Result<Vec<u64>, NoMemory>
+/// The bound of each instruction of the model, in their order.
+pub fn bounds(alloc: Global, mapped: &MappedDesign) -> Result<Vec<u64>, NoMemory>
     ensures { IfOk result (λ list. list.items ≡ map (λ i. i.bound) mapped.now.instructions.items) }
 {
     let mut list = Vec::with_capacity(alloc, mapped.instructions.len())?;

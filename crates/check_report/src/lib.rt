@@ -7,6 +7,6 @@ mod lines;
 mod spending;
 mod totals;
 
-pub use checking::{Report, check};
+pub use checking::{Report, bounds, check};
 pub use obligation_check::{NoMemory, Spent};
 pub use totals::Ending;

@@ -100,6 +100,71 @@ or_joined g h id x y a w u l e =
     joined id (or (tree g x) (tree g y)) (λ v. is_true g x v || is_true g y v) l e (two_truths same_bits_sort (sort_of (tree g x)) (sort_of (tree g y)) w.sort u.sort refl)
     (λ v f. or_truth (val (tree g x) v) (val (tree g y) v) (w.is_of v (fits_before v a f)))
 
+-- ---- constants among conditions
+
+pub truth_of_constant : (g : Graph) (id : ℕ) (b : Bool) (v : Valuation) → tree g id ≡ constant_truth b → is_true g id v ≡ b
+truth_of_constant g id b v e = ap (λ (t : Term). as_truth (val t v)) e
+
+-- a condition that is worth something else too
+own_joined : (g : Graph) (id : ℕ) (c : Valuation → Bool) → IsTermOf g id truth → ((v : Valuation) → is_true g id v ≡ c v) → IsJoined g id c
+own_joined g id c w e = record { condition = w; value = λ v f. e v }
+
+pub not_constant : (g h : Graph) (id x : ℕ) (b : Bool) → tree g x ≡ constant_truth b → IsJoined h id (λ v. truth_not b) → IsJoined h id (λ v. truth_not (is_true g x v))
+not_constant g h id x b e j = record { condition = j.condition; value = λ v f. j.value v f ∙ ap truth_not (sym (truth_of_constant g x b v e)) }
+
+and_true : (b : Bool) → b ≡ (b && true)
+and_true true = refl
+and_true false = refl
+
+and_false : (b : Bool) → false ≡ (b && false)
+and_false true = refl
+and_false false = refl
+
+or_true : (b : Bool) → true ≡ (b || true)
+or_true true = refl
+or_true false = refl
+
+or_false : (b : Bool) → b ≡ (b || false)
+or_false true = refl
+or_false false = refl
+
+module _ (g : Graph) (x y : ℕ) (w : IsTermOf g x truth) (u : IsTermOf g y truth) where
+  pub both_left_true : tree g x ≡ constant_truth true → IsJoined g y (λ v. is_true g x v && is_true g y v)
+  both_left_true e = own_joined g y (λ v. is_true g x v && is_true g y v) u (λ v. ap (λ b. b && is_true g y v) (sym (truth_of_constant g x true v e)))
+
+  pub both_left_false : tree g x ≡ constant_truth false → IsJoined g x (λ v. is_true g x v && is_true g y v)
+  both_left_false e =
+      own_joined g x (λ v. is_true g x v && is_true g y v) w
+      (λ v. let f = truth_of_constant g x false v e in f ∙ ap (λ b. b && is_true g y v) (sym f))
+
+  pub both_right_true : tree g y ≡ constant_truth true → IsJoined g x (λ v. is_true g x v && is_true g y v)
+  both_right_true e =
+      own_joined g x (λ v. is_true g x v && is_true g y v) w
+      (λ v. and_true (is_true g x v) ∙ ap (λ b. is_true g x v && b) (sym (truth_of_constant g y true v e)))
+
+  pub both_right_false : tree g y ≡ constant_truth false → IsJoined g y (λ v. is_true g x v && is_true g y v)
+  both_right_false e =
+      own_joined g y (λ v. is_true g x v && is_true g y v) u
+      (λ v. let f = truth_of_constant g y false v e in f ∙ (and_false (is_true g x v) ∙ ap (λ b. is_true g x v && b) (sym f)))
+
+  pub either_left_true : tree g x ≡ constant_truth true → IsJoined g x (λ v. is_true g x v || is_true g y v)
+  either_left_true e =
+      own_joined g x (λ v. is_true g x v || is_true g y v) w
+      (λ v. let f = truth_of_constant g x true v e in f ∙ ap (λ b. b || is_true g y v) (sym f))
+
+  pub either_left_false : tree g x ≡ constant_truth false → IsJoined g y (λ v. is_true g x v || is_true g y v)
+  either_left_false e = own_joined g y (λ v. is_true g x v || is_true g y v) u (λ v. ap (λ b. b || is_true g y v) (sym (truth_of_constant g x false v e)))
+
+  pub either_right_true : tree g y ≡ constant_truth true → IsJoined g y (λ v. is_true g x v || is_true g y v)
+  either_right_true e =
+      own_joined g y (λ v. is_true g x v || is_true g y v) u
+      (λ v. let f = truth_of_constant g y true v e in f ∙ (or_true (is_true g x v) ∙ ap (λ b. is_true g x v || b) (sym f)))
+
+  pub either_right_false : tree g y ≡ constant_truth false → IsJoined g x (λ v. is_true g x v || is_true g y v)
+  either_right_false e =
+      own_joined g x (λ v. is_true g x v || is_true g y v) w
+      (λ v. or_false (is_true g x v) ∙ ap (λ b. is_true g x v || b) (sym (truth_of_constant g y false v e)))
+
 -- the sorts that putting such nodes asks for
 pub not_sorted : (g : Graph) (x : ℕ) → IsTermOf g x truth → sort_of (not (tree g x)) ≡ Some truth
 not_sorted g x w = ap bits_sort w.sort

@@ -31,7 +31,7 @@ same_value : (v : ℕ) (w u : List Bool) (l : Lit) → take v w ≡ take v u →
 same_value v w u l e b =
     ap (λ t. cond l.negative (not t) t) (sym (get_or-take v w l.var false b) ∙ ap (λ xs. get_or xs l.var false) e ∙ get_or-take v u l.var false b)
 
-same_gate_value : (v : ℕ) (w u : List Bool) (g : Gate) → take v w ≡ take v u → IsGateBelow v g → gate_value w g ≡ gate_value u g
+pub same_gate_value : (v : ℕ) (w u : List Bool) (g : Gate) → take v w ≡ take v u → IsGateBelow v g → gate_value w g ≡ gate_value u g
 same_gate_value v w u (And x y) e b = ap (λ t. t && value w y) (same_value v w u x e b.0) ∙ ap (λ t. value u x && t) (same_value v w u y e b.1)
 same_gate_value v w u (Xor x y) e b = ap (λ t. exactly_one t (value w y)) (same_value v w u x e b.0) ∙ ap (λ t. exactly_one (value u x) t) (same_value v w u y e b.1)
 same_gate_value v w u (Ite c x y) e b =

@@ -1,5 +1,6 @@
--- The clauses of gates are satisfied by the assignments that follow the gates.
-use Rattle.std.proofs.Common.{◌≡◌, ◌∙◌, ℕ, suc, ◌+◌, ◌<◌, ◌≤◌, Bool, true, false, not, cond, ◌&&◌, ◌||◌, ◌↔◌, List, [], ◌∷◌, ◌++◌, length, get_or, arith, refl, sym, ap, subst, All}
+-- The clauses of gates are satisfied by the assignments that follow the gates, and are those of a circuit.
+use Rattle.std.proofs.Common.{◌≡◌, ◌∙◌, ℕ, suc, ◌+◌, ◌<◌, ◌≤◌, Bool, true, false, not, cond, ◌&&◌, ◌||◌, List, [], ◌∷◌, ◌++◌, length, get_or, arith, refl, sym, ap, subst, All}
+use Rattle.std.proofs.lemmas.List.{take_all, take_at, get_or_at}
 use Rattle.std.proofs.lemmas.List.Elements.{All-nil, All-cons, All-head, All-tail, All-append}
 use Rattle.std.specs.List.{list_any}
 use Rattle.std.proofs.lemmas.List.Folds.{Any-from_list_any, list_any-from_Any}
@@ -11,8 +12,10 @@ use Rattle.gate_base.specs.declared.bits.Bit.{Bit}
 use Rattle.gate_base.specs.declared.bits.Bit.TheVariants.{Constant, Literal}
 use Rattle.gate_base.specs.declared.bits.Gate.{Gate}
 use Rattle.gate_base.specs.declared.bits.Gate.TheVariants.{And, Xor, Ite}
-use Rattle.gate_base.specs.Circuit.{Circuit, size, exactly_one, gate_value, bit_value, FollowsFrom, FollowsCircuit, IsBitBelow, IsFormulaOf}
+use Rattle.gate_base.specs.Circuit.{Circuit, size, exactly_one, gate_value, bit_value, FollowsFrom, IsBitBelow, IsFormulaOf}
 use Rattle.gate_base.specs.Clauses.{clauses_for, clauses_from, clauses_of_bit, IsGateBelow, AreOrdered}
+use Rattle.gate_base.specs.Question.{GiveValue, AreCircuit}
+use Rattle.gate_base.proofs.Following.{same_gate_value}
 
 -- the list of clauses as a test
 abbrev all_true : List Bool → List (List Lit) → Bool
@@ -140,14 +143,6 @@ bit_holds w (Literal l) = units (value w l)
     units true = refl
     units false = refl
 
-pub satisfied : (w : List Bool) (v : ℕ) (gs : List Gate) (b : Bit)
-    → All (SatisfiesClause w) (clauses_from v gs ++ clauses_of_bit b) ↔ (FollowsFrom v w gs × (bit_value w b ≡ true))
-satisfied w v gs b = (
-  λ h. let p = and_parts _ _ (sym (all_true-append w (clauses_from v gs) (clauses_of_bit b)) ∙ all_hold w _ h) in
-      (gates_followed w v gs p.0, sym (bit_holds w b) ∙ p.1),
-  λ h. hold_all w _ (all_true-append w (clauses_from v gs) (clauses_of_bit b) ∙ and_from _ _ (followed_gates w v gs h.0) (bit_holds w b ∙ h.1)),
-)
-
 -- the clauses are over the circuit's variables
 over_two : (n : ℕ) (x y : Lit) → x.var < n → y.var < n → IsClauseOver n (x ∷ y ∷ [])
 over_two n x y a b = All-cons (λ l. l.var < n) x (y ∷ []) a (All-cons (λ l. l.var < n) y [] b (All-nil (λ l. l.var < n)))
@@ -197,13 +192,60 @@ pub all_over : (n v : ℕ) (gs : List Gate) (b : Bit) → v + length gs ≡ n �
     → All (IsClauseOver n) (clauses_from v gs ++ clauses_of_bit b)
 all_over n v gs b e o k = All-append (IsClauseOver n) (clauses_from v gs) (clauses_of_bit b) (gates_over n v gs (omega (arith, e)) o) (bit_over n b k)
 
+-- the clauses of a gate give its variable its value
+gate_gives : (v : ℕ) (g : Gate) → IsGateBelow v g → GiveValue v (clauses_for (positive v) g)
+gate_gives v g o = record {
+  over = gate_over (suc v) v g (omega arith) o;
+  some = λ a n.
+      let b = gate_value a g in
+      let w = a ++ b ∷ [] in
+      (b, hold_all w (clauses_for (positive v) g) (gate_true w (positive v) g ∙ same_from (value w (positive v)) (gate_value w g) (own a b n ∙ given a b n)));
+  one = λ a b c n h k. sym (own a b n) ∙ (told a b n h ∙ (sym (told a c n k) ∙ own a c n));
+}
+  where
+    own : (a : List Bool) (b : Bool) → length a ≡ v → value (a ++ b ∷ []) (positive v) ≡ b
+    own a b n = get_or_at a b [] false v n
+
+    given : (a : List Bool) (b : Bool) → length a ≡ v → gate_value a g ≡ gate_value (a ++ b ∷ []) g
+    given a b n = same_gate_value v a (a ++ b ∷ []) g (take_all v a (omega (arith, n)) ∙ sym (take_at a (b ∷ []) v n)) o
+
+    told : (a : List Bool) (b : Bool) → length a ≡ v → All (SatisfiesClause (a ++ b ∷ [])) (clauses_for (positive v) g)
+        → value (a ++ b ∷ []) (positive v) ≡ gate_value a g
+    told a b n h =
+        let w = a ++ b ∷ [] in
+        from_same (value w (positive v)) (gate_value w g) (sym (gate_true w (positive v) g) ∙ all_hold w (clauses_for (positive v) g) h) ∙ sym (given a b n)
+
+gates_are_circuit : (v : ℕ) (gs : List Gate) → AreOrdered v gs → AreCircuit v (length gs) (clauses_from v gs)
+gates_are_circuit v [] o = refl
+gates_are_circuit v (g ∷ gs) o =
+    (clauses_for (positive v) g, clauses_from (suc v) gs, refl, gate_gives v g o.0, gates_are_circuit (suc v) gs o.1)
+
+one_clause : (b : Bit) → length (clauses_of_bit b) ≤ 1
+one_clause (Constant true) = omega arith
+one_clause (Constant false) = omega arith
+one_clause (Literal l) = omega arith
+
 -- what the builder's formula is
-pub formula_of : (c : Circuit) (b : Bit) (f : Formula) (vars : ℕ) (clauses gates : List (List Lit))
+pub formula_of : (c : Circuit) (b : Bit) (f : Formula) (vars : ℕ) (clauses gates : List (List Lit)) → AreOrdered c.inputs c.gates
     → f ≡ record { vars = vars; clauses = clauses } → vars ≡ size c → clauses ≡ gates ++ clauses_of_bit b → gates ≡ clauses_from c.inputs c.gates → IsFormulaOf c b f
-formula_of c b f vars clauses gates e v p q = record {
+formula_of c b f vars clauses gates o e v p q = record {
   vars = ap (λ (g : Formula). g.vars) e ∙ v;
-  satisfied = λ w. subst (λ cs. All (SatisfiesClause w) cs ↔ (FollowsCircuit w c × (bit_value w b ≡ true)))
-      (sym (ap (λ (g : Formula). g.clauses) e ∙ (p ∙ ap (λ cs. cs ++ clauses_of_bit b) q))) (satisfied w c.inputs c.gates b);
+  question = record {
+    inputs = c.inputs;
+    gates = length c.gates;
+    circuit = clauses_from c.inputs c.gates;
+    asked = clauses_of_bit b;
+    vars = ap (λ (g : Formula). g.vars) e ∙ v;
+    clauses = ap (λ (g : Formula). g.clauses) e ∙ (p ∙ ap (λ cs. cs ++ clauses_of_bit b) q);
+    is_circuit = gates_are_circuit c.inputs c.gates o;
+    one_clause = one_clause b;
+  };
+  inputs = refl;
+  follows = λ w. (
+    λ h. gates_followed w c.inputs c.gates (all_hold w (clauses_from c.inputs c.gates) h),
+    λ h. hold_all w (clauses_from c.inputs c.gates) (followed_gates w c.inputs c.gates h),
+  );
+  asks = λ w. (λ h. sym (bit_holds w b) ∙ all_hold w (clauses_of_bit b) h, λ h. hold_all w (clauses_of_bit b) (bit_holds w b ∙ h));
 }
 
 pub formula_over : (c : Circuit) (b : Bit) (vars : ℕ) (clauses gates : List (List Lit)) → vars ≡ size c → AreOrdered c.inputs c.gates → IsBitBelow (size c) b

@@ -1,10 +1,11 @@
 -- Circuits: gates put one after another over numbered variables, and the assignments that follow them.
-use Rattle.std.specs.Prelude.{◌≡◌, ℕ, suc, ◌+◌, ◌<◌, ◌≤◌, Bool, true, not, ◌&&◌, cond, List, [], ◌∷◌, length, take, ⊤, ◌↔◌}
-use Rattle.sat_base.specs.Formula.{Formula, variable_value, value, Satisfies}
+use Rattle.std.specs.Prelude.{◌≡◌, ℕ, suc, ◌+◌, ◌<◌, ◌≤◌, Bool, true, not, ◌&&◌, cond, List, [], ◌∷◌, length, take, ⊤, ◌↔◌, All}
+use Rattle.sat_base.specs.Formula.{Formula, variable_value, value, SatisfiesClause}
 use Rattle.gate_base.specs.declared.bits.Bit.{Bit}
 use Rattle.gate_base.specs.declared.bits.Bit.TheVariants.{Constant, Literal}
 use Rattle.gate_base.specs.declared.bits.Gate.{Gate}
 use Rattle.gate_base.specs.declared.bits.Gate.TheVariants.{And, Xor, Ite}
+use Rattle.gate_base.specs.Question.{IsQuestion, IsYes}
 
 -- The variables below `inputs` are free. Behind them each gate has a variable of its own, in order.
 pub record Circuit : Type 0 where
@@ -65,7 +66,11 @@ pub record IsDetermined (c : Circuit) : Type 0 where
   pub one : (w u : List Bool) → length w ≡ size c → length u ≡ size c → take c.inputs w ≡ take c.inputs u
       → FollowsCircuit w c → FollowsCircuit u c → w ≡ u
 
--- The formula is over the circuit's variables, and is satisfied by the assignments that follow the circuit and make the bit true.
+-- The formula is over the circuit's variables. It is a question about the circuit: its first clauses are satisfied by the assignments that
+-- follow the circuit, and what is asked is so where the bit is true.
 pub record IsFormulaOf (c : Circuit) (b : Bit) (f : Formula) : Type 0 where
   pub vars : f.vars ≡ size c
-  pub satisfied : (w : List Bool) → Satisfies w f ↔ (FollowsCircuit w c × (bit_value w b ≡ true))
+  pub question : IsQuestion f
+  pub inputs : question.inputs ≡ c.inputs
+  pub follows : (w : List Bool) → All (SatisfiesClause w) question.circuit ↔ FollowsCircuit w c
+  pub asks : (w : List Bool) → IsYes f question w ↔ (bit_value w b ≡ true)

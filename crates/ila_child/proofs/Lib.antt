@@ -8,4 +8,5 @@ pub mod Machines
 pub mod Programs
 pub mod Starts
 pub mod Answers
+pub mod Effects
 pub mod Checked

@@ -5,3 +5,4 @@ pub mod Decoding
 pub mod Updating
 pub mod Running
 pub mod Start
+pub mod Applied

@@ -14,7 +14,7 @@ use std::alloc::Global;
 use wb_terms::{Env, Evaluated, NoMemory, Sort, TermId, Terms, Value};
 
 /// Whether a condition holds.
-pub(crate) fn holds(terms: &Terms, env: &Env, words: &Evaluated, id: TermId) -> bool
+pub fn holds(terms: &Terms, env: &Env, words: &Evaluated, id: TermId) -> bool
     requires condition { is_term_of terms.now truth id.0 ≡ true }
     requires words { Holds terms.now env.now words.now }
     ensures { result ≡ holds (tree terms.now id.0) (valuation terms.now env.now) }
@@ -23,7 +23,7 @@ pub(crate) fn holds(terms: &Terms, env: &Env, words: &Evaluated, id: TermId) -> 
 }
 
 /// The value of a term.
-pub(crate) fn term_value(
+pub fn term_value(
     alloc: Global,
     terms: &Terms,
     env: &Env,

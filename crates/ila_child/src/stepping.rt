@@ -1,11 +1,10 @@
 //! One step of a model from a state under inputs.
 
-ghost use Rattle.std.specs.Prelude.{◌≡◌, ◌++◌, None, IfOk, OnOk, length, map, drop};
+ghost use Rattle.std.specs.Prelude.{◌≡◌, ◌<◌, ◌++◌, None, IfOk, OnOk, length, map, drop};
 ghost use Rattle.wb_terms.specs.Environment.{Fits, as_value};
 ghost use Rattle.wb_terms.specs.Held.{Holds};
 ghost use Rattle.ila_model.specs.Model.{model_of};
 ghost use Rattle.ila_child.specs.State.{IsStateOf, AreInputsOf};
-ghost use Rattle.ila_child.specs.Decoding.{decodes, IsOnlyFound};
 ghost use Rattle.ila_child.specs.Running.{seen};
 ghost use Rattle.ila_child.specs.Step.{IsStepped};
 ghost use Rattle.ila_child.specs.Start.{zeros_of, stop_of, IsEnvironment, IsStart};
@@ -67,15 +66,15 @@ pub fn step(
     }
 }
 
-/// What the instruction at a place does, which alone decodes.
-fn start(
+/// What the instruction at a place does, whether or not it decodes.
+pub(crate) fn start(
     alloc: Global,
     model: &IlaModel,
     place: usize,
     env: Env,
     words: Evaluated,
 ) -> Result<Stepped, NoMemory>
-    requires found { IsOnlyFound (decodes model.now.parts.terms (seen model.now.parts None env) model.now.parts.instructions.items) (length model.now.parts.instructions.items) place }
+    requires place { place < length model.now.parts.instructions.items }
     requires words { Holds model.now.parts.terms env words }
     requires fits { Fits model.now.parts.terms env }
     ensures { IfOk result (IsStart model.now.parts (seen model.now.parts None env) place) }
@@ -115,7 +114,7 @@ fn stopped(trouble: Trouble) -> Stepped
 }
 
 /// The environment in which the states' names have these values, the inputs' names those, and all others zeros.
-fn environment(
+pub(crate) fn environment(
     alloc: Global,
     terms: &Terms,
     state: &[Value],

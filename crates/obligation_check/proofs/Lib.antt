@@ -1,3 +1,4 @@
+pub mod Questions
 pub mod Written
 pub mod Told
 pub mod Named
@@ -6,3 +7,4 @@ pub mod Gathering
 pub mod Expanding
 pub mod Concluded
 pub mod Verdicts
+pub mod Fixing

@@ -9,14 +9,16 @@ use Rattle.wb_values.specs.Value.{Name, Sort, truth, word, memory, Value, truth_
 use Rattle.model_meaning.specs.Term.{Term, val}
 use Rattle.refinement.specs.Map.{Setting}
 use Rattle.refinement.specs.Run.{Run, IsRun}
-use Rattle.reports.specs.Encoding.{BitMap, word_of, Write, IsMapOf, RestrictsTo, IsSatisfyingAssignment, EncodesRuns}
+use Rattle.reports.specs.Encoding.{BitMap, word_of, Write, IsMapOf, RestrictsTo, IsSatisfyingAssignment, GoesOn, EncodesRuns}
+use Rattle.reports.specs.Question.{IsQuestion, IsYes}
 use Rattle.sat_base.specs.Formula.{Formula, variable_value}
 use Rattle.wb_terms.specs.Graph.{Graph, tree, HasDistinctNames}
 use Rattle.wb_terms.specs.Environment.{AreOfSorts, values_by_name}
 use Rattle.wb_terms.proofs.EnvironmentLemmas.{value_at}
 use Rattle.sat_gates.specs.Encodes as gates
-use Rattle.sat_gates.specs.Layout.{bit_count, variables_from, variables_of_sort, IsLaidOut, IsNumbered}
+use Rattle.sat_gates.specs.Layout.{bit_count, variables_from, variables_of_sort, variables_of, IsLaidOut}
 use Rattle.sat_gates.proofs.ReadingLemmas.{read_below, no_words}
+use Rattle.sat_gates.proofs.Solved.{false_under}
 use Rattle.ob_mem.specs.Words.{listed, entry_at}
 use Rattle.ob_mem.specs.Spread.{GivesSorts}
 use Rattle.ob_mem.proofs.Listing.{length-listed, get_or-listed}
@@ -29,6 +31,7 @@ use Rattle.obligation_check.specs.Bits.{place_of, variables_at, variables_where,
 use Rattle.obligation_check.specs.Spread.{SpreadsOver, EncodesSpread}
 use Rattle.mapped_runs.specs.Valued.{HasValues}
 use Rattle.obligation_check.specs.Claims.{values_up_to, DecidesRuns, HaveRuns}
+use Rattle.obligation_check.proofs.Questions.{question_of}
 use Rattle.obligation_check.proofs.Written.{read, written, no_bits}
 use Rattle.obligation_check.proofs.Told.{Told, Agree, each_at, each_back, told_agree, agree_told, restricts_told, told_restricts}
 use Rattle.obligation_check.proofs.Named.{place_found, place_at, split_place, values_from_at, name_count, run_name, input_place, values_fit, distinct-take, distinct-drop, valuation_by, valuation_fits, values_back}
@@ -286,8 +289,14 @@ module _ (s : Setting) (e : Mapped) (cycles : ℕ) (HasProperty : Run → Type 0
   abbrev formula_bits : BitMap
   formula_bits = bits_of e.parts cycles fs
 
+  abbrev question : IsQuestion f
+  question = question_of f enc.encodes.question
+
   abbrev goal : Term
   goal = tree enc.store enc.goal
+
+  abbrev variables : Name → List ℕ
+  variables = variables_of enc.store.names fs
 
   run_distinct : HasDistinctNames (names_of_run e.parts cycles)
   run_distinct = subst HasDistinctNames named distinct
@@ -331,12 +340,15 @@ module _ (s : Setting) (e : Mapped) (cycles : ℕ) (HasProperty : Run → Type 0
       later : (t : ℕ) → nat_lt t cycles ≡ false → cond (nat_lt t cycles) (values_under (inputs_of e.parts) (run.inputs t)) (zero_inputs e.parts) ≡ zero_inputs e.parts
       later t q = ap (λ b. cond b (values_under (inputs_of e.parts) (run.inputs t)) (zero_inputs e.parts)) q
 
-  falsified : (a : List Bool) (w : Valuation) → IsSatisfyingAssignment f a → GivesSorts enc.store.names w → Told fs enc.store.names a w
-      → gates.Falsifies f (Rattle.sat_gates.specs.Layout.variables_of enc.store.names fs) goal w a
-  falsified a w sa sorts told' = record {
-    whole = sa.whole;
-    satisfies = sa.satisfies;
-    restricts = told_restricts enc.store enc.goal fs f.vars a w enc.distinct enc.numbered enc.blastable sorts told';
+  -- what an assignment tells of a store's names, it restricts to
+  told_by : (a : List Bool) (w : Valuation) → GivesSorts enc.store.names w → Told fs enc.store.names a w → gates.RestrictsTo variables a w goal
+  told_by a w sorts told' = told_restricts enc.store enc.goal fs f.vars a w enc.distinct enc.numbered enc.blastable sorts told'
+
+  -- a run that goes on to an assignment, as values of the store with words
+  goes_on : (run : Run) (v w : Valuation) (a : List Bool) → IsSpreadRun run v w → GoesOn f question formula_bits run a → gates.GoesOn f enc.encodes.question variables goal w a
+  goes_on run v w a h g' = record {
+    follows = record { whole = g'.follows.whole; gates = g'.follows.gates };
+    restricts = told_by a w h.sorts (from_run a run v w h.by h.spread g'.restricts);
   }
 
   is_map : IsMapOf cycles f formula_bits
@@ -372,27 +384,31 @@ module _ (s : Setting) (e : Mapped) (cycles : ℕ) (HasProperty : Run → Type 0
       later t n k l false q = refl
       later t n k l true q = absurd (omega (arith, l, below t cycles q))
 
-  found : (run : Run) → IsRun s run cycles → HasProperty run → (a : List Bool) × IsSatisfyingAssignment f a × RestrictsTo formula_bits a run
-  found run is_run has =
+  -- each run goes on
+  found : (run : Run) → IsRun s run cycles → (a : List Bool) × GoesOn f question formula_bits run a
+  found run is_run =
       let b = by_run run is_run in
       let v = b.0 in
       let w = b.1 in
-      let false' : val (tree g id) v ≡ truth_value false =
-      (means v b.2.fits).1 (subst IsDecided (sym b.3) ((decided.decides run is_run).0 has)) in
-      let h = (enc.encodes.some w (gives w b.2.sorts)).0 (enc.same v w b.2.spread ∙ false') in (
+      let h = enc.encodes.some w (gives w b.2.sorts) in (
         h.0,
-        record { whole = h.1.whole; satisfies = h.1.satisfies },
-        to_run h.0 run v w b.2.by b.2.spread (restricts_told enc.store enc.goal fs f.vars h.0 w enc.distinct enc.numbered h.1.restricts),
+        record {
+          follows = record { whole = h.1.follows.whole; gates = h.1.follows.gates };
+          restricts = to_run h.0 run v w b.2.by b.2.spread (restricts_told enc.store enc.goal fs f.vars h.0 w enc.distinct enc.numbered h.1.restricts);
+        },
       )
 
-  shown : (run : Run) → IsRun s run cycles → (a : List Bool) × IsSatisfyingAssignment f a × RestrictsTo formula_bits a run → HasProperty run
-  shown run is_run h =
+  -- what is asked is the property
+  shown : (run : Run) (a : List Bool) → IsRun s run cycles → GoesOn f question formula_bits run a → IsYes f question a ↔ HasProperty run
+  shown run a is_run h =
       let b = by_run run is_run in
       let v = b.0 in
       let w = b.1 in
-      let told' = from_run h.0 run v w b.2.by b.2.spread h.2 in
-      let false' : val goal w ≡ truth_value false = (enc.encodes.some w (gives w b.2.sorts)).1 (h.0, falsified h.0 w h.1 b.2.sorts told') in
-      (decided.decides run is_run).1 (subst IsDecided b.3 ((means v b.2.fits).0 (sym (enc.same v w b.2.spread) ∙ false')))
+      let asks = enc.encodes.asks w a (goes_on run v w a b.2 h) in
+      let decides = decided.decides run is_run in (
+        λ so. decides.1 (subst IsDecided b.3 ((means v b.2.fits).0 (sym (enc.same v w b.2.spread) ∙ asks.0 so))),
+        λ has. asks.1 (enc.same v w b.2.spread ∙ (means v b.2.fits).1 (subst IsDecided (sym b.3) (decides.0 has))),
+      )
 
   -- each satisfying assignment has a run
   comes : (a : List Bool) → IsSatisfyingAssignment f a → (run : Run) × IsRun s run cycles × RestrictsTo formula_bits a run
@@ -403,28 +419,33 @@ module _ (s : Setting) (e : Mapped) (cycles : ℕ) (HasProperty : Run → Type 0
       let h = enc.gathered w sorts in
       let v = h.0 in
       let fits : FitsNames g.names v = h.1.sorts in
-      let false' : val goal w ≡ truth_value false = (enc.encodes.some w (gives w sorts)).1 (a, falsified a w sa sorts told') in
+      let false' : val goal w ≡ truth_value false =
+      false_under f variables goal enc.encodes w a sa.whole sa.satisfies (told_by a w sorts told') in
       let x = values_of_run e.parts cycles v in
       let r = have x (values_fit e.parts cycles v (subst (λ es. FitsNames es v) named fits)) ((means v fits).0 (sym (enc.same v w h.1) ∙ false')) in
       (r.0, r.1, to_run a r.0 v w (run_by_values e cycles r.0 v r.2) h.1 told')
 
-  -- at most one satisfying assignment restricts to a run
-  only : (run : Run) (a b : List Bool) → IsSatisfyingAssignment f a → RestrictsTo formula_bits a run → IsSatisfyingAssignment f b → RestrictsTo formula_bits b run → a ≡ b
-  only run a b sa ra sb rb =
+  -- a run goes on to at most one assignment
+  only : (run : Run) (a b : List Bool) → GoesOn f question formula_bits run a → GoesOn f question formula_bits run b → a ≡ b
+  only run a b ga gb =
       let w = told enc.store.names fs a enc.distinct in
       let sorts = told_gives enc.store.names fs a enc.distinct in
       let told_a : Told fs enc.store.names a w = told_is enc.store.names fs a enc.distinct in
       let both : (j : ℕ) → j < length enc.store.names → WriteAlike a b (variables_of_sort (entry_at enc.store.names j).1 (get_or fs j None)) =
       each_back g.names enc.store.names fs enc.words (WriteAlike a b) (none_alike a b)
-      (subst (λ es. (j k : ℕ) → j < length es → WriteAlike a b (variables_at fs es j k)) (sym named) (restrict_alike e cycles fs a b run own ra rb)) in
+      (subst (λ es. (j k : ℕ) → j < length es → WriteAlike a b (variables_at fs es j k)) (sym named) (restrict_alike e cycles fs a b run own ga.restricts gb.restricts)) in
       let told_b : Told fs enc.store.names b w = λ j l. alike a b (variables_of_sort (entry_at enc.store.names j).1 (get_or fs j None)) (numeral_of (w (entry_at enc.store.names j).0)) (both j l) (told_a j l) in
-      enc.encodes.one w a b (falsified a w sa sorts told_a) (falsified b w sb sorts told_b)
+      enc.encodes.one w a b
+      (record { follows = record { whole = ga.follows.whole; gates = ga.follows.gates }; restricts = told_by a w sorts told_a })
+      (record { follows = record { whole = gb.follows.whole; gates = gb.follows.gates }; restricts = told_by b w sorts told_b })
 
   -- The formula encodes the property.
   pub encodes_runs : EncodesRuns s cycles HasProperty f (bits_of e.parts cycles fs)
   encodes_runs = record {
     mapped = is_map;
-    some = λ run is_run. (found run is_run, shown run is_run);
-    one = λ run a b sa ra sb rb. only run a b sa ra sb rb;
+    question = question;
+    some = λ run is_run. found run is_run;
+    one = λ run a b ga gb. only run a b ga gb;
+    asks = λ run a is_run h. shown run a is_run h;
     every = λ a sa. comes a sa;
   }

@@ -93,7 +93,7 @@ all_found s e budget [] (x ∷ xs) l h = absurd (omega (arith, l))
 all_found s e budget (o ∷ os) [] l h = absurd (omega (arith, l))
 all_found s e budget (o ∷ os) (x ∷ xs) l h = (h zero o x refl refl, all_found s e budget os xs (omega (arith, l)) (λ k p y a b. h (suc k) p y a b))
 
-viewed : (f : Obligation → pure.Obligation) (os : List Obligation) (k : ℕ) (o : Obligation) → slice_get os k ≡ Some o → Contains (map f os) (f o)
+pub viewed : (f : Obligation → pure.Obligation) (os : List Obligation) (k : ℕ) (o : Obligation) → slice_get os k ≡ Some o → Contains (map f os) (f o)
 viewed f [] k o e = cc
 viewed f (q ∷ os) zero o e = let same : q ≡ o = some_same e in (zero, (omega arith), ap f same)
 viewed f (q ∷ os) (suc k) o e = let c = viewed f os k o e in let low : c.0 < length (map f os) = c.1 in (suc c.0, (omega (arith, low)), c.2)

@@ -15,6 +15,7 @@ ghost use Rattle.obligation_check.specs.Decided.{IsSettingBy, AreStated, IsFound
 
 use crate::NoMemory;
 use crate::findings::{Finding, find};
+use fixed_terms::with_fixed;
 use ila_model::IlaModel;
 use mapped_designs::MappedDesign;
 use obligation_lists::Obligation;
@@ -66,7 +67,8 @@ fn find_obligation(
     ensures found { IfOk result (IsFoundBy (model_of model.now) (mapped_of mapped.now) budget obligation.now) }
 {
     prepare(alloc, model, mapped, terms, obligation.cycles)?;
-    let id = terms.obligation(alloc, model, mapped, obligation)?;
+    let asked = terms.obligation(alloc, model, mapped, obligation)?;
+    let id = with_fixed(alloc, &mut terms.terms, asked)?;
     let _names = terms.terms.name_count();
     let found = find(
         alloc,
@@ -122,7 +124,8 @@ fn find_cover(
 {
     let cycles = mapped.instructions[instruction].bound;
     prepare(alloc, model, mapped, terms, cycles)?;
-    let id = terms.cover(alloc, model, mapped, instruction)?;
+    let asked = terms.cover(alloc, model, mapped, instruction)?;
+    let id = with_fixed(alloc, &mut terms.terms, asked)?;
     let _names = terms.terms.name_count();
     let found = find(alloc, &mapped.design, cycles, &terms.terms, id, budget)?;
     Ok(found)

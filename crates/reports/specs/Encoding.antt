@@ -8,6 +8,7 @@ use Rattle.refinement.specs.Obligation.{Obligation, Falsifies, IsWholeCommand, b
 use Rattle.sat_base.specs.declared.logs.Lemma.{Lemma}
 use Rattle.sat_base.specs.Formula.{Formula, variable_value, Satisfies}
 use Rattle.sat_base.specs.Log.{IsSpent}
+use Rattle.reports.specs.Question.{IsQuestion, Follows, IsYes}
 
 -- The variables of the bits of the first registers and of the inputs at each cycle, bit 0 first. A memory has variables for each
 -- of its words, every other register and every input for word 0 alone. What does not matter has none.
@@ -47,19 +48,26 @@ pub record IsSatisfyingAssignment (f : Formula) (a : List Bool) : Type 0 where
   pub whole : length a ≡ f.vars
   pub satisfies : Satisfies a f
 
--- The formula encodes a property of runs of so many cycles: a run has it exactly where some satisfying assignment restricts to the
--- run, and then exactly one does; and each satisfying assignment restricts to some run.
+-- A run goes on to an assignment: it follows the circuit and restricts to the run.
+pub record GoesOn (f : Formula) (q : IsQuestion f) (m : BitMap) (run : Run) (a : List Bool) : Type 0 where
+  pub follows : Follows f q a
+  pub restricts : RestrictsTo m a run
+
+-- The formula encodes a property of runs of so many cycles: it is a question about a circuit. Each run goes on to exactly one assignment,
+-- and what is asked is so under it exactly where the run has the property. Each satisfying assignment restricts to some run.
 pub record EncodesRuns (s : Setting) (cycles : ℕ) (HasProperty : Run → Type 0) (f : Formula) (m : BitMap) : Type 0 where
   pub mapped : IsMapOf cycles f m
-  pub some : (run : Run) → IsRun s run cycles → HasProperty run ↔ ((a : List Bool) × IsSatisfyingAssignment f a × RestrictsTo m a run)
-  pub one : (run : Run) (a b : List Bool) → IsSatisfyingAssignment f a → RestrictsTo m a run → IsSatisfyingAssignment f b → RestrictsTo m b run → a ≡ b
+  pub question : IsQuestion f
+  pub some : (run : Run) → IsRun s run cycles → (a : List Bool) × GoesOn f question m run a
+  pub one : (run : Run) (a b : List Bool) → GoesOn f question m run a → GoesOn f question m run b → a ≡ b
+  pub asks : (run : Run) (a : List Bool) → IsRun s run cycles → GoesOn f question m run a → IsYes f question a ↔ HasProperty run
   pub every : (a : List Bool) → IsSatisfyingAssignment f a → (run : Run) × IsRun s run cycles × RestrictsTo m a run
 
--- It encodes an obligation: it is satisfied by the values that falsify it.
+-- It encodes an obligation: it asks whether the run falsifies it.
 abbrev pub EncodesObligation : Setting → Obligation → Formula → BitMap → Type 0
 EncodesObligation s o f m = EncodesRuns s o.cycles (λ run. Falsifies s run o) f m
 
--- It encodes the cover of instruction number j: it is satisfied by whole commands of it.
+-- It encodes the cover of instruction number j: it asks whether the run is a whole command of it.
 abbrev pub EncodesCover : Setting → ℕ → Instruction → Formula → BitMap → Type 0
 EncodesCover s j i f m = EncodesRuns s (bound_named s.map (instruction_name i)) (IsWholeCommand s j) f m
 

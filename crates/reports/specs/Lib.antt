@@ -1,2 +1,4 @@
+pub mod Question
 pub mod Encoding
+pub mod Solutions
 pub mod Report

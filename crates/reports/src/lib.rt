@@ -1,2 +1,4 @@
-//! Formulas about runs, traces, and what each line of a report claims. It has no code.
+//! Formulas about runs, traces, and what each line of a report claims. The functions have no code: they carry the laws.
 #![tactic(auto)]
+
+pub mod laws;

@@ -127,38 +127,42 @@ writes_all g root used firsts inputs l a v r = λ j i m.
     let vars : variables_of g.names firsts e.0 ≡ variables_from (first_at 0 g.names used j) (bit_count e.1) = ap (λ fs. variables_of g.names fs e.0) l.are_firsts ∙ lookup 0 g.names used j l.distinct i l.are_used.room m in
     subst (λ xs. Writes e.1 (v e.0) (map (variable_value a) xs)) vars (r e.0 e.1 (l.are_used.none_else j m))
 
+-- the circuit's inputs are the bits of the names, so an assignment that restricts to values has them there
+same_front : (g : Graph) (root : ℕ) (used : List Bool) (firsts : List (Option ℕ)) (c : Circuit) (bit wanted : Bit) (f : Formula) → IsBlastedTo g root used firsts c bit wanted f
+    → (v : Valuation) (a b : List Bool) → length a ≡ size c → length b ≡ size c → RestrictsTo (variables_of g.names firsts) a v (tree g root)
+    → RestrictsTo (variables_of g.names firsts) b v (tree g root) → take c.inputs a ≡ take c.inputs b
+same_front g root used firsts c bit wanted f h v a b na nb p q =
+    let agree = same_inputs a b v 0 g.names used h.laid.are_used.room (writes_all g root used firsts c.inputs h.laid a v p) (writes_all g root used firsts c.inputs h.laid b v q) in
+    ext_get_or false (take c.inputs a) (take c.inputs b)
+    (length-take-le c.inputs a (omega (arith, na)) ∙ sym (length-take-le c.inputs b (omega (arith, nb))))
+    (λ i k. let below : i < c.inputs = omega (arith, k, length-take-le c.inputs a (omega (arith, na))) in
+    get_or-take c.inputs a i false below ∙ (agree i (omega arith) (omega (arith, below, h.laid.end)) ∙ sym (get_or-take c.inputs b i false below)))
+
 pub encoded : (g : Graph) (root : ℕ) (used : List Bool) (firsts : List (Option ℕ)) (c : Circuit) (bit wanted : Bit) (f : Formula) → IsBlastedTo g root used firsts c bit wanted f
     → Encodes f (variables_of g.names firsts) (tree g root)
 encoded g root used firsts c bit wanted f h = record {
-  some = λ v sorts. (
-    λ e.
-        let inputs = inputs_for v g.names used in
-        let n : length inputs ≡ c.inputs = omega (arith, inputs_count v 0 g.names used, h.laid.end) in
-        let w = h.determined.some inputs n in
-        let from : HasFrom w.0 0 inputs = has_from w.0 inputs 0 (λ i k.
-        let z : 0 + i ≡ i = omega arith in
-        ap (variable_value w.0) z ∙ (sym (get_or-take c.inputs w.0 i false (omega (arith, k, n))) ∙ ap (λ xs. get_or xs i false) w.2)) in
-        let r = restricts g root used firsts c.inputs h.laid h.blastable w.0 v sorts from in
-        let low : bit_value w.0 bit ≡ false = ap as_truth (sym (the_bit g root used firsts c bit wanted f h w.0 v w.3 r) ∙ e) in (
-          w.0,
-          record {
-            whole = w.1 ∙ sym h.formula.vars;
-            satisfies = (h.formula.satisfied w.0).1 (w.3, h.negated w.0 ∙ ap truth_not low);
-            restricts = r;
-          },
-        ),
-    λ x.
-        let s = (h.formula.satisfied x.0).0 x.1.satisfies in
-        the_bit g root used firsts c bit wanted f h x.0 v s.0 x.1.restricts ∙ ap truth_value (not-true (bit_value x.0 bit) (sym (h.negated x.0) ∙ s.1)),
-  );
+  question = h.formula.question;
+  some = λ v sorts.
+      let inputs = inputs_for v g.names used in
+      let n : length inputs ≡ c.inputs = omega (arith, inputs_count v 0 g.names used, h.laid.end) in
+      let w = h.determined.some inputs n in
+      let from : HasFrom w.0 0 inputs = has_from w.0 inputs 0 (λ i k.
+      let z : 0 + i ≡ i = omega arith in
+      ap (variable_value w.0) z ∙ (sym (get_or-take c.inputs w.0 i false (omega (arith, k, n))) ∙ ap (λ xs. get_or xs i false) w.2)) in (
+        w.0,
+        record {
+          follows = record { whole = w.1 ∙ sym h.formula.vars; gates = (h.formula.follows w.0).1 w.3 };
+          restricts = restricts g root used firsts c.inputs h.laid h.blastable w.0 v sorts from;
+        },
+      );
   one = λ v a b p q.
-      let s = (h.formula.satisfied a).0 p.satisfies in
-      let t = (h.formula.satisfied b).0 q.satisfies in
-      let na : length a ≡ size c = p.whole ∙ h.formula.vars in
-      let nb : length b ≡ size c = q.whole ∙ h.formula.vars in
-      let agree = same_inputs a b v 0 g.names used h.laid.are_used.room (writes_all g root used firsts c.inputs h.laid a v p.restricts) (writes_all g root used firsts c.inputs h.laid b v q.restricts) in
-      h.determined.one a b na nb (ext_get_or false (take c.inputs a) (take c.inputs b)
-      (length-take-le c.inputs a (omega (arith, na)) ∙ sym (length-take-le c.inputs b (omega (arith, nb))))
-      (λ i k. let below : i < c.inputs = omega (arith, k, length-take-le c.inputs a (omega (arith, na))) in
-      get_or-take c.inputs a i false below ∙ (agree i (omega arith) (omega (arith, below, h.laid.end)) ∙ sym (get_or-take c.inputs b i false below)))) s.0 t.0;
+      let na : length a ≡ size c = p.follows.whole ∙ h.formula.vars in
+      let nb : length b ≡ size c = q.follows.whole ∙ h.formula.vars in
+      h.determined.one a b na nb (same_front g root used firsts c bit wanted f h v a b na nb p.restricts q.restricts)
+      ((h.formula.follows a).0 p.follows.gates) ((h.formula.follows b).0 q.follows.gates);
+  asks = λ v a p.
+      let told = the_bit g root used firsts c bit wanted f h a v ((h.formula.follows a).0 p.follows.gates) p.restricts in (
+        λ so. told ∙ ap truth_value (not-true (bit_value a bit) (sym (h.negated a) ∙ (h.formula.asks a).0 so)),
+        λ e. (h.formula.asks a).1 (h.negated a ∙ ap truth_not (ap as_truth (sym told ∙ e))),
+      );
 }

@@ -9,4 +9,5 @@ pub mod OtherBits
 pub mod AllBits
 pub mod Layouts
 pub mod Encoding
+pub mod Solved
 pub mod ReadingLemmas

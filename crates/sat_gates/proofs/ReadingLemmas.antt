@@ -12,9 +12,10 @@ use Rattle.sat_base.specs.Formula.{Formula, variable_value, Satisfies}
 use Rattle.gate_words.specs.Binary.{number_of}
 use Rattle.gate_words.proofs.Numbers.{number_below}
 use Rattle.sat_gates.specs.Names.{names_in, is_blastable}
-use Rattle.sat_gates.specs.Encodes.{Writes, GivesSorts, RestrictsTo, Encodes}
+use Rattle.sat_gates.specs.Encodes.{Writes, RestrictsTo, Encodes}
 use Rattle.sat_gates.specs.Layout.{variables_from, variables_of_sort, variables_of, IsNumbered}
 use Rattle.sat_gates.proofs.Encoding.{bit_names}
+use Rattle.sat_gates.proofs.Solved.{false_under}
 use Rattle.sat_gates.proofs.Layouts.{IsBitSort, absent, same_itself, not_same, laid_count, look, variables_count}
 use Rattle.wb_terms.specs.declared.values.Value.{Value}
 use Rattle.wb_terms.specs.Environment.{as_value, values_by_name, AreOfSorts}
@@ -101,13 +102,7 @@ pub falsified : (g : Graph) (root : ℕ) (fs : List (Option ℕ)) (f : Formula) 
     → AreRead g.names fs a (length g.names) vs → val (tree g root) (valuation_of (values_by_name g.names (map as_value vs))) ≡ truth_value false
 falsified g root fs f a vs d distinct blastable encodes numbered whole satisfies h =
     let v = valuation_of (values_by_name g.names (map as_value vs)) in
-    (encodes.some v sorts).1 (a, record { whole = whole; satisfies = satisfies; restricts = restricted g root fs f.vars a vs d distinct blastable numbered h })
-  where
-    sorts : GivesSorts (valuation_of (values_by_name g.names (map as_value vs))) (tree g root)
-    sorts n s stands =
-        let u = numbered.declared n s stands in
-        subst (λ (x : Name × Sort). HasSort (valuation_of (values_by_name g.names (map as_value vs)) x.0) x.1) u.2
-        (subst (λ y. HasSort y (entry_at g.names u.0).1) (sym (value_at g.names vs u.0 d distinct u.1 h.count)) (h.of_sort u.0 d u.1))
+    false_under f (variables_of g.names fs) (tree g root) encodes v a whole satisfies (restricted g root fs f.vars a vs d distinct blastable numbered h)
 
 -- a name without variables is read as zero
 unread : (a : List Bool) (o : Option ℕ) (s : Sort) (x : meaning.Value) → ¬ IsTrue (is_some o) → IsRead a o s x → x ≡ zero_of s

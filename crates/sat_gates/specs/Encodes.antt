@@ -2,7 +2,8 @@
 use Rattle.std.specs.Prelude.{◌≡◌, ◌↔◌, ℕ, Bool, false, List, [], ◌∷◌, map, length, Contains}
 use Rattle.wb_values.specs.Value.{Name, Sort, truth, word, Value, truth_value, number, Valuation, HasSort}
 use Rattle.model_meaning.specs.Term.{Term, val}
-use Rattle.sat_base.specs.Formula.{Formula, variable_value, Satisfies}
+use Rattle.sat_base.specs.Formula.{Formula, variable_value}
+use Rattle.gate_base.specs.Question.{IsQuestion, Follows, IsYes}
 use Rattle.gate_words.specs.Binary.{number_of}
 use Rattle.sat_gates.specs.Names.{names_in}
 
@@ -24,14 +25,15 @@ GivesSorts v t = (n : Name) (s : Sort) → Contains (names_in t) (n, s) → HasS
 abbrev pub RestrictsTo : Variables → List Bool → Valuation → Term → Type 0
 RestrictsTo m a v t = (n : Name) (s : Sort) → Contains (names_in t) (n, s) → Writes s (v n) (map (variable_value a) (m n))
 
--- the assignment gives each variable of the formula a value, satisfies it, and restricts to the valuation
-pub record Falsifies (f : Formula) (m : Variables) (t : Term) (v : Valuation) (a : List Bool) : Type 0 where
-  pub whole : length a ≡ f.vars
-  pub satisfies : Satisfies a f
+-- Values of the term's names go on to an assignment: it follows the circuit and restricts to them.
+pub record GoesOn (f : Formula) (q : IsQuestion f) (m : Variables) (t : Term) (v : Valuation) (a : List Bool) : Type 0 where
+  pub follows : Follows f q a
   pub restricts : RestrictsTo m a v t
 
--- The formula encodes the term: the term is false under a valuation exactly where some satisfying assignment
--- restricts to it, and then exactly one does.
+-- The formula encodes the term: it is a question about a circuit. Values of the term's names go on to exactly one assignment, and what is
+-- asked is so under it exactly where the term is false under the values.
 pub record Encodes (f : Formula) (m : Variables) (t : Term) : Type 0 where
-  pub some : (v : Valuation) → GivesSorts v t → (val t v ≡ truth_value false) ↔ ((a : List Bool) × Falsifies f m t v a)
-  pub one : (v : Valuation) (a b : List Bool) → Falsifies f m t v a → Falsifies f m t v b → a ≡ b
+  pub question : IsQuestion f
+  pub some : (v : Valuation) → GivesSorts v t → (a : List Bool) × GoesOn f question m t v a
+  pub one : (v : Valuation) (a b : List Bool) → GoesOn f question m t v a → GoesOn f question m t v b → a ≡ b
+  pub asks : (v : Valuation) (a : List Bool) → GoesOn f question m t v a → IsYes f question a ↔ (val t v ≡ truth_value false)

@@ -6,3 +6,4 @@ pub mod Cone
 pub mod Reading
 pub mod Forms
 pub mod Used
+pub mod Solutions

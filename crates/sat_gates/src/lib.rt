@@ -4,6 +4,7 @@
 mod blasting;
 mod forms;
 mod formulas;
+pub mod laws;
 mod layout;
 mod reach;
 mod reading;

@@ -9,6 +9,7 @@ use Rattle.sat_base.specs.Log.{Refutes}
 use Rattle.sat_gates.specs.Names.{names_in}
 use Rattle.sat_gates.specs.Encodes.{GivesSorts, Encodes}
 use Rattle.sat_gates.specs.Layout.{variables_of, IsNumbered}
+use Rattle.sat_gates.proofs.Solved.{has_solutions}
 use Rattle.sat_settle.specs.Refutation.{Refutation}
 use Rattle.sat_settle.specs.Settled.{FitsNames, IsRefutationOf}
 
@@ -23,7 +24,7 @@ pub never_false : (g : Graph) (id : ℕ) (firsts : List (Option ℕ)) (f : Formu
     → IsNumbered g.names (names_in (tree g id)) firsts f.vars → ((a : List Bool) → ¬ Satisfies a f)
     → (v : Valuation) → FitsNames g.names v → ¬ (val (tree g id) v ≡ truth_value false)
 never_false g id firsts f encodes numbered none v fits e =
-    let found = (encodes.some v (gives_sorts g id firsts f.vars v numbered fits)).0 e in
+    let found = ((has_solutions f (variables_of g.names firsts) (tree g id) encodes).some v (gives_sorts g id firsts f.vars v numbered fits)).0 e in
     none found.0 found.1.satisfies
 
 pub is_refutation_of : (g : Graph) (id : ℕ) (firsts : List (Option ℕ)) (f : Formula) (r : Refutation) → Encodes f (variables_of g.names firsts) (tree g id)

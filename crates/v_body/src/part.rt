@@ -92,7 +92,8 @@ pub fn values<'s, 't>(
     ensures flat { IfOk result (λ x. Each IsFlat x.0.items) }
 {
     let (first, mut rest) = expression(alloc, tokens)?;
-    let mut values = Vec::new(alloc);
+    // Most items have one value, and room for more is made when a second one is read.
+    let mut values = Vec::with_capacity(alloc, 1)?;
     values.push(first)?;
     loop {
         match behind_mark(rest, Mark::Colon) {

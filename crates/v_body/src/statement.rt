@@ -56,7 +56,8 @@ fn ladder<'s, 't>(
     ensures flat { IfOk result (λ x. IsFlatStatement x.0) }
 {
     let mut rest = from_here(tokens)?;
-    let mut arms = Vec::new(alloc);
+    // Most have one arm, and room for more is made when a second one is read.
+    let mut arms = Vec::with_capacity(alloc, 1)?;
     loop {
         let (arm, after) = guarded(alloc, levels, rest)?;
         arms.push(arm)?;

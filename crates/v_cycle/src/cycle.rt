@@ -95,4 +95,18 @@ impl Cycle {
     {
         &self.registers
     }
+
+    /// What the terms were evaluated at in the last cycle: the registers before the edge and the inputs, in the order of the store's names.
+    pub fn env(&self) -> &Env
+        ensures { result.now ≡ self.now.env }
+    {
+        &self.env
+    }
+
+    /// The values of all terms in the last cycle.
+    pub fn words(&self) -> &Evaluated
+        ensures { result.now ≡ self.now.words }
+    {
+        &self.words
+    }
 }

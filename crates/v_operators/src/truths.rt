@@ -10,8 +10,23 @@ use crate::putting::put;
 use crate::words::constant;
 use wb_terms::{Node, TermId, Terms};
 
-/// Whether a number is not 0.
+/// Whether a number is not 0: of a constant a constant.
 pub fn is_nonzero(terms: &mut Terms, operand: TermId, width: u32) -> Result<TermId, NoMemory>
+    requires { IsOfSort terms.old operand.0 (word width) }
+    ensures grows { Grows terms.old terms.new }
+    ensures made { IfOk result (λ r. Tests terms.old terms.new operand.0 width r.0 is_nonzero) }
+{
+    match *terms.node(operand) {
+        Node::Const(_, number) => {
+            let id = put(terms, Node::Truth(number != 0))?;
+            Ok(id)
+        }
+        _ => is_above_zero(terms, operand, width),
+    }
+}
+
+/// Whether 0 is below a number.
+fn is_above_zero(terms: &mut Terms, operand: TermId, width: u32) -> Result<TermId, NoMemory>
     requires { IsOfSort terms.old operand.0 (word width) }
     ensures grows { Grows terms.old terms.new }
     ensures made { IfOk result (λ r. Tests terms.old terms.new operand.0 width r.0 is_nonzero) }

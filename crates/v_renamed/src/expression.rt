@@ -96,7 +96,7 @@ pub(crate) fn copy_parts<'a, 's: 'a>(
 ) -> Result<Vec<Expression<'a>>, AllocError>
     ensures { IfOk result (λ v. map tree_of v.items ≡ map (part_under (new_name names.now)) parts.now) }
 {
-    let mut copies = Vec::new(alloc);
+    let mut copies = Vec::with_capacity(alloc, parts.len())?;
     for part in parts {
         let part = copy(alloc, part, names)?;
         copies.push(part)?;
@@ -113,7 +113,7 @@ fn copy_links<'a, 's: 'a>(
 ) -> Result<Vec<BinaryLink<'a>>, AllocError>
     ensures { IfOk result (λ v. map link_of v.items ≡ map (link_under (new_name names.now)) links.now) }
 {
-    let mut copies = Vec::new(alloc);
+    let mut copies = Vec::with_capacity(alloc, links.len())?;
     for link in links {
         let operand = copy(alloc, &link.operand, names)?;
         copies.push(BinaryLink {
@@ -133,7 +133,7 @@ fn copy_tests<'a, 's: 'a>(
 ) -> Result<Vec<TestLink<'a>>, AllocError>
     ensures { IfOk result (λ v. map test_of v.items ≡ map (test_under (new_name names.now)) links.now) }
 {
-    let mut copies = Vec::new(alloc);
+    let mut copies = Vec::with_capacity(alloc, links.len())?;
     for link in links {
         let operand = copy(alloc, &link.operand, names)?;
         copies.push(TestLink {
@@ -153,7 +153,7 @@ fn copy_choices<'a, 's: 'a>(
 ) -> Result<Vec<Choice<'a>>, AllocError>
     ensures { IfOk result (λ v. map choice_of v.items ≡ map (choice_under (new_name names.now)) choices.now) }
 {
-    let mut copies = Vec::new(alloc);
+    let mut copies = Vec::with_capacity(alloc, choices.len())?;
     for choice in choices {
         let condition = copy(alloc, &choice.condition, names)?;
         let value = copy(alloc, &choice.value, names)?;

@@ -76,7 +76,7 @@ fn copy_statements<'a, 's: 'a>(
 ) -> Result<Vec<Statement<'a>>, AllocError>
     ensures { IfOk result (λ v. map statement_of v.items ≡ map (statement_under (new_name names.now)) statements.now) }
 {
-    let mut copies = Vec::new(alloc);
+    let mut copies = Vec::with_capacity(alloc, statements.len())?;
     for statement in statements {
         let statement = copy_statement(alloc, statement, names)?;
         copies.push(statement)?;
@@ -93,7 +93,7 @@ fn copy_arms<'a, 's: 'a>(
 ) -> Result<Vec<Arm<'a>>, AllocError>
     ensures { IfOk result (λ v. map arm_of v.items ≡ map (arm_under (new_name names.now)) arms.now) }
 {
-    let mut copies = Vec::new(alloc);
+    let mut copies = Vec::with_capacity(alloc, arms.len())?;
     for arm in arms {
         let condition = copy(alloc, &arm.condition, names)?;
         let statement = copy_statement(alloc, &arm.statement, names)?;
@@ -114,7 +114,7 @@ fn copy_items<'a, 's: 'a>(
 ) -> Result<Vec<CaseItem<'a>>, AllocError>
     ensures { IfOk result (λ v. map item_of v.items ≡ map (item_under (new_name names.now)) items.now) }
 {
-    let mut copies = Vec::new(alloc);
+    let mut copies = Vec::with_capacity(alloc, items.len())?;
     for item in items {
         let item = copy_item(alloc, item, names)?;
         copies.push(item)?;

@@ -39,7 +39,7 @@ fn copy_targets<'a, 's: 'a>(
 ) -> Result<Vec<Target<'a>>, AllocError>
     ensures { IfOk result (λ v. map target_of v.items ≡ map (target_under (new_name names.now)) targets.now) }
 {
-    let mut copies = Vec::new(alloc);
+    let mut copies = Vec::with_capacity(alloc, targets.len())?;
     for target in targets {
         let target = copy_target(alloc, target, names)?;
         copies.push(target)?;

@@ -1,14 +1,14 @@
-mod Bits
-mod Lists
+pub mod Bits
+pub mod Lists
 mod Values
-mod Settings
-mod Named
-mod First
+pub mod Settings
+pub mod Named
+pub mod First
 mod Fed
 mod Shown
 mod Step
 mod Told
-mod Sorted
+pub mod Sorted
 mod Placing
 mod Turn
 mod Answered

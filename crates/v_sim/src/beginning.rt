@@ -27,11 +27,7 @@ fn zeros(alloc: Global, design: &Design) -> Result<Vec<Value>, NoMemory>
 }
 
 /// The registers with which a script begins: zeros, and what is set.
-pub(crate) fn first_registers(
-    alloc: Global,
-    design: &Design,
-    sets: &[Set],
-) -> Result<Registers, NoMemory>
+pub fn first_registers(alloc: Global, design: &Design, sets: &[Set]) -> Result<Registers, NoMemory>
     requires { IsTrue (are_right (names_by (parts_of design.now)).states sets.now) }
     ensures values { IfOk result (λ r. register_values r ≡ first_values (parts_of design.now) sets.now) }
     ensures sorted { IfOk result (λ r. AreOfSorts (registers_of (parts_of design.now)) (register_values r)) }
@@ -60,7 +56,7 @@ fn set_numbers(numbers: &mut [u128], sets: &[Set])
 }
 
 /// The inputs that a line gives.
-pub(crate) fn line_inputs(alloc: Global, design: &Design, sets: &[Set]) -> Result<Inputs, NoMemory>
+pub fn line_inputs(alloc: Global, design: &Design, sets: &[Set]) -> Result<Inputs, NoMemory>
     requires { IsTrue (are_right (names_by (parts_of design.now)).inputs sets.now) }
     ensures values { IfOk result (λ i. input_values i ≡ line_values (parts_of design.now) sets.now) }
     ensures sorted { IfOk result (λ i. AreOfSorts (inputs_of (parts_of design.now)) (input_values i)) }

@@ -7,6 +7,7 @@ mod running;
 mod text;
 mod whole;
 
+pub use beginning::{first_registers, line_inputs};
 pub use ila_sim::{ScriptKind, ScriptRefusal, Simulation};
 pub use naming::names_of;
 pub use wb_terms::NoMemory;

@@ -6,6 +6,9 @@ pub mod Limits
 pub mod Texts
 pub mod Simulated
 pub mod SimulatedRtl
+pub mod Replayed
+pub mod SimulatedBoth
+pub mod Cases
 pub mod Outcome
 pub mod Showing
 pub mod StatusNumber

@@ -12,21 +12,20 @@ ghost use Rattle.wb_top.specs.Verbs.{verb_view};
 ghost use Rattle.wb_top.specs.Showing.{told_of, status_by};
 ghost use Rattle.wb_top.specs.Outcome.{IsAnswer, IsEnd, IsChecked, IsCheckedSetting, IsReported};
 
+use crate::both::simulated_both;
+use crate::cases::{Case, case_of};
 use crate::length::first_long;
+use crate::replaying::replayed;
 use crate::rtl::simulated_rtl;
 use crate::simulation::simulated;
 use crate::status::{AllSpent, Status};
 use crate::stop::NoMemory;
-use crate::texts::{
-    limit_of_check, limit_of_length, refusal_by, refusal_of_design, refusal_of_map,
-    refusal_of_text, refusal_of_tree,
-};
+use crate::texts::{limit_of_check, limit_of_length};
 use crate::verb::Verb;
 use check_limits::limit_of;
 use check_report::{Ending, check};
 use ila_model::IlaModel;
 use mapped_designs::MappedDesign;
-use read_cases::{FilesCase, case_of_files};
 use std::alloc::Global;
 
 /// What a call answers and what it is to write.
@@ -102,6 +101,18 @@ fn ended(
             }
             _ => unreachable!(),
         },
+        Verb::Replay => match contents {
+            [model, map, trace, designs @ ..] => {
+                replayed(alloc, names_after(names, 3), model, map, trace, designs)
+            }
+            _ => unreachable!(),
+        },
+        Verb::SimulateBoth => match contents {
+            [model, map, script, designs @ ..] => {
+                simulated_both(alloc, names_after(names, 3), model, map, script, designs)
+            }
+            _ => unreachable!(),
+        },
     }
 }
 
@@ -122,31 +133,12 @@ fn checked(
     requires { 0 < budget }
     ensures { IfOk result (λ o. IsChecked budget (model.now ∷ map_file.now ∷ map (λ d. d.items) designs.now) o.status (told_of o)) }
 {
-    match case_of_files(alloc, model, map_file, designs)? {
-        FilesCase::Case(model, mapped) => {
+    match case_of(alloc, names, model, map_file, designs)? {
+        Case::Setting(model, mapped) => {
             let outcome = checked_case(alloc, &model, mapped, budget)?;
             Ok(outcome)
         }
-        FilesCase::Model(broken) => {
-            let text = refusal_by(alloc, &broken)?;
-            Ok(Outcome::plain(Status::Refused, text))
-        }
-        FilesCase::MapFile(broken) => {
-            let text = refusal_of_map(alloc, &broken)?;
-            Ok(Outcome::plain(Status::Refused, text))
-        }
-        FilesCase::Text(broken) => {
-            let text = refusal_of_text(alloc, names, &broken)?;
-            Ok(Outcome::plain(Status::Refused, text))
-        }
-        FilesCase::Tokens(note) => {
-            let text = refusal_of_tree(alloc, names, &note)?;
-            Ok(Outcome::plain(Status::Refused, text))
-        }
-        FilesCase::Design(kind) => {
-            let text = refusal_of_design(alloc, kind)?;
-            Ok(Outcome::plain(Status::Refused, text))
-        }
+        Case::Refused(text) => Ok(Outcome::plain(Status::Refused, text)),
     }
 }
 

@@ -2,9 +2,12 @@
 #![tactic(auto)]
 
 mod answer;
+mod both;
+mod cases;
 pub mod laws;
 mod length;
 mod outcome;
+mod replaying;
 mod rtl;
 mod simulation;
 mod status;

@@ -8,6 +8,7 @@ ghost use Rattle.map_file.specs.Rule as map_rules;
 ghost use Rattle.v_judged.specs.Refusal.{kind_of};
 ghost use Rattle.check_cases.specs.Kinds.{text_kind, tree_kind, kind_name};
 ghost use Rattle.check_limits.specs.View.{as_limit};
+ghost use Rattle.trace_reading.specs.Rule as trace_rules;
 ghost use Rattle.wb_top.specs.Texts.{usage_text, length_text, limit_text, fits_note, IsRefusalBy};
 
 use crate::stop::NoMemory;
@@ -17,6 +18,7 @@ use ila_sim::ScriptRefusal;
 use itoa::Buffer;
 use map_file::MapRefusal;
 use std::alloc::{AllocError, Global};
+use trace_reading::TraceRefusal;
 use v_judged::DesignKind;
 use v_lex::{LexKind, LexRefusal, Note};
 
@@ -37,6 +39,14 @@ pub(crate) fn refusal_by(alloc: Global, broken: &ModelRefusal) -> Result<Vec<u8>
 /// The text for a map file that breaks a rule.
 pub(crate) fn refusal_of_map(alloc: Global, refusal: &MapRefusal) -> Result<Vec<u8>, NoMemory>
     ensures { IfOk result (λ text. IsRefusalBy (map_rules.rule_name (map_rules.rule_view refusal.now.rule)) text.items) }
+{
+    let rule = refusal.rule.name();
+    refusal_text_by(alloc, rule.as_bytes(), refusal.note.as_bytes())
+}
+
+/// The text for a trace file that breaks a rule.
+pub(crate) fn refusal_of_trace(alloc: Global, refusal: &TraceRefusal) -> Result<Vec<u8>, NoMemory>
+    ensures { IfOk result (λ text. IsRefusalBy (trace_rules.rule_name (trace_rules.rule_view refusal.now.rule)) text.items) }
 {
     let rule = refusal.rule.name();
     refusal_text_by(alloc, rule.as_bytes(), refusal.note.as_bytes())

@@ -18,4 +18,8 @@ pub(crate) enum Verb {
     Simulate,
     /// What does the design do under the script?
     SimulateRtl(Top),
+    /// What does the trace show of the model and the design, under the map?
+    Replay,
+    /// Does the design do what the model does under the script, by the map?
+    SimulateBoth,
 }

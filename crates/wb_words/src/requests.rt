@@ -45,6 +45,36 @@ pub struct SimulateRtl<'a> {
     pub ghost some_design: { 1 ≤ length designs.items },
 }
 
+/// What does the trace show of the model and the design, under the map?
+#[derive(Drop)]
+pub struct Replay<'a> {
+    /// The name of the model file.
+    pub model: &'a str,
+    /// The name of the map file.
+    pub map: &'a str,
+    /// The name of the trace.
+    pub trace: &'a str,
+    /// The names of the Verilog files.
+    pub designs: Vec<&'a str>,
+    /// There is a design.
+    pub ghost some_design: { 1 ≤ length designs.items },
+}
+
+/// Does the design do what the model does under the script, by the map?
+#[derive(Drop)]
+pub struct SimulateBoth<'a> {
+    /// The name of the model file.
+    pub model: &'a str,
+    /// The name of the map file.
+    pub map: &'a str,
+    /// The name of the script.
+    pub script: &'a str,
+    /// The names of the Verilog files.
+    pub designs: Vec<&'a str>,
+    /// There is a design.
+    pub ghost some_design: { 1 ≤ length designs.items },
+}
+
 /// A command, with the names of the files that it reads.
 #[derive(Drop)]
 pub enum Request<'a> {
@@ -54,4 +84,8 @@ pub enum Request<'a> {
     Simulate(Simulate<'a>),
     /// `simulate-rtl`
     SimulateRtl(SimulateRtl<'a>),
+    /// `replay`
+    Replay(Replay<'a>),
+    /// `simulate-both`
+    SimulateBoth(SimulateBoth<'a>),
 }

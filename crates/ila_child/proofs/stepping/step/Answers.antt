@@ -1,9 +1,10 @@
-use Rattle.std.proofs.Common.{◌≡◌, ◌∙◌, ◌≤◌, map, length, Some, None, true, false, sym, ap, subst, arith, string_bytes}
+use Rattle.std.proofs.Common.{◌≡◌, ◌∙◌, ◌<◌, ◌≤◌, List, map, length, Some, None, true, false, sym, ap, subst, arith, string_bytes}
 use Rattle.std.proofs.lemmas.Bool.{and_parts, false≢true}
 use Rattle.wb_values.specs.Value.{truth}
 use Rattle.model_meaning.specs.Model.{holds, point_of}
 use Rattle.wb_terms.specs.Graph.{tree}
 use Rattle.wb_terms.specs.Environment.{as_value, values_of, valuation}
+use Rattle.ila_model.specs.declared.parts.Instruction.{Instruction}
 use Rattle.ila_model.specs.Scope.{nesting}
 use Rattle.ila_model.specs.Sorted.{is_condition, is_term_of}
 use Rattle.ila_model.specs.Meaning.{model_from}
@@ -77,23 +78,8 @@ find_decoded-requires-clause-conditions c =
     let top = and_parts (is_condition p None p.valid.0) _ (sorted p c.args.model.now.well_sorted).top in
     subst (λ is. are_conditions p.terms is ≡ true) (sym c.deref.ensures.value) (are_conditions-from p None 0 p.instructions.items top.1)
 
-pub start-requires-clause-found : goal.start-requires-clause-found
-start-requires-clause-found c =
-    let m = c.args.model.now in
-    let p = m.parts in
-    let s = sorted p m.well_sorted in
-    let name = string_bytes m.name in
-    let q = c.args.state.now in
-    let w = c.args.inputs.now in
-    let e = c.in_ok-env.env in
-    let half = subst (λ x. IsEnvironment p.terms.names x (map as_value c.values-2.result.now) e) c.values.ensures c.in_ok-env.ensures in
-    let i = subst (λ x. IsEnvironment p.terms.names q x e) c.values-2.ensures half in
-    let a = given p s name q w c.requires.state c.requires.inputs in
-    let top = and_parts (is_condition p None p.valid.0) _ s.top in
-    let low : 0 ≤ nesting = omega arith in
-    let is = p.instructions.items in
-    let found = subst (λ js. IsOnlyFound (decodes p.terms (valuation p.terms e) js) (length js) c.in-One.place) c.deref.ensures.value c.in-One.ensures in
-    subst (λ t. IsOnlyFound t (length is) c.in-One.place) (decodes_same p None 0 e is tt low top.1) found
+pub start-requires-clause-place : goal.start-requires-clause-place
+start-requires-clause-place c = subst (λ (js : List Instruction). c.in-One.place < length js) c.deref.ensures.value c.in-One.ensures.0
 
 pub returns-in-Nothing : goal.returns-in-Nothing
 returns-in-Nothing c =

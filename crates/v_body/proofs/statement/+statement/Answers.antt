@@ -110,8 +110,8 @@ case-returns-clause-read t c =
 
 pub ladder-loop-arms-init : goal.ladder-loop-arms-init
 ladder-loop-arms-init t c = (
-  (no_arms_start (statement_in c.args.levels) (map arm_of c.new-arms.result.items) (tokens_of c.in_ok-rest.rest.now) (tokens_of c.args.tokens.now) (ap (map arm_of) c.new-arms.ensures.items) (ap tokens_of c.in_ok-rest.ensures.same)),
-  each-none IsFlatArm c.new-arms.result.items c.new-arms.ensures.items,
+  (no_arms_start (statement_in c.args.levels) (map arm_of c.in_ok-arms.arms.items) (tokens_of c.in_ok-rest.rest.now) (tokens_of c.args.tokens.now) (ap (map arm_of) c.in_ok-arms.ensures.items) (ap tokens_of c.in_ok-rest.ensures.same)),
+  each-none IsFlatArm c.in_ok-arms.arms.items c.in_ok-arms.ensures.items,
 )
 
 pub ladder-returns-in_err-arm-clause-read : goal.ladder-returns-in_err-arm-clause-read

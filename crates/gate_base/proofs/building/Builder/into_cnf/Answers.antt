@@ -31,5 +31,5 @@ pub returns-clause-formula : goal.returns-clause-formula
 returns-clause-formula c =
     let vars : c.in-Some.vars ≡ c.self.inside.inputs + length c.self.inside.gates.items = omega (arith, c.in-Some.ensures.1, c.len.ensures) in
     subst (λ (g : Circuit). IsFormulaOf g c.args.wanted c.in-Ok.cnf) c.self.view_is
-    (formula_of (the_view c.self.inside) c.args.wanted c.in-Ok.cnf c.in-Some.vars c.push_bit.new.clauses.items c.in_ok-clauses.clauses.items c.in-Ok.ensures.ok vars
+    (formula_of (the_view c.self.inside) c.args.wanted c.in-Ok.cnf c.in-Some.vars c.push_bit.new.clauses.items c.in_ok-clauses.clauses.items c.self.invariant c.in-Ok.ensures.ok vars
     c.in_ok-push_bit.ensures (c.in_ok-clauses.ensures ∙ ap (clauses_from c.self.inside.inputs) c.as_slice.ensures.value))

@@ -1,0 +1,4 @@
+pub mod Noting
+pub mod Telling
+pub mod Stating
+pub mod Acting

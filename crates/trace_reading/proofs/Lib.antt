@@ -1,0 +1,13 @@
+pub mod Digits
+pub mod Rooms
+pub mod Orderly
+pub mod Masks
+pub mod Shapes
+pub mod Sites
+pub mod Filled
+pub mod Full
+pub mod Whole
+pub mod Runs
+pub mod Turns
+pub mod Zeros
+pub mod Within

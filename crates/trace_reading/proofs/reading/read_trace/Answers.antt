@@ -1,0 +1,8 @@
+use Rattle.v_design.specs.Seen.{parts_of}
+use Rattle.trace_reading.proofs.Whole.{is_read}
+use Rattle.trace_reading.proofs.reading.read_trace.Goals as goal
+
+pub returns : goal.returns
+returns c s setting =
+    let d = c.args.design.now in
+    is_read s (parts_of d) c.args.obligations.now setting d.counting d.words c.args.bytes.now c.in_ok-answer.answer c.in_ok-answer.ensures
