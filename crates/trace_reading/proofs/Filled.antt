@@ -209,47 +209,97 @@ got_bits [] k c x e = absurd (none_some c e)
 got_bits (b ∷ cs) zero c x e = sym (some_same b c e)
 got_bits (b ∷ cs) (suc k) c x e = got_bits cs k c x e
 
+-- ---- the values of all registers, where each that the file names fits its register
+
+module _ (e : Parts) (counting : IsTrue (are_bits_for (registers_of e) e.bits)) (file registers : Data) (ms : Members) (has : get (codes "registers") file ≡ Some registers) (members : as_object registers ≡ Some ms)
+    (valued : (k : ℕ) → k < length (registers_of e) → (c : Data) → get_member (register_name e k) ms ≡ Some c → (v : Value) × IsValueIn c v × FitsBits (register_bits e k) v) where
+  abbrev register_at : ℕ → Name × Sort
+  register_at k = slice_index_or (registers_of e) k ([], truth)
+
+  pub under : (n : Name) → register_in file n ≡ get_member n ms
+  under n = ap (option_and_then (get n)) has ∙ object_get n registers ms members
+
+  good_at : (k : ℕ) → k < length (registers_of e) → IsGood (register_at k).1 (register_bits e k) (register_given file (register_at k))
+  good_at k l = by (get_member (register_name e k) ms) refl
+    where
+      right : are_bits_of (register_at k).1 (register_bits e k) ≡ true
+      right = right_at (registers_of e) e.bits k counting l
+
+      by : (o : Option Data) → get_member (register_name e k) ms ≡ o → IsGood (register_at k).1 (register_bits e k) (register_given file (register_at k))
+      by None is =
+          subst (λ o. IsGood (register_at k).1 (register_bits e k) (value_given (register_at k).1 o)) (sym (under (register_name e k) ∙ is))
+          (good_none (register_at k).1 (register_bits e k) right)
+      by (Some c) is =
+          let v = valued k l c is in
+          subst (λ o. IsGood (register_at k).1 (register_bits e k) (value_given (register_at k).1 o)) (sym (under (register_name e k) ∙ is))
+          (good_some (register_at k).1 (register_bits e k) c v.0 right v.1 v.2)
+
+  pub values_sorted : AreOfSorts (registers_of e) (registers_given e file)
+  values_sorted = all_sorted (register_given file) (registers_of e) (λ k l. (good_at k l).sorted)
+
+  pub values_rest : (k w b : ℕ) (c : CountedBits) (y : Value) → slice_get e.bits k ≡ Some c → slice_get (registers_given e file) k ≡ Some y
+      → is_set (slice_index c.masks w) b ≡ false → value_bit y w b ≡ false
+  values_rest k w b c y hc hy u =
+      let g = got_at (register_given file) (registers_of e) k ([], truth) y hy in
+      let is = got_bits e.bits k c (record { least = None; masks = [] }) hc in
+      ap (λ z. value_bit z w b) g.1 ∙ (good_at k g.0).rest w b (ap (λ q. is_set (slice_index q.masks w) b) (sym is) ∙ u)
+
+-- ---- the numbers of all inputs, where each that the file names fits its input
+
+word_sorted : (s : Sort) (x : ℕ) → is_word s ≡ true → nat_lt x (2 ^ bits_of_input s) ≡ true → HasSort (number x) s
+word_sorted truth x w h = absurd (false≢true w)
+word_sorted (word b) x w h = h
+word_sorted (memory a b) x w h = absurd (false≢true w)
+
+module _ (e : Parts) (plain : IsTrue (are_words (inputs_of e))) (cycle : Data) (ms : Members) (members : as_object cycle ≡ Some ms)
+    (valued : (k : ℕ) → k < length (inputs_of e) → (c : Data) → get_member (input_name e k) ms ≡ Some c
+    → (x : ℕ) × IsValueIn c (number x) × (nat_lt x (2 ^ bits_of_input (input_sort e k)) ≡ true)) where
+  abbrev input_at : ℕ → Name × Sort
+  input_at k = slice_index_or (inputs_of e) k ([], truth)
+
+  input_sorted : (k : ℕ) → k < length (inputs_of e) → HasSort (number (input_given cycle (input_at k))) (input_at k).1
+  input_sorted k l = by (get_member (input_name e k) ms) refl
+    where
+      plain_here : is_word (input_at k).1 ≡ true
+      plain_here = word_at (inputs_of e) k plain l
+
+      by : (o : Option Data) → get_member (input_name e k) ms ≡ o → HasSort (number (input_given cycle (input_at k))) (input_at k).1
+      by None is =
+          subst (λ o. HasSort (number (number_given o)) (input_at k).1) (sym (object_get (input_name e k) cycle ms members ∙ is))
+          (word_sorted (input_at k).1 0 plain_here (lt-ltb 0 (2 ^ bits_of_input (input_at k).1) (pow_pos (bits_of_input (input_at k).1))))
+      by (Some c) is =
+          let x = valued k l c is in
+          subst (λ o. HasSort (number (number_given o)) (input_at k).1) (sym (object_get (input_name e k) cycle ms members ∙ is))
+          (subst (λ y. HasSort (number y) (input_at k).1) (sym (ap number_or_zero (numeral_of_number c x.0 x.1))) (word_sorted (input_at k).1 x.0 plain_here x.2))
+
+  numbers_mapped : (ns : Entries Sort) → map number (map (input_given cycle) ns) ≡ map (λ n. number (input_given cycle n)) ns
+  numbers_mapped [] = refl
+  numbers_mapped (n ∷ ns) = ap (λ xs. number (input_given cycle n) ∷ xs) (numbers_mapped ns)
+
+  pub numbers_sorted : AreOfSorts (inputs_of e) (map number (inputs_given e cycle))
+  numbers_sorted = subst (AreOfSorts (inputs_of e)) (sym (numbers_mapped (inputs_of e))) (all_sorted (λ n. number (input_given cycle n)) (inputs_of e) input_sorted)
+
+-- ---- a design
+
 module _ (d : Design) (e : Parts) (design : IsDesignOf d e) (text : IsOfText d) (counting : IsTrue (are_bits_for (registers_of e) e.bits)) (plain : IsTrue (are_words (inputs_of e))) where
   abbrev at : ℕ → Name × Sort
   at k = slice_index_or (registers_of e) k ([], truth)
 
-  abbrev input_at : ℕ → Name × Sort
-  input_at k = slice_index_or (inputs_of e) k ([], truth)
-
   -- ---- registers
 
   module _ (file registers : Data) (ms : Members) (has : get (codes "registers") file ≡ Some registers) (members : as_object registers ≡ Some ms) (fits : all_members (register_named_fits e) ms ≡ true) where
-    pub under : (n : Name) → register_in file n ≡ get_member n ms
-    under n = ap (option_and_then (get n)) has ∙ object_get n registers ms members
-
     value_under : (k : ℕ) → k < length (registers_of e) → (c : Data) → get_member (register_name e k) ms ≡ Some c → (v : Value) × IsValueIn c v × FitsBits (register_bits e k) v
     value_under k l c is =
         let n = register_name e k in
         let t = test_register d e design text counting plain n c (place_in (registers_of e) n) refl (member_passes (register_named_fits e) ms n c fits is) in
         (t.0, t.1, (register_bits_fit d e design text counting plain n t.0 t.2 k l refl).1)
 
-    good_at : (k : ℕ) → k < length (registers_of e) → IsGood (at k).1 (register_bits e k) (register_given file (at k))
-    good_at k l = by (get_member (register_name e k) ms) refl
-      where
-        right : are_bits_of (at k).1 (register_bits e k) ≡ true
-        right = right_at (registers_of e) e.bits k counting l
-
-        by : (o : Option Data) → get_member (register_name e k) ms ≡ o → IsGood (at k).1 (register_bits e k) (register_given file (at k))
-        by None is = subst (λ o. IsGood (at k).1 (register_bits e k) (value_given (at k).1 o)) (sym (under (register_name e k) ∙ is)) (good_none (at k).1 (register_bits e k) right)
-        by (Some c) is =
-            let v = value_under k l c is in
-            subst (λ o. IsGood (at k).1 (register_bits e k) (value_given (at k).1 o)) (sym (under (register_name e k) ∙ is))
-            (good_some (at k).1 (register_bits e k) c v.0 right v.1 v.2)
-
     pub registers_sorted : AreOfSorts (registers_of e) (registers_given e file)
-    registers_sorted = all_sorted (register_given file) (registers_of e) (λ k l. (good_at k l).sorted)
+    registers_sorted = values_sorted e counting file registers ms has members value_under
 
     pub registers_rest : (k w b : ℕ) (c : CountedBits) (y : Value) → slice_get e.bits k ≡ Some c → slice_get (registers_given e file) k ≡ Some y
         → is_set (slice_index c.masks w) b ≡ false → value_bit y w b ≡ false
-    registers_rest k w b c y hc hy u =
-        let g = got_at (register_given file) (registers_of e) k ([], truth) y hy in
-        let is = got_bits e.bits k c (record { least = None; masks = [] }) hc in
-        ap (λ z. value_bit z w b) g.1 ∙ (good_at k g.0).rest w b (ap (λ q. is_set (slice_index q.masks w) b) (sym is) ∙ u)
+    registers_rest = values_rest e counting file registers ms has members value_under
 
     pub registers_told : (es : Entries Value) → AreEntriesIn ms es → IsInOrder ms → AllEntries (IsRegisterValue d) es → (k : ℕ) (x : Value) → k < length (registers_of e)
         → Contains es (register_name e k, x) → StandsFor (length (register_bits e k).masks) x (slice_index_or (registers_given e file) k (number 0))
@@ -258,7 +308,7 @@ module _ (d : Design) (e : Parts) (design : IsDesignOf d e) (text : IsOfText d) 
         let given = entry_given ms es n x a o c in
         let f = register_bits_fit d e design text counting plain n x (each_entry (IsRegisterValue d) es n x r c) k l refl in
         subst (StandsFor (length (register_bits e k).masks) x)
-        (sym (get_or-map (register_given file) (registers_of e) k ([], truth) (number 0) l ∙ ap (value_given (at k).1) (under n ∙ given.1)))
+        (sym (get_or-map (register_given file) (registers_of e) k ([], truth) (number 0) l ∙ ap (value_given (at k).1) (under e counting file registers ms has members value_under n ∙ given.1)))
         (stands (at k).1 (register_bits e k) given.0 x (right_at (registers_of e) e.bits k counting l) given.2 f.1)
 
   -- ---- inputs
@@ -272,33 +322,8 @@ module _ (d : Design) (e : Parts) (design : IsDesignOf d e) (text : IsOfText d) 
         let x = input_number d e design text counting plain n t.0 t.2 k l refl in
         (x.0, subst (IsValueIn c) x.1 t.1, x.2)
 
-    word_sorted : (s : Sort) (x : ℕ) → is_word s ≡ true → nat_lt x (2 ^ bits_of_input s) ≡ true → HasSort (number x) s
-    word_sorted truth x w h = absurd (false≢true w)
-    word_sorted (word b) x w h = h
-    word_sorted (memory a b) x w h = absurd (false≢true w)
-
-    input_sorted : (k : ℕ) → k < length (inputs_of e) → HasSort (number (input_given cycle (input_at k))) (input_at k).1
-    input_sorted k l = by (get_member (input_name e k) ms) refl
-      where
-        plain_here : is_word (input_at k).1 ≡ true
-        plain_here = word_at (inputs_of e) k plain l
-
-        by : (o : Option Data) → get_member (input_name e k) ms ≡ o → HasSort (number (input_given cycle (input_at k))) (input_at k).1
-        by None is =
-            subst (λ o. HasSort (number (number_given o)) (input_at k).1) (sym (object_get (input_name e k) cycle ms members ∙ is))
-            (word_sorted (input_at k).1 0 plain_here (lt-ltb 0 (2 ^ bits_of_input (input_at k).1) (pow_pos (bits_of_input (input_at k).1))))
-        by (Some c) is =
-            let x = number_under k l c is in
-            subst (λ o. HasSort (number (number_given o)) (input_at k).1) (sym (object_get (input_name e k) cycle ms members ∙ is))
-            (subst (λ y. HasSort (number y) (input_at k).1) (sym (ap number_or_zero (numeral_of_number c x.0 x.1))) (word_sorted (input_at k).1 x.0 plain_here x.2))
-
-    numbers_mapped : (ns : Entries Sort) → map number (map (input_given cycle) ns) ≡ map (λ n. number (input_given cycle n)) ns
-    numbers_mapped [] = refl
-    numbers_mapped (n ∷ ns) = ap (λ xs. number (input_given cycle n) ∷ xs) (numbers_mapped ns)
-
     pub inputs_sorted : AreOfSorts (inputs_of e) (map number (inputs_given e cycle))
-    inputs_sorted =
-        subst (AreOfSorts (inputs_of e)) (sym (numbers_mapped (inputs_of e))) (all_sorted (λ n. number (input_given cycle n)) (inputs_of e) input_sorted)
+    inputs_sorted = numbers_sorted e plain cycle ms members number_under
 
     pub inputs_told : (es : Entries Value) → AreEntriesIn ms es → IsInOrder ms → AllEntries (IsInputValue d) es → (k : ℕ) (x : Value) → k < length (inputs_of e)
         → Contains es (input_name e k, x) → x ≡ number (slice_index_or (inputs_given e cycle) k 0)

@@ -7,6 +7,7 @@ pub mod Sites
 pub mod Filled
 pub mod Full
 pub mod Whole
+pub mod Values
 pub mod Runs
 pub mod Turns
 pub mod Zeros

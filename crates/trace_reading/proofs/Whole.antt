@@ -85,13 +85,13 @@ module _ (s : Setting) (e : Parts) (bytes : List ℕ) where
 
 -- ---- obligations
 
-record IsNamedAt (os : List Obligation) (n : Name) (i : ℕ) : Type 0 where
-  one : Obligation
-  is_there : slice_get os i ≡ Some one
-  is_named : string_bytes one.name ≡ n
-  cycles : cycles_stated os i ≡ one.cycles
+pub record IsNamedAt (os : List Obligation) (n : Name) (i : ℕ) : Type 0 where
+  pub one : Obligation
+  pub is_there : slice_get os i ≡ Some one
+  pub is_named : string_bytes one.name ≡ n
+  pub cycles : cycles_stated os i ≡ one.cycles
 
-named_at : (os : List Obligation) (j : ℕ) (n : Name) (k : ℕ) → obligation_place j os n ≡ Some k → (i : ℕ) × (k ≡ j + i) × IsNamedAt os n i
+pub named_at : (os : List Obligation) (j : ℕ) (n : Name) (k : ℕ) → obligation_place j os n ≡ Some k → (i : ℕ) × (k ≡ j + i) × IsNamedAt os n i
 named_at [] j n k q = absurd (none_some k q)
 named_at (o ∷ os) j n k q = by (same_name (string_bytes o.name) n) refl q (named_at os (j + 1) n k)
   where

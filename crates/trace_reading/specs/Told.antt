@@ -1,5 +1,5 @@
 -- What the answer about a trace file means, for each setting that a design and a list of obligations are of.
-use Rattle.std.specs.Prelude.{◌≡◌, ℕ, ◌<◌, List, map, length, slice_get, slice_index_or, Contains, Some, IsTrue}
+use Rattle.std.specs.Prelude.{◌≡◌, ℕ, ◌<◌, List, map, length, slice_get, slice_index_or, Contains, All, Some, IsTrue}
 use Rattle.wb_values.specs.Value.{Name, Value, number, Entries}
 use Rattle.verilog_exists.specs.Exists.{IsOfText}
 use Rattle.refinement.specs.Map.{Setting, design_of}
@@ -10,7 +10,7 @@ use Rattle.trace_files.specs.Meaning.{IsFittingTrace, IsTraceReading, traces, re
 use Rattle.trace_files.specs.Replay.{IsToldBy}
 use Rattle.wb_terms.specs.Environment.{AreOfSorts}
 use Rattle.v_design.specs.Parts.{Parts, registers_of, inputs_of, are_bits_for, are_words}
-use Rattle.v_design.specs.Seen.{parts_of, register_values}
+use Rattle.v_design.specs.Seen.{parts_of, register_values, input_values}
 use Rattle.v_design.specs.Design.{IsDesignOf, values_under}
 use Rattle.v_design.specs.declared.design.Design.{Design}
 use Rattle.mapped_designs.specs.Runs.{IsRestZero}
@@ -63,6 +63,20 @@ IsReadFor s e bytes (Refused r) = IsTraceReading s bytes (refused_by (rule_view 
 -- It is so for each setting of a design and a list of obligations.
 abbrev pub IsRead : Design → List Obligation → List ℕ → TraceRead → Type 0
 IsRead d os bytes answer = (s : Setting) → IsSettingFor s (parts_of d) os → IsReadFor s (parts_of d) bytes answer
+
+-- ---- values
+
+-- What holds of the values of a trace for whatever setting it is read: its obligation stands in the list, there are as many cycles as that
+-- speaks of, and each value is of the sort of its register or its input.
+pub record AreValuesFor (e : Parts) (os : List Obligation) (t : FileTrace) : Type 0 where
+  pub listed : t.obligation < length os
+  pub cycles : (o : Obligation) → slice_get os t.obligation ≡ Some o → length t.inputs.items ≡ o.cycles
+  pub registers : AreOfSorts (registers_of e) (register_values t.registers)
+  pub inputs : All (λ i. AreOfSorts (inputs_of e) (input_values i)) t.inputs.items
+
+abbrev pub HasValuesFor : Parts → List Obligation → TraceRead → Type 0
+HasValuesFor e os (Trace t) = AreValuesFor e os t
+HasValuesFor e os (Refused r) = ⊤
 
 -- ---- runs
 

@@ -7,7 +7,7 @@ ghost use Rattle.map_files.specs.Shape.{read_under};
 ghost use Rattle.v_design.specs.Seen.{parts_of};
 ghost use Rattle.trace_reading.specs.Reading.{answer_view, gives, judged_data, judged_name, judged_place, obligation_place, reading_by_parts};
 ghost use Rattle.trace_reading.specs.Given.{cycles_given, registers_given};
-ghost use Rattle.trace_reading.specs.Told.{IsRead};
+ghost use Rattle.trace_reading.specs.Told.{IsRead, HasValuesFor};
 
 use crate::data;
 use crate::fault::{Fault, no_document, refused, refused_by};
@@ -31,8 +31,10 @@ pub fn read_trace(
     design: &Design,
     obligations: &[Obligation<'_>],
 ) -> Result<TraceRead, NoMemory>
-    ensures { IfOk result (IsRead design.now obligations.now bytes.now) }
+    ensures told { IfOk result (IsRead design.now obligations.now bytes.now) }
+    ensures values { IfOk result (HasValuesFor (parts_of design.now) obligations.now) }
 {
+    let _names = design.terms.name_count();
     let answer = read_by_parts(alloc, bytes, design, obligations)?;
     Ok(answer)
 }
