@@ -2,7 +2,6 @@
 #![tactic(auto)]
 
 mod answer;
-mod both;
 mod cases;
 pub mod laws;
 mod length;

@@ -1,3 +1,0 @@
-pub mod Script
-pub mod Ending
-pub mod View
