@@ -20,6 +20,7 @@ use Rattle.mapped_runs.specs.Valued.{HasValues}
 use Rattle.mapped_runs.specs.Breaking.{IsWithinCycles, ObligationsAreWithin}
 use Rattle.obligation_lists.specs.Claims.{obligation_of}
 use Rattle.obligation_lists.specs.Counts.{AreCountsOf}
+use Rattle.obligation_lists.specs.Within.{Each}
 use Rattle.obligation_lists.specs.declared.claims.MapCounts.{MapCounts}
 use Rattle.obligation_lists.specs.declared.claims.Obligation.{Obligation}
 use Rattle.obligation_check.specs.Decided.{IsSettingBy}
@@ -56,6 +57,12 @@ below_length : {A : Type 0} (xs : List A) (k : ℕ) (x : A) → slice_get xs k �
 below_length [] k x e = cc
 below_length (y ∷ ys) zero x e = omega arith
 below_length (y ∷ ys) (suc k) x e = let l = below_length ys k x e in omega (arith, l)
+
+-- what each element of a list is, one of it is
+pub each_at : {A : Type 0} (P : A → Type 0) (xs : List A) (k : ℕ) (x : A) → Each P xs → slice_get xs k ≡ Some x → P x
+each_at P [] k x h e = cc
+each_at P (y ∷ xs) zero x h e = subst P (some_same y x e) h.0
+each_at P (y ∷ xs) (suc k) x h e = each_at P xs k x h.1 e
 
 module _ (m : Model) (e : Mapped) (counts : MapCounts) (os : List Obligation)
     (counted : (s : Setting) → IsSettingBy m e s → AreCountsOf m s.map counts)
