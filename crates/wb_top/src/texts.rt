@@ -45,11 +45,11 @@ pub(crate) fn refusal_of_map(alloc: Global, refusal: &MapRefusal) -> Result<Vec<
 }
 
 /// The text for a trace file that breaks a rule.
-pub(crate) fn refusal_of_trace(alloc: Global, refusal: &TraceRefusal) -> Result<Vec<u8>, NoMemory>
-    ensures { IfOk result (λ text. IsRefusalBy (trace_rules.rule_name (trace_rules.rule_view refusal.now.rule)) text.items) }
+pub(crate) fn refusal_of_trace(alloc: Global, broken: &TraceRefusal) -> Result<Vec<u8>, NoMemory>
+    ensures { IfOk result (λ text. IsRefusalBy (trace_rules.rule_name (trace_rules.rule_view broken.now.rule)) text.items) }
 {
-    let rule = refusal.rule.name();
-    refusal_text_by(alloc, rule.as_bytes(), refusal.note.as_bytes())
+    let rule = broken.rule.name();
+    refusal_text_by(alloc, rule.as_bytes(), broken.note.as_bytes())
 }
 
 /// The text of a refusal by the rule of this name, with this note.
