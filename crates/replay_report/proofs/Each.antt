@@ -130,7 +130,7 @@ value_same (memory a w) c (words xs) (words ys) bits hy hz ry rz (inr none) =
 
 same_values : (ns : Entries Sort) (xs ys : List Value) → AreOfSorts ns xs → AreOfSorts ns ys
     → ((k : ℕ) (x y : Value) → slice_get xs k ≡ Some x → slice_get ys k ≡ Some y → HasSort x (slice_index_or ns k ([], truth)).1 → HasSort y (slice_index_or ns k ([], truth)).1
-        → k < length ns → x ≡ y)
+    → k < length ns → x ≡ y)
     → xs ≡ ys
 same_values [] [] [] h g f = refl
 same_values [] [] (y ∷ ys) h g f = absurd g
@@ -178,10 +178,25 @@ contained [] k x e = absurd (none_some x e)
 contained (y ∷ ys) zero x e = (0, omega arith, cc)
 contained (y ∷ ys) (suc k) x e = let r = contained ys k x e in (suc r.0, omega (arith, r.1), r.2)
 
-there : {A : Type 0} (xs : List A) (k : ℕ) → k < length xs → (x : A) × (slice_get xs k ≡ Some x)
-there [] k l = absurd (omega (arith, l))
-there (x ∷ xs) zero l = (x, refl)
-there (x ∷ xs) (suc k) l = there xs k (omega (arith, l))
+pub item_there : {A : Type 0} (xs : List A) (k : ℕ) → k < length xs → (x : A) × (slice_get xs k ≡ Some x)
+item_there [] k l = absurd (omega (arith, l))
+item_there (x ∷ xs) zero l = (x, refl)
+item_there (x ∷ xs) (suc k) l = item_there xs k (omega (arith, l))
+
+under_same : (ns : Entries Sort) (xs : List Value) (v : Valuation) → ((j : ℕ) → j < length ns → v (slice_index_or ns j ([], truth)).0 ≡ slice_index_or xs j (number 0))
+    → AreOfSorts ns xs → values_under ns v ≡ xs
+under_same [] [] v h g = refl
+under_same [] (x ∷ xs) v h g = absurd g
+under_same (n ∷ ns) [] v h g = absurd g
+under_same (n ∷ ns) (x ∷ xs) v h g =
+    let first = h 0 (omega arith) in
+    let rest = under_same ns xs v (λ j m. h (suc j) (omega (arith, m))) g.1 in
+    λ i. first i ∷ rest i
+
+number_there : (ms : List ℕ) (i : ℕ) → slice_index_or (map number ms) i (number 0) ≡ number (slice_index_or ms i 0)
+number_there [] i = refl
+number_there (m ∷ ms) zero = refl
+number_there (m ∷ ms) (suc i) = number_there ms i
 
 -- ---- a run that a trace tells
 
@@ -192,7 +207,7 @@ module _ (s : Setting) (e : Parts) (o : pure.Obligation) (t : Trace) (run : Run)
   run_value k x l q =
       sym (get_or-map (λ (n : Name × Sort). run.registers 0 n.0) (registers_of e) k ([], truth) (number 0) l) ∙ got (values_under (registers_of e) (run.registers 0)) k x q
 
-  first_same : (given : List Value) → AreRegistersOf e t given → AreOfSorts (registers_of e) (values_under (registers_of e) (run.registers 0))
+  pub first_same : (given : List Value) → AreRegistersOf e t given → AreOfSorts (registers_of e) (values_under (registers_of e) (run.registers 0))
       → IsRestZero e (values_under (registers_of e) (run.registers 0)) → values_under (registers_of e) (run.registers 0) ≡ given
   first_same given are sorted rest = same_values (registers_of e) (values_under (registers_of e) (run.registers 0)) given sorted are.sorted one
     where
@@ -232,10 +247,10 @@ module _ (s : Setting) (e : Parts) (o : pure.Obligation) (t : Trace) (run : Run)
 
   pub inputs_same : (cycles : List (List ℕ)) → AreCyclesOf e t cycles → (k : ℕ) (numbers : List ℕ) → slice_get cycles k ≡ Some numbers → k < length t.inputs
       → values_under (inputs_of e) (run.inputs k) ≡ map number numbers
-  inputs_same cycles are k numbers q l = same_values (inputs_of e) (values_under (inputs_of e) (run.inputs k)) (map number numbers) sorted of.sorted one
+  inputs_same cycles are k numbers q l = under_same (inputs_of e) (map number numbers) (run.inputs k) value_at of.sorted
     where
       es : (x : Entries Value) × (slice_get t.inputs k ≡ Some x)
-      es = there t.inputs k l
+      es = item_there t.inputs k l
 
       of : AreInputsOf e es.0 numbers
       of = are.each k es.0 numbers es.1 q
@@ -244,27 +259,8 @@ module _ (s : Setting) (e : Parts) (o : pure.Obligation) (t : Trace) (run : Run)
       value_at j m =
           let n = input_name e j in
           let i = data_input (design_of s) e design text counting plain j m in
-          let v = entry_given es.0 n (full.inputs es.0 n (contained t.inputs k es.0 es.1) (record { place = i.top; is_place = i.is_top; is_port = i.is_input; other = i.no_clock })) in
+          let v =
+          entry_given es.0 n
+          (full.inputs es.0 n (contained t.inputs k es.0 es.1) (record { place = i.top; is_place = i.is_top; is_port = i.is_input; other = i.no_clock })) in
           stood (word_count (map_scope s n)) (slice_index_or numbers j 0) v.0 (run.inputs k n) (of.told j v.0 m v.1) (told.inputs k es.0 n v.0 es.1 v.1)
           ∙ sym (number_there numbers j)
-        where
-          number_there : (ms : List ℕ) (i : ℕ) → slice_index_or (map number ms) i (number 0) ≡ number (slice_index_or ms i 0)
-          number_there [] i = refl
-          number_there (m ∷ ms) zero = refl
-          number_there (m ∷ ms) (suc i) = number_there ms i
-
-      sorted : AreOfSorts (inputs_of e) (values_under (inputs_of e) (run.inputs k))
-      sorted = from_places (inputs_of e) (map number numbers) (λ n. run.inputs k n) value_at of.sorted
-        where
-          from_places : (ns : Entries Sort) (xs : List Value) (v : Valuation) → ((j : ℕ) → j < length ns → v (slice_index_or ns j ([], truth)).0 ≡ slice_index_or xs j (number 0))
-              → AreOfSorts ns xs → AreOfSorts ns (values_under ns v)
-          from_places [] [] v h g = tt
-          from_places [] (x ∷ xs) v h g = absurd g
-          from_places (n ∷ ns) [] v h g = absurd g
-          from_places (n ∷ ns) (x ∷ xs) v h g = (subst (λ y. HasSort y n.1) (sym (h 0 (omega arith))) g.0, from_places ns xs v (λ j m. h (suc j) (omega (arith, m))) g.1)
-
-      one : (j : ℕ) (x y : Value) → slice_get (values_under (inputs_of e) (run.inputs k)) j ≡ Some x → slice_get (map number numbers) j ≡ Some y
-          → HasSort x (slice_index_or (inputs_of e) j ([], truth)).1 → HasSort y (slice_index_or (inputs_of e) j ([], truth)).1 → j < length (inputs_of e) → x ≡ y
-      one j x y p r hx hy m =
-          sym (got (values_under (inputs_of e) (run.inputs k)) j x p)
-          ∙ (get_or-map (λ (n : Name × Sort). run.inputs k n.0) (inputs_of e) j ([], truth) (number 0) m ∙ (value_at j m ∙ got (map number numbers) j y r))

@@ -1,6 +1,6 @@
 -- A trace of the list's obligation, replayed, is told for each setting of the model and the design with its map.
 use Rattle.std.proofs.Common.{◌≡◌, ◌∙◌, ℕ, zero, suc, ◌<◌, List, [], ◌∷◌, length, map, Some, None, Option, option_map, slice_get, Contains, refl, sym, ap, subst, arith, string_bytes}
-use Rattle.std.specs.Prelude.{unwrap_or}
+use Rattle.std.specs.Prelude.{unwrap_or, IsTrue}
 use Rattle.std.proofs.lemmas.Option.{slice_get-map}
 use Rattle.std.proofs.lemmas.List.{length-map}
 use Rattle.wb_values.specs.Value.{Value, number}
@@ -10,13 +10,15 @@ use Rattle.refinement.specs.Run.{Run, IsRun}
 use Rattle.refinement.specs.Obligation as pure
 use Rattle.reports.specs.Report.{Trace as PureTrace}
 use Rattle.trace_files.specs.Meaning.{IsTraceReading, traces, is_trace, IsFittingTrace, IsFullFor}
-use Rattle.trace_files.specs.Replay.{Replayed, IsSo, replay_line}
-use Rattle.v_design.specs.Parts.{Parts, inputs_of}
+use Rattle.trace_files.specs.Replay.{Replayed, IsToldBy, IsSo, replay_line}
+use Rattle.wb_terms.specs.Environment.{AreOfSorts}
+use Rattle.v_design.specs.Parts.{Parts, registers_of, inputs_of, are_words}
 use Rattle.v_design.specs.Design.{values_under}
 use Rattle.v_design.specs.Seen.{register_values, input_values}
 use Rattle.v_design.specs.declared.values.Inputs.{Inputs}
 use Rattle.mapped_designs.specs.Mapped.{Mapped}
-use Rattle.mapped_runs.specs.Valued.{HasValues}
+use Rattle.mapped_designs.specs.Runs.{IsRestZero}
+use Rattle.mapped_runs.specs.Valued.{HasValues, RunsHaveValues}
 use Rattle.mapped_runs.specs.Breaking.{IsWithinCycles, ObligationsAreWithin}
 use Rattle.obligation_lists.specs.Claims.{obligation_of}
 use Rattle.obligation_lists.specs.Counts.{AreCountsOf}
@@ -33,6 +35,8 @@ use Rattle.trace_reading.specs.declared.outcome.FileTrace.{FileTrace}
 use Rattle.trace_reading.specs.declared.outcome.TraceRead.TheVariants.{Trace}
 use Rattle.trace_replay.specs.Replayed.{IsSettingOf, IsGivenRun, IsSoIn, HasRunFrom}
 use Rattle.replay_report.specs.Ending.{IsTold}
+use Rattle.replay_report.proofs.Each as each_of
+use Rattle.replay_report.proofs.Each.{first_same, item_there}
 
 some_same : {A : Type 0} (x y : A) → Some x ≡ Some y → x ≡ y
 some_same x y e = ap (λ o. unwrap_or o x) e
@@ -67,7 +71,7 @@ each_at P (y ∷ xs) (suc k) x h e = each_at P xs k x h.1 e
 module _ (m : Model) (e : Mapped) (counts : MapCounts) (os : List Obligation)
     (counted : (s : Setting) → IsSettingBy m e s → AreCountsOf m s.map counts)
     (listed : (s : Setting) → IsSettingBy m e s → map (obligation_of s.map) os ≡ pure.obligations s.model s.map)
-    (s : Setting) (own : IsSettingBy m e s) where
+    (s : Setting) (own : IsSettingBy m e s) (plain : IsTrue (are_words (inputs_of e.parts))) where
   pub setting_for : IsSettingFor s e.parts os
   setting_for = record { design = own.mapped.design; of_text = own.of_text; listed = listed s own }
 
@@ -104,10 +108,32 @@ module _ (m : Model) (e : Mapped) (counts : MapCounts) (os : List Obligation)
           is.values.inputs k (omega (arith, low, long)) ∙ inputs_same e.parts g.inputs.items k ns at;
     }
 
-    pub told : (a : Replayed) (line : List ℕ)
+    -- a run that the trace tells is one from the values that were read
+    given_run : RunsHaveValues → (run : Run) → IsRun s run o.cycles → IsToldBy s run t → IsGivenRun e p g.registers g.inputs.items s run
+    given_run have run is_run is_told =
+        let full = (reads s bytes t o reading).full in
+        let x = have s e.parts run o.cycles own.mapped.design own.sound is_run in
+        let first : values_under (registers_of e.parts) (run.registers 0) ≡ register_values g.registers =
+        first_same s e.parts o t run own.mapped.design own.of_text own.sound.counting plain full is_told (register_values g.registers) given.registers
+        (subst (AreOfSorts (registers_of e.parts)) (sym x.1.first) x.2.first) (subst (IsRestZero e.parts) (sym x.1.first) x.3) in
+        let here : p.cycles ≡ o.cycles = sym (ap (λ (q : pure.Obligation). q.cycles) same) in
+        record {
+          is_run = subst (IsRun s run) (sym here) is_run;
+          values = record {
+            first = first;
+            inputs = λ k l.
+                let low : k < length t.inputs = omega (arith, l, here, full.cycles) in
+                let ns = item_there (cycles_view g.inputs.items) k (omega (arith, low, given.cycles.all)) in
+                each_of.inputs_same s e.parts o t run own.mapped.design own.of_text own.sound.counting plain full is_told (cycles_view g.inputs.items) given.cycles k ns.0 ns.1 low
+                ∙ sym (inputs_same e.parts g.inputs.items k ns.0 ns.1);
+          };
+        }
+
+    pub told : RunsHaveValues → (a : Replayed) (line : List ℕ)
         → (IsSettingOf m e counts p s → HasRunFrom e g.registers s → IsSoIn e p g.registers g.inputs.items s a)
+        → ((run : Run) → IsSettingOf m e counts p s → IsGivenRun e p g.registers g.inputs.items s run → IsSo s run (obligation_of s.map p) a)
         → line ≡ replay_line (string_bytes p.name) a → IsTold s bytes a line
-    told a line runs is =
+    told have a line runs each is =
         let so = runs setting_of has_run in
         let run = so.0 in
         let fits = (reads s bytes t o reading).fits in
@@ -122,5 +148,7 @@ module _ (m : Model) (e : Mapped) (counts : MapCounts) (os : List Obligation)
                 (values run so.1),
             subst (λ (q : pure.Obligation). IsSo s run q a) (sym same) so.2,
           );
+          each_run = λ r is_run is_told.
+              subst (λ (q : pure.Obligation). IsSo s r q a) (sym same) (each r setting_of (given_run have r is_run is_told));
           is_line = is ∙ ap (λ (q : pure.Obligation). replay_line q.called a) (sym same);
         }

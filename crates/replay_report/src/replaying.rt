@@ -12,7 +12,7 @@ ghost use Rattle.replay_report.specs.View.{ending_view};
 use check_report::bounds;
 use ila_model::IlaModel;
 use mapped_designs::MappedDesign;
-use mapped_runs::laws::obligations_are_within;
+use mapped_runs::laws::{obligations_are_within, runs_have_values};
 use obligation_lists::{MapCounts, obligations};
 use std::alloc::Global;
 use trace_reading::laws::runs_are_told;
@@ -55,6 +55,7 @@ pub fn replayed(
         TraceRead::Trace(trace) => {
             obligations_are_within();
             runs_are_told();
+            runs_have_values();
             let obligation = &list[trace.obligation];
             let answer = replay(
                 alloc,
