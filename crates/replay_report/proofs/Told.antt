@@ -1,6 +1,6 @@
 -- A trace of the list's obligation, replayed, is told for each setting of the model and the design with its map.
 use Rattle.std.proofs.Common.{◌≡◌, ◌∙◌, ℕ, zero, suc, ◌<◌, List, [], ◌∷◌, length, map, Some, None, Option, option_map, slice_get, Contains, refl, sym, ap, subst, arith, string_bytes}
-use Rattle.std.specs.Prelude.{unwrap_or, IsTrue}
+use Rattle.std.specs.Prelude.{unwrap_or}
 use Rattle.std.proofs.lemmas.Option.{slice_get-map}
 use Rattle.std.proofs.lemmas.List.{length-map}
 use Rattle.wb_values.specs.Value.{Value, number}
@@ -12,7 +12,7 @@ use Rattle.reports.specs.Report.{Trace as PureTrace}
 use Rattle.trace_files.specs.Meaning.{IsTraceReading, traces, is_trace, IsFittingTrace, IsFullFor}
 use Rattle.trace_files.specs.Replay.{Replayed, IsToldBy, IsSo, replay_line}
 use Rattle.wb_terms.specs.Environment.{AreOfSorts}
-use Rattle.v_design.specs.Parts.{Parts, registers_of, inputs_of, are_words}
+use Rattle.v_design.specs.Parts.{Parts, registers_of, inputs_of}
 use Rattle.v_design.specs.Design.{values_under}
 use Rattle.v_design.specs.Seen.{register_values, input_values}
 use Rattle.v_design.specs.declared.values.Inputs.{Inputs}
@@ -71,7 +71,7 @@ each_at P (y ∷ xs) (suc k) x h e = each_at P xs k x h.1 e
 module _ (m : Model) (e : Mapped) (counts : MapCounts) (os : List Obligation)
     (counted : (s : Setting) → IsSettingBy m e s → AreCountsOf m s.map counts)
     (listed : (s : Setting) → IsSettingBy m e s → map (obligation_of s.map) os ≡ pure.obligations s.model s.map)
-    (s : Setting) (own : IsSettingBy m e s) (plain : IsTrue (are_words (inputs_of e.parts))) where
+    (s : Setting) (own : IsSettingBy m e s) where
   pub setting_for : IsSettingFor s e.parts os
   setting_for = record { design = own.mapped.design; of_text = own.of_text; listed = listed s own }
 
@@ -114,7 +114,7 @@ module _ (m : Model) (e : Mapped) (counts : MapCounts) (os : List Obligation)
         let full = (reads s bytes t o reading).full in
         let x = have s e.parts run o.cycles own.mapped.design own.sound is_run in
         let first : values_under (registers_of e.parts) (run.registers 0) ≡ register_values g.registers =
-        first_same s e.parts o t run own.mapped.design own.of_text own.sound.counting plain full is_told (register_values g.registers) given.registers
+        first_same s e.parts o t run own.mapped.design own.of_text own.sound.counting own.sound.words full is_told (register_values g.registers) given.registers
         (subst (AreOfSorts (registers_of e.parts)) (sym x.1.first) x.2.first) (subst (IsRestZero e.parts) (sym x.1.first) x.3) in
         let here : p.cycles ≡ o.cycles = sym (ap (λ (q : pure.Obligation). q.cycles) same) in
         record {
@@ -124,7 +124,7 @@ module _ (m : Model) (e : Mapped) (counts : MapCounts) (os : List Obligation)
             inputs = λ k l.
                 let low : k < length t.inputs = omega (arith, l, here, full.cycles) in
                 let ns = item_there (cycles_view g.inputs.items) k (omega (arith, low, given.cycles.all)) in
-                each_of.inputs_same s e.parts o t run own.mapped.design own.of_text own.sound.counting plain full is_told (cycles_view g.inputs.items) given.cycles k ns.0 ns.1 low
+                each_of.inputs_same s e.parts o t run own.mapped.design own.of_text own.sound.counting own.sound.words full is_told (cycles_view g.inputs.items) given.cycles k ns.0 ns.1 low
                 ∙ sym (inputs_same e.parts g.inputs.items k ns.0 ns.1);
           };
         }

@@ -97,14 +97,14 @@ returns-in_ok-line-in-Trace c s own =
     ∙ (slice_get-get_or c.in_ok-list.list.items k p (subst (λ (xs : List Obligation). k < length xs) c.deref.ensures.value v.listed) ∙ ap Some (sym c.index-obligation.ensures)) in
     let counted = counts_of m e counts numbers same os given in
     let listed = all m e counts numbers same os given in
-    let read = (rw c.in-Trace.is at c.in_ok-trace.ensures.told) s (setting_for m e counts os counted listed s own x.design.words) in
+    let read = (rw c.in-Trace.is at c.in_ok-trace.ensures.told) s (setting_for m e counts os counted listed s own) in
     let runs : IsSettingOf m e counts p s → HasRunFrom e g.registers s → IsSoIn e p g.registers g.inputs.items s (replayed_view c.in_ok-answer.answer) =
     subst (λ is. IsSettingOf m e counts p s → HasRunFrom e g.registers s → IsSoIn e p g.registers is s (replayed_view c.in_ok-answer.answer)) c.deref-2.ensures.value
     (c.in_ok-answer.ensures.run s) in
     let each : (run : Run) → IsSettingOf m e counts p s → IsGivenRun e p g.registers g.inputs.items s run → IsSo s run (obligation_of s.map p) (replayed_view c.in_ok-answer.answer) =
     subst (λ is. (run : Run) → IsSettingOf m e counts p s → IsGivenRun e p g.registers is s run → IsSo s run (obligation_of s.map p) (replayed_view c.in_ok-answer.answer)) c.deref-2.ensures.value
     (c.in_ok-answer.ensures.told s) in
-    told m e counts os counted listed s own x.design.words c.obligations_are_within.ensures c.runs_are_told.ensures c.args.bytes.now g p there read.0 read.1 read.2 read.3 c.runs_have_values.ensures
+    told m e counts os counted listed s own c.obligations_are_within.ensures c.runs_are_told.ensures c.args.bytes.now g p there read.0 read.1 read.2 read.3 c.runs_have_values.ensures
     (replayed_view c.in_ok-answer.answer) (string_bytes c.in_ok-line.line) runs each c.in_ok-line.ensures
 
 pub returns-in-Refused : goal.returns-in-Refused
@@ -121,4 +121,4 @@ returns-in-Refused c s own =
     let same : map (λ i. i.bound) e.instructions ≡ counts.bounds.now = bounds_same x.instructions.items ∙ (sym c.in_ok-bounds.ensures ∙ sym c.as_slice.ensures.value) in
     let os = c.deref.result.now in
     let given = λ (f : Map) (h : AreCountsOf m f counts). ap (map (obligation_of f)) c.deref.ensures.value ∙ c.in_ok-list.ensures.listed f h in
-    (rw c.in-Refused.is at c.in_ok-trace.ensures.told) s (setting_for m e counts os (counts_of m e counts numbers same os given) (all m e counts numbers same os given) s own x.design.words)
+    (rw c.in-Refused.is at c.in_ok-trace.ensures.told) s (setting_for m e counts os (counts_of m e counts numbers same os given) (all m e counts numbers same os given) s own)
