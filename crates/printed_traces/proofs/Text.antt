@@ -192,9 +192,10 @@ trace_ascii t plain =
     ∷ member_text (codes "obligation") (quoted t.obligation) ∷ member_text (codes "registers") (object_text t.registers) ∷ [])
     (
       member_ascii (codes "inputs") (in_brackets (object_texts t.inputs)) refl (brackets_ascii (object_texts t.inputs) (objects_ascii t.inputs plain.inputs)),
-      member_ascii (codes "obligation") (quoted t.obligation) refl (quoted_ascii t.obligation (plain_ascii t.obligation plain.obligation)),
-      member_ascii (codes "registers") (object_text t.registers) refl (object_ascii t.registers plain.registers),
-      tt,
+      (
+        member_ascii (codes "obligation") (quoted t.obligation) refl (quoted_ascii t.obligation (plain_ascii t.obligation plain.obligation)),
+        (member_ascii (codes "registers") (object_text t.registers) refl (object_ascii t.registers plain.registers), tt),
+      ),
     )
 
 pub text_utf8 : (t : Trace) → HasPlainNames t → is_utf8 (trace_text t) ≡ true
