@@ -1,8 +1,8 @@
 -- The trace of a run fits the design, is full for its obligation, and its numbers have at most 128 bits.
-use Rattle.std.proofs.Common.{◌≡◌, ◌∙◌, ℕ, zero, suc, ◌^◌, ◌<◌, ◌≤◌, Bool, true, false, not, ◌&&◌, List, [], ◌∷◌, length, take, Option, Some, None, refl, sym, ap, subst, arith, pow_mono, ltb-true, lt-ltb}
-use Rattle.std.specs.Prelude.{◌↔◌, nat_lt, is_some, slice_get, slice_index, slice_index_or, Contains, IsTrue}
+use Rattle.std.proofs.Common.{◌≡◌, ◌∙◌, ℕ, zero, suc, ◌^◌, ◌<◌, ◌≤◌, true, false, List, [], ◌∷◌, length, take, Some, refl, sym, ap, subst, arith, pow_mono, ltb-true, lt-ltb}
+use Rattle.std.specs.Prelude.{nat_lt, is_some, slice_get, slice_index, slice_index_or, Contains}
 use Rattle.std.proofs.lemmas.Bool.{and_parts, and_from, not-true}
-use Rattle.wb_values.specs.Value.{Name, Value, truth_value, number, words, all_below, Valuation, Entries, entry_of}
+use Rattle.wb_values.specs.Value.{Name, Value, truth_value, number, words, all_below, Entries}
 use Rattle.verilog_trees.specs.Syntax.{input}
 use Rattle.verilog_meaning.specs.Expression.{Object, object_width, is_memory}
 use Rattle.verilog_meaning.specs.Register.{word_count, is_set, value_bit}
@@ -19,7 +19,7 @@ use Rattle.verilog_unique.proofs.Ports.{port_is_declared}
 use Rattle.verilog_exists.specs.Exists.{IsShapely, NamesHaveNoDots}
 use Rattle.flat_rules.specs.Sound.{HasSoundModules}
 use Rattle.flat_rules.proofs.Placed.{objects_are_in_bounds}
-use Rattle.reports.specs.Report.{Trace, IsTraceRegister, IsInput, StandsFor, AreEntriesOf, IsTraceOf, is_in_order}
+use Rattle.reports.specs.Report.{Trace, IsInput, StandsFor, AreEntriesOf, IsTraceOf, is_in_order}
 use Rattle.trace_files.specs.Meaning.{FitsObject, IsRegisterValue, IsInputValue, IsFittingTrace, IsFullFor}
 use Rattle.printed_traces.proofs.Order.{entry_found}
 use Rattle.printed_traces.proofs.Shapes.{AllSmall, IsSmall, AreSmall, CyclesAreSmall, CyclesInOrder}

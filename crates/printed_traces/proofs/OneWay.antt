@@ -1,12 +1,11 @@
 -- What bytes say is one trace.
-use Rattle.std.proofs.Common.{◌≡◌, ◌∙◌, ℕ, ◌<◌, List, [], ◌∷◌, Option, Some, None, refl, sym, ap, subst}
+use Rattle.std.proofs.Common.{◌≡◌, ◌∙◌, ℕ, List, [], ◌∷◌, Option, Some, None, sym, ap, subst}
 use Rattle.wb_values.specs.Value.{Name, Value, number, words, Entries}
 use Rattle.serde_json.specs.Data.{Data, null, boolean, string, array, object, Items, no_items, item, Members, no_members, member}
 use Rattle.serde_json.specs.Data as data_form
 use Rattle.serde_json.specs.Find.{as_str, as_array, as_object}
 use Rattle.reports.specs.Report.{Trace, hexadecimal}
 use Rattle.trace_files.specs.Shape.{IsNumeral, AreNumerals, IsValueIn, of_number, of_words, AreEntriesIn, IsObjectOf, AreObjectsOf, IsShapeOf}
-use Rattle.trace_files.specs.Meaning.{SaysTrace}
 use Rattle.printed_traces.specs.Printed.{TracesAreReadOneWay}
 use Rattle.printed_traces.proofs.Digits.{one_number}
 

@@ -1,9 +1,9 @@
 -- Names in the order of their bytes: the keys of an object follow one another, and each name is that of one entry.
-use Rattle.std.proofs.Common.{◌≡◌, ◌∙◌, ℕ, zero, suc, ◌<◌, ◌≤◌, Bool, true, false, cond, ◌&&◌, ◌||◌, List, [], ◌∷◌, length, Some, Ordering, Less, Equal, Greater, nat_cmp, is_eq, refl, sym, ap, subst, arith, eq-eqb, inl, inr, ◌⊎◌}
+use Rattle.std.proofs.Common.{◌≡◌, ◌∙◌, ℕ, zero, suc, ◌<◌, Bool, true, false, cond, ◌&&◌, [], ◌∷◌, length, Some, Ordering, Less, Equal, Greater, nat_cmp, is_eq, refl, sym, ap, subst, arith, eq-eqb, inl, inr, ◌⊎◌}
 use Rattle.std.specs.Prelude.{◌==◌, nat_lt, slice_index_or, Contains}
 use Rattle.std.specs.Ordering.{ordering_reverse, ordering_then}
-use Rattle.std.specs.Cmp.Lexicographic.{slice_cmp, nat_list_eq_equiv}
-use Rattle.std.proofs.lemmas.Bool.{and_parts, or_cases, cond-true, eqb-true, ltb-true, le-ltb}
+use Rattle.std.specs.Cmp.Lexicographic.{slice_cmp}
+use Rattle.std.proofs.lemmas.Bool.{and_parts, or_cases, cond-true, eqb-true, le-ltb}
 use Rattle.std.proofs.lemmas.Cmp.{nat_list_cmp_total, tied_itself}
 use Rattle.std.proofs.lemmas.Map.Text.{is_eq-slice_cmp}
 use Rattle.wb_values.specs.Value.{Name, same_name, Value, Entries, entry_of}

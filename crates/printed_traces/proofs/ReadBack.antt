@@ -1,8 +1,6 @@
 -- What a report prints for a trace is read back as that trace.
-use Rattle.std.proofs.Common.{◌≡◌, ◌∙◌, true, cond, Some, None, sym, ap, subst}
-use Rattle.std.specs.Str.{is_utf8}
+use Rattle.std.proofs.Common.{◌≡◌, ◌∙◌, true, cond, Some, None, sym, ap}
 use Rattle.serde_json.specs.Read.{read}
-use Rattle.serde_json.specs.Written.{compact_text}
 use Rattle.model_files.specs.Shape.{document}
 use Rattle.verilog_meaning.specs.Settled.{names_of}
 use Rattle.refinement.specs.Map.{design_of}

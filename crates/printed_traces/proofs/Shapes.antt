@@ -1,15 +1,14 @@
 -- The data that a trace is written as has the shape of the trace, is read back from its text, and data has the shape of one trace.
-use Rattle.std.proofs.Common.{◌≡◌, ◌∙◌, ℕ, zero, suc, ◌^◌, ◌<◌, ◌≤◌, max, true, ◌&&◌, List, [], ◌∷◌, Some, Less, refl, sym, ap, arith}
-use Rattle.std.specs.Prelude.{codes}
+use Rattle.std.proofs.Common.{◌≡◌, ℕ, ◌^◌, ◌<◌, ◌≤◌, true, List, [], ◌∷◌, refl, arith}
 use Rattle.std.proofs.lemmas.Bool.{and_parts}
-use Rattle.serde_json.specs.Data.{Data, string, array, object, Items, no_items, item, Members, no_members, member, depth, items_depth, members_depth}
+use Rattle.serde_json.specs.Data.{string, array, object, Members, no_members, depth, items_depth, members_depth}
 use Rattle.serde_json.specs.Read.{max_depth}
 use Rattle.wb_values.specs.Value.{Name, Value, truth_value, number, words, Entries}
 use Rattle.verilog_meaning.specs.Settled.{names_of}
 use Rattle.reports.specs.Report.{Trace, is_before, is_in_order}
 use Rattle.trace_files.specs.Shape.{AreNumerals, IsValueIn, of_number, of_words, AreEntriesIn, AreObjectsOf, IsShapeOf}
-use Rattle.printed_traces.proofs.Order.{compare, before_less}
-use Rattle.printed_traces.proofs.Data.{number_items, value_data, entry_members, cycle_items, trace_members, data_of}
+use Rattle.printed_traces.proofs.Order.{before_less}
+use Rattle.printed_traces.proofs.Data.{number_items, value_data, entry_members, cycle_items, data_of}
 use Rattle.printed_traces.proofs.Written.{AllBefore, with_last, before_last, Follows, IsWritten, AreWritten, AreMembersWritten}
 
 -- ---- values of at most 128 bits

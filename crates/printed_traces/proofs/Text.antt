@@ -1,19 +1,19 @@
 -- The text of a trace is its data as compact JSON, in ASCII, where the names are plain.
-use Rattle.std.proofs.Common.{◌≡◌, ◌∙◌, ℕ, zero, suc, ◌<◌, ◌≤◌, Bool, true, false, not, ◌&&◌, List, [], ◌∷◌, ◌++◌, refl, sym, ap, append_assoc, arith}
+use Rattle.std.proofs.Common.{◌≡◌, ◌∙◌, ℕ, suc, ◌<◌, ◌≤◌, Bool, true, false, not, ◌&&◌, List, [], ◌∷◌, ◌++◌, refl, sym, ap, append_assoc, arith}
 use Rattle.std.specs.Prelude.{◌==◌, nat_le, nat_lt, codes, Contains}
-use Rattle.std.specs.Str.{IsUtf8, is_utf8}
+use Rattle.std.specs.Str.{is_utf8}
 use Rattle.std.proofs.lemmas.Bool.{and_parts, and_from, eq-eqb, leb-true, lt-ltb, not-true, true≢false}
 use Rattle.std.proofs.lemmas.Str.{is_utf8-from_IsUtf8}
 use Rattle.json.specs.Print.{escape_byte, escape, quoted as json_quoted}
 use Rattle.json.proofs.Printed.Strings.{escape_byte_plain}
 use Rattle.json.proofs.Printed.Utf8.{are_ascii, IsUtf8-are_ascii}
-use Rattle.serde_json.specs.Data.{Data, string, array, object, Items, no_items, item, Members, no_members, member}
+use Rattle.serde_json.specs.Data.{Data, string, array, object}
 use Rattle.serde_json.specs.Written.{comma_if, compact_text, items_text, members_text}
 use Rattle.wb_values.specs.Value.{Name, Value, truth_value, number, words, numeral_of, Entries}
 use Rattle.verilog_meaning.specs.Settled.{names_of}
 use Rattle.reports.specs.Report.{Trace, quoted, hexadecimal, with_commas, in_brackets, in_braces, number_texts, value_text, member_text, member_texts, object_text, object_texts, trace_text}
 use Rattle.printed_traces.specs.Printed.{is_plain_byte, is_plain_name, are_plain_names, HasPlainNames}
-use Rattle.printed_traces.proofs.Data.{number_items, value_data, entry_members, cycle_items, trace_members, data_of}
+use Rattle.printed_traces.proofs.Data.{number_items, value_data, entry_members, cycle_items, data_of}
 use Rattle.printed_traces.proofs.Digits.{hexadecimal_plain}
 
 -- ---- plain names are written as they are
@@ -120,9 +120,9 @@ text_written t plain =
     (member_written true (codes "obligation") (quoted t.obligation) _ _ (string t.obligation) refl (quoted_plain t.obligation plain.obligation)
     (member_written true (codes "registers") (object_text t.registers) _ _ (object (entry_members t.registers)) refl (object_written t.registers plain.registers) refl))
     ∙ sym
-      (commas 125
-      (member_text (codes "inputs") (in_brackets (object_texts t.inputs))
-      ∷ member_text (codes "obligation") (quoted t.obligation) ∷ member_text (codes "registers") (object_text t.registers) ∷ [])))
+    (commas 125
+    (member_text (codes "inputs") (in_brackets (object_texts t.inputs))
+    ∷ member_text (codes "obligation") (quoted t.obligation) ∷ member_text (codes "registers") (object_text t.registers) ∷ [])))
 
 -- ---- it is ASCII
 
@@ -189,8 +189,7 @@ trace_ascii : (t : Trace) → HasPlainNames t → are_ascii (trace_text t) ≡ t
 trace_ascii t plain =
     braces_ascii
     (member_text (codes "inputs") (in_brackets (object_texts t.inputs))
-    ∷ member_text (codes "obligation") (quoted t.obligation) ∷ member_text (codes "registers") (object_text t.registers) ∷ [])
-    (
+    ∷ member_text (codes "obligation") (quoted t.obligation) ∷ member_text (codes "registers") (object_text t.registers) ∷ []) (
       member_ascii (codes "inputs") (in_brackets (object_texts t.inputs)) refl (brackets_ascii (object_texts t.inputs) (objects_ascii t.inputs plain.inputs)),
       (
         member_ascii (codes "obligation") (quoted t.obligation) refl (quoted_ascii t.obligation (plain_ascii t.obligation plain.obligation)),
