@@ -1,0 +1,10 @@
+pub mod Digits
+pub mod Order
+pub mod Data
+pub mod Text
+pub mod Written
+pub mod Shapes
+pub mod OneWay
+pub mod Dots
+pub mod Fits
+pub mod ReadBack

@@ -1,0 +1,40 @@
+-- Traces that are printed and read back: what a report prints for a trace is read as that trace, and bytes say one trace.
+use Rattle.std.specs.Prelude.{◌≡◌, ℕ, Bool, not, ◌&&◌, ◌==◌, nat_le, List, Contains, IsTrue}
+use Rattle.std.specs.List.{list_all}
+use Rattle.wb_values.specs.Value.{Name, Value, Entries}
+use Rattle.verilog_meaning.specs.Settled.{names_of}
+use Rattle.refinement.specs.Map.{Setting, design_of}
+use Rattle.refinement.specs.Run.{Run, IsRun}
+use Rattle.refinement.specs.Obligation.{Obligation, obligations}
+use Rattle.verilog_designs.specs.Accepted.{IsAccepted}
+use Rattle.verilog_exists.specs.Exists.{IsShapely, NamesHaveNoDots}
+use Rattle.reports.specs.Report.{Trace, trace_text, IsTraceOf}
+use Rattle.trace_files.specs.Meaning.{SaysTrace, traces, IsTraceReading}
+
+-- a printable byte that JSON writes as itself: neither the quotation mark nor the backslash
+abbrev pub is_plain_byte : ℕ → Bool
+is_plain_byte b = (nat_le 32 b && nat_le b 126) && (not (b == 34) && not (b == 92))
+
+abbrev pub is_plain_name : Name → Bool
+is_plain_name = list_all is_plain_byte
+
+abbrev pub are_plain_names : List Name → Bool
+are_plain_names = list_all is_plain_name
+
+-- The names in a trace are plain: that of the obligation, and those of the registers and of the inputs.
+pub record HasPlainNames (t : Trace) : Type 0 where
+  pub obligation : IsTrue (is_plain_name t.obligation)
+  pub registers : IsTrue (are_plain_names (names_of t.registers))
+  pub inputs : (es : Entries Value) → Contains t.inputs es → IsTrue (are_plain_names (names_of es))
+
+-- The text that a report prints for a trace of an obligation is read back as that trace of that obligation: where the design is
+-- accepted, its tree has the shape of a text's and no dots in its names, and the trace is that of a run, with plain names.
+abbrev pub TracesAreReadBack : Type 0
+TracesAreReadBack =
+    (s : Setting) (o : Obligation) (run : Run) (t : Trace) → IsAccepted (design_of s) → IsShapely (design_of s) → NamesHaveNoDots s.source
+    → Contains (obligations s.model s.map) o → IsRun s run o.cycles → IsTraceOf s o run t → HasPlainNames t
+    → IsTraceReading s (trace_text t) (traces o t)
+
+-- What bytes say is one trace.
+abbrev pub TracesAreReadOneWay : Type 0
+TracesAreReadOneWay = (s : Setting) (bytes : List ℕ) (t u : Trace) → SaysTrace s bytes t → SaysTrace s bytes u → t ≡ u

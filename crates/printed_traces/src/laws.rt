@@ -1,0 +1,12 @@
+//! The laws, each the contract of a function without code.
+ghost use Rattle.printed_traces.specs.Printed.{TracesAreReadBack, TracesAreReadOneWay};
+
+/// What a report prints for a trace of an obligation is read back as that trace of that obligation.
+pub fn traces_are_read_back()
+    ensures { TracesAreReadBack }
+{}
+
+/// What bytes say is one trace.
+pub fn traces_are_read_one_way()
+    ensures { TracesAreReadOneWay }
+{}
