@@ -8,3 +8,4 @@ pub mod OneWay
 pub mod Dots
 pub mod Fits
 pub mod ReadBack
+pub mod Replays

@@ -5,11 +5,12 @@ use Rattle.wb_values.specs.Value.{Name, Value, Entries}
 use Rattle.verilog_meaning.specs.Settled.{names_of}
 use Rattle.refinement.specs.Map.{Setting, design_of}
 use Rattle.refinement.specs.Run.{Run, IsRun}
-use Rattle.refinement.specs.Obligation.{Obligation, obligations}
+use Rattle.refinement.specs.Obligation.{Obligation, Falsifies, obligations}
 use Rattle.verilog_designs.specs.Accepted.{IsAccepted}
 use Rattle.verilog_exists.specs.Exists.{IsShapely, NamesHaveNoDots}
 use Rattle.reports.specs.Report.{Trace, trace_text, IsTraceOf}
 use Rattle.trace_files.specs.Meaning.{SaysTrace, traces, IsTraceReading}
+use Rattle.trace_files.specs.Replay.{Replayed, falsifies, IsToldBy, IsSo}
 
 -- a printable byte that JSON writes as itself: neither the quotation mark nor the backslash
 abbrev pub is_plain_byte : ℕ → Bool
@@ -38,3 +39,10 @@ TracesAreReadBack =
 -- What bytes say is one trace.
 abbrev pub TracesAreReadOneWay : Type 0
 TracesAreReadOneWay = (s : Setting) (bytes : List ℕ) (t u : Trace) → SaysTrace s bytes t → SaysTrace s bytes u → t ≡ u
+
+-- The trace of a run that falsifies its obligation replays so: what holds of the obligation in each run that the trace tells, of as many
+-- cycles as it speaks of, is that the run falsifies it.
+abbrev pub FalsifyingTracesReplay : Type 0
+FalsifyingTracesReplay =
+    (s : Setting) (o : Obligation) (run : Run) (t : Trace) (answer : Replayed) → Falsifies s run o → IsTraceOf s o run t
+    → ((r : Run) → IsRun s r o.cycles → IsToldBy s r t → IsSo s r o answer) → answer ≡ falsifies
