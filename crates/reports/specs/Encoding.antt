@@ -8,7 +8,7 @@ use Rattle.refinement.specs.Obligation.{Obligation, Falsifies, IsWholeCommand, b
 use Rattle.sat_base.specs.declared.logs.Lemma.{Lemma}
 use Rattle.sat_base.specs.Formula.{Formula, variable_value, Satisfies}
 use Rattle.sat_base.specs.Log.{IsSpent}
-use Rattle.reports.specs.Question.{IsQuestion, Follows, IsYes}
+use Rattle.reports.specs.Question.{IsQuestion, FollowsCircuit, IsYes}
 
 -- The variables of the bits of the first registers and of the inputs at each cycle, bit 0 first. A memory has variables for each
 -- of its words, every other register and every input for word 0 alone. What does not matter has none.
@@ -50,7 +50,7 @@ pub record IsSatisfyingAssignment (f : Formula) (a : List Bool) : Type 0 where
 
 -- A run goes on to an assignment: it follows the circuit and restricts to the run.
 pub record GoesOn (f : Formula) (q : IsQuestion f) (m : BitMap) (run : Run) (a : List Bool) : Type 0 where
-  pub follows : Follows f q a
+  pub follows : FollowsCircuit f q a
   pub restricts : RestrictsTo m a run
 
 -- The formula encodes a property of runs of so many cycles: it is a question about a circuit. Each run goes on to exactly one assignment,

@@ -30,7 +30,7 @@ pub record IsQuestion (f : Formula) : Type 0 where
   pub one_clause : length asked ≤ 1
 
 -- The assignment gives each variable a value and follows the circuit.
-pub record Follows (f : Formula) (q : IsQuestion f) (a : List Bool) : Type 0 where
+pub record FollowsCircuit (f : Formula) (q : IsQuestion f) (a : List Bool) : Type 0 where
   pub whole : length a ≡ f.vars
   pub gates : All (SatisfiesClause a) q.circuit
 
