@@ -175,7 +175,7 @@ object_get n (array ds) ms e = absurd (none_some ms e)
 object_get n (object qs) ms e = ap (get_member n) (some_same qs ms e)
 
 -- a test of all members holds of what is found under a name
-member_passes : (p : Name → Data → Bool) (ms : Members) (n : Name) (c : Data) → all_members p ms ≡ true → get_member n ms ≡ Some c → p n c ≡ true
+pub member_passes : (p : Name → Data → Bool) (ms : Members) (n : Name) (c : Data) → all_members p ms ≡ true → get_member n ms ≡ Some c → p n c ≡ true
 member_passes p no_members n c h e = absurd (none_some c e)
 member_passes p (member m d ms) n c h e = by (slice_cmp nat_cmp n m) refl e (and_parts (p m d) (all_members p ms) h) (member_passes p ms n c)
   where

@@ -1,6 +1,6 @@
 -- The values that a file gives are of the sorts of the design's names, for whatever setting: no two of these names are equal.
 use Rattle.std.proofs.Common.{◌≡◌, ◌∙◌, ℕ, zero, suc, ◌+◌, ◌^◌, ◌<◌, Bool, true, false, cond, ◌&&◌, List, [], ◌∷◌, length, map, take, drop, Option, Some, None, refl, sym, ap, subst, arith, true≢false}
-use Rattle.std.specs.Prelude.{◌==◌, nat_lt, option_and_then, slice_get, slice_index_or, string_bytes, All, IsTrue, codes}
+use Rattle.std.specs.Prelude.{◌==◌, nat_lt, option_and_then, slice_get, slice_index_or, string_bytes, All, IsTrue, ⊤, codes}
 use Rattle.std.proofs.lemmas.Bool.{and_parts, false≢true, eqb-true}
 use Rattle.std.proofs.lemmas.List.{length-map}
 use Rattle.std.proofs.lemmas.List.Elements.{All-nil, All-cons}
@@ -43,12 +43,13 @@ IsOnceNamed ns = (i k : ℕ) → i < length ns → k < length ns → name_at ns 
 
 named_there : (ns : Entries Sort) (n : Name) (k : ℕ) → k < length ns → name_at ns k ≡ n → entry_of ns n ≡ None → ⊥
 named_there [] n k l q h = absurd (omega (arith, l))
-named_there (e ∷ ns) n k l q h = by k l q (same_name e.0 n) refl h
+named_there (e ∷ ns) n k l q h = by k l q (same_name e.0 n) refl h (named_there ns n)
   where
-    by : (j : ℕ) → j < length (e ∷ ns) → name_at (e ∷ ns) j ≡ n → (b : Bool) → same_name e.0 n ≡ b → cond b (Some e.1) (entry_of ns n) ≡ None → ⊥
-    by j m p true t f = absurd (none_some e.1 (sym f))
-    by zero m p false t f = absurd (true≢false (sym ((bytes_eq-Decides e.0 n).1 p) ∙ t))
-    by (suc j) m p false t f = named_there ns n j (omega (arith, m)) p f
+    by : (j : ℕ) → j < length (e ∷ ns) → name_at (e ∷ ns) j ≡ n → (b : Bool) → same_name e.0 n ≡ b → cond b (Some e.1) (entry_of ns n) ≡ None
+        → ((i : ℕ) → i < length ns → name_at ns i ≡ n → entry_of ns n ≡ None → ⊥) → ⊥
+    by j m p true t f r = absurd (none_some e.1 (sym f))
+    by zero m p false t f r = absurd (true≢false (sym ((bytes_eq-Decides e.0 n).1 p) ∙ t))
+    by (suc j) m p false t f r = r j (omega (arith, m)) p f
 
 once : (ns : Entries Sort) → HasDistinctNames ns → IsOnceNamed ns
 once [] d i k l m q = absurd (omega (arith, l))
@@ -65,7 +66,7 @@ taken (suc n) (e ∷ ns) zero l = (omega arith, refl)
 taken (suc n) (e ∷ ns) (suc i) l = let r = taken n ns i (omega (arith, l)) in (omega (arith, r.0), r.1)
 
 dropped : (n : ℕ) (ns : Entries Sort) (i : ℕ) → i < length (drop n ns) → (j : ℕ) × (j ≡ n + i) × (j < length ns) × (name_at ns j ≡ name_at (drop n ns) i)
-dropped zero ns i l = (i, refl, l, refl)
+dropped zero ns i l = (i, omega arith, l, refl)
 dropped (suc n) [] i l = absurd (omega (arith, l))
 dropped (suc n) (e ∷ ns) i l = let r = dropped n ns i l in (suc r.0, omega (arith, r.1), omega (arith, r.2), r.3)
 
@@ -182,7 +183,7 @@ module _ (e : Parts) (once_registers : IsOnceNamed (registers_of e)) (once_input
         let same : m.0 ≡ k = omega (arith, m.1) in
         by_full k (subst (λ i. i < length os) same (at_place os m.0 m.2.one m.2.is_there)) (is_full e (cycles_stated os k) file) refl
 
-    pub by_name : (o : Option Name) → IsGoodReading e os (judged_name e os file o)
+    by_name : (o : Option Name) → IsGoodReading e os (judged_name e os file o)
     by_name None = tt
     by_name (Some n) = by_place n (obligation_place 0 os n) refl
 
@@ -208,7 +209,7 @@ stated_at (x ∷ os) (suc k) o q = stated_at os k o q
 answered : (e : Parts) (os : List Obligation) (r : TraceRead) → IsGoodReading e os (answer_view r) → HasValuesFor e os r
 answered e os (Trace t) h = record {
   listed = h.listed;
-  cycles = λ o q. sym (length-map (λ (i : Inputs). i.numbers.items) t.inputs.items) ∙ (h.cycles ∙ stated_at os t.obligation o q);
+  cycles = λ o q. sym (length-map t.inputs.items (λ (i : Inputs). i.numbers.items)) ∙ (h.cycles ∙ stated_at os t.obligation o q);
   registers = h.registers;
   inputs = each_sorted e t.inputs.items h.inputs;
 }

@@ -1,5 +1,5 @@
 -- What the answer about a trace file means, for each setting that a design and a list of obligations are of.
-use Rattle.std.specs.Prelude.{◌≡◌, ℕ, ◌<◌, List, map, length, slice_get, slice_index_or, Contains, All, Some, IsTrue}
+use Rattle.std.specs.Prelude.{◌≡◌, ℕ, ◌<◌, List, map, length, slice_get, slice_index_or, Contains, All, Some, IsTrue, ⊤}
 use Rattle.wb_values.specs.Value.{Name, Value, number, Entries}
 use Rattle.verilog_exists.specs.Exists.{IsOfText}
 use Rattle.refinement.specs.Map.{Setting, design_of}
