@@ -11,4 +11,4 @@ returns-clause-told c s setting =
 pub returns-clause-values : goal.returns-clause-values
 returns-clause-values c =
     let d = c.args.design.now in
-    has_values (parts_of d) c.name_count.distinct d.counting d.words c.args.obligations.now c.args.bytes.now c.in_ok-answer.answer c.in_ok-answer.ensures
+    has_values (parts_of d) c.name_count-names.ensures.distinct d.counting d.words c.args.obligations.now c.args.bytes.now c.in_ok-answer.answer c.in_ok-answer.ensures
