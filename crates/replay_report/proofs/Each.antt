@@ -157,14 +157,14 @@ bits_there (n ∷ ns) (c ∷ cs) (suc k) h l = bits_there ns cs k (and_parts (ar
 
 entry_there : (es : Entries Value) (n : Name) (v : Value) → entry_of es n ≡ Some v → Contains es (n, v)
 entry_there [] n v e = absurd (none_some v e)
-entry_there (d ∷ es) n v e = by (same_name d.0 n) refl e
+entry_there (d ∷ es) n v e = by (same_name d.0 n) refl e (entry_there es n v)
   where
-    by : (b : Bool) → same_name d.0 n ≡ b → cond b (Some d.1) (entry_of es n) ≡ Some v → Contains (d ∷ es) (n, v)
-    by true h f =
+    by : (b : Bool) → same_name d.0 n ≡ b → cond b (Some d.1) (entry_of es n) ≡ Some v → (entry_of es n ≡ Some v → Contains es (n, v)) → Contains (d ∷ es) (n, v)
+    by true h f r =
         let same : d.0 ≡ n = (bytes_eq-Decides d.0 n).0 h in
         let value : d.1 ≡ v = cc in
         (0, omega arith, λ i. (same i, value i))
-    by false h f = let r = entry_there es n v f in (suc r.0, omega (arith, r.1), r.2)
+    by false h f r = let q = r f in (suc q.0, omega (arith, q.1), q.2)
 
 entry_given : (es : Entries Value) (n : Name) → IsTrue (is_some (entry_of es n)) → (v : Value) × Contains es (n, v)
 entry_given es n h = by (entry_of es n) refl h

@@ -144,7 +144,7 @@ module _ (m : Model) (e : Mapped) (counts : MapCounts) (os : List Obligation)
           is_replay = (
             run,
             subst (λ (q : pure.Obligation). IsRun s run q.cycles) (sym same) so.1.is_run,
-            are_told s e.parts t run (register_values g.registers) (cycles_view g.inputs.items) own.mapped.design own.of_text own.sound.counting fits given.registers given.cycles
+            are_told s e.parts t run (register_values g.registers) (cycles_view g.inputs.items) own.mapped.design own.of_text own.sound.counting own.sound.words fits given.registers given.cycles
                 (values run so.1),
             subst (λ (q : pure.Obligation). IsSo s run q a) (sym same) so.2,
           );

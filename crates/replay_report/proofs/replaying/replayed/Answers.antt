@@ -1,4 +1,4 @@
-use Rattle.std.proofs.Common.{◌≡◌, ◌∙◌, ℕ, List, length, map, Some, refl, sym, ap, subst, arith, slice_get}
+use Rattle.std.proofs.Common.{◌≡◌, ◌∙◌, ◌<◌, ℕ, List, length, map, Some, refl, sym, ap, subst, arith, slice_get}
 use Rattle.std.specs.Prelude.{All, string_bytes}
 use Rattle.std.proofs.lemmas.List.{length-map}
 use Rattle.std.proofs.lemmas.Option.{slice_get-get_or}
@@ -18,7 +18,7 @@ use Rattle.obligation_lists.specs.declared.claims.MapCounts.{MapCounts}
 use Rattle.obligation_lists.specs.declared.claims.Obligation.{Obligation}
 use Rattle.fact_terms.specs.Asked.{AreCountsIn}
 use Rattle.refinement.specs.Run.{Run}
-use Rattle.trace_files.specs.Replay.{IsSo}
+use Rattle.trace_files.specs.Replay.{IsSo, replay_line}
 use Rattle.trace_replay.specs.Replayed.{IsSettingOf, IsGivenRun, HasRunFrom, IsSoIn, replayed_view}
 use Rattle.obligation_check.specs.Decided.{IsSettingBy}
 use Rattle.check_report.proofs.Counted.{bounds_same, counts_of, all}
@@ -35,7 +35,7 @@ obligations-requires c =
 pub index-obligation-requires : goal.index-obligation-requires
 index-obligation-requires c =
     let v = rw c.in-Trace.is at c.in_ok-trace.ensures.values in
-    subst (λ (os : List Obligation). c.in-Trace.trace.obligation < length os) c.deref.ensures.value v.listed
+    omega (arith, v.listed, ap length c.deref.ensures.value)
 
 pub replay-requires-clause-registers : goal.replay-requires-clause-registers
 replay-requires-clause-registers c = let v = rw c.in-Trace.is at c.in_ok-trace.ensures.values in v.registers
@@ -43,7 +43,7 @@ replay-requires-clause-registers c = let v = rw c.in-Trace.is at c.in_ok-trace.e
 pub replay-requires-clause-inputs : goal.replay-requires-clause-inputs
 replay-requires-clause-inputs c =
     let v = rw c.in-Trace.is at c.in_ok-trace.ensures.values in
-    subst (All (λ (i : Inputs). AreOfSorts (inputs_of (mapped_of c.args.mapped.now).parts) (input_values i))) (sym c.deref-2.ensures.value) v.inputs
+    subst (All (λ (i : Inputs). AreOfSorts (inputs_of (mapped_of c.args.mapped.now).parts) (input_values i))) (sym c.deref-in-Trace.ensures.value) v.inputs
 
 pub replay-requires-clause-cycles : goal.replay-requires-clause-cycles
 replay-requires-clause-cycles c =
@@ -51,7 +51,7 @@ replay-requires-clause-cycles c =
     let os = c.in_ok-list.list.items in
     let k = c.in-Trace.trace.obligation in
     let within = subst (λ (os : List Obligation). k < length os) c.deref.ensures.value v.listed in
-    ap length c.deref-2.ensures.value
+    ap length c.deref-in-Trace.ensures.value
     ∙ v.cycles c.index-obligation.result.now
     (ap (λ (xs : List Obligation). slice_get xs k) c.deref.ensures.value ∙ (slice_get-get_or os k c.index-obligation.result.now within ∙ ap Some (sym c.index-obligation.ensures)))
 
@@ -74,8 +74,8 @@ replay-requires-clause-stated c =
     each_at (IsObligationOf (model_of c.args.model.now) counts) os k c.index-obligation.result.now c.in_ok-list.ensures.within
     (slice_get-get_or os k c.index-obligation.result.now within ∙ ap Some (sym c.index-obligation.ensures))
 
-pub returns-in_ok-line-in-Trace : goal.returns-in_ok-line-in-Trace
-returns-in_ok-line-in-Trace c s own =
+pub returns-in-Trace : goal.returns-in-Trace
+returns-in-Trace c s own =
     let v = rw c.in-Trace.is at c.in_ok-trace.ensures.values in
     let g = c.in-Trace.trace in
     let x = c.args.mapped.now in
@@ -98,17 +98,18 @@ returns-in_ok-line-in-Trace c s own =
     let counted = counts_of m e counts numbers same os given in
     let listed = all m e counts numbers same os given in
     let read = (rw c.in-Trace.is at c.in_ok-trace.ensures.told) s (setting_for m e counts os counted listed s own) in
-    let runs : IsSettingOf m e counts p s → HasRunFrom e g.registers s → IsSoIn e p g.registers g.inputs.items s (replayed_view c.in_ok-answer.answer) =
-    subst (λ is. IsSettingOf m e counts p s → HasRunFrom e g.registers s → IsSoIn e p g.registers is s (replayed_view c.in_ok-answer.answer)) c.deref-2.ensures.value
-    (c.in_ok-answer.ensures.run s) in
-    let each : (run : Run) → IsSettingOf m e counts p s → IsGivenRun e p g.registers g.inputs.items s run → IsSo s run (obligation_of s.map p) (replayed_view c.in_ok-answer.answer) =
-    subst (λ is. (run : Run) → IsSettingOf m e counts p s → IsGivenRun e p g.registers is s run → IsSo s run (obligation_of s.map p) (replayed_view c.in_ok-answer.answer)) c.deref-2.ensures.value
-    (c.in_ok-answer.ensures.told s) in
+    let runs : IsSettingOf m e counts p s → HasRunFrom e g.registers s → IsSoIn e p g.registers g.inputs.items s (replayed_view c.in_ok-answer-in-Trace.answer) =
+    subst (λ is. IsSettingOf m e counts p s → HasRunFrom e g.registers s → IsSoIn e p g.registers is s (replayed_view c.in_ok-answer-in-Trace.answer)) c.deref-in-Trace.ensures.value
+    (c.in_ok-answer-in-Trace.ensures.run s) in
+    let each : (run : Run) → IsSettingOf m e counts p s → IsGivenRun e p g.registers g.inputs.items s run → IsSo s run (obligation_of s.map p) (replayed_view c.in_ok-answer-in-Trace.answer) =
+    subst (λ is. (run : Run) → IsSettingOf m e counts p s → IsGivenRun e p g.registers is s run → IsSo s run (obligation_of s.map p) (replayed_view c.in_ok-answer-in-Trace.answer)) c.deref-in-Trace.ensures.value
+    (c.in_ok-answer-in-Trace.ensures.told s) in
     told m e counts os counted listed s own c.obligations_are_within.ensures c.runs_are_told.ensures c.args.bytes.now g p there read.0 read.1 read.2 read.3 c.runs_have_values.ensures
-    (replayed_view c.in_ok-answer.answer) (string_bytes c.in_ok-line.line) runs each c.in_ok-line.ensures
+    (replayed_view c.in_ok-answer-in-Trace.answer) (string_bytes c.in_ok-line-in-Trace.line) runs each
+    (c.in_ok-line-in-Trace.ensures ∙ ap (λ n. replay_line n (replayed_view c.in_ok-answer-in-Trace.answer)) c.deref-in-Trace-2.ensures)
 
-pub returns-in-Refused : goal.returns-in-Refused
-returns-in-Refused c s own =
+pub returns : goal.returns
+returns c s own =
     let x = c.args.mapped.now in
     let m = model_of c.args.model.now in
     let e = mapped_of x in
