@@ -1,4 +1,4 @@
-pub mod Cases
+pub mod Judged
 pub mod Read
 pub mod Joined
 pub mod Lines

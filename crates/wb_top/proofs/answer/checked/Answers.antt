@@ -1,4 +1,4 @@
-use Rattle.wb_top.proofs.Cases.{case_answered}
+use Rattle.wb_top.proofs.Judged.{case_answered}
 use Rattle.wb_top.proofs.answer.checked.Goals as goal
 
 pub returns-in_ok-outcome-in-Setting : goal.returns-in_ok-outcome-in-Setting

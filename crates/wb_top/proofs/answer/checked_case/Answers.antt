@@ -1,6 +1,6 @@
 use Rattle.std.proofs.Common.{ap, ◌∙◌}
 use Rattle.check_limits.specs.View.{as_limit}
-use Rattle.wb_top.proofs.Cases.{over_limit, within_limits}
+use Rattle.wb_top.proofs.Judged.{over_limit, within_limits}
 use Rattle.wb_top.proofs.answer.checked_case.Goals as goal
 
 pub returns-in_ok-text-in-Some : goal.returns-in_ok-text-in-Some
