@@ -2,7 +2,7 @@
 
 use crate::sheet::Sheet;
 use std::alloc::Global;
-use wb_words::{Replay, Request, SimulateRtl, WordsStop, request};
+use wb_words::{Replay, Request, SimulateBoth, SimulateRtl, WordsStop, request};
 
 /// The words of a line. One for which no memory is left is wanting.
 fn words_of(alloc: Global, line: &str) -> Vec<String> {
@@ -40,6 +40,7 @@ fn add_request(request: &Request<'_>, alloc: Global, out: &mut Sheet) {
         }
         Request::SimulateRtl(design) => add_design(design, out),
         Request::Replay(replay) => add_replay(replay, out),
+        Request::SimulateBoth(both) => add_both(both, out),
     }
 }
 
@@ -52,6 +53,20 @@ fn add_replay(replay: &Replay<'_>, out: &mut Sheet) {
     out.add(" ");
     out.add(replay.trace);
     for file in replay.designs.iter() {
+        out.add(" ");
+        out.add(file);
+    }
+}
+
+/// Adds a simulation of a model and a design side by side as a line.
+fn add_both(both: &SimulateBoth<'_>, out: &mut Sheet) {
+    out.add("simulate-both ");
+    out.add(both.model);
+    out.add(" ");
+    out.add(both.map);
+    out.add(" ");
+    out.add(both.script);
+    for file in both.designs.iter() {
         out.add(" ");
         out.add(file);
     }

@@ -8,7 +8,7 @@ use Rattle.wb_values.specs.Value.{Name}
 use Rattle.refinement.specs.Map.{Setting}
 use Rattle.check_limits.specs.Limits as limits
 use Rattle.wb_outside.specs.Outside.{with_appended, GrewByPrefix, AreStartsOf}
-use Rattle.wb_top.specs.Words.{Verb, check, simulate, simulate_rtl, replay, Command, command_of}
+use Rattle.wb_top.specs.Words.{Verb, check, simulate, simulate_rtl, replay, simulate_both, Command, command_of}
 use Rattle.std.proofs.lemmas.Bool.Decides.{nat_tests}
 use Rattle.wb_top.specs.Files.{most_bytes, has_fitting_length, first_long, AreHeld}
 use Rattle.wb_top.specs.Simulated.{Pair, runs, refused, pair_of, IsSimulated, AreSimulated}
@@ -18,6 +18,10 @@ use Rattle.trace_files.specs.Replay.{Replayed, falsifies, hypothesis_fails, obli
 use Rattle.replay_report.specs.Ending as replays
 use Rattle.wb_top.specs.Replayed as replayed
 use Rattle.wb_top.specs.Replayed.{status_for, is_refused, is_replayed, AreReplayed}
+use Rattle.watched_runs.specs.Watched.{Watched, agrees, outside, disagrees}
+use Rattle.watch_report.specs.Ending as watches
+use Rattle.wb_top.specs.SimulatedBoth as both
+use Rattle.wb_top.specs.SimulatedBoth.{files_refused, is_watched, AreSimulatedBoth}
 use Rattle.wb_top.specs.Asked.{wanted_names, AskedAll, AskedSome}
 use Rattle.wb_top.specs.Outcome.{Told, IsCheckedWithin, IsEnd, IsWithin, IsAnswer, IsAnswered, IsCallOutcome}
 use Rattle.wb_top.specs.declared.status.Status.{Status}
@@ -215,6 +219,30 @@ no_files_replay_as_usage (m ∷ p ∷ []) text h = h
 no_files_replay_as_usage (m ∷ p ∷ x ∷ ds) text (is_refused kind of is by) = usage_is_no_refusal is
 no_files_replay_as_usage (m ∷ p ∷ x ∷ ds) text (is_replayed s of ended) = no_replay_is_usage ended.0 text ended.2
 
+no_watch_is_usage : (a : Watched) → ◌≡◌ {A = Status} Usage (both.status_for a) → ⊥
+no_watch_is_usage a h = go a (subst is_usage h tt)
+  where
+    is_usage : Status → Type 0
+    is_usage Usage = Unit {0}
+    is_usage _ = ⊥
+
+    go : (a : Watched) → is_usage (both.status_for a) → ⊥
+    go (agrees n) h = h
+    go (outside t premise) h = h
+    go (disagrees t which) h = h
+
+no_side_by_side_is_usage : (e : watches.Ending) (text : List ℕ) → both.IsWrittenFor e Usage text → ⊥
+no_side_by_side_is_usage (watches.told answer line) text h = no_watch_is_usage answer h.0
+no_side_by_side_is_usage watches.bad_line text h = usage_is_no_refusal h.0
+no_side_by_side_is_usage watches.missing_input text h = usage_is_no_refusal h.0
+
+no_files_simulate_as_usage : (contents : List (List ℕ)) (text : List ℕ) → AreSimulatedBoth contents Usage text → ⊥
+no_files_simulate_as_usage [] text h = h
+no_files_simulate_as_usage (m ∷ []) text h = h
+no_files_simulate_as_usage (m ∷ p ∷ []) text h = h
+no_files_simulate_as_usage (m ∷ p ∷ x ∷ ds) text (files_refused kind of is by) = usage_is_no_refusal is
+no_files_simulate_as_usage (m ∷ p ∷ x ∷ ds) text (is_watched s of ended) = no_side_by_side_is_usage ended.0 text ended.2
+
 no_check_is_usage : (limit : Option limits.Limit) (s : Setting) (budget : ℕ) (text : Told) → IsCheckedWithin limit s budget Usage text → ⊥
 no_check_is_usage None s budget text h = h
 no_check_is_usage (Some limit) s budget text h = usage_is_no_limit h.0
@@ -225,6 +253,7 @@ no_end_is_usage None (check budget) contents text h = no_check_is_usage h.2.0 h.
 no_end_is_usage None simulate contents text h = no_simulation_is_usage contents text.text h.0
 no_end_is_usage None (simulate_rtl top clock) contents text h = no_rtl_is_usage top clock contents text.text h.0
 no_end_is_usage None replay contents text h = no_files_replay_as_usage contents text.text h.0
+no_end_is_usage None simulate_both contents text h = no_files_simulate_as_usage contents text.text h.0
 
 -- an answer on files is never about the words
 answered_outcome : (held : Option (Name → Option (List ℕ))) (words : List Name) (status : Status) (text : Told)

@@ -7,6 +7,7 @@ pub mod Texts
 pub mod Simulated
 pub mod SimulatedRtl
 pub mod Replayed
+pub mod SimulatedBoth
 pub mod Cases
 pub mod Outcome
 pub mod Showing

@@ -12,6 +12,7 @@ ghost use Rattle.wb_top.specs.Verbs.{verb_view};
 ghost use Rattle.wb_top.specs.Showing.{told_of, status_by};
 ghost use Rattle.wb_top.specs.Outcome.{IsAnswer, IsEnd, IsChecked, IsCheckedSetting, IsReported};
 
+use crate::both::simulated_both;
 use crate::cases::{Case, case_of};
 use crate::length::first_long;
 use crate::replaying::replayed;
@@ -103,6 +104,12 @@ fn ended(
         Verb::Replay => match contents {
             [model, map, trace, designs @ ..] => {
                 replayed(alloc, names_after(names, 3), model, map, trace, designs)
+            }
+            _ => unreachable!(),
+        },
+        Verb::SimulateBoth => match contents {
+            [model, map, script, designs @ ..] => {
+                simulated_both(alloc, names_after(names, 3), model, map, script, designs)
             }
             _ => unreachable!(),
         },

@@ -2,6 +2,7 @@
 #![tactic(auto)]
 
 mod answer;
+mod both;
 mod cases;
 pub mod laws;
 mod length;

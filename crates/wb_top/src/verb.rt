@@ -20,4 +20,6 @@ pub(crate) enum Verb {
     SimulateRtl(Top),
     /// What does the trace show of the model and the design, under the map?
     Replay,
+    /// Does the design do what the model does under the script, by the map?
+    SimulateBoth,
 }

@@ -11,7 +11,7 @@ use crate::stop::NoMemory;
 use crate::verb::{Top, Verb};
 use crate::wanted::Wanted;
 use std::alloc::{AllocError, Global};
-use wb_words::{Check, Replay, Request, Simulate, SimulateRtl, WordsStop, request};
+use wb_words::{Check, Replay, Request, Simulate, SimulateBoth, SimulateRtl, WordsStop, request};
 
 /// What the words ask for, if it is a command.
 pub(crate) fn wanted(alloc: Global, words: &[String]) -> Result<Option<Wanted>, NoMemory>
@@ -58,6 +58,13 @@ fn wanted_by(alloc: Global, request: &Request<'_>) -> Result<Wanted, NoMemory>
             let files = files_of_replay(alloc, replay)?;
             Ok(Wanted {
                 verb: Verb::Replay,
+                files,
+            })
+        }
+        Request::SimulateBoth(simulate) => {
+            let files = files_of_both(alloc, simulate)?;
+            Ok(Wanted {
+                verb: Verb::SimulateBoth,
                 files,
             })
         }
@@ -108,6 +115,20 @@ fn files_of_replay(alloc: Global, replay: &Replay<'_>) -> Result<Vec<String>, No
     names.push(String::from_str(alloc, replay.map)?)?;
     names.push(String::from_str(alloc, replay.trace)?)?;
     for design in &replay.designs {
+        names.push(String::from_str(alloc, design)?)?;
+    }
+    Ok(names)
+}
+
+/// The names of the files that a simulation side by side reads: of the model, of the map, of the script, of each Verilog file.
+fn files_of_both(alloc: Global, simulate: &SimulateBoth<'_>) -> Result<Vec<String>, NoMemory>
+    ensures { IfOk result (λ names. map string_bytes names.items ≡ simulate.now.model.now ∷ simulate.now.map.now ∷ simulate.now.script.now ∷ map (λ s. s.now) simulate.now.designs.items) }
+{
+    let mut names = Vec::new(alloc);
+    names.push(String::from_str(alloc, simulate.model)?)?;
+    names.push(String::from_str(alloc, simulate.map)?)?;
+    names.push(String::from_str(alloc, simulate.script)?)?;
+    for design in &simulate.designs {
         names.push(String::from_str(alloc, design)?)?;
     }
     Ok(names)

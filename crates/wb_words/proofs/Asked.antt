@@ -20,8 +20,8 @@ use Rattle.clap.specs.declared.parser.matches.ValueSource.{ValueSource}
 use Rattle.clap.specs.declared.parser.matches.ValueSource.TheVariants.{DefaultValue}
 use Rattle.clap.specs.declared.builder.value_parser.Reading.{Reading}
 use Rattle.clap.specs.declared.builder.value_parser.Reading.TheVariants as reading
-use Rattle.wb_words.specs.Application.{check_command, replay_command, simulate_command, simulate_rtl_command, workbench_app}
-use Rattle.wb_words.specs.Requests.{budget_in, check_of, designs_in, replay_of, request_in, request_of, simulate_of, simulate_rtl_of}
+use Rattle.wb_words.specs.Application.{check_command, replay_command, simulate_both_command, simulate_command, simulate_rtl_command, workbench_app}
+use Rattle.wb_words.specs.Requests.{budget_in, check_of, designs_in, replay_of, request_in, request_of, simulate_both_of, simulate_of, simulate_rtl_of}
 use Rattle.wb_words.proofs.Filled.{Every, Holds, Leaves, every_found, first_part, is_count, level_holds, second_part}
 
 -- the values of a row: one or more, and those of a budget numbers in its range, read as they are written
@@ -144,6 +144,20 @@ replay_rows rows good m p t d =
   where
     asks : (om op ot : Option Text) (od : Option (List Text)) (m p t : Text) (ds : List Text) → om ≡ Some m → op ≡ Some p → ot ≡ Some t → od ≡ Some ds
         → is_some (replay_of om op ot od) ≡ true
+    asks om op ot od m p t ds e f g h = rw (e, f, g, h) refl
+
+simulate_both_rows : (rows : List Row) → Every (Holds IsGood) rows → is_given (codes "model") rows ≡ true → is_given (codes "map") rows ≡ true
+    → is_given (codes "script") rows ≡ true → is_given (codes "designs") rows ≡ true → is_some (request_in (codes "simulate-both") rows) ≡ true
+unfolding request_in
+simulate_both_rows rows good m p t d =
+    let model = all_given rows good (codes "model") m in
+    let map = all_given rows good (codes "map") p in
+    let script = all_given rows good (codes "script") t in
+    let designs = all_given rows good (codes "designs") d in
+    asks _ _ _ _ _ _ _ _ model.3 map.3 script.3 (ap (option_and_then designs_in) designs.2)
+  where
+    asks : (om op ot : Option Text) (od : Option (List Text)) (m p t : Text) (ds : List Text) → om ≡ Some m → op ≡ Some p → ot ≡ Some t → od ≡ Some ds
+        → is_some (simulate_both_of om op ot od) ≡ true
     asks om op ot od m p t ds e f g h = rw (e, f, g, h) refl
 
 -- ---- what the arguments leave
@@ -293,6 +307,9 @@ simulate_rtl_built = built_leaf (inherited (record (new_shape (codes "wb")) { su
 abbrev replay_built : Shape
 replay_built = built_leaf (inherited (record (new_shape (codes "wb")) { subcommand_required = true; disable_help_subcommand = true; is_leaf = false; is_built = true }) replay_command)
 
+abbrev simulate_both_built : Shape
+simulate_both_built = built_leaf (inherited (record (new_shape (codes "wb")) { subcommand_required = true; disable_help_subcommand = true; is_leaf = false; is_built = true }) simulate_both_command)
+
 check_leaves : Every (Leaves IsGood false) check_built.rules
 check_leaves = (
   plain_leaves false _ refl refl refl refl,
@@ -322,6 +339,18 @@ simulate_rtl_leaves = (
 
 replay_leaves : Every (Leaves IsGood false) replay_built.rules
 replay_leaves = (
+  plain_leaves false _ refl refl refl refl,
+  (
+    plain_leaves false _ refl refl refl refl,
+    (
+      plain_leaves false _ refl refl refl refl,
+      (plain_leaves false _ refl refl refl refl, (help_leaves false _ refl refl, tt)),
+    ),
+  ),
+)
+
+simulate_both_leaves : Every (Leaves IsGood false) simulate_both_built.rules
+simulate_both_leaves = (
   plain_leaves false _ refl refl refl refl,
   (
     plain_leaves false _ refl refl refl refl,
@@ -371,6 +400,16 @@ replay_asks words e =
     let last = second_part (is_given (codes "trace") rows) _ more in
     replay_rows rows good (first_part _ _ all) (first_part _ _ rest) (first_part _ _ more) (first_part _ _ last)
 
+simulate_both_asks : Asks simulate_both_built
+simulate_both_asks words e =
+    let rows = rows_after simulate_both_built.rules [] words in
+    let good = level_holds IsGood joins simulate_both_built [] words false simulate_both_leaves e in
+    let all = given simulate_both_built words e in
+    let rest = second_part (is_given (codes "model") rows) _ all in
+    let more = second_part (is_given (codes "map") rows) _ rest in
+    let last = second_part (is_given (codes "script") rows) _ more in
+    simulate_both_rows rows good (first_part _ _ all) (first_part _ _ rest) (first_part _ _ more) (first_part _ _ last)
+
 app_asks : (a : App) (words : List Text) → Every Asks a.subs → a.top.subcommand_required ≡ true → built_takes a nothing_held words ≡ true
     → is_some (option_and_then (λ p. request_in p.0 p.1) (entered a (stop_after a.top.rules (names_of a) words))) ≡ true
 app_asks a words asks wanted e =
@@ -398,4 +437,4 @@ app_asks a words asks wanted e =
 pub taken_asks : (words : List Text) → takes workbench_app words ≡ true → is_some (request_of words) ≡ true
 unfolding request_of workbench_app
 taken_asks words e =
-    rw e (app_asks (built workbench_app) (argument_words workbench_app words) (check_asks, (simulate_asks, (simulate_rtl_asks, (replay_asks, tt)))) refl (second_part (is_simple workbench_app) _ e))
+    rw e (app_asks (built workbench_app) (argument_words workbench_app words) (check_asks, (simulate_asks, (simulate_rtl_asks, (replay_asks, (simulate_both_asks, tt))))) refl (second_part (is_simple workbench_app) _ e))

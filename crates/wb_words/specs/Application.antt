@@ -51,6 +51,13 @@ replay_command = record (new_shape (codes "replay")) {
       ∷ designs_argument ∷ [];
 }
 
+-- `simulate-both --model M --map P --script S RTL...`
+abbrev pub simulate_both_command : Shape
+simulate_both_command = record (new_shape (codes "simulate-both")) {
+  rules = required_option (codes "model") ∷ required_option (codes "map") ∷ required_option (codes "script")
+      ∷ designs_argument ∷ [];
+}
+
 -- the program, with one of its commands
 unfoldable pub workbench_app : App
 workbench_app = record {
@@ -59,5 +66,5 @@ workbench_app = record {
     subcommand_required = true;
     disable_help_subcommand = true;
   };
-  subs = check_command ∷ simulate_command ∷ simulate_rtl_command ∷ replay_command ∷ [];
+  subs = check_command ∷ simulate_command ∷ simulate_rtl_command ∷ replay_command ∷ simulate_both_command ∷ [];
 }

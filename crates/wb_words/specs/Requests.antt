@@ -10,12 +10,14 @@ use Rattle.wb_words.specs.Application.{workbench_app}
 
 -- a command with the names of its files: a check of a model, a map and designs, with its budget; a
 -- simulation of a model and a script; a simulation of a design, its top and its clock by their
--- names, with a script and the design's files; or a replay of a trace, with the files of a check
+-- names, with a script and the design's files; a replay of a trace, with the files of a check; or a
+-- simulation of a model and a design side by side, with a script and the files of a check
 pub data Request : Type 0 where
   check : Text → Text → ℕ → List Text → Request
   simulate : Text → Text → Request
   simulate_rtl : (top clock script : Text) → List Text → Request
   replay : (model map trace : Text) → List Text → Request
+  simulate_both : (model map script : Text) → List Text → Request
 
 -- the number that a text of decimal digits stands for, from 1 to 1,000,000,000
 abbrev pub budget_in : Text → Option ℕ
@@ -50,6 +52,12 @@ replay_of (Some model) (Some map) (Some trace) (Some designs) =
     Some (replay model map trace designs)
 replay_of _ _ _ _ = None
 
+-- a simulation side by side, where each of its parts is there
+abbrev pub simulate_both_of : Option Text → Option Text → Option Text → Option (List Text) → Option Request
+simulate_both_of (Some model) (Some map) (Some script) (Some designs) =
+    Some (simulate_both model map script designs)
+simulate_both_of _ _ _ _ = None
+
 -- what a subcommand asks for, by its name and the values of its options
 unfoldable pub request_in : Text → List Row → Option Request
 request_in name rows = if bytes_eq name (codes "check")
@@ -64,7 +72,10 @@ request_in name rows = if bytes_eq name (codes "check")
     else (if bytes_eq name (codes "replay")
     then replay_of (first_of (codes "model") rows) (first_of (codes "map") rows)
     (first_of (codes "trace") rows) (option_and_then designs_in (all_of (codes "designs") rows))
-    else None)))
+    else (if bytes_eq name (codes "simulate-both")
+    then simulate_both_of (first_of (codes "model") rows) (first_of (codes "map") rows)
+    (first_of (codes "script") rows) (option_and_then designs_in (all_of (codes "designs") rows))
+    else None))))
 
 -- what the words ask for: where clap takes them, what their subcommand asks for
 unfoldable pub request_of : List Text → Option Request

@@ -17,6 +17,8 @@ request_view (kind.SimulateRtl s) =
     pure.simulate_rtl s.top.now s.clock.now s.script.now (map (λ d. d.now) s.designs.items)
 request_view (kind.Replay r) =
     pure.replay r.model.now r.map.now r.trace.now (map (λ d. d.now) r.designs.items)
+request_view (kind.SimulateBoth b) =
+    pure.simulate_both b.model.now b.map.now b.script.now (map (λ d. d.now) b.designs.items)
 
 -- the result is what is asked for, or refuses where nothing is, unless memory ran out
 abbrev pub IsAnswer : {T A : Type 0} → (T → A) → Result T WordsStop → Option A → Type 0

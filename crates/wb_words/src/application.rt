@@ -3,7 +3,7 @@
 ghost use Rattle.std.specs.Prelude.{◌≡◌, false, IfOk};
 ghost use Rattle.clap.specs.Words.{app_of, rule_of};
 ghost use Rattle.clap.specs.declared.builder.command.Command.TheViews.{out-Command};
-ghost use Rattle.wb_words.specs.Application.{budget_option, check_command, designs_argument, replay_command, simulate_command, simulate_rtl_command, required_option, workbench_app};
+ghost use Rattle.wb_words.specs.Application.{budget_option, check_command, designs_argument, replay_command, simulate_both_command, simulate_command, simulate_rtl_command, required_option, workbench_app};
 
 use clap::{Arg, Command, value_parser};
 use std::alloc::{AllocError, Global};
@@ -16,13 +16,15 @@ pub(crate) fn workbench<'a>(alloc: Global) -> Result<Command<'a>, AllocError>
     let simulate = simulate_command(alloc)?;
     let simulate_rtl = simulate_rtl_command(alloc)?;
     let replay = replay_command(alloc)?;
+    let simulate_both = simulate_both_command(alloc)?;
     Command::new(alloc, "wb")
         .subcommand_required(true)
         .disable_help_subcommand(true)
         .subcommand(check)?
         .subcommand(simulate)?
         .subcommand(simulate_rtl)?
-        .subcommand(replay)
+        .subcommand(replay)?
+        .subcommand(simulate_both)
 }
 
 fn check_command<'a>(alloc: Global) -> Result<Command<'a>, AllocError>
@@ -64,6 +66,17 @@ fn replay_command<'a>(alloc: Global) -> Result<Command<'a>, AllocError>
         .arg(required_option(alloc, "model"))?
         .arg(required_option(alloc, "map"))?
         .arg(required_option(alloc, "trace"))?
+        .arg(designs_argument(alloc))
+}
+
+fn simulate_both_command<'a>(alloc: Global) -> Result<Command<'a>, AllocError>
+    ensures app { IfOk result (λ c. (app_of c).top ≡ simulate_both_command) }
+    ensures local { IfOk result (λ c. (out-Command c).has_globals ≡ false) }
+{
+    Command::new(alloc, "simulate-both")
+        .arg(required_option(alloc, "model"))?
+        .arg(required_option(alloc, "map"))?
+        .arg(required_option(alloc, "script"))?
         .arg(designs_argument(alloc))
 }
 

@@ -2,10 +2,10 @@
 
 ghost use Rattle.std.specs.Prelude.{◌≡◌, ◌≤◌, IfOk, IfSome, codes, length, map, option_and_then};
 ghost use Rattle.clap.specs.Words.{all_of, first_of, found_of, one_of, rows_of, subcommand_rows_of};
-ghost use Rattle.wb_words.specs.Requests.{budget_in, check_of, designs_in, replay_of, request_in, simulate_of, simulate_rtl_of};
+ghost use Rattle.wb_words.specs.Requests.{budget_in, check_of, designs_in, replay_of, request_in, simulate_both_of, simulate_of, simulate_rtl_of};
 ghost use Rattle.wb_words.specs.View.{IsAnswer, request_view};
 
-use crate::requests::{Check, Replay, Request, Simulate, SimulateRtl};
+use crate::requests::{Check, Replay, Request, Simulate, SimulateBoth, SimulateRtl};
 use crate::stop::WordsStop;
 use clap::ArgMatches;
 use std::alloc::Global;
@@ -34,6 +34,9 @@ fn named<'a>(alloc: Global, name: &str, matches: &ArgMatches<'a>) -> Result<Requ
     }
     if name == "replay" {
         return replay(alloc, matches);
+    }
+    if name == "simulate-both" {
+        return simulate_both(alloc, matches);
     }
     Err(WordsStop::Usage)
 }
@@ -105,6 +108,26 @@ fn replay<'a>(alloc: Global, matches: &ArgMatches<'a>) -> Result<Request<'a>, Wo
         model,
         map,
         trace,
+        designs,
+    }))
+}
+
+/// A simulation of the model and the design side by side, of the files that were named.
+fn simulate_both<'a>(alloc: Global, matches: &ArgMatches<'a>) -> Result<Request<'a>, WordsStop>
+    ensures { IsAnswer request_view result (simulate_both_of
+        (first_of (codes "model") (rows_of (found_of matches.now)))
+        (first_of (codes "map") (rows_of (found_of matches.now)))
+        (first_of (codes "script") (rows_of (found_of matches.now)))
+        (option_and_then designs_in (all_of (codes "designs") (rows_of (found_of matches.now))))) }
+{
+    let model = value(matches, "model")?;
+    let map = value(matches, "map")?;
+    let script = value(matches, "script")?;
+    let designs = designs(alloc, matches)?;
+    Ok(Request::SimulateBoth(SimulateBoth {
+        model,
+        map,
+        script,
         designs,
     }))
 }

@@ -60,6 +60,21 @@ pub struct Replay<'a> {
     pub ghost some_design: { 1 ≤ length designs.items },
 }
 
+/// Does the design do what the model does under the script, by the map?
+#[derive(Drop)]
+pub struct SimulateBoth<'a> {
+    /// The name of the model file.
+    pub model: &'a str,
+    /// The name of the map file.
+    pub map: &'a str,
+    /// The name of the script.
+    pub script: &'a str,
+    /// The names of the Verilog files.
+    pub designs: Vec<&'a str>,
+    /// There is a design.
+    pub ghost some_design: { 1 ≤ length designs.items },
+}
+
 /// A command, with the names of the files that it reads.
 #[derive(Drop)]
 pub enum Request<'a> {
@@ -71,4 +86,6 @@ pub enum Request<'a> {
     SimulateRtl(SimulateRtl<'a>),
     /// `replay`
     Replay(Replay<'a>),
+    /// `simulate-both`
+    SimulateBoth(SimulateBoth<'a>),
 }

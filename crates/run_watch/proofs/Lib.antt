@@ -1,0 +1,12 @@
+pub mod Lists
+pub mod Names
+pub mod Linked
+pub mod Failures
+pub mod Judged
+pub mod Telling
+pub mod Starting
+pub mod Broken
+pub mod Differing
+pub mod Coded
+pub mod Watches
+pub mod ZeroInputs
