@@ -1,11 +1,10 @@
 -- What each way through the code says of the run.
-use Rattle.std.proofs.Common.{◌≡◌, ◌≢◌, ◌∙◌, ◌↔◌, ℕ, zero, suc, ◌+◌, ◌<◌, ◌≤◌, Bool, true, false, List, [], ◌∷◌, length, map, get_or, slice_get, ◌⊎◌, inl, inr, Option, Some, None, option_map, refl, sym, ap, subst, arith, add-one}
-use Rattle.std.specs.Prelude.{IsTrue}
+use Rattle.std.proofs.Common.{◌≡◌, ◌≢◌, ◌∙◌, ℕ, suc, ◌+◌, ◌<◌, ◌≤◌, Bool, true, false, List, length, map, get_or, slice_get, ◌⊎◌, inl, inr, Option, Some, None, refl, sym, ap, subst, arith, add-one}
 use Rattle.std.proofs.lemmas.Bool.{false≢true}
 use Rattle.std.proofs.lemmas.List.{length-map}
 use Rattle.wb_values.specs.Value.{Value, as_truth, Valuation}
-use Rattle.model_meaning.specs.Model.{Model, StateDeclaration, Instruction, instruction_name, states_of, instructions_in}
-use Rattle.model_meaning.specs.Instruction.{IsStarted, Steps, IsInstruction}
+use Rattle.model_meaning.specs.Model.{Model, states_of, instructions_in}
+use Rattle.model_meaning.specs.Instruction.{IsStarted, Steps}
 use Rattle.refinement.specs.Map.{Setting, InstructionMap}
 use Rattle.refinement.specs.Run.{Run}
 use Rattle.refinement.specs.Refinement.{state_at, inputs_at, StartsAt, CommitsAt, IsCommandOf, IsMapEntry}
@@ -19,12 +18,9 @@ use Rattle.mapped_designs.specs.declared.design.MappedInstruction as code_instru
 use Rattle.mapped_designs.specs.Mapped.{Mapped, MappedInstruction, IsSortedFor}
 use Rattle.mapped_designs.specs.View.{mapped_of, instruction_view}
 use Rattle.mapped_designs.specs.Runs.{Values, registers_at}
-use Rattle.watched_runs.specs.Disagreements.{Disagreement, initial_value, no_step, past_bound, other_state, DisagreesAt}
-use Rattle.watched_runs.specs.Watched.{IsWatched, Watched, agrees, outside, disagrees}
 use Rattle.watch_laws.specs.Positions.{IsRunning, IsWatchedTo, IsIdleAt, idle, running}
 use Rattle.watch_laws.specs.Positions as position
-use Rattle.watch_laws.proofs.Watching.{reset_on, idle_after_reset, idle_later, reset_quiet_at_end, running_quiet_at_end, command_ends, command_goes_on, disagreeing, disagreeing_inside, leaving, agreeing, ends_at, ends_at_last, ended_in_reset, ended_at_idle, ended_running}
-use Rattle.run_watch.specs.declared.answers.Disagreement as code_disagreement
+use Rattle.watch_laws.proofs.Watching.{reset_on, idle_after_reset, idle_later, reset_quiet_at_end, running_quiet_at_end, command_ends, command_goes_on}
 use Rattle.run_watch.specs.declared.answers.Disagreement.TheVariants.{InitialValue, NoStep, PastBound, OtherState}
 use Rattle.run_watch.specs.declared.standing.WatchPosition.TheVariants.{Reset, Idle, Running}
 use Rattle.run_watch.specs.declared.standing.Turn.TheVariants.{Differs, Goes}
@@ -32,8 +28,8 @@ use Rattle.run_watch.specs.declared.standing.Begun.{Begun}
 use Rattle.run_watch.specs.declared.standing.Other.{Other}
 use Rattle.run_watch.specs.Comparing.{IsFirstDifference, IsFirstOtherStated}
 use Rattle.run_watch.specs.Watch.{IsWatchOf, IsCycleOfWatch}
-use Rattle.run_watch.specs.Turns.{IsBegun, mapped_or, DiffersFirst, NoneFails, IsFirstInside, IsFirstAtEnd, IsLast, IsTurnOf, IsFirstOther, IsSameAt, IsOtherOf, place_in}
-use Rattle.run_watch.proofs.Lists.{some_same, get_within, mapped_at, read_at}
+use Rattle.run_watch.specs.Turns.{IsBegun, mapped_or, DiffersFirst, NoneFails, IsLast, IsTurnOf, IsFirstOther, IsOtherOf, place_in}
+use Rattle.run_watch.proofs.Lists.{get_within, mapped_at, read_at}
 use Rattle.run_watch.proofs.Linked.{start_shown, commit_shown, state_shown, inputs_shown, bound_is}
 use Rattle.run_watch.proofs.Judged.{first_other, none_stated, initial_inside, initial_at_end, differs_at_end, quiet_at_end, quiet_differs, quiet_goes, no_step_first, bound_first, started_differs, committed, far, started_ends, started_goes, bound_passed}
 

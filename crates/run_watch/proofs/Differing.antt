@@ -1,14 +1,12 @@
 -- Lists of values that are compared place by place.
-use Rattle.std.proofs.Common.{◌≡◌, ◌≢◌, ◌∙◌, ◌↔◌, ℕ, zero, suc, ◌+◌, ◌<◌, ◌≤◌, Bool, true, false, ◌==◌, List, [], ◌∷◌, length, map, get_or, take, slice_get, Option, Some, None, option_map, ◌⊎◌, inl, inr, refl, sym, ap, subst, arith}
-use Rattle.std.specs.Prelude.{IsTrue}
-use Rattle.std.proofs.lemmas.Bool.{false≢true}
+use Rattle.std.proofs.Common.{◌≡◌, ◌∙◌, ℕ, suc, ◌+◌, ◌<◌, ◌≤◌, List, [], ◌∷◌, length, map, slice_get, Option, Some, None, option_map, ◌⊎◌, inl, inr, refl, sym, ap, subst, arith}
 use Rattle.std.proofs.lemmas.List.{length-map}
-use Rattle.wb_values.specs.Value.{Value, truth_value, number, words}
+use Rattle.wb_values.specs.Value.{Value}
 use Rattle.model_meaning.specs.Model.{StateDeclaration}
 use Rattle.wb_terms.specs.declared.values.Value as code
 use Rattle.wb_terms.specs.Environment.{as_value}
-use Rattle.run_watch.specs.Comparing.{DifferAt, IsFirstDifference, IsOtherStated, IsFirstOtherStated}
-use Rattle.run_watch.proofs.Lists.{some_same, get_is, get_within, mapped_at}
+use Rattle.run_watch.specs.Comparing.{IsFirstDifference, IsOtherStated, IsFirstOtherStated}
+use Rattle.run_watch.proofs.Lists.{some_same, get_within, mapped_at}
 
 compared : (a b : ℕ) → (a < b) ⊎ ((b < a) ⊎ (a ≡ b))
 compared a b = grind arith

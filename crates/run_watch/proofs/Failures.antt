@@ -1,5 +1,5 @@
 -- Which premise fails first at a cycle.
-use Rattle.std.proofs.Common.{◌≡◌, ◌≢◌, ◌∙◌, ◌↔◌, ℕ, zero, suc, ◌+◌, ◌<◌, ◌≤◌, Bool, true, false, cond, ◌&&◌, nat_lt, List, [], ◌∷◌, length, get_or, map, slice_get, ◌⊎◌, inl, inr, Option, Some, None, option_map, refl, sym, ap, subst, arith}
+use Rattle.std.proofs.Common.{◌≡◌, ◌∙◌, ◌↔◌, ℕ, zero, suc, ◌+◌, ◌<◌, ◌≤◌, Bool, true, false, cond, ◌&&◌, nat_lt, List, [], ◌∷◌, length, get_or, slice_get, inl, inr, Option, Some, None, option_map, refl, sym, ap, subst, arith}
 use Rattle.std.specs.Prelude.{IsTrue}
 use Rattle.std.proofs.lemmas.Bool.{false≢true}
 use Rattle.std.proofs.lemmas.Bool.Decides.{nat_tests}
@@ -8,8 +8,8 @@ use Rattle.refinement.specs.Map.{Setting}
 use Rattle.refinement.specs.Run.{Run, IsResetAt, HoldsOf}
 use Rattle.refinement.specs.Refinement.{StartsAt, CommitsAt}
 use Rattle.watched_runs.specs.Premises.{Premise, of_reset, of_assumption, of_flight, IsStartInside, PremiseFails, IsFirstFailing, ComesBefore}
-use Rattle.watch_laws.specs.Positions.{WatchPosition, in_reset, idle, running, StandsAt, IsRunning}
-use Rattle.watch_laws.proofs.Idle.{compared, one_command, after_reset, idle_of, cut, ended_before}
+use Rattle.watch_laws.specs.Positions.{WatchPosition, in_reset, idle, running, StandsAt}
+use Rattle.watch_laws.proofs.Idle.{one_command, after_reset, idle_of, cut, ended_before}
 use Rattle.mapped_designs.specs.Mapped.{Mapped}
 use Rattle.mapped_designs.specs.Runs.{Values}
 use Rattle.run_watch.specs.declared.answers.Premise as code_premise

@@ -1,24 +1,20 @@
 -- What is found at a cycle: which state differs, and what the run disagrees in first.
-use Rattle.std.proofs.Common.{◌≡◌, ◌≢◌, ◌∙◌, ◌↔◌, ℕ, zero, suc, ◌+◌, ◌<◌, ◌≤◌, Bool, true, false, List, [], ◌∷◌, length, map, slice_get, ◌⊎◌, inl, inr, Option, Some, None, refl, sym, ap, subst, arith}
-use Rattle.std.specs.Prelude.{IsTrue}
+use Rattle.std.proofs.Common.{◌≡◌, ◌≢◌, ◌∙◌, ℕ, suc, ◌+◌, ◌<◌, ◌≤◌, List, slice_get, ◌⊎◌, inl, inr, Option, Some, None, sym, ap, subst, arith}
 use Rattle.wb_values.specs.Value.{Value, Valuation}
 use Rattle.model_meaning.specs.Model.{Model, StateDeclaration, states_of}
-use Rattle.model_meaning.specs.Instruction.{Steps, IsStarted}
-use Rattle.refinement.specs.Map.{Setting, InstructionMap, instruction_map}
+use Rattle.model_meaning.specs.Instruction.{Steps}
+use Rattle.refinement.specs.Map.{Setting, InstructionMap}
 use Rattle.refinement.specs.Run.{Run}
 use Rattle.refinement.specs.Refinement.{state_at, inputs_at, StartsAt, CommitsAt, IsMapEntry, IsCommandOf, HasState}
-use Rattle.refinement.specs.Soundness.{IsComplete}
 use Rattle.wb_terms.specs.Graph.{HasDistinctNames}
 use Rattle.ila_child.specs.State.{sorts_of_states, IsStateOf, state_valuation}
 use Rattle.watched_runs.specs.Disagreements.{Disagreement, initial_value, no_step, past_bound, other_state, IsOtherInitial, HasNoStep, IsPastBound, IsOtherState, DisagreesAt, StandsBefore}
-use Rattle.watch_laws.specs.Positions.{IsRunning, IsWatchedTo, IsIdleAt, idle, running}
-use Rattle.watch_laws.specs.Positions as position
+use Rattle.watch_laws.specs.Positions.{IsWatchedTo, IsIdleAt, idle, running}
 use Rattle.wb_laws.proofs.Sequence.{idle_state}
 use Rattle.watch_laws.proofs.Idle.{state_cut}
-use Rattle.watch_laws.proofs.Watching.{no_step_quiet, no_step_with, no_bound_quiet, bound_of, no_bound_committed, no_bound_far, no_other, running_bound_of, running_first, stays_idle, ends_at_once, begins, command_ends, command_goes_on, idle_quiet_at_end}
-use Rattle.run_watch.specs.Comparing.{DifferAt, IsFirstDifference, IsOtherStated, IsFirstOtherStated}
+use Rattle.watch_laws.proofs.Watching.{no_step_quiet, no_step_with, no_bound_quiet, bound_of, no_bound_committed, no_bound_far, running_first, stays_idle, ends_at_once, begins, idle_quiet_at_end}
+use Rattle.run_watch.specs.Comparing.{IsFirstDifference, IsOtherStated, IsFirstOtherStated}
 use Rattle.run_watch.specs.Turns.{NoneFails, IsFirstInside, IsFirstAtEnd, IsOtherAt, IsSameAt, IsFirstOther}
-use Rattle.run_watch.proofs.Lists.{some_same}
 use Rattle.run_watch.proofs.Names.{value_at, value_of_state, state_of_value}
 
 module _ (m : Model) (s : Setting) (run : Run) (t : ℕ) (is_model : s.model ≡ m) (apart : HasDistinctNames (sorts_of_states (states_of m.top))) where

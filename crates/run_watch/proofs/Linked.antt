@@ -1,27 +1,24 @@
 -- What a cycle of a simulation shows is so of the run.
-use Rattle.std.proofs.Common.{◌≡◌, ◌≢◌, ◌∙◌, ◌↔◌, ℕ, zero, suc, ◌+◌, ◌<◌, ◌≤◌, Bool, true, false, List, [], ◌∷◌, length, map, slice_get, ◌⊎◌, inl, inr, Option, Some, None, refl, sym, ap, subst, arith}
+use Rattle.std.proofs.Common.{◌≡◌, ◌∙◌, ◌↔◌, ℕ, zero, suc, ◌<◌, ◌≤◌, Bool, List, [], ◌∷◌, length, map, slice_get, ◌⊎◌, inl, inr, Some, sym, ap, subst, arith}
 use Rattle.std.specs.Prelude.{IsTrue}
-use Rattle.std.proofs.lemmas.Bool.{false≢true}
-use Rattle.std.proofs.lemmas.List.{length-map}
-use Rattle.wb_values.specs.Value.{Value, as_truth, Valuation}
-use Rattle.model_meaning.specs.Model.{Model, Instruction, StateDeclaration, instruction_name, states_of, instructions_in}
+use Rattle.wb_values.specs.Value.{Value}
+use Rattle.model_meaning.specs.Model.{Model, Instruction, instruction_name, instructions_in}
 use Rattle.model_meaning.specs.Instruction.{IsInstruction}
-use Rattle.refinement.specs.Map.{Setting, InstructionMap, instruction_map}
+use Rattle.refinement.specs.Map.{Setting, InstructionMap}
 use Rattle.refinement.specs.Run.{Run, IsResetAt, HoldsOf}
 use Rattle.refinement.specs.Refinement.{state_at, inputs_at, StartsAt, IsMapEntry, CommitsAt}
 use Rattle.refinement.specs.Obligation.{reset_active, assumed, start, commit, bound_named, bound_in}
 use Rattle.ila_child.specs.State.{state_valuation, input_valuation}
-use Rattle.v_design.specs.Parts.{Parts, value_in}
+use Rattle.v_design.specs.Parts.{value_in}
 use Rattle.v_design.specs.Design.{worth}
 use Rattle.mapped_designs.specs.Mapped.{Mapped, MappedInstruction}
-use Rattle.mapped_designs.specs.Runs.{Values, registers_at, worth_at, worth_of_registers_at, zero_inputs}
-use Rattle.mapped_runs.specs.Valued.{HasValues}
+use Rattle.mapped_designs.specs.Runs.{Values, registers_at, worth_at, zero_inputs}
 use Rattle.mapped_runs.proofs.Lists.{alike}
 use Rattle.mapped_runs.proofs.Cycles.{registers_are, worth_is}
 use Rattle.mapped_runs.proofs.Named.{state_listed}
 use Rattle.mapped_runs.proofs.Facts.{runs_show, state_is, inputs_is}
 use Rattle.run_watch.specs.Failing.{holding}
-use Rattle.run_watch.specs.Watch.{IsWatchOf, IsCycleOfWatch}
+use Rattle.run_watch.specs.Watch.{IsWatchOf}
 use Rattle.run_watch.proofs.Lists.{some_same, none_there, get_within}
 
 -- lists that are mapped to one list, place by place

@@ -1,12 +1,8 @@
 -- Elements of lists, and the conditions of a map among all of them.
-use Rattle.std.proofs.Common.{◌≡◌, ◌∙◌, ℕ, zero, suc, ◌+◌, ◌<◌, ◌≤◌, Bool, true, false, ◌&&◌, List, [], ◌∷◌, ◌++◌, length, get_or, map, All, slice_get, Option, Some, None, refl, sym, ap, subst, arith}
+use Rattle.std.proofs.Common.{◌≡◌, ◌∙◌, ℕ, zero, suc, ◌+◌, ◌<◌, List, [], ◌∷◌, ◌++◌, length, get_or, map, All, slice_get, Some, None, refl, sym, ap, subst, arith}
 use Rattle.std.specs.Prelude.{IsTrue}
-use Rattle.std.proofs.lemmas.Bool.{false≢true}
-use Rattle.std.proofs.lemmas.List.{length-append, length-map, get_or_append_left, get_or-append-add}
-use Rattle.wb_values.specs.Value.{Sort, truth}
-use Rattle.model_meaning.specs.Model.{Model}
-use Rattle.wb_terms.specs.declared.nodes.TermId.{TermId}
-use Rattle.wb_terms.specs.Graph.{Graph}
+use Rattle.std.proofs.lemmas.List.{length-append, get_or_append_left, get_or-append-add}
+use Rattle.wb_values.specs.Value.{truth}
 use Rattle.v_design.specs.Parts.{is_term_of}
 use Rattle.mapped_designs.specs.Mapped.{Mapped, MappedInstruction, conditions_of}
 

@@ -1,9 +1,9 @@
 -- States by their names: each has its place, and a list of values gives each its value.
-use Rattle.std.proofs.Common.{◌≡◌, ◌≢◌, ◌∙◌, ℕ, zero, suc, ◌<◌, Bool, true, false, cond, ◌&&◌, List, [], ◌∷◌, length, map, slice_get, Option, Some, None, is_none, refl, sym, ap, subst, arith}
+use Rattle.std.proofs.Common.{◌≡◌, ◌∙◌, ℕ, zero, suc, Bool, true, false, cond, ◌&&◌, List, [], ◌∷◌, length, map, slice_get, Option, Some, None, is_none, refl, sym, ap, subst}
 use Rattle.std.proofs.lemmas.Bool.{false≢true}
 use Rattle.std.proofs.lemmas.List.{length-map}
 use Rattle.std.proofs.lemmas.Slice.Eq.{bytes_eq-Decides}
-use Rattle.wb_values.specs.Value.{Name, same_name, Sort, Value, Valuation, Entries, entry_of, value_or_zero, valuation_of}
+use Rattle.wb_values.specs.Value.{Name, same_name, Sort, Value, Entries, entry_of, value_or_zero, valuation_of}
 use Rattle.model_meaning.specs.Model.{Model, StateDeclaration, states_of, state_named}
 use Rattle.wb_terms.specs.declared.values.Value as code_value
 use Rattle.wb_terms.specs.Graph.{HasDistinctNames}

@@ -1,13 +1,13 @@
 -- The instruction that starts, and what a step of the model answers.
 use Rattle.std.proofs.Common.{◌≡◌, ◌≢◌, ◌∙◌, ℕ, zero, suc, ◌+◌, ◌<◌, ◌≤◌, Bool, true, false, List, [], ◌∷◌, length, slice_get, ◌⊎◌, inl, inr, Option, Some, None, refl, sym, ap, subst, arith}
-use Rattle.std.specs.Prelude.{IsTrue, IsFalse}
+use Rattle.std.specs.Prelude.{IsTrue}
 use Rattle.std.proofs.lemmas.Bool.{false≢true}
 use Rattle.wb_values.specs.Value.{Value, Valuation}
 use Rattle.model_meaning.specs.Model as pure
 use Rattle.model_meaning.specs.Model.{Model, Machine, machine, Instruction, Instructions, no_instructions, and_then, valid_of, decode_of, holds, instruction_list, instructions_in, point_of}
 use Rattle.model_meaning.specs.Instruction.{IsInstruction, DecodesAt, IsStarted, NoneDecodesAt, AreFirstTwoDecoded, NoneDecodes, DoesOne, DoesStep, Steps}
 use Rattle.model_meaning.specs.Instruction as pure_instruction
-use Rattle.model_meaning.specs.Outcome.{Outcome, next, not_valid, no_instruction, several, trouble, IsOutcome, IsTroubled}
+use Rattle.model_meaning.specs.Outcome.{Outcome, next, not_valid, no_instruction, several, trouble, IsOutcome}
 use Rattle.model_meaning.proofs.OneInstruction.{both_ways}
 use Rattle.wb_laws.proofs.Outcomes.{one_outcome}
 use Rattle.wb_terms.specs.Graph.{Graph}
@@ -20,7 +20,6 @@ use Rattle.ila_child.specs.State.{state_valuation, input_valuation}
 use Rattle.ila_child.specs.Step.{IsStepped}
 use Rattle.run_watch.specs.declared.standing.Other.{Other}
 use Rattle.watch_laws.proofs.Deciding.{not_two}
-use Rattle.watch_laws.proofs.Idle.{one_command}
 use Rattle.run_watch.specs.Turns.{IsFirstDecoding, IsStart, mapped_or}
 use Rattle.run_watch.proofs.Lists.{some_same}
 

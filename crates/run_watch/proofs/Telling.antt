@@ -1,5 +1,5 @@
 -- The line of an answer names the state or the instruction that the answer speaks of.
-use Rattle.std.proofs.Common.{◌≡◌, ◌∙◌, ℕ, zero, suc, ◌<◌, ◌≤◌, List, [], ◌∷◌, ◌++◌, length, get_or, slice_get, Option, Some, None, option_map, codes, decimal, append_assoc, refl, sym, ap, subst, arith}
+use Rattle.std.proofs.Common.{◌≡◌, ◌∙◌, ℕ, zero, suc, ◌<◌, ◌≤◌, List, [], ◌∷◌, ◌++◌, length, get_or, slice_get, Option, Some, None, option_map, codes, append_assoc, refl, sym, ap, subst, arith}
 use Rattle.std.specs.String.{string_bytes}
 use Rattle.model_meaning.specs.Model as pure
 use Rattle.model_meaning.specs.Model.{Model, StateDeclaration, states_of, instructions_in, instruction_list, instruction_name}

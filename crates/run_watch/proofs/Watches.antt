@@ -1,6 +1,6 @@
 -- A whole watch: its cycles one after the other, and its answer.
-use Rattle.std.proofs.Common.{◌≡◌, ◌≢◌, ◌∙◌, ℕ, zero, suc, ◌+◌, ◌<◌, ◌≤◌, Bool, true, false, List, [], ◌∷◌, length, map, get_or, slice_get, ◌⊎◌, inl, inr, Option, Some, None, option_map, refl, sym, ap, subst, arith, add-one}
-use Rattle.wb_values.specs.Value.{Value, Valuation}
+use Rattle.std.proofs.Common.{◌≡◌, ◌∙◌, ℕ, zero, suc, ◌+◌, ◌<◌, Bool, List, [], ◌∷◌, length, slice_get, ◌⊎◌, inl, inr, Option, Some, None, option_map, refl, sym, ap, subst, arith, add-one}
+use Rattle.wb_values.specs.Value.{Value}
 use Rattle.model_meaning.specs.Model.{Model, states_of}
 use Rattle.refinement.specs.Map.{Setting}
 use Rattle.refinement.specs.Run.{Run}
@@ -10,19 +10,19 @@ use Rattle.ila_child.specs.State.{sorts_of_states, state_valuation}
 use Rattle.v_design.specs.declared.values.Registers.{Registers}
 use Rattle.v_design.specs.declared.values.Inputs.{Inputs}
 use Rattle.v_design.specs.Parts.{Parts, registers_after}
-use Rattle.v_design.specs.Seen.{register_values, input_values}
+use Rattle.v_design.specs.Seen.{input_values}
 use Rattle.v_cycle.specs.declared.cycle.Cycle.{Cycle}
 use Rattle.v_cycle.specs.Running.{HasRun}
 use Rattle.mapped_designs.specs.Mapped.{Mapped}
 use Rattle.mapped_designs.specs.Runs.{Values, registers_at, zero_inputs}
-use Rattle.watched_runs.specs.Watched.{IsWatched, agrees, outside, disagrees, HasEnded}
+use Rattle.watched_runs.specs.Watched.{IsWatched, disagrees, HasEnded}
 use Rattle.watch_laws.specs.Positions.{IsWatchedTo}
 use Rattle.watch_laws.specs.Positions as position
 use Rattle.watch_laws.proofs.Idle.{compared}
-use Rattle.watch_laws.proofs.Watching.{at_start, disagreeing, disagreeing_inside, leaving, agreeing, ends_at, ends_at_last, ended_in_reset, ended_at_idle, ended_running}
+use Rattle.watch_laws.proofs.Watching.{disagreeing, disagreeing_inside, leaving, agreeing, ends_at, ends_at_last, ended_in_reset, ended_at_idle, ended_running}
 use Rattle.run_watch.specs.declared.answers.Premise as code_premise
 use Rattle.run_watch.specs.declared.answers.Disagreement as code_disagreement
-use Rattle.run_watch.specs.declared.answers.Watched.TheVariants.{Agrees, Outside, Disagrees}
+use Rattle.run_watch.specs.declared.answers.Watched.TheVariants.{Agrees, Outside}
 use Rattle.run_watch.specs.declared.standing.WatchPosition as code_position
 use Rattle.run_watch.specs.declared.standing.WatchPosition.TheVariants.{Reset, Idle, Running}
 use Rattle.run_watch.specs.declared.standing.Turn.{Turn}

@@ -1,5 +1,5 @@
 -- Inputs that are 0.
-use Rattle.std.proofs.Common.{◌≡◌, ◌∙◌, ◌-◌, ℕ, Bool, true, List, [], ◌∷◌, length, map, replicate, refl, sym, ap, subst}
+use Rattle.std.proofs.Common.{◌≡◌, ◌∙◌, ◌-◌, ℕ, true, List, [], ◌∷◌, length, map, replicate, refl, sym, ap, subst}
 use Rattle.std.proofs.lemmas.Bool.{and_parts, false≢true}
 use Rattle.std.proofs.lemmas.List.{length-drop}
 use Rattle.wb_values.specs.Value.{Sort, truth, word, memory, Value, number, Entries}

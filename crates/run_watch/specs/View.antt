@@ -1,5 +1,5 @@
 -- What the code's answers stand for, and the values of a script.
-use Rattle.std.specs.Prelude.{ℕ, zero, suc, List, [], ◌∷◌, Option, Some, None}
+use Rattle.std.specs.Prelude.{ℕ, zero, suc, List, [], ◌∷◌}
 use Rattle.wb_values.specs.Value.{Value}
 use Rattle.watched_runs.specs.Premises.{Premise, of_reset, of_assumption, of_flight}
 use Rattle.watched_runs.specs.Disagreements.{Disagreement, initial_value, no_step, past_bound, other_state}

@@ -1,12 +1,9 @@
 -- What a watch is of: a setting, and a run of it that has the values of a script.
-use Rattle.std.specs.Prelude.{◌≡◌, ℕ, ◌<◌, ◌≤◌, List, ◌⊎◌, length}
-use Rattle.wb_values.specs.Value.{Value}
+use Rattle.std.specs.Prelude.{◌≡◌, ℕ, ◌<◌, ◌≤◌, ◌⊎◌}
 use Rattle.model_meaning.specs.Model.{Model}
 use Rattle.refinement.specs.Map.{Setting}
 use Rattle.refinement.specs.Run.{Run, IsRun}
 use Rattle.refinement.specs.Soundness.{IsComplete}
-use Rattle.v_design.specs.Parts.{Parts, inputs_of}
-use Rattle.wb_terms.specs.Environment.{AreOfSorts}
 use Rattle.v_cycle.specs.declared.cycle.Cycle.{Cycle}
 use Rattle.v_cycle.specs.Running.{HasRun}
 use Rattle.mapped_designs.specs.Mapped.{Mapped}

@@ -1,6 +1,6 @@
 //! A watch that goes on for a cycle at which no premise fails.
 
-ghost use Rattle.std.specs.Prelude.{◌≡◌, ◌<◌, ◌≤◌, ℕ, List, IfOk, length, option_map};
+ghost use Rattle.std.specs.Prelude.{◌≡◌, ◌↔◌, ◌<◌, ◌≤◌, ◌+◌, ℕ, suc, List, IfOk, IsTrue, length, option_map};
 ghost use Rattle.wb_values.specs.Value.{Valuation};
 ghost use Rattle.model_meaning.specs.Instruction.{Steps};
 ghost use Rattle.refinement.specs.Map.{Setting};
@@ -50,6 +50,13 @@ fn other_state(mapped: State, q: &State) -> Option<Other>
     }
 }
 
+/// Whether a cycle is the last one of so many, of which this is the first.
+fn is_last_cycle(t: u64, first: u64, count: u64) -> bool
+    ensures { IsTrue result ↔ suc t ≡ first + count }
+{
+    u128::from(t) + 1 == u128::from(first) + u128::from(count)
+}
+
 /// A command inside which the cycle is: it ends, it is past its bound, or it goes on.
 fn inside(
     model: &IlaModel,
@@ -76,7 +83,7 @@ fn inside(
     if holds_in(cycle, mapped, ending.commit) {
         return Turn::Goes(WatchPosition::Idle(ended + 1, next));
     }
-    if u128::from(t) + 1 == u128::from(first) + u128::from(ending.bound) {
+    if is_last_cycle(t, first, ending.bound) {
         return Turn::Differs(Disagreement::PastBound(instruction));
     }
     Turn::Goes(WatchPosition::Running(ended, first, instruction, next))

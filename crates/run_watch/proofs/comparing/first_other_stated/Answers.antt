@@ -1,4 +1,4 @@
-use Rattle.std.proofs.Common.{◌∙◌, ◌<◌, length, Some, option_map, refl, ap, arith}
+use Rattle.std.proofs.Common.{◌∙◌, Some, option_map, refl, ap, arith}
 use Rattle.std.proofs.lemmas.Bool.{false≢true}
 use Rattle.model_meaning.specs.Model.{states_of}
 use Rattle.wb_terms.specs.Environment.{as_value}

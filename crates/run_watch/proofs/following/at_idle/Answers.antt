@@ -1,4 +1,4 @@
-use Rattle.std.proofs.Common.{◌∙◌, Some, None, sym, subst}
+use Rattle.std.proofs.Common.{◌∙◌, sym, subst}
 use Rattle.ila_child.specs.State.{state_valuation, input_valuation}
 use Rattle.ila_model.specs.Model.{model_of}
 use Rattle.mapped_designs.specs.View.{mapped_of}
@@ -30,7 +30,7 @@ returns-in-None-2-clause-turn c x s run cycles z less none a seen =
     let q = c.args.q in
     let o = c.args.other in
     let ws = c.in_ok-inputs.inputs in
-    let found = subst (IsBegun m (state_valuation m (mapped_or q o)) (state_valuation m q) (input_valuation m ws)) c.in-None-2.is c.in_ok-command.ensures in
+    let found = subst (IsBegun m (state_valuation m (mapped_or q o)) (state_valuation m q) (input_valuation m ws)) c.in-None-2.is c.in_ok-begun.ensures in
     idle_stuck m (mapped_of c.args.mapped.now) c.args.cycle.now c.args.t x s run cycles (states_apart model) z less none c.args.ended q o c.requires.state c.requires.other
     a seen c.holds_in.result ws c.holds_in.ensures c.if-not-holds_in.false c.in_ok-inputs.ensures.values found
 
@@ -40,7 +40,7 @@ begins-requires-clause-instruction c =
     let q = c.args.q in
     let v = state_valuation m (mapped_or q c.args.other) in
     let w = input_valuation m c.in_ok-inputs.inputs in
-    let found = subst (IsBegun m v (state_valuation m q) w) c.in-Some-2.is c.in_ok-command.ensures in
+    let found = subst (IsBegun m v (state_valuation m q) w) c.in-Some-2.is c.in_ok-begun.ensures in
     started_there m (mapped_of c.args.mapped.now) v w c.in-Some-2.command.instruction c.requires.sorted found.0
 
 pub begins-requires-clause-next : goal.begins-requires-clause-next
@@ -48,11 +48,11 @@ begins-requires-clause-next c =
     let m = model_of c.args.model.now in
     let q = c.args.q in
     let found =
-    subst (IsBegun m (state_valuation m (mapped_or q c.args.other)) (state_valuation m q) (input_valuation m c.in_ok-inputs.inputs)) c.in-Some-2.is c.in_ok-command.ensures in
+    subst (IsBegun m (state_valuation m (mapped_or q c.args.other)) (state_valuation m q) (input_valuation m c.in_ok-inputs.inputs)) c.in-Some-2.is c.in_ok-begun.ensures in
     found.2
 
-pub returns-in-Some-2-clause-turn : goal.returns-in-Some-2-clause-turn
-returns-in-Some-2-clause-turn c x s run cycles z less none a seen =
+pub returns-clause-turn : goal.returns-clause-turn
+returns-clause-turn c x s run cycles z less none a seen =
     let model = c.args.model.now in
     let m = model_of model in
     let e = mapped_of c.args.mapped.now in
@@ -61,7 +61,7 @@ returns-in-Some-2-clause-turn c x s run cycles z less none a seen =
     let t = c.args.t in
     let ws = c.in_ok-inputs.inputs in
     let command = c.in-Some-2.command in
-    let found = subst (IsBegun m (state_valuation m (mapped_or q o)) (state_valuation m q) (input_valuation m ws)) c.in-Some-2.is c.in_ok-command.ensures in
+    let found = subst (IsBegun m (state_valuation m (mapped_or q o)) (state_valuation m q) (input_valuation m ws)) c.in-Some-2.is c.in_ok-begun.ensures in
     let same =
     subst (IsFirstOther s run t (state_valuation m q)) (sym c.place_of-place.ensures)
     (other_seen m e c.args.cycle.now t x s run cycles (states_apart model) z less none c.args.ended q o c.requires.state c.requires.other a seen) in

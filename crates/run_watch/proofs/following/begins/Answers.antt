@@ -1,4 +1,4 @@
-use Rattle.std.proofs.Common.{◌≡◌, ◌<◌, length, ◌∙◌, inl, inr, Some, None, sym, subst, arith}
+use Rattle.std.proofs.Common.{◌∙◌, inl, inr, sym, subst, arith}
 use Rattle.std.proofs.lemmas.Bool.{false≢true}
 use Rattle.std.proofs.lemmas.List.{length-map}
 use Rattle.ila_model.specs.Model.{model_of}

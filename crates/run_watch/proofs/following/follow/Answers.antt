@@ -1,4 +1,4 @@
-use Rattle.std.proofs.Common.{◌<◌, ◌∙◌, Some, None, refl, ap, sym, subst, arith}
+use Rattle.std.proofs.Common.{◌∙◌, Some, None, ap, sym, subst, arith}
 use Rattle.model_meaning.specs.Model.{states_of}
 use Rattle.ila_child.specs.State.{state_valuation}
 use Rattle.ila_model.specs.Model.{model_of}
@@ -22,16 +22,16 @@ other_state-other-requires c =
     let stands = subst (IsPosition m (mapped_of c.args.mapped.now) c.args.t) c.in-Idle.is c.requires.position in
     state_length m c.in_ok-state-in-Idle.state c.in_ok-state-in-Idle.ensures.sorted ∙ sym (state_length m c.in-Idle.q stands.1)
 
-pub at_idle-requires-2-clause-ended : goal.at_idle-requires-2-clause-ended
-at_idle-requires-2-clause-ended c =
+pub at_idle-requires-in-Idle-clause-ended : goal.at_idle-requires-in-Idle-clause-ended
+at_idle-requires-in-Idle-clause-ended c =
     (subst (IsPosition (model_of c.args.model.now) (mapped_of c.args.mapped.now) c.args.t) c.in-Idle.is c.requires.position).0
 
-pub at_idle-requires-2-clause-state : goal.at_idle-requires-2-clause-state
-at_idle-requires-2-clause-state c =
+pub at_idle-requires-in-Idle-clause-state : goal.at_idle-requires-in-Idle-clause-state
+at_idle-requires-in-Idle-clause-state c =
     (subst (IsPosition (model_of c.args.model.now) (mapped_of c.args.mapped.now) c.args.t) c.in-Idle.is c.requires.position).1
 
-pub at_idle-requires-2-clause-other : goal.at_idle-requires-2-clause-other
-at_idle-requires-2-clause-other c =
+pub at_idle-requires-in-Idle-clause-other : goal.at_idle-requires-in-Idle-clause-other
+at_idle-requires-in-Idle-clause-other c =
     other_differs (model_of c.args.model.now) c.in-Idle.q c.in_ok-state-in-Idle.state c.other_state-other.result c.in_ok-state-in-Idle.ensures.sorted
     c.other_state-other.ensures
 

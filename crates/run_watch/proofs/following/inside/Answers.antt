@@ -1,4 +1,5 @@
-use Rattle.std.proofs.Common.{◌≡◌, ◌<◌, length, arith}
+use Rattle.std.proofs.Common.{◌∙◌, sym, arith}
+use Rattle.std.proofs.lemmas.Bool.{false≢true}
 use Rattle.std.proofs.lemmas.List.{length-map}
 use Rattle.ila_model.specs.Model.{model_of}
 use Rattle.mapped_designs.specs.View.{mapped_of, instruction_view}
@@ -24,14 +25,14 @@ returns-then-holds_in-clause-turn c x s run cycles z less none w =
     inside_ends (model_of model) (mapped_of c.args.mapped.now) c.args.cycle.now c.args.t x s run cycles (states_apart model) z less none c.args.ended c.args.first
     c.args.instruction c.args.next (instruction_view i) at w c.holds_in.result c.holds_in.ensures c.if-holds_in.true
 
-pub returns-then-eq-clause-turn : goal.returns-then-eq-clause-turn
-returns-then-eq-clause-turn c x s run cycles z less none w =
+pub returns-then-is_last_cycle-clause-turn : goal.returns-then-is_last_cycle-clause-turn
+returns-then-is_last_cycle-clause-turn c x s run cycles z less none w =
     let model = c.args.model.now in
     let i = c.index-ending.result.now in
     let at = ending_at c.args.mapped.now c.args.instruction i c.requires.instruction c.index-ending.ensures in
     inside_past (model_of model) (mapped_of c.args.mapped.now) c.args.cycle.now c.args.t x s run cycles (states_apart model) z less none c.args.ended c.args.first
     c.args.instruction c.args.next (instruction_view i) at w c.holds_in.result c.holds_in.ensures c.if-holds_in.false
-    (omega (arith, c.if-eq.true, c.from.ensures, c.from-2.ensures, c.from-3.ensures))
+    (c.is_last_cycle.ensures.0 c.if-is_last_cycle.true)
 
 pub returns-clause-turn : goal.returns-clause-turn
 returns-clause-turn c x s run cycles z less none w =
@@ -40,4 +41,4 @@ returns-clause-turn c x s run cycles z less none w =
     let at = ending_at c.args.mapped.now c.args.instruction i c.requires.instruction c.index-ending.ensures in
     inside_goes (model_of model) (mapped_of c.args.mapped.now) c.args.cycle.now c.args.t x s run cycles (states_apart model) z less none c.args.ended c.args.first
     c.args.instruction c.args.next (instruction_view i) at w c.holds_in.result c.holds_in.ensures c.if-holds_in.false
-    (λ last. c.if-eq.false (omega (arith, last, c.from.ensures, c.from-2.ensures, c.from-3.ensures)))
+    (λ last. false≢true (sym c.if-is_last_cycle.false ∙ c.is_last_cycle.ensures.1 last))

@@ -1,4 +1,4 @@
-use Rattle.std.proofs.Common.{◌<◌, Some, None, map, subst, arith}
+use Rattle.std.proofs.Common.{Some, None, map, subst, arith}
 use Rattle.model_meaning.specs.Model.{states_of}
 use Rattle.wb_terms.specs.Environment.{as_value}
 use Rattle.ila_model.specs.Model.{model_of}
@@ -37,8 +37,8 @@ returns-in-Some c x s run cycles z w =
     last_initial m (mapped_of c.args.mapped.now) c.args.cycle.now c.args.t x s run cycles (states_apart model) z a c.in-Some.k c.in_ok-state-in-Reset.ensures.sorted
     c.in_ok-state-in-Reset.ensures.values (λ l. omega (arith, l, c.if-t-mapped.false)) stands found
 
-pub returns-in-None : goal.returns-in-None
-returns-in-None c x s run cycles z w =
+pub returns-in-Reset : goal.returns-in-Reset
+returns-in-Reset c x s run cycles z w =
     let model = c.args.model.now in
     let m = model_of model in
     let a = c.in_ok-state-in-Reset.state in
@@ -47,8 +47,8 @@ returns-in-None c x s run cycles z w =
     last_stated m (mapped_of c.args.mapped.now) c.args.cycle.now c.args.t x s run cycles (states_apart model) z a c.in_ok-state-in-Reset.ensures.sorted
     c.in_ok-state-in-Reset.ensures.values (λ l. omega (arith, l, c.if-t-mapped.false)) stands found
 
-pub returns-in-Some-2 : goal.returns-in-Some-2
-returns-in-Some-2 c x s run cycles z w =
+pub returns-in-Some-first_difference : goal.returns-in-Some-first_difference
+returns-in-Some-first_difference c x s run cycles z w =
     let model = c.args.model.now in
     let m = model_of model in
     let e = mapped_of c.args.mapped.now in
@@ -57,13 +57,13 @@ returns-in-Some-2 c x s run cycles z w =
     let stands = subst (λ (p : WatchPosition). IsWatchedTo s run c.args.t (position_of m p)) c.in-Idle.is w in
     let sound = subst (IsPosition m e c.args.t) c.in-Idle.is c.requires.position in
     let found =
-    subst (λ ys. IsFirstDifference ys q (Some c.in-Some-2.k)) c.values-in-Idle.ensures
-    (subst (λ ys. IsFirstDifference (map as_value c.values-in-Idle.result.now) ys (Some c.in-Some-2.k)) c.values-in-Idle-2.ensures c.in-Some-2.ensures) in
-    last_other m e c.args.cycle.now c.args.t x s run cycles (states_apart model) z a q _ c.in-Some-2.k c.in_ok-state-in-Idle.ensures.sorted sound.1
+    subst (λ ys. IsFirstDifference ys q (Some c.in-Some-first_difference.k)) c.values-in-Idle.ensures
+    (subst (λ ys. IsFirstDifference (map as_value c.values-in-Idle.result.now) ys (Some c.in-Some-first_difference.k)) c.values-in-Idle-2.ensures c.in-Some-first_difference.ensures) in
+    last_other m e c.args.cycle.now c.args.t x s run cycles (states_apart model) z a q _ c.in-Some-first_difference.k c.in_ok-state-in-Idle.ensures.sorted sound.1
     c.in_ok-state-in-Idle.ensures.values stands found
 
-pub returns-in-None-2 : goal.returns-in-None-2
-returns-in-None-2 c x s run cycles z w =
+pub returns-in-Idle : goal.returns-in-Idle
+returns-in-Idle c x s run cycles z w =
     let model = c.args.model.now in
     let m = model_of model in
     let e = mapped_of c.args.mapped.now in
@@ -73,12 +73,12 @@ returns-in-None-2 c x s run cycles z w =
     let sound = subst (IsPosition m e c.args.t) c.in-Idle.is c.requires.position in
     let found =
     subst (λ ys. IsFirstDifference ys q None) c.values-in-Idle.ensures
-    (subst (λ ys. IsFirstDifference (map as_value c.values-in-Idle.result.now) ys None) c.values-in-Idle-2.ensures c.in-None-2.ensures) in
+    (subst (λ ys. IsFirstDifference (map as_value c.values-in-Idle.result.now) ys None) c.values-in-Idle-2.ensures c.in-None-first_difference.ensures) in
     last_same m e c.args.cycle.now c.args.t x s run cycles (states_apart model) z a q _ c.in_ok-state-in-Idle.ensures.sorted sound.1 c.in_ok-state-in-Idle.ensures.values
     stands found
 
-pub returns-in-Running : goal.returns-in-Running
-returns-in-Running c x s run cycles z w =
+pub returns : goal.returns
+returns c x s run cycles z w =
     let model = c.args.model.now in
     let m = model_of model in
     let stands = subst (λ (p : WatchPosition). IsWatchedTo s run c.args.t (position_of m p)) c.in-Running.is w in

@@ -1,7 +1,6 @@
 use Rattle.std.proofs.Common.{◌∙◌, ◌++◌, sym, ap, arith, append-nil}
 use Rattle.std.specs.String.{string_bytes}
 use Rattle.model_meaning.specs.Model.{states_of}
-use Rattle.wb_terms.specs.Graph.{Graph}
 use Rattle.ila_model.specs.Model.{model_of}
 use Rattle.std.specs.Prelude.{slice_get}
 use Rattle.run_watch.proofs.Telling.{state_there, no_state}

@@ -1,5 +1,4 @@
-use Rattle.std.proofs.Common.{◌≡◌, ◌∙◌, List, ℕ, sym, ap, subst}
-use Rattle.std.specs.Prelude.{string_bytes}
+use Rattle.std.proofs.Common.{◌∙◌, sym, ap, subst}
 use Rattle.watched_runs.specs.Watched.{IsWatchedLine}
 use Rattle.ila_model.specs.Model.{model_of}
 use Rattle.run_watch.specs.declared.answers.Watched.{Watched}

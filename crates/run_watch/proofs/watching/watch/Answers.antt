@@ -1,4 +1,4 @@
-use Rattle.std.proofs.Common.{◌≡◌, ◌∙◌, ◌<◌, ◌≤◌, length, Some, None, refl, sym, ap, subst, arith}
+use Rattle.std.proofs.Common.{◌≡◌, ◌∙◌, ◌<◌, length, refl, sym, ap, subst, arith}
 use Rattle.wb_terms.specs.Environment.{AreOfSorts}
 use Rattle.ila_model.specs.Model.{model_of}
 use Rattle.v_design.specs.declared.values.Inputs.{Inputs}
@@ -62,8 +62,8 @@ loop-k-preserved c =
           watched_on m s run k c.in-Goes.next c.in_ok-which.field-0 (c.in_ok-which.ensures.turn x s run (length is) z less none stands) c.in-Goes.is;
     }
 
-pub returns-in_ok-last-in-Some : goal.returns-in_ok-last-in-Some
-returns-in_ok-last-in-Some c s run w =
+pub returns-in-Some : goal.returns-in-Some
+returns-in-Some c s run w =
     let model = c.args.model.now in
     let m = model_of model in
     let e = mapped_of c.args.mapped.now in
@@ -81,8 +81,8 @@ returns-in_ok-last-in-Some c s run w =
     (failure_at m e x s run (length is) c.cycle.new.self k c.loop-k.position c.is_running.result c.failing_premise.result z less stands c.is_running.ensures
     c.failing_premise.ensures) in
     subst (λ (a : Watched). IsWatched s run (length is) (watched_of a)) (sym c.answer.ensures)
-    (leaves m e x s run (length is) (states_apart model) w k c.in-Some.premise c.in_ok-last-in-Some.last _ less stands fails
-    (c.in_ok-last-in-Some.ensures x s run (length is) z stands))
+    (leaves m e x s run (length is) (states_apart model) w k c.in-Some.premise c.in_ok-last.last _ less stands fails
+    (c.in_ok-last.ensures x s run (length is) z stands))
 
 pub returns-in-Differs : goal.returns-in-Differs
 returns-in-Differs c s run w =
@@ -126,7 +126,7 @@ returns c s run w =
     let was = subst (λ t. registers_in c.loop-k.cycle ≡ registers_at e.parts x t) same c.loop-k.invariant.registers in
     let z = cycle_after e r is m s run w c.cycle-2.new.self (length is) c.in_ok-zeros.zeros (registers_in c.loop-k.cycle) refl was c.in_ok-zeros.ensures c.cycle-2.ensures.ran in
     let stands = subst (λ t. IsWatchedTo s run t (position_of m c.loop-k.position)) same (c.loop-k.invariant.watched s run w) in
-    let told = c.answer-2.ensures ∙ ap (λ n. answer_at (length is) c.in_ok-last.last (Agrees n)) c.ended.ensures in
+    let told = c.answer-2.ensures ∙ ap (λ n. answer_at (length is) c.in_ok-last-2.last (Agrees n)) c.ended.ensures in
     subst (λ (a : Watched). IsWatched s run (length is) (watched_of a)) (sym told)
-    (ends m e x s run (length is) (states_apart model) w (length is) c.loop-k.position c.in_ok-last.last refl stands
-    (c.in_ok-last.ensures x s run (length is) z stands))
+    (ends m e x s run (length is) (states_apart model) w (length is) c.loop-k.position c.in_ok-last-2.last refl stands
+    (c.in_ok-last-2.ensures x s run (length is) z stands))
