@@ -1,0 +1,6 @@
+mod Named
+mod Childless
+mod Refining
+mod BenchModels
+mod BenchObligations
+mod BenchRules
