@@ -1,12 +1,15 @@
 -- Models without child programs: each instruction is its updates, and such a model is total.
-use Rattle.std.proofs.Common.{◌≡◌, ℕ, zero, suc, ◌+◌, ◌*◌, ◌≤◌, max, arith, [], Some, refl, subst}
+use Rattle.std.proofs.Common.{◌≡◌, ℕ, zero, suc, ◌+◌, ◌*◌, ◌≤◌, max, arith, List, [], Some, refl, subst}
 use Rattle.std.specs.Prelude.{slice_get}
 use Rattle.wb_values.specs.Value.{Valuation}
 use Rattle.model_meaning.specs.Model.{Model, Machine, machine, Instruction, instruction, Instructions, no_instructions, and_then, no_child, child, instruction_list, instructions_in, point_of}
 use Rattle.model_meaning.specs.Instruction.{DoesInstruction, IsStarted, Steps, own_states}
 use Rattle.model_meaning.proofs.OneInstruction.{step_done}
+use Rattle.refinement.specs.Map.{Setting}
+use Rattle.refinement.specs.Run.{Run}
 use Rattle.emitted_designs.specs.Bounds.{nesting_of, nesting_among, nesting_of_instruction, instruction_bound, machine_bound}
 use Rattle.emitted_designs.specs.MicroStep.{entered_by, begun}
+use Rattle.emitted_designs.specs.Cycles.{EdgeLeads, AreRunning}
 use Rattle.emitted_designs.specs.Laws.{ModelsWithoutChildrenAreTotal}
 
 max_zero : (x y : ℕ) → max x y ≡ 0 → (x ≡ 0) × (y ≡ 0)
@@ -52,3 +55,15 @@ some_cycle (instruction called decode update (child steps program)) = above (ste
   where
     above : (k : ℕ) → 1 ≤ 2 + k
     above k = omega arith
+
+-- No child program of such a model runs.
+pub none_running : (s : Setting) (run : Run) (t : ℕ) (running : List Machine) → nesting_of s.model.top ≡ 0 → AreRunning s run t running → running ≡ []
+none_running s run t running none (AreRunning.at_rest u rests) = refl
+none_running s run t running none (AreRunning.after_reset u resets) = refl
+none_running s run t running none (AreRunning.after_edge u before next q earlier no_reset leads) =
+    next_of before next q (none_running s run u before none earlier) leads
+  where
+    next_of : (ps qs : List Machine) (p : Valuation) → ps ≡ [] → EdgeLeads s run u ps qs p → qs ≡ []
+    next_of ps qs p e (EdgeLeads.waits quiet) = refl
+    next_of ps qs p e (EdgeLeads.starts i h) = enters_none i (in_machine s.model.top h.number i none h.is_instruction)
+    next_of ps qs p e (EdgeLeads.goes_on program around rest r step) = cc

@@ -4,3 +4,4 @@ mod Refining
 mod BenchModels
 mod BenchObligations
 mod BenchRules
+mod Switch

@@ -12,7 +12,7 @@ use Rattle.reports.specs.Report.{is_before}
 use Rattle.emitted_designs.specs.Map.{with_key, in_byte_order, by_their_names}
 use Rattle.emitted_designs.specs.Module.{all_states}
 
-same_if : (k n : Name) → same_name k n ≡ true → k ≡ n
+pub same_if : (k n : Name) → same_name k n ≡ true → k ≡ n
 same_if k n e = (bytes_eq-Decides k n).0 e
 
 pub same_of : (k n : Name) → k ≡ n → same_name k n ≡ true

@@ -1,9 +1,16 @@
--- Small models with their maps, their bounds and their sizes.
-use Rattle.std.specs.Prelude.{◌≡◌, ℕ, ◌++◌, List, codes}
+-- Small models with their maps, their bounds and their sizes, and one with an emitted module.
+use Rattle.std.specs.Prelude.{◌≡◌, ℕ, true, false, ◌++◌, List, [], ◌∷◌, None, Some, codes}
+use Rattle.wb_values.specs.Value.{Name, truth, truth_value}
+use Rattle.model_meaning.specs.Term as term
+use Rattle.model_meaning.specs.Model.{Model, StateDeclaration, machine, Instruction, instruction, no_instructions, and_then, no_child}
 use Rattle.model_meaning.specs.Worked.{counter, multiplier, always}
+use Rattle.verilog_trees.specs.Syntax.{Module, Statement, nonblocking, if_then, if_else, reduction, is_zero, place, whole, input, output, Direction, PortDeclaration, declared, variables, assign, always as always_block, on_events, posedge}
+use Rattle.verilog_meaning.specs.Worked.{reading, sized_number}
 use Rattle.emitted_designs.specs.Bounds.{greatest_bound}
 use Rattle.emitted_designs.specs.Size.{model_size}
+use Rattle.emitted_designs.specs.Names.{clock_name, reset_name, go_name, start_name, commit_name}
 use Rattle.emitted_designs.specs.Map.{written_map, map_text}
+use Rattle.emitted_designs.specs.Emits.{IsEmittedModule}
 
 -- the text of the counter's map
 abbrev pub counter_map_text : List ℕ
@@ -34,3 +41,47 @@ MultiplierHasItsBound = greatest_bound (multiplier always 255) ≡ 257
 -- 1 state, 1 input, 2 instructions with an update each, and 1 + 2 * 3 + 3 + 1 nodes
 abbrev pub CounterHasItsSize : Type 0
 CounterHasItsSize = model_size counter ≡ 17
+
+-- ---- a module
+
+-- A switch: FLIP turns its one state, which is false at first.
+abbrev pub position : Name
+position = codes "f"
+
+abbrev pub position_state : StateDeclaration
+position_state = record { state_name = position; sort = truth; init = Some (truth_value false) }
+
+abbrev pub flip : Instruction
+flip = instruction (codes "FLIP") (term.constant_truth true) ((position, term.not (term.name position truth)) ∷ []) no_child
+
+abbrev pub switch : Model
+switch = record {
+  model_name = codes "switch";
+  inputs = [];
+  top = machine (position_state ∷ []) (term.constant_truth true) (and_then flip no_instructions);
+}
+
+abbrev pub one_bit_ports : Direction → List Name → PortDeclaration
+one_bit_ports d ns = record { direction = d; kind = None; signed = false; range = None; names = ns }
+
+-- if (wb_rst) f <= 1'b0; else if (wb_go) f <= !f;
+abbrev pub switch_block : Statement
+switch_block =
+    if_else (reading reset_name) (nonblocking (place position whole) (sized_number 1 0))
+    (if_then (reading go_name) (nonblocking (place position whole) (reduction is_zero (reading position))))
+
+-- Its design: wb_start and wb_commit are wb_go.
+abbrev pub switch_module : Module
+switch_module = record {
+  module_name = codes "switch";
+  parameters = [];
+  ports = declared (one_bit_ports input (clock_name ∷ reset_name ∷ go_name ∷ []) ∷ one_bit_ports output (start_name ∷ commit_name ∷ []) ∷ []);
+  items =
+      variables false None ((position, None) ∷ [])
+      ∷ assign ((place start_name whole, reading go_name) ∷ (place commit_name whole, reading go_name) ∷ [])
+      ∷ always_block (on_events (record { edge = posedge; signal = clock_name } ∷ [])) switch_block
+      ∷ [];
+}
+
+abbrev pub SwitchIsEmitted : Type 0
+SwitchIsEmitted = IsEmittedModule switch switch_module

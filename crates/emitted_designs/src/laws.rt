@@ -1,6 +1,6 @@
 //! Laws on emitted designs and their maps, each the contract of a function without code.
 ghost use Rattle.emitted_designs.specs.Laws.{BenchModelsHaveNoChildren, BenchModelsHaveTheirObligations, BenchModelsHaveTheirSize, BenchModelsKeepTheRules, BenchTextsAreShort, EmittedRunsRefine, ModelsWithoutChildrenAreTotal, SmallModelsHaveShortTexts};
-ghost use Rattle.emitted_designs.specs.Worked.{CounterHasItsMap, CounterHasItsSize, MultiplierHasItsBound, MultiplierHasItsMap};
+ghost use Rattle.emitted_designs.specs.Worked.{CounterHasItsMap, CounterHasItsSize, MultiplierHasItsBound, MultiplierHasItsMap, SwitchIsEmitted};
 
 /// Of a model without child programs each run of an emitted design from reset has one command in flight and refines the model.
 pub fn emitted_runs_refine()
@@ -28,6 +28,11 @@ pub fn bench_models_are_models()
 /// How many obligations the models of `bench` have.
 pub fn bench_models_have_their_obligations()
     ensures { BenchModelsHaveTheirObligations }
+{}
+
+/// A switch, a model of one state that its one instruction turns, has an emitted module.
+pub fn the_switch_is_emitted()
+    ensures { SwitchIsEmitted }
 {}
 
 /// The text of the counter's map.
