@@ -6,10 +6,13 @@ use Rattle.model_meaning.specs.Instruction.{IsStarted, Steps}
 use Rattle.verilog_trees.specs.Syntax.{Module, Source}
 use Rattle.verilog_text.specs.Text.{with_files, tokens_read}
 use Rattle.verilog_text.specs.Grammar.{IsSource, IsTreeOf}
+use Rattle.verilog_designs.specs.Accepted.{IsAccepted}
+use Rattle.refinement.specs.Map.{design_of}
 use Rattle.refinement.specs.Run.{Run, IsRun}
+use Rattle.map_rules.specs.Accepted.{MapOf}
 use Rattle.emitted_designs.specs.Bounds.{greatest_bound, most_cycles, nesting_of}
 use Rattle.emitted_designs.specs.Size.{most_bytes}
-use Rattle.emitted_designs.specs.Map.{setting_of, written_map, map_text}
+use Rattle.emitted_designs.specs.Map.{emitted_map, setting_of, written_map, map_text}
 use Rattle.emitted_designs.specs.Module.{HasPortsOf, HasRegistersOf}
 use Rattle.emitted_designs.specs.Cycles.{FollowsModel}
 
@@ -38,6 +41,13 @@ pub record Emits (m : Model) (verilog refinement_map : List ℕ) : Type 0 where
   pub is_short : length verilog ≤ most_bytes m
   pub map_is_short : length refinement_map ≤ most_bytes m
 
+-- The texts are accepted, as the files of a check of the model: the one has the module as its tree, which is accepted as a design; the other is
+-- accepted as a map for the model and the module, and stands for the emitted map.
+pub record AreAccepted (m : Model) (verilog refinement_map : List ℕ) (x : Module) : Type 0 where
+  pub is_tree : IsTreeOf (verilog ∷ []) (x ∷ [])
+  pub is_design : IsAccepted (design_of (setting_of m x))
+  pub is_map : MapOf refinement_map m (x ∷ []) (emitted_map m)
+
 -- ---- what is answered for a model
 
 pub data Emission : Type 0 where
@@ -47,9 +57,11 @@ pub data Emission : Type 0 where
   -- child programs nest deeper than is emitted yet
   not_yet : Emission
 
--- What is answered where child programs are emitted down to so many levels.
+-- What is answered where child programs are emitted down to so many levels. Texts no longer than files may be are accepted.
 pub data IsEmission (levels : ℕ) (m : Model) : Emission → Type 0 where
-  is_emitted : (verilog refinement_map : List ℕ) → nesting_of m.top ≤ levels → greatest_bound m ≤ most_cycles → Emits m verilog refinement_map
+  is_emitted : (verilog refinement_map : List ℕ) → nesting_of m.top ≤ levels → greatest_bound m ≤ most_cycles
+      → (e : Emits m verilog refinement_map)
+      → (length verilog ≤ most_file_bytes → length refinement_map ≤ most_file_bytes → AreAccepted m verilog refinement_map e.of_module)
       → IsEmission levels m (texts verilog refinement_map)
   is_over : nesting_of m.top ≤ levels → most_cycles < greatest_bound m → IsEmission levels m (bound_over (greatest_bound m))
   is_not_yet : levels < nesting_of m.top → IsEmission levels m not_yet
