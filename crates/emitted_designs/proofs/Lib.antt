@@ -5,3 +5,4 @@ mod BenchModels
 mod BenchObligations
 mod BenchRules
 mod Switch
+mod Stores

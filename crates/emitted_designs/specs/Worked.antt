@@ -1,15 +1,17 @@
 -- Small models with their maps, their bounds and their sizes, and one with an emitted module.
-use Rattle.std.specs.Prelude.{◌≡◌, ℕ, true, false, ◌++◌, List, [], ◌∷◌, None, Some, codes}
-use Rattle.wb_values.specs.Value.{Name, truth, truth_value}
+use Rattle.std.specs.Prelude.{◌≡◌, ℕ, true, false, ◌++◌, List, [], ◌∷◌, None, Some, codes, suc, ◌<◌, length, slice_index}
+use Rattle.wb_values.specs.Value.{Name, truth, word, memory, truth_value, as_number, as_words}
 use Rattle.model_meaning.specs.Term as term
 use Rattle.model_meaning.specs.Model.{Model, StateDeclaration, machine, Instruction, instruction, no_instructions, and_then, no_child}
 use Rattle.model_meaning.specs.Worked.{counter, multiplier, always}
 use Rattle.verilog_trees.specs.Syntax.{Module, Statement, nonblocking, if_then, if_else, reduction, is_zero, place, whole, input, output, Direction, PortDeclaration, declared, variables, assign, always as always_block, on_events, posedge}
 use Rattle.verilog_meaning.specs.Worked.{reading, sized_number}
+use Rattle.refinement.specs.Run.{Run, IsRun, IsResetAt}
+use Rattle.refinement.specs.Refinement.{state_at, inputs_at, StartsAt}
 use Rattle.emitted_designs.specs.Bounds.{greatest_bound}
 use Rattle.emitted_designs.specs.Size.{model_size}
 use Rattle.emitted_designs.specs.Names.{clock_name, reset_name, go_name, start_name, commit_name}
-use Rattle.emitted_designs.specs.Map.{written_map, map_text}
+use Rattle.emitted_designs.specs.Map.{setting_of, written_map, map_text}
 use Rattle.emitted_designs.specs.Emits.{IsEmittedModule}
 
 -- the text of the counter's map
@@ -85,3 +87,41 @@ switch_module = record {
 
 abbrev pub SwitchIsEmitted : Type 0
 SwitchIsEmitted = IsEmittedModule switch switch_module
+
+-- ---- a memory
+
+-- A model whose one instruction W stores two words at one address, first 1 and then 2.
+abbrev pub memory_name : Name
+memory_name = codes "m"
+
+abbrev pub address_name : Name
+address_name = codes "a"
+
+abbrev pub write_twice : Instruction
+write_twice =
+    instruction (codes "W") (term.constant_truth true)
+    ((
+      memory_name,
+      term.store (term.store (term.name memory_name (memory 2 4)) (term.name address_name (word 2)) (term.const 4 1))
+          (term.name address_name (word 2)) (term.const 4 2),
+    )
+    ∷ [])
+    no_child
+
+abbrev pub writer : Model
+writer = record {
+  model_name = codes "writer";
+  inputs = record { input_name = address_name; sort = word 2 } ∷ [];
+  top = machine (record { state_name = memory_name; sort = memory 2 4; init = None } ∷ []) (term.constant_truth true)
+      (and_then write_twice no_instructions);
+}
+
+-- In each emitted module of it the last store of the chain stands: after the edge of a start without reset, the word at the address is 2.
+abbrev pub LastStoreStands : Type 0
+LastStoreStands =
+    (x : Module) (run : Run) (cycles t : ℕ) → IsEmittedModule writer x → IsRun (setting_of writer x) run cycles → t < cycles
+    → ¬ IsResetAt (setting_of writer x) run t → StartsAt (setting_of writer x) run t
+    → as_number (inputs_at (setting_of writer x) run t address_name) < length (as_words (state_at (setting_of writer x) run t memory_name))
+    → slice_index (as_words (state_at (setting_of writer x) run (suc t) memory_name))
+    (as_number (inputs_at (setting_of writer x) run t address_name))
+    ≡ 2

@@ -1,6 +1,6 @@
 //! Laws on emitted designs and their maps, each the contract of a function without code.
 ghost use Rattle.emitted_designs.specs.Laws.{BenchModelsHaveNoChildren, BenchModelsHaveTheirObligations, BenchModelsHaveTheirSize, BenchModelsKeepTheRules, BenchTextsAreShort, EmittedRunsRefine, ModelsWithoutChildrenAreTotal, SmallModelsHaveShortTexts};
-ghost use Rattle.emitted_designs.specs.Worked.{CounterHasItsMap, CounterHasItsSize, MultiplierHasItsBound, MultiplierHasItsMap, SwitchIsEmitted};
+ghost use Rattle.emitted_designs.specs.Worked.{CounterHasItsMap, CounterHasItsSize, LastStoreStands, MultiplierHasItsBound, MultiplierHasItsMap, SwitchIsEmitted};
 
 /// Of a model without child programs each run of an emitted design from reset has one command in flight and refines the model.
 pub fn emitted_runs_refine()
@@ -33,6 +33,11 @@ pub fn bench_models_have_their_obligations()
 /// A switch, a model of one state that its one instruction turns, has an emitted module.
 pub fn the_switch_is_emitted()
     ensures { SwitchIsEmitted }
+{}
+
+/// Of two stores at one address in the update of a memory the last one stands.
+pub fn the_last_store_stands()
+    ensures { LastStoreStands }
 {}
 
 /// The text of the counter's map.
