@@ -115,7 +115,7 @@ sound_modules d accepts shapely =
       shapely = shapely;
     }
 
-got : {A : Type 0} (xs : List A) (k : ℕ) (x : A) → k < length xs → slice_index_or xs k x ≡ x → slice_get xs k ≡ Some x
+pub got : {A : Type 0} (xs : List A) (k : ℕ) (x : A) → k < length xs → slice_index_or xs k x ≡ x → slice_get xs k ≡ Some x
 got [] k x l e = absurd (omega (arith, l))
 got (y ∷ xs) zero x l e = ap Some e
 got (y ∷ xs) (suc k) x l e = got xs k x (omega (arith, l)) e

@@ -9,3 +9,12 @@ pub mod Dots
 pub mod Fits
 pub mod ReadBack
 pub mod Replays
+pub mod FileModels
+pub mod ObligationNames
+pub mod SourceNames
+pub mod TraceNames
+pub mod DistinctNames
+pub mod Bounds
+pub mod ShortFiles
+pub mod Invariants
+pub mod Printing

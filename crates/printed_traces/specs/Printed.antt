@@ -1,5 +1,6 @@
--- Traces that are printed and read back: what a report prints for a trace is read as that trace, and bytes say one trace.
-use Rattle.std.specs.Prelude.{◌≡◌, ℕ, Bool, not, ◌&&◌, ◌==◌, nat_le, List, Contains, IsTrue}
+-- Traces that are printed, read back and replayed: what a report prints for a trace is read as that trace, bytes say one trace, and a trace
+-- of values that falsify an obligation replays so.
+use Rattle.std.specs.Prelude.{◌≡◌, ℕ, ◌≤◌, ◌^◌, Bool, not, ◌&&◌, ◌==◌, nat_le, List, length, Contains, IsTrue}
 use Rattle.std.specs.List.{list_all}
 use Rattle.wb_values.specs.Value.{Name, Value, Entries}
 use Rattle.verilog_meaning.specs.Settled.{names_of}
@@ -9,8 +10,9 @@ use Rattle.refinement.specs.Obligation.{Obligation, Falsifies, obligations}
 use Rattle.verilog_designs.specs.Accepted.{IsAccepted}
 use Rattle.verilog_exists.specs.Exists.{IsShapely, NamesHaveNoDots}
 use Rattle.reports.specs.Report.{Trace, trace_text, IsTraceOf}
-use Rattle.trace_files.specs.Meaning.{SaysTrace, traces, IsTraceReading}
+use Rattle.trace_files.specs.Meaning.{SaysTrace, TraceReading, traces, IsTraceReading}
 use Rattle.trace_files.specs.Replay.{Replayed, falsifies, IsToldBy, IsSo}
+use Rattle.check_cases.specs.Files.{IsSettingOf}
 
 -- a printable byte that JSON writes as itself: neither the quotation mark nor the backslash
 abbrev pub is_plain_byte : ℕ → Bool
@@ -46,3 +48,18 @@ abbrev pub FalsifyingTracesReplay : Type 0
 FalsifyingTracesReplay =
     (s : Setting) (o : Obligation) (run : Run) (t : Trace) (answer : Replayed) → Falsifies s run o → IsTraceOf s o run t
     → ((r : Run) → IsRun s r o.cycles → IsToldBy s r t → IsSo s r o answer) → answer ≡ falsifies
+
+-- The text of the trace is read as that trace of that obligation, and as nothing else; and whatever answer holds of the obligation in each
+-- run that the trace tells is that the run falsifies it.
+pub record ReplaysAsFalsifying (s : Setting) (o : Obligation) (t : Trace) : Type 0 where
+  pub is_read : IsTraceReading s (trace_text t) (traces o t)
+  pub one_reading : (r : TraceReading) → IsTraceReading s (trace_text t) r → r ≡ traces o t
+  pub one_answer : (answer : Replayed) → ((u : Run) → IsRun s u o.cycles → IsToldBy s u t → IsSo s u o answer) → answer ≡ falsifies
+
+-- A trace that a report prints replays so: one of an obligation, and of a run that falsifies it, for a setting that files stand for. The
+-- map's file has at most 2^64 bytes.
+abbrev pub PrintedTracesReplay : Type 0
+PrintedTracesReplay =
+    (model_bytes map_bytes : List ℕ) (designs : List (List ℕ)) (s : Setting) (o : Obligation) (run : Run) (t : Trace)
+    → IsSettingOf model_bytes map_bytes designs s → length map_bytes ≤ 2 ^ 64 → Contains (obligations s.model s.map) o
+    → Falsifies s run o → IsTraceOf s o run t → ReplaysAsFalsifying s o t

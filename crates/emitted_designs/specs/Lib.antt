@@ -1,0 +1,11 @@
+pub mod Names
+pub mod Bounds
+pub mod Size
+pub mod Map
+pub mod Module
+pub mod MicroStep
+pub mod Cycles
+pub mod Emits
+pub mod Bench
+pub mod Worked
+pub mod Laws
