@@ -1,0 +1,15 @@
+use Rattle.std.proofs.Common.{◌∙◌}
+use Rattle.gate_base.proofs.Copying.{asked_value}
+use Rattle.gate_base.proofs.assuming.finish.Goals as goal
+
+pub and-requires-clause-y : goal.and-requires-clause-y
+and-requires-clause-y c = (c.in-Some.ensures c.args.circuit.now c.args.wanted c.requires).known
+
+pub returns : goal.returns
+returns c = record {
+  inputs = c.in_ok-bit.ensures.grows.inputs ∙ c.requires.inputs;
+  known = c.in_ok-bit.ensures.bit.known;
+  determined = c.is_determined.ensures.determined;
+  value = asked_value c.args.circuit.now c.args.wanted c.args.copier c.and.new.self c.in-Some.own c.in_ok-bit.bit c.in_ok-bit.ensures.grows c.in_ok-bit.ensures.bit
+      (c.in-Some.ensures c.args.circuit.now c.args.wanted c.requires) c.requires;
+}
