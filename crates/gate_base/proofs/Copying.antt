@@ -1,7 +1,7 @@
 -- Copies of parts of a circuit: what is worth the same where a bit is true stays so while the copy grows, and with more that is known.
 use Rattle.std.proofs.Common.{◌≡◌, ◌∙◌, ℕ, zero, suc, ◌+◌, ◌<◌, ◌≤◌, Bool, true, false, not, cond, ◌&&◌, List, [], ◌∷◌, length, get_or, set, replicate, slice_get, IfSome, Option, Some, None, Vec, Global, ◌⊎◌, inl, inr, refl, sym, ap, subst, arith}
 use Rattle.std.proofs.lemmas.Bool.{cases_eq, false≢true, and_parts, and_from}
-use Rattle.std.proofs.lemmas.List.{get_or-set_same, get_or-set_other, length-replicate}
+use Rattle.std.proofs.lemmas.List.{get_or-set_same, get_or-set_other, get_or-take, length-replicate}
 use Rattle.std.proofs.lemmas.Option.{none-some, same_Some}
 use Rattle.std.proofs.Math.ListN.{length-set}
 use Rattle.sat_base.specs.declared.literals.Lit.{Lit}
@@ -11,7 +11,7 @@ use Rattle.gate_base.specs.declared.bits.Bit.TheVariants.{Constant, Literal}
 use Rattle.gate_base.specs.declared.bits.Gate.{Gate}
 use Rattle.gate_base.specs.declared.bits.Gate.TheVariants.{And, Xor, Ite}
 use Rattle.gate_base.specs.declared.assuming.Copier.{Copier}
-use Rattle.gate_base.specs.Circuit.{Circuit, size, exactly_one, bit_value, gate_value, FollowsFrom, FollowsCircuit, IsBitBelow, IsKnown, Grows, Gives}
+use Rattle.gate_base.specs.Circuit.{Circuit, size, exactly_one, bit_value, gate_value, FollowsFrom, FollowsCircuit, IsBitBelow, IsKnown, IsDetermined, Grows, Gives}
 use Rattle.gate_base.proofs.Following.{placed_follows}
 use Rattle.gate_base.specs.Clauses.{IsGateBelow, AreOrdered}
 use Rattle.gate_base.specs.Assumed.{AreJoined, truth_at, bit_at, IsFact, AreFacts, IsSameWhere, IsLike, HasWorth, IsCopying}
@@ -257,3 +257,40 @@ pub asked_value : (c : Circuit) (l : Lit) (k : Copier) (e : Circuit) (own bit : 
 asked_value c l k e own bit g is like h w u j =
     let back = joined_back c k.fresh e w u g j in
     is.value u j.second ∙ meet (bit_value u k.all) (bit_value u own) (value w l) (h.follows w u back) (like.value w u back)
+
+-- the first so many values, with false for those that are not there
+abbrev front : ℕ → List Bool → List Bool
+front zero w = []
+front (suc n) [] = false ∷ front n []
+front (suc n) (b ∷ bs) = b ∷ front n bs
+
+front_count : (n : ℕ) (w : List Bool) → length (front n w) ≡ n
+front_count zero w = refl
+front_count (suc n) [] = ap suc (front_count n [])
+front_count (suc n) (b ∷ bs) = ap suc (front_count n bs)
+
+front_at : (n k : ℕ) (w : List Bool) → k < n → get_or (front n w) k false ≡ get_or w k false
+front_at zero k w l = absurd (omega (arith, l))
+front_at (suc n) zero [] l = refl
+front_at (suc n) (suc k) [] l = front_at n k [] (omega (arith, l)) ∙ none_there k
+  where
+    none_there : (k : ℕ) → get_or [] k false ≡ false
+    none_there zero = refl
+    none_there (suc k) = refl
+front_at (suc n) zero (b ∷ bs) l = refl
+front_at (suc n) (suc k) (b ∷ bs) l = front_at n k bs (omega (arith, l))
+
+-- where the copy is never true, nor is the literal
+pub never : (c : Circuit) (l : Lit) (k : Copier) (e : Circuit) (own bit : Bit) → Grows k.fresh e → Gives e bit (λ u. bit_value u k.all && bit_value u own)
+    → IsLike c k.fresh k.all own (λ w. value w l) → IsCopying c l k → IsDetermined e → bit ≡ Constant false → (w : List Bool) → FollowsCircuit w c → false ≡ value w l
+never c l k e own bit g is like h determined at w f =
+    let inputs : e.inputs ≡ c.inputs = g.inputs ∙ h.inputs in
+    let u = determined.some (front e.inputs w) (front_count e.inputs w) in
+    let joined : AreJoined c e w u.0 = record {
+      first = f;
+      second = u.3;
+      inputs = λ v m.
+          let n : v < e.inputs = omega (arith, m, inputs) in
+          sym (get_or-take e.inputs u.0 v false n) ∙ (ap (λ xs. get_or xs v false) u.2 ∙ front_at e.inputs v w n);
+    } in
+    sym (ap (bit_value u.0) at) ∙ asked_value c l k e own bit g is like h w u.0 joined

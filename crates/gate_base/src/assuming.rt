@@ -74,7 +74,7 @@ fn copied(alloc: Global, circuit: &Builder, wanted: Lit) -> Result<Option<Asked>
             return Ok(None);
         }
     }
-    finish(circuit, copier, wanted)
+    finish(alloc, circuit, copier, wanted)
 }
 
 /// The truth values of variables where the wanted literal is true, if they are known: both operands of a gate that gives whether both are
@@ -361,8 +361,13 @@ fn put_worth(worth: &mut Vec<Option<bool>>, bit: Bit)
     }
 }
 
-/// The question of the copy: all facts hold, and the copy of the wanted literal is true.
-fn finish(circuit: &Builder, copier: Copier, wanted: Lit) -> Result<Option<Asked>, NoMemory>
+/// The question of the copy: all facts hold, and the copy of the wanted literal is true. Where that is never so, no gate is asked.
+fn finish(
+    alloc: Global,
+    circuit: &Builder,
+    copier: Copier,
+    wanted: Lit,
+) -> Result<Option<Asked>, NoMemory>
     requires { IsCopying circuit.now wanted copier }
     ensures { IfOk result (λ o. IfSome o (λ q. IsAsked circuit.now (Literal wanted) q.circuit q.wanted)) }
 {
@@ -377,6 +382,13 @@ fn finish(circuit: &Builder, copier: Copier, wanted: Lit) -> Result<Option<Asked
         all,
     } = copier;
     let bit = fresh.and(all, own)?;
+    fresh.is_determined();
+    if bit == Bit::Constant(false) {
+        return Ok(Some(Asked {
+            circuit: Builder::new(alloc, circuit.inputs()),
+            wanted: Bit::Constant(false),
+        }));
+    }
     Ok(Some(Asked {
         circuit: fresh,
         wanted: bit,
