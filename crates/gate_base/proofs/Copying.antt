@@ -121,11 +121,6 @@ read_truth (y ∷ ts) (suc k) x b l e q = read_truth ts k x b (omega (arith, l))
 pub variable_is : (c : Circuit) (v k : ℕ) (g h : Gate) → v ≡ c.inputs + k → slice_get c.gates k ≡ Some g → g ≡ h → (w : List Bool) → FollowsCircuit w c → variable_value w v ≡ gate_value w h
 variable_is c v k g h e at same w f = ap (variable_value w) e ∙ (placed_follows c.inputs w c.gates k g at f ∙ ap (gate_value w) same)
 
-pub gate_below_more : (n m : ℕ) (g : Gate) → n ≤ m → IsGateBelow n g → IsGateBelow m g
-gate_below_more n m (And x y) l b = (omega (arith, l, b.0), omega (arith, l, b.1))
-gate_below_more n m (Xor x y) l b = (omega (arith, l, b.0), omega (arith, l, b.1))
-gate_below_more n m (Ite c x y) l b = (omega (arith, l, b.0), omega (arith, l, b.1), omega (arith, l, b.2))
-
 pub some_weaker : {A : Type 0} (P Q : A → Type 0) (o : Option A) → ((x : A) → P x → Q x) → IfSome o P → IfSome o Q
 some_weaker P Q (Some x) f h = f x h
 some_weaker P Q None f h = tt
