@@ -87,7 +87,7 @@ gives_gate inputs var gs hs g e v = record {
 }
 
 -- the variable of the gate at a place has what the gate gives
-placed_follows : (v : ℕ) (w : List Bool) (gs : List Gate) (k : ℕ) (g : Gate) → slice_get gs k ≡ Some g → FollowsFrom v w gs → variable_value w (v + k) ≡ gate_value w g
+pub placed_follows : (v : ℕ) (w : List Bool) (gs : List Gate) (k : ℕ) (g : Gate) → slice_get gs k ≡ Some g → FollowsFrom v w gs → variable_value w (v + k) ≡ gate_value w g
 placed_follows v w [] k g e f = absurd (none-some g e)
 placed_follows v w (h ∷ gs) zero g e f =
     let s : v ≡ v + 0 = omega arith in

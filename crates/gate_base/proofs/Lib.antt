@@ -1,3 +1,4 @@
 pub mod Following
+pub mod Copying
 pub mod Satisfying
 pub mod Questions

@@ -1,3 +1,4 @@
+pub mod Assumed
 pub mod Circuit
 pub mod Clauses
 pub mod Keys

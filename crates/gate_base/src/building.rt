@@ -2,7 +2,7 @@
 
 ghost use Rattle.std.specs.Prelude.{◌≡◌, ◌+◌, ◌<◌, ◌^◌, ℕ, List, Bool, [], length, not, ◌&&◌, ◌||◌, cond, false, slice_get, Some, IfOk, IfSome, OnErr};
 ghost use Rattle.gate_base.specs.Circuit.{size, bit_value, exactly_one, IsKnown, Grows, Gives, IsDetermined, IsFormulaOf};
-ghost use Rattle.gate_base.specs.Clauses.{IsGateBelow, clauses_from};
+ghost use Rattle.gate_base.specs.Clauses.{IsGateBelow, AreOrdered, clauses_from};
 ghost use Rattle.gate_base.specs.Circuit.{gate_value};
 ghost use Rattle.gate_base.specs.declared.bits.Bit.TheVariants.{Literal};
 
@@ -181,6 +181,47 @@ impl Builder {
                 }
             }
         }
+    }
+
+    /// The number of inputs.
+    pub(crate) fn inputs(&self) -> u64
+        ensures { result ≡ self.now.inputs }
+    {
+        self.inputs
+    }
+
+    /// The number of gates.
+    pub(crate) fn gate_count(&self) -> usize
+        ensures { result ≡ length self.now.gates }
+    {
+        self.gates.len()
+    }
+
+    /// The number of variables.
+    pub(crate) fn vars(&self) -> Result<usize, NoMemory>
+        ensures { IfOk result (λ n. n ≡ size self.now) }
+    {
+        match self.inputs.checked_add(self.gates.len() as u64) {
+            Some(vars) => Ok(vars as usize),
+            None => Err(NoMemory),
+        }
+    }
+
+    /// The gate at a place.
+    pub(crate) fn gate(&self, place: usize) -> Gate
+        requires { place < length self.now.gates }
+        ensures here { slice_get self.now.gates place ≡ Some result }
+        ensures below { IsGateBelow (self.now.inputs + place) result }
+    {
+        self.gates[place]
+    }
+
+    /// Each assignment of the inputs goes on to one that follows the circuit, and each gate stands on variables before its own.
+    pub(crate) fn is_determined(&self)
+        ensures determined { IsDetermined self.now }
+        ensures ordered { AreOrdered self.now.inputs self.now.gates }
+    {
+        let _ = &self.inputs;
     }
 
     /// The formula that says what every gate gives, and that a bit is true.

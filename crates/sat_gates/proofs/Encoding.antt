@@ -1,8 +1,8 @@
 -- The formula of the circuit of a term encodes the term.
-use Rattle.std.proofs.Common.{◌≡◌, ◌∙◌, ℕ, ◌+◌, ◌<◌, ◌≤◌, Bool, true, false, List, [], ◌∷◌, ◌++◌, length, map, take, get_or, Option, Some, None, Contains, arith, sym, ap, subst}
+use Rattle.std.proofs.Common.{◌≡◌, ◌∙◌, ℕ, zero, suc, refl, ◌+◌, ◌<◌, ◌≤◌, Bool, true, false, List, [], ◌∷◌, ◌++◌, length, map, take, get_or, Option, Some, None, Contains, arith, sym, ap, subst}
 use Rattle.std.proofs.lemmas.List.{get_or-take, ext_get_or, length-take-le}
 use Rattle.std.specs.Prelude.{not as truth_not, is_some}
-use Rattle.std.proofs.lemmas.Bool.{false≢true, not-true, and_parts}
+use Rattle.std.proofs.lemmas.Bool.{false≢true, and_parts}
 use Rattle.wb_values.specs.Value.{Name, Sort, truth, word, memory, truth_value, as_truth, Valuation}
 use Rattle.model_meaning.specs.Term.{Term, name, constant_truth, const, not, neg, and, or, xor, add, sub, mul, shl, lshr, ashr, eq, ult, ule, slt, sle, concat, extract, zext, sext, ite, load, store, sort_of, val}
 use Rattle.sat_gates.proofs.Using.{of_one, of_two, of_none}
@@ -10,6 +10,7 @@ use Rattle.wb_terms.specs.Graph.{Graph, HasDistinctNames, tree}
 use Rattle.sat_base.specs.Formula.{Formula, variable_value}
 use Rattle.gate_base.specs.declared.bits.Bit.{Bit}
 use Rattle.gate_base.specs.Circuit.{Circuit, size, bit_value, FollowsCircuit, IsDetermined, IsFormulaOf}
+use Rattle.gate_base.specs.Assumed.{AreJoined, IsAsked}
 use Rattle.sat_gates.specs.Names.{names_in, is_blastable}
 use Rattle.sat_gates.specs.Encodes.{Writes, GivesSorts, RestrictsTo, Encodes}
 use Rattle.sat_gates.specs.Layout.{bit_count, variables_from, variables_of, firsts_of, end_of, IsLaidOut, IsNumbered}
@@ -92,23 +93,64 @@ bit_names (sext w x) b n s h = bit_names x b n s h
 bit_names (ite c x y) b n s h = let p = and_parts _ _ b in let q = and_parts _ _ p.1 in of_two BitSort (names_in c) (names_in x ++ names_in y) (bit_names c p.0) (of_two BitSort (names_in x) (names_in y) (bit_names x q.0) (bit_names y q.1)) n s h
 bit_names (store x y z) b n s h = absurd (false≢true b)
 
--- what is known when the formula stands
-pub record IsBlastedTo (g : Graph) (root : ℕ) (used : List Bool) (firsts : List (Option ℕ)) (c : Circuit) (bit : Bit) (wanted : Bit) (f : Formula) : Type 0 where
+-- What is known when the formula stands: the circuit `old` has a bit for the term, and the formula is that of the same question of the
+-- circuit c.
+pub record IsBlastedTo (g : Graph) (root : ℕ) (used : List Bool) (firsts : List (Option ℕ)) (old c : Circuit) (bit turned wanted : Bit) (f : Formula) : Type 0 where
   pub laid : IsLaid g root used firsts c.inputs
   pub truth_sort : sort_of (tree g root) ≡ Some truth
   pub blastable : is_blastable (tree g root) ≡ true
-  pub bits : AreBitsOf (tree g root) (variables_of g.names firsts) c (tree g root) (bit ∷ [])
-  pub negated : (w : List Bool) → bit_value w wanted ≡ truth_not (bit_value w bit)
+  pub bits : AreBitsOf (tree g root) (variables_of g.names firsts) old (tree g root) (bit ∷ [])
+  pub negated : (w : List Bool) → bit_value w turned ≡ truth_not (bit_value w bit)
+  pub asked : IsAsked old turned c wanted
   pub formula : IsFormulaOf c wanted f
   pub determined : IsDetermined c
 
--- an assignment that follows the circuit and restricts to a valuation gives the bit the term's value
-the_bit : (g : Graph) (root : ℕ) (used : List Bool) (firsts : List (Option ℕ)) (c : Circuit) (bit wanted : Bit) (f : Formula) → IsBlastedTo g root used firsts c bit wanted f
-    → (a : List Bool) (v : Valuation) → FollowsCircuit a c → RestrictsTo (variables_of g.names firsts) a v (tree g root) → val (tree g root) v ≡ truth_value (bit_value a bit)
-the_bit g root used firsts c bit wanted f h a v follows r =
-    let w = subst (λ o. WritesOf o (val (tree g root) v) (bit_value a bit ∷ [])) h.truth_sort (h.bits.value a v follows r) in
-    let p = truth_written (val (tree g root) v) (bit_value a bit ∷ []) w in
-    p.0 ∙ ap truth_value (sym (ap (λ bs. get_or bs 0 false) p.1))
+-- variables below a bound have the same values where the assignments agree below it
+same_variables : (a w : List Bool) (inputs first n : ℕ) → first + n ≤ inputs → ((k : ℕ) → k < inputs → variable_value a k ≡ variable_value w k)
+    → map (variable_value a) (variables_from first n) ≡ map (variable_value w) (variables_from first n)
+same_variables a w inputs first zero l same = refl
+same_variables a w inputs first (suc n) l same =
+    ap (λ b. b ∷ map (variable_value a) (variables_from (suc first) n)) (same first (omega (arith, l)))
+    ∙ ap (λ bs. variable_value w first ∷ bs) (same_variables a w inputs (suc first) n (omega (arith, l)) same)
+
+-- an assignment of the same inputs restricts to the same values
+also_restricts : (g : Graph) (root : ℕ) (used : List Bool) (firsts : List (Option ℕ)) (inputs : ℕ) → IsLaid g root used firsts inputs → (a w : List Bool) (v : Valuation)
+    → ((k : ℕ) → k < inputs → variable_value a k ≡ variable_value w k)
+    → RestrictsTo (variables_of g.names firsts) a v (tree g root) → RestrictsTo (variables_of g.names firsts) w v (tree g root)
+also_restricts g root used firsts inputs l a w v same r n s stands =
+    let u = l.are_used.all n s stands in
+    let e = entry_at g.names u.0 in
+    let has = has_variables g root used firsts inputs l u.0 u.1 (subst (λ (x : Name × Sort). Contains (names_in (tree g root)) x) (sym u.2) stands) in
+    let here : map (variable_value a) (variables_of g.names firsts e.0) ≡ map (variable_value w) (variables_of g.names firsts e.0) =
+    ap (map (variable_value a)) has.4 ∙ (same_variables a w inputs has.0 (bit_count e.1) has.3 same ∙ sym (ap (map (variable_value w)) has.4)) in
+    let there : map (variable_value a) (variables_of g.names firsts n) ≡ map (variable_value w) (variables_of g.names firsts n) =
+    subst (λ (x : Name × Sort). map (variable_value a) (variables_of g.names firsts x.0) ≡ map (variable_value w) (variables_of g.names firsts x.0)) u.2 here in
+    subst (λ bs. Writes s (v n) bs) there (r n s stands)
+
+turned_twice : (b c d : Bool) → c ≡ truth_not b → d ≡ c → b ≡ truth_not d
+turned_twice true c d p q = sym (ap truth_not (q ∙ p))
+turned_twice false c d p q = sym (ap truth_not (q ∙ p))
+
+from_false : (b : Bool) → truth_not b ≡ false → b ≡ true
+from_false true e = refl
+from_false false e = absurd (false≢true (sym e))
+
+-- an assignment that follows the circuit and restricts to a valuation tells the term's value by the wanted bit
+the_bit : (g : Graph) (root : ℕ) (used : List Bool) (firsts : List (Option ℕ)) (old c : Circuit) (bit turned wanted : Bit) (f : Formula) → IsBlastedTo g root used firsts old c bit turned wanted f
+    → (a : List Bool) (v : Valuation) → length a ≡ size c → FollowsCircuit a c → RestrictsTo (variables_of g.names firsts) a v (tree g root)
+    → val (tree g root) v ≡ truth_value (truth_not (bit_value a wanted))
+the_bit g root used firsts old c bit turned wanted f h a v whole follows r =
+    let inputs : c.inputs ≡ old.inputs = h.asked.inputs in
+    let long : length (take c.inputs a) ≡ c.inputs = length-take-le c.inputs a (omega (arith, whole)) in
+    let w = h.asked.determined.some (take c.inputs a) (long ∙ inputs) in
+    let same : (k : ℕ) → k < c.inputs → variable_value a k ≡ variable_value w.0 k =
+    λ k l. sym (get_or-take c.inputs a k false l) ∙ (ap (λ xs. get_or xs k false) (sym w.2) ∙ get_or-take old.inputs w.0 k false (omega (arith, l, inputs))) in
+    let joined : AreJoined old c w.0 a = record { first = w.3; second = follows; inputs = λ k l. same k (omega (arith, l, inputs)) } in
+    let written = subst (λ o. WritesOf o (val (tree g root) v) (bit_value w.0 bit ∷ [])) h.truth_sort
+    (h.bits.value w.0 v w.3 (also_restricts g root used firsts c.inputs h.laid a w.0 v same r)) in
+    let p = truth_written (val (tree g root) v) (bit_value w.0 bit ∷ []) written in
+    let is : bit_value w.0 bit ≡ truth_not (bit_value a wanted) = turned_twice (bit_value w.0 bit) (bit_value w.0 turned) (bit_value a wanted) (h.negated w.0) (h.asked.value w.0 a joined) in
+    p.0 ∙ ap truth_value (sym (ap (λ bs. get_or bs 0 false) p.1) ∙ is)
 
 restricts : (g : Graph) (root : ℕ) (used : List Bool) (firsts : List (Option ℕ)) (inputs : ℕ) → IsLaid g root used firsts inputs → is_blastable (tree g root) ≡ true
     → (a : List Bool) (v : Valuation) → GivesSorts v (tree g root) → HasFrom a 0 (inputs_for v g.names used) → RestrictsTo (variables_of g.names firsts) a v (tree g root)
@@ -128,19 +170,19 @@ writes_all g root used firsts inputs l a v r = λ j i m.
     subst (λ xs. Writes e.1 (v e.0) (map (variable_value a) xs)) vars (r e.0 e.1 (l.are_used.none_else j m))
 
 -- the circuit's inputs are the bits of the names, so an assignment that restricts to values has them there
-same_front : (g : Graph) (root : ℕ) (used : List Bool) (firsts : List (Option ℕ)) (c : Circuit) (bit wanted : Bit) (f : Formula) → IsBlastedTo g root used firsts c bit wanted f
+same_front : (g : Graph) (root : ℕ) (used : List Bool) (firsts : List (Option ℕ)) (old c : Circuit) (bit turned wanted : Bit) (f : Formula) → IsBlastedTo g root used firsts old c bit turned wanted f
     → (v : Valuation) (a b : List Bool) → length a ≡ size c → length b ≡ size c → RestrictsTo (variables_of g.names firsts) a v (tree g root)
     → RestrictsTo (variables_of g.names firsts) b v (tree g root) → take c.inputs a ≡ take c.inputs b
-same_front g root used firsts c bit wanted f h v a b na nb p q =
+same_front g root used firsts old c bit turned wanted f h v a b na nb p q =
     let agree = same_inputs a b v 0 g.names used h.laid.are_used.room (writes_all g root used firsts c.inputs h.laid a v p) (writes_all g root used firsts c.inputs h.laid b v q) in
     ext_get_or false (take c.inputs a) (take c.inputs b)
     (length-take-le c.inputs a (omega (arith, na)) ∙ sym (length-take-le c.inputs b (omega (arith, nb))))
     (λ i k. let below : i < c.inputs = omega (arith, k, length-take-le c.inputs a (omega (arith, na))) in
     get_or-take c.inputs a i false below ∙ (agree i (omega arith) (omega (arith, below, h.laid.end)) ∙ sym (get_or-take c.inputs b i false below)))
 
-pub encoded : (g : Graph) (root : ℕ) (used : List Bool) (firsts : List (Option ℕ)) (c : Circuit) (bit wanted : Bit) (f : Formula) → IsBlastedTo g root used firsts c bit wanted f
+pub encoded : (g : Graph) (root : ℕ) (used : List Bool) (firsts : List (Option ℕ)) (old c : Circuit) (bit turned wanted : Bit) (f : Formula) → IsBlastedTo g root used firsts old c bit turned wanted f
     → Encodes f (variables_of g.names firsts) (tree g root)
-encoded g root used firsts c bit wanted f h = record {
+encoded g root used firsts old c bit turned wanted f h = record {
   question = h.formula.question;
   some = λ v sorts.
       let inputs = inputs_for v g.names used in
@@ -158,11 +200,11 @@ encoded g root used firsts c bit wanted f h = record {
   one = λ v a b p q.
       let na : length a ≡ size c = p.follows.whole ∙ h.formula.vars in
       let nb : length b ≡ size c = q.follows.whole ∙ h.formula.vars in
-      h.determined.one a b na nb (same_front g root used firsts c bit wanted f h v a b na nb p.restricts q.restricts)
+      h.determined.one a b na nb (same_front g root used firsts old c bit turned wanted f h v a b na nb p.restricts q.restricts)
       ((h.formula.follows a).0 p.follows.gates) ((h.formula.follows b).0 q.follows.gates);
   asks = λ v a p.
-      let told = the_bit g root used firsts c bit wanted f h a v ((h.formula.follows a).0 p.follows.gates) p.restricts in (
-        λ so. told ∙ ap truth_value (not-true (bit_value a bit) (sym (h.negated a) ∙ (h.formula.asks a).0 so)),
-        λ e. (h.formula.asks a).1 (h.negated a ∙ ap truth_not (ap as_truth (sym told ∙ e))),
+      let told = the_bit g root used firsts old c bit turned wanted f h a v (p.follows.whole ∙ h.formula.vars) ((h.formula.follows a).0 p.follows.gates) p.restricts in (
+        λ so. told ∙ ap (λ b. truth_value (truth_not b)) ((h.formula.asks a).0 so),
+        λ e. (h.formula.asks a).1 (from_false (bit_value a wanted) (ap as_truth (sym told ∙ e))),
       );
 }

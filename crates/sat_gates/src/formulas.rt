@@ -11,7 +11,7 @@ ghost use Rattle.sat_gates.specs.Layout.{variables_of, IsNumbered};
 use crate::blasting::put_term;
 use crate::layout::{BitMap, lay_out, used_names};
 use crate::reach::cone;
-use gate_base::Builder;
+use gate_base::{Builder, assumed};
 use sat_base::{Cnf, NoMemory};
 use std::alloc::Global;
 use wb_terms::{TermId, Terms};
@@ -27,7 +27,7 @@ pub struct Blasted {
 
 /// The formula in conjunctive normal form that is satisfied where a term is false.
 /// The bits of the names of the term have the first variables, in the order of declaration; then there is one variable for each gate.
-/// Only the terms on which it stands are looked at, each once.
+/// Only the terms on which it stands are looked at, each once. Gates whose values are known where the term is false are left out.
 pub fn blast(alloc: Global, terms: &Terms, id: TermId) -> Result<Blasted, NoMemory>
     requires id { id.0 < length terms.now.nodes }
     requires sort { sort_of (tree terms.now id.0) ≡ Some truth }
@@ -41,7 +41,8 @@ pub fn blast(alloc: Global, terms: &Terms, id: TermId) -> Result<Blasted, NoMemo
     let mut circuit = Builder::new(alloc, layout.inputs);
     let bit = put_term(alloc, &mut circuit, terms, id, &ids, &layout.map)?;
     let wanted = bit.negated();
-    let cnf = circuit.into_cnf(alloc, wanted)?;
+    let asked = assumed(alloc, circuit, wanted)?;
+    let cnf = asked.circuit.into_cnf(alloc, asked.wanted)?;
     Ok(Blasted {
         cnf,
         map: layout.map,

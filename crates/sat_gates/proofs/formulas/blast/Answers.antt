@@ -29,8 +29,8 @@ put_term-requires-clause-variables c =
     let laid : IsLaid g id used firsts c.new-circuit.result.inputs = record { distinct = c.lay_out.ensures.distinct; are_used = c.in_ok-used.ensures.used; are_firsts = are_firsts; end = start ∙ end } in
     has_variables g id used firsts c.new-circuit.result.inputs laid
 
-pub into_cnf-requires : goal.into_cnf-requires
-into_cnf-requires c = c.negated-wanted.ensures.known (size c.put_term.new.circuit) (All-head (IsKnown c.put_term.new.circuit) c.in_ok-bit.bit [] c.in_ok-bit.ensures.bit.known)
+pub assumed-requires : goal.assumed-requires
+assumed-requires c = c.negated-wanted.ensures.known (size c.put_term.new.circuit) (All-head (IsKnown c.put_term.new.circuit) c.in_ok-bit.bit [] c.in_ok-bit.ensures.bit.known)
 
 pub returns-clause-encodes : goal.returns-clause-encodes
 returns-clause-encodes c =
@@ -41,14 +41,15 @@ returns-clause-encodes c =
     let are_firsts : firsts ≡ firsts_of 0 g.names used = c.in_ok-layout.ensures.firsts in
     let end : c.in_ok-layout.layout.inputs ≡ end_of 0 g.names used = c.in_ok-layout.ensures.inputs in
     let start : c.new-circuit.result.inputs ≡ c.in_ok-layout.layout.inputs = ap (λ (x : Circuit). x.inputs) c.new-circuit.ensures in
-    let after : c.put_term.new.circuit.inputs ≡ end_of 0 g.names used = c.in_ok-bit.ensures.grows.inputs ∙ (start ∙ end) in
-    let laid : IsLaid g id used firsts c.put_term.new.circuit.inputs = record { distinct = c.lay_out.ensures.distinct; are_used = c.in_ok-used.ensures.used; are_firsts = are_firsts; end = after } in
-    encoded g id used firsts c.put_term.new.circuit c.in_ok-bit.bit c.negated-wanted.result c.in_ok-cnf.cnf (record {
+    let after : c.in_ok-asked.asked.circuit.inputs ≡ end_of 0 g.names used = c.in_ok-asked.ensures.inputs ∙ (c.in_ok-bit.ensures.grows.inputs ∙ (start ∙ end)) in
+    let laid : IsLaid g id used firsts c.in_ok-asked.asked.circuit.inputs = record { distinct = c.lay_out.ensures.distinct; are_used = c.in_ok-used.ensures.used; are_firsts = are_firsts; end = after } in
+    encoded g id used firsts c.put_term.new.circuit c.in_ok-asked.asked.circuit c.in_ok-bit.bit c.negated-wanted.result c.in_ok-asked.asked.wanted c.in_ok-cnf.cnf (record {
       laid = laid;
       truth_sort = c.requires.sort;
       blastable = c.requires.blastable;
       bits = c.in_ok-bit.ensures.bit;
       negated = c.negated-wanted.ensures.value;
+      asked = c.in_ok-asked.ensures;
       formula = c.in_ok-cnf.ensures.formula;
       determined = c.in_ok-cnf.ensures.determined;
     })
@@ -62,7 +63,7 @@ returns-clause-numbered c =
     let are_firsts : firsts ≡ firsts_of 0 g.names used = c.in_ok-layout.ensures.firsts in
     let end : c.in_ok-layout.layout.inputs ≡ end_of 0 g.names used = c.in_ok-layout.ensures.inputs in
     let start : c.new-circuit.result.inputs ≡ c.in_ok-layout.layout.inputs = ap (λ (x : Circuit). x.inputs) c.new-circuit.ensures in
-    let after : c.put_term.new.circuit.inputs ≡ end_of 0 g.names used = c.in_ok-bit.ensures.grows.inputs ∙ (start ∙ end) in
-    let laid : IsLaid g id used firsts c.put_term.new.circuit.inputs = record { distinct = c.lay_out.ensures.distinct; are_used = c.in_ok-used.ensures.used; are_firsts = are_firsts; end = after } in
-    let fits : c.put_term.new.circuit.inputs ≤ c.in_ok-cnf.cnf.vars = omega (arith, c.in_ok-cnf.ensures.formula.vars) in
-    numbered g id used firsts c.put_term.new.circuit.inputs c.in_ok-cnf.cnf.vars laid fits
+    let after : c.in_ok-asked.asked.circuit.inputs ≡ end_of 0 g.names used = c.in_ok-asked.ensures.inputs ∙ (c.in_ok-bit.ensures.grows.inputs ∙ (start ∙ end)) in
+    let laid : IsLaid g id used firsts c.in_ok-asked.asked.circuit.inputs = record { distinct = c.lay_out.ensures.distinct; are_used = c.in_ok-used.ensures.used; are_firsts = are_firsts; end = after } in
+    let fits : c.in_ok-asked.asked.circuit.inputs ≤ c.in_ok-cnf.cnf.vars = omega (arith, c.in_ok-cnf.ensures.formula.vars) in
+    numbered g id used firsts c.in_ok-asked.asked.circuit.inputs c.in_ok-cnf.cnf.vars laid fits
