@@ -6,3 +6,5 @@ mod BenchObligations
 mod BenchRules
 mod Switch
 mod Stores
+mod Child
+mod Nested
