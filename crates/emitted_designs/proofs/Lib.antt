@@ -1,6 +1,7 @@
 mod Named
 mod Childless
 mod Refining
+mod Obligations
 mod BenchModels
 mod BenchObligations
 mod BenchRules

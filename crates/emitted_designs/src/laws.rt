@@ -1,10 +1,15 @@
 //! Laws on emitted designs and their maps, each the contract of a function without code.
-ghost use Rattle.emitted_designs.specs.Laws.{BenchModelsHaveNoChildren, BenchModelsHaveTheirObligations, BenchModelsHaveTheirSize, BenchModelsKeepTheRules, BenchTextsAreShort, EmittedRunsRefine, ModelsWithoutChildrenAreTotal, SmallModelsHaveShortTexts};
+ghost use Rattle.emitted_designs.specs.Laws.{BenchModelsHaveNoChildren, BenchModelsHaveTheirObligations, BenchModelsHaveTheirSize, BenchModelsKeepTheRules, BenchTextsAreShort, EmittedObligationsHold, EmittedRunsRefine, ModelsWithoutChildrenAreTotal, SmallModelsHaveShortTexts};
 ghost use Rattle.emitted_designs.specs.Worked.{ChildRuns, CounterHasItsMap, CounterHasItsSize, InnerChildEndsAlone, LastStoreStands, MultiplierHasItsBound, MultiplierHasItsMap, ResetEndsNothing, SwitchIsEmitted};
 
 /// Of a model without child programs each run of an emitted design from reset has one command in flight and refines the model.
 pub fn emitted_runs_refine()
     ensures { EmittedRunsRefine }
+{}
+
+/// Of a model without child programs each obligation of an emitted design holds.
+pub fn emitted_obligations_hold()
+    ensures { EmittedObligationsHold }
 {}
 
 /// A model without child programs is total.
