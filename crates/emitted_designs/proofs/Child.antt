@@ -22,7 +22,6 @@ only_one (suc k) o e = cc
 not_none : once ∷ [] ≡ [] → ⊥
 not_none e = cc
 
-
 module _ (x : Module) (run : Run) (cycles t : ℕ) (follows : FollowsModel (setting_of taker x) run cycles) (low : suc (suc t) < cycles)
     (quiet : ¬ IsResetAt (setting_of taker x) run t) (quiet_1 : ¬ IsResetAt (setting_of taker x) run (suc t))
     (starts : StartsAt (setting_of taker x) run t) where

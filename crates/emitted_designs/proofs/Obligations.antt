@@ -207,10 +207,11 @@ module _ (m : Model) (x : Module) (is_model : IsModel m) (childless : nesting_of
   all_hold =
       both s (reset_obligations m its_map ++ idle_obligations m its_map)
       (decode_obligation its_map ∷ all_instruction_obligations m its_map 0 (instructions_in m.top))
-      (both s (reset_obligations m its_map) (idle_obligations m its_map) resets idles)
-      (decodes,
-      of_instructions 0 (instructions_in m.top)
-      (λ k i e. (in_machine m.top k i childless e, has_entry (instructions_in m.top) k i e)))
+      (both s (reset_obligations m its_map) (idle_obligations m its_map) resets idles) (
+        decodes,
+        of_instructions 0 (instructions_in m.top)
+            (λ k i e. (in_machine m.top k i childless e, has_entry (instructions_in m.top) k i e)),
+      )
 
 pub emitted_obligations_hold : EmittedObligationsHold
 emitted_obligations_hold m x is_model childless emitted = all_hold m x is_model childless emitted

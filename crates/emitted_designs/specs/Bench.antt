@@ -62,8 +62,8 @@ bench_line n vs =
 abbrev pub bench_obligations : ℕ → List Obligation
 bench_obligations n = obligations (bench_model n) (emitted_map (bench_model n))
 
--- The text tells what a check of an emitted design of the model with n states finds of its obligations, with this budget for each. The design's
--- texts are accepted as files. Beside the text stand how the check ends, and what shows that the budget was spent.
+-- The text tells what a check of an emitted design of the model with n states finds of its obligations, with this budget for each. The design
+-- and its map are accepted when they are read again. Beside the text stand how the check ends, and what shows that the budget was spent.
 pub record IsBench (n budget : ℕ) (text : List ℕ) (ending : Ending) (spent : List Spent) : Type 0 where
   pub verilog : List ℕ
   pub refinement_map : List ℕ

@@ -60,7 +60,7 @@ pub data Emission : Type 0 where
   -- child programs nest deeper than is emitted yet
   not_yet : Emission
 
--- What is answered where child programs are emitted down to so many levels. Texts no longer than files may be are accepted as files.
+-- What is answered where child programs are emitted down to so many levels. Texts no longer than files may be are accepted.
 pub data IsEmission (levels : ℕ) (m : Model) : Emission → Type 0 where
   is_emitted : (verilog refinement_map : List ℕ) → nesting_of m.top ≤ levels → greatest_bound m ≤ most_cycles
       → (e : Emits m verilog refinement_map)

@@ -1,5 +1,5 @@
 -- Small models with their maps, their bounds and their sizes, one with an emitted module, and what an emitted module of some others does.
-use Rattle.std.specs.Prelude.{◌≡◌, ℕ, true, false, ◌++◌, List, [], ◌∷◌, None, Some, codes, suc, ◌<◌, length, slice_index}
+use Rattle.std.specs.Prelude.{◌≡◌, ℕ, true, false, ◌++◌, List, [], ◌∷◌, None, Some, codes, suc, ◌<◌, slice_index}
 use Rattle.wb_values.specs.Value.{Name, truth, word, memory, truth_value, as_number, as_words}
 use Rattle.model_meaning.specs.Term as term
 use Rattle.model_meaning.specs.Model.{Model, StateDeclaration, Machine, machine, Instruction, instruction, no_instructions, and_then, no_child, child}
@@ -117,12 +117,13 @@ writer = record {
       (and_then write_twice no_instructions);
 }
 
--- In each emitted module of it the last store of the chain stands: after the edge of a start without reset, the word at the address is 2.
+-- In each emitted module of it the last store of the chain stands: after the edge of a start without reset, the word at the address is 2, if
+-- that is one of the four addresses.
 abbrev pub LastStoreStands : Type 0
 LastStoreStands =
     (x : Module) (run : Run) (cycles t : ℕ) → IsEmittedModule writer x → IsRun (setting_of writer x) run cycles → t < cycles
     → ¬ IsResetAt (setting_of writer x) run t → StartsAt (setting_of writer x) run t
-    → as_number (inputs_at (setting_of writer x) run t address_name) < length (as_words (state_at (setting_of writer x) run t memory_name))
+    → as_number (inputs_at (setting_of writer x) run t address_name) < 4
     → slice_index (as_words (state_at (setting_of writer x) run (suc t) memory_name))
     (as_number (inputs_at (setting_of writer x) run t address_name))
     ≡ 2
