@@ -1,0 +1,37 @@
+//! Whether two memories have the same words.
+
+ghost use Rattle.std.specs.Prelude.{◌≡◌, ◌↔◌, IsTrue};
+ghost use Rattle.sparse_memories.specs.Nodes.{words_at, IsTree};
+
+use crate::pool::{Memory, Pool};
+
+impl Pool {
+    /// Whether two memories of 2^depth words are equal. What they share is not looked into.
+    pub fn is_same(&self, depth: u32, first: Memory, second: Memory) -> bool
+        requires first { IsTree self.now.nodes depth first.0 }
+        requires second { IsTree self.now.nodes depth second.0 }
+        ensures { IsTrue result ↔ (words_at self.now.nodes depth first.0 ≡ words_at self.now.nodes depth second.0) }
+    {
+        self.are_same(depth, first.0, second.0)
+    }
+
+    /// Whether the words at two links are equal.
+    fn are_same(&self, level: u32, first: u32, second: u32) -> bool
+        requires first { IsTree self.now.nodes level first }
+        requires second { IsTree self.now.nodes level second }
+        ensures { IsTrue result ↔ (words_at self.now.nodes level first ≡ words_at self.now.nodes level second) }
+    {
+        if first == second {
+            return true;
+        }
+        if level == 0 {
+            return self.leaf(first) == self.leaf(second);
+        }
+        let x = self.branch(first);
+        let y = self.branch(second);
+        if !self.are_same(level - 1, x.lower, y.lower) {
+            return false;
+        }
+        self.are_same(level - 1, x.upper, y.upper)
+    }
+}
