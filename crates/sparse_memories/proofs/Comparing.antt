@@ -4,7 +4,7 @@ use Rattle.std.proofs.lemmas.List.{take_at, drop_at}
 use Rattle.sparse_memories.specs.declared.pool.Branch.{Branch}
 use Rattle.sparse_memories.specs.Nodes.{Nodes, branch_at, words_at}
 use Rattle.sparse_memories.proofs.Trees.{both, length-words}
-use Rattle.sparse_memories.proofs.Storing.{words_of}
+use Rattle.sparse_memories.proofs.Storing.{words_by_halves}
 
 first_parts : (a b x y : List ℕ) (n : ℕ) → length a ≡ n → length b ≡ n → a ++ x ≡ b ++ y → a ≡ b
 first_parts a b x y n e f h = sym (take_at a x n e) ∙ ap (λ (z : List ℕ). take n z) h ∙ take_at b y n f
@@ -15,13 +15,13 @@ second_parts a b x y n e f h = sym (drop_at a x n e) ∙ ap (λ (z : List ℕ). 
 pub same_from_halves : (p : Nodes) (g h : Branch) (l b j k : ℕ) → g ≡ branch_at p j → h ≡ branch_at p k → l ≡ suc b
     → words_at p b g.lower ≡ words_at p b h.lower → words_at p b g.upper ≡ words_at p b h.upper → words_at p l j ≡ words_at p l k
 same_from_halves p g h l b j k i m e x y =
-    words_of p g l b j i e
+    words_by_halves p g l b j i e
     ∙ both (words_at p b g.lower) (words_at p b h.lower) (words_at p b g.upper) (words_at p b h.upper) x y
-    ∙ sym (words_of p h l b k m e)
+    ∙ sym (words_by_halves p h l b k m e)
 
 whole : (p : Nodes) (g h : Branch) (l b j k : ℕ) → g ≡ branch_at p j → h ≡ branch_at p k → l ≡ suc b
     → words_at p l j ≡ words_at p l k → words_at p b g.lower ++ words_at p b g.upper ≡ words_at p b h.lower ++ words_at p b h.upper
-whole p g h l b j k i m e s = sym (words_of p g l b j i e) ∙ s ∙ words_of p h l b k m e
+whole p g h l b j k i m e s = sym (words_by_halves p g l b j i e) ∙ s ∙ words_by_halves p h l b k m e
 
 pub same_lower_halves : (p : Nodes) (g h : Branch) (l b j k : ℕ) → g ≡ branch_at p j → h ≡ branch_at p k → l ≡ suc b
     → words_at p l j ≡ words_at p l k → words_at p b g.lower ≡ words_at p b h.lower

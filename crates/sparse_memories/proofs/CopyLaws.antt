@@ -5,10 +5,10 @@ use Rattle.std.proofs.lemmas.Bool.{cases_eq}
 use Rattle.std.proofs.lemmas.List.{length-replicate, length-set, get_or-set_same, get_or-set_other}
 use Rattle.sparse_memories.specs.declared.pool.Branch.{Branch}
 use Rattle.sparse_memories.specs.declared.copies.Copied.{Copied}
-use Rattle.sparse_memories.specs.Nodes.{Nodes, branch_at, words_at, IsTree, Keeps}
+use Rattle.sparse_memories.specs.Nodes.{Nodes, branch_at, words_at, IsTree, KeepsTrees}
 use Rattle.sparse_memories.specs.Copying.{AreCopies, copy_at}
 use Rattle.sparse_memories.proofs.Trees.{both}
-use Rattle.sparse_memories.proofs.Storing.{words_of, PutsWords}
+use Rattle.sparse_memories.proofs.Storing.{words_by_halves, PutsWords}
 
 abbrev none : Copied
 none = record { depth = 0; link = 0 }
@@ -27,7 +27,7 @@ no_copies cs n p q e f =
         let z : (copy_at cs k).depth ≡ 0 = ap (λ (x : List Copied). (copy_at x k).depth) e ∙ ap (λ (x : Copied). x.depth) (none_at n k) in
         omega (arith, h, z)
 
-pub copies_kept : (cs : List Copied) (p q r : Nodes) → AreCopies cs p q → Keeps q r → AreCopies cs p r
+pub copies_kept : (cs : List Copied) (p q r : Nodes) → AreCopies cs p q → KeepsTrees q r → AreCopies cs p r
 copies_kept cs p q r c kept = (
   c.0,
   λ k d h t.
@@ -67,7 +67,7 @@ copy_found cs p q c k l b i h e a t =
     (subst (λ (z : Copied). IsTree q (suc b) z.link × (words_at q (suc b) z.link ≡ words_at p (suc b) k)) (sym i) x)
 
 -- A branch over the copies of both halves.
-pub copied_words : (p o m s n : Nodes) (h : Branch) (l b k x y r : ℕ) → h ≡ branch_at p k → l ≡ suc b → IsTree o b x → words_at o b x ≡ words_at p b h.lower → Keeps o m
+pub copied_words : (p o m s n : Nodes) (h : Branch) (l b k x y r : ℕ) → h ≡ branch_at p k → l ≡ suc b → IsTree o b x → words_at o b x ≡ words_at p b h.lower → KeepsTrees o m
     → IsTree m b y → words_at m b y ≡ words_at p b h.upper → s ≡ m → PutsWords s n x y r → words_at n l r ≡ words_at p l k
 copied_words p o m s n h l b k x y r i e t lower kept u upper f put =
     let same = kept b x t in
@@ -75,9 +75,9 @@ copied_words p o m s n h l b k x y r i e t lower kept u upper f put =
     ap (λ (z : ℕ). words_at n z r) e
     ∙ there b same.0 u
     ∙ both (words_at m b x) (words_at p b h.lower) (words_at m b y) (words_at p b h.upper) (same.1 ∙ lower) upper
-    ∙ sym (words_of p h l b k i e)
+    ∙ sym (words_by_halves p h l b k i e)
 
-pub copied_tree : (o m s n : Nodes) (l b x y r : ℕ) → l ≡ suc b → IsTree o b x → Keeps o m → IsTree m b y → s ≡ m
+pub copied_tree : (o m s n : Nodes) (l b x y r : ℕ) → l ≡ suc b → IsTree o b x → KeepsTrees o m → IsTree m b y → s ≡ m
     → ((d : ℕ) → IsTree s d x → IsTree s d y → IsTree n (suc d) r) → IsTree n l r
 copied_tree o m s n l b x y r e t kept u f put =
     let there = subst (λ (z : Nodes). (d : ℕ) → IsTree z d x → IsTree z d y → IsTree n (suc d) r) f put in

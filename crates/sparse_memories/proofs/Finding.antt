@@ -6,7 +6,7 @@ use Rattle.sparse_memories.specs.declared.pool.Branch.{Branch}
 use Rattle.sparse_memories.specs.declared.listing.SetWord.{SetWord}
 use Rattle.sparse_memories.specs.Nodes.{Nodes, branch_at, words_at, zeros, set_words_from}
 use Rattle.sparse_memories.proofs.Trees.{length-words}
-use Rattle.sparse_memories.proofs.Storing.{words_of}
+use Rattle.sparse_memories.proofs.Storing.{words_by_halves}
 
 one_more : (t : Bool) (x : SetWord) (l m r : List SetWord) → l ≡ m ++ r → cond t l (x ∷ l) ≡ cond t m (x ∷ m) ++ r
 one_more true x l m r h = h
@@ -44,7 +44,7 @@ listed_halves p h l b k a half c old mid new i e f g m n =
     ∙ ap (λ (z : List SetWord). old ++ z)
     (ap (λ (q : ℕ). set_words_from a (words_at p b h.lower) ++ set_words_from q (words_at p b h.upper)) at
     ∙ sym (set_words-append a (words_at p b h.lower) (words_at p b h.upper))
-    ∙ ap (λ (z : List ℕ). set_words_from a z) (sym (words_of p h l b k i e)))
+    ∙ ap (λ (z : List ℕ). set_words_from a z) (sym (words_by_halves p h l b k i e)))
   where
     at : c ≡ a + length (words_at p b h.lower)
     at = omega (arith, f, g, length-words p b h.lower)

@@ -4,7 +4,7 @@ use Rattle.std.specs.Prelude.{replicate}
 use Rattle.std.proofs.Math.Nat.{pow-suc}
 use Rattle.std.proofs.lemmas.List.{length-append, replicate-append-replicate, get_or_append_left, get_or_push, length_push, take-replicate, drop-replicate}
 use Rattle.sparse_memories.specs.declared.pool.Branch.{Branch}
-use Rattle.sparse_memories.specs.Nodes.{Nodes, Content, branch_at, words_at, IsTree, zeros, HasZeros, Keeps}
+use Rattle.sparse_memories.specs.Nodes.{Nodes, Content, branch_at, words_at, IsTree, zeros, HasZeros, KeepsTrees}
 
 pub double : (d : ℕ) → 2 ^ d + 2 ^ d ≡ 2 ^ suc d
 double d = omega (arith, pow-suc 2 d)
@@ -103,8 +103,8 @@ nodes bs ls = record { branches = bs; leaves = ls }
 abbrev no_branch : Branch
 no_branch = record { lower = 0; upper = 0 }
 
-pub keeps_leaf : (bs : List Branch) (ls : List ℕ) (w : ℕ) (p : Nodes) → nodes bs ls ≡ p → Keeps p (nodes bs (ls ++ w ∷ []))
-keeps_leaf bs ls w p e = subst (λ (x : Nodes). Keeps x (nodes bs (ls ++ w ∷ []))) e (extended (nodes bs ls) (nodes bs (ls ++ w ∷ [])) grown)
+pub keeps_leaf : (bs : List Branch) (ls : List ℕ) (w : ℕ) (p : Nodes) → nodes bs ls ≡ p → KeepsTrees p (nodes bs (ls ++ w ∷ []))
+keeps_leaf bs ls w p e = subst (λ (x : Nodes). KeepsTrees x (nodes bs (ls ++ w ∷ []))) e (extended (nodes bs ls) (nodes bs (ls ++ w ∷ [])) grown)
   where
     grown : Extends (nodes bs ls) (nodes bs (ls ++ w ∷ []))
     grown = record {
@@ -114,8 +114,8 @@ keeps_leaf bs ls w p e = subst (λ (x : Nodes). Keeps x (nodes bs (ls ++ w ∷ [
       leaves = λ k i. get_or_append_left ls (w ∷ []) 0 k i;
     }
 
-pub keeps_branch : (bs : List Branch) (ls : List ℕ) (b : Branch) (p : Nodes) → nodes bs ls ≡ p → Keeps p (nodes (bs ++ b ∷ []) ls)
-keeps_branch bs ls b p e = subst (λ (x : Nodes). Keeps x (nodes (bs ++ b ∷ []) ls)) e (extended (nodes bs ls) (nodes (bs ++ b ∷ []) ls) grown)
+pub keeps_branch : (bs : List Branch) (ls : List ℕ) (b : Branch) (p : Nodes) → nodes bs ls ≡ p → KeepsTrees p (nodes (bs ++ b ∷ []) ls)
+keeps_branch bs ls b p e = subst (λ (x : Nodes). KeepsTrees x (nodes (bs ++ b ∷ []) ls)) e (extended (nodes bs ls) (nodes (bs ++ b ∷ []) ls) grown)
   where
     grown : Extends (nodes bs ls) (nodes (bs ++ b ∷ []) ls)
     grown = record {
@@ -156,3 +156,29 @@ new_zeros bs ls e f =
     subst (λ (x : List Branch). (d k : ℕ) → IsTree (nodes x ls) d k → words_at (nodes x ls) d k ≡ zeros d) (sym e)
     (subst (λ (y : List ℕ). (d k : ℕ) → IsTree (nodes (no_branch ∷ []) y) d k → words_at (nodes (no_branch ∷ []) y) d k ≡ zeros d) (sym f)
     (only_zeros (nodes (no_branch ∷ []) (0 ∷ [])) (record { branch = lit< tt; leaf = lit< tt; lower = refl; upper = refl; word = refl }) refl refl))
+
+-- What stands first in a pool, alone.
+pub first_stays : (bs : List Branch) (ls : List ℕ) → HasZeros (nodes bs ls) → HasZeros (nodes (take 1 bs) (take 1 ls))
+first_stays [] ls h = absurd (no_first h.branch)
+  where
+    no_first : 0 < 0 → ⊥
+    no_first l = omega (arith, l)
+first_stays (b ∷ bs) [] h = absurd (no_first h.leaf)
+  where
+    no_first : 0 < 0 → ⊥
+    no_first l = omega (arith, l)
+first_stays (b ∷ bs) (w ∷ ls) h = record { branch = lit< tt; leaf = lit< tt; lower = h.lower; upper = h.upper; word = h.word }
+
+length-first : {A : Type 0} (xs : List A) → 0 < length xs → length (take 1 xs) ≡ 1
+length-first [] l = absurd (no_first l)
+  where
+    no_first : 0 < 0 → ⊥
+    no_first l = omega (arith, l)
+length-first (x ∷ xs) l = refl
+
+pub first_alone : (bs cs : List Branch) (ls ms : List ℕ) → HasZeros (nodes bs ls) → cs ≡ take 1 bs → ms ≡ take 1 ls
+    → (d k : ℕ) → IsTree (nodes cs ms) d k → words_at (nodes cs ms) d k ≡ zeros d
+first_alone bs cs ls ms h e f =
+    subst (λ (x : List Branch). (d k : ℕ) → IsTree (nodes x ms) d k → words_at (nodes x ms) d k ≡ zeros d) (sym e)
+    (subst (λ (y : List ℕ). (d k : ℕ) → IsTree (nodes (take 1 bs) y) d k → words_at (nodes (take 1 bs) y) d k ≡ zeros d) (sym f)
+    (only_zeros (nodes (take 1 bs) (take 1 ls)) (first_stays bs ls h) (length-first bs h.branch) (length-first ls h.leaf)))

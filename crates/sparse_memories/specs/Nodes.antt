@@ -39,9 +39,9 @@ pub record HasZeros (p : Nodes) : Type 0 where
   pub upper : (branch_at p 0).upper ≡ 0
   pub word : slice_index p.leaves 0 ≡ 0
 
--- Each tree of the one pool is one of the other, with the same words.
-abbrev pub Keeps : Nodes → Nodes → Type 0
-Keeps p q = (d k : ℕ) → IsTree p d k → IsTree q d k × (words_at q d k ≡ words_at p d k)
+-- Each tree of the one list of nodes is one of the other, with the same words.
+abbrev pub KeepsTrees : Nodes → Nodes → Type 0
+KeepsTrees p q = (d k : ℕ) → IsTree p d k → IsTree q d k × (words_at q d k ≡ words_at p d k)
 
 -- The words other than 0 of a list with their addresses, where its first word has this address.
 abbrev pub set_words_from : ℕ → List ℕ → List SetWord

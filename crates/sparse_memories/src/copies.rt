@@ -1,7 +1,8 @@
 //! Copies of memories from one pool into another, so that what no memory uses any more can be let go.
 
 ghost use Rattle.std.specs.Prelude.{◌≡◌, ◌<◌, suc, length, slice_set, IfOk};
-ghost use Rattle.sparse_memories.specs.Nodes.{words_at, IsTree, Keeps};
+ghost use Rattle.sparse_memories.specs.Nodes.{Nodes, words_at, IsTree};
+ghost use Rattle.sparse_memories.specs.Memories.{IsMemory, words_of, Keeps};
 ghost use Rattle.sparse_memories.specs.Copying.{AreCopies, copy_at};
 
 use crate::NoMemory;
@@ -33,9 +34,9 @@ impl Model for Copies {
 }
 
 impl Copies {
-    /// No branch of the pool has been copied yet into the other one.
-    pub fn new(alloc: Global, from: &Pool, to: &Pool) -> Result<Copies, NoMemory>
-        ensures { IfOk result (λ copies. AreCopies copies from.now.nodes to.now.nodes) }
+    /// No branch of the pool has been copied yet, into whichever other one.
+    pub fn new(alloc: Global, from: &Pool) -> Result<Copies, NoMemory>
+        ensures { IfOk result (λ copies. (to : Nodes) → AreCopies copies from.now.nodes to) }
     {
         let none = Copied { depth: 0, link: 0 };
         let branches = vec![in alloc; none; from.branch_count()]?;
@@ -69,11 +70,11 @@ impl Pool {
         depth: u32,
         memory: Memory,
     ) -> Result<Memory, NoMemory>
-        requires memory { IsTree from.now.nodes depth memory.0 }
+        requires memory { IsMemory from.now depth memory }
         requires copies { AreCopies copies.old from.now.nodes self.old.nodes }
-        ensures memory { IfOk result (λ m. IsTree self.new.nodes depth m.0) }
-        ensures words { IfOk result (λ m. words_at self.new.nodes depth m.0 ≡ words_at from.now.nodes depth memory.0) }
-        ensures keeps { Keeps self.old.nodes self.new.nodes }
+        ensures memory { IfOk result (λ m. IsMemory self.new depth m) }
+        ensures words { IfOk result (λ m. words_of self.new depth m ≡ words_of from.now depth memory) }
+        ensures keeps { Keeps self.old self.new }
         ensures copies { AreCopies copies.new from.now.nodes self.new.nodes }
     {
         let link = self.copied(from, copies, depth, memory.0)?;
@@ -92,7 +93,7 @@ impl Pool {
         requires copies { AreCopies copies.old from.now.nodes self.old.nodes }
         ensures tree { IfOk result (λ k. IsTree self.new.nodes level k) }
         ensures words { IfOk result (λ k. words_at self.new.nodes level k ≡ words_at from.now.nodes level link) }
-        ensures keeps { Keeps self.old.nodes self.new.nodes }
+        ensures keeps { Keeps self.old self.new }
         ensures copies { AreCopies copies.new from.now.nodes self.new.nodes }
     {
         if link == from.zeros().0 {

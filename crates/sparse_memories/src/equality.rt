@@ -2,15 +2,16 @@
 
 ghost use Rattle.std.specs.Prelude.{◌≡◌, ◌↔◌, IsTrue};
 ghost use Rattle.sparse_memories.specs.Nodes.{words_at, IsTree};
+ghost use Rattle.sparse_memories.specs.Memories.{IsMemory, words_of};
 
 use crate::pool::{Memory, Pool};
 
 impl Pool {
     /// Whether two memories of 2^depth words are equal. What they share is not looked into.
     pub fn is_same(&self, depth: u32, first: Memory, second: Memory) -> bool
-        requires first { IsTree self.now.nodes depth first.0 }
-        requires second { IsTree self.now.nodes depth second.0 }
-        ensures { IsTrue result ↔ (words_at self.now.nodes depth first.0 ≡ words_at self.now.nodes depth second.0) }
+        requires first { IsMemory self.now depth first }
+        requires second { IsMemory self.now depth second }
+        ensures { IsTrue result ↔ (words_of self.now depth first ≡ words_of self.now depth second) }
     {
         self.are_same(depth, first.0, second.0)
     }

@@ -2,6 +2,7 @@
 
 ghost use Rattle.std.specs.Prelude.{◌≡◌, ◌+◌, ◌≤◌, ◌^◌, ◌++◌, IfOk, OnOk};
 ghost use Rattle.sparse_memories.specs.Nodes.{words_at, IsTree, set_words_from};
+ghost use Rattle.sparse_memories.specs.Memories.{IsMemory, words_of};
 
 use crate::NoMemory;
 use crate::pool::{Memory, Pool};
@@ -24,8 +25,8 @@ impl Pool {
         memory: Memory,
     ) -> Result<Vec<SetWord>, NoMemory>
         requires depth { depth ≤ 16 }
-        requires memory { IsTree self.now.nodes depth memory.0 }
-        ensures { IfOk result (λ found. found.items ≡ set_words_from 0 (words_at self.now.nodes depth memory.0)) }
+        requires memory { IsMemory self.now depth memory }
+        ensures { IfOk result (λ found. found.items ≡ set_words_from 0 (words_of self.now depth memory)) }
     {
         let mut found = Vec::new(alloc);
         self.add_set_words(depth, memory.0, 0, &mut found)?;

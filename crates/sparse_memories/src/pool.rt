@@ -1,7 +1,8 @@
 //! The pool of nodes, and one more branch or leaf in it.
 
 ghost use Rattle.std.specs.Prelude.{◌≡◌, ◌+◌, ◌<◌, ◌≤◌, ℕ, suc, [], ◌∷◌, ◌++◌, length, slice_index, IfOk, OnOk, OnErr};
-ghost use Rattle.sparse_memories.specs.Nodes.{branch_at, words_at, IsTree, zeros, HasZeros, Keeps};
+ghost use Rattle.sparse_memories.specs.Nodes.{branch_at, words_at, IsTree, zeros, HasZeros};
+ghost use Rattle.sparse_memories.specs.Memories.{IsMemory, words_of, Keeps};
 
 use crate::NoMemory;
 use std::alloc::{AllocError, Global};
@@ -43,7 +44,7 @@ impl Model for Pool {
 impl Pool {
     /// A pool with no memory but zeros.
     pub fn new(alloc: Global) -> Result<Pool, NoMemory>
-        ensures { IfOk result (λ pool. (d k : ℕ) → IsTree pool.nodes d k → words_at pool.nodes d k ≡ zeros d) }
+        ensures { IfOk result (λ pool. (d : ℕ) (m : Memory) → IsMemory pool d m → words_of pool d m ≡ zeros d) }
     {
         let branches = vec![in alloc; Branch { lower: 0, upper: 0 }; 1]?;
         let leaves = vec![in alloc; 0; 1]?;
@@ -52,8 +53,8 @@ impl Pool {
 
     /// The memory that is all zeros, for addresses of any number of bits. It takes no node.
     pub fn zeros(&self) -> Memory
-        ensures memory { (d : ℕ) → IsTree self.now.nodes d result.0 }
-        ensures words { (d : ℕ) → words_at self.now.nodes d result.0 ≡ zeros d }
+        ensures memory { (d : ℕ) → IsMemory self.now d result }
+        ensures words { (d : ℕ) → words_of self.now d result ≡ zeros d }
     {
         Memory(self.zero_link())
     }
@@ -95,6 +96,15 @@ impl Pool {
         Ok(())
     }
 
+    /// Takes all nodes out, so that no memory is left but zeros. There is room for them again.
+    pub fn clear(&mut self)
+        ensures zeros { (d : ℕ) (m : Memory) → IsMemory self.new d m → words_of self.new d m ≡ zeros d }
+        ensures room { self.old.room ≤ self.new.room }
+    {
+        self.branches.truncate(1);
+        self.leaves.truncate(1);
+    }
+
     /// How many branches the pool has.
     pub(crate) fn branch_count(&self) -> usize
         ensures { result ≡ length self.now.nodes.branches }
@@ -124,7 +134,7 @@ impl Pool {
         requires room { 0 < self.old.room }
         ensures tree { result < length self.new.nodes.leaves }
         ensures word { slice_index self.new.nodes.leaves result ≡ word }
-        ensures keeps { Keeps self.old.nodes self.new.nodes }
+        ensures keeps { Keeps self.old self.new }
         ensures room { self.old.room ≤ self.new.room + 1 }
         ensures same { slice_index self.old.nodes.leaves link ≡ word → (result ≡ link) × (self.new ≡ self.old) }
     {
@@ -145,7 +155,7 @@ impl Pool {
         requires room { 0 < self.old.room }
         ensures tree { (d : ℕ) → IsTree self.old.nodes d lower → IsTree self.old.nodes d upper → IsTree self.new.nodes (suc d) result }
         ensures words { (d : ℕ) → IsTree self.old.nodes d lower → IsTree self.old.nodes d upper → words_at self.new.nodes (suc d) result ≡ words_at self.old.nodes d lower ++ words_at self.old.nodes d upper }
-        ensures keeps { Keeps self.old.nodes self.new.nodes }
+        ensures keeps { Keeps self.old self.new }
         ensures room { self.old.room ≤ self.new.room + 1 }
         ensures same { (branch_at self.old.nodes link).lower ≡ lower → (branch_at self.old.nodes link).upper ≡ upper → (result ≡ link) × (self.new ≡ self.old) }
     {

@@ -1,7 +1,8 @@
 //! The words of a memory: read, replaced, and taken from lists and into them.
 
 ghost use Rattle.std.specs.Prelude.{◌≡◌, ◌+◌, ◌<◌, ◌≤◌, ◌^◌, ◌++◌, length, slice_index, slice_set, IfOk, OnOk};
-ghost use Rattle.sparse_memories.specs.Nodes.{words_at, IsTree, zeros, Keeps};
+ghost use Rattle.sparse_memories.specs.Nodes.{words_at, IsTree, zeros};
+ghost use Rattle.sparse_memories.specs.Memories.{IsMemory, words_of, Keeps};
 
 use crate::NoMemory;
 use crate::pool::{Memory, Pool};
@@ -19,9 +20,9 @@ impl Pool {
     /// The word of a memory of 2^depth words at an address. It goes down the memory's tree once.
     pub fn load(&self, depth: u32, memory: Memory, address: u64) -> u128
         requires depth { depth ≤ 16 }
-        requires memory { IsTree self.now.nodes depth memory.0 }
+        requires memory { IsMemory self.now depth memory }
         requires address { address < 2 ^ depth }
-        ensures { result ≡ slice_index (words_at self.now.nodes depth memory.0) address }
+        ensures { result ≡ slice_index (words_of self.now depth memory) address }
     {
         self.word_at(depth, memory.0, address)
     }
@@ -49,14 +50,14 @@ impl Pool {
     /// same memory and takes nothing.
     pub fn store(&mut self, depth: u32, memory: Memory, address: u64, word: u128) -> Memory
         requires depth { depth ≤ 16 }
-        requires memory { IsTree self.old.nodes depth memory.0 }
+        requires memory { IsMemory self.old depth memory }
         requires address { address < 2 ^ depth }
         requires room { depth < self.old.room }
-        ensures memory { IsTree self.new.nodes depth result.0 }
-        ensures words { words_at self.new.nodes depth result.0 ≡ slice_set (words_at self.old.nodes depth memory.0) address word }
-        ensures keeps { Keeps self.old.nodes self.new.nodes }
+        ensures memory { IsMemory self.new depth result }
+        ensures words { words_of self.new depth result ≡ slice_set (words_of self.old depth memory) address word }
+        ensures keeps { Keeps self.old self.new }
         ensures room { self.old.room ≤ self.new.room + (depth + 1) }
-        ensures same { slice_index (words_at self.old.nodes depth memory.0) address ≡ word → (result ≡ memory) × (self.new ≡ self.old) }
+        ensures same { slice_index (words_of self.old depth memory) address ≡ word → (result ≡ memory) × (self.new ≡ self.old) }
     {
         Memory(self.stored(depth, memory.0, address, word))
     }
@@ -69,7 +70,7 @@ impl Pool {
         requires room { level < self.old.room }
         ensures tree { IsTree self.new.nodes level result }
         ensures words { words_at self.new.nodes level result ≡ slice_set (words_at self.old.nodes level link) address word }
-        ensures keeps { Keeps self.old.nodes self.new.nodes }
+        ensures keeps { Keeps self.old self.new }
         ensures room { self.old.room ≤ self.new.room + (level + 1) }
         ensures same { slice_index (words_at self.old.nodes level link) address ≡ word → (result ≡ link) × (self.new ≡ self.old) }
     {
@@ -90,9 +91,9 @@ impl Pool {
     pub fn from_words(&mut self, depth: u32, words: &[u128]) -> Result<Memory, NoMemory>
         requires depth { depth ≤ 16 }
         requires words { length words.now ≡ 2 ^ depth }
-        ensures memory { IfOk result (λ m. IsTree self.new.nodes depth m.0) }
-        ensures words { IfOk result (λ m. words_at self.new.nodes depth m.0 ≡ words.now) }
-        ensures keeps { Keeps self.old.nodes self.new.nodes }
+        ensures memory { IfOk result (λ m. IsMemory self.new depth m) }
+        ensures words { IfOk result (λ m. words_of self.new depth m ≡ words.now) }
+        ensures keeps { Keeps self.old self.new }
         ensures zeros { words.now ≡ zeros depth → self.new.nodes ≡ self.old.nodes }
     {
         let link = self.built(depth, words)?;
@@ -105,7 +106,7 @@ impl Pool {
         requires words { length words.now ≡ 2 ^ level }
         ensures tree { IfOk result (λ k. IsTree self.new.nodes level k) }
         ensures words { IfOk result (λ k. words_at self.new.nodes level k ≡ words.now) }
-        ensures keeps { Keeps self.old.nodes self.new.nodes }
+        ensures keeps { Keeps self.old self.new }
         ensures zeros { words.now ≡ zeros level → self.new.nodes ≡ self.old.nodes }
         ensures zero { words.now ≡ zeros level → IfOk result (λ k. k ≡ 0) }
     {
@@ -126,8 +127,9 @@ impl Pool {
     /// The words of a memory of 2^depth words by ascending address.
     pub fn words(&self, alloc: Global, depth: u32, memory: Memory) -> Result<Vec<u128>, NoMemory>
         requires depth { depth ≤ 16 }
-        requires memory { IsTree self.now.nodes depth memory.0 }
-        ensures { IfOk result (λ words. words.items ≡ words_at self.now.nodes depth memory.0) }
+        requires memory { IsMemory self.now depth memory }
+        ensures words { IfOk result (λ words. words.items ≡ words_of self.now depth memory) }
+        ensures length { IfOk result (λ words. length words.items ≡ 2 ^ depth) }
     {
         let mut words = Vec::with_capacity(alloc, power_of_two(depth) as usize)?;
         self.add_words(depth, memory.0, &mut words)?;

@@ -1,6 +1,6 @@
 use Rattle.std.proofs.Common.{◌≡◌, ◌-◌, suc, List, sym, subst, arith}
 use Rattle.sparse_memories.specs.declared.copies.Copied.{Copied}
-use Rattle.sparse_memories.specs.Nodes.{Nodes, Keeps}
+use Rattle.sparse_memories.specs.Nodes.{Nodes, KeepsTrees}
 use Rattle.sparse_memories.specs.Copying.{AreCopies}
 use Rattle.sparse_memories.proofs.Storing.{halves_of}
 use Rattle.sparse_memories.proofs.CopyLaws.{copies_kept, copy_noted, copied_words, copied_tree}
@@ -12,7 +12,7 @@ put_leaf-requires-clause-link t c = c.zeros-zeros.ensures.memory 0
 pub returns-then-level-eq0-clause-copies : goal.returns-then-level-eq0-clause-copies
 returns-then-level-eq0-clause-copies t c =
     copies_kept c.args.copies.now c.args.from.now.nodes c.args.self.now.nodes c.put_leaf.new.self.nodes c.requires.copies
-    (subst (λ (x : Nodes). Keeps x c.put_leaf.new.self.nodes) c.in_ok-reserve.ensures.nodes c.put_leaf.ensures.keeps)
+    (subst (λ (x : Nodes). KeepsTrees x c.put_leaf.new.self.nodes) c.in_ok-reserve.ensures.nodes c.put_leaf.ensures.keeps)
 
 pub put_branch-place-requires-clause-link : goal.put_branch-place-requires-clause-link
 put_branch-place-requires-clause-link t c = (c.zeros-zeros-2.ensures.memory 1).0
@@ -29,7 +29,7 @@ returns-clause-copies t c =
     let p = c.args.from.now.nodes in
     let n = c.put_branch-place.new.self.nodes in
     let below = (halves_of p c.branch-branch.result c.args.level (c.args.level - 1) c.args.link c.branch-branch.ensures e c.requires.tree).0 in
-    let kept = subst (λ (x : Nodes). Keeps x n) c.in_ok-reserve-2.ensures.nodes c.put_branch-place.ensures.keeps in
+    let kept = subst (λ (x : Nodes). KeepsTrees x n) c.in_ok-reserve-2.ensures.nodes c.put_branch-place.ensures.keeps in
     subst (λ (x : List Copied). AreCopies x p n) (sym c.note.ensures)
     (copy_noted c.copied-2.new.copies p n c.args.link c.args.level c.put_branch-place.result below
     (copies_kept c.copied-2.new.copies p c.copied-2.new.self.nodes n c.in_ok-upper.ensures.copies kept)
