@@ -35,4 +35,33 @@ impl Pool {
         }
         self.are_same(level - 1, x.upper, y.upper)
     }
+
+    /// Whether a memory of this pool has the same words as one of another pool. Parts that are zeros in both are not looked into.
+    pub fn is_same_as(&self, depth: u32, first: Memory, other: &Pool, second: Memory) -> bool
+        requires first { IsMemory self.now depth first }
+        requires second { IsMemory other.now depth second }
+        ensures { IsTrue result ↔ (words_of self.now depth first ≡ words_of other.now depth second) }
+    {
+        self.are_same_as(depth, first.0, other, second.0)
+    }
+
+    /// Whether the words at a link are those at a link of another pool.
+    fn are_same_as(&self, level: u32, first: u32, other: &Pool, second: u32) -> bool
+        requires first { IsTree self.now.nodes level first }
+        requires second { IsTree other.now.nodes level second }
+        ensures { IsTrue result ↔ (words_at self.now.nodes level first ≡ words_at other.now.nodes level second) }
+    {
+        if first == self.zeros().0 && second == other.zeros().0 {
+            return true;
+        }
+        if level == 0 {
+            return self.leaf(first) == other.leaf(second);
+        }
+        let x = self.branch(first);
+        let y = other.branch(second);
+        if !self.are_same_as(level - 1, x.lower, other, y.lower) {
+            return false;
+        }
+        self.are_same_as(level - 1, x.upper, other, y.upper)
+    }
 }
