@@ -2,7 +2,7 @@
 use Rattle.std.proofs.Common.{◌≡◌, ℕ, zero, suc, ◌+◌, ◌*◌, ◌≤◌, max, arith, List, [], Some, refl, subst}
 use Rattle.std.specs.Prelude.{slice_get}
 use Rattle.wb_values.specs.Value.{Valuation}
-use Rattle.model_meaning.specs.Model.{Model, Machine, machine, Instruction, instruction, Instructions, no_instructions, and_then, no_child, child, instruction_list, instructions_in, point_of}
+use Rattle.model_meaning.specs.Model.{Model, Machine, machine, Instruction, instruction, Instructions, no_instructions, and_then, no_child, child, child_program, instruction_list, instructions_in, point_of}
 use Rattle.model_meaning.specs.Instruction.{DoesInstruction, IsStarted, Steps, own_states}
 use Rattle.model_meaning.proofs.OneInstruction.{step_done}
 use Rattle.refinement.specs.Map.{Setting}
@@ -34,6 +34,16 @@ enters_none (instruction called decode update (child steps program)) none = absu
 pub does_begun : (i : Instruction) (p : Valuation) → nesting_of_instruction i ≡ 0 → DoesInstruction i p (begun i p)
 does_begun (instruction called decode update no_child) p none = refl
 does_begun (instruction called decode update (child steps program)) p none = absurd (omega (arith, none))
+
+-- It does nothing else.
+pub done_begun : (i : Instruction) (p q : Valuation) → nesting_of_instruction i ≡ 0 → DoesInstruction i p q → q ≡ begun i p
+done_begun (instruction called decode update no_child) p q none h = h
+done_begun (instruction called decode update (child steps program)) p q none h = absurd (omega (arith, none))
+
+-- It has no child.
+pub no_program : (i : Instruction) → nesting_of_instruction i ≡ 0 → child_program i ≡ no_child
+no_program (instruction called decode update no_child) none = refl
+no_program (instruction called decode update (child steps program)) none = absurd (omega (arith, none))
 
 -- Where instruction j starts, the model steps to the states of the point that it begins.
 pub steps_to_begun : (m : Model) (q w : Valuation) (j : ℕ) → nesting_of m.top ≡ 0 → (h : IsStarted m q w j)

@@ -1,8 +1,11 @@
 mod Named
 mod Childless
 mod Refining
+mod Obligations
 mod BenchModels
 mod BenchObligations
 mod BenchRules
 mod Switch
 mod Stores
+mod Child
+mod Nested

@@ -23,15 +23,14 @@ use Rattle.emitted_designs.proofs.Named.{same_of, state_entry, found_among_all, 
 use Rattle.emitted_designs.proofs.Childless.{in_machine, enters_none, steps_to_begun, some_cycle}
 
 -- what is known of the model and of the run
-record Known (m : Model) (x : Module) (run : Run) (cycles : ℕ) : Type 0 where
-  is_model : IsModel m
-  childless : nesting_of m.top ≡ 0
-  follows : FollowsModel (setting_of m x) run cycles
-  from_reset : IsFromReset (setting_of m x) run cycles
+pub record Known (m : Model) (x : Module) (run : Run) (cycles : ℕ) : Type 0 where
+  pub is_model : IsModel m
+  pub childless : nesting_of m.top ≡ 0
+  pub follows : FollowsModel (setting_of m x) run cycles
 
 -- ---- entries of instructions
 
-entry_facts : (is : List Instruction) (n : Name) (e : InstructionMap) → instruction_map (map entry_for is) n ≡ Some e
+pub entry_facts : (is : List Instruction) (n : Name) (e : InstructionMap) → instruction_map (map entry_for is) n ≡ Some e
     → (e.commit ≡ whole_name commit_name) × (1 ≤ e.bound)
 entry_facts [] n e h = cc
 entry_facts (i ∷ is) n e h = by_test (λ f. entry_facts is n e f) (same_name (instruction_name i) n) h
@@ -42,7 +41,7 @@ entry_facts (i ∷ is) n e h = by_test (λ f. entry_facts is n e f) (same_name (
         let same : entry_for i ≡ e = cc in subst (λ k. (k.commit ≡ whole_name commit_name) × (1 ≤ k.bound)) same (refl, some_cycle i)
     by_test more false f = more f
 
-abbrev HasEntry : List Instruction → Name → Type 0
+abbrev pub HasEntry : List Instruction → Name → Type 0
 HasEntry is n = (e : InstructionMap) × (instruction_map (map entry_for is) n ≡ Some e)
 
 under_head : (i : Instruction) (is : List Instruction) (n : Name) → HasEntry is n → HasEntry (i ∷ is) n
@@ -60,7 +59,7 @@ at_head i is = by_test (same_name (instruction_name i) (instruction_name i)) ref
     by_test true same = (entry_for i, refl)
     by_test false other = absurd (false≢true (sym other ∙ same_of (instruction_name i) (instruction_name i) refl))
 
-has_entry : (is : List Instruction) (j : ℕ) (i : Instruction) → slice_get is j ≡ Some i → HasEntry is (instruction_name i)
+pub has_entry : (is : List Instruction) (j : ℕ) (i : Instruction) → slice_get is j ≡ Some i → HasEntry is (instruction_name i)
 has_entry [] j i h = cc
 has_entry (k ∷ is) zero i h = let same : k ≡ i = cc in subst (λ x. HasEntry (k ∷ is) (instruction_name x)) same (at_head k is)
 has_entry (k ∷ is) (suc j) i h = under_head k is (instruction_name i) (has_entry is j i h)
@@ -111,7 +110,7 @@ module _ (m : Model) (x : Module) (run : Run) (cycles : ℕ) (known : Known m x 
   rests : (t : ℕ) → IsAtRest setting run t
   rests t h = absurd (false≢true (sym (ap (λ k. nat_lt 0 k) known.childless) ∙ h))
 
-  started : (t : ℕ) → t < cycles → StartsAt setting run t → (j : ℕ) × IsCommandOf setting run t j
+  pub started : (t : ℕ) → t < cycles → StartsAt setting run t → (j : ℕ) × IsCommandOf setting run t j
   started t low starts = ((known.follows.start t low).0 starts).2
 
   none_entered : (t j : ℕ) → (h : IsCommandOf setting run t j) → entered_by h.alone.i ≡ []
@@ -125,35 +124,36 @@ module _ (m : Model) (x : Module) (run : Run) (cycles : ℕ) (known : Known m x 
   commit_at t j low starts h =
       (known.follows.commit t [] low (AreRunning.at_rest t (rests t))).1 (EndsIn.at_its_start h.alone.i (start_of t j starts h) (none_entered t j h))
 
-  commits_at : (t j : ℕ) → t < cycles → StartsAt setting run t → IsCommandOf setting run t j → CommitsAt setting run j t
+  pub commits_at : (t j : ℕ) → t < cycles → StartsAt setting run t → IsCommandOf setting run t j → CommitsAt setting run j t
   commits_at t j low starts h =
       let entry : HasEntry (instructions_in m.top) (instruction_name h.alone.i) = has_entry (instructions_in m.top) j h.alone.i h.alone.is_j in
       let facts : (entry.0.commit ≡ whole_name commit_name) × (1 ≤ entry.0.bound) =
       entry_facts (instructions_in m.top) (instruction_name h.alone.i) entry.0 entry.1 in
       (entry.0, (h.alone.i, h.alone.is_j, entry.1), subst (λ e. HoldsAt setting run t e) (sym facts.0) (commit_at t j low starts h))
 
-  not_reset : (t : ℕ) → 1 ≤ t → t < cycles → ¬ IsResetAt setting run t
-  not_reset t from low = known.from_reset.inactive t from low
-
-  -- A start takes the model one step.
-  stepped : (t j : ℕ) → 1 ≤ t → t < cycles → StartsAt setting run t → IsCommandOf setting run t j
-      → Steps m (state_at setting run t) (inputs_at setting run t) (state_at setting run (suc t))
-  stepped t j from low starts h =
-      subst (λ q. Steps m (state_at setting run t) (inputs_at setting run t) q)
-      (sym (own_of m x run (suc t) (begun h.alone.i (start_point setting run t)) held))
-      (steps_to_begun m (state_at setting run t) (inputs_at setting run t) j known.childless h)
+  -- After a start the states are those of the point that the instruction begins.
+  pub after_start : (t j : ℕ) → t < cycles → ¬ IsResetAt setting run t → StartsAt setting run t → (h : IsCommandOf setting run t j)
+      → state_at setting run (suc t) ≡ own_states m (begun h.alone.i (start_point setting run t))
+  after_start t j low inactive starts h = own_of m x run (suc t) (begun h.alone.i (start_point setting run t)) held
     where
       held : HoldPoint setting run (suc t) [] (begun h.alone.i (start_point setting run t))
       held =
           subst (λ ps. HoldPoint setting run (suc t) ps (begun h.alone.i (start_point setting run t))) (none_entered t j h)
-          (known.follows.edge t [] (entered_by h.alone.i) (begun h.alone.i (start_point setting run t)) low (not_reset t from low)
+          (known.follows.edge t [] (entered_by h.alone.i) (begun h.alone.i (start_point setting run t)) low inactive
           (AreRunning.at_rest t (rests t)) (EdgeLeads.starts h.alone.i (start_of t j starts h)))
 
+  -- A start takes the model one step.
+  stepped : (t j : ℕ) → t < cycles → ¬ IsResetAt setting run t → StartsAt setting run t → IsCommandOf setting run t j
+      → Steps m (state_at setting run t) (inputs_at setting run t) (state_at setting run (suc t))
+  stepped t j low inactive starts h =
+      subst (λ q. Steps m (state_at setting run t) (inputs_at setting run t) q) (sym (after_start t j low inactive starts h))
+      (steps_to_begun m (state_at setting run t) (inputs_at setting run t) j known.childless h)
+
   -- Without a start the state stays.
-  kept : (t : ℕ) → 1 ≤ t → t < cycles → ¬ StartsAt setting run t → state_at setting run (suc t) ≡ state_at setting run t
-  kept t from low quiet =
+  pub kept : (t : ℕ) → t < cycles → ¬ IsResetAt setting run t → ¬ StartsAt setting run t → state_at setting run (suc t) ≡ state_at setting run t
+  kept t low inactive quiet =
       own_of m x run (suc t) (start_point setting run t)
-      (known.follows.edge t [] [] (start_point setting run t) low (not_reset t from low) (AreRunning.at_rest t (rests t)) (EdgeLeads.waits quiet))
+      (known.follows.edge t [] [] (start_point setting run t) low inactive (AreRunning.at_rest t (rests t)) (EdgeLeads.waits quiet))
       ∙ own_start m x run known.is_model t
 
   -- A command ends where it starts.
@@ -166,56 +166,60 @@ module _ (m : Model) (x : Module) (run : Run) (cycles : ℕ) (known : Known m x 
       cases : (t < c) ⊎ (c ≡ t)
       cases = let from : t ≤ c = end.from in grind (arith, from)
 
-  -- At an idle cycle the mapped state is the model'setting.
-  model_state : (n t : ℕ) (q : Valuation) → HasState setting run cycles n q t → (1 ≤ t) × (state_at setting run t ≡ q)
-  model_state n t q (HasState.after_reset h) = (omega arith, refl)
-  model_state n t q (HasState.after_idle {n = k} {t = u} {q = p} h low quiet) =
-      let before : (1 ≤ u) × (state_at setting run u ≡ p) = model_state k u p h in
-      (omega (arith, before.0), kept u before.0 low quiet ∙ before.1)
-  model_state n t q (HasState.after_command {n = k} {t = u} {q = p} j c r h starts is_j end low does) =
-      let before : (1 ≤ u) × (state_at setting run u ≡ p) = model_state k u p h in
-      let within : u < cycles = omega (arith, end.from, low) in
-      let at_once : c ≡ u = ends_at_once u j c within starts is_j end in (
-        omega arith,
-        ap (λ v. state_at setting run (suc v)) at_once
-            ∙ one_next_state m (state_at setting run u) (inputs_at setting run u) (state_at setting run (suc u)) r
-            (stepped u j before.0 within starts is_j)
-            (subst (λ y. Steps m y (inputs_at setting run u) r) (sym before.1) does),
-      )
+  module _ (from_reset : IsFromReset setting run cycles) where
+    not_reset : (t : ℕ) → 1 ≤ t → t < cycles → ¬ IsResetAt setting run t
+    not_reset t from low = from_reset.inactive t from low
 
-  one_in_flight : HasOneInFlight setting run cycles
-  one_in_flight n t u idle starts after within none again =
-      let low : t < cycles = omega (arith, after, within) in
-      let command : (j : ℕ) × IsCommandOf setting run t j = started t low starts in
-      none command.0 t command.1 (omega arith) after (commits_at t command.0 low starts command.1)
+    -- At an idle cycle the mapped state is the model's.
+    model_state : (n t : ℕ) (q : Valuation) → HasState setting run cycles n q t → (1 ≤ t) × (state_at setting run t ≡ q)
+    model_state n t q (HasState.after_reset h) = (omega arith, refl)
+    model_state n t q (HasState.after_idle {n = k} {t = u} {q = p} h low quiet) =
+        let before : (1 ≤ u) × (state_at setting run u ≡ p) = model_state k u p h in
+        (omega (arith, before.0), kept u low (not_reset u before.0 low) quiet ∙ before.1)
+    model_state n t q (HasState.after_command {n = k} {t = u} {q = p} j c r h starts is_j end low does) =
+        let before : (1 ≤ u) × (state_at setting run u ≡ p) = model_state k u p h in
+        let within : u < cycles = omega (arith, end.from, low) in
+        let at_once : c ≡ u = ends_at_once u j c within starts is_j end in (
+          omega arith,
+          ap (λ v. state_at setting run (suc v)) at_once
+              ∙ one_next_state m (state_at setting run u) (inputs_at setting run u) (state_at setting run (suc u)) r
+              (stepped u j within (not_reset u before.0 within) starts is_j)
+              (subst (λ y. Steps m y (inputs_at setting run u) r) (sym before.1) does),
+        )
 
-  bounded : (j : ℕ) (e : InstructionMap) → IsMapEntry setting j e → 1 ≤ e.bound
-  bounded j e entry = (entry_facts (instructions_in m.top) (instruction_name entry.0) e entry.2).1
+    one_in_flight : HasOneInFlight setting run cycles
+    one_in_flight n t u idle starts after within none again =
+        let low : t < cycles = omega (arith, after, within) in
+        let command : (j : ℕ) × IsCommandOf setting run t j = started t low starts in
+        none command.0 t command.1 (omega arith) after (commits_at t command.0 low starts command.1)
 
-  refines : Refines setting run cycles
-  refines = record {
-    initial = λ h. known.follows.reset 0 h (known.from_reset.active 0 (omega arith) h);
-    command = λ n t q state low starts.
-        let at_t : (1 ≤ t) × (state_at setting run t ≡ q) = model_state n t q state in
-        let command : (j : ℕ) × IsCommandOf setting run t j = started t low starts in (
-          command,
-          (
-            state_at setting run (suc t),
-            subst (λ y. Steps m y (inputs_at setting run t) (state_at setting run (suc t))) at_t.1
-                (stepped t command.0 at_t.0 low starts command.1),
-          ),
-        );
-    ended = λ n t j c q e state starts is_j entry end low.
-        let at_once : c ≡ t = ends_at_once t j c (omega (arith, end.from, low)) starts is_j end in
-        let some : 1 ≤ e.bound = bounded j e entry in
-        omega (arith, at_once, some);
-    open_command = λ n t j q e state low starts is_j entry none. absurd (none t (omega arith) low (commits_at t j low starts is_j));
-    state = λ n t q state low name known_name. ap (λ v. v name) (model_state n t q state).1;
-  }
+    bounded : (j : ℕ) (e : InstructionMap) → IsMapEntry setting j e → 1 ≤ e.bound
+    bounded j e entry = (entry_facts (instructions_in m.top) (instruction_name entry.0) e entry.2).1
+
+    refines : Refines setting run cycles
+    refines = record {
+      initial = λ h. known.follows.reset 0 h (from_reset.active 0 (omega arith) h);
+      command = λ n t q state low starts.
+          let at_t : (1 ≤ t) × (state_at setting run t ≡ q) = model_state n t q state in
+          let command : (j : ℕ) × IsCommandOf setting run t j = started t low starts in (
+            command,
+            (
+              state_at setting run (suc t),
+              subst (λ y. Steps m y (inputs_at setting run t) (state_at setting run (suc t))) at_t.1
+                  (stepped t command.0 low (not_reset t at_t.0 low) starts command.1),
+            ),
+          );
+      ended = λ n t j c q e state starts is_j entry end low.
+          let at_once : c ≡ t = ends_at_once t j c (omega (arith, end.from, low)) starts is_j end in
+          let some : 1 ≤ e.bound = bounded j e entry in
+          omega (arith, at_once, some);
+      open_command = λ n t j q e state low starts is_j entry none. absurd (none t (omega arith) low (commits_at t j low starts is_j));
+      state = λ n t q state low name known_name. ap (λ v. v name) (model_state n t q state).1;
+    }
 
 pub emitted_runs_refine : EmittedRunsRefine
 emitted_runs_refine m x run cycles is_model childless emitted is_run from_reset =
-    (one_in_flight m x run cycles known, refines m x run cycles known)
+    (one_in_flight m x run cycles known from_reset, refines m x run cycles known from_reset)
   where
     known : Known m x run cycles
-    known = record { is_model = is_model; childless = childless; follows = emitted.runs run cycles is_run; from_reset = from_reset }
+    known = record { is_model = is_model; childless = childless; follows = emitted.runs run cycles is_run }

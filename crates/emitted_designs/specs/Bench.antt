@@ -8,7 +8,7 @@ use Rattle.refinement.specs.Obligation.{Obligation, obligations}
 use Rattle.reports.specs.Encoding.{Spent}
 use Rattle.reports.specs.Report.{Verdict, AreVerdicts, count_proved, count_failed, count_unknown, Ending, ending_of, spent_in}
 use Rattle.emitted_designs.specs.Map.{emitted_map, setting_of}
-use Rattle.emitted_designs.specs.Emits.{Emits}
+use Rattle.emitted_designs.specs.Emits.{Emits, AreAccepted}
 
 -- ---- the models
 
@@ -62,12 +62,13 @@ bench_line n vs =
 abbrev pub bench_obligations : ℕ → List Obligation
 bench_obligations n = obligations (bench_model n) (emitted_map (bench_model n))
 
--- The text tells what a check of an emitted design of the model with n states finds of its obligations, with this budget for each. Beside it
--- stand how the check ends, and what shows that the budget was spent.
+-- The text tells what a check of an emitted design of the model with n states finds of its obligations, with this budget for each. The design
+-- and its map are accepted when they are read again. Beside the text stand how the check ends, and what shows that the budget was spent.
 pub record IsBench (n budget : ℕ) (text : List ℕ) (ending : Ending) (spent : List Spent) : Type 0 where
   pub verilog : List ℕ
   pub refinement_map : List ℕ
   pub emits : Emits (bench_model n) verilog refinement_map
+  pub is_read_back : AreAccepted (bench_model n) verilog refinement_map emits.of_module
   pub verdicts : List Verdict
   pub are_verdicts : AreVerdicts (setting_of (bench_model n) emits.of_module) budget (bench_obligations n) verdicts
   pub is_text : text ≡ bench_line n verdicts

@@ -1,10 +1,10 @@
 -- What it is that two texts are the emitted design of a model and its map.
-use Rattle.std.specs.Prelude.{◌≡◌, ℕ, ◌<◌, ◌≤◌, List, [], ◌∷◌, length, Contains}
+use Rattle.std.specs.Prelude.{◌≡◌, ℕ, ◌<◌, ◌≤◌, List, [], ◌∷◌, ◌++◌, length, Contains}
 use Rattle.wb_values.specs.Value.{Valuation, HasSort}
 use Rattle.model_meaning.specs.Model.{Model, StateDeclaration, InputDeclaration, states_of}
 use Rattle.model_meaning.specs.Instruction.{IsStarted, Steps}
 use Rattle.verilog_trees.specs.Syntax.{Module, Source}
-use Rattle.verilog_text.specs.Text.{with_files, tokens_read}
+use Rattle.verilog_text.specs.Text.{with_files, tokens_read, most_tokens}
 use Rattle.verilog_text.specs.Grammar.{IsSource, IsTreeOf}
 use Rattle.verilog_designs.specs.Accepted.{IsAccepted}
 use Rattle.refinement.specs.Map.{design_of}
@@ -20,10 +20,10 @@ use Rattle.emitted_designs.specs.Cycles.{FollowsModel}
 abbrev pub most_file_bytes : ℕ
 most_file_bytes = 4194304
 
--- The text is that of the source: its tokens spell it, and where it is no longer than a file may be, it is read as it.
+-- The text is that of the source: its tokens spell it, and where they are no more than the most tokens that are read, it is read as it.
 pub record IsTextOf (text : List ℕ) (ms : Source) : Type 0 where
   pub is_spelled : IsSource ms (tokens_read (with_files (text ∷ []) []))
-  pub is_read : length text ≤ most_file_bytes → IsTreeOf (text ∷ []) ms
+  pub is_read : length (tokens_read (with_files (text ∷ []) [])) ≤ most_tokens → IsTreeOf (text ∷ []) ms
 
 -- The module is an emitted design of the model: it has the model's ports and registers, and each of its runs follows the model.
 pub record IsEmittedModule (m : Model) (x : Module) : Type 0 where
@@ -31,22 +31,25 @@ pub record IsEmittedModule (m : Model) (x : Module) : Type 0 where
   pub registers : HasRegistersOf m x
   pub runs : (run : Run) (cycles : ℕ) → IsRun (setting_of m x) run cycles → FollowsModel (setting_of m x) run cycles
 
--- The texts are an emitted design of the model and its map. The one is of a single module, an emitted design of the model; the other is the
--- map, with the bounds of the instructions. Neither is longer than the model's size allows.
+-- The texts are an emitted design of the model and its map. The one is of a single module, which is an emitted design of the model and is
+-- accepted as a design, so that it has runs; the other is the map, with the bounds of the instructions. Neither is longer than the model's
+-- size allows.
 pub record Emits (m : Model) (verilog refinement_map : List ℕ) : Type 0 where
   pub of_module : Module
   pub is_text : IsTextOf verilog (of_module ∷ [])
   pub is_emitted : IsEmittedModule m of_module
+  pub is_design : IsAccepted (design_of (setting_of m of_module))
   pub is_map : refinement_map ≡ map_text (written_map m)
   pub is_short : length verilog ≤ most_bytes m
   pub map_is_short : length refinement_map ≤ most_bytes m
 
 -- The texts are accepted, as the files of a check of the model: the one has the module as its tree, which is accepted as a design; the other is
--- accepted as a map for the model and the module, and stands for the emitted map.
+-- accepted as a map for the model and the module, and stands for the emitted map. (The file of the map ends in a line feed, which its text does
+-- not have.)
 pub record AreAccepted (m : Model) (verilog refinement_map : List ℕ) (x : Module) : Type 0 where
   pub is_tree : IsTreeOf (verilog ∷ []) (x ∷ [])
   pub is_design : IsAccepted (design_of (setting_of m x))
-  pub is_map : MapOf refinement_map m (x ∷ []) (emitted_map m)
+  pub is_map_file : MapOf (refinement_map ++ 10 ∷ []) m (x ∷ []) (emitted_map m)
 
 -- ---- what is answered for a model
 

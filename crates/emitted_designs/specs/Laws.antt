@@ -5,9 +5,11 @@ use Rattle.model_meaning.specs.Invariant.{IsModel}
 use Rattle.verilog_trees.specs.Syntax.{Module}
 use Rattle.refinement.specs.Run.{Run, IsRun, IsFromReset}
 use Rattle.refinement.specs.Refinement.{HasOneInFlight, Refines}
+use Rattle.refinement.specs.Obligation.{obligations}
+use Rattle.refinement.specs.Soundness.{AllHold}
 use Rattle.emitted_designs.specs.Bounds.{nesting_of}
 use Rattle.emitted_designs.specs.Size.{model_size, most_bytes}
-use Rattle.emitted_designs.specs.Map.{setting_of}
+use Rattle.emitted_designs.specs.Map.{emitted_map, setting_of}
 use Rattle.emitted_designs.specs.Emits.{most_file_bytes, IsEmittedModule, IsTotal}
 use Rattle.emitted_designs.specs.Bench.{bench_model, bench_obligations}
 
@@ -21,6 +23,12 @@ EmittedRunsRefine =
     (m : Model) (x : Module) (run : Run) (cycles : ℕ) → IsModel m → nesting_of m.top ≡ 0 → IsEmittedModule m x
     → IsRun (setting_of m x) run cycles → IsFromReset (setting_of m x) run cycles
     → HasOneInFlight (setting_of m x) run cycles × Refines (setting_of m x) run cycles
+
+-- Of such a model each obligation of the emitted map holds of an emitted module: a check of the pair has no failed line.
+abbrev pub EmittedObligationsHold : Type 0
+EmittedObligationsHold =
+    (m : Model) (x : Module) → IsModel m → nesting_of m.top ≡ 0 → IsEmittedModule m x
+    → AllHold (setting_of m x) (obligations m (emitted_map m))
 
 -- An emitted text of a model of size 1,000 or less is no longer than a file may be.
 abbrev pub SmallModelsHaveShortTexts : Type 0

@@ -1,8 +1,8 @@
--- Small models with their maps, their bounds and their sizes, and one with an emitted module.
-use Rattle.std.specs.Prelude.{◌≡◌, ℕ, true, false, ◌++◌, List, [], ◌∷◌, None, Some, codes, suc, ◌<◌, length, slice_index}
+-- Small models with their maps, their bounds and their sizes, one with an emitted module, and what an emitted module of some others does.
+use Rattle.std.specs.Prelude.{◌≡◌, ℕ, true, false, ◌++◌, List, [], ◌∷◌, None, Some, codes, suc, ◌<◌, slice_index}
 use Rattle.wb_values.specs.Value.{Name, truth, word, memory, truth_value, as_number, as_words}
 use Rattle.model_meaning.specs.Term as term
-use Rattle.model_meaning.specs.Model.{Model, StateDeclaration, machine, Instruction, instruction, no_instructions, and_then, no_child}
+use Rattle.model_meaning.specs.Model.{Model, StateDeclaration, Machine, machine, Instruction, instruction, no_instructions, and_then, no_child, child}
 use Rattle.model_meaning.specs.Worked.{counter, multiplier, always}
 use Rattle.verilog_trees.specs.Syntax.{Module, Statement, nonblocking, if_then, if_else, reduction, is_zero, place, whole, input, output, Direction, PortDeclaration, declared, variables, assign, always as always_block, on_events, posedge}
 use Rattle.verilog_meaning.specs.Worked.{reading, sized_number}
@@ -13,6 +13,7 @@ use Rattle.emitted_designs.specs.Size.{model_size}
 use Rattle.emitted_designs.specs.Names.{clock_name, reset_name, go_name, start_name, commit_name}
 use Rattle.emitted_designs.specs.Map.{setting_of, written_map, map_text}
 use Rattle.emitted_designs.specs.Emits.{IsEmittedModule}
+use Rattle.emitted_designs.specs.Cycles.{HasCommitAt, IsAtRest}
 
 -- the text of the counter's map
 abbrev pub counter_map_text : List ℕ
@@ -116,12 +117,96 @@ writer = record {
       (and_then write_twice no_instructions);
 }
 
--- In each emitted module of it the last store of the chain stands: after the edge of a start without reset, the word at the address is 2.
+-- In each emitted module of it the last store of the chain stands: after the edge of a start without reset, the word at the address is 2, if
+-- that is one of the four addresses.
 abbrev pub LastStoreStands : Type 0
 LastStoreStands =
     (x : Module) (run : Run) (cycles t : ℕ) → IsEmittedModule writer x → IsRun (setting_of writer x) run cycles → t < cycles
     → ¬ IsResetAt (setting_of writer x) run t → StartsAt (setting_of writer x) run t
-    → as_number (inputs_at (setting_of writer x) run t address_name) < length (as_words (state_at (setting_of writer x) run t memory_name))
+    → as_number (inputs_at (setting_of writer x) run t address_name) < 4
     → slice_index (as_words (state_at (setting_of writer x) run (suc t) memory_name))
     (as_number (inputs_at (setting_of writer x) run t address_name))
     ≡ 2
+
+-- ---- a child program
+
+-- TAKE clears f, and its child takes one step, which sets f to the input d. The child's private state k is false at first.
+abbrev pub flag : Name
+flag = codes "k"
+
+abbrev pub data_name : Name
+data_name = codes "d"
+
+abbrev pub step_once : Instruction
+step_once =
+    instruction (codes "STEP") (term.constant_truth true)
+    ((position, term.name data_name truth) ∷ (flag, term.constant_truth true) ∷ []) no_child
+
+abbrev pub once : Machine
+once =
+    machine (record { state_name = flag; sort = truth; init = Some (truth_value false) } ∷ []) (term.not (term.name flag truth))
+    (and_then step_once no_instructions)
+
+abbrev pub take_once : Instruction
+take_once =
+    instruction (codes "TAKE") (term.constant_truth true) ((position, term.constant_truth false) ∷ [])
+    (child 1 once)
+
+abbrev pub taker : Model
+taker = record {
+  model_name = codes "taker";
+  inputs = record { input_name = data_name; sort = truth } ∷ [];
+  top = machine (position_state ∷ []) (term.constant_truth true) (and_then take_once no_instructions);
+}
+
+-- In each emitted module of it, from a start without reset: the step is taken a cycle later, and the command ends in the cycle after that,
+-- not before; till then no other starts; and f is then the input at the start, whatever the input was later, at each command anew.
+abbrev pub ChildRuns : Type 0
+ChildRuns =
+    (x : Module) (run : Run) (cycles t : ℕ) → IsEmittedModule taker x → IsRun (setting_of taker x) run cycles → suc (suc t) < cycles
+    → ¬ IsResetAt (setting_of taker x) run t → ¬ IsResetAt (setting_of taker x) run (suc t) → ¬ IsResetAt (setting_of taker x) run (suc (suc t))
+    → StartsAt (setting_of taker x) run t
+    → ¬ HasCommitAt (setting_of taker x) run t × ¬ HasCommitAt (setting_of taker x) run (suc t)
+    × ¬ StartsAt (setting_of taker x) run (suc t) × ¬ StartsAt (setting_of taker x) run (suc (suc t))
+    × HasCommitAt (setting_of taker x) run (suc (suc t)) × IsAtRest (setting_of taker x) run (suc (suc (suc t)))
+    × (state_at (setting_of taker x) run (suc (suc (suc t))) position ≡ inputs_at (setting_of taker x) run t data_name)
+
+-- With reset in the cycle in which the child would end there is no commit, and the design is at rest after it, with the initial value.
+abbrev pub ResetEndsNothing : Type 0
+ResetEndsNothing =
+    (x : Module) (run : Run) (cycles t : ℕ) → IsEmittedModule taker x → IsRun (setting_of taker x) run cycles → suc (suc t) < cycles
+    → ¬ IsResetAt (setting_of taker x) run t → ¬ IsResetAt (setting_of taker x) run (suc t) → IsResetAt (setting_of taker x) run (suc (suc t))
+    → StartsAt (setting_of taker x) run t
+    → ¬ HasCommitAt (setting_of taker x) run (suc (suc t)) × IsAtRest (setting_of taker x) run (suc (suc (suc t)))
+    × (state_at (setting_of taker x) run (suc (suc (suc t))) position ≡ truth_value false)
+
+-- A model with a child in a child: LOOK has a child whose one instruction OUTER sets its private state g, and has a child of its own as above.
+abbrev pub outer_flag : Name
+outer_flag = codes "g"
+
+abbrev pub outer : Instruction
+outer = instruction (codes "OUTER") (term.constant_truth true) ((outer_flag, term.constant_truth true) ∷ []) (child 1 once)
+
+abbrev pub around_once : Machine
+around_once =
+    machine (record { state_name = outer_flag; sort = truth; init = Some (truth_value false) } ∷ []) (term.not (term.name outer_flag truth))
+    (and_then outer no_instructions)
+
+abbrev pub look : Instruction
+look = instruction (codes "LOOK") (term.constant_truth true) ((position, term.constant_truth false) ∷ []) (child 1 around_once)
+
+abbrev pub nester : Model
+nester = record {
+  model_name = codes "nester";
+  inputs = record { input_name = data_name; sort = truth } ∷ [];
+  top = machine (position_state ∷ []) (term.constant_truth true) (and_then look no_instructions);
+}
+
+-- In each emitted module of it, from a start with no reset in sight, the inner child ends in the third cycle after the start, without a commit,
+-- and the outer one in the fourth, with one.
+abbrev pub InnerChildEndsAlone : Type 0
+InnerChildEndsAlone =
+    (x : Module) (run : Run) (cycles t : ℕ) → IsEmittedModule nester x → IsRun (setting_of nester x) run cycles → suc (suc (suc (suc t))) < cycles
+    → ((u : ℕ) → ¬ IsResetAt (setting_of nester x) run u) → StartsAt (setting_of nester x) run t
+    → ¬ HasCommitAt (setting_of nester x) run (suc (suc (suc t))) × HasCommitAt (setting_of nester x) run (suc (suc (suc (suc t))))
+    × (state_at (setting_of nester x) run (suc (suc (suc (suc (suc t))))) position ≡ inputs_at (setting_of nester x) run t data_name)

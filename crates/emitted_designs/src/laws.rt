@@ -1,10 +1,15 @@
 //! Laws on emitted designs and their maps, each the contract of a function without code.
-ghost use Rattle.emitted_designs.specs.Laws.{BenchModelsHaveNoChildren, BenchModelsHaveTheirObligations, BenchModelsHaveTheirSize, BenchModelsKeepTheRules, BenchTextsAreShort, EmittedRunsRefine, ModelsWithoutChildrenAreTotal, SmallModelsHaveShortTexts};
-ghost use Rattle.emitted_designs.specs.Worked.{CounterHasItsMap, CounterHasItsSize, LastStoreStands, MultiplierHasItsBound, MultiplierHasItsMap, SwitchIsEmitted};
+ghost use Rattle.emitted_designs.specs.Laws.{BenchModelsHaveNoChildren, BenchModelsHaveTheirObligations, BenchModelsHaveTheirSize, BenchModelsKeepTheRules, BenchTextsAreShort, EmittedObligationsHold, EmittedRunsRefine, ModelsWithoutChildrenAreTotal, SmallModelsHaveShortTexts};
+ghost use Rattle.emitted_designs.specs.Worked.{ChildRuns, CounterHasItsMap, CounterHasItsSize, InnerChildEndsAlone, LastStoreStands, MultiplierHasItsBound, MultiplierHasItsMap, ResetEndsNothing, SwitchIsEmitted};
 
 /// Of a model without child programs each run of an emitted design from reset has one command in flight and refines the model.
 pub fn emitted_runs_refine()
     ensures { EmittedRunsRefine }
+{}
+
+/// Of a model without child programs each obligation of an emitted design holds.
+pub fn emitted_obligations_hold()
+    ensures { EmittedObligationsHold }
 {}
 
 /// A model without child programs is total.
@@ -38,6 +43,21 @@ pub fn the_switch_is_emitted()
 /// Of two stores at one address in the update of a memory the last one stands.
 pub fn the_last_store_stands()
     ensures { LastStoreStands }
+{}
+
+/// A child program takes its step after the start of its instruction, and its end is that of the instruction.
+pub fn a_child_runs()
+    ensures { ChildRuns }
+{}
+
+/// A reset where a child program would end is no end: nothing commits, and the states take their initial values.
+pub fn a_reset_ends_nothing()
+    ensures { ResetEndsNothing }
+{}
+
+/// A child program in a child program ends without a commit, and the one around it with one.
+pub fn an_inner_child_ends_alone()
+    ensures { InnerChildEndsAlone }
 {}
 
 /// The text of the counter's map.
