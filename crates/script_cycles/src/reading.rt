@@ -35,7 +35,7 @@ pub fn script_cycles(alloc: Global, design: &Design, script: &[u8]) -> Result<Sc
     let names = names_of(alloc, design)?;
     match read_script(alloc, script, &names) {
         Ok(script) => {
-            let cycles = cycles_by(alloc, design, &script)?;
+            let cycles = cycles_by(alloc, design, script)?;
             Ok(ScriptRead::Cycles(cycles))
         }
         Err(ScriptStop::Refused(refusal)) => Ok(ScriptRead::Refused(refusal)),

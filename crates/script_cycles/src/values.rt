@@ -24,15 +24,15 @@ pub struct ScriptCycles {
     pub inputs: Vec<Inputs>,
 }
 
-/// The inputs of each cycle: those that a line gives.
-fn inputs_by(alloc: Global, design: &Design, lines: &[Vec<Set>]) -> Result<Vec<Inputs>, NoMemory>
-    requires { IsTrue (list_all (λ sets. are_right (names_by (parts_of design.now)).inputs sets.items) lines.now) }
-    ensures values { IfOk result (λ v. map input_values v.items ≡ map (line_values (parts_of design.now)) (input_lines lines.now)) }
+/// The inputs of each cycle: those that a line gives. Each line goes when its inputs are made.
+fn inputs_by(alloc: Global, design: &Design, lines: Vec<Vec<Set>>) -> Result<Vec<Inputs>, NoMemory>
+    requires { IsTrue (list_all (λ sets. are_right (names_by (parts_of design.now)).inputs sets.items) lines.items) }
+    ensures values { IfOk result (λ v. map input_values v.items ≡ map (line_values (parts_of design.now)) (input_lines lines.items)) }
     ensures sorted { IfOk result (λ v. All (λ i. AreOfSorts (inputs_of (parts_of design.now)) (input_values i)) v.items) }
 {
-    let mut list = Vec::new(alloc);
+    let mut list = Vec::with_capacity(alloc, lines.len())?;
     for sets in lines {
-        let inputs = line_inputs(alloc, design, sets)?;
+        let inputs = line_inputs(alloc, design, &sets)?;
         list.push(inputs)?;
     }
     Ok(list)
@@ -42,14 +42,15 @@ fn inputs_by(alloc: Global, design: &Design, lines: &[Vec<Set>]) -> Result<Vec<I
 pub(crate) fn cycles_by(
     alloc: Global,
     design: &Design,
-    script: &Script,
+    script: Script,
 ) -> Result<ScriptCycles, NoMemory>
-    requires { IsScriptWithin (names_by (parts_of design.now)) script.now }
-    ensures registers { IfOk result (λ c. register_values c.registers ≡ first_values (parts_of design.now) script.now.state.items) }
-    ensures inputs { IfOk result (λ c. map input_values c.inputs.items ≡ map (line_values (parts_of design.now)) (input_lines script.now.inputs.items)) }
+    requires { IsScriptWithin (names_by (parts_of design.now)) script }
+    ensures registers { IfOk result (λ c. register_values c.registers ≡ first_values (parts_of design.now) script.state.items) }
+    ensures inputs { IfOk result (λ c. map input_values c.inputs.items ≡ map (line_values (parts_of design.now)) (input_lines script.inputs.items)) }
     ensures values { IfOk result (AreValuesFor (parts_of design.now)) }
 {
-    let registers = first_registers(alloc, design, &script.state)?;
-    let inputs = inputs_by(alloc, design, &script.inputs)?;
+    let Script { state, inputs } = script;
+    let registers = first_registers(alloc, design, &state)?;
+    let inputs = inputs_by(alloc, design, inputs)?;
     Ok(ScriptCycles { registers, inputs })
 }

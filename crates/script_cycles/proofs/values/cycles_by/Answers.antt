@@ -1,23 +1,18 @@
-use Rattle.std.proofs.Common.{◌∙◌, ap, map}
+use Rattle.std.proofs.Common.{◌∙◌, ap}
 use Rattle.v_design.specs.Seen.{parts_of, register_values}
-use Rattle.v_sim.specs.Texts.{first_values, line_values, input_lines}
+use Rattle.v_sim.specs.Texts.{first_values}
 use Rattle.script_cycles.proofs.Rest.{first_rest}
 use Rattle.script_cycles.proofs.values.cycles_by.Goals as goal
 
 pub returns-clause-registers : goal.returns-clause-registers
 returns-clause-registers c = c.in_ok-registers.ensures.values ∙ ap (first_values (parts_of c.args.design.now)) c.deref.ensures.value
 
-pub returns-clause-inputs : goal.returns-clause-inputs
-returns-clause-inputs c =
-    let e = parts_of c.args.design.now in
-    c.in_ok-inputs.ensures.values ∙ ap (λ ls. map (line_values e) (input_lines ls)) c.deref-2.ensures.value
-
 pub returns-clause-values : goal.returns-clause-values
 returns-clause-values c =
     let design = c.args.design.now in
     let e = parts_of design in record {
       registers = c.in_ok-registers.ensures.sorted;
-      rest = first_rest e c.args.script.now.state.items (register_values c.in_ok-registers.registers) design.counting c.requires.0
+      rest = first_rest e c.args.script.state.items (register_values c.in_ok-registers.registers) design.counting c.requires.0
           (c.in_ok-registers.ensures.values ∙ ap (first_values e) c.deref.ensures.value);
       inputs = c.in_ok-inputs.ensures.sorted;
     }
