@@ -37,7 +37,7 @@ pub(crate) fn simulated_rtl(
     ensures nothing { IfOk result (λ o. (told_of o).spent ≡ []) }
 {
     match tokens(alloc, designs) {
-        Ok(tokens) => of_tokens(alloc, names, design, script, designs, &tokens),
+        Ok(tokens) => of_tokens(alloc, names, design, script, designs, tokens),
         Err(LexStop::Refused(broken)) => {
             let text = refusal_of_text(alloc, names, &broken)?;
             Ok(Outcome::plain(Status::Refused, text))
@@ -53,14 +53,18 @@ fn of_tokens(
     design: &Top,
     script: &[u8],
     designs: &[Vec<u8>],
-    tokens: &[Token<'_>],
+    tokens: Vec<Token<'_>>,
 ) -> Result<Outcome, NoMemory>
-    requires { tokens_in (map (λ d. d.items) designs.now) ≡ Ok (tokens_of tokens.now) }
+    requires { tokens_in (map (λ d. d.items) designs.now) ≡ Ok (tokens_of tokens.items) }
     ensures told { IfOk result (λ o. IsRtlSimulated (string_bytes design.now.top) (string_bytes design.now.clock) script.now (map (λ d. d.items) designs.now) o.status o.text.items) }
     ensures nothing { IfOk result (λ o. (told_of o).spent ≡ []) }
 {
-    match parse(alloc, tokens) {
-        Ok(tree) => of_tree(&tree, alloc, design, script, designs),
+    match parse(alloc, &tokens) {
+        Ok(tree) => {
+            // The tree holds slices of the files: no token is asked for again.
+            drop(tokens);
+            of_tree(&tree, alloc, design, script, designs)
+        }
         Err(ParseStop::Refused(left)) => {
             let token = tokens.get(tokens.len().saturating_sub(left)).copied();
             match note_at(alloc, designs, token) {
