@@ -1,5 +1,5 @@
 -- What a note says.
-use Rattle.std.specs.Prelude.{ℕ, zero, suc, ◌+◌, ◌-◌, ◌/◌, ◌%◌, min, Bool, true, false, cond, not, ◌&&◌, ◌==◌, nat_le, nat_lt, List, [], ◌∷◌, ◌++◌, length, take, drop, map, slice_get, Option, Some, None, codes, decimal}
+use Rattle.std.specs.Prelude.{ℕ, zero, suc, ◌+◌, ◌-◌, ◌/◌, ◌%◌, min, Bool, true, false, cond, not, ◌&&◌, ◌||◌, ◌==◌, nat_le, nat_lt, List, [], ◌∷◌, ◌++◌, length, take, drop, map, slice_get, Option, Some, None, codes, decimal}
 use Rattle.std.specs.List.{list_any}
 use Rattle.wb_values.specs.ReservedWords.{is_reserved}
 use Rattle.verilog_text.specs.Lexical.{run_length, is_graphic}
@@ -46,10 +46,10 @@ position_text position = codes "line " ++ (decimal position.0 ++ (codes " column
 abbrev pub file_text : (file other : ℕ) → List ℕ
 file_text file other = cond (file == other) [] (codes "file " ++ (decimal (suc other) ++ codes " "))
 
--- As `, used at line 9 column 1`: the place in a file at which the macro is used in whose text a place stands.
-abbrev pub use_text : List (List ℕ) → (file : ℕ) → Option Place → List ℕ
-use_text files file None = []
-use_text files file (Some u) = codes ", used at " ++ file_text file u.file ++ position_text (position_at files u)
+-- As `, used at line 9 column 1`: that the macro in whose text a place of the first file stands is used at another place, or after it.
+abbrev pub use_text : List (List ℕ) → (file : ℕ) → (at_or_after : List ℕ) → Option Place → List ℕ
+use_text files file how None = []
+use_text files file how (Some u) = codes ", used " ++ how ++ file_text file u.file ++ position_text (position_at files u)
 
 -- ---- what stands there
 
@@ -120,15 +120,15 @@ after_text tokens count = after_from tokens count (token_before tokens count)
 
 -- What a note says: the line and the column of a place, where the macro is used whose text it is, what is to be remarked, and what stands
 -- there; the first 80 bytes of this.
-unfoldable pub note_of : List (List ℕ) → Place → (used : Option Place) → (remark : List ℕ) → List ℕ
-note_of files p used remark =
+unfoldable pub note_of : List (List ℕ) → Place → (at_or_after : List ℕ) → (used : Option Place) → (remark : List ℕ) → List ℕ
+note_of files p how used remark =
     map shown (take 80 (
-        position_text (position_at files p) ++ use_text files p.file used ++ codes ": " ++ returns_text (bytes_at files p.file) ++ remark
+        position_text (position_at files p) ++ use_text files p.file how used ++ codes ": " ++ returns_text (bytes_at files p.file) ++ remark
         ++ front_text (drop p.start (bytes_at files p.file))))
 
 -- what the note of a refusal says
 abbrev pub note_of_fault : List (List ℕ) → Fault → List ℕ
-note_of_fault files f = note_of files f.place f.used (remark_text f.remark)
+note_of_fault files f = note_of files f.place (codes "at ") f.used (remark_text f.remark)
 
 -- the place of a token
 abbrev pub place_of : Token → Place
@@ -153,11 +153,38 @@ file_of_token files t = (place_or_end files t).file
 
 -- what a note says of a token, or of the end of the last file
 abbrev pub note_of_token : List (List ℕ) → Option Token → List ℕ
-note_of_token files t = note_of files (place_or_end files t) None []
+note_of_token files t = note_of files (place_or_end files t) [] None []
 
--- What a note says of the token that so many tokens stand before, or of the end of the last file: the identifiers too behind which it stands.
+-- One place stands before another in the files.
+abbrev pub is_before : Place → Place → Bool
+is_before p q = nat_lt p.file q.file || p.file == q.file && nat_lt p.start q.start
+
+abbrev pub further : Option Place → Place → Place
+further None p = p
+further (Some q) p = cond (is_before q p) p q
+
+abbrev pub furthest_from : Option Place → List Token → Option Place
+furthest_from far [] = far
+furthest_from far (t ∷ ts) = furthest_from (Some (further far (place_of t))) ts
+
+-- the furthest place in the files at which one of some tokens stands
+abbrev pub furthest : List Token → Option Place
+furthest tokens = furthest_from None tokens
+
+abbrev pub use_behind : (far : Option Place) → Option Token → Option Place
+use_behind (Some q) (Some t) = cond (is_before (place_of t) q) (Some q) None
+use_behind _ _ = None
+
+-- After which place the macro is used in whose text the token stands that so many tokens stand before. A definition stands before the
+-- uses of its macro, and what is read outside macros is read in the order of the files: so the token is one of a macro's text, if a
+-- token before it stands further on, and the macro is used behind all of them.
+abbrev pub use_after : List Token → (count : ℕ) → Option Place
+use_after tokens count = use_behind (furthest (take count tokens)) (slice_get tokens count)
+
+-- What a note says of the token that so many tokens stand before, or of the end of the last file: the identifiers too behind which it
+-- stands, and behind what the macro is used whose text it is.
 abbrev pub note_behind : List (List ℕ) → List Token → (count : ℕ) → List ℕ
-note_behind files tokens count = note_of files (place_or_end files (slice_get tokens count)) None (after_text tokens count)
+note_behind files tokens count = note_of files (place_or_end files (slice_get tokens count)) (codes "after ") (use_after tokens count) (after_text tokens count)
 
 -- ---- the place of a number
 

@@ -1,13 +1,13 @@
 //! The tokens of files, or why they are refused.
 
-ghost use Rattle.std.specs.Prelude.{◌≡◌, ◌++◌, ◌<◌, ℕ, List, map, not, is_some, string_bytes, slice_get, IfOk, IfErr, IfSome};
+ghost use Rattle.std.specs.Prelude.{◌≡◌, ◌++◌, ◌<◌, ℕ, List, map, take, not, is_some, string_bytes, slice_get, IfOk, IfErr, IfSome};
 ghost use Rattle.std.specs.List.{list_all, All};
 ghost use Rattle.std.specs.Str.{is_utf8};
 ghost use Rattle.verilog_text.specs.Text.{tokens_in};
 ghost use Rattle.v_lex.specs.Walk.{judged, walked};
 ghost use Rattle.v_lex.specs.Reading.{reading_of, IsRead};
 ghost use Rattle.v_lex.specs.Answer.{IsAnswer, IsOfKind, IsNoted, IsNotedSomewhere};
-ghost use Rattle.v_lex.specs.Notes.{position_from, bytes_at, position_at, position_text, file_text, use_text, word_in, hexadecimal_digit, byte_text, front_text, has_byte, returns_text, is_identifier, token_before, identifier_text, after_text, note_of, end_of, place_or_end, file_of_token, note_of_token, note_behind};
+ghost use Rattle.v_lex.specs.Notes.{position_from, bytes_at, position_at, position_text, file_text, use_text, word_in, hexadecimal_digit, byte_text, front_text, has_byte, returns_text, is_identifier, token_before, identifier_text, after_text, is_before, further, furthest, use_behind, use_after, note_of, end_of, place_or_end, file_of_token, note_of_token, note_behind};
 ghost use Rattle.v_lex.specs.Sites.{walked_spots};
 ghost use Rattle.v_lex.specs.Spots.{spots_in};
 ghost use Rattle.v_lex.specs.Sited.{spot_of};
@@ -16,7 +16,7 @@ ghost use Rattle.v_lex.specs.Places.{AreShort, IsSlice};
 use crate::fault::{Fault, remark_text};
 use crate::nesting::too_deep;
 use crate::note::Note;
-use crate::place::{Place, short};
+use crate::place::{Place, place_of, short};
 use crate::run::{Run, behind, first_bytes, is_graphic, split_run};
 use crate::state::Reader;
 use crate::stop::{LexKind, LexRefusal, LexStop, NoMemory, Stop};
@@ -157,20 +157,22 @@ fn add_file(
     Ok(())
 }
 
-/// Adds where the macro is used in whose text a place of a file stands.
+/// Adds where the macro is used in whose text a place of a file stands: at another place, or after it.
 fn add_use(
     alloc: Global,
     files: &[Vec<u8>],
     file: u32,
+    how: &[u8],
     used: Option<Place>,
     text: &mut Vec<u8>,
 ) -> Result<(), AllocError>
-    ensures { IfOk result (λ _. text.new.items ≡ text.old.items ++ use_text (map (λ f. f.items) files.now) file used) }
+    ensures { IfOk result (λ _. text.new.items ≡ text.old.items ++ use_text (map (λ f. f.items) files.now) file how.now used) }
 {
     let Some(place) = used else {
         return Ok(());
     };
-    text.extend_from_slice(b", used at ")?;
+    text.extend_from_slice(b", used ")?;
+    text.extend_from_slice(how)?;
     add_file(alloc, file, place.file, text)?;
     add_position(alloc, files, place, text)?;
     Ok(())
@@ -238,16 +240,17 @@ fn note(
     alloc: Global,
     files: &[Vec<u8>],
     place: Place,
+    how: &[u8],
     used: Option<Place>,
     remark: &[u8],
 ) -> Result<Note, NoMemory>
-    ensures text { IfOk result (λ n. n.text.items ≡ note_of (map (λ f. f.items) files.now) place used remark.now) }
+    ensures text { IfOk result (λ n. n.text.items ≡ note_of (map (λ f. f.items) files.now) place how.now used remark.now) }
     ensures file { IfOk result (λ n. n.file ≡ place.file) }
 {
     let bytes = bytes_at(files, place.file);
     let mut text = Vec::new(alloc);
     add_position(alloc, files, place, &mut text)?;
-    add_use(alloc, files, place.file, used, &mut text)?;
+    add_use(alloc, files, place.file, how, used, &mut text)?;
     text.extend_from_slice(b": ")?;
     text.extend_from_slice(returns_text(bytes))?;
     text.extend_from_slice(remark)?;
@@ -271,10 +274,7 @@ fn place_or_end(files: &[Vec<u8>], token: Option<Token<'_>>) -> Place
     ensures { result ≡ place_or_end (map (λ f. f.items) files.now) token.entry }
 {
     match token {
-        Some(token) => Place {
-            file: token.file,
-            start: token.start,
-        },
+        Some(token) => place_of(token),
         None => end_of(files),
     }
 }
@@ -300,6 +300,7 @@ pub fn note_at(alloc: Global, files: &[Vec<u8>], token: Option<Token<'_>>) -> Op
         alloc,
         files,
         place_or_end(files, token),
+        b"".as_slice(),
         None,
         b"".as_slice(),
     ))
@@ -368,8 +369,76 @@ fn after_text(
     Ok(text)
 }
 
+/// Whether one place stands before another in the files.
+fn is_before(one: Place, other: Place) -> bool
+    ensures { result ≡ is_before one other }
+{
+    one.file < other.file || (one.file == other.file && one.start < other.start)
+}
+
+fn further(far: Option<Place>, place: Place) -> Place
+    ensures { result ≡ further far place }
+{
+    let Some(other) = far else {
+        return place;
+    };
+    if is_before(other, place) {
+        place
+    } else {
+        other
+    }
+}
+
+/// The furthest place in the files at which one of some tokens stands.
+fn furthest(tokens: &[Token<'_>]) -> Option<Place>
+    ensures { result ≡ furthest tokens.now }
+{
+    let mut far = None;
+    for token in tokens {
+        far = Some(further(far, place_of(*token)));
+    }
+    far
+}
+
+fn use_behind(far: Option<Place>, token: Option<Token<'_>>) -> Option<Place>
+    ensures { result ≡ use_behind far token.entry }
+{
+    let Some(other) = far else {
+        return None;
+    };
+    let Some(token) = token else {
+        return None;
+    };
+    if is_before(place_of(token), other) {
+        Some(other)
+    } else {
+        None
+    }
+}
+
+/// The first tokens, at most so many.
+fn first_tokens<'t, 's>(tokens: &'t [Token<'s>], count: usize) -> &'t [Token<'s>]
+    ensures { result.now ≡ take count tokens.now }
+{
+    if count <= tokens.len() {
+        &tokens[..count]
+    } else {
+        tokens
+    }
+}
+
+/// After which place the macro is used in whose text the token stands that so many tokens stand before.
+fn use_after(tokens: &[Token<'_>], count: usize) -> Option<Place>
+    ensures { result ≡ use_after tokens.now count }
+{
+    use_behind(
+        furthest(first_tokens(tokens, count)),
+        tokens.get(count).copied(),
+    )
+}
+
 /// The same of the token that so many tokens stand before, with the identifiers behind which it stands, as
-/// `line 3 column 9: after logic: [7:0]`.
+/// `line 3 column 9: after logic: [7:0]`. Where it is seen to be of the text of a macro, the note says after which place this is used.
 pub fn note_behind(
     alloc: Global,
     files: &[Vec<u8>],
@@ -383,7 +452,8 @@ pub fn note_behind(
         return None;
     };
     let place = place_or_end(files, tokens.get(count).copied());
-    if_made(note(alloc, files, place, None, &after))
+    let used = use_after(tokens, count);
+    if_made(note(alloc, files, place, b"after ".as_slice(), used, &after))
 }
 
 fn refusal(alloc: Global, files: &[Vec<u8>], kind: LexKind, fault: Fault) -> LexStop
@@ -394,6 +464,7 @@ fn refusal(alloc: Global, files: &[Vec<u8>], kind: LexKind, fault: Fault) -> Lex
         alloc,
         files,
         fault.place,
+        b"at ".as_slice(),
         fault.used,
         remark_text(fault.remark),
     ) {

@@ -22,7 +22,7 @@ use crate::conditional::{enter, first_branch, innermost, leave, leaves_out, next
 use crate::fault::{Fault, Remark};
 use crate::front::{left_out_front, read_front};
 use crate::piece::Piece;
-use crate::place::{Place, moved, moved_back};
+use crate::place::{Place, moved, moved_back, place_of};
 use crate::scan::begins_with_byte;
 use crate::state::{Conditional, Reader, Span};
 use crate::stop::{LexKind, Stop};
@@ -113,10 +113,7 @@ fn size_place(token: Token<'_>, place: Place) -> Place
     ensures { result ≡ cond (ends_at token.entry place) (place_of token.entry) place }
 {
     if ends_at(token, place) {
-        Place {
-            file: token.file,
-            start: token.start,
-        }
+        place_of(token)
     } else {
         place
     }
