@@ -151,10 +151,6 @@ place_or_end files None = end_of files
 abbrev pub file_of_token : List (List ℕ) → Option Token → ℕ
 file_of_token files t = (place_or_end files t).file
 
--- what a note says of a token, or of the end of the last file
-abbrev pub note_of_token : List (List ℕ) → Option Token → List ℕ
-note_of_token files t = note_of files (place_or_end files t) [] None []
-
 -- One place stands before another in the files.
 abbrev pub is_before : Place → Place → Bool
 is_before p q = nat_lt p.file q.file || p.file == q.file && nat_lt p.start q.start

@@ -7,7 +7,7 @@ ghost use Rattle.verilog_text.specs.Text.{tokens_in};
 ghost use Rattle.v_lex.specs.Walk.{judged, walked};
 ghost use Rattle.v_lex.specs.Reading.{reading_of, IsRead};
 ghost use Rattle.v_lex.specs.Answer.{IsAnswer, IsOfKind, IsNoted, IsNotedSomewhere};
-ghost use Rattle.v_lex.specs.Notes.{position_from, bytes_at, position_at, position_text, file_text, use_text, word_in, hexadecimal_digit, byte_text, front_text, has_byte, returns_text, is_identifier, token_before, identifier_text, after_text, is_before, further, furthest, use_behind, use_after, note_of, end_of, place_or_end, file_of_token, note_of_token, note_behind};
+ghost use Rattle.v_lex.specs.Notes.{position_from, bytes_at, position_at, position_text, file_text, use_text, word_in, hexadecimal_digit, byte_text, front_text, has_byte, returns_text, is_identifier, token_before, identifier_text, after_text, is_before, further, furthest, use_behind, use_after, note_of, end_of, place_or_end, file_of_token, note_behind};
 ghost use Rattle.v_lex.specs.Sites.{walked_spots};
 ghost use Rattle.v_lex.specs.Spots.{spots_in};
 ghost use Rattle.v_lex.specs.Sited.{spot_of};
@@ -290,22 +290,6 @@ fn if_made(note: Result<Note, NoMemory>) -> Option<Note>
     }
 }
 
-/// A note that leads to a token of the files, or to the end of the last file where no token is left:
-/// `line 3 column 7: ` and the word there, and beside it the number of the file. None where memory runs out.
-pub fn note_at(alloc: Global, files: &[Vec<u8>], token: Option<Token<'_>>) -> Option<Note>
-    ensures text { IfSome result (λ n. n.text.items ≡ note_of_token (map (λ f. f.items) files.now) token.entry) }
-    ensures file { IfSome result (λ n. n.file ≡ file_of_token (map (λ f. f.items) files.now) token.entry) }
-{
-    if_made(note(
-        alloc,
-        files,
-        place_or_end(files, token),
-        b"".as_slice(),
-        None,
-        b"".as_slice(),
-    ))
-}
-
 fn is_identifier(token: Token<'_>) -> bool
     ensures { result ≡ is_identifier token.entry }
 {
@@ -437,8 +421,10 @@ fn use_after(tokens: &[Token<'_>], count: usize) -> Option<Place>
     )
 }
 
-/// The same of the token that so many tokens stand before, with the identifiers behind which it stands, as
-/// `line 3 column 9: after logic: [7:0]`. Where it is seen to be of the text of a macro, the note says after which place this is used.
+/// A note that leads to the token that so many tokens stand before, or to the end of the last file where there is none: `line 3 column 7: `
+/// and the word there, and beside it the number of the file. It names the identifiers behind which the token stands, as
+/// `line 3 column 9: after logic: [7:0]`, and after which place a macro is used, where the token is seen to be of its text. None where
+/// memory runs out.
 pub fn note_behind(
     alloc: Global,
     files: &[Vec<u8>],

@@ -24,7 +24,7 @@ mod stop;
 mod table;
 mod words;
 
-pub use answer::{note_at, note_behind, tokens};
+pub use answer::{note_behind, tokens};
 pub use note::Note;
 pub use stop::{LexKind, LexRefusal, LexStop};
 pub use v_token::token::{Mark, Token, TokenKind};
