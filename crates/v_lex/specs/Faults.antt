@@ -67,7 +67,7 @@ abbrev pub or_place : Option Place → Place → Place
 or_place (Some p) other = p
 or_place None other = other
 
--- where a macro is used in a file: there, if the place stands in the text of none
+-- where a file uses a macro whose use stands at a place: there, if the place is in the text of none
 abbrev pub use_in_file : Fault → Place
 use_in_file f = or_place f.used f.place
 

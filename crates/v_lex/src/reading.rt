@@ -9,7 +9,7 @@ ghost use Rattle.v_token.specs.View.{token_of_kind, token_of};
 ghost use Rattle.v_lex.specs.Quotes.{are_alone};
 ghost use Rattle.v_lex.specs.View.{piece_of, front_of, at_front, IsPart};
 ghost use Rattle.v_lex.specs.Reading.{reading_of, IsOutcome, Leaves, IsTaken, IsFront, front_in, without_first};
-ghost use Rattle.v_lex.specs.Notes.{ends_at, number_place, place_of, stray_place};
+ghost use Rattle.v_lex.specs.Notes.{stray_place};
 ghost use Rattle.v_lex.specs.Faults.{remarked, openers_of, first_kept, last_token, IsStrayAt, IsFaultAt, IsTokenFault, use_in_file, use_around, too_many_levels};
 ghost use Rattle.v_lex.specs.Places.{AreShort};
 ghost use Rattle.v_lex.specs.Sites.{Sites, piece_sites, sites_from, macro_sites};
@@ -19,11 +19,10 @@ ghost use Rattle.v_lex.specs.Sited.{site_of, sites_of, IsSited, LeavesSites};
 ghost use Rattle.v_lex.specs.Placed.{span_under, IsSpanOf, IsReaderPlaced, Keeps, IsPieceAt, IsUse, IsTakenAt, IsFrontAt};
 
 use crate::conditional::{enter, first_branch, innermost, leave, leaves_out, next_branch};
-use crate::fault::{Fault, Remark};
+use crate::fault::{Fault, Remark, last_token, number_place, stray_place, use_in_file};
 use crate::front::{left_out_front, read_front};
 use crate::piece::Piece;
-use crate::place::{Place, moved, moved_back, place_of};
-use crate::scan::begins_with_byte;
+use crate::place::{Place, moved, moved_back};
 use crate::state::{Conditional, Reader, Span};
 use crate::stop::{LexKind, Stop};
 use crate::table::{macro_text, set_macro};
@@ -72,61 +71,6 @@ fn total_used(used: usize, more: usize) -> Option<usize>
         Some(total)
     } else {
         None
-    }
-}
-
-/// The last of some tokens.
-fn last_token<'s>(tokens: &[Token<'s>]) -> Option<Token<'s>>
-    ensures { result ≡ last_token tokens.now }
-{
-    match tokens.last() {
-        Some(token) => Some(*token),
-        None => None,
-    }
-}
-
-/// Whether the text of a token ends at a place.
-fn ends_at(token: Token<'_>, place: Place) -> bool
-    ensures { result ≡ ends_at token.entry place }
-{
-    if token.file != place.file || token.start > place.start {
-        return false;
-    }
-    (place.start - token.start) as usize == token.text.len()
-}
-
-/// Where a number begins whose base stands at a place: with its size, if the token before is one and ends there.
-fn number_place(before: Option<Token<'_>>, place: Place) -> Place
-    ensures { result ≡ number_place before.entry place }
-{
-    let Some(token) = before else {
-        return place;
-    };
-    match token.kind {
-        TokenKind::Decimal => size_place(token, place),
-        _ => place,
-    }
-}
-
-/// The same behind a plain decimal.
-fn size_place(token: Token<'_>, place: Place) -> Place
-    ensures { result ≡ cond (ends_at token.entry place) (place_of token.entry) place }
-{
-    if ends_at(token, place) {
-        place_of(token)
-    } else {
-        place
-    }
-}
-
-/// Where a text begins no token: at its first byte; a number that its base begins, with its size.
-fn stray_place(before: Option<Token<'_>>, text: &[u8], place: Place) -> Place
-    ensures { result ≡ stray_place before.entry text.now place }
-{
-    if begins_with_byte(text, b'\'') {
-        number_place(before, place)
-    } else {
-        place
     }
 }
 
@@ -274,7 +218,7 @@ impl<'s> Reader<'s> {
         match total_used(self.used, text.text.len()) {
             Some(used) => {
                 self.used = used;
-                self.last_use = Some(here.used.unwrap_or(here.place));
+                self.last_use = Some(use_in_file(here));
                 Ok(Some(text))
             }
             None => Err(Stop::Refused(
