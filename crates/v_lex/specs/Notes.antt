@@ -123,8 +123,8 @@ after_text tokens count = after_from tokens count (token_before tokens count)
 unfoldable pub note_of : List (List ℕ) → Place → (at_or_after : List ℕ) → (used : Option Place) → (remark : List ℕ) → List ℕ
 note_of files p how used remark =
     map shown (take 80 (
-        position_text (position_at files p) ++ use_text files p.file how used ++ codes ": " ++ returns_text (bytes_at files p.file) ++ remark
-        ++ front_text (drop p.start (bytes_at files p.file))))
+    position_text (position_at files p) ++ use_text files p.file how used ++ codes ": " ++ returns_text (bytes_at files p.file) ++ remark
+    ++ front_text (drop p.start (bytes_at files p.file))))
 
 -- what the note of a refusal says
 abbrev pub note_of_fault : List (List ℕ) → Fault → List ℕ

@@ -140,12 +140,7 @@ fn add_position(
 }
 
 /// Adds the number of another file, from 1.
-fn add_file(
-    alloc: Global,
-    file: u32,
-    other: u32,
-    text: &mut Vec<u8>,
-) -> Result<(), AllocError>
+fn add_file(alloc: Global, file: u32, other: u32, text: &mut Vec<u8>) -> Result<(), AllocError>
     ensures { IfOk result (λ _. text.new.items ≡ text.old.items ++ file_text file other) }
 {
     if file == other {
@@ -328,11 +323,7 @@ fn add_identifier(
 }
 
 /// As `after logic: `: the identifiers, one or two, behind which the token at a place among the tokens stands.
-fn after_text(
-    alloc: Global,
-    tokens: &[Token<'_>],
-    count: usize,
-) -> Result<Vec<u8>, AllocError>
+fn after_text(alloc: Global, tokens: &[Token<'_>], count: usize) -> Result<Vec<u8>, AllocError>
     ensures { IfOk result (λ v. v.items ≡ after_text tokens.now count) }
 {
     let mut text = Vec::new(alloc);

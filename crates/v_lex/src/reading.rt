@@ -123,10 +123,7 @@ impl<'s> Reader<'s> {
             return Err(Stop::Refused(LexKind::BadToken, here.moved_to(place)));
         }
         if self.tokens.len() >= MOST_TOKENS {
-            return Err(Stop::Refused(
-                LexKind::BadDirective,
-                here.with(Remark::ManyTokens),
-            ));
+            return Err(Stop::Refused(LexKind::BadDirective, here.with(Remark::ManyTokens)));
         }
         self.is_behind_zero = is_zero(token.kind, token.text.as_bytes());
         self.tokens.push(token)?;
@@ -221,10 +218,7 @@ impl<'s> Reader<'s> {
                 self.last_use = Some(use_in_file(here));
                 Ok(Some(text))
             }
-            None => Err(Stop::Refused(
-                LexKind::BadDirective,
-                here.with(Remark::ManyBytes),
-            )),
+            None => Err(Stop::Refused(LexKind::BadDirective, here.with(Remark::ManyBytes))),
         }
     }
 
