@@ -294,14 +294,21 @@ fn is_identifier(token: Token<'_>) -> bool
     }
 }
 
-/// The token before that place among the tokens.
+/// The token that so many tokens stand before.
+fn token_at<'s>(tokens: &[Token<'s>], count: usize) -> Option<Token<'s>>
+    ensures { result ≡ slice_get tokens.now count }
+{
+    tokens.get(count).copied()
+}
+
+/// The last of the first tokens, so many.
 fn token_before<'s>(tokens: &[Token<'s>], count: usize) -> Option<Token<'s>>
     ensures { result ≡ token_before tokens.now count }
 {
     if count == 0 {
         return None;
     }
-    tokens.get(count - 1).copied()
+    token_at(tokens, count - 1)
 }
 
 /// Adds a token's text and some bytes, where it is an identifier.
@@ -408,7 +415,7 @@ fn use_after(tokens: &[Token<'_>], count: usize) -> Option<Place>
 {
     use_behind(
         furthest(first_tokens(tokens, count)),
-        tokens.get(count).copied(),
+        token_at(tokens, count),
     )
 }
 
@@ -428,7 +435,7 @@ pub fn note_behind(
     let Ok(after) = after_text(alloc, tokens, count) else {
         return None;
     };
-    let place = place_or_end(files, tokens.get(count).copied());
+    let place = place_or_end(files, token_at(tokens, count));
     let used = use_after(tokens, count);
     if_made(note(alloc, files, place, b"after ".as_slice(), used, &after))
 }
