@@ -1,12 +1,11 @@
 -- Which places of faults are kept.
-use Rattle.std.specs.Prelude.{◌≡◌, ℕ, Bool, cond, nat_lt, List, [], ◌∷◌, map, reverse, Option, Some, None, Result, Ok, Err, ⊤}
+use Rattle.std.specs.Prelude.{◌≡◌, ℕ, cond, nat_lt, List, [], ◌∷◌, map, reverse, Option, Some, None, Result, Ok, Err, ⊤}
 use Rattle.v_token.specs.declared.token.Token.{Token}
 use Rattle.v_lex.specs.declared.fault.Fault.{Fault}
 use Rattle.v_lex.specs.declared.fault.Remark.{Remark}
 use Rattle.v_lex.specs.declared.fault.Remark.TheVariants.{Nothing, ManyLevels, ManyTokens}
 use Rattle.v_lex.specs.declared.place.Place.{Place}
 use Rattle.v_lex.specs.declared.piece.Piece.{Piece}
-use Rattle.v_lex.specs.declared.stop.LexKind.{LexKind}
 use Rattle.v_lex.specs.declared.stop.LexKind.TheVariants.{BadToken, BadDirective}
 use Rattle.v_lex.specs.declared.stop.Stop.{Stop}
 use Rattle.v_lex.specs.declared.stop.Stop.TheVariants.{Memory, Refused}
