@@ -9,7 +9,8 @@ use v_lex::Note;
 /// Why a text is read as no expression.
 #[derive(Drop)]
 pub enum TextStop {
-    /// It has no tokens, or they spell no expression. The note leads to the place in the text, as `line 1 column 7: &&`.
+    /// It has no tokens, or they spell no expression. The note leads to the place in the text, as `line 1 column 7: &&` or
+    /// `line 1 column 2: after f: (cnt)`.
     Refused(Note),
     /// Memory ran out, which says nothing of the text.
     NoMemory,

@@ -13,7 +13,7 @@ use crate::TextStop;
 use std::alloc::{AllocError, Global};
 use v_dotted::{OwnedToken, dotted_tokens, whole_expression};
 use v_expr::ExpressionStop;
-use v_lex::{LexStop, Token, TokenKind, note_at, tokens};
+use v_lex::{LexStop, Token, TokenKind, note_behind, tokens};
 use v_syntax::tree::Expression;
 
 /// The text of an expression with its tokens, where identifiers with dots between them are one name. Its tree borrows the names.
@@ -73,19 +73,26 @@ fn words_of<'t>(alloc: Global, tokens: &'t [OwnedToken]) -> Result<Vec<&'t str>,
     Ok(names)
 }
 
-/// The refusal at the token where so many are left; at the end of the text where none are.
-fn refused_at(alloc: Global, files: &[Vec<u8>], tokens: &[OwnedToken], left: usize) -> TextStop {
-    let place = tokens.len().saturating_sub(left);
-    let token = match tokens.get(place) {
-        Some(token) => Some(Token {
+/// The tokens, whose texts are borrowed.
+fn borrowed(alloc: Global, tokens: &[OwnedToken]) -> Result<Vec<Token<'_>>, AllocError> {
+    let mut list = Vec::new(alloc);
+    for token in tokens {
+        list.push(Token {
             kind: token.kind,
             text: token.text.as_str(),
             file: token.file,
             start: token.start,
-        }),
-        None => None,
+        })?;
+    }
+    Ok(list)
+}
+
+/// The refusal at the token where so many are left; at the end of the text where none are.
+fn refused_at(alloc: Global, files: &[Vec<u8>], tokens: &[OwnedToken], left: usize) -> TextStop {
+    let Ok(list) = borrowed(alloc, tokens) else {
+        return TextStop::NoMemory;
     };
-    match note_at(alloc, files, token) {
+    match note_behind(alloc, files, &list, tokens.len().saturating_sub(left)) {
         Some(note) => TextStop::Refused(note),
         None => TextStop::NoMemory,
     }

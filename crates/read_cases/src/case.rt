@@ -38,7 +38,7 @@ use ready_maps::laws::accepted_maps_are_ready;
 use std::alloc::{AllocError, Global};
 use v_elab::{Elaborated, elaborate};
 use v_judged::{DesignKind, Judged, judged};
-use v_lex::{LexRefusal, LexStop, Note, note_at, tokens};
+use v_lex::{LexRefusal, LexStop, Note, note_behind, tokens};
 use v_parse::{ParseStop, parse};
 use v_places::Place;
 use v_syntax::module::Tree;
@@ -132,8 +132,8 @@ fn of_tokens(
             of_tree(&tree, alloc, model, written)
         }
         Err(ParseStop::Refused(left)) => {
-            let token = tokens.get(tokens.len().saturating_sub(left)).copied();
-            match note_at(alloc, designs, token) {
+            let count = tokens.len().saturating_sub(left);
+            match note_behind(alloc, designs, tokens, count) {
                 Some(note) => Ok(FilesCase::Tokens(note)),
                 None => Err(AllocError),
             }

@@ -3,6 +3,7 @@ pub mod Quotes
 pub mod Reading
 pub mod Nesting
 pub mod Notes
+pub mod Faults
 pub mod Answer
 pub mod Places
 pub mod Spots

@@ -3,13 +3,15 @@
 ghost use Rattle.std.specs.Prelude.{◌≡◌, ◌∷◌, IfOk, option_map, not};
 ghost use Rattle.verilog_text.specs.Text.{is_taken, leaves_out, first_branch, next_branch, is_defined};
 ghost use Rattle.v_lex.specs.Reading.{branch_of, conditional_of, conditionals_of, first_in, without_first};
+ghost use Rattle.v_lex.specs.Faults.{openers_of};
 
 use crate::state::{Branch, Conditional};
 use std::alloc::AllocError;
 
 /// The innermost conditional.
 pub(crate) fn innermost(stack: &[Conditional]) -> Option<Conditional>
-    ensures { option_map conditional_of result ≡ first_in (conditionals_of stack.now) }
+    ensures conditional { option_map conditional_of result ≡ first_in (conditionals_of stack.now) }
+    ensures opener { option_map (λ c. c.opener) result ≡ first_in (openers_of stack.now) }
 {
     match stack.last() {
         Some(conditional) => Some(*conditional),
@@ -21,14 +23,16 @@ pub(crate) fn enter(
     stack: &mut Vec<Conditional>,
     conditional: Conditional,
 ) -> Result<(), AllocError>
-    ensures { IfOk result (λ _. conditionals_of stack.new.items ≡ conditional_of conditional ∷ conditionals_of stack.old.items) }
+    ensures conditionals { IfOk result (λ _. conditionals_of stack.new.items ≡ conditional_of conditional ∷ conditionals_of stack.old.items) }
+    ensures openers { IfOk result (λ _. openers_of stack.new.items ≡ conditional.opener ∷ openers_of stack.old.items) }
 {
     stack.push(conditional)?;
     Ok(())
 }
 
 pub(crate) fn leave(stack: &mut Vec<Conditional>)
-    ensures { conditionals_of stack.new.items ≡ without_first (conditionals_of stack.old.items) }
+    ensures conditionals { conditionals_of stack.new.items ≡ without_first (conditionals_of stack.old.items) }
+    ensures openers { openers_of stack.new.items ≡ without_first (openers_of stack.old.items) }
 {
     stack.pop();
 }

@@ -4,6 +4,7 @@ ghost use Rattle.std.specs.Prelude.{◌≡◌, ◌-◌, ℕ, List, Some, map, mi
 ghost use Rattle.verilog_text.specs.Text.{without_byte_order_mark};
 ghost use Rattle.v_lex.specs.Walk.{first_reading, opened, closed, file_read, files_read, text_from, macro_read};
 ghost use Rattle.v_lex.specs.Reading.{reading_of, IsOutcome};
+ghost use Rattle.v_lex.specs.Faults.{openers_of, with_open};
 ghost use Rattle.v_lex.specs.Places.{AreShort};
 ghost use Rattle.v_lex.specs.Sites.{first_sites, file_sites, files_sites};
 ghost use Rattle.v_lex.specs.Sited.{sites_of};
@@ -11,7 +12,7 @@ ghost use Rattle.v_lex.specs.Placed.{Keeps, IsReaderPlaced};
 
 use crate::conditional::innermost;
 use crate::place::{Place, short};
-use crate::reading::whole_span;
+use crate::reading::{MOST_LEVELS, whole_span};
 use crate::state::{Reader, Span};
 use crate::stop::Stop;
 use std::alloc::Global;
@@ -41,14 +42,6 @@ fn file_span(number: u32, bytes: &[u8]) -> Span<'_>
     whole_span(text, place)
 }
 
-/// Where a file ends.
-fn end_of(number: u32, bytes: &[u8]) -> Place {
-    Place {
-        file: number,
-        start: short(bytes.len()),
-    }
-}
-
 impl<'s> Reader<'s> {
     pub(crate) fn new(alloc: Global) -> Reader<'s>
         ensures reading { reading_of result ≡ first_reading }
@@ -63,6 +56,7 @@ impl<'s> Reader<'s> {
             used: 0,
             misdirected: None,
             left_out: None,
+            last_use: None,
         }
     }
 
@@ -75,12 +69,13 @@ impl<'s> Reader<'s> {
     }
 
     #[tactic(auto, unfolding(crate::specs::Walk::closed))]
-    fn end_file(&mut self, place: Place)
+    fn end_file(&mut self)
         ensures reading { reading_of self.new ≡ closed (reading_of self.old) }
         ensures kept { Keeps self.old self.new }
+        ensures noted { self.new.misdirected ≡ with_open self.old.misdirected (openers_of self.old.conditionals.items) }
     {
-        if innermost(&self.conditionals).is_some() {
-            self.misdirect(place);
+        if let Some(conditional) = innermost(&self.conditionals) {
+            self.misdirect(conditional.opener);
         }
     }
 
@@ -91,8 +86,8 @@ impl<'s> Reader<'s> {
         ensures sites { (files : List (List ℕ)) → AreShort files → slice_get files number ≡ Some bytes.now → IsReaderPlaced files self.old → IfOk result (λ _. file_sites number bytes.now (reading_of self.old) (sites_of self.old) ≡ sites_of self.new) }
     {
         self.begin_file();
-        self.read_text(64, false, file_span(number, bytes))?;
-        self.end_file(end_of(number, bytes));
+        self.read_text(MOST_LEVELS, false, file_span(number, bytes))?;
+        self.end_file();
         Ok(())
     }
 

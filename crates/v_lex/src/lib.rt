@@ -5,6 +5,7 @@ mod answer;
 mod ascii;
 mod conditional;
 mod directive;
+mod fault;
 mod files;
 mod front;
 pub mod laws;
@@ -23,7 +24,7 @@ mod stop;
 mod table;
 mod words;
 
-pub use answer::{note_at, tokens};
+pub use answer::{note_behind, tokens};
 pub use note::Note;
 pub use stop::{LexKind, LexRefusal, LexStop};
 pub use v_token::token::{Mark, Token, TokenKind};

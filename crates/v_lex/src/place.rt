@@ -1,6 +1,9 @@
 //! Places in the files.
 
 ghost use Rattle.std.specs.Prelude.{◌≡◌, ◌+◌, ◌-◌, min, length};
+ghost use Rattle.v_lex.specs.Notes.{place_of};
+
+use v_token::token::Token;
 
 /// A place in the files.
 #[derive(Clone, Copy, PartialEq, Eq, Debug)]
@@ -9,6 +12,16 @@ pub(crate) struct Place {
     pub file: u32,
     /// The byte in it.
     pub start: u32,
+}
+
+/// Where a token begins.
+pub(crate) fn place_of(token: Token<'_>) -> Place
+    ensures { result ≡ place_of token.entry }
+{
+    Place {
+        file: token.file,
+        start: token.start,
+    }
 }
 
 /// A count as a number of 32 bits.

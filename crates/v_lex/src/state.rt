@@ -3,6 +3,7 @@
 ghost use Rattle.std.specs.Prelude.{◌≡◌, IsTrue};
 ghost use Rattle.v_lex.specs.Quotes.{are_alone};
 
+use crate::fault::Fault;
 use crate::place::Place;
 use std::collections::BTreeMap;
 use v_token::token::Token;
@@ -37,6 +38,8 @@ pub(crate) struct Conditional {
     pub branch: Branch,
     /// Whether its last branch has begun.
     pub has_else: bool,
+    /// Where it begins.
+    pub opener: Fault,
 }
 
 /// What is known behind a part of the files.
@@ -53,7 +56,9 @@ pub(crate) struct Reader<'s> {
     /// The bytes of the macros' texts, counted at each use.
     pub used: usize,
     /// The first wrong directive.
-    pub misdirected: Option<Place>,
+    pub misdirected: Option<Fault>,
     /// The first construct that the subset leaves out.
-    pub left_out: Option<Place>,
+    pub left_out: Option<Fault>,
+    /// Where the last macro was used that is used in a file, and not in the text of another.
+    pub last_use: Option<Place>,
 }

@@ -3,8 +3,8 @@
 ghost use Rattle.std.specs.Prelude.{◌≡◌};
 ghost use Rattle.v_lex.specs.declared.stop.Stop.TheVariants.{Memory};
 
+use crate::fault::Fault;
 use crate::note::Note;
-use crate::place::Place;
 use std::alloc::{AllocError, AllocFailed};
 
 /// The kinds of refusals, in the order in which they are answered.
@@ -28,7 +28,7 @@ pub(crate) enum Stop {
     /// There was not enough memory.
     Memory,
     /// The files are refused.
-    Refused(LexKind, Place),
+    Refused(LexKind, Fault),
 }
 
 impl From<AllocError> for Stop {
@@ -52,7 +52,8 @@ impl<T: Drop> From<AllocFailed<T>> for Stop {
 pub struct LexRefusal {
     /// The first kind, in the order of the kinds, that the files have anywhere.
     pub kind: LexKind,
-    /// Where it stands: the number of the file, from 0, and `line 3 column 7: ` with the word there, lines and columns from 1.
+    /// Where it stands: the number of the file, from 0, and `line 3 column 7: ` with the word there, lines and columns from 1. Where the
+    /// place stands in the text of a macro, the note says where this is used; and it says which limit is passed.
     pub note: Note,
 }
 

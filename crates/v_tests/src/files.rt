@@ -1,7 +1,7 @@
 //! The files of a row, and what is found in them. `␜` stands between two files. In a file `⟨COUNT PIECE⟩` stands for so many copies of the
 //! piece; in `⟨FROM..TO PIECE⟩` the copies are numbered, and in each `@` stands for its number and `#` for the next.
 
-use crate::lexing::{add_joined, add_mark, add_note, kind_name};
+use crate::lexing::{add_joined, add_mark, add_note, add_note_of_tokens, kind_name};
 use crate::printing::add_printed_twice;
 use crate::reading::add_read;
 use crate::rows::halves;
@@ -65,19 +65,26 @@ pub fn add_of_files(alloc: Global, kind: &str, files: &[Vec<u8>], out: &mut Shee
     match kind {
         "prints" | "reprints" => add_printed_twice(alloc, kind, files, out),
         _ => match tokens(alloc, files) {
-            Ok(tokens) => add_of_tokens(&tokens, alloc, kind, out),
+            Ok(tokens) => add_of_tokens(&tokens, alloc, kind, files, out),
             Err(stop) => add_of_stop(alloc, kind, &stop, out),
         },
     }
 }
 
 /// Adds what is found of files that have tokens.
-fn add_of_tokens(tokens: &[Token<'_>], alloc: Global, kind: &str, out: &mut Sheet) {
+fn add_of_tokens(
+    tokens: &[Token<'_>],
+    alloc: Global,
+    kind: &str,
+    files: &[Vec<u8>],
+    out: &mut Sheet,
+) {
     match kind {
         "tokens" => add_joined(tokens, "|", out),
         "lexical" => add_joined(tokens, " ", out),
         "mark" => add_mark(tokens, alloc, out),
-        "note" | "kind" => out.add("read"),
+        "note" => add_note_of_tokens(tokens, alloc, files, out),
+        "kind" => out.add("read"),
         _ => add_read(tokens, alloc, kind, out),
     }
 }
@@ -88,7 +95,7 @@ fn add_of_stop(alloc: Global, kind: &str, stop: &LexStop, out: &mut Sheet) {
         return out.fail();
     };
     match kind {
-        "note" => add_note(alloc, refusal, out),
+        "note" => add_note(alloc, &refusal.note, out),
         "tokens" | "lexical" | "kind" | "file" => out.add(kind_name(refusal.kind)),
         _ => out.add("no tokens"),
     }

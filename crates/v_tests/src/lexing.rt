@@ -2,7 +2,8 @@
 
 use crate::sheet::Sheet;
 use std::alloc::Global;
-use v_lex::{LexKind, LexRefusal};
+use v_lex::{LexKind, Note, note_behind};
+use v_parse::{ParseStop, parse};
 use v_token::token::{Token, TokenKind};
 
 /// The bytes of a token.
@@ -43,11 +44,29 @@ pub fn add_mark(tokens: &[Token<'_>], alloc: Global, out: &mut Sheet) {
     }
 }
 
-/// Adds the file and the text of a refusal's note.
-pub fn add_note(alloc: Global, refusal: &LexRefusal, out: &mut Sheet) {
-    out.add_number(alloc, "file ", u128::from(refusal.note.file));
+/// Adds the file and the text of a note.
+pub fn add_note(alloc: Global, note: &Note, out: &mut Sheet) {
+    out.add_number(alloc, "file ", u128::from(note.file));
     out.add(" ");
-    out.add_bytes(refusal.note.as_bytes());
+    out.add_bytes(note.as_bytes());
+}
+
+/// Adds the note on the token with which no source goes on, or that there is none such.
+pub fn add_note_of_tokens(tokens: &[Token<'_>], alloc: Global, files: &[Vec<u8>], out: &mut Sheet) {
+    match parse(alloc, tokens) {
+        Ok(tree) => {
+            out.add("read");
+            drop(tree);
+        }
+        Err(ParseStop::Refused(left)) => {
+            let count = tokens.len().saturating_sub(left);
+            match note_behind(alloc, files, tokens, count) {
+                Some(note) => add_note(alloc, &note, out),
+                None => out.fail(),
+            }
+        }
+        Err(ParseStop::NoMemory) => out.fail(),
+    }
 }
 
 /// Whether a token takes so many bytes at most.

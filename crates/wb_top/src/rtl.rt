@@ -20,7 +20,7 @@ use designs_of_texts::laws::trees_are_of_texts;
 use rtl_simulation::RtlSimulation;
 use std::alloc::{AllocError, Global};
 use v_judged::DesignKind;
-use v_lex::{LexStop, note_at, tokens};
+use v_lex::{LexStop, note_behind, tokens};
 use v_parse::{ParseStop, parse};
 use v_syntax::module::Tree;
 use v_token::token::Token;
@@ -66,8 +66,8 @@ fn of_tokens(
             of_tree(&tree, alloc, design, script, designs)
         }
         Err(ParseStop::Refused(left)) => {
-            let token = tokens.get(tokens.len().saturating_sub(left)).copied();
-            match note_at(alloc, designs, token) {
+            let count = tokens.len().saturating_sub(left);
+            match note_behind(alloc, designs, tokens, count) {
                 Some(note) => {
                     let text = refusal_of_tree(alloc, names, &note)?;
                     Ok(Outcome::plain(Status::Refused, text))

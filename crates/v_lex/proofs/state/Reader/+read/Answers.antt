@@ -15,7 +15,7 @@ use Rattle.v_lex.proofs.state.Reader.+read.Goals as goal
 pub read_macro-returns-then-levels-eq0-clause-outcome : goal.read_macro-returns-then-levels-eq0-clause-outcome
 read_macro-returns-then-levels-eq0-clause-outcome t c =
     ap (λ (k : ℕ). macro_read k c.args.text.text.now (reading_of c.args.self.now)) c.if-levels-eq0.true
-    ∙ no_level _ _ ∙ ap (λ (r : Reading). Ok r) (sym c.misdirect.ensures.reading)
+    ∙ no_level _ _ ∙ ap (λ (r : Reading). Ok r) (sym c.pass_levels.ensures.reading)
 
 pub read_macro-returns-clause-outcome : goal.read_macro-returns-clause-outcome
 read_macro-returns-clause-outcome t c =
@@ -40,7 +40,7 @@ read_text-returns-in_err-taken-clause-outcome t c =
     (c.in_ok-piece.ensures.front ∙ ap (λ x. Some (option_map span_front x)) c.in-Some.is) c.in_err-taken.ensures.outcome c.loop-piece.invariant.0)
 
 pub read_macro-returns-then-levels-eq0-clause-places : goal.read_macro-returns-then-levels-eq0-clause-places
-read_macro-returns-then-levels-eq0-clause-places t c = λ files s m p. kept files c.args.self.now c.misdirect.new.self c.misdirect.ensures.kept p
+read_macro-returns-then-levels-eq0-clause-places t c = λ files s m p. kept files c.args.self.now c.pass_levels.new.self c.pass_levels.ensures.kept p
 
 pub read_macro-returns-clause-places : goal.read_macro-returns-clause-places
 read_macro-returns-clause-places t c = λ files s m p. c.read_text.ensures.places files s m p
@@ -87,7 +87,7 @@ read_text-loop-piece-preserved t c =
 pub read_macro-returns-then-levels-eq0-clause-sites : goal.read_macro-returns-then-levels-eq0-clause-sites
 read_macro-returns-then-levels-eq0-clause-sites t c = λ files s m p.
     ap (λ (k : ℕ). macro_sites k (site_of c.args.text.place) c.args.text.text.now (reading_of c.args.self.now) (sites_of c.args.self.now)) c.if-levels-eq0.true
-    ∙ no_level_sites _ _ _ _ ∙ kept_sites c.args.self.now c.misdirect.new.self c.misdirect.ensures.kept
+    ∙ no_level_sites _ _ _ _ ∙ kept_sites c.args.self.now c.pass_levels.new.self c.pass_levels.ensures.kept
 
 pub read_macro-returns-clause-sites : goal.read_macro-returns-clause-sites
 read_macro-returns-clause-sites t c = λ files s m p.
