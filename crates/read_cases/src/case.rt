@@ -133,7 +133,7 @@ fn of_tokens(
         }
         Err(ParseStop::Refused(left)) => {
             let count = tokens.len().saturating_sub(left);
-            match note_behind(alloc, designs, tokens, count) {
+            match note_behind(alloc, designs, &tokens, count) {
                 Some(note) => Ok(FilesCase::Tokens(note)),
                 None => Err(AllocError),
             }

@@ -67,7 +67,7 @@ fn of_tokens(
         }
         Err(ParseStop::Refused(left)) => {
             let count = tokens.len().saturating_sub(left);
-            match note_behind(alloc, designs, tokens, count) {
+            match note_behind(alloc, designs, &tokens, count) {
                 Some(note) => {
                     let text = refusal_of_tree(alloc, names, &note)?;
                     Ok(Outcome::plain(Status::Refused, text))
