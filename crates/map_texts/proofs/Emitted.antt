@@ -38,11 +38,11 @@ bare_name n h =
 
 -- ---- parts of lists
 
-all_left : (p : Name → Bool) (xs ys : List Name) → list_all p (xs ++ ys) ≡ true → list_all p xs ≡ true
+pub all_left : (p : Name → Bool) (xs ys : List Name) → list_all p (xs ++ ys) ≡ true → list_all p xs ≡ true
 all_left p [] ys h = refl
 all_left p (x ∷ xs) ys h = let c = and_parts (p x) (list_all p (xs ++ ys)) h in and_from (p x) (list_all p xs) c.0 (all_left p xs ys c.1)
 
-all_right : (p : Name → Bool) (xs ys : List Name) → list_all p (xs ++ ys) ≡ true → list_all p ys ≡ true
+pub all_right : (p : Name → Bool) (xs ys : List Name) → list_all p (xs ++ ys) ≡ true → list_all p ys ≡ true
 all_right p [] ys h = h
 all_right p (x ∷ xs) ys h = all_right p xs ys (and_parts (p x) (list_all p (xs ++ ys)) h).1
 
@@ -63,7 +63,7 @@ once_right [] ys h = h
 once_right (x ∷ xs) ys h = once_right xs ys (or_parts (is_name_in x (xs ++ ys)) (has_twice (xs ++ ys)) h).1
 
 -- the top is the first of a model's machines
-top_first : {A : Type 0} (f : Machine → List A) (t : Machine) → gathered f (all_machines t) ≡ f t ++ gathered f (inner_machines t)
+pub top_first : {A : Type 0} (f : Machine → List A) (t : Machine) → gathered f (all_machines t) ≡ f t ++ gathered f (inner_machines t)
 top_first f (machine _ _ _) = refl
 
 -- ---- names in their order
@@ -78,7 +78,7 @@ all_with p n (k ∷ ks) e h =
     by true later = and_from (p n) (list_all p (k ∷ ks)) e h
     by false later = later
 
-all_in_order : (p : Name → Bool) (ns : List Name) → list_all p ns ≡ true → list_all p (in_byte_order ns) ≡ true
+pub all_in_order : (p : Name → Bool) (ns : List Name) → list_all p ns ≡ true → list_all p (in_byte_order ns) ≡ true
 all_in_order p [] h = refl
 all_in_order p (n ∷ ns) h =
     let c = and_parts (p n) (list_all p ns) h in

@@ -7,3 +7,5 @@ pub mod Texts
 pub mod Ascii
 pub mod Back
 pub mod Emitted
+pub mod Words
+pub mod Standing
