@@ -1,0 +1,5 @@
+pub mod Ordered
+pub mod Joined
+pub mod Children
+pub mod Declared
+pub mod Entries

@@ -1,0 +1,11 @@
+pub mod Order
+pub mod Lines
+pub mod Following
+pub mod Data
+pub mod Shapes
+pub mod Texts
+pub mod Ascii
+pub mod Back
+pub mod Emitted
+pub mod Words
+pub mod Standing
