@@ -52,7 +52,7 @@ not_in_left n (x ∷ xs) ys h =
     let c = or_parts (same_name n x) (is_name_in n (xs ++ ys)) h in
     or_from (same_name n x) (is_name_in n xs) c.0 (not_in_left n xs ys c.1)
 
-once_left : (xs ys : List Name) → has_twice (xs ++ ys) ≡ false → has_twice xs ≡ false
+pub once_left : (xs ys : List Name) → has_twice (xs ++ ys) ≡ false → has_twice xs ≡ false
 once_left [] ys h = refl
 once_left (x ∷ xs) ys h =
     let c = or_parts (is_name_in x (xs ++ ys)) (has_twice (xs ++ ys)) h in
@@ -145,7 +145,7 @@ bare_entries (n ∷ ns) h =
     let bare = bare_name n c.0 in
     (bare, bare, bare_entries ns c.1)
 
-their_names : (ns : List Name) → map (λ (e : Name × Text). e.0) (written_by_their_names ns) ≡ ns
+pub their_names : (ns : List Name) → map (λ (e : Name × Text). e.0) (written_by_their_names ns) ≡ ns
 their_names [] = refl
 their_names (n ∷ ns) = ap (λ ms. n ∷ ms) (their_names ns)
 

@@ -9,3 +9,4 @@ pub mod Back
 pub mod Emitted
 pub mod Words
 pub mod Standing
+pub mod Among

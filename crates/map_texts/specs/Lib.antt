@@ -1,2 +1,3 @@
 pub mod Readable
 pub mod Standing
+pub mod Unbroken
