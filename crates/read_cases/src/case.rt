@@ -107,7 +107,7 @@ fn of_text(
     ensures { IfOk result (λ t. (m p : List ℕ) → SayModelAndMap m p (model_of model) (map_view written.now) → IsTold m p (map (λ d. d.items) designs.now) t) }
 {
     match tokens(alloc, designs) {
-        Ok(tokens) => of_tokens(alloc, model, written, designs, tokens),
+        Ok(tokens) => of_tokens(alloc, model, written, designs, &tokens),
         Err(LexStop::Refused(refusal)) => Ok(FilesCase::Text(refusal)),
         Err(LexStop::NoMemory) => Err(AllocError),
     }
@@ -119,21 +119,17 @@ fn of_tokens(
     model: IlaModel,
     written: &WrittenMap,
     designs: &[Vec<u8>],
-    tokens: Vec<Token<'_>>,
+    tokens: &[Token<'_>],
 ) -> Result<FilesCase, NoMemory>
-    requires { tokens_in (map (λ d. d.items) designs.now) ≡ Ok (tokens_of tokens.items) }
+    requires { tokens_in (map (λ d. d.items) designs.now) ≡ Ok (tokens_of tokens.now) }
     ensures { IfOk result (λ t. (m p : List ℕ) → SayModelAndMap m p (model_of model) (map_view written.now) → IsTold m p (map (λ d. d.items) designs.now) t) }
 {
     trees_are_of_texts();
-    match parse(alloc, &tokens) {
-        Ok(tree) => {
-            // The tree holds slices of the files: no token is asked for again.
-            drop(tokens);
-            of_tree(&tree, alloc, model, written)
-        }
+    match parse(alloc, tokens) {
+        Ok(tree) => of_tree(&tree, alloc, model, written),
         Err(ParseStop::Refused(left)) => {
             let count = tokens.len().saturating_sub(left);
-            match note_behind(alloc, designs, &tokens, count) {
+            match note_behind(alloc, designs, tokens, count) {
                 Some(note) => Ok(FilesCase::Tokens(note)),
                 None => Err(AllocError),
             }

@@ -37,7 +37,7 @@ pub(crate) fn simulated_rtl(
     ensures nothing { IfOk result (λ o. (told_of o).spent ≡ []) }
 {
     match tokens(alloc, designs) {
-        Ok(tokens) => of_tokens(alloc, names, design, script, designs, tokens),
+        Ok(tokens) => of_tokens(alloc, names, design, script, designs, &tokens),
         Err(LexStop::Refused(broken)) => {
             let text = refusal_of_text(alloc, names, &broken)?;
             Ok(Outcome::plain(Status::Refused, text))
@@ -53,21 +53,17 @@ fn of_tokens(
     design: &Top,
     script: &[u8],
     designs: &[Vec<u8>],
-    tokens: Vec<Token<'_>>,
+    tokens: &[Token<'_>],
 ) -> Result<Outcome, NoMemory>
-    requires { tokens_in (map (λ d. d.items) designs.now) ≡ Ok (tokens_of tokens.items) }
+    requires { tokens_in (map (λ d. d.items) designs.now) ≡ Ok (tokens_of tokens.now) }
     ensures told { IfOk result (λ o. IsRtlSimulated (string_bytes design.now.top) (string_bytes design.now.clock) script.now (map (λ d. d.items) designs.now) o.status o.text.items) }
     ensures nothing { IfOk result (λ o. (told_of o).spent ≡ []) }
 {
-    match parse(alloc, &tokens) {
-        Ok(tree) => {
-            // The tree holds slices of the files: no token is asked for again.
-            drop(tokens);
-            of_tree(&tree, alloc, design, script, designs)
-        }
+    match parse(alloc, tokens) {
+        Ok(tree) => of_tree(&tree, alloc, design, script, designs),
         Err(ParseStop::Refused(left)) => {
             let count = tokens.len().saturating_sub(left);
-            match note_behind(alloc, designs, &tokens, count) {
+            match note_behind(alloc, designs, tokens, count) {
                 Some(note) => {
                     let text = refusal_of_tree(alloc, names, &note)?;
                     Ok(Outcome::plain(Status::Refused, text))
