@@ -7,7 +7,7 @@ use Rattle.verilog_meaning.specs.Expression.{object_width, assigned_value}
 use Rattle.verilog_meaning.specs.Statement.{with_bits_from}
 use Rattle.term_expressions.specs.Laws.{AssignedNetHasItsNumber}
 
-all_replaced : (w old x : ℕ) → old < 2 ^ w → x < 2 ^ w → with_bits_from w old 0 w (x / 2 ^ 0) ≡ x
+pub all_replaced : (w old x : ℕ) → old < 2 ^ w → x < 2 ^ w → with_bits_from w old 0 w (x / 2 ^ 0) ≡ x
 all_replaced w old x low fits =
     ap (λ u. (old % 2 ^ 0 + 2 ^ 0 * (x / 2 ^ 0 % 2 ^ w) + 2 ^ u * (old / 2 ^ u)) % 2 ^ w) (no_more w)
     ∙ (ap (λ a. (old % 2 ^ 0 + 2 ^ 0 * (x / 2 ^ 0 % 2 ^ w) + 2 ^ w * a) % 2 ^ w) (div-eq_of_lt low)

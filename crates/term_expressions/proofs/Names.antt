@@ -23,7 +23,7 @@ name_is_its_value s v n w x h e fits =
 -- ---- bits
 
 -- a bound as it is written
-bound_is : (s : Scope) (k : ℕ) → k < 128 → integer_from true 32 (value_of s no_values (plain k) 32 true) ≡ pos k
+pub bound_is : (s : Scope) (k : ℕ) → k < 128 → integer_from true 32 (value_of s no_values (plain k) 32 true) ≡ pos k
 bound_is s k low = ap (λ a. signed_value 32 a) (sext_same 32 k) ∙ ap (λ b. cond b (pos k -ℤ pos (2 ^ 32)) (pos k)) positive
   where
     positive : top_bit 32 k ≡ false

@@ -1,0 +1,114 @@
+-- What the clock's edge leaves in registers: the last thing that each takes.
+use Rattle.std.proofs.Common.{◌≡◌, ◌≢◌, ℕ, zero, suc, ◌<◌, ◌^◌, ◌/◌, Bool, true, false, cond, inl, inr, List, [], ◌∷◌, ◌++◌, map, Some, refl, sym, ◌∙◌, ap, subst, arith}
+use Rattle.std.specs.Prelude.{slice_get}
+use Rattle.std.proofs.lemmas.List.{append-nil}
+use Rattle.wb_values.specs.Value.{Name, same_name, Value, number, as_number, Valuation, Entries}
+use Rattle.verilog_trees.specs.Syntax.{Expression, whole}
+use Rattle.verilog_meaning.specs.Expression.{Scope, object_width, is_true, assigned_value}
+use Rattle.verilog_meaning.specs.Statement.{Effect, Update, run, run_all, named_place, with_update, with_updates, after_updates, unchanged, with_bits_from}
+use Rattle.term_expressions.specs.Expressions.{IsAssigned}
+use Rattle.term_expressions.proofs.Assigned.{all_replaced}
+use Rattle.ila_model.proofs.Names.{same-sym}
+use Rattle.emitted_designs.proofs.Named.{same_of}
+use Rattle.emitted_modules.specs.Rtl.{Guarded, in_order, in_block, takes, guarded_statement}
+use Rattle.emitted_modules.proofs.Names.{Among, AreDistinct, among_map, differs_in}
+
+-- the waiting assignment of what a register takes
+abbrev pub update_by : Scope → Valuation → Name × Expression → Update
+update_by s v u = record { places = named_place s v u.0 whole ∷ []; value = assigned_value s v (object_width (s u.0)) u.1 }
+
+abbrev pub updates_by : Scope → Valuation → Entries Expression → List Update
+updates_by s v us = map (update_by s v) us
+
+abbrev leaving : Valuation → List Update → Effect
+leaving v us = record { valuation = v; updates = us }
+
+pub taking_runs : (s : Scope) (v : Valuation) (us : Entries Expression) → run s (in_block (map takes us)) v ≡ leaving v (updates_by s v us)
+taking_runs s v [] = refl
+taking_runs s v (u ∷ us) = ap (λ e. after_updates (update_by s v u ∷ []) e) (taking_runs s v us)
+
+-- the updates of those whose guard holds
+abbrev pub chosen : Scope → Valuation → List Guarded → List Update
+chosen s v [] = []
+chosen s v (g ∷ gs) = cond (is_true s v g.guard) (updates_by s v g.updates) [] ++ chosen s v gs
+
+abbrev after_first : Scope → Valuation → List Guarded → Effect → Effect
+after_first s v gs e = after_updates e.updates (run_all s (in_order (map guarded_statement gs)) e.valuation)
+
+first_runs : (s : Scope) (v : Valuation) (g : Guarded) (gs : List Guarded) (b : Bool)
+    → run_all s (in_order (map guarded_statement gs)) v ≡ leaving v (chosen s v gs)
+    → after_first s v gs (cond b (leaving v (updates_by s v g.updates)) (unchanged v)) ≡ leaving v (cond b (updates_by s v g.updates) [] ++ chosen s v gs)
+first_runs s v g gs true e = ap (λ f. after_updates (updates_by s v g.updates) f) e
+first_runs s v g gs false e = ap (λ f. after_updates [] f) e
+
+pub guarded_runs : (s : Scope) (v : Valuation) (gs : List Guarded) → run s (in_block (map guarded_statement gs)) v ≡ leaving v (chosen s v gs)
+guarded_runs s v [] = refl
+guarded_runs s v (g ∷ gs) =
+    ap (λ e. after_first s v gs (cond (is_true s v g.guard) e (unchanged v))) (taking_runs s v g.updates)
+    ∙ first_runs s v g gs (is_true s v g.guard) (guarded_runs s v gs)
+
+-- ---- which are chosen
+
+pub none_chosen : (s : Scope) (v : Valuation) (gs : List Guarded) → ((k : ℕ) (h : Guarded) → slice_get gs k ≡ Some h → is_true s v h.guard ≡ false)
+    → chosen s v gs ≡ []
+none_chosen s v [] fails = refl
+none_chosen s v (g ∷ gs) fails =
+    ap (λ b. cond b (updates_by s v g.updates) [] ++ chosen s v gs) (fails 0 g refl)
+    ∙ none_chosen s v gs (λ k h e. fails (suc k) h e)
+
+pub one_chosen : (s : Scope) (v : Valuation) (gs : List Guarded) (j : ℕ) (g : Guarded) → slice_get gs j ≡ Some g → is_true s v g.guard ≡ true
+    → ((k : ℕ) (h : Guarded) → slice_get gs k ≡ Some h → k ≢ j → is_true s v h.guard ≡ false)
+    → chosen s v gs ≡ updates_by s v g.updates
+one_chosen s v [] j g e holds fails = cc
+one_chosen s v (h ∷ gs) zero g e holds fails =
+    let same : h ≡ g = cc in
+    ap (λ b. cond b (updates_by s v h.updates) [] ++ chosen s v gs) (subst (λ k. is_true s v k.guard ≡ true) (sym same) holds)
+    ∙ (ap (λ us. updates_by s v h.updates ++ us) (none_chosen s v gs (λ k o f. fails (suc k) o f (λ z. absurd (omega (arith, z)))))
+    ∙ (append-nil (updates_by s v h.updates) ∙ ap (λ k. updates_by s v k.updates) same))
+one_chosen s v (h ∷ gs) (suc j) g e holds fails =
+    ap (λ b. cond b (updates_by s v h.updates) [] ++ chosen s v gs) (fails 0 h refl (λ z. absurd (omega (arith, z))))
+    ∙ one_chosen s v gs j g e holds (λ k o f apart. fails (suc k) o f (λ z. apart (omega (arith, z))))
+
+-- ---- what registers hold after updates
+
+abbrev pub names_in : Entries Expression → List Name
+names_in us = map (λ u. u.0) us
+
+apart_from : (j k : Name) → same_name j k ≡ false → same_name k j ≡ false
+apart_from j k h = same-sym k j ∙ h
+
+-- what a register holds after its update
+abbrev after_one : Scope → Valuation → Valuation → Name × Expression → Value
+after_one s v z u =
+    number (with_bits_from (object_width (s u.0)) (as_number (z u.0)) 0 (object_width (s u.0)) (assigned_value s v (object_width (s u.0)) u.1 / 2 ^ 0))
+
+-- an update of another name
+left_by_one : (s : Scope) (v z : Valuation) (u : Name × Expression) (n : Name) → same_name u.0 n ≡ false → with_update s z (update_by s v u) n ≡ z n
+left_by_one s v z u n h = ap (λ b. cond b (after_one s v z u) (z n)) h
+
+pub left_alone : (s : Scope) (v z : Valuation) (us : Entries Expression) (n : Name) → ((k : Name) → Among k (names_in us) → same_name k n ≡ false)
+    → with_updates s z (updates_by s v us) n ≡ z n
+left_alone s v z [] n h = refl
+left_alone s v z (u ∷ us) n h =
+    left_alone s v (with_update s z (update_by s v u)) us n (λ k g. h k (inr g)) ∙ left_by_one s v z u n (h u.0 (inl refl))
+
+-- an update of the name
+written_by_one : (s : Scope) (v z : Valuation) (n : Name) (e : Expression) (w x old : ℕ) → object_width (s n) ≡ w → IsAssigned s v e w x → x < 2 ^ w
+    → z n ≡ number old → old < 2 ^ w → with_update s z (update_by s v (n, e)) n ≡ number x
+written_by_one s v z n e w x old width given low held fits =
+    ap (λ b. cond b (after_one s v z (n, e)) (z n)) (same_of n n refl)
+    ∙ (ap (λ u. number (with_bits_from u (as_number (z n)) 0 u (assigned_value s v u e / 2 ^ 0))) width
+    ∙ (ap (λ y. number (with_bits_from w (as_number y) 0 w (assigned_value s v w e / 2 ^ 0))) held
+    ∙ (ap (λ a. number (with_bits_from w old 0 w (a / 2 ^ 0))) given ∙ ap number (all_replaced w old x fits low))))
+
+pub takes_its_own : (s : Scope) (v z : Valuation) (us : Entries Expression) (n : Name) (e : Expression) (w x old : ℕ) → AreDistinct (names_in us)
+    → Among (n, e) us → object_width (s n) ≡ w → IsAssigned s v e w x → x < 2 ^ w → z n ≡ number old → old < 2 ^ w
+    → with_updates s z (updates_by s v us) n ≡ number x
+takes_its_own s v z [] n e w x old d at width given low held fits = absurd at
+takes_its_own s v z (u ∷ us) n e w x old d (inl f) width given low held fits =
+    left_alone s v (with_update s z (update_by s v u)) us n
+    (λ k g. apart_from n k (subst (λ (m : Name). same_name m k ≡ false) (ap (λ y. y.0) f) (differs_in u.0 k (names_in us) d.0 g)))
+    ∙ subst (λ (y : Name × Expression). with_update s z (update_by s v y) n ≡ number x) (sym f) (written_by_one s v z n e w x old width given low held fits)
+takes_its_own s v z (u ∷ us) n e w x old d (inr at) width given low held fits =
+    takes_its_own s v (with_update s z (update_by s v u)) us n e w x old d.1 at width given low
+    (left_by_one s v z u n (differs_in u.0 n (names_in us) d.0 (among_map (λ (y : Name × Expression). y.0) (n, e) us at)) ∙ held) fits

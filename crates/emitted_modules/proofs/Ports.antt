@@ -1,0 +1,229 @@
+-- The ports and registers of such a module.
+use Rattle.std.proofs.Common.{◌≡◌, zero, suc, Bool, true, false, ◌||◌, ◌⊎◌, inl, inr, List, [], ◌∷◌, ◌++◌, map, refl, sym, ◌∙◌, ap, subst, arith}
+use Rattle.std.specs.Prelude.{Contains, is_some}
+use Rattle.std.proofs.lemmas.Bool.{false≢true}
+use Rattle.std.proofs.lemmas.List.{map-append}
+use Rattle.wb_values.specs.Value.{Name, Sort, truth, Entries, entry_of}
+use Rattle.wb_values.specs.Names.{begins_with_wb}
+use Rattle.model_meaning.specs.Among.{is_name_in}
+use Rattle.model_meaning.specs.Model.{Model, StateDeclaration, InputDeclaration}
+use Rattle.model_meaning.specs.Invariant.{valued_names}
+use Rattle.verilog_trees.specs.Syntax.{Direction, input, output, Item}
+use Rattle.verilog_meaning.specs.Expression.{is_memory}
+use Rattle.verilog_meaning.specs.Hierarchy.{Declaration}
+use Rattle.verilog_meaning.specs.Settled.{HasPort, port_directions, declared_ports, item_ports, names_of, IsDeclared}
+use Rattle.emitted_designs.specs.Names.{clock_name, reset_name, go_name, start_name, commit_name}
+use Rattle.emitted_designs.specs.Bounds.{has_children}
+use Rattle.emitted_designs.specs.Module.{top_of, object_of, HoldsSort, control_inputs, control_outputs, HasPortsOf, IsRegisterOf, HasRegistersOf, all_states, all_state_names}
+use Rattle.emitted_designs.proofs.Named.{in_either, in_front}
+use Rattle.emitted_modules.specs.Rtl.{Wire, Rtl, port_of, input_port, port_list, register_item, wire_item, module_of}
+use Rattle.emitted_modules.proofs.Names.{Among, among_left, among_right, among_either, among_map, mapped_from, AreDistinct, distinct_parts, named_among, entry_is}
+use Rattle.emitted_modules.proofs.Declared.{output_net, given_net, register_net, wire_net, nets, HasOwnNames, object_is}
+use Rattle.emitted_modules.proofs.Nets.{IsBitsSort, IsPlain, holds_sort, clock_plain, reset_plain, go_plain, start_plain, commit_plain, input_plain, register_plain, in_own, is_declared, declared_net}
+use Rattle.emitted_modules.proofs.Next.{AreBits, register_counted}
+
+pub among_of : {A : Type 0} (xs : List A) (x : A) → Contains xs x → Among x xs
+among_of [] x h = absurd (omega (arith, h.1))
+among_of (y ∷ xs) x (zero, low, e) = inl e
+among_of (y ∷ xs) x (suc k, low, e) = inr (among_of xs x (k, omega (arith, low), e))
+
+-- ---- ports
+
+abbrev outputs : Entries Direction
+outputs = (start_name, output) ∷ (commit_name, output) ∷ []
+
+abbrev given_port : InputDeclaration → Name × Direction
+given_port i = (i.input_name, input)
+
+abbrev all_ports : List InputDeclaration → Entries Direction
+all_ports is = (clock_name, input) ∷ (reset_name, input) ∷ (go_name, input) ∷ (map given_port is ++ outputs)
+
+listed_ports : (is : List InputDeclaration)
+    → declared_ports (map input_port is ++ port_of output start_name truth ∷ port_of output commit_name truth ∷ []) ≡ map given_port is ++ outputs
+listed_ports [] = refl
+listed_ports (i ∷ is) = ap (λ es. given_port i ∷ es) (listed_ports is)
+
+no_wire_ports : (ws : List Wire) (rest : List Item) → item_ports (map wire_item ws ++ rest) ≡ item_ports rest
+no_wire_ports [] rest = refl
+no_wire_ports (w ∷ ws) rest = no_wire_ports ws rest
+
+no_item_ports : (ss : List StateDeclaration) (rest : List Item) → item_ports (map register_item ss ++ rest) ≡ item_ports rest
+no_item_ports [] rest = refl
+no_item_ports (s ∷ ss) rest = no_item_ports ss rest
+
+append_none : (es : Entries Direction) → es ++ [] ≡ es
+append_none [] = refl
+append_none (e ∷ es) = ap (λ fs. e ∷ fs) (append_none es)
+
+ports_are : (r : Rtl) → port_directions (module_of r) ≡ all_ports r.inputs
+ports_are r =
+    ap (λ es. declared_ports (port_list r.inputs) ++ es) (no_item_ports r.registers _ ∙ no_wire_ports r.wires _)
+    ∙ (append_none (declared_ports (port_list r.inputs))
+    ∙ ap (λ es. (clock_name, input) ∷ (reset_name, input) ∷ (go_name, input) ∷ es) (listed_ports r.inputs))
+
+port_names : (is : List InputDeclaration) → map (λ (e : Name × Direction). e.0) (map given_port is ++ outputs)
+    ≡ map (λ (d : Declaration). d.of_name) (map given_net is ++ output_net start_name ∷ output_net commit_name ∷ [])
+port_names [] = refl
+port_names (i ∷ is) = ap (λ ns. i.input_name ∷ ns) (port_names is)
+
+module _ (r : Rtl) (own : HasOwnNames r) where
+  ports_distinct : AreDistinct (map (λ (e : Name × Direction). e.0) (all_ports r.inputs))
+  ports_distinct =
+      subst (λ ns. AreDistinct (clock_name ∷ reset_name ∷ go_name ∷ ns)) (sym (port_names r.inputs))
+      (distinct_parts
+      (clock_name ∷ reset_name ∷ go_name
+      ∷ map (λ (d : Declaration). d.of_name) (map given_net r.inputs ++ output_net start_name ∷ output_net commit_name ∷ []))
+      (map (λ (d : Declaration). d.of_name) (map register_net r.registers ++ map wire_net r.wires))
+      (subst (λ ns. AreDistinct (clock_name ∷ reset_name ∷ go_name ∷ ns))
+      (map-append (λ (d : Declaration). d.of_name) (map given_net r.inputs ++ output_net start_name ∷ output_net commit_name ∷ [])
+      (map register_net r.registers ++ map wire_net r.wires))
+      own)).0
+
+  has_port : (n : Name) (d : Direction) → Among (n, d) (all_ports r.inputs) → HasPort (module_of r) n d
+  has_port n d at = ap (λ es. entry_of es n) (ports_are r) ∙ entry_is (all_ports r.inputs) (n, d) ports_distinct at
+
+  input_at : (n : Name) → Among n (control_inputs ++ map (λ i. i.input_name) r.inputs) → Among (n, input) (all_ports r.inputs)
+  input_at n (inl e) = inl (ap (λ k. (k, input)) e)
+  input_at n (inr (inl e)) = inr (inl (ap (λ k. (k, input)) e))
+  input_at n (inr (inr (inl e))) = inr (inr (inl (ap (λ k. (k, input)) e)))
+  input_at n (inr (inr (inr h))) =
+      let i = mapped_from (λ (x : InputDeclaration). x.input_name) n r.inputs h in
+      inr (inr (inr (among_left (n, input) (map given_port r.inputs) outputs
+      (subst (λ k. Among (k, input) (map given_port r.inputs)) i.2 (among_map given_port i.0 r.inputs i.1)))))
+
+  output_at : (n : Name) → Among n control_outputs → Among (n, output) (all_ports r.inputs)
+  output_at n (inl e) =
+      inr (inr (inr (among_right (n, output) (map given_port r.inputs) outputs (inl (ap (λ k. (k, output)) e)))))
+  output_at n (inr (inl e)) =
+      inr (inr (inr (among_right (n, output) (map given_port r.inputs) outputs (inr (inl (ap (λ k. (k, output)) e))))))
+  output_at n (inr (inr h)) = absurd h
+
+  control_bit : (n : Name) → Among n (control_inputs ++ control_outputs) → HoldsSort truth (object_of (module_of r) n)
+  control_bit n (inl e) = subst (λ k. HoldsSort truth (object_of (module_of r) k)) e (holds_sort r clock_name truth tt (clock_plain r own))
+  control_bit n (inr (inl e)) = subst (λ k. HoldsSort truth (object_of (module_of r) k)) e (holds_sort r reset_name truth tt (reset_plain r own))
+  control_bit n (inr (inr (inl e))) = subst (λ k. HoldsSort truth (object_of (module_of r) k)) e (holds_sort r go_name truth tt (go_plain r own))
+  control_bit n (inr (inr (inr (inl e)))) =
+      subst (λ k. HoldsSort truth (object_of (module_of r) k)) e (holds_sort r start_name truth tt (start_plain r own))
+  control_bit n (inr (inr (inr (inr (inl e))))) =
+      subst (λ k. HoldsSort truth (object_of (module_of r) k)) e (holds_sort r commit_name truth tt (commit_plain r own))
+  control_bit n (inr (inr (inr (inr (inr h))))) = absurd h
+
+listed_names : (is : List InputDeclaration)
+    → names_of (declared_ports (map input_port is ++ port_of output start_name truth ∷ port_of output commit_name truth ∷ []))
+    ≡ map (λ i. i.input_name) is ++ control_outputs
+listed_names [] = refl
+listed_names (i ∷ is) = ap (λ ns. i.input_name ∷ ns) (listed_names is)
+
+pub has_ports : (m : Model) (r : Rtl) → HasOwnNames r → r.called ≡ m.model_name → r.inputs ≡ m.inputs
+    → ((i : InputDeclaration) → Among i r.inputs → IsBitsSort i.sort) → HasPortsOf m (module_of r)
+has_ports m r own named same bits =
+    subst (λ is. HasPortsOf (record m { inputs = is }) (module_of r)) same
+    (record {
+      named = named;
+      order = ap (λ ns. clock_name ∷ reset_name ∷ go_name ∷ ns) (listed_names r.inputs);
+      inputs = λ n h. has_port r own n input (input_at r own n (among_of (control_inputs ++ map (λ i. i.input_name) r.inputs) n h));
+      outputs = λ n h. has_port r own n output (output_at r own n (among_of control_outputs n h));
+      control_bits = λ n h. control_bit r own n (among_of (control_inputs ++ control_outputs) n h);
+      input_bits = λ i h.
+          let at : Among i r.inputs = among_of r.inputs i h in
+          holds_sort r i.input_name i.sort (bits i at) (input_plain r own i at (bits i at));
+    })
+
+-- ---- registers
+
+pub is_register : (r : Rtl) → HasOwnNames r → AreBits r.registers → (d : StateDeclaration) → Among d r.registers
+    → IsRegisterOf (module_of r) d.state_name d.sort
+is_register r own bits d at = record {
+  is_declared =
+      is_declared r (register_net d)
+      (in_own r own (register_net d)
+      (among_left (register_net d) (map register_net r.registers) (map wire_net r.wires) (among_map register_net d r.registers at)));
+  object = holds_sort r d.state_name d.sort (bits d at) (register_plain r own d at (bits d at));
+  counted = λ k b h. register_counted r d k b bits at h;
+}
+
+-- what is so of each kind of net is so of each name that is declared
+each_net : (r : Rtl) (P : Name → Type 0) → P clock_name → P reset_name → P go_name → ((i : InputDeclaration) → Among i r.inputs → P i.input_name)
+    → P start_name → P commit_name → ((d : StateDeclaration) → Among d r.registers → P d.state_name) → ((w : Wire) → Among w r.wires → P w.wire_name)
+    → (n : Name) → IsDeclared (top_of (module_of r)) n → P n
+each_net r P clock reset go inputs start commit registers wires n dec =
+    let net = declared_net r n dec in subst P net.2 (by_place net.0 net.1)
+  where
+    in_own_nets : (d : Declaration) → Among d (map register_net r.registers) ⊎ Among d (map wire_net r.wires) → P d.of_name
+    in_own_nets d (inl h) =
+        let s = mapped_from register_net d r.registers h in subst P (ap (λ (x : Declaration). x.of_name) s.2) (registers s.0 s.1)
+    in_own_nets d (inr h) = let w = mapped_from wire_net d r.wires h in subst P (ap (λ (x : Declaration). x.of_name) w.2) (wires w.0 w.1)
+
+    in_front_nets : (d : Declaration) → Among d (map given_net r.inputs) ⊎ Among d (output_net start_name ∷ output_net commit_name ∷ []) → P d.of_name
+    in_front_nets d (inl h) = let i = mapped_from given_net d r.inputs h in subst P (ap (λ (x : Declaration). x.of_name) i.2) (inputs i.0 i.1)
+    in_front_nets d (inr (inl e)) = subst P (ap (λ (x : Declaration). x.of_name) e) start
+    in_front_nets d (inr (inr (inl e))) = subst P (ap (λ (x : Declaration). x.of_name) e) commit
+    in_front_nets d (inr (inr (inr h))) = absurd h
+
+    in_rest : (d : Declaration)
+        → Among d (map given_net r.inputs ++ output_net start_name ∷ output_net commit_name ∷ [])
+        ⊎ Among d (map register_net r.registers ++ map wire_net r.wires) → P d.of_name
+    in_rest d (inl h) = in_front_nets d (among_either d (map given_net r.inputs) (output_net start_name ∷ output_net commit_name ∷ []) h)
+    in_rest d (inr h) = in_own_nets d (among_either d (map register_net r.registers) (map wire_net r.wires) h)
+
+    by_place : (d : Declaration) → Among d (nets r) → P d.of_name
+    by_place d (inl e) = subst P (ap (λ (x : Declaration). x.of_name) e) clock
+    by_place d (inr (inl e)) = subst P (ap (λ (x : Declaration). x.of_name) e) reset
+    by_place d (inr (inr (inl e))) = subst P (ap (λ (x : Declaration). x.of_name) e) go
+    by_place d (inr (inr (inr h))) =
+        in_rest d
+        (among_either d (map given_net r.inputs ++ output_net start_name ∷ output_net commit_name ∷ [])
+        (map register_net r.registers ++ map wire_net r.wires) h)
+
+or_left : (a b : Bool) → a ≡ true → (a || b) ≡ true
+or_left true b e = refl
+or_left false b e = absurd (false≢true e)
+
+or_right : (a b : Bool) → b ≡ true → (a || b) ≡ true
+or_right true b e = refl
+or_right false b e = e
+
+-- Such a module has the registers of a model without child programs whose states and inputs are its registers and inputs.
+pub has_registers : (m : Model) (r : Rtl) (rest : List Name) → HasOwnNames r → AreBits r.registers
+    → ((i : InputDeclaration) → Among i r.inputs → IsBitsSort i.sort)
+    → valued_names m ≡ map (λ i. i.input_name) r.inputs ++ (map (λ s. s.state_name) r.registers ++ rest)
+    → all_states m ≡ r.registers → has_children m ≡ false → ((w : Wire) → Among w r.wires → begins_with_wb w.wire_name ≡ true)
+    → HasRegistersOf m (module_of r)
+has_registers m r rest own bits given valued all childless wires_own = record {
+  states = λ d h. is_register r own bits d (among_of r.registers d (subst (λ ss. Contains ss d) all h));
+  busy = λ h. absurd (false≢true (sym childless ∙ h));
+  kept_inputs = λ h. absurd (false≢true (sym childless ∙ h));
+  others =
+      each_net r (λ n. (is_name_in n (valued_names m) || begins_with_wb n) ≡ true) (own_name clock_name refl) (own_name reset_name refl)
+      (own_name go_name refl)
+      (λ i at. or_left (is_name_in i.input_name (valued_names m)) (begins_with_wb i.input_name)
+      (ap (is_name_in i.input_name) valued
+      ∙ in_front i.input_name (map (λ x. x.input_name) r.inputs) (map (λ s. s.state_name) r.registers ++ rest)
+      (named_among i.input_name (map (λ x. x.input_name) r.inputs) (among_map (λ (x : InputDeclaration). x.input_name) i r.inputs at))))
+      (own_name start_name refl) (own_name commit_name refl)
+      (λ d at. or_left (is_name_in d.state_name (valued_names m)) (begins_with_wb d.state_name)
+      (ap (is_name_in d.state_name) valued
+      ∙ in_either d.state_name (map (λ x. x.input_name) r.inputs) (map (λ s. s.state_name) r.registers ++ rest)
+      (in_front d.state_name (map (λ s. s.state_name) r.registers) rest
+      (named_among d.state_name (map (λ s. s.state_name) r.registers) (among_map (λ (x : StateDeclaration). x.state_name) d r.registers at)))))
+      (λ w at. own_name w.wire_name (wires_own w at));
+  no_other_memory =
+      each_net r (λ n. is_memory (object_of (module_of r) n) ≡ true → is_name_in n (all_state_names m) ≡ true) (no_memory clock_name truth (clock_plain r own))
+      (no_memory reset_name truth (reset_plain r own)) (no_memory go_name truth (go_plain r own))
+      (λ i at. no_memory i.input_name i.sort (input_plain r own i at (given i at))) (no_memory start_name truth (start_plain r own))
+      (no_memory commit_name truth (commit_plain r own)) (λ d at. no_memory d.state_name d.sort (register_plain r own d at (bits d at)))
+      (λ w at h. absurd
+      (false≢true
+      (sym
+      (ap is_memory
+      (object_is r (wire_net w) own
+      (in_own r own (wire_net w)
+      (among_right (wire_net w) (map register_net r.registers) (map wire_net r.wires) (among_map wire_net w r.wires at)))))
+      ∙ h)));
+}
+  where
+    own_name : (n : Name) → begins_with_wb n ≡ true → (is_name_in n (valued_names m) || begins_with_wb n) ≡ true
+    own_name n e = or_right (is_name_in n (valued_names m)) (begins_with_wb n) e
+
+    no_memory : (n : Name) (t : Sort) → IsPlain r n t → is_memory (object_of (module_of r) n) ≡ true → is_name_in n (all_state_names m) ≡ true
+    no_memory n t plain h = absurd (false≢true (sym (ap is_some plain.no_memory) ∙ h))
