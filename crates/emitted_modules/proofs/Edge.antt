@@ -3,14 +3,14 @@ use Rattle.std.proofs.Common.{◌≡◌, ◌≢◌, ℕ, zero, suc, ◌<◌, ◌
 use Rattle.std.specs.Prelude.{slice_get}
 use Rattle.std.proofs.lemmas.List.{append-nil}
 use Rattle.wb_values.specs.Value.{Name, same_name, Value, number, as_number, Valuation, Entries}
-use Rattle.verilog_trees.specs.Syntax.{Expression, whole}
+use Rattle.verilog_trees.specs.Syntax.{Expression, whole, Statement, if_then}
 use Rattle.verilog_meaning.specs.Expression.{Scope, object_width, is_true, assigned_value}
 use Rattle.verilog_meaning.specs.Statement.{Effect, Update, run, run_all, named_place, with_update, with_updates, after_updates, unchanged, with_bits_from}
 use Rattle.term_expressions.specs.Expressions.{IsAssigned}
 use Rattle.term_expressions.proofs.Assigned.{all_replaced}
 use Rattle.ila_model.proofs.Names.{same-sym}
 use Rattle.emitted_designs.proofs.Named.{same_of}
-use Rattle.emitted_modules.specs.Rtl.{Guarded, in_order, in_block, takes, guarded_statement}
+use Rattle.emitted_modules.specs.Rtl.{Guarded, in_order, in_block, takes, all_guarded}
 use Rattle.emitted_modules.proofs.Names.{Among, AreDistinct, among_map, differs_in}
 
 -- the waiting assignment of what a register takes
@@ -32,20 +32,37 @@ abbrev pub chosen : Scope → Valuation → List Guarded → List Update
 chosen s v [] = []
 chosen s v (g ∷ gs) = cond (is_true s v g.guard) (updates_by s v g.updates) [] ++ chosen s v gs
 
-abbrev after_first : Scope → Valuation → List Guarded → Effect → Effect
-after_first s v gs e = after_updates e.updates (run_all s (in_order (map guarded_statement gs)) e.valuation)
+abbrev after_first : Scope → Valuation → List Statement → Effect → Effect
+after_first s v xs e = after_updates e.updates (run_all s (in_order xs) e.valuation)
 
-first_runs : (s : Scope) (v : Valuation) (g : Guarded) (gs : List Guarded) (b : Bool)
-    → run_all s (in_order (map guarded_statement gs)) v ≡ leaving v (chosen s v gs)
-    → after_first s v gs (cond b (leaving v (updates_by s v g.updates)) (unchanged v)) ≡ leaving v (cond b (updates_by s v g.updates) [] ++ chosen s v gs)
-first_runs s v g gs true e = ap (λ f. after_updates (updates_by s v g.updates) f) e
-first_runs s v g gs false e = ap (λ f. after_updates [] f) e
+abbrev guarded_by : Expression → Entries Expression → List Statement
+guarded_by c us = map (λ u. if_then c (takes u)) us
 
-pub guarded_runs : (s : Scope) (v : Valuation) (gs : List Guarded) → run s (in_block (map guarded_statement gs)) v ≡ leaving v (chosen s v gs)
+-- statements under a guard that holds, and under one that does not, with others behind them
+held_runs : (s : Scope) (v : Valuation) (c : Expression) (us : Entries Expression) (xs : List Statement) (later : List Update)
+    → is_true s v c ≡ true → run s (in_block xs) v ≡ leaving v later
+    → run s (in_block (guarded_by c us ++ xs)) v ≡ leaving v (updates_by s v us ++ later)
+held_runs s v c [] xs later holds e = e
+held_runs s v c (u ∷ us) xs later holds e =
+    ap (λ b. after_first s v (guarded_by c us ++ xs) (cond b (leaving v (update_by s v u ∷ [])) (unchanged v))) holds
+    ∙ ap (λ f. after_updates (update_by s v u ∷ []) f) (held_runs s v c us xs later holds e)
+
+skipped_runs : (s : Scope) (v : Valuation) (c : Expression) (us : Entries Expression) (xs : List Statement) (later : List Update)
+    → is_true s v c ≡ false → run s (in_block xs) v ≡ leaving v later
+    → run s (in_block (guarded_by c us ++ xs)) v ≡ leaving v later
+skipped_runs s v c [] xs later fails e = e
+skipped_runs s v c (u ∷ us) xs later fails e =
+    ap (λ b. after_first s v (guarded_by c us ++ xs) (cond b (leaving v (update_by s v u ∷ [])) (unchanged v))) fails
+    ∙ ap (λ f. after_updates [] f) (skipped_runs s v c us xs later fails e)
+
+pub guarded_runs : (s : Scope) (v : Valuation) (gs : List Guarded) → run s (in_block (all_guarded gs)) v ≡ leaving v (chosen s v gs)
 guarded_runs s v [] = refl
-guarded_runs s v (g ∷ gs) =
-    ap (λ e. after_first s v gs (cond (is_true s v g.guard) e (unchanged v))) (taking_runs s v g.updates)
-    ∙ first_runs s v g gs (is_true s v g.guard) (guarded_runs s v gs)
+guarded_runs s v (g ∷ gs) = by_test (is_true s v g.guard) refl (guarded_runs s v gs)
+  where
+    by_test : (b : Bool) → is_true s v g.guard ≡ b → run s (in_block (all_guarded gs)) v ≡ leaving v (chosen s v gs)
+        → run s (in_block (all_guarded (g ∷ gs))) v ≡ leaving v (cond b (updates_by s v g.updates) [] ++ chosen s v gs)
+    by_test true holds e = held_runs s v g.guard g.updates (all_guarded gs) (chosen s v gs) holds e
+    by_test false fails e = skipped_runs s v g.guard g.updates (all_guarded gs) (chosen s v gs) fails e
 
 -- ---- which are chosen
 

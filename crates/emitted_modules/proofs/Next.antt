@@ -15,7 +15,7 @@ use Rattle.verilog_meaning.specs.Settled.{IsDeclared, is_counted, whole_name}
 use Rattle.emitted_designs.specs.Names.{reset_name, start_name}
 use Rattle.emitted_designs.specs.Module.{top_of}
 use Rattle.emitted_designs.proofs.Named.{same_of}
-use Rattle.emitted_modules.specs.Rtl.{Wire, Rtl, bits_of_sort, first_value, reset_statement, reset_register, takes, guarded_statement, clocked_statement, in_order, in_block, register_item, wire_item, module_items, module_of}
+use Rattle.emitted_modules.specs.Rtl.{Wire, Rtl, bits_of_sort, first_value, reset_statement, reset_register, takes, all_guarded, clocked_statement, in_order, in_block, register_item, wire_item, module_items, module_of}
 use Rattle.emitted_modules.proofs.Names.{Among, among_left, among_map}
 use Rattle.emitted_modules.proofs.Declared.{register_net, wire_net, HasOwnNames, scope_in}
 use Rattle.emitted_modules.proofs.Nets.{IsBitsSort, IsPlain, is_declared, register_plain, in_own}
@@ -159,7 +159,7 @@ pub resets : (r : Rtl) (v : Valuation) → AreBits r.registers → is_true (scop
 resets r v bits e =
     ap
     (λ c. cond c (run (scope_in r) (in_block (map reset_register r.registers)) v)
-    (cond (is_true (scope_in r) v (whole_name start_name)) (run (scope_in r) (in_block (map guarded_statement r.guarded)) v) (unchanged v)))
+    (cond (is_true (scope_in r) v (whole_name start_name)) (run (scope_in r) (in_block (all_guarded r.guarded)) v) (unchanged v)))
     e
     ∙ (ap (λ xs. run (scope_in r) (in_block xs) v) (resets_take r.registers bits) ∙ taking_runs (scope_in r) v (first_takes r))
 
@@ -168,16 +168,16 @@ pub waits : (r : Rtl) (v : Valuation) → is_true (scope_in r) v (whole_name res
 waits r v e f =
     ap
     (λ c. cond c (run (scope_in r) (in_block (map reset_register r.registers)) v)
-    (cond (is_true (scope_in r) v (whole_name start_name)) (run (scope_in r) (in_block (map guarded_statement r.guarded)) v) (unchanged v)))
+    (cond (is_true (scope_in r) v (whole_name start_name)) (run (scope_in r) (in_block (all_guarded r.guarded)) v) (unchanged v)))
     e
-    ∙ ap (λ c. cond c (run (scope_in r) (in_block (map guarded_statement r.guarded)) v) (unchanged v)) f
+    ∙ ap (λ c. cond c (run (scope_in r) (in_block (all_guarded r.guarded)) v) (unchanged v)) f
 
 pub begins : (r : Rtl) (v : Valuation) → is_true (scope_in r) v (whole_name reset_name) ≡ false → is_true (scope_in r) v (whole_name start_name) ≡ true
     → run (scope_in r) (clocked_statement r) v ≡ leaves v (chosen (scope_in r) v r.guarded)
 begins r v e f =
     ap
     (λ c. cond c (run (scope_in r) (in_block (map reset_register r.registers)) v)
-    (cond (is_true (scope_in r) v (whole_name start_name)) (run (scope_in r) (in_block (map guarded_statement r.guarded)) v) (unchanged v)))
+    (cond (is_true (scope_in r) v (whole_name start_name)) (run (scope_in r) (in_block (all_guarded r.guarded)) v) (unchanged v)))
     e
-    ∙ (ap (λ c. cond c (run (scope_in r) (in_block (map guarded_statement r.guarded)) v) (unchanged v)) f
+    ∙ (ap (λ c. cond c (run (scope_in r) (in_block (all_guarded r.guarded)) v) (unchanged v)) f
     ∙ guarded_runs (scope_in r) v r.guarded)

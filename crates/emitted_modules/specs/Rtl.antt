@@ -100,14 +100,19 @@ reset_statement n t i = takes (n, first_value n t i)
 abbrev pub reset_register : StateDeclaration → Statement
 reset_register d = reset_statement d.state_name d.sort d.init
 
-abbrev pub guarded_statement : Guarded → Statement
-guarded_statement g = if_then g.guard (in_block (map takes g.updates))
+-- if (c) n <= e; (A statement for each update, without begin and end: so any number of them may follow one another.)
+abbrev pub guarded_statements : Guarded → List Statement
+guarded_statements g = map (λ u. if_then g.guard (takes u)) g.updates
+
+abbrev pub all_guarded : List Guarded → List Statement
+all_guarded [] = []
+all_guarded (g ∷ gs) = guarded_statements g ++ all_guarded gs
 
 -- if (wb_rst) begin .. end else if (wb_start) begin .. end
 abbrev pub clocked_statement : Rtl → Statement
 clocked_statement r =
     if_else (whole_name reset_name) (in_block (map reset_register r.registers))
-    (if_then (whole_name start_name) (in_block (map guarded_statement r.guarded)))
+    (if_then (whole_name start_name) (in_block (all_guarded r.guarded)))
 
 -- @(posedge wb_clk)
 abbrev pub at_clock : Events
