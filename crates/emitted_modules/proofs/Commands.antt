@@ -16,7 +16,7 @@ use Rattle.refinement.specs.Refinement.{IsCommandOf}
 use Rattle.emitted_designs.specs.Map.{setting_of}
 use Rattle.emitted_modules.specs.Kept.{IsKept}
 use Rattle.emitted_modules.specs.Module.{emitted_module}
-use Rattle.emitted_modules.specs.Laws.{IsPlainModel}
+use Rattle.emitted_modules.specs.Laws.{IsFlatModel}
 use Rattle.emitted_modules.proofs.Decoding.{one_of, IsOnly, only_from, from_only}
 use Rattle.emitted_modules.proofs.Facts.{model}
 use Rattle.emitted_modules.proofs.Values.{setting, point}
@@ -42,7 +42,7 @@ is_false false h = refl
 pub true_there : (a b : Bool) → a ≡ true → b ≡ true → (a && b) ≡ true
 true_there a b e f = ap (λ c. c && b) e ∙ f
 
-module _ (name : Name) (p : Parts) (keep : ℕ → Bool) (h : IsPlainModel name p) (kept : IsKept p keep)
+module _ (name : Name) (p : Parts) (keep : ℕ → Bool) (h : IsFlatModel name p) (kept : IsKept p keep)
     (run : Run) (cycles : ℕ) (is_run : IsRun (setting_of (model name p keep h) (emitted_module name p keep)) run cycles) (t : ℕ) (le : t ≤ cycles) where
   abbrev pub inner : Option ChildId → pure.Child
   inner = program_of p.terms p.children.items nesting

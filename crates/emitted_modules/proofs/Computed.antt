@@ -1,8 +1,8 @@
 -- What expressions compute: values of sorts, form by form.
-use Rattle.std.proofs.Common.{◌≡◌, ℕ, Bool, true, false, cond, not, ◌&&◌, ◌||◌, ◌==◌, Option, Some, None, refl, ◌∙◌, ap, subst, arith}
+use Rattle.std.proofs.Common.{◌≡◌, ℕ, Bool, true, false, cond, List, not, ◌&&◌, ◌||◌, ◌==◌, Option, Some, None, refl, ◌∙◌, ap, subst, arith}
 use Rattle.std.specs.Prelude.{⊤}
 use Rattle.std.proofs.lemmas.Bool.Decides.{nat_tests}
-use Rattle.wb_values.specs.Value.{Sort, truth, word, memory, Value, truth_value, number, as_number, Valuation}
+use Rattle.wb_values.specs.Value.{Sort, truth, word, memory, Value, truth_value, number, words, as_number, Valuation}
 use Rattle.wb_values.specs.Choice.{some_if}
 use Rattle.wb_values.specs.Number.{word_not, word_and, word_or, word_xor, word_eq}
 use Rattle.model_meaning.specs.Term.{bits_sort, same_bits_sort, word_sort, same_word_sort, compared, width_of_sort, complement, conjunction, disjunction, exclusive_or, is_equal}
@@ -13,12 +13,13 @@ use Rattle.term_expressions.specs.Expressions.{IsWorth}
 use Rattle.term_expressions.specs.Laws.{OfOne, OfTwo}
 use Rattle.term_expressions.proofs.Forms.{complement_is_not, bitwise_and_is_and, bitwise_or_is_or, bitwise_xor_is_xor}
 use Rattle.term_expressions.proofs.Tests.{equal_is_eq}
+use Rattle.emitted_modules.proofs.Words.{IsMemoryOf}
 
--- A value of the sort, of which an expression is worth the number. (There is no memory, and nothing is said where there is no sort.)
+-- A value of the sort, of which an expression is worth the number; of a memory its words alone. (Nothing is said where there is no sort.)
 abbrev pub IsComputed : ((w x : ℕ) → Type 0) → Option Sort → Value → Type 0
 IsComputed Is (Some truth) y = (b : Bool) × (y ≡ truth_value b) × Is 1 (bit b)
 IsComputed Is (Some (word w)) y = (x : ℕ) × (y ≡ number x) × Is w x
-IsComputed Is (Some (memory a d)) y = ⊥
+IsComputed Is (Some (memory a d)) y = (ws : List ℕ) × (y ≡ words ws) × IsMemoryOf a d ws
 IsComputed Is None y = ⊤
 
 pub same_number : (u w : ℕ) → (u == w) ≡ true → w ≡ u

@@ -4,6 +4,7 @@ use Rattle.std.specs.List.{list_all}
 use Rattle.std.proofs.lemmas.List.{length-map}
 use Rattle.wb_values.specs.Value.{Name, same_name, Sort, Entries}
 use Rattle.wb_values.specs.Names.{begins_with_wb, is_name_byte, is_model_name}
+use Rattle.model_meaning.specs.Term.{is_memory_sort}
 use Rattle.model_meaning.specs.Model.{Model, StateDeclaration, InputDeclaration}
 use Rattle.model_meaning.specs.Invariant.{valued_names}
 use Rattle.ila_model.specs.declared.parts.Parts.{Parts}
@@ -13,14 +14,14 @@ use Rattle.ila_model.proofs.Names.{same-sym, none_at, first_is_apart, others_apa
 use Rattle.ila_model.proofs.Declarations.{AreSorted, sorted}
 use Rattle.emitted_modules.specs.Rtl.{Rtl}
 use Rattle.emitted_modules.specs.Module.{decodes_of, rtl_of}
-use Rattle.emitted_modules.specs.Laws.{IsPlainModel}
+use Rattle.emitted_modules.specs.Laws.{IsFlatModel}
 use Rattle.emitted_modules.proofs.Names.{Among, among_left, among_right, among_map, AreDistinct, distinct_from, distinct_parts, distinct_joined, apart_in, first_not}
 use Rattle.emitted_modules.proofs.Declared.{HasOwnNames}
 use Rattle.emitted_modules.proofs.Nets.{IsBitsSort}
-use Rattle.emitted_modules.proofs.Next.{AreBits}
+use Rattle.emitted_modules.proofs.Next.{AreSorts}
 use Rattle.emitted_modules.proofs.WireNames.{wire_names}
 use Rattle.emitted_modules.proofs.OwnNames.{input_names, names_of_states, valued_by, each_legal, not_own, name_bytes, has_own_names, distinct_wires, wires_own, wires_no_controls}
-use Rattle.emitted_modules.proofs.Model.{AllInRange, states_are_bits, inputs_are_bits}
+use Rattle.emitted_modules.proofs.Model.{AllInRange, bits_by, state_sort, inputs_are_bits}
 
 -- names at two places of a table of names that are all different
 pub names_apart : (ns : Entries Sort) (i k : ℕ) → are_distinct ns ≡ true → i < length ns → k < length ns → i ≢ k
@@ -33,7 +34,7 @@ names_apart (m ∷ ns) (suc i) zero d low high apart = none_at ns m.0 i (first_i
 names_apart (m ∷ ns) (suc i) (suc k) d low high apart =
     names_apart ns i k (others_apart m ns d) (omega (arith, low)) (omega (arith, high)) (λ q. apart (ap suc q))
 
-module _ (name : Name) (p : Parts) (keep : ℕ → Bool) (h : IsPlainModel name p) where
+module _ (name : Name) (p : Parts) (keep : ℕ → Bool) (h : IsFlatModel name p) where
   abbrev pub model : Model
   model = model_from name p
 
@@ -46,8 +47,12 @@ module _ (name : Name) (p : Parts) (keep : ℕ → Bool) (h : IsPlainModel name 
   pub range : AllInRange p.terms.names
   range = h.stored.in_range
 
-  pub state_bits : AreBits rtl.registers
-  state_bits = states_are_bits p.terms.names p.initial_values.items range h.no_memory
+  pub state_sorts : AreSorts rtl.registers
+  state_sorts d at = state_sort p.terms.names p.initial_values.items d range at
+
+  -- a state that is no memory
+  pub state_bits : (d : StateDeclaration) → Among d rtl.registers → is_memory_sort d.sort ≡ false → IsBitsSort d.sort
+  state_bits d at other = bits_by d.sort (state_sorts d at) other
 
   pub input_bits : (i : InputDeclaration) → Among i rtl.inputs → IsBitsSort i.sort
   input_bits = inputs_are_bits p.inputs (length p.initial_values.items) p.terms.names range sorted_parts.declared.inputs

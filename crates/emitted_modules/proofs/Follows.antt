@@ -20,7 +20,7 @@ use Rattle.emitted_designs.specs.Cycles.{HasGoAt, HasCommitAt, IsAtRest, start_p
 use Rattle.emitted_designs.proofs.Childless.{in_machine, enters_none, none_running}
 use Rattle.emitted_modules.specs.Kept.{IsKept}
 use Rattle.emitted_modules.specs.Module.{emitted_module}
-use Rattle.emitted_modules.specs.Laws.{IsPlainModel}
+use Rattle.emitted_modules.specs.Laws.{IsFlatModel}
 use Rattle.emitted_modules.proofs.Names.{Among}
 use Rattle.emitted_modules.proofs.Decoding.{one_of}
 use Rattle.emitted_modules.proofs.Reading.{named_state}
@@ -46,7 +46,7 @@ some_state : (o : Option StateDeclaration) → is_some o ≡ true → (d : State
 some_state None h = absurd (false≢true h)
 some_state (Some d) h = (d, refl)
 
-module _ (name : Name) (p : Parts) (keep : ℕ → Bool) (h : IsPlainModel name p) (kept : IsKept p keep)
+module _ (name : Name) (p : Parts) (keep : ℕ → Bool) (h : IsFlatModel name p) (kept : IsKept p keep)
     (run : Run) (cycles : ℕ) (is_run : IsRun (setting_of (model name p keep h) (emitted_module name p keep)) run cycles) where
   abbrev s : Setting
   s = setting_of (model name p keep h) (emitted_module name p keep)

@@ -1,10 +1,10 @@
 -- The expression of each form of node computes the node's tree.
-use Rattle.std.proofs.Common.{◌≡◌, ℕ, false, List, [], ◌∷◌, sym}
+use Rattle.std.proofs.Common.{◌≡◌, ℕ, suc, ◌<◌, ◌≤◌, false, List, [], ◌∷◌, sym, arith}
 use Rattle.std.specs.Prelude.{⊤}
 use Rattle.std.proofs.lemmas.Bool.{false≢true}
 use Rattle.wb_values.specs.Value.{Valuation}
 use Rattle.wb_values.specs.Number.{word_neg, word_add, word_sub, word_mul, word_shl, word_lshr, word_ashr, word_ult, word_ule, word_slt, word_sle}
-use Rattle.model_meaning.specs.Term.{sort_of, val}
+use Rattle.model_meaning.specs.Term.{sort_of, val, same_bits_sort, same_word_sort}
 use Rattle.verilog_trees.specs.Syntax.{unary, minus, binary, add, subtract, multiply, shift, left, right, comparison, less, less_or_equal}
 use Rattle.verilog_meaning.specs.Expression.{Scope}
 use Rattle.verilog_meaning.specs.Settled.{whole_name}
@@ -14,17 +14,19 @@ use Rattle.term_expressions.proofs.Shifts.{shift_left_is_shl, shift_right_is_lsh
 use Rattle.term_expressions.proofs.Tests.{less_is_ult, less_or_equal_is_ule, signed_less_is_slt, signed_less_or_equal_is_sle}
 use Rattle.wb_terms.specs.declared.nodes.Node.{Node}
 use Rattle.wb_terms.specs.declared.nodes.Node.TheVariants.{Name as Named, Truth, Const, Not, And, Or, Xor, Neg, Add, Sub, Mul, Shl, Lshr, Ashr, Eq, Ult, Ule, Slt, Sle, Concat, Extract, Zext, Sext, Ite, Load, Store}
-use Rattle.wb_terms.specs.Graph.{Graph, tree, tree_of_node, operands_of}
-use Rattle.emitted_modules.specs.Nodes.{operand, bits_of_operand, expression_of, is_leaf, wire_name_of}
+use Rattle.wb_terms.specs.Graph.{Graph, tree, tree_of_node, operands_of, AllBelow}
+use Rattle.emitted_modules.specs.Nodes.{operand, bits_of_operand, word_of_node, word_read, expression_of, is_leaf, wire_name_of}
 use Rattle.emitted_modules.proofs.Computed.{Worth, of_word, of_words, of_test, of_complement, of_and, of_or, of_xor, of_eq}
-use Rattle.emitted_modules.proofs.Joined.{Given, given_of, SlicedBy, of_concat, of_extract, of_zext, of_sext, of_ite, of_load, of_store}
+use Rattle.emitted_modules.proofs.Joined.{Given, given_of, SlicedBy, of_concat, of_extract, of_zext, of_sext, of_ite, of_store}
+use Rattle.emitted_modules.proofs.WordReads.{ReadBy, of_load, store_read, ite_read, IsNoMemory, unread, of_bits, of_word_sort, of_same_words, of_same_bits, of_compared, of_concat_sort, of_extract_sort, of_extended_sort, of_load_sort}
 
 module _ (s : Scope) (v : Valuation) (g : Graph) (point : Valuation) where
-  -- The operand for a term is worth the term's value, and so are its bits.
+  -- The operand for a term is worth the term's value, and so are its bits. Of a memory a word that is read is the memory's.
   abbrev pub IsDone : ℕ → Type 0
   IsDone j =
       Worth s v (operand g j) (sort_of (tree g j)) (val (tree g j) point)
       × SlicedBy s v (bits_of_operand g j) (sort_of (tree g j)) (val (tree g j) point)
+      × ((l : ℕ) → j < l → ReadBy s v (λ e. word_read g l e j) (sort_of (tree g j)) (val (tree g j) point))
 
   abbrev pub AreDone : List ℕ → Type 0
   AreDone [] = ⊤
@@ -58,5 +60,56 @@ module _ (s : Scope) (v : Valuation) (g : Graph) (point : Valuation) where
   formed k (Zext n x) h d = given_of s v _ _ _ (of_zext s v n (operand g x.0) (sort_of (tree g x.0)) (val (tree g x.0) point) d.0.0)
   formed k (Sext n x) h d = of_sext s v n (operand g x.0) (sort_of (tree g x.0)) (val (tree g x.0) point) d.0.0
   formed k (Ite c x y) h d = given_of s v _ _ _ (of_ite s v (operand g c.0) (operand g x.0) (operand g y.0) (sort_of (tree g c.0)) (sort_of (tree g x.0)) (sort_of (tree g y.0)) (val (tree g c.0) point) (val (tree g x.0) point) (val (tree g y.0) point) d.0.0 d.1.0.0 d.1.1.0.0)
-  formed k (Load m i) h d = given_of s v _ _ _ (of_load s v (operand g m.0) (whole_name (wire_name_of k)) (sort_of (tree g m.0)) (sort_of (tree g i.0)) (val (tree g m.0) point) _ d.0.0)
-  formed k (Store m i x) h d = given_of s v _ _ _ (of_store s v (operand g m.0) (whole_name (wire_name_of k)) (sort_of (tree g m.0)) (sort_of (tree g i.0)) (sort_of (tree g x.0)) (val (tree g m.0) point) _ d.0.0)
+  formed k (Load m i) h d =
+      given_of s v _ _ _
+      (of_load s v (λ e. word_read g (suc m.0) e m.0) (operand g i.0) (sort_of (tree g m.0)) (sort_of (tree g i.0)) (val (tree g m.0) point)
+      (val (tree g i.0) point) d.1.0.0 (d.0.2 (suc m.0) (next m.0)))
+    where
+      next : (n : ℕ) → n < suc n
+      next n = omega arith
+  formed k (Store m i x) h d =
+      given_of s v _ _ _
+      (of_store s v (operand g m.0) (operand g i.0) (operand g x.0) (whole_name (wire_name_of k)) (sort_of (tree g m.0)) (sort_of (tree g i.0))
+      (sort_of (tree g x.0)) (val (tree g m.0) point) (val (tree g i.0) point) (val (tree g x.0) point) d.0.0 d.1.0.0 d.1.1.0.0)
+
+  -- ---- words that are read of a node
+
+  abbrev pub ReadOf : ℕ → Node → Type 0
+  ReadOf l n = ReadBy s v (λ e. word_of_node g (λ j. word_read g l e j) e n) (sort_of (tree_of_node g n)) (val (tree_of_node g n) point)
+
+  abbrev no_read : (l : ℕ) (n : Node) → IsNoMemory (sort_of (tree_of_node g n)) → ReadOf l n
+  no_read l n h = unread s v (λ e. word_of_node g (λ j. word_read g l e j) e n) (sort_of (tree_of_node g n)) (val (tree_of_node g n) point) h
+
+  pub node_read : (k l : ℕ) (n : Node) → k ≤ l → is_leaf n ≡ false → AllBelow k (operands_of n) → AreDone (operands_of n) → ReadOf l n
+  node_read k l (Named i) le h b d = absurd (false≢true (sym h))
+  node_read k l (Truth t) le h b d = absurd (false≢true (sym h))
+  node_read k l (Const w x) le h b d = absurd (false≢true (sym h))
+  node_read k l (Store m i x) le h b d =
+      store_read s v (λ e. word_read g l e m.0) (operand g m.0) (operand g i.0) (operand g x.0) (sort_of (tree g m.0)) (sort_of (tree g i.0))
+      (sort_of (tree g x.0)) (val (tree g m.0) point) (val (tree g i.0) point) (val (tree g x.0) point) d.0.0 (d.0.2 l (omega (arith, b.0, le))) d.1.0.0
+      d.1.1.0.0
+  node_read k l (Ite c x y) le h b d =
+      ite_read s v (operand g c.0) (λ e. word_read g l e x.0) (λ e. word_read g l e y.0) (sort_of (tree g c.0)) (sort_of (tree g x.0))
+      (sort_of (tree g y.0)) (val (tree g c.0) point) (val (tree g x.0) point) (val (tree g y.0) point) d.0.0 (d.1.0.2 l (omega (arith, b.1.0, le)))
+      (d.1.1.0.2 l (omega (arith, b.1.1.0, le)))
+  node_read k l (Not x) le h b d = no_read l (Not x) (of_bits (sort_of (tree g x.0)))
+  node_read k l (Neg x) le h b d = no_read l (Neg x) (of_word_sort (sort_of (tree g x.0)))
+  node_read k l (And x y) le h b d = no_read l (And x y) (of_same_bits (sort_of (tree g x.0)) (sort_of (tree g y.0)))
+  node_read k l (Or x y) le h b d = no_read l (Or x y) (of_same_bits (sort_of (tree g x.0)) (sort_of (tree g y.0)))
+  node_read k l (Xor x y) le h b d = no_read l (Xor x y) (of_same_bits (sort_of (tree g x.0)) (sort_of (tree g y.0)))
+  node_read k l (Add x y) le h b d = no_read l (Add x y) (of_same_words (sort_of (tree g x.0)) (sort_of (tree g y.0)))
+  node_read k l (Sub x y) le h b d = no_read l (Sub x y) (of_same_words (sort_of (tree g x.0)) (sort_of (tree g y.0)))
+  node_read k l (Mul x y) le h b d = no_read l (Mul x y) (of_same_words (sort_of (tree g x.0)) (sort_of (tree g y.0)))
+  node_read k l (Shl x y) le h b d = no_read l (Shl x y) (of_same_words (sort_of (tree g x.0)) (sort_of (tree g y.0)))
+  node_read k l (Lshr x y) le h b d = no_read l (Lshr x y) (of_same_words (sort_of (tree g x.0)) (sort_of (tree g y.0)))
+  node_read k l (Ashr x y) le h b d = no_read l (Ashr x y) (of_same_words (sort_of (tree g x.0)) (sort_of (tree g y.0)))
+  node_read k l (Eq x y) le h b d = no_read l (Eq x y) (of_compared (same_bits_sort (sort_of (tree g x.0)) (sort_of (tree g y.0))))
+  node_read k l (Ult x y) le h b d = no_read l (Ult x y) (of_compared (same_word_sort (sort_of (tree g x.0)) (sort_of (tree g y.0))))
+  node_read k l (Ule x y) le h b d = no_read l (Ule x y) (of_compared (same_word_sort (sort_of (tree g x.0)) (sort_of (tree g y.0))))
+  node_read k l (Slt x y) le h b d = no_read l (Slt x y) (of_compared (same_word_sort (sort_of (tree g x.0)) (sort_of (tree g y.0))))
+  node_read k l (Sle x y) le h b d = no_read l (Sle x y) (of_compared (same_word_sort (sort_of (tree g x.0)) (sort_of (tree g y.0))))
+  node_read k l (Concat x y) le h b d = no_read l (Concat x y) (of_concat_sort (sort_of (tree g x.0)) (sort_of (tree g y.0)))
+  node_read k l (Extract i j x) le h b d = no_read l (Extract i j x) (of_extract_sort i j (sort_of (tree g x.0)))
+  node_read k l (Zext n x) le h b d = no_read l (Zext n x) (of_extended_sort n (sort_of (tree g x.0)))
+  node_read k l (Sext n x) le h b d = no_read l (Sext n x) (of_extended_sort n (sort_of (tree g x.0)))
+  node_read k l (Load m i) le h b d = no_read l (Load m i) (of_load_sort (sort_of (tree g m.0)) (sort_of (tree g i.0)))

@@ -1,11 +1,12 @@
 -- What expressions compute: parts, widths, choices, and what wires take.
-use Rattle.std.proofs.Common.{◌≡◌, ℕ, ◌+◌, ◌-◌, ◌<◌, ◌≤◌, ◌^◌, Bool, true, false, cond, ◌&&◌, ◌==◌, nat_le, nat_lt, Option, Some, None, refl, ◌∙◌, ap, subst, arith}
-use Rattle.std.specs.Prelude.{⊤}
+use Rattle.std.proofs.Common.{◌≡◌, ℕ, ◌+◌, ◌-◌, ◌<◌, ◌≤◌, ◌^◌, Bool, true, false, cond, ◌&&◌, ◌==◌, nat_le, nat_lt, List, Option, Some, None, refl, sym, ◌∙◌, ap, subst, arith}
+use Rattle.std.specs.Prelude.{⊤, slice_set}
+use Rattle.std.proofs.lemmas.Bool.{and_parts}
 use Rattle.std.proofs.lemmas.Bool.Decides.{nat_tests}
-use Rattle.wb_values.specs.Value.{Sort, truth, word, memory, Value, truth_value, number, as_truth, as_number, Valuation}
+use Rattle.wb_values.specs.Value.{Sort, truth, word, memory, Value, truth_value, number, words, as_truth, as_number, as_words, Valuation}
 use Rattle.wb_values.specs.Choice.{some_if}
 use Rattle.wb_values.specs.Number.{word_concat, word_extract, word_zext, word_sext}
-use Rattle.model_meaning.specs.Term.{is_width, concat_sort, extract_sort, extended_sort, ite_sort, load_sort, store_sort, width_of_sort}
+use Rattle.model_meaning.specs.Term.{is_width, concat_sort, extract_sort, extended_sort, ite_sort, store_sort, width_of_sort}
 use Rattle.verilog_trees.specs.Syntax.{Expression, conditional, as_signed}
 use Rattle.verilog_meaning.specs.Expression.{Scope, bit}
 use Rattle.v_operators.proofs.Bounds.{sext_below}
@@ -14,6 +15,7 @@ use Rattle.term_expressions.proofs.Shifts.{standing_is_assigned, signed_is_sext}
 use Rattle.term_expressions.proofs.Tests.{conditional_is_ite}
 use Rattle.term_expressions.proofs.Joined.{sized_is_const, parts_are_concat, filled_is_zext}
 use Rattle.emitted_modules.specs.Nodes.{filled_to}
+use Rattle.emitted_modules.proofs.Words.{IsMemoryOf, memory_stored}
 use Rattle.emitted_modules.proofs.Computed.{IsComputed, same_number, Worth, computed_if}
 
 in_range : (h l w : ℕ) → (nat_le l h && nat_lt h w) ≡ true → (l ≤ h) × (h < w)
@@ -41,7 +43,7 @@ module _ (s : Scope) (v : Valuation) where
   given_of e None y h = tt
   given_of e (Some truth) y (b, same, h) = (b, same, (standing_is_assigned s v e 1 (bit b) h, h.fits))
   given_of e (Some (word w)) y (x, same, h) = (x, same, (standing_is_assigned s v e w x h, h.fits))
-  given_of e (Some (memory a d)) y h = absurd h
+  given_of e (Some (memory a d)) y h = h
 
   pub of_concat : (d e : Expression) (a b : Option Sort) (y z : Value) → Worth s v d a y → Worth s v e b z
       → Worth s v (pair_of d e) (concat_sort a b) (number (word_concat (width_of_sort b) (as_number y) (as_number z)))
@@ -114,6 +116,10 @@ module _ (s : Scope) (v : Valuation) where
   number_of_choice true x k = refl
   number_of_choice false x k = refl
 
+  words_of_choice : (p : Bool) (q r : List ℕ) → cond p (words q) (words r) ≡ words (cond p q r)
+  words_of_choice true q r = refl
+  words_of_choice false q r = refl
+
   chosen_value : (o y z o2 y2 z2 : Value) → o ≡ o2 → y ≡ y2 → z ≡ z2 → cond (as_truth o) y z ≡ cond (as_truth o2) y2 z2
   chosen_value o y z o2 y2 z2 e f g =
       ap (λ j. cond (as_truth j) y z) e ∙ (ap (λ j. cond (as_truth o2) j z) f ∙ ap (λ j. cond (as_truth o2) y2 j) g)
@@ -132,21 +138,40 @@ module _ (s : Scope) (v : Valuation) where
         chosen_value o y z (truth_value p) (number q) (number r) true_by same alike ∙ number_of_choice p q r,
         conditional_is_ite s v c d e p w q r h g (subst (λ j. IsWorth s v e j r) (same_number w u t) k),
       ))
-  of_ite c d e (Some truth) (Some (memory i j)) b o y z h g k = absurd g
+  of_ite c d e (Some truth) (Some (memory i j)) (Some (memory k l)) o y z (p, true_by, h) (q, same, g) (r, alike, f) = by_test ((i == k) && (j == l)) refl
+    where
+      chosen_words : (b : Bool) → IsMemoryOf i j q → IsMemoryOf i j r → IsMemoryOf i j (cond b q r)
+      chosen_words true m n = m
+      chosen_words false m n = n
+
+      by_test : (b : Bool) → ((i == k) && (j == l)) ≡ b → Worth s v (conditional c d e) (some_if b (memory i j)) (cond (as_truth o) y z)
+      by_test false t = tt
+      by_test true t =
+          let parts = and_parts (i == k) (j == l) t in (
+            cond p q r,
+            chosen_value o y z (truth_value p) (words q) (words r) true_by same alike ∙ words_of_choice p q r,
+            chosen_words p g (subst (λ n. IsMemoryOf n j r) (same_number i k parts.0) (subst (λ n. IsMemoryOf k n r) (same_number j l parts.1) f)),
+          )
   of_ite c d e _ _ _ o y z h g k = tt
 
-  -- there are no memories to read and to store to
-  pub of_load : (d f : Expression) (a b : Option Sort) (y z : Value) → Worth s v d a y → Worth s v f (load_sort a b) z
-  of_load d f (Some (memory i j)) b y z h = absurd h
-  of_load d f None b y z h = tt
-  of_load d f (Some truth) b y z h = tt
-  of_load d f (Some (word w)) b y z h = tt
-
-  pub of_store : (d f : Expression) (a b c : Option Sort) (y z : Value) → Worth s v d a y → Worth s v f (store_sort a b c) z
-  of_store d f (Some (memory i j)) b c y z h = absurd h
-  of_store d f None b c y z h = tt
-  of_store d f (Some truth) b c y z h = tt
-  of_store d f (Some (word w)) b c y z h = tt
+  -- the address of a store is one of the memory's, so there is no need to look at it but in range
+  pub of_store : (d e f o : Expression) (a b c : Option Sort) (y i z : Value) → Worth s v d a y → Worth s v e b i → Worth s v f c z
+      → Worth s v o (store_sort a b c) (words (slice_set (as_words y) (as_number i) (as_number z)))
+  of_store d e f o (Some (memory k l)) (Some (word w)) (Some (word u)) y i z (ws, same, g) (n, alike, at) (x, equal_by, worth) =
+      by_test ((w == k) && (u == l)) refl
+    where
+      by_test : (b : Bool) → ((w == k) && (u == l)) ≡ b
+          → Worth s v o (some_if b (memory k l)) (words (slice_set (as_words y) (as_number i) (as_number z)))
+      by_test false t = tt
+      by_test true t =
+          let parts = and_parts (w == k) (u == l) t in (
+            slice_set ws n x,
+            ap (λ j. words (slice_set (as_words j) (as_number i) (as_number z))) same
+                ∙ (ap (λ j. words (slice_set ws (as_number j) (as_number z))) alike ∙ ap (λ j. words (slice_set ws n (as_number j))) equal_by),
+            memory_stored k l ws n x g (subst (λ j. n < 2 ^ j) (sym (same_number w k parts.0)) at.fits)
+                (subst (λ j. x < 2 ^ j) (sym (same_number u l parts.1)) worth.fits),
+          )
+  of_store d e f o _ _ _ y i z g h k = tt
 
   -- ---- constants
 

@@ -1,5 +1,5 @@
 -- The states and inputs of a model from its parts.
-use Rattle.std.proofs.Common.{◌≡◌, ℕ, zero, suc, ◌+◌, ◌<◌, max, Bool, true, false, not, nat_lt, inl, inr, List, [], ◌∷◌, ◌++◌, length, drop, Option, Some, None, refl, sym, ◌∙◌, ap, subst, arith}
+use Rattle.std.proofs.Common.{◌≡◌, ℕ, zero, suc, ◌+◌, ◌<◌, max, Bool, true, false, nat_lt, inl, inr, List, [], ◌∷◌, ◌++◌, length, drop, Option, Some, None, refl, sym, ◌∙◌, ap, subst, arith}
 use Rattle.std.specs.Prelude.{slice_get, option_map}
 use Rattle.std.specs.List.{list_all}
 use Rattle.std.proofs.lemmas.Bool.{false≢true, and_parts}
@@ -8,7 +8,7 @@ use Rattle.wb_values.specs.Value.{Name, Sort, truth, word, memory, Entries, is_o
 use Rattle.wb_values.specs.Value as meaning
 use Rattle.model_meaning.specs.Term.{is_sort, is_memory_sort}
 use Rattle.model_meaning.specs.Model.{Model, Machine, machine, Instruction, instruction, Instructions, no_instructions, and_then, no_child, child, StateDeclaration, InputDeclaration, states_of}
-use Rattle.model_meaning.specs.Invariant.{all_machines, program_machines, instruction_machines, gathered, is_no_memory}
+use Rattle.model_meaning.specs.Invariant.{all_machines, program_machines, instruction_machines, gathered}
 use Rattle.wb_terms.specs.declared.values.Value.{Value}
 use Rattle.wb_terms.specs.Environment.{as_value}
 use Rattle.ila_model.specs.Sorted.{sort_at, are_states, are_inputs, is_top_initial, is_input_sort}
@@ -41,20 +41,11 @@ AllInRange ns = (k : ℕ) → k < length ns → is_sort (sort_at ns k) ≡ true
 later_in_range : (n : Name × Sort) (ns : Entries Sort) → AllInRange (n ∷ ns) → AllInRange ns
 later_in_range n ns h k low = h (suc k) (omega (arith, low))
 
-state_sort : (ns : Entries Sort) (is : List (Option Value)) (d : StateDeclaration) → AllInRange ns → Among d (declared_states ns is) → is_sort d.sort ≡ true
+pub state_sort : (ns : Entries Sort) (is : List (Option Value)) (d : StateDeclaration) → AllInRange ns → Among d (declared_states ns is) → is_sort d.sort ≡ true
 state_sort [] is d all h = absurd h
 state_sort (n ∷ ns) [] d all h = absurd h
 state_sort (n ∷ ns) (i ∷ is) d all (inl e) = subst (λ (x : StateDeclaration). is_sort x.sort ≡ true) e (all 0 (omega arith))
 state_sort (n ∷ ns) (i ∷ is) d all (inr h) = state_sort ns is d (later_in_range n ns all) h
-
-no_memory_sort : (b : Bool) → not b ≡ true → b ≡ false
-no_memory_sort true e = sym e
-no_memory_sort false e = refl
-
-pub states_are_bits : (ns : Entries Sort) (is : List (Option Value)) → AllInRange ns → list_all is_no_memory (declared_states ns is) ≡ true
-    → (d : StateDeclaration) → Among d (declared_states ns is) → IsBitsSort d.sort
-states_are_bits ns is all none d h =
-    bits_by d.sort (state_sort ns is d all h) (no_memory_sort (is_memory_sort d.sort) (all_of is_no_memory (declared_states ns is) d none h))
 
 -- a stated initial value is of the state's sort
 first_value_sorted : (t : Sort) (i : Option Value) (x : meaning.Value) → is_top_initial t i ≡ true → option_map as_value i ≡ Some x → is_of_sort t x ≡ true
@@ -73,6 +64,24 @@ initial_values_sorted (n ∷ ns) (i ∷ is) h d x (inl f) e =
     (subst (λ (s : StateDeclaration). s.init ≡ Some x) (sym f) e))
 initial_values_sorted (n ∷ ns) (i ∷ is) h d x (inr at) e =
     initial_values_sorted ns is (and_parts (is_top_initial n.1 i) (are_states false ns is) h).1 d x at e
+
+-- a memory states none
+none_of_memory : (t : Sort) (i : Option Value) (x : meaning.Value) → is_top_initial t i ≡ true → option_map as_value i ≡ Some x → is_memory_sort t ≡ false
+none_of_memory truth i x h e = refl
+none_of_memory (word w) i x h e = refl
+none_of_memory (memory a d) None x h e = cc
+none_of_memory (memory a d) (Some y) x h e = absurd (false≢true h)
+
+pub stated_by_no_memory : (ns : Entries Sort) (is : List (Option Value)) → are_states false ns is ≡ true → (d : StateDeclaration) (x : meaning.Value)
+    → Among d (declared_states ns is) → d.init ≡ Some x → is_memory_sort d.sort ≡ false
+stated_by_no_memory [] is h d x at e = absurd at
+stated_by_no_memory (n ∷ ns) [] h d x at e = absurd at
+stated_by_no_memory (n ∷ ns) (i ∷ is) h d x (inl f) e =
+    subst (λ (s : StateDeclaration). is_memory_sort s.sort ≡ false) f
+    (none_of_memory n.1 i x (and_parts (is_top_initial n.1 i) (are_states false ns is) h).0
+    (subst (λ (s : StateDeclaration). s.init ≡ Some x) (sym f) e))
+stated_by_no_memory (n ∷ ns) (i ∷ is) h d x (inr at) e =
+    stated_by_no_memory ns is (and_parts (is_top_initial n.1 i) (are_states false ns is) h).1 d x at e
 
 input_bits : (t : Sort) → is_sort t ≡ true → is_input_sort t ≡ true → IsBitsSort t
 input_bits truth h e = tt

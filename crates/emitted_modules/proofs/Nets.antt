@@ -1,16 +1,16 @@
 -- Widths of nets, and what a name that is declared is.
-use Rattle.std.proofs.Common.{◌≡◌, ℕ, ◌+◌, ◌-◌, ◌<◌, ◌≤◌, Bool, true, false, ◌||◌, inl, inr, List, [], ◌∷◌, ◌++◌, map, None, refl, sym, ◌∙◌, ap, subst, arith}
+use Rattle.std.proofs.Common.{◌≡◌, ℕ, ◌+◌, ◌-◌, ◌<◌, ◌≤◌, ◌^◌, Bool, true, false, ◌||◌, ◌&&◌, nat_le, inl, inr, List, [], ◌∷◌, ◌++◌, map, Some, None, refl, sym, ◌∙◌, ap, subst, arith, pow_mono}
 use Rattle.std.specs.Prelude.{IsTrue, ⊤}
-use Rattle.std.proofs.lemmas.Bool.{false≢true}
+use Rattle.std.proofs.lemmas.Bool.{and_parts, false≢true}
 use Rattle.std.proofs.lemmas.Bool.Decides.{nat_tests}
 use Rattle.wb_values.specs.Value.{Name, same_name, Sort, truth, word, memory}
-use Rattle.model_meaning.specs.Term.{is_width}
+use Rattle.model_meaning.specs.Term.{is_sort, is_width}
 use Rattle.model_meaning.specs.Model.{StateDeclaration, InputDeclaration}
 use Rattle.verilog_meaning.specs.Expression.{Object, Scope, object_width, natural_of, distance}
 use Rattle.verilog_meaning.specs.Hierarchy.{Declaration, declared_object, bound_of}
 use Rattle.verilog_meaning.specs.Settled.{IsDeclared, is_declared_among}
 use Rattle.term_expressions.specs.Expressions.{plain}
-use Rattle.term_expressions.specs.Laws.{IsPlainNet}
+use Rattle.term_expressions.specs.Laws.{IsPlainNet, IsMemory}
 use Rattle.term_expressions.proofs.Names.{bound_is}
 use Rattle.emitted_designs.specs.Names.{clock_name, reset_name, go_name, start_name, commit_name}
 use Rattle.emitted_designs.specs.Module.{top_of, HoldsSort}
@@ -37,10 +37,10 @@ pub record IsPlainObject (o : Object) (w : ℕ) : Type 0 where
 abbrev object_of_sort : Sort → Object
 object_of_sort t = declared_object nothing_known (input_net [] t)
 
-bound_of_plain : (s : Scope) (k : ℕ) → k < 128 → bound_of s (plain k) ≡ k
+bound_of_plain : (s : Scope) (k : ℕ) → k < 2 ^ 31 → bound_of s (plain k) ≡ k
 bound_of_plain s k low = ap natural_of (bound_is s k low)
 
-width_low : (w : ℕ) → IsTrue (is_width w) → w - 1 < 128
+width_low : (w : ℕ) → IsTrue (is_width w) → w - 1 < 2 ^ 31
 width_low w h = grind (arith, nat_tests, h)
 
 width_back : (w : ℕ) → IsTrue (is_width w) → distance (w - 1) 0 + 1 ≡ w
@@ -70,6 +70,38 @@ register_object d h = by_sort d.sort h
     by_sort truth k = refl
     by_sort (word w) k = refl
     by_sort (memory a e) k = absurd k
+
+-- ---- memories
+
+few_words : (a : ℕ) → a ≤ 16 → 2 ^ a - 1 < 2 ^ 31
+few_words a le = below (2 ^ a) (pow_mono le)
+  where
+    below : (n : ℕ) → n ≤ 2 ^ 16 → n - 1 < 2 ^ 31
+    below n l = omega (arith, l)
+
+-- A register of a memory's sort holds a memory.
+memory_of_sort : (s : Scope) (n : Name) (a w : ℕ) → is_sort (memory a w) ≡ true
+    → s n ≡ declared_object nothing_known (register_net (record { state_name = n; sort = memory a w; init = None })) → IsMemory s n a w
+memory_of_sort s n a w h e = record {
+  width =
+      ap object_width e
+      ∙ (ap (λ l. distance l (bound_of nothing_known (plain 0)) + 1) (bound_of_plain nothing_known (w - 1) (width_low w wide))
+      ∙ (ap (λ l. distance (w - 1) l + 1) (bound_of_plain nothing_known 0 (omega arith)) ∙ width_back w wide));
+  unsigned = ap (λ (o : Object). o.signed) e;
+  addresses =
+      ap (λ (o : Object). o.addresses) e
+      ∙ (ap (λ l. Some (l, bound_of nothing_known (plain (2 ^ a - 1)))) (bound_of_plain nothing_known 0 (omega arith))
+      ∙ ap (λ l. Some (0, l)) (bound_of_plain nothing_known (2 ^ a - 1) (few_words a few)));
+}
+  where
+    wide : is_width w ≡ true
+    wide = (and_parts (nat_le 1 a && nat_le a 16) (is_width w) h).1
+
+    few : a ≤ 16
+    few = by_test a (and_parts (nat_le 1 a) (nat_le a 16) (and_parts (nat_le 1 a && nat_le a 16) (is_width w) h).0).1
+      where
+        by_test : (k : ℕ) → nat_le k 16 ≡ true → k ≤ 16
+        by_test k f = grind (arith, nat_tests, f)
 
 -- ---- nets of the module
 
@@ -135,6 +167,28 @@ module _ (r : Rtl) (own : HasOwnNames r) where
       (in_own (register_net d)
       (among_left (register_net d) (map register_net r.registers) (map wire_net r.wires) (among_map register_net d r.registers at)))
       (register_object d h)
+
+  pub register_memory : (d : StateDeclaration) (a w : ℕ) → Among d r.registers → d.sort ≡ memory a w → is_sort d.sort ≡ true
+      → IsMemory (scope_in r) d.state_name a w
+  register_memory d a w at e h =
+      memory_of_sort (scope_in r) d.state_name a w (ap is_sort (sym e) ∙ h)
+      (object_is r (register_net d) own
+      (in_own (register_net d)
+      (among_left (register_net d) (map register_net r.registers) (map wire_net r.wires) (among_map register_net d r.registers at)))
+      ∙ ap (λ t. declared_object nothing_known (register_net (record { state_name = d.state_name; sort = t; init = None }))) e)
+
+  -- a register holds the values of its sort
+  pub register_holds : (d : StateDeclaration) → Among d r.registers → is_sort d.sort ≡ true → HoldsSort d.sort (scope_in r d.state_name)
+  register_holds d at h = by_sort d.sort refl
+    where
+      by_sort : (t : Sort) → d.sort ≡ t → HoldsSort t (scope_in r d.state_name)
+      by_sort truth e =
+          holds_sort r d.state_name truth tt
+          (subst (IsPlain r d.state_name) e (register_plain d at (subst IsBitsSort (sym e) tt)))
+      by_sort (word w) e =
+          holds_sort r d.state_name (word w) (ap is_sort (sym e) ∙ h)
+          (subst (IsPlain r d.state_name) e (register_plain d at (subst IsBitsSort (sym e) (ap is_sort (sym e) ∙ h))))
+      by_sort (memory a w) e = let m = register_memory d a w at e h in (m.width, m.addresses)
 
   pub wire_plain : (w : Wire) → Among w r.wires → IsBitsSort w.sort → IsPlain r w.wire_name w.sort
   wire_plain w at h =

@@ -12,6 +12,7 @@ use Rattle.verilog_trees.specs.Syntax.{Expression}
 use Rattle.verilog_meaning.specs.Hierarchy.{Declaration}
 use Rattle.wb_terms.specs.Graph.{Graph}
 use Rattle.emitted_designs.specs.Names.{clock_name, reset_name, go_name, start_name, commit_name}
+use Rattle.emitted_designs.specs.Module.{all_state_names}
 use Rattle.emitted_designs.proofs.Named.{same_if}
 use Rattle.emitted_modules.specs.Rtl.{Wire, Rtl}
 use Rattle.emitted_modules.specs.Nodes.{wire_name_of, node_wires}
@@ -28,13 +29,16 @@ input_names is = map (λ i. i.input_name) is
 abbrev pub names_of_states : List StateDeclaration → List Name
 names_of_states ss = map (λ s. s.state_name) ss
 
-pub valued_by : (m : Model) → (rest : List Name) × (valued_names m ≡ input_names m.inputs ++ (names_of_states (states_of m.top) ++ rest))
+pub valued_by : (m : Model)
+    → (rest : List Name) × (valued_names m ≡ input_names m.inputs ++ (names_of_states (states_of m.top) ++ rest))
+    × (all_state_names m ≡ names_of_states (states_of m.top) ++ rest)
 valued_by m = by_machine m.top
   where
     by_machine : (top : Machine)
         → (rest : List Name)
         × (input_names m.inputs ++ gathered state_names (all_machines top) ≡ input_names m.inputs ++ (names_of_states (states_of top) ++ rest))
-    by_machine (machine states valid is) = (gathered state_names (program_machines is), refl)
+        × (gathered state_names (all_machines top) ≡ names_of_states (states_of top) ++ rest)
+    by_machine (machine states valid is) = (gathered state_names (program_machines is), refl, refl)
 
 pub each_legal : (ns : List Name) (n : Name) → list_all is_model_name ns ≡ true → Among n ns → is_model_name n ≡ true
 each_legal [] n e h = absurd h

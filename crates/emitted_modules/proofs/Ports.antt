@@ -19,8 +19,8 @@ use Rattle.emitted_designs.proofs.Named.{in_either, in_front}
 use Rattle.emitted_modules.specs.Rtl.{Wire, Rtl, port_of, input_port, port_list, register_item, wire_item, module_of}
 use Rattle.emitted_modules.proofs.Names.{Among, among_left, among_right, among_either, among_map, mapped_from, AreDistinct, distinct_parts, named_among, entry_is}
 use Rattle.emitted_modules.proofs.Declared.{output_net, given_net, register_net, wire_net, nets, HasOwnNames, object_is}
-use Rattle.emitted_modules.proofs.Nets.{IsBitsSort, IsPlain, holds_sort, clock_plain, reset_plain, go_plain, start_plain, commit_plain, input_plain, register_plain, in_own, is_declared, declared_net}
-use Rattle.emitted_modules.proofs.Next.{AreBits, register_counted}
+use Rattle.emitted_modules.proofs.Nets.{IsBitsSort, IsPlain, holds_sort, clock_plain, reset_plain, go_plain, start_plain, commit_plain, input_plain, register_holds, in_own, is_declared, declared_net}
+use Rattle.emitted_modules.proofs.Next.{AreSorts, register_counted}
 
 pub among_of : {A : Type 0} (xs : List A) (x : A) → Contains xs x → Among x xs
 among_of [] x h = absurd (omega (arith, h.1))
@@ -131,15 +131,15 @@ has_ports m r own named same bits =
 
 -- ---- registers
 
-pub is_register : (r : Rtl) → HasOwnNames r → AreBits r.registers → (d : StateDeclaration) → Among d r.registers
+pub is_register : (r : Rtl) → HasOwnNames r → AreSorts r.registers → (d : StateDeclaration) → Among d r.registers
     → IsRegisterOf (module_of r) d.state_name d.sort
-is_register r own bits d at = record {
+is_register r own sorts d at = record {
   is_declared =
       is_declared r (register_net d)
       (in_own r own (register_net d)
       (among_left (register_net d) (map register_net r.registers) (map wire_net r.wires) (among_map register_net d r.registers at)));
-  object = holds_sort r d.state_name d.sort (bits d at) (register_plain r own d at (bits d at));
-  counted = λ k b h. register_counted r d k b bits at h;
+  object = register_holds r own d at (sorts d at);
+  counted = λ k b h. register_counted r own sorts d k b at h;
 }
 
 -- what is so of each kind of net is so of each name that is declared
@@ -184,13 +184,13 @@ or_right true b e = refl
 or_right false b e = e
 
 -- Such a module has the registers of a model without child programs whose states and inputs are its registers and inputs.
-pub has_registers : (m : Model) (r : Rtl) (rest : List Name) → HasOwnNames r → AreBits r.registers
+pub has_registers : (m : Model) (r : Rtl) (rest : List Name) → HasOwnNames r → AreSorts r.registers
     → ((i : InputDeclaration) → Among i r.inputs → IsBitsSort i.sort)
     → valued_names m ≡ map (λ i. i.input_name) r.inputs ++ (map (λ s. s.state_name) r.registers ++ rest)
-    → all_states m ≡ r.registers → has_children m ≡ false → ((w : Wire) → Among w r.wires → begins_with_wb w.wire_name ≡ true)
+    → all_state_names m ≡ map (λ s. s.state_name) r.registers ++ rest → all_states m ≡ r.registers → has_children m ≡ false → ((w : Wire) → Among w r.wires → begins_with_wb w.wire_name ≡ true)
     → HasRegistersOf m (module_of r)
-has_registers m r rest own bits given valued all childless wires_own = record {
-  states = λ d h. is_register r own bits d (among_of r.registers d (subst (λ ss. Contains ss d) all h));
+has_registers m r rest own sorts given valued state_valued all childless wires_own = record {
+  states = λ d h. is_register r own sorts d (among_of r.registers d (subst (λ ss. Contains ss d) all h));
   busy = λ h. absurd (false≢true (sym childless ∙ h));
   kept_inputs = λ h. absurd (false≢true (sym childless ∙ h));
   others =
@@ -211,7 +211,9 @@ has_registers m r rest own bits given valued all childless wires_own = record {
       each_net r (λ n. is_memory (object_of (module_of r) n) ≡ true → is_name_in n (all_state_names m) ≡ true) (no_memory clock_name truth (clock_plain r own))
       (no_memory reset_name truth (reset_plain r own)) (no_memory go_name truth (go_plain r own))
       (λ i at. no_memory i.input_name i.sort (input_plain r own i at (given i at))) (no_memory start_name truth (start_plain r own))
-      (no_memory commit_name truth (commit_plain r own)) (λ d at. no_memory d.state_name d.sort (register_plain r own d at (bits d at)))
+      (no_memory commit_name truth (commit_plain r own)) (λ d at h. ap (is_name_in d.state_name) state_valued
+      ∙ in_front d.state_name (map (λ s. s.state_name) r.registers) rest
+      (named_among d.state_name (map (λ s. s.state_name) r.registers) (among_map (λ (x : StateDeclaration). x.state_name) d r.registers at)))
       (λ w at h. absurd
       (false≢true
       (sym

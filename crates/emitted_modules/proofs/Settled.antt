@@ -1,20 +1,24 @@
 -- What nets hold in a settled valuation: the numbers of the expressions that are assigned to them.
-use Rattle.std.proofs.Common.{◌≡◌, ℕ, ◌<◌, ◌^◌, inl, inr, List, [], ◌∷◌, ◌++◌, map, refl, sym, ◌∙◌, ap, subst}
+use Rattle.std.proofs.Common.{◌≡◌, ℕ, ◌<◌, ◌≤◌, ◌^◌, not, inl, inr, List, [], ◌∷◌, ◌++◌, map, refl, sym, ◌∙◌, ap, subst, pow_pos}
+use Rattle.std.specs.Prelude.{is_some}
 use Rattle.std.proofs.lemmas.Bool.{false≢true}
 use Rattle.wb_values.specs.Value.{Name, Sort, truth, Value, truth_value, number, words, Valuation}
 use Rattle.model_meaning.specs.Model.{StateDeclaration}
 use Rattle.verilog_trees.specs.Syntax.{Expression, Target, Item}
 use Rattle.verilog_meaning.specs.Expression.{is_memory}
 use Rattle.verilog_meaning.specs.Statement.{target_width}
-use Rattle.verilog_meaning.specs.Settled.{IsDeclared, IsValueOf, HasAssigned, Has, assignments, whole_of, whole_name}
+use Rattle.verilog_meaning.specs.Register.{words_between, word_count}
+use Rattle.verilog_meaning.specs.Settled.{IsDeclared, AreWords, IsValueOf, HasAssigned, Has, assignments, whole_of, whole_name}
 use Rattle.verilog_meaning.specs.Expression.{assigned_value}
 use Rattle.term_expressions.specs.Expressions.{IsWorth, IsAssigned}
+use Rattle.term_expressions.specs.Laws.{IsMemory}
 use Rattle.term_expressions.proofs.Names.{name_is_its_value}
 use Rattle.term_expressions.proofs.Assigned.{assigned_net_has_its_number}
 use Rattle.term_expressions.proofs.Shifts.{standing_is_assigned}
 use Rattle.emitted_designs.specs.Names.{start_name, commit_name}
 use Rattle.emitted_designs.specs.Module.{top_of}
 use Rattle.emitted_modules.specs.Rtl.{Wire, Rtl, bits_of_sort, register_item, wire_item, module_items, module_of}
+use Rattle.emitted_modules.proofs.Words.{IsMemoryOf, words_of, count_of_words}
 use Rattle.emitted_modules.proofs.Names.{Among, among_left, among_right, among_map}
 use Rattle.emitted_modules.proofs.Declared.{output_net, given_net, register_net, wire_net, HasOwnNames, scope_in}
 use Rattle.emitted_modules.proofs.Nets.{IsBitsSort, IsPlain, plain_net, is_declared, start_plain, commit_plain, wire_plain, in_own, in_ports}
@@ -55,6 +59,10 @@ each_taken r v (b ∷ bs) a h (inr at) = each_taken r v bs a h.1 at
 abbrev pub HasNumber : Valuation → Name → ℕ → Type 0
 HasNumber v n w = (x : ℕ) × (v n ≡ number x) × (x < 2 ^ w)
 
+-- a memory has its words
+abbrev pub HasWords : Valuation → Name → (a d : ℕ) → Type 0
+HasWords v n a d = (ws : List ℕ) × (v n ≡ words ws) × IsMemoryOf a d ws
+
 -- ---- a settled valuation of the module
 
 pub record IsSettledFor (r : Rtl) (v : Valuation) : Type 0 where
@@ -68,6 +76,19 @@ module _ (r : Rtl) (own : HasOwnNames r) (v : Valuation) (h : IsSettledFor r v) 
       by_value : (y : Value) → v n ≡ y → IsValueOf (scope_in r n) y → HasNumber v n (bits_of_sort t)
       by_value (number x) e f = (x, e, subst (λ w. x < 2 ^ w) plain.width f.1)
       by_value (words xs) e f = absurd (false≢true (sym (ap (λ a. is_memory (record (scope_in r n) { addresses = a })) plain.no_memory) ∙ f.0))
+      by_value (truth_value b) e f = absurd f
+
+  pub net_words : (n : Name) (a d : ℕ) → IsMemory (scope_in r) n a d → 1 ≤ a → IsDeclared (top_of (module_of r)) n → HasWords v n a d
+  net_words n a d mem some dec = by_value (v n) refl (h.fits n dec)
+    where
+      by_value : (y : Value) → v n ≡ y → IsValueOf (scope_in r n) y → HasWords v n a d
+      by_value (number x) e f = absurd (false≢true (sym (ap (λ o. not (is_some o)) mem.addresses) ∙ f.0))
+      by_value (words xs) e f = (
+        xs,
+        e,
+        words_of a d (word_count (scope_in r n)) xs some (ap words_between mem.addresses ∙ count_of_words (2 ^ a) (pow_pos a))
+            (subst (λ w. AreWords (word_count (scope_in r n)) w xs) mem.width f.1),
+      )
       by_value (truth_value b) e f = absurd f
 
   taken_by : (a : Name) (e : Expression) (t : Sort) (x : ℕ) → IsPlain r a t → IsDeclared (top_of (module_of r)) a

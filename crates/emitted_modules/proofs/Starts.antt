@@ -28,7 +28,7 @@ use Rattle.emitted_modules.specs.Rtl.{Rtl, bits_of_sort, module_of}
 use Rattle.emitted_modules.specs.Nodes.{operand, node_wires}
 use Rattle.emitted_modules.specs.Kept.{AreRead, IsKept}
 use Rattle.emitted_modules.specs.Module.{one_name, decodes_of, decode_wires, ready_of, emitted_module}
-use Rattle.emitted_modules.specs.Laws.{IsPlainModel}
+use Rattle.emitted_modules.specs.Laws.{IsFlatModel}
 use Rattle.emitted_modules.proofs.Names.{Among, among_right}
 use Rattle.emitted_modules.proofs.Declared.{scope_in, input_net}
 use Rattle.emitted_modules.proofs.Nets.{IsBitsSort, IsPlain, plain_net, wire_plain, reset_plain, go_plain, start_plain, commit_plain, is_declared}
@@ -51,7 +51,7 @@ pub bit_below : (b : Bool) → bit b < 2
 bit_below true = omega arith
 bit_below false = omega arith
 
-module _ (name : Name) (p : Parts) (keep : ℕ → Bool) (h : IsPlainModel name p) (kept : IsKept p keep)
+module _ (name : Name) (p : Parts) (keep : ℕ → Bool) (h : IsFlatModel name p) (kept : IsKept p keep)
     (run : Run) (cycles : ℕ) (is_run : IsRun (setting_of (model name p keep h) (emitted_module name p keep)) run cycles) (t : ℕ) (le : t ≤ cycles) where
   abbrev here : Rtl
   here = r name p keep h kept run cycles is_run t le
@@ -70,7 +70,7 @@ module _ (name : Name) (p : Parts) (keep : ℕ → Bool) (h : IsPlainModel name 
 
   pub condition_worth : (k : ℕ) → is_condition p None k ≡ true → keep k ≡ true → IsWorth (scope_in here) now (operand p.terms k) 1 (bit (condition k))
   condition_worth k e is_kept =
-      let known = term_of p truth k tt e in
+      let known = term_of p truth k e in
       let worth : Worth (scope_in here) now (operand p.terms k) (Some truth) (val (tree p.terms k) at_start) =
       subst (λ o. Worth (scope_in here) now (operand p.terms k) o (val (tree p.terms k) at_start)) known.1
       (node_done name p keep h kept run cycles is_run t le k known.0 is_kept).0 in

@@ -1,5 +1,5 @@
 -- Names of wires are all different, and no names of a model.
-use Rattle.std.proofs.Common.{◌≡◌, ◌≢◌, ℕ, suc, ◌+◌, ◌<◌, ◌≤◌, ◌^◌, Bool, true, false, cond, not, ◌&&◌, ◌||◌, ◌⊎◌, inl, inr, List, [], ◌∷◌, ◌++◌, map, length, refl, sym, subst, arith}
+use Rattle.std.proofs.Common.{◌≡◌, ◌≢◌, ℕ, suc, ◌+◌, ◌<◌, ◌≤◌, ◌^◌, Bool, true, false, cond, ◌&&◌, ◌||◌, ◌⊎◌, inl, inr, List, [], ◌∷◌, ◌++◌, map, length, refl, sym, subst, arith}
 use Rattle.std.specs.Prelude.{codes, decimal}
 use Rattle.std.proofs.lemmas.List.{append_cancel_left, map-append}
 use Rattle.std.proofs.lemmas.Fmt.{decimal_injective}
@@ -10,7 +10,7 @@ use Rattle.wb_terms.specs.declared.nodes.Node.{Node}
 use Rattle.wb_terms.specs.Graph.{Graph}
 use Rattle.emitted_designs.proofs.Named.{same_if}
 use Rattle.emitted_modules.specs.Rtl.{Wire}
-use Rattle.emitted_modules.specs.Nodes.{wire_name_of, is_leaf, wire_for, node_wires}
+use Rattle.emitted_modules.specs.Nodes.{wire_name_of, has_wire, wire_for, node_wires}
 use Rattle.emitted_modules.specs.Module.{none_name, one_name, none_wire, one_wire, decode_wires}
 use Rattle.emitted_modules.proofs.Names.{Among, among_either, AreDistinct, distinct_joined, none_in}
 
@@ -37,7 +37,7 @@ IsNodeName from end n = (j : ℕ) × (from ≤ j) × (j < end) × (wire_name_of 
 module _ (g : Graph) (keep : ℕ → Bool) where
   pub node_names : (from : ℕ) (ns : List Node) (n : Name) → Among n (wire_names (node_wires g keep from ns)) → IsNodeName from (from + length ns) n
   node_names from [] n h = absurd h
-  node_names from (x ∷ ns) n h = by_test (keep from && not (is_leaf x)) h (λ k. node_names (suc from) ns n k)
+  node_names from (x ∷ ns) n h = by_test (keep from && has_wire g from x) h (λ k. node_names (suc from) ns n k)
     where
       later : IsNodeName (suc from) (suc from + length ns) n → IsNodeName from (from + length (x ∷ ns)) n
       later (j, low, high, e) = (j, omega (arith, low), omega (arith, high), e)
@@ -63,7 +63,7 @@ module _ (g : Graph) (keep : ℕ → Bool) where
   pub distinct_nodes : (from : ℕ) (ns : List Node) → from + length ns ≤ 2 ^ 64 → AreDistinct (wire_names (node_wires g keep from ns))
   distinct_nodes from [] high = tt
   distinct_nodes from (x ∷ ns) high =
-      by_test (keep from && not (is_leaf x)) (distinct_nodes (suc from) ns (omega (arith, high)))
+      by_test (keep from && has_wire g from x) (distinct_nodes (suc from) ns (omega (arith, high)))
       (fresh_node from ns (omega (arith, high)) (omega (arith, high)))
     where
       by_test : (b : Bool) → AreDistinct (wire_names (node_wires g keep (suc from) ns))

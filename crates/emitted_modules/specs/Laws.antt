@@ -1,9 +1,7 @@
 -- The emitted module of a model is one.
 use Rattle.std.specs.Prelude.{◌≡◌, ℕ, ◌<◌, ◌^◌, Bool, length, IsTrue}
-use Rattle.std.specs.List.{list_all}
 use Rattle.wb_values.specs.Value.{Name}
-use Rattle.model_meaning.specs.Model.{states_of}
-use Rattle.model_meaning.specs.Invariant.{IsModel, is_no_memory}
+use Rattle.model_meaning.specs.Invariant.{IsModel}
 use Rattle.ila_model.specs.declared.parts.Parts.{Parts}
 use Rattle.ila_model.specs.Sorted.{is_well_sorted}
 use Rattle.ila_model.specs.Meaning.{model_from}
@@ -12,15 +10,14 @@ use Rattle.emitted_designs.specs.Emits.{IsEmittedModule}
 use Rattle.emitted_modules.specs.Kept.{IsStored, IsKept}
 use Rattle.emitted_modules.specs.Module.{emitted_module}
 
--- The parts are well sorted, and the model that they stand for keeps the rules. It has no child programs and no memories.
-pub record IsPlainModel (name : Name) (p : Parts) : Type 0 where
+-- The parts are well sorted, and the model that they stand for keeps the rules. It has no child programs.
+pub record IsFlatModel (name : Name) (p : Parts) : Type 0 where
   pub sorted : IsTrue (is_well_sorted p)
   pub stored : IsStored p.terms
   pub few : length p.instructions.items < 2 ^ 64
   pub is_model : IsModel (model_from name p)
   pub childless : nesting_of (model_from name p).top ≡ 0
-  pub no_memory : IsTrue (list_all is_no_memory (states_of (model_from name p).top))
 
-abbrev pub PlainModelsAreEmitted : Type 0
-PlainModelsAreEmitted =
-    (name : Name) (p : Parts) (keep : ℕ → Bool) → IsPlainModel name p → IsKept p keep → IsEmittedModule (model_from name p) (emitted_module name p keep)
+abbrev pub FlatModelsAreEmitted : Type 0
+FlatModelsAreEmitted =
+    (name : Name) (p : Parts) (keep : ℕ → Bool) → IsFlatModel name p → IsKept p keep → IsEmittedModule (model_from name p) (emitted_module name p keep)

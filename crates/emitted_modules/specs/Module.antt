@@ -1,6 +1,7 @@
--- The emitted module of a model without child programs and memories.
-use Rattle.std.specs.Prelude.{ℕ, suc, Bool, List, [], ◌∷◌, ◌++◌, map, length, drop, codes, decimal}
-use Rattle.wb_values.specs.Value.{Name, truth}
+-- The emitted module of a model without child programs.
+use Rattle.std.specs.Prelude.{ℕ, suc, Bool, cond, List, [], ◌∷◌, ◌++◌, map, length, drop, codes, decimal}
+use Rattle.wb_values.specs.Value.{Name, truth, Entries}
+use Rattle.model_meaning.specs.Term.{is_memory_sort}
 use Rattle.verilog_trees.specs.Syntax.{Expression, unary, complement, binary, bitwise_and, conditional, Module}
 use Rattle.verilog_meaning.specs.Settled.{whole_name}
 use Rattle.term_expressions.specs.Expressions.{sized}
@@ -9,9 +10,10 @@ use Rattle.ila_model.specs.declared.parts.Update.{Update}
 use Rattle.ila_model.specs.declared.parts.Instruction.{Instruction}
 use Rattle.ila_model.specs.declared.parts.Parts.{Parts}
 use Rattle.ila_model.specs.Meaning.{declared_states, declared_inputs}
+use Rattle.ila_model.specs.Sorted.{sort_at}
 use Rattle.emitted_designs.specs.Names.{go_name}
-use Rattle.emitted_modules.specs.Rtl.{Wire, Guarded, Rtl, module_of}
-use Rattle.emitted_modules.specs.Nodes.{operand, called_at, node_wires}
+use Rattle.emitted_modules.specs.Rtl.{Wire, Stored, Guarded, Rtl, module_of}
+use Rattle.emitted_modules.specs.Nodes.{operand, called_at, stores_for, node_wires}
 
 -- ---- which instruction decodes
 
@@ -45,8 +47,21 @@ decodes_of g is = map (λ i. operand g i.decode.0) is
 abbrev pub update_for : Graph → Update → Name × Expression
 update_for g u = (called_at g.names u.state.0, operand g u.term.0)
 
+-- the updates of truth values and words, and the stores to memories
+abbrev pub is_of_memory : Graph → Update → Bool
+is_of_memory g u = is_memory_sort (sort_at g.names u.state.0)
+
+abbrev pub updates_for : Graph → List Update → Entries Expression
+updates_for g [] = []
+updates_for g (u ∷ us) = cond (is_of_memory g u) (updates_for g us) (update_for g u ∷ updates_for g us)
+
+abbrev pub all_stores : Graph → List Update → List Stored
+all_stores g [] = []
+all_stores g (u ∷ us) =
+    cond (is_of_memory g u) (stores_for g (called_at g.names u.state.0) (suc u.term.0) [] u.term.0 ++ all_stores g us) (all_stores g us)
+
 abbrev pub guarded_for : Graph → Instruction → Guarded
-guarded_for g i = record { guard = operand g i.decode.0; updates = map (update_for g) i.updates.items }
+guarded_for g i = record { guard = operand g i.decode.0; updates = updates_for g i.updates.items; stores = all_stores g i.updates.items }
 
 -- wb_go, the valid condition, and exactly one decode condition
 abbrev pub ready_of : Parts → Expression

@@ -15,10 +15,18 @@ pub record Wire : Type 0 where
   pub sort : Sort
   pub expression : Expression
 
--- what registers take where a condition holds
+-- a store to a word of a memory, where all of these conditions hold
+pub record Stored : Type 0 where
+  pub conditions : List Expression
+  pub memory_name : Name
+  pub address : Expression
+  pub value : Expression
+
+-- what registers take where a condition holds, and the stores, in their order
 pub record Guarded : Type 0 where
   pub guard : Expression
   pub updates : Entries Expression
+  pub stores : List Stored
 
 pub record Rtl : Type 0 where
   pub called : Name
@@ -92,17 +100,36 @@ abbrev pub first_value : Name → Sort → Option Value → Expression
 first_value n t (Some x) = sized (bits_of_sort t) (numeral_of x)
 first_value n t None = whole_name n
 
--- Of a memory, which states no initial value, a word is kept: n[wb_rst] <= n[wb_rst].
-abbrev pub reset_statement : Name → Sort → Option Value → Statement
-reset_statement n (memory a d) i = nonblocking (place n (one (index (whole_name reset_name)))) (word_at n (whole_name reset_name))
-reset_statement n t i = takes (n, first_value n t i)
+abbrev pub first_take : Name → Sort → Option Value → Entries Expression
+first_take n (memory a d) i = []
+first_take n t i = (n, first_value n t i) ∷ []
 
-abbrev pub reset_register : StateDeclaration → Statement
-reset_register d = reset_statement d.state_name d.sort d.init
+abbrev pub first_takes : List StateDeclaration → Entries Expression
+first_takes [] = []
+first_takes (d ∷ ds) = first_take d.state_name d.sort d.init ++ first_takes ds
+
+-- Of a memory, which states no initial value, a word is kept: n[wb_rst] <= n[wb_rst].
+abbrev pub kept_word : Name → Sort → List Stored
+kept_word n (memory a d) =
+    record { conditions = []; memory_name = n; address = whole_name reset_name; value = word_at n (whole_name reset_name) } ∷ []
+kept_word n t = []
+
+abbrev pub kept_words : List StateDeclaration → List Stored
+kept_words [] = []
+kept_words (d ∷ ds) = kept_word d.state_name d.sort ++ kept_words ds
+
+-- if (c) if (..) x
+abbrev pub under : List Expression → Statement → Statement
+under [] x = x
+under (c ∷ cs) x = if_then c (under cs x)
+
+-- n[i] <= e
+abbrev pub writes : Stored → Statement
+writes w = under w.conditions (nonblocking (place w.memory_name (one (index w.address))) w.value)
 
 -- if (c) n <= e; (A statement for each update, without begin and end: so any number of them may follow one another.)
 abbrev pub guarded_statements : Guarded → List Statement
-guarded_statements g = map (λ u. if_then g.guard (takes u)) g.updates
+guarded_statements g = map (λ u. if_then g.guard (takes u)) g.updates ++ map (λ w. if_then g.guard (writes w)) g.stores
 
 abbrev pub all_guarded : List Guarded → List Statement
 all_guarded [] = []
@@ -111,7 +138,7 @@ all_guarded (g ∷ gs) = guarded_statements g ++ all_guarded gs
 -- if (wb_rst) begin .. end else if (wb_start) begin .. end
 abbrev pub clocked_statement : Rtl → Statement
 clocked_statement r =
-    if_else (whole_name reset_name) (in_block (map reset_register r.registers))
+    if_else (whole_name reset_name) (in_block (map takes (first_takes r.registers) ++ map writes (kept_words r.registers)))
     (if_then (whole_name start_name) (in_block (all_guarded r.guarded)))
 
 -- @(posedge wb_clk)

@@ -23,7 +23,7 @@ name_is_its_value s v n w x h e fits =
 -- ---- bits
 
 -- a bound as it is written
-pub bound_is : (s : Scope) (k : ℕ) → k < 128 → integer_from true 32 (value_of s no_values (plain k) 32 true) ≡ pos k
+pub bound_is : (s : Scope) (k : ℕ) → k < 2 ^ 31 → integer_from true 32 (value_of s no_values (plain k) 32 true) ≡ pos k
 bound_is s k low = ap (λ a. signed_value 32 a) (sext_same 32 k) ∙ ap (λ b. cond b (pos k -ℤ pos (2 ^ 32)) (pos k)) positive
   where
     positive : top_bit 32 k ≡ false
@@ -50,7 +50,7 @@ one_more h l le = omega (arith, le)
 select_is : (s : Scope) (v : Valuation) (o : Object) (h l : ℕ) → o.right ≡ 0 → l ≤ h → h < 128
     → select_bits s v o (part (plain h) (plain l)) ≡ record { low = pos l; count = h + 1 - l }
 select_is s v o h l right le low =
-    ap (λ a. bits_between o a (integer_from true 32 (value_of s no_values (plain l) 32 true))) (bound_is s h low)
+    ap (λ a. bits_between o a (integer_from true 32 (value_of s no_values (plain l) 32 true))) (bound_is s h (omega (arith, low)))
     ∙ (ap (λ b. bits_between o (pos h) b) (bound_is s l (omega (arith, le, low)))
     ∙ (λ i. record { low = place i; count = count i }))
   where
@@ -87,7 +87,7 @@ is_a_memory o a e = ap is_some e
 two_true : (b c : Bool) → b ≡ true → c ≡ true → (b && c) ≡ true
 two_true b c e f = ap (λ d. d && c) e ∙ f
 
-within : (a i : ℕ) → i < 2 ^ a → word_number (0, 2 ^ a - 1) (pos i) ≡ Some i
+pub within : (a i : ℕ) → i < 2 ^ a → word_number (0, 2 ^ a - 1) (pos i) ≡ Some i
 within a i low =
     ap (λ b. cond b (Some (i - min 0 (2 ^ a - 1))) None) (two_true _ _ (first (2 ^ a - 1)) (last (2 ^ a) low)) ∙ ap Some (none_below (2 ^ a - 1))
   where
@@ -101,7 +101,7 @@ within a i low =
     none_below k = omega arith
 
 -- an index without a sign
-index_is : (s : Scope) (v : Valuation) (e : Expression) (a i : ℕ) → IsWorth s v e a i → select_index s v (index e) ≡ pos i
+pub index_is : (s : Scope) (v : Valuation) (e : Expression) (a i : ℕ) → IsWorth s v e a i → select_index s v (index e) ≡ pos i
 index_is s v e a i h =
     ap (λ t. integer_from t (width_of s e) (value_of s v e (width_of s e) (sign_of s e))) h.unsigned ∙ ap (λ k. pos k) (by_itself s v e a i h)
 
