@@ -29,3 +29,4 @@ mod Edges
 mod Applying
 mod Follows
 mod Emitted
+mod Stored

@@ -1,7 +1,10 @@
 -- The emitted module of a model is one.
-use Rattle.std.specs.Prelude.{◌≡◌, ℕ, ◌<◌, ◌^◌, Bool, length, IsTrue}
+use Rattle.std.specs.Prelude.{◌≡◌, ℕ, ◌<◌, ◌^◌, Bool, List, length, IsTrue}
 use Rattle.wb_values.specs.Value.{Name}
 use Rattle.model_meaning.specs.Invariant.{IsModel}
+use Rattle.wb_terms.specs.declared.store.Declared.{Declared}
+use Rattle.wb_terms.specs.declared.store.Entry.{Entry}
+use Rattle.wb_terms.specs.Entries.{graph_of, IsWellSorted}
 use Rattle.ila_model.specs.declared.parts.Parts.{Parts}
 use Rattle.ila_model.specs.Sorted.{is_well_sorted}
 use Rattle.ila_model.specs.Meaning.{model_from}
@@ -21,3 +24,7 @@ pub record IsFlatModel (name : Name) (p : Parts) : Type 0 where
 abbrev pub FlatModelsAreEmitted : Type 0
 FlatModelsAreEmitted =
     (name : Name) (p : Parts) (keep : ℕ → Bool) → IsFlatModel name p → IsKept p keep → IsEmittedModule (model_from name p) (emitted_module name p keep)
+
+-- Every store of terms with fewer than 2^64 nodes keeps what is asked of a model's graph.
+abbrev pub StoresAreStored : Type 0
+StoresAreStored = (ds : List Declared) (es : List Entry) → IsWellSorted ds es → length es < 2 ^ 64 → IsStored (graph_of ds es)
