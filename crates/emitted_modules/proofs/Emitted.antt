@@ -4,7 +4,8 @@ use Rattle.emitted_modules.specs.Rtl.{Wire}
 use Rattle.emitted_modules.specs.Laws.{FlatModelsAreEmitted}
 use Rattle.emitted_modules.proofs.Names.{among_map}
 use Rattle.emitted_modules.proofs.OwnNames.{valued_by}
-use Rattle.emitted_modules.proofs.Ports.{has_ports, has_registers}
+use Rattle.emitted_modules.proofs.Ports.{has_registers}
+use Rattle.emitted_modules.proofs.PortLists.{has_ports}
 use Rattle.emitted_modules.proofs.Model.{own_states_alone, no_children}
 use Rattle.emitted_modules.proofs.Facts.{model, rtl, state_sorts, input_bits, wires_begin, own}
 use Rattle.emitted_modules.proofs.Follows.{follows}

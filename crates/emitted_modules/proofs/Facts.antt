@@ -17,8 +17,8 @@ use Rattle.emitted_modules.specs.Module.{decodes_of, rtl_of}
 use Rattle.emitted_modules.specs.Laws.{IsFlatModel}
 use Rattle.emitted_modules.proofs.Names.{Among, among_left, among_right, among_map, AreDistinct, distinct_from, distinct_parts, distinct_joined, apart_in, first_not}
 use Rattle.emitted_modules.proofs.Declared.{HasOwnNames}
-use Rattle.emitted_modules.proofs.Nets.{IsBitsSort}
-use Rattle.emitted_modules.proofs.Next.{AreSorts}
+use Rattle.emitted_modules.proofs.NetWidths.{IsBitsSort}
+use Rattle.emitted_modules.proofs.Assigned.{AreSorts}
 use Rattle.emitted_modules.proofs.WireNames.{wire_names}
 use Rattle.emitted_modules.proofs.OwnNames.{input_names, names_of_states, valued_by, each_legal, not_own, name_bytes, has_own_names, distinct_wires, wires_own, wires_no_controls}
 use Rattle.emitted_modules.proofs.Model.{AllInRange, bits_by, state_sort, inputs_are_bits}

@@ -1,8 +1,10 @@
 mod Names
 mod Declared
+mod NetWidths
 mod Nets
 mod Words
 mod Settled
+mod Running
 mod Edge
 mod Stores
 mod Computed
@@ -11,13 +13,16 @@ mod WordReads
 mod Trees
 mod Formed
 mod Nodes
+mod Storing
 mod Written
+mod Assigned
 mod Next
 mod Decoding
 mod WireNames
 mod OwnNames
 mod Reading
 mod Model
+mod PortLists
 mod Ports
 mod Points
 mod Facts
@@ -25,7 +30,9 @@ mod Values
 mod Sorts
 mod Starts
 mod Commands
+mod Initial
 mod Edges
+mod Updated
 mod Applying
 mod Follows
 mod Emitted

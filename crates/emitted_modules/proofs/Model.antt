@@ -16,7 +16,7 @@ use Rattle.ila_model.specs.Meaning.{declared_states, declared_inputs}
 use Rattle.emitted_designs.specs.Bounds.{nesting_of, nesting_among, nesting_of_instruction, has_children}
 use Rattle.emitted_designs.specs.Module.{all_states}
 use Rattle.emitted_modules.proofs.Names.{Among}
-use Rattle.emitted_modules.proofs.Nets.{IsBitsSort}
+use Rattle.emitted_modules.proofs.NetWidths.{IsBitsSort}
 
 pub among_got : {A : Type 0} (xs : List A) (k : ℕ) (x : A) → slice_get xs k ≡ Some x → Among x xs
 among_got [] k x e = cc

@@ -13,7 +13,8 @@ use Rattle.term_expressions.proofs.Names.{name_is_its_value, bits_are_extract, w
 use Rattle.emitted_modules.specs.Rtl.{Rtl, bits_of_sort}
 use Rattle.emitted_modules.proofs.Words.{IsMemoryOf}
 use Rattle.emitted_modules.proofs.Declared.{scope_in}
-use Rattle.emitted_modules.proofs.Nets.{IsBitsSort, IsPlain, plain_net}
+use Rattle.emitted_modules.proofs.Nets.{IsPlain, plain_net}
+use Rattle.emitted_modules.proofs.NetWidths.{IsBitsSort}
 use Rattle.emitted_modules.proofs.Computed.{Worth}
 use Rattle.emitted_modules.proofs.Joined.{SlicedBy}
 use Rattle.emitted_modules.proofs.WordReads.{ReadBy, IsNoMemory}

@@ -23,7 +23,8 @@ use Rattle.emitted_designs.proofs.Named.{same_of, same_if, state_entry, found_am
 use Rattle.emitted_modules.specs.Rtl.{Rtl, bits_of_sort, module_of}
 use Rattle.emitted_modules.proofs.Names.{Among, AreDistinct, differs_in, among_map}
 use Rattle.emitted_modules.proofs.Declared.{scope_in}
-use Rattle.emitted_modules.proofs.Nets.{IsBitsSort, IsPlain}
+use Rattle.emitted_modules.proofs.Nets.{IsPlain}
+use Rattle.emitted_modules.proofs.NetWidths.{IsBitsSort}
 use Rattle.emitted_modules.proofs.Settled.{IsSettledFor}
 
 -- ---- names without dots

@@ -21,7 +21,8 @@ use Rattle.emitted_modules.specs.Rtl.{Wire, Rtl, bits_of_sort, register_item, wi
 use Rattle.emitted_modules.proofs.Words.{IsMemoryOf, words_of, count_of_words}
 use Rattle.emitted_modules.proofs.Names.{Among, among_left, among_right, among_map}
 use Rattle.emitted_modules.proofs.Declared.{output_net, given_net, register_net, wire_net, HasOwnNames, scope_in}
-use Rattle.emitted_modules.proofs.Nets.{IsBitsSort, IsPlain, plain_net, is_declared, start_plain, commit_plain, wire_plain, in_own, in_ports}
+use Rattle.emitted_modules.proofs.Nets.{IsPlain, plain_net, is_declared, start_plain, commit_plain, wire_plain, in_own, in_ports}
+use Rattle.emitted_modules.proofs.NetWidths.{IsBitsSort}
 
 -- ---- the assignments
 

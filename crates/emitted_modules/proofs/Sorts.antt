@@ -14,7 +14,7 @@ use Rattle.emitted_modules.specs.Nodes.{stores_for}
 use Rattle.emitted_modules.specs.Module.{update_for, is_of_memory, updates_for, all_stores}
 use Rattle.emitted_modules.proofs.Names.{Among, AreDistinct, among_map, among_either, mapped_from, none_in, differs_in}
 use Rattle.emitted_modules.proofs.Edge.{names_in}
-use Rattle.emitted_modules.proofs.Written.{stores_named}
+use Rattle.emitted_modules.proofs.Storing.{stores_named}
 use Rattle.emitted_modules.proofs.Facts.{names_apart}
 
 less_by : (k n : ℕ) → nat_lt k n ≡ true → k < n

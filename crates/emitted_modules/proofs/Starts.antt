@@ -31,7 +31,8 @@ use Rattle.emitted_modules.specs.Module.{one_name, decodes_of, decode_wires, rea
 use Rattle.emitted_modules.specs.Laws.{IsFlatModel}
 use Rattle.emitted_modules.proofs.Names.{Among, among_right}
 use Rattle.emitted_modules.proofs.Declared.{scope_in, input_net}
-use Rattle.emitted_modules.proofs.Nets.{IsBitsSort, IsPlain, plain_net, wire_plain, reset_plain, go_plain, start_plain, commit_plain, is_declared}
+use Rattle.emitted_modules.proofs.Nets.{IsPlain, plain_net, wire_plain, reset_plain, go_plain, start_plain, commit_plain, is_declared}
+use Rattle.emitted_modules.proofs.NetWidths.{IsBitsSort}
 use Rattle.emitted_modules.proofs.Settled.{HasNumber, net_number, wire_has, start_has, commit_has}
 use Rattle.emitted_modules.proofs.Computed.{Worth}
 use Rattle.emitted_modules.proofs.Decoding.{one_of, AreWorth, BitsAreRead, counted_by_wires}

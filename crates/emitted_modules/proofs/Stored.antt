@@ -1,13 +1,10 @@
 -- What every store of terms keeps.
-use Rattle.std.proofs.Common.{◌≡◌, ℕ, zero, suc, ◌<◌, ◌^◌, false, List, [], ◌∷◌, map, length, get_or, refl, sym, ◌∙◌, ap, subst, arith}
+use Rattle.std.proofs.Common.{◌≡◌, ℕ, zero, suc, ◌<◌, ◌^◌, false, List, [], ◌∷◌, map, length, get_or, refl, sym, subst, arith}
 use Rattle.std.proofs.lemmas.List.{length-map}
-use Rattle.model_meaning.specs.Term.{is_sort}
-use Rattle.wb_terms.specs.declared.nodes.Node.{Node}
 use Rattle.wb_terms.specs.declared.nodes.Node.TheVariants.{Truth}
-use Rattle.wb_terms.specs.declared.store.Declared.{Declared}
 use Rattle.wb_terms.specs.declared.store.Entry.{Entry}
 use Rattle.wb_terms.specs.Graph.{AllBelow, operands_of}
-use Rattle.wb_terms.specs.Entries.{name_of, node_of, graph_of, IsWellSorted}
+use Rattle.wb_terms.specs.Entries.{name_of, node_of, graph_of}
 use Rattle.wb_terms.proofs.StoreLemmas.{entry_of_store, AllSorts-at}
 use Rattle.emitted_modules.specs.Laws.{StoresAreStored}
 

@@ -14,7 +14,7 @@ use Rattle.emitted_designs.proofs.Named.{same_of}
 use Rattle.emitted_modules.specs.Rtl.{Stored}
 use Rattle.emitted_modules.proofs.Names.{Among}
 use Rattle.emitted_modules.proofs.Words.{IsMemoryOf}
-use Rattle.emitted_modules.proofs.Edge.{store_update, all_true, stores_by}
+use Rattle.emitted_modules.proofs.Running.{store_update, all_true, stores_by}
 
 module _ (s : Scope) (v : Valuation) where
   abbrev word_place : Stored → ℕ → Place

@@ -30,7 +30,8 @@ use Rattle.emitted_modules.specs.Module.{decodes_of, decode_wires, emitted_modul
 use Rattle.emitted_modules.specs.Laws.{IsFlatModel}
 use Rattle.emitted_modules.proofs.Names.{Among, among_left, among_right, among_map}
 use Rattle.emitted_modules.proofs.Declared.{scope_in, given_net, register_net, wire_net}
-use Rattle.emitted_modules.proofs.Nets.{IsBitsSort, IsPlain, input_plain, register_plain, register_memory, wire_plain, is_declared}
+use Rattle.emitted_modules.proofs.Nets.{IsPlain, input_plain, register_plain, register_memory, wire_plain, is_declared}
+use Rattle.emitted_modules.proofs.NetWidths.{IsBitsSort}
 use Rattle.emitted_modules.proofs.Settled.{IsSettledFor, HasNumber, HasWords, net_number, net_words, wire_has}
 use Rattle.emitted_modules.proofs.Computed.{Worth}
 use Rattle.emitted_modules.proofs.Joined.{Given, SlicedBy}
