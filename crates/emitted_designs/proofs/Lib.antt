@@ -1,6 +1,6 @@
-mod Named
-mod Childless
-mod Refining
+pub mod Named
+pub mod Childless
+pub mod Refining
 mod Obligations
 mod BenchModels
 mod BenchObligations

@@ -102,11 +102,11 @@ or_more : (a b c : Bool) → (b ≡ true → c ≡ true) → (a || b) ≡ true �
 or_more true b c more e = refl
 or_more false b c more e = more e
 
-in_either : (n : Name) (xs ys : List Name) → is_name_in n ys ≡ true → is_name_in n (xs ++ ys) ≡ true
+pub in_either : (n : Name) (xs ys : List Name) → is_name_in n ys ≡ true → is_name_in n (xs ++ ys) ≡ true
 in_either n [] ys e = e
 in_either n (x ∷ xs) ys e = or_second (same_name n x) (is_name_in n (xs ++ ys)) (in_either n xs ys e)
 
-in_front : (n : Name) (xs ys : List Name) → is_name_in n xs ≡ true → is_name_in n (xs ++ ys) ≡ true
+pub in_front : (n : Name) (xs ys : List Name) → is_name_in n xs ≡ true → is_name_in n (xs ++ ys) ≡ true
 in_front n [] ys e = absurd (false≢true e)
 in_front n (x ∷ xs) ys e = or_more (same_name n x) (is_name_in n xs) (is_name_in n (xs ++ ys)) (λ f. in_front n xs ys f) e
 

@@ -1,0 +1,5 @@
+pub mod Rtl
+pub mod Nodes
+pub mod Kept
+pub mod Module
+pub mod Laws

@@ -1,0 +1,4 @@
+//! The emitted modules of models. The functions have no code.
+#![tactic(auto)]
+
+pub mod laws;
