@@ -61,6 +61,9 @@ term_view (Widen' z w _ x) = pure.widen (widening_view z) w (term_view x)
 term_view (Ite' _ c _ x _ y) = pure.ite (term_view c) (term_view x) (term_view y)
 term_view (Store' _ m _ i _ x) = pure.store (term_view m) (term_view i) (term_view x)
 
+abbrev pub boxed_view : Box WrittenTerm Global → pure.WrittenTerm
+boxed_view b = term_view b.value
+
 abbrev pub sort_view : WrittenSort → Sort
 sort_view sorts.Truth = truth
 sort_view (sorts.Word w) = word w

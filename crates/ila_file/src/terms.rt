@@ -7,7 +7,7 @@ ghost use Rattle.serde_json.specs.View.{view, items_view};
 ghost use Rattle.model_files.specs.Shape.{term_in, unsigned_in, constant_in, unary_of, binary_of, with_const, with_unary, with_binary, with_widening, with_extract, with_three, of_one, of_two, of_three};
 ghost use Rattle.model_files.specs.Written.{ite, store};
 ghost use Rattle.ila_file.specs.Reading.{IsReading};
-ghost use Rattle.ila_file.specs.View.{term_view, unary_view, binary_view, widening_view};
+ghost use Rattle.ila_file.specs.View.{term_view, boxed_view, unary_view, binary_view, widening_view};
 
 use crate::NoMemory;
 use crate::scalars::number_in;
@@ -47,100 +47,110 @@ fn operation_in<'v>(
 {
     match items.as_slice() {
         [operator, a] => {
-            let x = term_in(alloc, a)?;
-            let term = of_one(alloc, operator.as_str(), x)?;
-            Ok(term)
+            let x = operand_in(alloc, a)?;
+            Ok(of_one(operator.as_str(), x))
         }
         [operator, a, b] => {
-            let x = term_in(alloc, a)?;
-            let y = term_in(alloc, b)?;
-            let term = of_two(alloc, operator.as_str(), a, b, x, y)?;
-            Ok(term)
+            let x = operand_in(alloc, a)?;
+            let y = operand_in(alloc, b)?;
+            Ok(of_two(operator.as_str(), a, b, x, y))
         }
         [operator, a, b, c] => {
-            let x = term_in(alloc, a)?;
-            let y = term_in(alloc, b)?;
-            let z = term_in(alloc, c)?;
-            let term = of_three(alloc, operator.as_str(), a, b, x, y, z)?;
-            Ok(term)
+            let x = operand_in(alloc, a)?;
+            let y = operand_in(alloc, b)?;
+            let z = operand_in(alloc, c)?;
+            Ok(of_three(operator.as_str(), a, b, x, y, z))
         }
         _ => Ok(None),
+    }
+}
+
+/// A term that stands in another one.
+#[cycle(term)]
+fn operand_in<'v>(alloc: Global, value: &'v Value) -> Result<Option<Box<WrittenTerm<'v>>>, NoMemory>
+    ensures { IfOk result (λ o. option_map boxed_view o ≡ term_in (view value.now)) }
+{
+    let term = term_in(alloc, value)?;
+    let operand = boxed(alloc, term)?;
+    Ok(operand)
+}
+
+/// The term in a box, if there is one.
+fn boxed<'v>(
+    alloc: Global,
+    term: Option<WrittenTerm<'v>>,
+) -> Result<Option<Box<WrittenTerm<'v>>>, NoMemory>
+    ensures { IfOk result (λ o. option_map boxed_view o ≡ option_map term_view term.entry) }
+{
+    match term {
+        Some(term) => {
+            let term = Box::new(alloc, term)?;
+            Ok(Some(term))
+        }
+        None => Ok(None),
     }
 }
 
 /// `["not", x]`, `["neg", x]`
-fn of_one<'v>(
-    alloc: Global,
-    operator: Option<&str>,
-    x: Option<WrittenTerm<'v>>,
-) -> Result<Option<WrittenTerm<'v>>, NoMemory>
-    ensures { IfOk result (λ o. option_map term_view o
-        ≡ option_and_then (λ op. of_one op (option_map term_view x.entry)) (option_map (λ s. s.now) operator.entry)) }
+fn of_one<'v>(operator: Option<&str>, x: Option<Box<WrittenTerm<'v>>>) -> Option<WrittenTerm<'v>>
+    ensures { option_map term_view result
+        ≡ option_and_then (λ op. of_one op (option_map boxed_view x.entry)) (option_map (λ s. s.now) operator.entry) }
 {
     match (operator, x) {
-        (Some(operator), Some(x)) => with_unary(alloc, unary_of(operator), x),
-        _ => Ok(None),
+        (Some(operator), Some(x)) => with_unary(unary_of(operator), x),
+        _ => None,
     }
 }
 
 fn with_unary<'v>(
-    alloc: Global,
     operator: Option<UnaryOperator>,
-    x: WrittenTerm<'v>,
-) -> Result<Option<WrittenTerm<'v>>, NoMemory>
-    ensures { IfOk result (λ o. option_map term_view o ≡ with_unary (option_map unary_view operator) (option_map term_view (Some x.entry))) }
+    x: Box<WrittenTerm<'v>>,
+) -> Option<WrittenTerm<'v>>
+    ensures { option_map term_view result ≡ with_unary (option_map unary_view operator) (option_map boxed_view (Some x.entry)) }
 {
     match operator {
-        Some(operator) => {
-            let x = Box::new(alloc, x)?;
-            Ok(Some(WrittenTerm::Unary(operator, x)))
-        }
-        None => Ok(None),
+        Some(operator) => Some(WrittenTerm::Unary(operator, x)),
+        None => None,
     }
 }
 
 /// `["const", w, v]`, `["zext", n, x]`, `["sext", n, x]`, `["add", x, y]` and so on
 fn of_two<'v>(
-    alloc: Global,
     operator: Option<&str>,
     a: &Value,
     b: &Value,
-    x: Option<WrittenTerm<'v>>,
-    y: Option<WrittenTerm<'v>>,
-) -> Result<Option<WrittenTerm<'v>>, NoMemory>
-    ensures { IfOk result (λ o. option_map term_view o
-        ≡ option_and_then (λ op. of_two op (view a.now) (view b.now) (option_map term_view x.entry) (option_map term_view y.entry)) (option_map (λ s. s.now) operator.entry)) }
+    x: Option<Box<WrittenTerm<'v>>>,
+    y: Option<Box<WrittenTerm<'v>>>,
+) -> Option<WrittenTerm<'v>>
+    ensures { option_map term_view result
+        ≡ option_and_then (λ op. of_two op (view a.now) (view b.now) (option_map boxed_view x.entry) (option_map boxed_view y.entry)) (option_map (λ s. s.now) operator.entry) }
 {
     match operator {
-        Some(operator) => named_two(alloc, operator, a, b, x, y),
-        None => Ok(None),
+        Some(operator) => named_two(operator, a, b, x, y),
+        None => None,
     }
 }
 
 fn named_two<'v>(
-    alloc: Global,
     operator: &str,
     a: &Value,
     b: &Value,
-    x: Option<WrittenTerm<'v>>,
-    y: Option<WrittenTerm<'v>>,
-) -> Result<Option<WrittenTerm<'v>>, NoMemory>
-    ensures { IfOk result (λ o. option_map term_view o
-        ≡ of_two operator.now (view a.now) (view b.now) (option_map term_view x.entry) (option_map term_view y.entry)) }
+    x: Option<Box<WrittenTerm<'v>>>,
+    y: Option<Box<WrittenTerm<'v>>>,
+) -> Option<WrittenTerm<'v>>
+    ensures { option_map term_view result
+        ≡ of_two operator.now (view a.now) (view b.now) (option_map boxed_view x.entry) (option_map boxed_view y.entry) }
 {
     if operator == "const" {
-        return Ok(with_const(a.as_u64(), number_in(b)));
+        return with_const(a.as_u64(), number_in(b));
     }
     if operator == "zext" {
-        let widened = with_widening(alloc, Widening::Zext, a.as_u64(), y)?;
-        return Ok(widened);
+        return with_widening(Widening::Zext, a.as_u64(), y);
     }
     if operator == "sext" {
-        let widened = with_widening(alloc, Widening::Sext, a.as_u64(), y)?;
-        return Ok(widened);
+        return with_widening(Widening::Sext, a.as_u64(), y);
     }
-    let term = with_binary(alloc, binary_of(operator), x, y)?;
-    Ok(term)
+    with_binary(binary_of(operator), x, y)
 }
 
 fn with_const<'v>(width: Option<u64>, number: Option<u128>) -> Option<WrittenTerm<'v>>
@@ -153,113 +163,87 @@ fn with_const<'v>(width: Option<u64>, number: Option<u128>) -> Option<WrittenTer
 }
 
 fn with_widening<'v>(
-    alloc: Global,
     widening: Widening,
     width: Option<u64>,
-    x: Option<WrittenTerm<'v>>,
-) -> Result<Option<WrittenTerm<'v>>, NoMemory>
-    ensures { IfOk result (λ o. option_map term_view o ≡ with_widening (widening_view widening) width (option_map term_view x.entry)) }
+    x: Option<Box<WrittenTerm<'v>>>,
+) -> Option<WrittenTerm<'v>>
+    ensures { option_map term_view result ≡ with_widening (widening_view widening) width (option_map boxed_view x.entry) }
 {
     match (width, x) {
-        (Some(width), Some(x)) => {
-            let x = Box::new(alloc, x)?;
-            Ok(Some(WrittenTerm::Widen(widening, width, x)))
-        }
-        _ => Ok(None),
+        (Some(width), Some(x)) => Some(WrittenTerm::Widen(widening, width, x)),
+        _ => None,
     }
 }
 
 fn with_binary<'v>(
-    alloc: Global,
     operator: Option<BinaryOperator>,
-    x: Option<WrittenTerm<'v>>,
-    y: Option<WrittenTerm<'v>>,
-) -> Result<Option<WrittenTerm<'v>>, NoMemory>
-    ensures { IfOk result (λ o. option_map term_view o ≡ with_binary (option_map binary_view operator) (option_map term_view x.entry) (option_map term_view y.entry)) }
+    x: Option<Box<WrittenTerm<'v>>>,
+    y: Option<Box<WrittenTerm<'v>>>,
+) -> Option<WrittenTerm<'v>>
+    ensures { option_map term_view result ≡ with_binary (option_map binary_view operator) (option_map boxed_view x.entry) (option_map boxed_view y.entry) }
 {
     match (operator, x, y) {
-        (Some(operator), Some(x), Some(y)) => {
-            let x = Box::new(alloc, x)?;
-            let y = Box::new(alloc, y)?;
-            Ok(Some(WrittenTerm::Binary(operator, x, y)))
-        }
-        _ => Ok(None),
+        (Some(operator), Some(x), Some(y)) => Some(WrittenTerm::Binary(operator, x, y)),
+        _ => None,
     }
 }
 
 /// `["extract", h, l, x]`, `["ite", c, x, y]`, `["store", m, i, x]`
 fn of_three<'v>(
-    alloc: Global,
     operator: Option<&str>,
     a: &Value,
     b: &Value,
-    x: Option<WrittenTerm<'v>>,
-    y: Option<WrittenTerm<'v>>,
-    z: Option<WrittenTerm<'v>>,
-) -> Result<Option<WrittenTerm<'v>>, NoMemory>
-    ensures { IfOk result (λ o. option_map term_view o
-        ≡ option_and_then (λ op. of_three op (view a.now) (view b.now) (option_map term_view x.entry) (option_map term_view y.entry) (option_map term_view z.entry)) (option_map (λ s. s.now) operator.entry)) }
+    x: Option<Box<WrittenTerm<'v>>>,
+    y: Option<Box<WrittenTerm<'v>>>,
+    z: Option<Box<WrittenTerm<'v>>>,
+) -> Option<WrittenTerm<'v>>
+    ensures { option_map term_view result
+        ≡ option_and_then (λ op. of_three op (view a.now) (view b.now) (option_map boxed_view x.entry) (option_map boxed_view y.entry) (option_map boxed_view z.entry)) (option_map (λ s. s.now) operator.entry) }
 {
     match operator {
-        Some("extract") => with_extract(alloc, a.as_u64(), b.as_u64(), z),
-        Some("ite") => with_ite(alloc, x, y, z),
-        Some("store") => with_store(alloc, x, y, z),
-        _ => Ok(None),
+        Some("extract") => with_extract(a.as_u64(), b.as_u64(), z),
+        Some("ite") => with_ite(x, y, z),
+        Some("store") => with_store(x, y, z),
+        _ => None,
     }
 }
 
 fn with_extract<'v>(
-    alloc: Global,
     high: Option<u64>,
     low: Option<u64>,
-    x: Option<WrittenTerm<'v>>,
-) -> Result<Option<WrittenTerm<'v>>, NoMemory>
-    ensures { IfOk result (λ o. option_map term_view o ≡ with_extract high low (option_map term_view x.entry)) }
+    x: Option<Box<WrittenTerm<'v>>>,
+) -> Option<WrittenTerm<'v>>
+    ensures { option_map term_view result ≡ with_extract high low (option_map boxed_view x.entry) }
 {
     match (high, low, x) {
-        (Some(high), Some(low), Some(x)) => {
-            let x = Box::new(alloc, x)?;
-            Ok(Some(WrittenTerm::Extract(high, low, x)))
-        }
-        _ => Ok(None),
+        (Some(high), Some(low), Some(x)) => Some(WrittenTerm::Extract(high, low, x)),
+        _ => None,
     }
 }
 
 fn with_ite<'v>(
-    alloc: Global,
-    x: Option<WrittenTerm<'v>>,
-    y: Option<WrittenTerm<'v>>,
-    z: Option<WrittenTerm<'v>>,
-) -> Result<Option<WrittenTerm<'v>>, NoMemory>
-    ensures { IfOk result (λ o. option_map term_view o ≡ with_three ite (option_map term_view x.entry) (option_map term_view y.entry) (option_map term_view z.entry)) }
+    x: Option<Box<WrittenTerm<'v>>>,
+    y: Option<Box<WrittenTerm<'v>>>,
+    z: Option<Box<WrittenTerm<'v>>>,
+) -> Option<WrittenTerm<'v>>
+    ensures { option_map term_view result ≡ with_three ite (option_map boxed_view x.entry) (option_map boxed_view y.entry) (option_map boxed_view z.entry) }
 {
     match (x, y, z) {
-        (Some(x), Some(y), Some(z)) => {
-            let x = Box::new(alloc, x)?;
-            let y = Box::new(alloc, y)?;
-            let z = Box::new(alloc, z)?;
-            Ok(Some(WrittenTerm::Ite(x, y, z)))
-        }
-        _ => Ok(None),
+        (Some(x), Some(y), Some(z)) => Some(WrittenTerm::Ite(x, y, z)),
+        _ => None,
     }
 }
 
 fn with_store<'v>(
-    alloc: Global,
-    x: Option<WrittenTerm<'v>>,
-    y: Option<WrittenTerm<'v>>,
-    z: Option<WrittenTerm<'v>>,
-) -> Result<Option<WrittenTerm<'v>>, NoMemory>
-    ensures { IfOk result (λ o. option_map term_view o ≡ with_three store (option_map term_view x.entry) (option_map term_view y.entry) (option_map term_view z.entry)) }
+    x: Option<Box<WrittenTerm<'v>>>,
+    y: Option<Box<WrittenTerm<'v>>>,
+    z: Option<Box<WrittenTerm<'v>>>,
+) -> Option<WrittenTerm<'v>>
+    ensures { option_map term_view result ≡ with_three store (option_map boxed_view x.entry) (option_map boxed_view y.entry) (option_map boxed_view z.entry) }
 {
     match (x, y, z) {
-        (Some(x), Some(y), Some(z)) => {
-            let x = Box::new(alloc, x)?;
-            let y = Box::new(alloc, y)?;
-            let z = Box::new(alloc, z)?;
-            Ok(Some(WrittenTerm::Store(x, y, z)))
-        }
-        _ => Ok(None),
+        (Some(x), Some(y), Some(z)) => Some(WrittenTerm::Store(x, y, z)),
+        _ => None,
     }
 }
 

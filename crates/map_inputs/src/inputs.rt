@@ -51,7 +51,7 @@ fn add_name<'s>(
         return Ok(());
     }
     let target = Target::Place(name, Selects::Whole);
-    add_reached(scope, &target, found)?;
+    add_reached(&target, scope, found)?;
     Ok(())
 }
 

@@ -61,7 +61,7 @@ pub fn uses_input<'a, 's: 'a>(
     ensures { IfOk result (λ r. IsTrue r ↔ OneIsMarked (new_name names.now) (masked marked.now) (reads (scope_at scope.now) (tree_of tree.now))) }
 {
     let mut read = Vec::new(alloc);
-    add_reads(scope, tree, &mut read)?;
+    add_reads(tree, scope, &mut read)?;
     let found = all_renamed(alloc, names, &read)?;
     let some = meets(&found, marked);
     Ok(some)

@@ -52,7 +52,7 @@ fn flaw_of(expression: &MapExpression<'_, '_>, known: &KnownNames<'_, '_>) -> Op
     let names = Names {
         scope: &known.scope,
     };
-    let found = judged(names, expression.tree);
+    let found = judged(expression.tree, names);
     let clock = names_clock(&known.instances, &known.nets, &expression.names);
     flaw_if(found.is_refused, clock)
 }

@@ -20,10 +20,10 @@ use v_places::Place;
 use v_syntax::module::Tree;
 
 /// What the names in these expressions mean in an accepted design with this clock, whose modules stand at these places.
-pub fn known_names<'n, 's: 'n>(
+pub fn known_names<'t, 'n, 's: 'n>(
     alloc: Global,
-    tree: &Tree<'s>,
-    places: &[Place<'_, 's>],
+    tree: &'t Tree<'s>,
+    places: &'t [Place<'t, 's>],
     expressions: &[MapExpression<'_, 'n>],
     clock: &'n str,
 ) -> Result<KnownNames<'n, 's>, AllocError>

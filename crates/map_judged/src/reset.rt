@@ -69,7 +69,11 @@ fn is_one_bit(object: Object) -> bool
 }
 
 /// Whether the module at a place has an input port of this name and of one bit.
-fn is_one_bit_input(alloc: Global, place: &Place<'_, '_>, name: &str) -> Result<bool, AllocError>
+fn is_one_bit_input<'t>(
+    alloc: Global,
+    place: &'t Place<'t, '_>,
+    name: &str,
+) -> Result<bool, AllocError>
     ensures { IfOk result (λ b. b ≡ is_one_bit_input_there (spot_of place.now) name.now) }
 {
     let input = is_input_port(alloc, place.within, name)?;
@@ -82,9 +86,9 @@ fn is_one_bit_input(alloc: Global, place: &Place<'_, '_>, name: &str) -> Result<
 
 /// Whether a name is that of an input port of the top of one bit, and not that of the clock, in an accepted design with this clock, whose
 /// modules stand at these places.
-pub fn is_reset(
+pub fn is_reset<'t>(
     alloc: Global,
-    places: &[Place<'_, '_>],
+    places: &'t [Place<'t, '_>],
     clock: &str,
     name: &str,
 ) -> Result<bool, AllocError>

@@ -30,7 +30,7 @@ fn is_mismatch(expression: &MapExpression<'_, '_>, known: &KnownNames<'_, '_>) -
     let names = Names {
         scope: &known.scope,
     };
-    let found = judged(names, expression.tree);
+    let found = judged(expression.tree, names);
     differs(expression.width, found.width)
 }
 

@@ -24,8 +24,8 @@ use v_value::scope::Scope;
 
 /// Adds the bits that an item may assign, where it is a clocked block.
 fn add_item<'s>(
-    scope: &Scope<'_>,
     item: &Item<'s>,
+    scope: &Scope<'_>,
     found: &mut Vec<Span<'s>>,
 ) -> Result<(), NoMemory>
     requires objects { HasNarrowObjects (scope_at scope.now) }
@@ -37,7 +37,7 @@ fn add_item<'s>(
             if !is_clocked(events) {
                 return Ok(());
             }
-            add_assigned(scope, block, found)
+            add_assigned(block, scope, found)
         }
         Item::Port(_)
         | Item::Parameter(_)
@@ -51,8 +51,8 @@ fn add_item<'s>(
 /// The bits that the clocked blocks may assign.
 fn clocked_spans<'s>(
     alloc: Global,
-    scope: &Scope<'_>,
     items: &[Item<'s>],
+    scope: &Scope<'_>,
 ) -> Result<Vec<Span<'s>>, NoMemory>
     requires objects { HasNarrowObjects (scope_at scope.now) }
     requires narrow { AreNarrowBlocks (scope_at scope.now) (clocked_blocks (map item_of items.now)) }
@@ -60,7 +60,7 @@ fn clocked_spans<'s>(
 {
     let mut found = Vec::new(alloc);
     for item in items {
-        add_item(scope, item, &mut found)?;
+        add_item(item, scope, &mut found)?;
     }
     Ok(found)
 }
@@ -96,14 +96,14 @@ fn names_of<'s>(alloc: Global, spans: &[Span<'s>]) -> Result<BTreeSet<&'s str>, 
 /// The names of which a clocked block may assign a bit.
 pub(crate) fn assigned_names<'s>(
     alloc: Global,
-    scope: &Scope<'_>,
     items: &[Item<'s>],
+    scope: &Scope<'_>,
 ) -> Result<BTreeSet<&'s str>, NoMemory>
     requires objects { HasNarrowObjects (scope_at scope.now) }
     requires narrow { AreNarrowBlocks (scope_at scope.now) (clocked_blocks (map item_of items.now)) }
     ensures { IfOk result (λ s. (n : Name) → IsTrue (has_name s n) ↔ HasCounted (scope_at scope.now) (clocked_blocks (map item_of items.now)) n) }
 {
-    let spans = clocked_spans(alloc, scope, items)?;
+    let spans = clocked_spans(alloc, items, scope)?;
     let names = names_of(alloc, &spans)?;
     Ok(names)
 }

@@ -49,13 +49,13 @@ fn has_shape(shape: Shape, object: Object) -> bool
 }
 
 /// The scope of the module at a place.
-fn scope_of<'s>(alloc: Global, place: &Place<'_, 's>) -> Result<Scope<'s>, NoMemory>
+fn scope_of<'t, 's>(alloc: Global, place: &'t Place<'t, 's>) -> Result<Scope<'s>, NoMemory>
     ensures { IfOk result (λ s. scope_at s ≡ scope_there (spot_of place.now)) }
 {
     let constants = Constants {
         scope: &place.constants,
     };
-    let names = declared_scope(alloc, constants, place.within)?;
+    let names = declared_scope(alloc, place.within, constants)?;
     let scope = placed_scope(alloc, &names, &place.constants)?;
     Ok(scope)
 }
@@ -68,20 +68,20 @@ fn items_of<'x, 's>(within: &'x Module<'s>) -> &'x [Item<'s>]
 }
 
 /// What is kept of the module at a place.
-fn memories_of<'s>(alloc: Global, place: &Place<'_, 's>) -> Result<Memories<'s>, NoMemory>
+fn memories_of<'t, 's>(alloc: Global, place: &'t Place<'t, 's>) -> Result<Memories<'s>, NoMemory>
     requires { IsNarrowSpot (spot_of place.now) }
     ensures { IfOk result (λ m. HasMemories (spot_of place.now) m) }
 {
     let scope = scope_of(alloc, place)?;
-    let assigned = assigned_names(alloc, &scope, items_of(place.within))?;
+    let assigned = assigned_names(alloc, items_of(place.within), &scope)?;
     Ok(Memories { scope, assigned })
 }
 
 /// The same, if it is asked for.
-fn memories_if<'s>(
+fn memories_if<'t, 's>(
     alloc: Global,
     is_asked: bool,
-    place: &Place<'_, 's>,
+    place: &'t Place<'t, 's>,
 ) -> Result<Option<Memories<'s>>, NoMemory>
     requires { IsNarrowSpot (spot_of place.now) }
     ensures { IfOk result (λ o. HasMemoriesIf (spot_of place.now) o) }
@@ -94,10 +94,10 @@ fn memories_if<'s>(
 }
 
 /// What is kept of the modules at these places that are asked for.
-pub(crate) fn asked_memories<'s>(
+pub(crate) fn asked_memories<'t, 's>(
     alloc: Global,
     asked: &[bool],
-    places: &[Place<'_, 's>],
+    places: &'t [Place<'t, 's>],
 ) -> Result<Vec<Option<Memories<'s>>>, NoMemory>
     requires { AreNarrowSpots (spots_of places.now) }
     ensures { IfOk result (λ v. HaveMemories (spots_of places.now) v.items) }
@@ -119,9 +119,9 @@ fn has_memory(memories: &Memories<'_>, name: &str, shape: Shape) -> bool
 }
 
 /// Whether the module with a number has such a memory. What is not kept of it is made.
-pub(crate) fn has_memory_there(
+pub(crate) fn has_memory_there<'t>(
     alloc: Global,
-    places: &[Place<'_, '_>],
+    places: &'t [Place<'t, '_>],
     kept: &[Option<Memories<'_>>],
     number: usize,
     name: &str,

@@ -68,9 +68,9 @@ fn asked_places(
 }
 
 /// Whether a dotted name leads to a memory of this shape, of which a clocked block may assign a bit.
-fn is_memory_path(
+fn is_memory_path<'t>(
     alloc: Global,
-    places: &[Place<'_, '_>],
+    places: &'t [Place<'t, '_>],
     kept: &[Option<Memories<'_>>],
     instances: &Instances<'_>,
     path: &str,
@@ -87,9 +87,9 @@ fn is_memory_path(
 }
 
 /// Whether the state of an entry is a memory that is not mapped to one of its shape.
-fn is_unfit(
+fn is_unfit<'t>(
     alloc: Global,
-    places: &[Place<'_, '_>],
+    places: &'t [Place<'t, '_>],
     kept: &[Option<Memories<'_>>],
     instances: &Instances<'_>,
     sorts: &ModelSorts<'_>,
@@ -111,9 +111,9 @@ fn is_unfit(
 }
 
 /// The first of these entries whose state is a memory that is not mapped to one of its shape.
-fn first_unfit<'w>(
+fn first_unfit<'t, 'w>(
     alloc: Global,
-    places: &[Place<'_, '_>],
+    places: &'t [Place<'t, '_>],
     kept: &[Option<Memories<'_>>],
     instances: &Instances<'_>,
     sorts: &ModelSorts<'_>,
@@ -144,9 +144,9 @@ fn spot_of_state<'n>(name: Option<&'n str>) -> Option<Spot<'n>>
 
 /// The first state of the map that is a memory of the model and not mapped to the path of a memory of its shape, of which a clocked block
 /// may assign a bit. These are the places of the modules that stand in a design, and the instances in each.
-pub fn memory_mismatch<'w>(
+pub fn memory_mismatch<'t, 'w>(
     alloc: Global,
-    places: &[Place<'_, '_>],
+    places: &'t [Place<'t, '_>],
     instances: &Instances<'_>,
     map_file: &'w WrittenMap,
     model: &IlaModel,

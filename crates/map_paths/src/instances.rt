@@ -18,7 +18,7 @@ pub struct Instances<'s> {
 }
 
 /// The name of the instance that stands at a place.
-fn instance_name<'s>(place: &Place<'_, 's>) -> &'s str
+fn instance_name<'t, 's>(place: &'t Place<'t, 's>) -> &'s str
     ensures { result.now ≡ (spot_of place.now).instance }
 {
     match place.instance {
@@ -28,8 +28,8 @@ fn instance_name<'s>(place: &Place<'_, 's>) -> &'s str
 }
 
 /// Adds a place to the table of the one around it, where that stands before it.
-fn add_child<'s>(
-    place: &Place<'_, 's>,
+fn add_child<'t, 's>(
+    place: &'t Place<'t, 's>,
     tables: &mut Vec<BTreeMap<&'s str, usize>>,
 ) -> Result<(), AllocError>
     ensures below { OnOk result ((k : ℕ) (u : Name) → below_in tables.new.items k u
@@ -59,9 +59,9 @@ fn add_table<'s>(
 }
 
 /// The instances of these places, each in the table of the place around it.
-fn tables_of<'s>(
+fn tables_of<'t, 's>(
     alloc: Global,
-    places: &[Place<'_, 's>],
+    places: &'t [Place<'t, 's>],
 ) -> Result<Vec<BTreeMap<&'s str, usize>>, AllocError>
     ensures { IfOk result (λ v. AreBelow (spots_of places.now) (below_in v.items)) }
 {
@@ -96,7 +96,7 @@ fn locate<'n>(tables: &[BTreeMap<&str, usize>], name: &'n str) -> Option<(usize,
 
 impl<'s> Instances<'s> {
     /// The instances of these places.
-    pub fn of(alloc: Global, places: &[Place<'_, 's>]) -> Result<Instances<'s>, AllocError>
+    pub fn of<'t>(alloc: Global, places: &'t [Place<'t, 's>]) -> Result<Instances<'s>, AllocError>
         ensures { IfOk result (λ x. AreBelow (spots_of places.now) (numbers_in x)) }
     {
         let tables = tables_of(alloc, places)?;

@@ -34,9 +34,9 @@ use v_places::Place;
 use v_syntax::module::Tree;
 
 /// The first bad expression, or the reset where it is none.
-fn bad_expression<'t>(
+fn bad_expression<'p, 't>(
     alloc: Global,
-    places: &[Place<'_, '_>],
+    places: &'p [Place<'p, '_>],
     expressions: &[MapExpression<'_, '_>],
     known: &KnownNames<'_, '_>,
     map: &WrittenMap,
@@ -76,9 +76,9 @@ fn width_mismatch<'t>(
 }
 
 /// The first of the expressions with a flag that uses an input, where none of all has a flaw.
-fn input_user<'t, 's>(
-    tree: &Tree<'s>,
-    places: &[Place<'_, 's>],
+fn input_user<'p, 't, 's>(
+    tree: &'p Tree<'s>,
+    places: &'p [Place<'p, 's>],
     alloc: Global,
     expressions: &[MapExpression<'_, '_>],
     known: &KnownNames<'_, '_>,
@@ -99,9 +99,9 @@ fn input_user<'t, 's>(
 
 /// No expression is bad, none has another width than it must have, and none with a flag uses an input; or the refusal by the first of these
 /// rules that is broken.
-pub(crate) fn expressions_passed<'s>(
-    tree: &Tree<'s>,
-    places: &[Place<'_, 's>],
+pub(crate) fn expressions_passed<'t, 's>(
+    tree: &'t Tree<'s>,
+    places: &'t [Place<'t, 's>],
     alloc: Global,
     expressions: &[MapExpression<'_, '_>],
     known: &KnownNames<'_, '_>,

@@ -25,8 +25,8 @@ use std::alloc::Global;
 use v_places::Place;
 
 /// The first memory of the model that is not mapped to one of its shape.
-fn unfit_memory<'w>(
-    places: &[Place<'_, '_>],
+fn unfit_memory<'t, 'w>(
+    places: &'t [Place<'t, '_>],
     alloc: Global,
     map: &'w WrittenMap,
     model: &IlaModel,
@@ -42,8 +42,8 @@ fn unfit_memory<'w>(
 }
 
 /// Each memory of the model is mapped to one of its shape; or the refusal by this rule.
-pub(crate) fn memories_passed(
-    places: &[Place<'_, '_>],
+pub(crate) fn memories_passed<'t>(
+    places: &'t [Place<'t, '_>],
     alloc: Global,
     map: &WrittenMap,
     model: &IlaModel,

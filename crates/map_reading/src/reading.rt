@@ -30,9 +30,9 @@ use v_places::Place;
 use v_syntax::module::Tree;
 
 /// What is told of the expressions of a map with these trees, where memory serves.
-fn told_of_expressions<'t, 's: 't, 'w: 't>(
-    tree: &Tree<'s>,
-    places: &[Place<'_, 's>],
+fn told_of_expressions<'p, 't, 's: 't, 'w: 't>(
+    tree: &'p Tree<'s>,
+    places: &'p [Place<'p, 's>],
     trees: &RefinementMap<'t>,
     alloc: Global,
     model: &IlaModel,
@@ -61,9 +61,9 @@ fn told_of_expressions<'t, 's: 't, 'w: 't>(
 }
 
 /// No rule on expressions is broken by a map with these trees; or the refusal by the first that is.
-fn trees_passed<'t, 's: 't, 'w: 't>(
-    tree: &Tree<'s>,
-    places: &[Place<'_, 's>],
+fn trees_passed<'p, 't, 's: 't, 'w: 't>(
+    tree: &'p Tree<'s>,
+    places: &'p [Place<'p, 's>],
     trees: &RefinementMap<'t>,
     alloc: Global,
     model: &IlaModel,
@@ -84,9 +84,9 @@ fn trees_passed<'t, 's: 't, 'w: 't>(
 /// tokens of the written map for the model. The design that it names, by its top and its clock, is accepted; its modules stand at these places.
 ///
 /// The note of a refusal leads to the place in the map; where a text is read as no expression, also to the place in the text.
-pub fn read_map<'t, 's: 't, 'w: 't>(
-    tree: &Tree<'s>,
-    places: &[Place<'_, 's>],
+pub fn read_map<'p, 't, 's: 't, 'w: 't>(
+    tree: &'p Tree<'s>,
+    places: &'p [Place<'p, 's>],
     alloc: Global,
     model: &IlaModel,
     tokens: &'t MapTokens<'w>,

@@ -30,13 +30,13 @@ fn nothing() -> Object
 }
 
 /// The scope of the module at a place.
-pub fn scope_of<'s>(alloc: Global, place: &Place<'_, 's>) -> Result<Scope<'s>, AllocError>
+pub fn scope_of<'t, 's>(alloc: Global, place: &'t Place<'t, 's>) -> Result<Scope<'s>, AllocError>
     ensures { IfOk result (λ s. scope_at s ≡ scope_there (spot_of place.now)) }
 {
     let constants = Constants {
         scope: &place.constants,
     };
-    let names = declared_scope(alloc, constants, place.within)?;
+    let names = declared_scope(alloc, place.within, constants)?;
     let scope = placed_scope(alloc, &names, &place.constants)?;
     Ok(scope)
 }
@@ -63,10 +63,10 @@ fn asked_places(
 }
 
 /// The scope of the module at a place, if it is asked for.
-fn scope_if<'s>(
+fn scope_if<'t, 's>(
     alloc: Global,
     is_asked: bool,
-    place: &Place<'_, 's>,
+    place: &'t Place<'t, 's>,
 ) -> Result<Option<Scope<'s>>, AllocError>
     ensures { IfOk result (λ o. IsScope o (spot_of place.now)) }
 {
@@ -78,10 +78,10 @@ fn scope_if<'s>(
 }
 
 /// The scopes of the modules at these places that are asked for.
-fn asked_scopes<'s>(
+fn asked_scopes<'t, 's>(
     alloc: Global,
     asked: &[bool],
-    places: &[Place<'_, 's>],
+    places: &'t [Place<'t, 's>],
 ) -> Result<Vec<Option<Scope<'s>>>, AllocError>
     ensures { IfOk result (λ v. AreScopes v.items (spots_of places.now)) }
 {
@@ -95,9 +95,9 @@ fn asked_scopes<'s>(
 }
 
 /// What a name means in the module with a number. A scope that is not kept is made.
-fn object_there(
+fn object_there<'t>(
     alloc: Global,
-    places: &[Place<'_, '_>],
+    places: &'t [Place<'t, '_>],
     scopes: &[Option<Scope<'_>>],
     number: usize,
     name: &str,
@@ -118,9 +118,9 @@ fn object_there(
 }
 
 /// What a dotted name means.
-fn object_of_name(
+fn object_of_name<'t>(
     alloc: Global,
-    places: &[Place<'_, '_>],
+    places: &'t [Place<'t, '_>],
     scopes: &[Option<Scope<'_>>],
     instances: &Instances<'_>,
     name: &str,
@@ -135,9 +135,9 @@ fn object_of_name(
 }
 
 /// The scope of these dotted names, where these places are those of a design: what each of them means there.
-pub fn map_scope<'n>(
+pub fn map_scope<'t, 'n>(
     alloc: Global,
-    places: &[Place<'_, '_>],
+    places: &'t [Place<'t, '_>],
     instances: &Instances<'_>,
     names: &[&'n str],
 ) -> Result<Scope<'n>, AllocError>
@@ -151,9 +151,9 @@ pub fn map_scope<'n>(
 }
 
 /// The declarations of these names.
-fn declarations_of<'n>(
+fn declarations_of<'t, 'n>(
     alloc: Global,
-    places: &[Place<'_, '_>],
+    places: &'t [Place<'t, '_>],
     scopes: &[Option<Scope<'_>>],
     instances: &Instances<'_>,
     names: &[&'n str],

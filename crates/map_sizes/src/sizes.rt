@@ -32,11 +32,11 @@ fn has_kind(broken: Broken) -> bool
 }
 
 /// Whether an expression breaks a rule on expressions, and its width by itself, in a scope of names that fit words.
-pub fn judged(names: Names<'_, '_>, expression: &Expression<'_>) -> Judgement
+pub fn judged(expression: &Expression<'_>, names: Names<'_, '_>) -> Judgement
     ensures refused { result.is_refused ≡ is_some (refusal_of (scope_at names.entry.scope.now) (tree_of expression.now)) }
     ensures width { result.width ≡ some_if (has_width (scope_at names.entry.scope.now) (tree_of expression.now)) (width_of (scope_at names.entry.scope.now) (tree_of expression.now)) }
 {
-    let (broken, width) = judged_in(names, Position::Anywhere, expression);
+    let (broken, width) = judged_in(expression, names, Position::Anywhere);
     Judgement {
         is_refused: has_kind(broken),
         width,

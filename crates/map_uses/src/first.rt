@@ -42,8 +42,8 @@ fn has_names(expressions: &[MapExpression<'_, '_>], asked: &[bool]) -> bool
 }
 
 /// The first of the asked expressions that uses an input, where the names of the design are called by the numbers of their modules.
-fn first_numbered<'a, 's: 'a>(
-    places: &[Place<'_, 's>],
+fn first_numbered<'t, 'a, 's: 'a>(
+    places: &'t [Place<'t, 's>],
     names: &'a DottedNames<'a>,
     interfaces: &Interfaces<'s>,
     alloc: Global,
@@ -67,9 +67,9 @@ fn first_numbered<'a, 's: 'a>(
 /// The first of the asked expressions that uses an input of the top, by its number, where none of the expressions has a flaw. An input is
 /// used where a bit is read that is one of it or depends on one, by one or more steps; no condition is folded, and registers depend on
 /// nothing. What has no flag is not asked.
-pub fn first_user<'s>(
-    tree: &Tree<'s>,
-    places: &[Place<'_, 's>],
+pub fn first_user<'t, 's>(
+    tree: &'t Tree<'s>,
+    places: &'t [Place<'t, 's>],
     alloc: Global,
     known: &KnownNames<'_, '_>,
     expressions: &[MapExpression<'_, '_>],

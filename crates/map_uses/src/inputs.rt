@@ -59,8 +59,8 @@ fn inputs_among<'a>(
 }
 
 /// Those of the names of the module at a place that are its input ports.
-fn inputs_at<'a>(
-    top: &Place<'_, '_>,
+fn inputs_at<'t, 'a>(
+    top: &'t Place<'t, '_>,
     names: &PlaceNames<'a>,
     alloc: Global,
 ) -> Result<Vec<&'a str>, AllocError>
@@ -72,8 +72,8 @@ fn inputs_at<'a>(
 }
 
 /// The input ports of the first of the modules at these places, which have these names.
-pub(crate) fn top_inputs<'a>(
-    places: &[Place<'_, '_>],
+pub(crate) fn top_inputs<'t, 'a>(
+    places: &'t [Place<'t, '_>],
     names: &[PlaceNames<'a>],
     alloc: Global,
 ) -> Result<Vec<&'a str>, AllocError>

@@ -31,8 +31,8 @@ fn items_of<'x, 'a>(flat: &'x FlatDesign<'a>) -> &'x [Item<'a>]
 }
 
 /// The table of the design that stands at these places, where its names are called by the numbers of their modules.
-pub(crate) fn table_of<'a, 's: 'a>(
-    places: &[Place<'_, 's>],
+pub(crate) fn table_of<'t, 'a, 's: 'a>(
+    places: &'t [Place<'t, 's>],
     names: &'a DottedNames<'a>,
     interfaces: &Interfaces<'s>,
     alloc: Global,

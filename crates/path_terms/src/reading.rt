@@ -41,8 +41,8 @@ fn alone(
     ensures grows { Grows terms.old terms.new }
     ensures lowered { IfOk result (λ r. IsLoweredAlone (scope_at scope.now) (images_at table.now) terms.new (tree_of expression.now) r.width r.id.0) }
 {
-    match size(scope, expression) {
-        Ok((width, signed)) => match lower(scope, table, expression, width, signed, terms) {
+    match size(expression, scope) {
+        Ok((width, signed)) => match lower(expression, scope, table, width, signed, terms) {
             Ok(id) => Ok(OwnTerm { id, width }),
             Err(SizeStop::NoMemory) => Err(AllocError),
             Err(SizeStop::Refused(_)) => unreachable!(),

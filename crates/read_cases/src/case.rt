@@ -174,9 +174,9 @@ fn of_judged<'t, 's>(
 }
 
 /// The same where the design is accepted, and its modules stand at these places.
-fn of_places<'s>(
-    tree: &Tree<'s>,
-    places: &[Place<'_, 's>],
+fn of_places<'t, 's>(
+    tree: &'t Tree<'s>,
+    places: &'t [Place<'t, 's>],
     alloc: Global,
     model: IlaModel,
     written: &WrittenMap,
@@ -196,9 +196,9 @@ fn of_places<'s>(
 }
 
 /// The design with the terms of an accepted map. The design is judged once more by `elaborate`.
-fn mapped_design<'s>(
-    tree: &Tree<'s>,
-    places: &[Place<'_, 's>],
+fn mapped_design<'t, 's>(
+    tree: &'t Tree<'s>,
+    places: &'t [Place<'t, 's>],
     map: &RefinementMap<'_>,
     alloc: Global,
     model: &IlaModel,

@@ -19,8 +19,8 @@ use v_places::Place;
 use v_value::scope::Scope;
 
 /// The scope of these names: what each of them means in an accepted design whose modules stand at these places, and nothing else.
-pub(crate) fn scope_of_names<'n>(
-    places: &[Place<'_, '_>],
+pub(crate) fn scope_of_names<'t, 'n>(
+    places: &'t [Place<'t, '_>],
     alloc: Global,
     names: &[&'n str],
 ) -> Result<Scope<'n>, NoMemory>

@@ -22,6 +22,10 @@ pub fn flaws_of(alloc: Global, tree: &Tree<'_>) -> Result<String, AllocError> {
     Ok(text)
 }
 
-fn is_duplicate(alloc: Global, tree: &Tree<'_>, module: &Module<'_>) -> Result<bool, AllocError> {
+fn is_duplicate<'s>(
+    alloc: Global,
+    tree: &Tree<'s>,
+    module: &Module<'s>,
+) -> Result<bool, AllocError> {
     Ok(has_duplicate_module(alloc, tree)? || has_duplicate(alloc, module)?)
 }

@@ -56,7 +56,7 @@ fn add_letters(
     requires objects { HasNarrowObjects (scope_at scope.now) }
 {
     for each in list {
-        if !is_narrow(scope, &each.value) {
+        if !is_narrow(&each.value, scope) {
             letters.push_str("w")?;
             continue;
         }
@@ -96,7 +96,7 @@ fn told_of_items<'s>(
     requires alone { list_any is_part (map item_of items.now) ≡ false }
     requires plain { HavePlainWires (scope_at names.scope.now) (map item_of items.now) }
 {
-    let broken = items_rules(names, items);
+    let broken = items_rules(items, names);
     if !is_unbroken(broken) {
         return String::from_str(alloc, "rules");
     }

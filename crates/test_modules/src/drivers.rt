@@ -39,14 +39,14 @@ pub(crate) fn has_part(items: &[Item<'_>]) -> bool
 }
 
 /// Whether two drivers of such items drive one bit. Not so where they break a rule on expressions.
-fn drive_twice(alloc: Global, names: Names<'_, '_>, items: &[Item<'_>]) -> Result<bool, AllocError>
+fn drive_twice(alloc: Global, items: &[Item<'_>], names: Names<'_, '_>) -> Result<bool, AllocError>
     requires alone { list_any is_part (map item_of items.now) ≡ false }
 {
-    let broken = items_rules(names, items);
+    let broken = items_rules(items, names);
     if !is_unbroken(broken) {
         return Ok(false);
     }
-    has_two_drivers(alloc, names.scope, items)
+    has_two_drivers(alloc, items, names.scope)
 }
 
 /// Whether two drivers of the module drive one bit. Not so where it has parameters or instances, or breaks a rule on expressions.
@@ -63,24 +63,24 @@ pub fn two_drivers(
         return Ok(false);
     }
     let narrow = Names { scope: &scope };
-    let twice = drive_twice(alloc, narrow, items)?;
+    let twice = drive_twice(alloc, items, narrow)?;
     Ok(twice)
 }
 
 /// Whether a bit that such items read has no driver. Not so where they break a rule on expressions.
 fn lacks_driver<'s>(
     alloc: Global,
+    items: &[Item<'s>],
     names: Names<'_, '_>,
     declared: &ModuleScope<'s>,
-    items: &[Item<'s>],
 ) -> Result<bool, AllocError>
     requires alone { list_any is_part (map item_of items.now) ≡ false }
 {
-    let broken = items_rules(names, items);
+    let broken = items_rules(items, names);
     if !is_unbroken(broken) {
         return Ok(false);
     }
-    has_undriven(alloc, names.scope, declared, "c", items)
+    has_undriven(alloc, items, names.scope, declared, "c")
 }
 
 /// Whether a bit that the module reads has no driver, where its clock is `c`. Not so where it has parameters or instances, or breaks a
@@ -98,6 +98,6 @@ pub fn undriven<'s>(
         return Ok(false);
     }
     let narrow = Names { scope: &scope };
-    let lacks = lacks_driver(alloc, narrow, names, items)?;
+    let lacks = lacks_driver(alloc, items, narrow, names)?;
     Ok(lacks)
 }

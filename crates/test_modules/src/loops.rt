@@ -19,13 +19,13 @@ use v_syntax::module::{Item, Module};
 /// Whether such items have a combinational loop. No answer where they break a rule on expressions.
 fn items_loop(
     alloc: Global,
-    names: Names<'_, '_>,
     items: &[Item<'_>],
+    names: Names<'_, '_>,
 ) -> Result<Option<bool>, AllocError>
     requires alone { list_any is_part (map item_of items.now) ≡ false }
     requires plain { HavePlainWires (scope_at names.scope.now) (map item_of items.now) }
 {
-    let broken = items_rules(names, items);
+    let broken = items_rules(items, names);
     if !is_unbroken(broken) {
         return Ok(None);
     }
@@ -50,6 +50,6 @@ pub fn looped(alloc: Global, within: &Module<'_>) -> Result<Option<bool>, AllocE
         return Ok(None);
     }
     let narrow = Names { scope: &scope };
-    let loops = items_loop(alloc, narrow, items)?;
+    let loops = items_loop(alloc, items, narrow)?;
     Ok(loops)
 }

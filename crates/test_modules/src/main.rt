@@ -104,10 +104,10 @@ fn kinds_with<'s>(
     interfaces: &Interfaces<'s>,
 ) -> Result<String, AllocError> {
     let broken = module_rule(alloc, within, constants, interfaces)?;
-    let names = declared_scope(alloc, constants, within)?;
-    let ports = has_bad_port(alloc, &names, within, interfaces)?;
+    let names = declared_scope(alloc, within, constants)?;
+    let ports = has_bad_port(alloc, within, &names, interfaces)?;
     let scope = placed_scope(alloc, &names, constants.scope)?;
-    let named = has_bad_name(&names, &scope, &within.items);
+    let named = has_bad_name(&within.items, &names, &scope);
     kinds_by(alloc, within, broken, ports, named, &names)
 }
 

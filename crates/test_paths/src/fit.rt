@@ -32,46 +32,46 @@ pub fn are_no_memories(declarations: &[Declaration<'_>]) -> bool
 }
 
 /// Whether two expressions are narrow.
-fn both_fit(names: Names<'_, '_>, first: &Expression<'_>, second: &Expression<'_>) -> bool
+fn both_fit<'s>(first: &Expression<'s>, second: &Expression<'s>, names: Names<'_, '_>) -> bool
     ensures { IsTrue result → IsNarrow (scope_at names.entry.scope.now) (tree_of first.now) × IsNarrow (scope_at names.entry.scope.now) (tree_of second.now) }
 {
-    if !is_narrow(names.scope, first) {
+    if !is_narrow(first, names.scope) {
         return false;
     }
-    is_narrow(names.scope, second)
+    is_narrow(second, names.scope)
 }
 
-fn select_fits(names: Names<'_, '_>, select: &Select<'_>) -> bool
+fn select_fits(select: &Select<'_>, names: Names<'_, '_>) -> bool
     ensures { IsTrue result → IsSelectNarrow (scope_at names.entry.scope.now) (select_of select.now) }
 {
     match select {
-        Select::Index(index) => is_narrow(names.scope, index),
-        Select::Part(left, right) => both_fit(names, left, right),
-        Select::PartUp(base, width) => both_fit(names, base, width),
-        Select::PartDown(base, width) => both_fit(names, base, width),
+        Select::Index(index) => is_narrow(index, names.scope),
+        Select::Part(left, right) => both_fit(left, right, names),
+        Select::PartUp(base, width) => both_fit(base, width, names),
+        Select::PartDown(base, width) => both_fit(base, width, names),
     }
 }
 
-fn selects_fit(names: Names<'_, '_>, selects: &Selects<'_>) -> bool
+fn selects_fit(selects: &Selects<'_>, names: Names<'_, '_>) -> bool
     ensures { IsTrue result → AreSelectsNarrow (scope_at names.entry.scope.now) (selects_of selects.now) }
 {
     match selects {
         Selects::Whole => true,
-        Selects::One(select) => select_fits(names, select),
+        Selects::One(select) => select_fits(select, names),
         Selects::Two(first, second) => {
-            if !select_fits(names, first) {
+            if !select_fits(first, names) {
                 return false;
             }
-            select_fits(names, second)
+            select_fits(second, names)
         }
     }
 }
 
 /// Whether a part of a target is narrow.
-fn place_fits(names: Names<'_, '_>, name: &str, selects: &Selects<'_>) -> bool
+fn place_fits(selects: &Selects<'_>, names: Names<'_, '_>, name: &str) -> bool
     ensures { IsTrue result → IsNarrow (scope_at names.entry.scope.now) (pure.name name.now (selects_of selects.now)) }
 {
-    let place = place_in(names, Position::Anywhere, names.scope.object(name), selects);
+    let place = place_in(selects, names, Position::Anywhere, names.scope.object(name));
     let Some(width) = place.1 else {
         return false;
     };
@@ -81,24 +81,24 @@ fn place_fits(names: Names<'_, '_>, name: &str, selects: &Selects<'_>) -> bool
     if width > 128 {
         return false;
     }
-    selects_fit(names, selects)
+    selects_fit(selects, names)
 }
 
 /// Whether a target is a narrow part of one name.
-pub fn target_fits(names: Names<'_, '_>, target: &Target<'_>) -> bool
+pub fn target_fits(target: &Target<'_>, names: Names<'_, '_>) -> bool
     ensures { IsTrue result → HasNarrowParts (scope_at names.entry.scope.now) (target_of target.now) }
 {
     match target {
-        Target::Place(name, selects) => place_fits(names, name, selects),
+        Target::Place(name, selects) => place_fits(selects, names, name),
         Target::Joined(_) => false,
     }
 }
 
-fn all_fit(names: Names<'_, '_>, labels: &[Expression<'_>]) -> bool
+fn all_fit(labels: &[Expression<'_>], names: Names<'_, '_>) -> bool
     ensures { IsTrue result → AreNarrow (scope_at names.entry.scope.now) (expressions_of labels.now) }
 {
     for label in labels {
-        if !is_narrow(names.scope, label) {
+        if !is_narrow(label, names.scope) {
             return false;
         }
     }
@@ -106,22 +106,22 @@ fn all_fit(names: Names<'_, '_>, labels: &[Expression<'_>]) -> bool
 }
 
 /// Whether the labels of an item are narrow.
-pub fn labels_fit(names: Names<'_, '_>, item: &CaseItem<'_>) -> bool
+pub fn labels_fit(item: &CaseItem<'_>, names: Names<'_, '_>) -> bool
     ensures { IsTrue result → IsNarrowLabel (scope_at names.entry.scope.now) item.now }
 {
     match item {
-        CaseItem::Values(labels, _) => all_fit(names, labels),
+        CaseItem::Values(labels, _) => all_fit(labels, names),
         CaseItem::Default(_) => true,
     }
 }
 
 /// Whether an item of a module is no block, or one whose parts are narrow.
-fn item_fits(names: Names<'_, '_>, item: &Item<'_>) -> bool
+fn item_fits(item: &Item<'_>, names: Names<'_, '_>) -> bool
     requires { (n : Name) → is_memory (scope_at names.scope.now n) ≡ false }
     ensures { IsTrue result → IsFitItem (scope_at names.entry.scope.now) (item_of item.now) }
 {
     match item {
-        Item::Always(_, block) => statement_fits(names, block),
+        Item::Always(_, block) => statement_fits(block, names),
         Item::Port(_)
         | Item::Parameter(_)
         | Item::Wires(_, _, _)
@@ -132,12 +132,12 @@ fn item_fits(names: Names<'_, '_>, item: &Item<'_>) -> bool
 }
 
 /// Whether the parts of all blocks are narrow.
-pub fn items_fit(names: Names<'_, '_>, items: &[Item<'_>]) -> bool
+pub fn items_fit(items: &[Item<'_>], names: Names<'_, '_>) -> bool
     requires { (n : Name) → is_memory (scope_at names.scope.now n) ≡ false }
     ensures { IsTrue result → AreFitItems (scope_at names.entry.scope.now) (map item_of items.now) }
 {
     for item in items {
-        if !item_fits(names, item) {
+        if !item_fits(item, names) {
             return false;
         }
     }

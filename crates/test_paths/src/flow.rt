@@ -13,49 +13,49 @@ use v_narrow::is_narrow;
 use v_size::Names;
 use v_syntax::tree::{Arm, CaseItem, Expression, Statement, Target};
 
-fn assignment_fits(names: Names<'_, '_>, target: &Target<'_>, value: &Expression<'_>) -> bool
+fn assignment_fits<'s>(target: &Target<'s>, value: &Expression<'s>, names: Names<'_, '_>) -> bool
     ensures { IsTrue result → HasNarrowParts (scope_at names.entry.scope.now) (target_of target.now) × IsNarrow (scope_at names.entry.scope.now) (tree_of value.now) }
 {
-    if !target_fits(names, target) {
+    if !target_fits(target, names) {
         return false;
     }
-    is_narrow(names.scope, value)
+    is_narrow(value, names.scope)
 }
 
 /// Whether all expressions of a statement, and all parts of its targets, are narrow.
 #[cycle(fitting)]
-pub fn statement_fits(names: Names<'_, '_>, statement: &Statement<'_>) -> bool
+pub fn statement_fits(statement: &Statement<'_>, names: Names<'_, '_>) -> bool
     ensures { IsTrue result → IsNarrowFlow (scope_at names.entry.scope.now) (statement_of statement.now) }
 {
     match statement {
         Statement::Empty => true,
-        Statement::Blocking(target, value) => assignment_fits(names, target, value),
-        Statement::Nonblocking(target, value) => assignment_fits(names, target, value),
+        Statement::Blocking(target, value) => assignment_fits(target, value, names),
+        Statement::Nonblocking(target, value) => assignment_fits(target, value, names),
         Statement::If(arms, last) => match last {
             Some(other) => {
-                if !statement_fits(names, other) {
+                if !statement_fits(other, names) {
                     return false;
                 }
-                arms_fit(names, arms)
+                arms_fit(arms, names)
             }
-            None => arms_fit(names, arms),
+            None => arms_fit(arms, names),
         },
         Statement::Case(_, value, items) => {
-            if !is_narrow(names.scope, value) {
+            if !is_narrow(value, names.scope) {
                 return false;
             }
-            items_fit(names, items)
+            items_fit(items, names)
         }
-        Statement::Block(_, statements) => all_fit(names, statements),
+        Statement::Block(_, statements) => all_fit(statements, names),
     }
 }
 
 #[cycle(fitting)]
-fn all_fit(names: Names<'_, '_>, statements: &[Statement<'_>]) -> bool
+fn all_fit(statements: &[Statement<'_>], names: Names<'_, '_>) -> bool
     ensures { IsTrue result → AreNarrowAll (scope_at names.entry.scope.now) statements.now }
 {
     for statement in statements {
-        if !statement_fits(names, statement) {
+        if !statement_fits(statement, names) {
             return false;
         }
     }
@@ -63,14 +63,14 @@ fn all_fit(names: Names<'_, '_>, statements: &[Statement<'_>]) -> bool
 }
 
 #[cycle(fitting)]
-fn arms_fit(names: Names<'_, '_>, arms: &[Arm<'_>]) -> bool
+fn arms_fit(arms: &[Arm<'_>], names: Names<'_, '_>) -> bool
     ensures { IsTrue result → AreNarrowLadder (scope_at names.entry.scope.now) arms.now }
 {
     for arm in arms {
-        if !is_narrow(names.scope, &arm.condition) {
+        if !is_narrow(&arm.condition, names.scope) {
             return false;
         }
-        if !statement_fits(names, &arm.statement) {
+        if !statement_fits(&arm.statement, names) {
             return false;
         }
     }
@@ -78,14 +78,14 @@ fn arms_fit(names: Names<'_, '_>, arms: &[Arm<'_>]) -> bool
 }
 
 #[cycle(fitting)]
-fn items_fit(names: Names<'_, '_>, items: &[CaseItem<'_>]) -> bool
+fn items_fit(items: &[CaseItem<'_>], names: Names<'_, '_>) -> bool
     ensures { IsTrue result → AreNarrowItems (scope_at names.entry.scope.now) items.now }
 {
     for item in items {
-        if !labels_fit(names, item) {
+        if !labels_fit(item, names) {
             return false;
         }
-        if !body_fits(names, item) {
+        if !body_fits(item, names) {
             return false;
         }
     }
@@ -93,11 +93,11 @@ fn items_fit(names: Names<'_, '_>, items: &[CaseItem<'_>]) -> bool
 }
 
 #[cycle(fitting)]
-fn body_fits(names: Names<'_, '_>, item: &CaseItem<'_>) -> bool
+fn body_fits(item: &CaseItem<'_>, names: Names<'_, '_>) -> bool
     ensures { IsTrue result → IsNarrowFlow (scope_at names.entry.scope.now) (item_statement item.now) }
 {
     match item {
-        CaseItem::Values(_, statement) => statement_fits(names, statement),
-        CaseItem::Default(statement) => statement_fits(names, statement),
+        CaseItem::Values(_, statement) => statement_fits(statement, names),
+        CaseItem::Default(statement) => statement_fits(statement, names),
     }
 }

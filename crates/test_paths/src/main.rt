@@ -72,10 +72,10 @@ fn answer_of_tree(alloc: Global, tree: &Tree<'_>) -> Result<String, AllocError> 
 fn answer_of_module(alloc: Global, within: &Module<'_>) -> Result<String, AllocError> {
     let declared = module_scope(alloc, within)?;
     let scope = declared.to_scope(alloc)?;
-    answer_in(alloc, &scope, &within.items)
+    answer_in(alloc, &within.items, &scope)
 }
 
-fn answer_in(alloc: Global, scope: &Scope<'_>, items: &[Item<'_>]) -> Result<String, AllocError> {
+fn answer_in(alloc: Global, items: &[Item<'_>], scope: &Scope<'_>) -> Result<String, AllocError> {
     if !are_objects_narrow(scope) {
         return String::from_str(alloc, "wide");
     }
@@ -83,21 +83,21 @@ fn answer_in(alloc: Global, scope: &Scope<'_>, items: &[Item<'_>]) -> Result<Str
         return String::from_str(alloc, "memory");
     }
     let names = Names { scope };
-    if !items_fit(names, items) {
+    if !items_fit(items, names) {
         return String::from_str(alloc, "unfit");
     }
-    kinds(alloc, scope, items)
+    kinds(alloc, items, scope)
 }
 
 /// Whether one of the items is a block with a bad list of events, or one with a latch.
-fn kinds(alloc: Global, scope: &Scope<'_>, items: &[Item<'_>]) -> Result<String, AllocError>
+fn kinds(alloc: Global, items: &[Item<'_>], scope: &Scope<'_>) -> Result<String, AllocError>
     requires objects { HasNarrowObjects (scope_at scope.now) }
     requires fit { AreFitItems (scope_at scope.now) (map item_of items.now) }
 {
     let mut clocks = BTreeSet::new(alloc);
     clocks.insert("c")?;
-    let bad = has_bad_event_list(alloc, scope, &clocks, items)?;
-    let latched = has_latch(alloc, scope, items)?;
+    let bad = has_bad_event_list(alloc, items, scope, &clocks)?;
+    let latched = has_latch(alloc, items, scope)?;
     words_of(alloc, bad, latched)
 }
 

@@ -72,7 +72,7 @@ fn run_told(statement: &Statement<'_>, alloc: Global) -> Result<String, AllocErr
         entries: Vec::new(alloc),
     };
     let mut updates = Vec::new(alloc);
-    run(alloc, &scope, statement, &mut values, &mut updates)?;
+    run(alloc, statement, &scope, &mut values, &mut updates)?;
     told(alloc, &values, updates.len())
 }
 

@@ -129,7 +129,7 @@ fn run_where(
         entries: Vec::new(alloc),
     };
     let mut updates = Vec::new(alloc);
-    run(alloc, &scope, statement, &mut values, &mut updates)?;
+    run(alloc, statement, &scope, &mut values, &mut updates)?;
     Ok(values)
 }
 
@@ -246,6 +246,6 @@ pub fn edge(alloc: Global) -> Result<String, AllocError> {
     let mut values = Values {
         entries: Vec::new(alloc),
     };
-    after_edge(alloc, &scope, &[], &mut values)?;
+    after_edge(alloc, &[], &scope, &mut values)?;
     format!(in alloc; "{} values", values.entries.len())
 }

@@ -64,61 +64,61 @@ fn of_tokens(
     tokens: &[Token<'_>],
 ) -> Result<String, AllocError> {
     match expression(alloc, tokens) {
-        Ok((expression, [])) => of_expression(names, alloc, ask, &expression),
+        Ok((expression, [])) => of_expression(&expression, names, alloc, ask),
         _ => String::from_str(alloc, "is no expression"),
     }
 }
 
 fn of_expression(
+    expression: &Expression<'_>,
     names: &Names<'_>,
     alloc: Global,
     ask: Ask,
-    expression: &Expression<'_>,
 ) -> Result<String, AllocError> {
     if !are_objects_narrow(&names.scope) {
         return String::from_str(alloc, "has wide objects");
     }
     match ask {
-        Ask::Assigned(width) => assigned(names, alloc, width, expression),
-        Ask::Whole => whole(names, alloc, expression),
-        Ask::Wider => wider(names, alloc, expression),
-        Ask::Sized => sized(names, alloc, expression),
-        Ask::IsSized => String::from_str(alloc, is_sized(names, expression)),
+        Ask::Assigned(width) => assigned(expression, names, alloc, width),
+        Ask::Whole => whole(expression, names, alloc),
+        Ask::Wider => wider(expression, names, alloc),
+        Ask::Sized => sized(expression, names, alloc),
+        Ask::IsSized => String::from_str(alloc, is_sized(expression, names)),
     }
 }
 
 /// What an assignment of the expression gives a target of this width, where all is narrow and fits.
 fn assigned(
+    expression: &Expression<'_>,
     names: &Names<'_>,
     alloc: Global,
     width: u32,
-    expression: &Expression<'_>,
 ) -> Result<String, AllocError>
     requires { HasNarrowObjects (scope_at names.now.scope) }
 {
     if width < 1 || width > 128 {
         return String::from_str(alloc, "is no row");
     }
-    if !values_fit(&names.scope, &names.values) || !is_narrow(&names.scope, expression) {
+    if !values_fit(&names.scope, &names.values) || !is_narrow(expression, &names.scope) {
         return String::from_str(alloc, "has wide values");
     }
-    let number = assigned_value(&names.scope, &names.values, width, expression);
+    let number = assigned_value(expression, &names.scope, &names.values, width);
     format!(in alloc; "{number}")
 }
 
 /// The width of the expression, and its value by itself.
 fn whole(
+    expression: &Expression<'_>,
     names: &Names<'_>,
     alloc: Global,
-    expression: &Expression<'_>,
 ) -> Result<String, AllocError>
     requires { HasNarrowObjects (scope_at names.now.scope) }
 {
-    if !values_fit(&names.scope, &names.values) || !is_narrow(&names.scope, expression) {
+    if !values_fit(&names.scope, &names.values) || !is_narrow(expression, &names.scope) {
         return String::from_str(alloc, "has wide values");
     }
-    let width = width_of(&names.scope, expression);
-    let value = self_value(&names.scope, &names.values, expression);
+    let width = width_of(expression, &names.scope);
+    let value = self_value(expression, &names.scope, &names.values);
     format!(in alloc; "{width} bits {value}")
 }
 
@@ -129,22 +129,22 @@ fn said(truth: bool, yes: &'static str, no: &'static str) -> &'static str {
 
 /// The sign of the expression, its value widened by a bit, and whether it is true.
 fn wider(
+    expression: &Expression<'_>,
     names: &Names<'_>,
     alloc: Global,
-    expression: &Expression<'_>,
 ) -> Result<String, AllocError>
     requires { HasNarrowObjects (scope_at names.now.scope) }
 {
-    if !values_fit(&names.scope, &names.values) || !is_narrow(&names.scope, expression) {
+    if !values_fit(&names.scope, &names.values) || !is_narrow(expression, &names.scope) {
         return String::from_str(alloc, "has wide values");
     }
-    let width = width_of(&names.scope, expression);
+    let width = width_of(expression, &names.scope);
     if width >= 128 {
         return String::from_str(alloc, "is no row");
     }
-    let signed = sign_of(&names.scope, expression);
-    let number = value_of(&names.scope, &names.values, expression, width + 1, signed);
-    let truth = is_true(&names.scope, &names.values, expression);
+    let signed = sign_of(expression, &names.scope);
+    let number = value_of(expression, &names.scope, &names.values, width + 1, signed);
+    let truth = is_true(expression, &names.scope, &names.values);
     let (sign, truth) = (
         said(signed, "signed", "unsigned"),
         said(truth, "true", "false"),
@@ -154,13 +154,13 @@ fn wider(
 
 /// The width and the sign of the expression, or the kind of its refusal.
 fn sized(
+    expression: &Expression<'_>,
     names: &Names<'_>,
     alloc: Global,
-    expression: &Expression<'_>,
 ) -> Result<String, AllocError>
     requires { HasNarrowObjects (scope_at names.now.scope) }
 {
-    match size(&names.scope, expression) {
+    match size(expression, &names.scope) {
         Ok((width, true)) => format!(in alloc; "{width} bits signed"),
         Ok((width, false)) => format!(in alloc; "{width} bits unsigned"),
         Err(refusal) => format!(in alloc; "{:?}", refusal.kind),
@@ -168,10 +168,10 @@ fn sized(
 }
 
 /// Whether the expression has a width and a sign.
-fn is_sized(names: &Names<'_>, expression: &Expression<'_>) -> &'static str
+fn is_sized(expression: &Expression<'_>, names: &Names<'_>) -> &'static str
     requires { HasNarrowObjects (scope_at names.now.scope) }
 {
-    match size(&names.scope, expression) {
+    match size(expression, &names.scope) {
         Ok(_) => "yes",
         Err(_) => "no",
     }

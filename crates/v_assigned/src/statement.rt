@@ -18,36 +18,36 @@ use v_value::scope::Scope;
 /// Whether a statement of a block assigns a name that no block may assign.
 #[cycle(assigning)]
 pub(crate) fn has_wrong(
+    statement: &Statement<'_>,
     names: &ModuleScope<'_>,
     scope: &Scope<'_>,
-    statement: &Statement<'_>,
 ) -> bool
     ensures { result ≡ list_any (is_wrong names.now (scope_at scope.now) true) (assigned_names (statement_of statement.now)) }
 {
     match statement {
         Statement::Empty => false,
-        Statement::Blocking(target, _) => assigns_wrong(names, scope, true, target),
-        Statement::Nonblocking(target, _) => assigns_wrong(names, scope, true, target),
+        Statement::Blocking(target, _) => assigns_wrong(target, names, scope, true),
+        Statement::Nonblocking(target, _) => assigns_wrong(target, names, scope, true),
         Statement::If(arms, last) => {
-            if an_arm_has_wrong(names, scope, arms) {
+            if an_arm_has_wrong(arms, names, scope) {
                 return true;
             }
             match last {
-                Some(other) => has_wrong(names, scope, other),
+                Some(other) => has_wrong(other, names, scope),
                 None => false,
             }
         }
-        Statement::Case(_, _, items) => an_item_has_wrong(names, scope, items),
-        Statement::Block(_, statements) => one_has_wrong(names, scope, statements),
+        Statement::Case(_, _, items) => an_item_has_wrong(items, names, scope),
+        Statement::Block(_, statements) => one_has_wrong(statements, names, scope),
     }
 }
 
 #[cycle(assigning)]
-fn one_has_wrong(names: &ModuleScope<'_>, scope: &Scope<'_>, statements: &[Statement<'_>]) -> bool
+fn one_has_wrong(statements: &[Statement<'_>], names: &ModuleScope<'_>, scope: &Scope<'_>) -> bool
     ensures { result ≡ list_any (is_wrong names.now (scope_at scope.now) true) (assigned_in_all (statement_list statements.now)) }
 {
     for statement in statements {
-        if has_wrong(names, scope, statement) {
+        if has_wrong(statement, names, scope) {
             return true;
         }
     }
@@ -55,11 +55,11 @@ fn one_has_wrong(names: &ModuleScope<'_>, scope: &Scope<'_>, statements: &[State
 }
 
 #[cycle(assigning)]
-fn an_arm_has_wrong(names: &ModuleScope<'_>, scope: &Scope<'_>, arms: &[Arm<'_>]) -> bool
+fn an_arm_has_wrong(arms: &[Arm<'_>], names: &ModuleScope<'_>, scope: &Scope<'_>) -> bool
     ensures { result ≡ list_any (is_wrong names.now (scope_at scope.now) true) (arms_names arms.now) }
 {
     for arm in arms {
-        if has_wrong(names, scope, &arm.statement) {
+        if has_wrong(&arm.statement, names, scope) {
             return true;
         }
     }
@@ -67,11 +67,11 @@ fn an_arm_has_wrong(names: &ModuleScope<'_>, scope: &Scope<'_>, arms: &[Arm<'_>]
 }
 
 #[cycle(assigning)]
-fn an_item_has_wrong(names: &ModuleScope<'_>, scope: &Scope<'_>, items: &[CaseItem<'_>]) -> bool
+fn an_item_has_wrong(items: &[CaseItem<'_>], names: &ModuleScope<'_>, scope: &Scope<'_>) -> bool
     ensures { result ≡ list_any (is_wrong names.now (scope_at scope.now) true) (assigned_in_arms (item_list items.now)) }
 {
     for item in items {
-        if item_has_wrong(names, scope, item) {
+        if item_has_wrong(item, names, scope) {
             return true;
         }
     }
@@ -79,11 +79,11 @@ fn an_item_has_wrong(names: &ModuleScope<'_>, scope: &Scope<'_>, items: &[CaseIt
 }
 
 #[cycle(assigning)]
-fn item_has_wrong(names: &ModuleScope<'_>, scope: &Scope<'_>, item: &CaseItem<'_>) -> bool
+fn item_has_wrong(item: &CaseItem<'_>, names: &ModuleScope<'_>, scope: &Scope<'_>) -> bool
     ensures { result ≡ list_any (is_wrong names.now (scope_at scope.now) true) (assigned_names (item_statement item.now)) }
 {
     match item {
-        CaseItem::Values(_, statement) => has_wrong(names, scope, statement),
-        CaseItem::Default(statement) => has_wrong(names, scope, statement),
+        CaseItem::Values(_, statement) => has_wrong(statement, names, scope),
+        CaseItem::Default(statement) => has_wrong(statement, names, scope),
     }
 }

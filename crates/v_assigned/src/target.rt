@@ -16,30 +16,30 @@ use v_value::scope::Scope;
 /// Whether a target has a name that may not be assigned there.
 #[cycle(parts)]
 pub(crate) fn assigns_wrong(
+    target: &Target<'_>,
     names: &ModuleScope<'_>,
     scope: &Scope<'_>,
     in_block: bool,
-    target: &Target<'_>,
 ) -> bool
     ensures { result ≡ list_any (is_wrong names.now (scope_at scope.now) in_block) (target_names (target_of target.now)) }
 {
     match target {
         Target::Place(name, _) => is_wrong(names, scope, in_block, name),
-        Target::Joined(targets) => one_assigns_wrong(names, scope, in_block, targets),
+        Target::Joined(targets) => one_assigns_wrong(targets, names, scope, in_block),
     }
 }
 
 #[cycle(parts)]
 fn one_assigns_wrong(
+    targets: &[Target<'_>],
     names: &ModuleScope<'_>,
     scope: &Scope<'_>,
     in_block: bool,
-    targets: &[Target<'_>],
 ) -> bool
     ensures { result ≡ list_any (is_wrong names.now (scope_at scope.now) in_block) (targets_names (target_list targets.now)) }
 {
     for target in targets {
-        if assigns_wrong(names, scope, in_block, target) {
+        if assigns_wrong(target, names, scope, in_block) {
             return true;
         }
     }

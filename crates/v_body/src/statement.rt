@@ -108,7 +108,8 @@ fn items<'s, 't>(
 {
     let mut rest = from_here(tokens)?;
     let mut refusal = no_refusal(tokens);
-    let mut items = Vec::new(alloc);
+    // Most have one item.
+    let mut items = Vec::with_capacity(alloc, 1)?;
     loop {
         match behind_word(rest, "endcase") {
             Some(after) => return Ok((items, refusal, after)),
@@ -154,7 +155,8 @@ fn statements<'s, 't>(
     ensures flat { IfOk result (λ x. Each IsFlatStatement x.0.items) }
 {
     let mut rest = from_here(tokens)?;
-    let mut statements = Vec::new(alloc);
+    // Blocks that stand in one another have one statement each.
+    let mut statements = Vec::with_capacity(alloc, 1)?;
     loop {
         match behind_word(rest, "end") {
             Some(after) => return Ok((statements, after)),

@@ -47,7 +47,7 @@ fn in_module(alloc: Global, within: &Module<'_>, nets: &[BTreeSet<&str>], number
 /// Whether one stands as data in what is connected to the instance of a place.
 fn in_connections<'t, 's>(
     alloc: Global,
-    place: &Place<'t, 's>,
+    place: &'t Place<'t, 's>,
     nets: &[BTreeSet<&str>],
     interfaces: &Interfaces<'s>,
 ) -> Result<bool, AllocError>
@@ -67,7 +67,7 @@ fn in_connections<'t, 's>(
 /// Whether one stands as data in a place or in what is connected to its instance.
 fn at_place<'t, 's>(
     alloc: Global,
-    place: &Place<'t, 's>,
+    place: &'t Place<'t, 's>,
     nets: &[BTreeSet<&str>],
     interfaces: &Interfaces<'s>,
     number: usize,
@@ -85,7 +85,7 @@ fn at_place<'t, 's>(
 /// Whether one stands as data in one of these places.
 fn in_places<'t, 's>(
     alloc: Global,
-    places: &[Place<'t, 's>],
+    places: &'t [Place<'t, 's>],
     nets: &[BTreeSet<&str>],
     interfaces: &Interfaces<'s>,
 ) -> Result<bool, AllocError>
@@ -105,7 +105,7 @@ fn in_places<'t, 's>(
 /// 12.3.9), where these are the clock nets of its places. Answers `AllocError` where memory runs out.
 pub fn has_clock_as_data<'t, 's>(
     alloc: Global,
-    places: &[Place<'t, 's>],
+    places: &'t [Place<'t, 's>],
     nets: &[BTreeSet<&str>],
     interfaces: &Interfaces<'s>,
 ) -> Result<bool, AllocError>

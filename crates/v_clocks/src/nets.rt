@@ -44,7 +44,7 @@ fn add_uses<'s>(
 /// How clock nets stand in what is connected to the instance of a place, where these are those around it.
 pub(crate) fn uses_at<'t, 's>(
     alloc: Global,
-    place: &Place<'t, 's>,
+    place: &'t Place<'t, 's>,
     clocks: &BTreeSet<&str>,
     interfaces: &Interfaces<'s>,
 ) -> Result<Vec<Use<'s>>, AllocError>
@@ -96,7 +96,7 @@ fn ports_given<'n, 's: 'n>(alloc: Global, uses: &[Use<'s>]) -> Result<BTreeSet<&
 /// The clock nets of a place below a module with these ones.
 fn nets_below<'n, 't, 's: 'n>(
     alloc: Global,
-    place: &Place<'t, 's>,
+    place: &'t Place<'t, 's>,
     around: &BTreeSet<&str>,
     interfaces: &Interfaces<'s>,
 ) -> Result<BTreeSet<&'n str>, AllocError>
@@ -120,7 +120,7 @@ fn of_top<'s>(alloc: Global, clock: &'s str) -> Result<BTreeSet<&'s str>, AllocE
 /// The clock nets of the next place, after those of the ones before it. The first is the top.
 fn nets_next<'n, 't, 's: 'n>(
     alloc: Global,
-    place: &Place<'t, 's>,
+    place: &'t Place<'t, 's>,
     before: &[BTreeSet<&'n str>],
     interfaces: &Interfaces<'s>,
     clock: &'n str,
@@ -144,7 +144,7 @@ fn nets_next<'n, 't, 's: 'n>(
 /// The clock nets of each of these places, one after the other.
 fn all_nets<'n, 't, 's: 'n>(
     alloc: Global,
-    places: &[Place<'t, 's>],
+    places: &'t [Place<'t, 's>],
     interfaces: &Interfaces<'s>,
     clock: &'n str,
 ) -> Result<Vec<BTreeSet<&'n str>>, AllocError>
@@ -163,7 +163,7 @@ fn all_nets<'n, 't, 's: 'n>(
 /// whole connection is a clock net of the module around it. Answers `AllocError` where memory runs out.
 pub fn clock_nets<'n, 't, 's: 'n>(
     alloc: Global,
-    places: &[Place<'t, 's>],
+    places: &'t [Place<'t, 's>],
     interfaces: &Interfaces<'s>,
     clock: &'n str,
 ) -> Result<Vec<BTreeSet<&'n str>>, AllocError>

@@ -80,7 +80,7 @@ fn value_for<'g>(
         scope: &before.scope,
     };
     let given = override_of(given, form.is_local, value.name);
-    one(names, form, given, &value.value)
+    one(&value.value, names, form, given)
 }
 
 /// A parameter after those before it.
@@ -124,7 +124,7 @@ fn form_of(declaration: &ParameterDeclaration<'_>, before: &Valued<'_>) -> Form
     Form {
         is_local: declaration.is_local,
         signed: declaration.signed,
-        range: fitting(bounds_of(constants, &declaration.range)),
+        range: fitting(bounds_of(&declaration.range, constants)),
     }
 }
 

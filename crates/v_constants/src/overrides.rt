@@ -30,7 +30,7 @@ fn override_by<'s>(value: &Expression<'_>, around: Constants<'_, '_>, name: &'s 
     };
     Override {
         name,
-        value: parameter(names, false, Bounds::Absent, value),
+        value: parameter(value, names, false, Bounds::Absent),
     }
 }
 
@@ -169,7 +169,7 @@ fn overridable_names<'s>(below: &Module<'s>, alloc: Global) -> Result<Vec<&'s st
 
 /// What connections by order give the parameters of a module.
 fn ordered<'s>(
-    values: &[Option<Expression<'_>>],
+    values: &[Option<Expression<'s>>],
     below: &Module<'s>,
     alloc: Global,
     around: Constants<'_, '_>,
@@ -185,9 +185,9 @@ fn ordered<'s>(
 /// are constants, so it is the same whatever the module around declares besides.
 pub fn overrides_of<'s>(
     alloc: Global,
-    around: Constants<'_, '_>,
     given: &Connections<'s>,
     below: &Module<'s>,
+    around: Constants<'_, '_>,
 ) -> Result<Vec<Override<'s>>, AllocError>
     ensures { IfOk result (λ v. (m : pure.Module) (n : Name) → given_of v.items n ≡ known_overrides (known_module_scope m (objects_of around.entry.scope.now.declarations.items)) (connections_of given.now) (module_of below.now) n) }
 {

@@ -85,12 +85,12 @@ fn context_width(range: Bounds, own: Option<u32>) -> Option<u32>
 }
 
 /// Where a parameter's value stands: a constant, in the context of the range that is declared, if one is.
-fn place_of(names: Names<'_, '_>, range: Bounds, value: &Expression<'_>) -> Position
+fn place_of(value: &Expression<'_>, names: Names<'_, '_>, range: Bounds) -> Position
     requires { range_width range ≤ 128 }
     ensures { position_of result ≡ place_at (scope_at names.entry.scope.now) range (tree_of value.now) }
 {
-    let own = judged_in(names, Position::Anywhere, value);
-    let signed = sign_of(names.scope, value);
+    let own = judged_in(value, names, Position::Anywhere);
+    let signed = sign_of(value, names.scope);
     Position::Constant(context_width(range, own.1), signed)
 }
 
@@ -110,24 +110,24 @@ fn numbered(signed: bool, left: u32, right: u32, number: u128) -> Object
 }
 
 /// A parameter without a range, of this value.
-fn own_object(names: Names<'_, '_>, signed: bool, value: &Expression<'_>) -> Object
+fn own_object(value: &Expression<'_>, names: Names<'_, '_>, signed: bool) -> Object
     requires narrow { IsNarrow (scope_at names.scope.now) (tree_of value.now) }
     ensures value { object_of result ≡ own_at (scope_at names.entry.scope.now) signed (tree_of value.now) }
     ensures narrow { IsNarrowObject (object_of result) }
 {
-    let width = width_of(names.scope, value);
-    let own_sign = sign_of(names.scope, value);
-    let number = value_in_context(names.scope, &[], value, width, own_sign);
+    let width = width_of(value, names.scope);
+    let own_sign = sign_of(value, names.scope);
+    let number = value_in_context(value, names.scope, &[], width, own_sign);
     numbered(either(signed, own_sign), width.saturating_sub(1), 0, number)
 }
 
 /// A parameter with a range, of this value.
 fn ranged_object(
+    value: &Expression<'_>,
     names: Names<'_, '_>,
     signed: bool,
     left: u32,
     right: u32,
-    value: &Expression<'_>,
 ) -> Object
     requires fits { distance left right + 1 ≤ 128 }
     requires narrow { IsNarrow (scope_at names.scope.now) (tree_of value.now) }
@@ -135,18 +135,18 @@ fn ranged_object(
     ensures narrow { IsNarrowObject (object_of result) }
 {
     let width = bits_of(left, right);
-    let context = width.max(width_of(names.scope, value));
-    let own_sign = sign_of(names.scope, value);
-    let number = value_in_context(names.scope, &[], value, context, own_sign);
+    let context = width.max(width_of(value, names.scope));
+    let own_sign = sign_of(value, names.scope);
+    let number = value_in_context(value, names.scope, &[], context, own_sign);
     numbered(signed, left, right, Word::lowest_bits(width, number).value)
 }
 
 /// The parameter that a value makes, which breaks no rule in its place.
 fn valued(
+    value: &Expression<'_>,
     names: Names<'_, '_>,
     signed: bool,
     range: Bounds,
-    value: &Expression<'_>,
 ) -> Option<Object>
     requires fits { range_width range ≤ 128 }
     requires narrow { IsNarrow (scope_at names.scope.now) (tree_of value.now) }
@@ -154,29 +154,29 @@ fn valued(
     ensures narrow { IfSome result (λ o. IsNarrowObject (object_of o)) }
 {
     match range {
-        Bounds::Absent => Some(own_object(names, signed, value)),
+        Bounds::Absent => Some(own_object(value, names, signed)),
         Bounds::Unknown => None,
-        Bounds::Known(left, right) => Some(ranged_object(names, signed, left, right, value)),
+        Bounds::Known(left, right) => Some(ranged_object(value, names, signed, left, right)),
     }
 }
 
 /// A parameter of this value, where it has one.
 pub(crate) fn parameter(
+    value: &Expression<'_>,
     names: Names<'_, '_>,
     signed: bool,
     range: Bounds,
-    value: &Expression<'_>,
 ) -> Option<Object>
     requires { range_width range ≤ 128 }
     ensures value { option_map object_of result ≡ parameter_at (scope_at names.entry.scope.now) signed range (tree_of value.now) }
     ensures narrow { IfSome result (λ o. IsNarrowObject (object_of o)) }
 {
-    let place = place_of(names, range, value);
-    let judged = judged_in(names, place, value);
+    let place = place_of(value, names, range);
+    let judged = judged_in(value, names, place);
     if !is_unbroken(judged.0) {
         return None;
     }
-    valued(names, signed, range, value)
+    valued(value, names, signed, range)
 }
 
 /// A word in a wider context, with its sign bit where it is signed.
@@ -241,16 +241,16 @@ fn replaced(form: Form, given: Override<'_>) -> Option<Object>
 
 /// A parameter of this value, or overridden, where it has a value then.
 pub(crate) fn one(
+    value: &Expression<'_>,
     names: Names<'_, '_>,
     form: Form,
     given: Option<Override<'_>>,
-    value: &Expression<'_>,
 ) -> Option<Object>
     ensures value { option_map object_of result ≡ one_by (scope_at names.entry.scope.now) form.signed form.range (tree_of value.now) (option_map value_of given.entry) }
     ensures narrow { IfSome result (λ o. IsNarrowObject (object_of o)) }
 {
     match given {
         Some(given) => replaced(form, given),
-        None => parameter(names, form.signed, form.range, value),
+        None => parameter(value, names, form.signed, form.range),
     }
 }

@@ -114,7 +114,7 @@ fn one_copied(
         return 0;
     }
     let word = held_word(name, object, unsettled);
-    bits_of(word.value, select_bits(scope, &[], object, select)).value
+    bits_of(word.value, select_bits(select, scope, &[], object)).value
 }
 
 /// What a name with constant selects copies.
@@ -171,7 +171,7 @@ fn parts_width(parts: &[Expression<'_>], scope: &Scope<'_>) -> u32
 {
     let mut width = 0;
     for part in parts {
-        width += width_of(scope, part);
+        width += width_of(part, scope);
     }
     width
 }
@@ -195,7 +195,7 @@ pub(crate) fn copied(
         Expression::Replication(_, parts) => repeated(
             parts_copied(parts, scope, unsettled),
             parts_width(parts, scope),
-            width_of(scope, expression),
+            width_of(expression, scope),
         ),
         Expression::AsSigned(_) => 0,
         Expression::AsUnsigned(_) => 0,
@@ -223,7 +223,7 @@ fn parts_copied(
 {
     let mut mask = 0;
     for part in parts {
-        let width = width_of(scope, part);
+        let width = width_of(part, scope);
         mask = beside(mask, copied(part, scope, unsettled), width);
     }
     mask

@@ -131,10 +131,10 @@ fn part_span(selects: &Selects<'_>, name: &str, scope: &Scope<'_>) -> Span
             if object.addresses.is_some() {
                 whole_span(object)
             } else {
-                select_bits(scope, &[], object, select)
+                select_bits(select, scope, &[], object)
             }
         }
-        Selects::Two(_, select) => select_bits(scope, &[], object, select),
+        Selects::Two(_, select) => select_bits(select, scope, &[], object),
     }
 }
 
@@ -150,7 +150,7 @@ fn reached_bits(
     ensures { IfOk result (λ m. (b : ℕ) → is_set m b ≡ existing (scope_at scope.now) (may_reach (scope_at scope.now) (target_of target.now)) name.now zero b) }
 {
     let mut spans = Vec::new(alloc);
-    add_reached(scope, target, &mut spans)?;
+    add_reached(target, scope, &mut spans)?;
     let table = masks_of(alloc, &spans)?;
     Ok(mask_under(&table, name))
 }
@@ -167,7 +167,7 @@ fn sure_bits(
     ensures { IfOk result (λ m. (b : ℕ) → is_set m b ≡ existing (scope_at scope.now) (surely_reaches (scope_at scope.now) (target_of target.now)) name.now zero b) }
 {
     let mut spans = Vec::new(alloc);
-    add_surely_reached(scope, target, &mut spans)?;
+    add_surely_reached(target, scope, &mut spans)?;
     let table = masks_of(alloc, &spans)?;
     Ok(mask_under(&table, name))
 }

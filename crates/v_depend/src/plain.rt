@@ -41,7 +41,7 @@ pub(crate) fn is_plain(expression: &Expression<'_>, scope: &Scope<'_>) -> bool
 {
     match expression {
         Expression::Number(_) => true,
-        Expression::Name(_, selects) => are_constant_selects(scope, selects),
+        Expression::Name(_, selects) => are_constant_selects(selects, scope),
         Expression::Concatenation(parts) => are_plain(parts, scope),
         Expression::Replication(_, parts) => are_plain(parts, scope),
         Expression::AsSigned(_) => false,

@@ -57,7 +57,7 @@ pub fn rests(
     ensures { IfOk result (λ r. IsTrue r ↔ OneIsUnsettled (masked unsettled.now) (reads (scope_at scope.now) (tree_of expression.now))) }
 {
     let mut spans = Vec::new(alloc);
-    add_reads(scope, expression, &mut spans)?;
+    add_reads(expression, scope, &mut spans)?;
     let met = meets(&spans, unsettled);
     Ok(met)
 }
@@ -74,7 +74,7 @@ pub(crate) fn index_rests(
     ensures { IfOk result (λ r. IsTrue r ↔ OneIsUnsettled (masked unsettled.now) (target_reads (scope_at scope.now) (target_of target.now))) }
 {
     let mut spans = Vec::new(alloc);
-    add_target_reads(scope, target, &mut spans)?;
+    add_target_reads(target, scope, &mut spans)?;
     let met = meets(&spans, unsettled);
     Ok(met)
 }

@@ -44,7 +44,7 @@ fn add_assigned_bits<'s>(
     ensures { OnOk result (masked assigned.new ≡ or_in (masked assigned.old) (spread (existing (scope_at scope.now) (may_assign (scope_at scope.now) (statement_of statement.now))))) }
 {
     let mut spans = Vec::new(alloc);
-    add_assigned(scope, statement, &mut spans)?;
+    add_assigned(statement, scope, &mut spans)?;
     add_spans(assigned, &spans)?;
     Ok(())
 }
@@ -60,7 +60,7 @@ fn add_all_reads<'s>(
     ensures { OnOk result (bits_in found.new.items ≡ or_in (bits_in found.old.items) (reads_in_all (scope_at scope.now) (expressions_of expressions.now))) }
 {
     for expression in expressions {
-        add_reads(scope, expression, found)?;
+        add_reads(expression, scope, found)?;
     }
     Ok(())
 }
@@ -111,7 +111,7 @@ fn choice_rests<'s>(
     ensures { IfOk result (λ r. IsTrue r ↔ OneIsUnsettled (masked unsettled.now) (or_in (reads (scope_at scope.now) (tree_of value.now)) (items_read (scope_at scope.now) (item_list items.now)))) }
 {
     let mut spans = Vec::new(alloc);
-    add_reads(scope, value, &mut spans)?;
+    add_reads(value, scope, &mut spans)?;
     add_labels(items, scope, &mut spans)?;
     let met = meets(&spans, unsettled);
     Ok(met)
@@ -191,7 +191,7 @@ fn run<'s>(
             }
         },
         Statement::Case(kind, value, items) => {
-            let full = is_full(alloc, scope, *kind, value, items)?;
+            let full = is_full(alloc, value, items, scope, *kind)?;
             let rests = choice_rests(alloc, value, items, scope, unsettled)?;
             let mut left = unmatched(alloc, full, unsettled)?;
             let mut assigned = BTreeMap::new(alloc);

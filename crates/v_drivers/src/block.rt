@@ -22,8 +22,8 @@ use v_value::scope::Scope;
 /// Adds what a block drives, as one driver.
 fn add_block<'s>(
     alloc: Global,
-    scope: &Scope<'_>,
     block: &Statement<'s>,
+    scope: &Scope<'_>,
     drivers: &mut Vec<Vec<Span<'s>>>,
 ) -> Result<(), AllocError>
     requires objects { HasNarrowObjects (scope_at scope.now) }
@@ -31,7 +31,7 @@ fn add_block<'s>(
     ensures { OnOk result (sets_in drivers.new.items ≡ sets_in drivers.old.items ++ assigned_by (scope_at scope.now) (statement_of block.now) ∷ []) }
 {
     let mut spans = Vec::new(alloc);
-    add_assigned(scope, block, &mut spans)?;
+    add_assigned(block, scope, &mut spans)?;
     drivers.push(spans)?;
     Ok(())
 }
@@ -39,8 +39,8 @@ fn add_block<'s>(
 /// Adds what an item drives that is a clocked block.
 fn add_if_clocked<'s>(
     alloc: Global,
-    scope: &Scope<'_>,
     item: &Item<'s>,
+    scope: &Scope<'_>,
     drivers: &mut Vec<Vec<Span<'s>>>,
 ) -> Result<(), AllocError>
     requires objects { HasNarrowObjects (scope_at scope.now) }
@@ -52,7 +52,7 @@ fn add_if_clocked<'s>(
             if !is_clocked(events) {
                 return Ok(());
             }
-            add_block(alloc, scope, block, drivers)
+            add_block(alloc, block, scope, drivers)
         }
         Item::Port(_)
         | Item::Parameter(_)
@@ -66,8 +66,8 @@ fn add_if_clocked<'s>(
 /// Adds what an item drives that is a block without a clock.
 fn add_if_combinational<'s>(
     alloc: Global,
-    scope: &Scope<'_>,
     item: &Item<'s>,
+    scope: &Scope<'_>,
     drivers: &mut Vec<Vec<Span<'s>>>,
 ) -> Result<(), AllocError>
     requires objects { HasNarrowObjects (scope_at scope.now) }
@@ -79,7 +79,7 @@ fn add_if_combinational<'s>(
             if is_clocked(events) {
                 return Ok(());
             }
-            add_block(alloc, scope, block, drivers)
+            add_block(alloc, block, scope, drivers)
         }
         Item::Port(_)
         | Item::Parameter(_)
@@ -93,8 +93,8 @@ fn add_if_combinational<'s>(
 /// Adds the clocked blocks.
 pub(crate) fn add_clocked<'s>(
     alloc: Global,
-    scope: &Scope<'_>,
     items: &[Item<'s>],
+    scope: &Scope<'_>,
     drivers: &mut Vec<Vec<Span<'s>>>,
 ) -> Result<(), AllocError>
     requires objects { HasNarrowObjects (scope_at scope.now) }
@@ -102,7 +102,7 @@ pub(crate) fn add_clocked<'s>(
     ensures { OnOk result (sets_in drivers.new.items ≡ sets_in drivers.old.items ++ blocks_drivers (scope_at scope.now) (clocked_blocks (map item_of items.now))) }
 {
     for item in items {
-        add_if_clocked(alloc, scope, item, drivers)?;
+        add_if_clocked(alloc, item, scope, drivers)?;
     }
     Ok(())
 }
@@ -110,8 +110,8 @@ pub(crate) fn add_clocked<'s>(
 /// Adds the blocks without a clock.
 pub(crate) fn add_combinational<'s>(
     alloc: Global,
-    scope: &Scope<'_>,
     items: &[Item<'s>],
+    scope: &Scope<'_>,
     drivers: &mut Vec<Vec<Span<'s>>>,
 ) -> Result<(), AllocError>
     requires objects { HasNarrowObjects (scope_at scope.now) }
@@ -119,7 +119,7 @@ pub(crate) fn add_combinational<'s>(
     ensures { OnOk result (sets_in drivers.new.items ≡ sets_in drivers.old.items ++ blocks_drivers (scope_at scope.now) (combinational_blocks (map item_of items.now))) }
 {
     for item in items {
-        add_if_combinational(alloc, scope, item, drivers)?;
+        add_if_combinational(alloc, item, scope, drivers)?;
     }
     Ok(())
 }

@@ -22,8 +22,8 @@ use v_value::scope::Scope;
 /// Adds what a part of a target drives, as one driver.
 fn add_part<'s>(
     alloc: Global,
-    scope: &Scope<'_>,
     target: &Target<'s>,
+    scope: &Scope<'_>,
     drivers: &mut Vec<Vec<Span<'s>>>,
 ) -> Result<(), AllocError>
     requires objects { HasNarrowObjects (scope_at scope.now) }
@@ -31,7 +31,7 @@ fn add_part<'s>(
     ensures { OnOk result (sets_in drivers.new.items ≡ sets_in drivers.old.items ++ reached_by (scope_at scope.now) (target_of target.now) ∷ []) }
 {
     let mut spans = Vec::new(alloc);
-    add_reached(scope, target, &mut spans)?;
+    add_reached(target, scope, &mut spans)?;
     drivers.push(spans)?;
     Ok(())
 }
@@ -39,8 +39,8 @@ fn add_part<'s>(
 #[cycle(parts)]
 fn add_target<'s>(
     alloc: Global,
-    scope: &Scope<'_>,
     target: &Target<'s>,
+    scope: &Scope<'_>,
     drivers: &mut Vec<Vec<Span<'s>>>,
 ) -> Result<(), AllocError>
     requires objects { HasNarrowObjects (scope_at scope.now) }
@@ -48,16 +48,16 @@ fn add_target<'s>(
     ensures { OnOk result (sets_in drivers.new.items ≡ sets_in drivers.old.items ++ target_drivers (scope_at scope.now) (target_of target.now)) }
 {
     match target {
-        Target::Place(_, _) => add_part(alloc, scope, target, drivers),
-        Target::Joined(targets) => add_targets(alloc, scope, targets, drivers),
+        Target::Place(_, _) => add_part(alloc, target, scope, drivers),
+        Target::Joined(targets) => add_targets(alloc, targets, scope, drivers),
     }
 }
 
 #[cycle(parts)]
 fn add_targets<'s>(
     alloc: Global,
-    scope: &Scope<'_>,
     targets: &[Target<'s>],
+    scope: &Scope<'_>,
     drivers: &mut Vec<Vec<Span<'s>>>,
 ) -> Result<(), AllocError>
     requires objects { HasNarrowObjects (scope_at scope.now) }
@@ -65,7 +65,7 @@ fn add_targets<'s>(
     ensures { OnOk result (sets_in drivers.new.items ≡ sets_in drivers.old.items ++ targets_drivers (scope_at scope.now) (target_list targets.now)) }
 {
     for target in targets {
-        add_target(alloc, scope, target, drivers)?;
+        add_target(alloc, target, scope, drivers)?;
     }
     Ok(())
 }
@@ -73,8 +73,8 @@ fn add_targets<'s>(
 /// Adds the drivers of continuous assignments.
 fn add_assignments<'s>(
     alloc: Global,
-    scope: &Scope<'_>,
     assignments: &[Assignment<'s>],
+    scope: &Scope<'_>,
     drivers: &mut Vec<Vec<Span<'s>>>,
 ) -> Result<(), AllocError>
     requires objects { HasNarrowObjects (scope_at scope.now) }
@@ -82,7 +82,7 @@ fn add_assignments<'s>(
     ensures { OnOk result (sets_in drivers.new.items ≡ sets_in drivers.old.items ++ assignments_drivers (scope_at scope.now) (links_of assignments.now)) }
 {
     for assignment in assignments {
-        add_target(alloc, scope, &assignment.target, drivers)?;
+        add_target(alloc, &assignment.target, scope, drivers)?;
     }
     Ok(())
 }
@@ -90,8 +90,8 @@ fn add_assignments<'s>(
 /// Adds the driver that a net with a value has.
 fn add_wire<'s>(
     alloc: Global,
-    scope: &Scope<'_>,
     wire: &Wire<'s>,
+    scope: &Scope<'_>,
     drivers: &mut Vec<Vec<Span<'s>>>,
 ) -> Result<(), AllocError>
     requires objects { HasNarrowObjects (scope_at scope.now) }
@@ -102,14 +102,14 @@ fn add_wire<'s>(
         return Ok(());
     }
     let target = Target::Place(wire.name, Selects::Whole);
-    add_target(alloc, scope, &target, drivers)
+    add_target(alloc, &target, scope, drivers)
 }
 
 /// Adds the drivers of a declaration of nets.
 fn add_wires<'s>(
     alloc: Global,
-    scope: &Scope<'_>,
     wires: &[Wire<'s>],
+    scope: &Scope<'_>,
     drivers: &mut Vec<Vec<Span<'s>>>,
 ) -> Result<(), AllocError>
     requires objects { HasNarrowObjects (scope_at scope.now) }
@@ -117,7 +117,7 @@ fn add_wires<'s>(
     ensures { OnOk result (sets_in drivers.new.items ≡ sets_in drivers.old.items ++ assignments_drivers (scope_at scope.now) (wire_links wires.now)) }
 {
     for wire in wires {
-        add_wire(alloc, scope, wire, drivers)?;
+        add_wire(alloc, wire, scope, drivers)?;
     }
     Ok(())
 }
@@ -125,8 +125,8 @@ fn add_wires<'s>(
 /// Adds the drivers of an item's continuous assignments.
 fn add_item<'s>(
     alloc: Global,
-    scope: &Scope<'_>,
     item: &Item<'s>,
+    scope: &Scope<'_>,
     drivers: &mut Vec<Vec<Span<'s>>>,
 ) -> Result<(), AllocError>
     requires objects { HasNarrowObjects (scope_at scope.now) }
@@ -134,8 +134,8 @@ fn add_item<'s>(
     ensures { OnOk result (sets_in drivers.new.items ≡ sets_in drivers.old.items ++ assignments_drivers (scope_at scope.now) (assignments (item_of item.now ∷ []))) }
 {
     match item {
-        Item::Wires(_, _, wires) => add_wires(alloc, scope, wires, drivers),
-        Item::Assign(assignments) => add_assignments(alloc, scope, assignments, drivers),
+        Item::Wires(_, _, wires) => add_wires(alloc, wires, scope, drivers),
+        Item::Assign(assignments) => add_assignments(alloc, assignments, scope, drivers),
         Item::Port(_)
         | Item::Parameter(_)
         | Item::Variables(_, _, _)
@@ -147,8 +147,8 @@ fn add_item<'s>(
 /// Adds the drivers of all continuous assignments.
 pub(crate) fn add_links<'s>(
     alloc: Global,
-    scope: &Scope<'_>,
     items: &[Item<'s>],
+    scope: &Scope<'_>,
     drivers: &mut Vec<Vec<Span<'s>>>,
 ) -> Result<(), AllocError>
     requires objects { HasNarrowObjects (scope_at scope.now) }
@@ -156,7 +156,7 @@ pub(crate) fn add_links<'s>(
     ensures { OnOk result (sets_in drivers.new.items ≡ sets_in drivers.old.items ++ assignments_drivers (scope_at scope.now) (assignments (map item_of items.now))) }
 {
     for item in items {
-        add_item(alloc, scope, item, drivers)?;
+        add_item(alloc, item, scope, drivers)?;
     }
     Ok(())
 }

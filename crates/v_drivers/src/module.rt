@@ -20,17 +20,17 @@ use v_value::scope::Scope;
 /// assignment's target, then the clocked blocks, then the others, each kind in the order of the text.
 pub fn drivers_of<'s>(
     alloc: Global,
-    scope: &Scope<'_>,
     items: &[Item<'s>],
+    scope: &Scope<'_>,
 ) -> Result<Vec<Vec<Span<'s>>>, AllocError>
     requires objects { HasNarrowObjects (scope_at scope.now) }
     requires narrow { AreNarrowItems (scope_at scope.now) (map item_of items.now) }
     ensures { IfOk result (λ v. sets_in v.items ≡ drivers (scope_at scope.now) (map item_of items.now)) }
 {
     let mut found = Vec::new(alloc);
-    add_links(alloc, scope, items, &mut found)?;
-    add_clocked(alloc, scope, items, &mut found)?;
-    add_combinational(alloc, scope, items, &mut found)?;
+    add_links(alloc, items, scope, &mut found)?;
+    add_clocked(alloc, items, scope, &mut found)?;
+    add_combinational(alloc, items, scope, &mut found)?;
     Ok(found)
 }
 
@@ -38,14 +38,14 @@ pub fn drivers_of<'s>(
 /// driver is a part of a continuous assignment's target, or a block. The module has no instances.
 pub fn has_two_drivers(
     alloc: Global,
-    scope: &Scope<'_>,
     items: &[Item<'_>],
+    scope: &Scope<'_>,
 ) -> Result<bool, AllocError>
     requires objects { HasNarrowObjects (scope_at scope.now) }
     requires narrow { AreNarrowItems (scope_at scope.now) (map item_of items.now) }
     ensures { IfOk result (λ r. IsTrue r ↔ TwoMeet (scope_at scope.now) (drivers (scope_at scope.now) (map item_of items.now))) }
 {
-    let found = drivers_of(alloc, scope, items)?;
+    let found = drivers_of(alloc, items, scope)?;
     let meet = two_meet(alloc, scope, &found)?;
     Ok(meet)
 }

@@ -46,8 +46,8 @@ fn clocked_statement<'t, 's>(item: &'t Item<'s>) -> Option<&'t Statement<'s>>
 /// The block of an item, where it is a clocked one.
 fn lower_item<'s>(
     alloc: Global,
-    scope: &Scope<'_>,
     item: &Item<'s>,
+    scope: &Scope<'_>,
     table: &mut NamedTerms<'s>,
     next: &mut NamedTerms<'s>,
     terms: &mut Terms,
@@ -62,7 +62,7 @@ fn lower_item<'s>(
 {
     match clocked_statement(item) {
         Some(statement) => {
-            lower_statement(alloc, scope, statement, table, next, terms)?;
+            lower_statement(alloc, statement, scope, table, next, terms)?;
             Ok(())
         }
         None => Ok(()),
@@ -72,8 +72,8 @@ fn lower_item<'s>(
 /// The blocks of items.
 fn lower_items<'s>(
     alloc: Global,
-    scope: &Scope<'_>,
     items: &[Item<'s>],
+    scope: &Scope<'_>,
     table: &mut NamedTerms<'s>,
     next: &mut NamedTerms<'s>,
     terms: &mut Terms,
@@ -87,7 +87,7 @@ fn lower_items<'s>(
     ensures updated { OnOk result (AreUpdated (scope_at scope.now) (images_at table.old) (images_at next.old) terms.old (clocked_blocks (map item_of items.now)) (images_at table.new) (images_at next.new) terms.new) }
 {
     for item in items {
-        lower_item(alloc, scope, item, table, next, terms)?;
+        lower_item(alloc, item, scope, table, next, terms)?;
     }
     Ok(())
 }
@@ -97,8 +97,8 @@ fn lower_items<'s>(
 /// what they were. Where memory runs out, the store is as it was, and the tables may have any terms.
 pub fn lower_edge<'s>(
     alloc: Global,
-    scope: &Scope<'_>,
     items: &[Item<'s>],
+    scope: &Scope<'_>,
     table: &mut NamedTerms<'s>,
     next: &mut NamedTerms<'s>,
     terms: &mut Terms,
@@ -113,7 +113,7 @@ pub fn lower_edge<'s>(
     ensures kept { OnErr result (terms.new ≡ terms.old) }
 {
     let before = terms.len();
-    match lower_items(alloc, scope, items, table, next, terms) {
+    match lower_items(alloc, items, scope, table, next, terms) {
         Ok(()) => Ok(()),
         Err(_) => {
             terms.cut(before);

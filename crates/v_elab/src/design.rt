@@ -25,10 +25,10 @@ use v_value::scope::Scope;
 /// The terms of what names settle to, and of registers after the clock's edge.
 fn lowered<'s>(
     alloc: Global,
+    items: &[Item<'s>],
     declared: Vec<&'s str>,
     names: &ModuleScope<'_>,
     scope: &Scope<'s>,
-    items: &[Item<'s>],
     clock: &str,
 ) -> Result<Begun<'s>, NoMemory>
     requires { IsElaborable (body_in (scope_at scope.now) (map item_of items.now) (map (λ n. n.now) declared.items)) (is_data_input names.now clock.now) }
@@ -36,7 +36,7 @@ fn lowered<'s>(
     ensures lowered { IfOk result (λ r. IsLowered (body_in (scope_at scope.now) (map item_of items.now) (map (λ n. n.now) declared.entry.items)) (is_data_input names.now clock.now)
         (map counted_of r.sorted.registers.items) r.terms (images_at r.table) (images_at r.next)) }
 {
-    let begun = begin(alloc, declared, names, scope, items, clock)?;
+    let begun = begin(alloc, items, declared, names, scope, clock)?;
     let mut terms = begun.terms;
     let mut table = begun.table;
     let mut next = begun.next;
@@ -45,7 +45,7 @@ fn lowered<'s>(
         // What can be elaborated has no loop.
         unreachable!();
     }
-    lower_edge(alloc, scope, items, &mut table, &mut next, &mut terms)?;
+    lower_edge(alloc, items, scope, &mut table, &mut next, &mut terms)?;
     Ok(Begun {
         sorted: begun.sorted,
         terms,
@@ -58,10 +58,10 @@ fn lowered<'s>(
 /// says, but the clock.
 pub(crate) fn design_in<'s>(
     alloc: Global,
+    items: &[Item<'s>],
     declared: Vec<&'s str>,
     names: &ModuleScope<'_>,
     scope: &Scope<'s>,
-    items: &[Item<'s>],
     clock: &str,
     outputs: Vec<String>,
 ) -> Result<Design, NoMemory>
@@ -69,7 +69,7 @@ pub(crate) fn design_in<'s>(
     ensures { IfOk result (λ r. IsElaborated (body_in (scope_at scope.now) (map item_of items.now) (map (λ n. n.now) declared.entry.items)) (is_data_input names.now clock.now)
         (map string_bytes outputs.items) (parts_of r)) }
 {
-    let begun = lowered(alloc, declared, names, scope, items, clock)?;
+    let begun = lowered(alloc, items, declared, names, scope, clock)?;
     let settled = settled_of(alloc, scope, &begun.table, &begun.sorted.declared)?;
     let next = next_of(alloc, &begun.next, &begun.sorted.registers)?;
     let bits = bits_of(alloc, scope, &begun.sorted.registers)?;

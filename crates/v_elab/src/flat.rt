@@ -37,8 +37,8 @@ fn items_of<'x, 'a>(flat: &'x FlatDesign<'a>) -> &'x [Item<'a>]
 }
 
 /// A design in one scope, whose nets and variables are these and whose top is the module at a place.
-fn design_below<'a>(
-    top: &Place<'_, '_>,
+fn design_below<'t, 'a>(
+    top: &'t Place<'t, '_>,
     flat: &FlatDesign<'a>,
     alloc: Global,
     declared: Vec<&'a str>,
@@ -51,16 +51,16 @@ fn design_below<'a>(
     let constants = Constants {
         scope: &top.constants,
     };
-    let names = declared_scope(alloc, constants, top.within)?;
-    let outputs = outputs_of(alloc, &names, top.within)?;
+    let names = declared_scope(alloc, top.within, constants)?;
+    let outputs = outputs_of(alloc, top.within, &names)?;
     let items = items_of(flat);
-    let design = design_in(alloc, declared, &names, &flat.scope, items, clock, outputs)?;
+    let design = design_in(alloc, items, declared, &names, &flat.scope, clock, outputs)?;
     Ok(design)
 }
 
 /// The design that stands at these places, where its names have these dotted names.
-fn dotted_design<'a, 's: 'a>(
-    places: &[Place<'_, 's>],
+fn dotted_design<'t, 'a, 's: 'a>(
+    places: &'t [Place<'t, 's>],
     names: &'a DottedNames<'a>,
     interfaces: &Interfaces<'s>,
     alloc: Global,
@@ -85,8 +85,8 @@ fn dotted_design<'a, 's: 'a>(
 }
 
 /// The design that stands at these places, where the modules of its source have these interfaces.
-pub(crate) fn placed_design<'s>(
-    places: &[Place<'_, 's>],
+pub(crate) fn placed_design<'t, 's>(
+    places: &'t [Place<'t, 's>],
     interfaces: &Interfaces<'s>,
     alloc: Global,
     clock: &str,

@@ -85,8 +85,8 @@ fn outputs_among(
 /// The outputs of a module, in the order of its ports.
 pub(crate) fn outputs_of(
     alloc: Global,
-    names: &ModuleScope<'_>,
     within: &Module<'_>,
+    names: &ModuleScope<'_>,
 ) -> Result<Vec<String>, NoMemory>
     requires { (s : Scope) × IsScopeIn s names.now (module_of within.now) }
     ensures { IfOk result (λ v. map string_bytes v.items ≡ outputs_of (module_of within.now)) }

@@ -44,10 +44,10 @@ pub(crate) struct Begun<'s> {
 /// The names of a module by what they are.
 pub(crate) fn names_by_kind<'s>(
     alloc: Global,
+    items: &[Item<'s>],
     declared: Vec<&'s str>,
     names: &ModuleScope<'_>,
     scope: &Scope<'_>,
-    items: &[Item<'s>],
     clock: &str,
 ) -> Result<Sorted<'s>, NoMemory>
     requires objects { HasNarrowObjects (scope_at scope.now) }
@@ -56,7 +56,7 @@ pub(crate) fn names_by_kind<'s>(
     ensures sorted { IfOk result (λ r. AreSorted (scope_at scope.now) (clocked_blocks (map item_of items.now)) (is_data_input names.now clock.now)
         (map (λ n. n.now) declared.entry.items) (map counted_of r.registers.items) (map (λ n. n.now) r.stored.items) (map (λ n. n.now) r.others.items)) }
 {
-    let split = registers_among(alloc, &declared, scope, items)?;
+    let split = registers_among(alloc, items, &declared, scope)?;
     let found = inputs_among(alloc, names, clock, &split.others)?;
     let stored = names_of_store(alloc, &split.registers, &found.inputs)?;
     Ok(Sorted {
@@ -70,10 +70,10 @@ pub(crate) fn names_by_kind<'s>(
 /// The store of registers and inputs, and the tables at the start.
 pub(crate) fn begin<'s>(
     alloc: Global,
+    items: &[Item<'s>],
     declared: Vec<&'s str>,
     names: &ModuleScope<'_>,
     scope: &Scope<'_>,
-    items: &[Item<'s>],
     clock: &str,
 ) -> Result<Begun<'s>, NoMemory>
     requires objects { HasNarrowObjects (scope_at scope.now) }
@@ -84,7 +84,7 @@ pub(crate) fn begin<'s>(
     ensures begun { IfOk result (λ r. HasBegun (scope_at scope.now) (clocked_blocks (map item_of items.now)) (is_data_input names.now clock.now)
         (map (λ n. n.now) declared.entry.items) (map counted_of r.sorted.registers.items) r.terms (images_at r.table) (images_at r.next)) }
 {
-    let sorted = names_by_kind(alloc, declared, names, scope, items, clock)?;
+    let sorted = names_by_kind(alloc, items, declared, names, scope, clock)?;
     let mut terms = store_of(alloc, scope, &sorted.stored)?;
     let mut table = NamedTerms::new(alloc);
     let mut next = NamedTerms::new(alloc);

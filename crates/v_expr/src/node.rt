@@ -30,7 +30,7 @@ fn with_link<'s>(
         }
         first => {
             let first = Box::new(alloc, first)?;
-            let mut links = Vec::new(alloc);
+            let mut links = Vec::with_capacity(alloc, 1)?;
             links.push(link)?;
             Ok(Expression::Binary(first, links))
         }
@@ -54,7 +54,7 @@ fn with_test<'s>(
         }
         first => {
             let first = Box::new(alloc, first)?;
-            let mut links = Vec::new(alloc);
+            let mut links = Vec::with_capacity(alloc, 1)?;
             links.push(link)?;
             Ok(Expression::Test(first, links))
         }

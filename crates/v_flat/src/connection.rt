@@ -17,9 +17,9 @@ use v_syntax::module::{Assignment, Connections, Direction, NamedConnection};
 use v_syntax::tree::{Expression, Selects, Target};
 
 /// Adds the assignment of an expression to an input.
-fn add_into<'a, 's: 'a>(
-    expression: &Expression<'s>,
-    port: &'s str,
+fn add_into<'a>(
+    expression: &Expression<'a>,
+    port: &'a str,
     names: &Names<'a>,
     below: &Names<'a>,
     list: &mut Vec<Assignment<'a>>,
@@ -34,9 +34,9 @@ fn add_into<'a, 's: 'a>(
 }
 
 /// Adds the assignment of an output to what is connected to it, if this is a target.
-fn add_from<'a, 's: 'a>(
-    expression: &Expression<'s>,
-    port: &'s str,
+fn add_from<'a>(
+    expression: &Expression<'a>,
+    port: &'a str,
     names: &Names<'a>,
     below: &Names<'a>,
     list: &mut Vec<Assignment<'a>>,
@@ -56,9 +56,9 @@ fn add_from<'a, 's: 'a>(
 }
 
 /// Adds what is connected to a port of this direction, if it is the one that is asked for.
-fn add_way<'a, 's: 'a>(
-    expression: &Expression<'s>,
-    port: &'s str,
+fn add_way<'a>(
+    expression: &Expression<'a>,
+    port: &'a str,
     found: Direction,
     way: Direction,
     names: &Names<'a>,
@@ -94,11 +94,11 @@ fn direction_under(interface: &Interface<'_>, port: &str) -> Option<Direction>
 }
 
 /// Adds what is connected to the port of this name, if it has the direction that is asked for.
-fn add_port<'a, 's: 'a>(
-    expression: &Expression<'s>,
-    port: &'s str,
+fn add_port<'a>(
+    expression: &Expression<'a>,
+    port: &'a str,
     way: Direction,
-    interface: &Interface<'s>,
+    interface: &Interface<'a>,
     names: &Names<'a>,
     below: &Names<'a>,
     list: &mut Vec<Assignment<'a>>,
@@ -117,10 +117,10 @@ fn add_port<'a, 's: 'a>(
 }
 
 /// Adds what is connected by name, if anything is.
-fn add_named<'a, 's: 'a>(
-    connection: &NamedConnection<'s>,
+fn add_named<'a>(
+    connection: &NamedConnection<'a>,
     way: Direction,
-    interface: &Interface<'s>,
+    interface: &Interface<'a>,
     names: &Names<'a>,
     below: &Names<'a>,
     list: &mut Vec<Assignment<'a>>,
@@ -148,10 +148,10 @@ fn add_named<'a, 's: 'a>(
 }
 
 /// Adds connections by name.
-fn add_all_named<'a, 's: 'a>(
-    connections: &[NamedConnection<'s>],
+fn add_all_named<'a>(
+    connections: &[NamedConnection<'a>],
     way: Direction,
-    interface: &Interface<'s>,
+    interface: &Interface<'a>,
     names: &Names<'a>,
     below: &Names<'a>,
     list: &mut Vec<Assignment<'a>>,
@@ -167,11 +167,11 @@ fn add_all_named<'a, 's: 'a>(
 }
 
 /// Adds what is connected to the port at a place of the module's list, if there is one.
-fn add_numbered<'a, 's: 'a>(
-    expression: &Expression<'s>,
+fn add_numbered<'a>(
+    expression: &Expression<'a>,
     place: usize,
     way: Direction,
-    interface: &Interface<'s>,
+    interface: &Interface<'a>,
     names: &Names<'a>,
     below: &Names<'a>,
     list: &mut Vec<Assignment<'a>>,
@@ -190,11 +190,11 @@ fn add_numbered<'a, 's: 'a>(
 }
 
 /// Adds what is connected by place, if anything is.
-fn add_entry<'a, 's: 'a>(
-    entry: &Option<Expression<'s>>,
+fn add_entry<'a>(
+    entry: &Option<Expression<'a>>,
     place: usize,
     way: Direction,
-    interface: &Interface<'s>,
+    interface: &Interface<'a>,
     names: &Names<'a>,
     below: &Names<'a>,
     list: &mut Vec<Assignment<'a>>,
@@ -213,10 +213,10 @@ fn add_entry<'a, 's: 'a>(
 }
 
 /// Adds connections by place.
-fn add_all_ordered<'a, 's: 'a>(
-    entries: &[Option<Expression<'s>>],
+fn add_all_ordered<'a>(
+    entries: &[Option<Expression<'a>>],
     way: Direction,
-    interface: &Interface<'s>,
+    interface: &Interface<'a>,
     names: &Names<'a>,
     below: &Names<'a>,
     list: &mut Vec<Assignment<'a>>,
@@ -232,10 +232,10 @@ fn add_all_ordered<'a, 's: 'a>(
 }
 
 /// Adds the connections of an instance to ports of one direction.
-pub(crate) fn add_connections<'a, 's: 'a>(
-    connections: &Connections<'s>,
+pub(crate) fn add_connections<'a>(
+    connections: &Connections<'a>,
     way: Direction,
-    interface: &Interface<'s>,
+    interface: &Interface<'a>,
     names: &Names<'a>,
     below: &Names<'a>,
     list: &mut Vec<Assignment<'a>>,

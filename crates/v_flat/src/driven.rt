@@ -20,12 +20,12 @@ use v_syntax::module::{Assignment, Direction, Item};
 
 /// Adds the connections of a place's instance to ports of one direction, with these new names around it and for its own names. The top
 /// has none.
-pub(crate) fn add_between<'a, 's: 'a>(
-    place: &Place<'_, 's>,
+pub(crate) fn add_between<'t, 'a>(
+    place: &'t Place<'t, 'a>,
     way: Direction,
     around: &Names<'a>,
     own: &Names<'a>,
-    interfaces: &Interfaces<'s>,
+    interfaces: &Interfaces<'a>,
     list: &mut Vec<Assignment<'a>>,
     alloc: Global,
 ) -> Result<(), AllocError>
@@ -52,12 +52,12 @@ pub(crate) fn add_between<'a, 's: 'a>(
 }
 
 /// Adds the connections of a place's instance to ports of one direction, where its own names are those of `own`. The top has none.
-fn add_links<'a, 's: 'a>(
-    place: &Place<'_, 's>,
+fn add_links<'t, 'a>(
+    place: &'t Place<'t, 'a>,
     way: Direction,
     own: &Names<'a>,
     tables: &[Names<'a>],
-    interfaces: &Interfaces<'s>,
+    interfaces: &Interfaces<'a>,
     list: &mut Vec<Assignment<'a>>,
     alloc: Global,
 ) -> Result<(), AllocError>
@@ -72,11 +72,11 @@ fn add_links<'a, 's: 'a>(
 }
 
 /// What the outputs of a place's instance drive.
-fn outputs<'a, 's: 'a>(
-    place: &Place<'_, 's>,
+fn outputs<'t, 'a>(
+    place: &'t Place<'t, 'a>,
     own: &Names<'a>,
     tables: &[Names<'a>],
-    interfaces: &Interfaces<'s>,
+    interfaces: &Interfaces<'a>,
     alloc: Global,
 ) -> Result<Vec<Assignment<'a>>, AllocError>
     ensures { IfOk result (λ v. (source : pure.Source) → AreInterfacesOf interfaces.now source → IsRowOf source (length tables.now) (spot_of place.now)
@@ -96,11 +96,11 @@ fn outputs<'a, 's: 'a>(
 }
 
 /// Adds what the module at a place drives, and what its outputs drive around it.
-fn add_place<'a, 's: 'a>(
-    place: &Place<'_, 's>,
+fn add_place<'t, 'a>(
+    place: &'t Place<'t, 'a>,
     own: &Names<'a>,
     tables: &[Names<'a>],
-    interfaces: &Interfaces<'s>,
+    interfaces: &Interfaces<'a>,
     list: &mut Vec<Item<'a>>,
     alloc: Global,
 ) -> Result<(), AllocError>
@@ -114,10 +114,10 @@ fn add_place<'a, 's: 'a>(
 }
 
 /// Adds what the modules of all places drive, and what their outputs drive around them.
-fn add_places<'a, 's: 'a>(
-    places: &[Place<'_, 's>],
+fn add_places<'t, 'a>(
+    places: &'t [Place<'t, 'a>],
     tables: &[Names<'a>],
-    interfaces: &Interfaces<'s>,
+    interfaces: &Interfaces<'a>,
     list: &mut Vec<Item<'a>>,
     alloc: Global,
 ) -> Result<(), AllocError>
@@ -132,10 +132,10 @@ fn add_places<'a, 's: 'a>(
 }
 
 /// What drives the inputs of all places.
-fn inputs<'a, 's: 'a>(
-    places: &[Place<'_, 's>],
+fn inputs<'t, 'a>(
+    places: &'t [Place<'t, 'a>],
     tables: &[Names<'a>],
-    interfaces: &Interfaces<'s>,
+    interfaces: &Interfaces<'a>,
     alloc: Global,
 ) -> Result<Vec<Assignment<'a>>, AllocError>
     requires { length tables.now ≡ length places.now }
@@ -158,10 +158,10 @@ fn inputs<'a, 's: 'a>(
 }
 
 /// What all places drive, and last what drives their inputs.
-pub(crate) fn all_items<'a, 's: 'a>(
-    places: &[Place<'_, 's>],
+pub(crate) fn all_items<'t, 'a>(
+    places: &'t [Place<'t, 'a>],
     tables: &[Names<'a>],
-    interfaces: &Interfaces<'s>,
+    interfaces: &Interfaces<'a>,
     alloc: Global,
 ) -> Result<Vec<Item<'a>>, AllocError>
     requires { length tables.now ≡ length places.now }

@@ -27,9 +27,9 @@ pub struct FlatDesign<'a> {
 }
 
 /// The design that stands at these places, in one scope under these names.
-pub fn flat_design<'a, 's: 'a>(
+pub fn flat_design<'t, 'a, 's: 'a>(
     alloc: Global,
-    places: &[Place<'_, 's>],
+    places: &'t [Place<'t, 's>],
     names: &'a DottedNames<'a>,
     interfaces: &Interfaces<'s>,
 ) -> Result<FlatDesign<'a>, AllocError>

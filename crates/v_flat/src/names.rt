@@ -88,8 +88,8 @@ fn add_declared<'s>(
 }
 
 /// The names of a module that stands in a design.
-fn place_names<'s>(
-    place: &Place<'_, 's>,
+fn place_names<'t, 's>(
+    place: &'t Place<'t, 's>,
     front: String,
     alloc: Global,
 ) -> Result<PlaceNames<'s>, AllocError>
@@ -98,7 +98,7 @@ fn place_names<'s>(
     let around = Constants {
         scope: &place.constants,
     };
-    let scope = declared_scope(alloc, around, place.within)?;
+    let scope = declared_scope(alloc, place.within, around)?;
     let mut names = Vec::new(alloc);
     add_constants(place.constants.declarations(), &front, &mut names, alloc)?;
     add_declared(&scope, scope.declarations(), &front, &mut names, alloc)?;
@@ -106,7 +106,7 @@ fn place_names<'s>(
 }
 
 /// The name of a place's instance. That of the top is empty.
-fn instance_name<'s>(place: &Place<'_, 's>) -> &'s str
+fn instance_name<'t, 's>(place: &'t Place<'t, 's>) -> &'s str
     ensures { result.now ≡ (spot_of place.now).instance }
 {
     match place.instance {
@@ -117,9 +117,9 @@ fn instance_name<'s>(place: &Place<'_, 's>) -> &'s str
 
 /// What stands before the names of an instance in their dotted names: what stands before those of the module around it, the instance's
 /// name and a dot. Before those of the top, which is in no module, stands nothing.
-fn front_below(
+fn front_below<'t>(
+    place: &'t Place<'t, '_>,
     before: &[PlaceNames<'_>],
-    place: &Place<'_, '_>,
     alloc: Global,
 ) -> Result<String, AllocError>
     ensures { IfOk result (λ s. string_bytes s ≡ front_below (slice_get (map names_in before.now) place.now.parent) (spot_of place.now).instance) }
@@ -136,16 +136,16 @@ fn front_below(
 }
 
 /// The names of all modules that stand in a design, each with its dotted name.
-pub fn dotted_names<'s>(
+pub fn dotted_names<'t, 's>(
     alloc: Global,
-    places: &[Place<'_, 's>],
+    places: &'t [Place<'t, 's>],
 ) -> Result<DottedNames<'s>, AllocError>
     ensures count { IfOk result (λ n. length n.places.items ≡ length places.now) }
     ensures names { IfOk result (λ n. map names_in n.places.items ≡ names_of dotted (spots_of places.now)) }
 {
     let mut list = Vec::new(alloc);
     for place in places {
-        let front = front_below(&list, place, alloc)?;
+        let front = front_below(place, &list, alloc)?;
         let names = place_names(place, front, alloc)?;
         list.push(names)?;
     }
@@ -165,9 +165,9 @@ fn number_front(number: usize, alloc: Global) -> Result<String, AllocError>
 
 /// The names of all modules that stand in a design, each with the number of its module before it. They are about as long as in the text,
 /// however deep their modules stand.
-pub fn numbered_names<'s>(
+pub fn numbered_names<'t, 's>(
     alloc: Global,
-    places: &[Place<'_, 's>],
+    places: &'t [Place<'t, 's>],
 ) -> Result<DottedNames<'s>, AllocError>
     ensures count { IfOk result (λ n. length n.places.items ≡ length places.now) }
     ensures called { IfOk result (λ n. (d : Design) → IsPlacing d (spots_of places.now)

@@ -31,8 +31,8 @@ fn no_names<'s>(alloc: Global) -> Names<'s>
 }
 
 /// What the module at a place drives, instances aside.
-fn own_items<'s>(
-    place: &Place<'_, 's>,
+fn own_items<'t, 's>(
+    place: &'t Place<'t, 's>,
     names: &Names<'s>,
     alloc: Global,
 ) -> Result<Vec<Item<'s>>, AllocError>
@@ -44,8 +44,8 @@ fn own_items<'s>(
 }
 
 /// What the module at each place drives, instances aside.
-fn all_own_items<'s>(
-    places: &[Place<'_, 's>],
+fn all_own_items<'t, 's>(
+    places: &'t [Place<'t, 's>],
     names: &Names<'s>,
     alloc: Global,
 ) -> Result<Vec<Vec<Item<'s>>>, AllocError>
@@ -60,8 +60,8 @@ fn all_own_items<'s>(
 }
 
 /// What the outputs of a place's instance drive around it.
-fn outputs_of<'s>(
-    place: &Place<'_, 's>,
+fn outputs_of<'t, 's>(
+    place: &'t Place<'t, 's>,
     names: &Names<'s>,
     interfaces: &Interfaces<'s>,
     alloc: Global,
@@ -84,8 +84,8 @@ fn outputs_of<'s>(
 }
 
 /// Adds what the outputs of a place's instance drive to the list of the module around it.
-fn add_outputs<'s>(
-    place: &Place<'_, 's>,
+fn add_outputs<'t, 's>(
+    place: &'t Place<'t, 's>,
     names: &Names<'s>,
     interfaces: &Interfaces<'s>,
     lists: &mut Vec<Vec<Item<'s>>>,
@@ -105,8 +105,8 @@ fn add_outputs<'s>(
 }
 
 /// Adds what the outputs of all instances drive, each to the list of the module around it.
-fn add_all_outputs<'s>(
-    places: &[Place<'_, 's>],
+fn add_all_outputs<'t, 's>(
+    places: &'t [Place<'t, 's>],
     names: &Names<'s>,
     interfaces: &Interfaces<'s>,
     lists: &mut Vec<Vec<Item<'s>>>,
@@ -123,9 +123,9 @@ fn add_all_outputs<'s>(
 
 /// What the module at each place drives: its continuous assignments and blocks, and what outputs of its instances drive, as assignments.
 /// The names are the module's own.
-pub fn items_with_outputs<'s>(
+pub fn items_with_outputs<'t, 's>(
     alloc: Global,
-    places: &[Place<'_, 's>],
+    places: &'t [Place<'t, 's>],
     interfaces: &Interfaces<'s>,
 ) -> Result<Vec<Vec<Item<'s>>>, AllocError>
     ensures { IfOk result (λ v. (d : Design) → AreInterfacesOf interfaces.now d.source → IsPlacing d (spots_of places.now)

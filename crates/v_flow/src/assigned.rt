@@ -19,8 +19,8 @@ use v_value::scope::Scope;
 
 #[cycle(assigning)]
 fn add_statement<'s>(
-    scope: &Scope<'_>,
     statement: &Statement<'s>,
+    scope: &Scope<'_>,
     found: &mut Vec<Span<'s>>,
 ) -> Result<(), AllocError>
     requires objects { HasNarrowObjects (scope_at scope.now) }
@@ -29,24 +29,24 @@ fn add_statement<'s>(
 {
     match statement {
         Statement::Empty => Ok(()),
-        Statement::Blocking(target, _) => add_each(scope, false, target, found),
-        Statement::Nonblocking(target, _) => add_each(scope, false, target, found),
+        Statement::Blocking(target, _) => add_each(target, scope, false, found),
+        Statement::Nonblocking(target, _) => add_each(target, scope, false, found),
         Statement::If(arms, last) => {
-            add_ladder(scope, arms, found)?;
+            add_ladder(arms, scope, found)?;
             match last {
-                Some(other) => add_statement(scope, other, found),
+                Some(other) => add_statement(other, scope, found),
                 None => Ok(()),
             }
         }
-        Statement::Case(_, _, items) => add_bodies(scope, items, found),
-        Statement::Block(_, statements) => add_all(scope, statements, found),
+        Statement::Case(_, _, items) => add_bodies(items, scope, found),
+        Statement::Block(_, statements) => add_all(statements, scope, found),
     }
 }
 
 #[cycle(assigning)]
 fn add_all<'s>(
-    scope: &Scope<'_>,
     statements: &[Statement<'s>],
+    scope: &Scope<'_>,
     found: &mut Vec<Span<'s>>,
 ) -> Result<(), AllocError>
     requires objects { HasNarrowObjects (scope_at scope.now) }
@@ -54,15 +54,15 @@ fn add_all<'s>(
     ensures { OnOk result (bits_in found.new.items ≡ or_in (bits_in found.old.items) (all_assigned (scope_at scope.now) statements.now)) }
 {
     for statement in statements {
-        add_statement(scope, statement, found)?;
+        add_statement(statement, scope, found)?;
     }
     Ok(())
 }
 
 #[cycle(assigning)]
 fn add_ladder<'s>(
-    scope: &Scope<'_>,
     arms: &[Arm<'s>],
+    scope: &Scope<'_>,
     found: &mut Vec<Span<'s>>,
 ) -> Result<(), AllocError>
     requires objects { HasNarrowObjects (scope_at scope.now) }
@@ -70,15 +70,15 @@ fn add_ladder<'s>(
     ensures { OnOk result (bits_in found.new.items ≡ or_in (bits_in found.old.items) (ladder_assigned (scope_at scope.now) arms.now)) }
 {
     for arm in arms {
-        add_statement(scope, &arm.statement, found)?;
+        add_statement(&arm.statement, scope, found)?;
     }
     Ok(())
 }
 
 #[cycle(assigning)]
 fn add_bodies<'s>(
-    scope: &Scope<'_>,
     items: &[CaseItem<'s>],
+    scope: &Scope<'_>,
     found: &mut Vec<Span<'s>>,
 ) -> Result<(), AllocError>
     requires objects { HasNarrowObjects (scope_at scope.now) }
@@ -86,15 +86,15 @@ fn add_bodies<'s>(
     ensures { OnOk result (bits_in found.new.items ≡ or_in (bits_in found.old.items) (bodies_assigned (scope_at scope.now) items.now)) }
 {
     for item in items {
-        add_body(scope, item, found)?;
+        add_body(item, scope, found)?;
     }
     Ok(())
 }
 
 #[cycle(assigning)]
 fn add_body<'s>(
-    scope: &Scope<'_>,
     item: &CaseItem<'s>,
+    scope: &Scope<'_>,
     found: &mut Vec<Span<'s>>,
 ) -> Result<(), AllocError>
     requires objects { HasNarrowObjects (scope_at scope.now) }
@@ -102,21 +102,21 @@ fn add_body<'s>(
     ensures { OnOk result (bits_in found.new.items ≡ or_in (bits_in found.old.items) (assigned_at (scope_at scope.now) (item_statement item.now))) }
 {
     match item {
-        CaseItem::Values(_, statement) => add_statement(scope, statement, found),
-        CaseItem::Default(statement) => add_statement(scope, statement, found),
+        CaseItem::Values(_, statement) => add_statement(statement, scope, found),
+        CaseItem::Default(statement) => add_statement(statement, scope, found),
     }
 }
 
 /// Adds the bits of names that a run of a statement may assign, whatever its conditions are.
 #[tactic(auto, unfolding(crate::specs::Flow::assigned_at))]
 pub fn add_assigned<'s>(
-    scope: &Scope<'_>,
     statement: &Statement<'s>,
+    scope: &Scope<'_>,
     found: &mut Vec<Span<'s>>,
 ) -> Result<(), AllocError>
     requires objects { HasNarrowObjects (scope_at scope.now) }
     requires narrow { IsNarrowFlow (scope_at scope.now) (statement_of statement.now) }
     ensures { OnOk result (bits_in found.new.items ≡ or_in (bits_in found.old.items) (existing (scope_at scope.now) (may_assign (scope_at scope.now) (statement_of statement.now)))) }
 {
-    add_statement(scope, statement, found)
+    add_statement(statement, scope, found)
 }

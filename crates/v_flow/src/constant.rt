@@ -10,48 +10,48 @@ use v_value::scope::Scope;
 
 /// Whether the expression reads parameters and numbers alone, where names stand for what the scope says.
 #[cycle(constant)]
-pub fn is_constant(scope: &Scope<'_>, expression: &Expression<'_>) -> bool
+pub fn is_constant(expression: &Expression<'_>, scope: &Scope<'_>) -> bool
     ensures { result ≡ constant_at (scope_at scope.now) (tree_of expression.now) }
 {
     match expression {
         Expression::Number(_) => true,
-        Expression::Name(name, selects) => is_constant_name(scope, name, selects),
-        Expression::Concatenation(parts) => are_constant_parts(scope, parts),
-        Expression::Replication(_, parts) => are_constant_parts(scope, parts),
-        Expression::AsSigned(operand) => is_constant(scope, operand),
-        Expression::AsUnsigned(operand) => is_constant(scope, operand),
-        Expression::Prefix(_, operand) => is_constant(scope, operand),
+        Expression::Name(name, selects) => is_constant_name(selects, scope, name),
+        Expression::Concatenation(parts) => are_constant_parts(parts, scope),
+        Expression::Replication(_, parts) => are_constant_parts(parts, scope),
+        Expression::AsSigned(operand) => is_constant(operand, scope),
+        Expression::AsUnsigned(operand) => is_constant(operand, scope),
+        Expression::Prefix(_, operand) => is_constant(operand, scope),
         Expression::Binary(first, links) => {
-            let known = is_constant(scope, first);
-            are_constant_links(scope, known, links)
+            let known = is_constant(first, scope);
+            are_constant_links(links, scope, known)
         }
         Expression::Test(first, links) => {
-            let known = is_constant(scope, first);
-            are_constant_tests(scope, known, links)
+            let known = is_constant(first, scope);
+            are_constant_tests(links, scope, known)
         }
         Expression::Conditional(choices, last) => {
-            let known = is_constant(scope, last);
-            are_constant_choices(scope, choices, known)
+            let known = is_constant(last, scope);
+            are_constant_choices(choices, scope, known)
         }
     }
 }
 
 #[cycle(constant)]
-fn is_constant_name(scope: &Scope<'_>, name: &str, selects: &Selects<'_>) -> bool
+fn is_constant_name(selects: &Selects<'_>, scope: &Scope<'_>, name: &str) -> bool
     ensures { result ≡ (is_some (scope_at scope.now name.now).constant && selects_constant_at (scope_at scope.now) (selects_of selects.now)) }
 {
     if scope.object(name).constant.is_none() {
         return false;
     }
-    are_constant_selects(scope, selects)
+    are_constant_selects(selects, scope)
 }
 
 #[cycle(constant)]
-fn are_constant_parts(scope: &Scope<'_>, parts: &[Expression<'_>]) -> bool
+fn are_constant_parts(parts: &[Expression<'_>], scope: &Scope<'_>) -> bool
     ensures { result ≡ parts_constant (scope_at scope.now) parts.now }
 {
     for part in parts {
-        if !is_constant(scope, part) {
+        if !is_constant(part, scope) {
             return false;
         }
     }
@@ -60,14 +60,14 @@ fn are_constant_parts(scope: &Scope<'_>, parts: &[Expression<'_>]) -> bool
 
 /// Whether links are constant, after an operand that may be constant.
 #[cycle(constant)]
-fn are_constant_links(scope: &Scope<'_>, first: bool, links: &[BinaryLink<'_>]) -> bool
+fn are_constant_links(links: &[BinaryLink<'_>], scope: &Scope<'_>, first: bool) -> bool
     ensures { result ≡ (first && links_constant (scope_at scope.now) links.now) }
 {
     if !first {
         return false;
     }
     for link in links {
-        if !is_constant(scope, &link.operand) {
+        if !is_constant(&link.operand, scope) {
             return false;
         }
     }
@@ -75,14 +75,14 @@ fn are_constant_links(scope: &Scope<'_>, first: bool, links: &[BinaryLink<'_>]) 
 }
 
 #[cycle(constant)]
-fn are_constant_tests(scope: &Scope<'_>, first: bool, links: &[TestLink<'_>]) -> bool
+fn are_constant_tests(links: &[TestLink<'_>], scope: &Scope<'_>, first: bool) -> bool
     ensures { result ≡ (first && tests_constant (scope_at scope.now) links.now) }
 {
     if !first {
         return false;
     }
     for link in links {
-        if !is_constant(scope, &link.operand) {
+        if !is_constant(&link.operand, scope) {
             return false;
         }
     }
@@ -90,14 +90,14 @@ fn are_constant_tests(scope: &Scope<'_>, first: bool, links: &[TestLink<'_>]) ->
 }
 
 #[cycle(constant)]
-fn are_constant_choices(scope: &Scope<'_>, choices: &[Choice<'_>], last: bool) -> bool
+fn are_constant_choices(choices: &[Choice<'_>], scope: &Scope<'_>, last: bool) -> bool
     ensures { result ≡ (choices_constant (scope_at scope.now) choices.now && last) }
 {
     if !last {
         return false;
     }
     for choice in choices {
-        if !is_constant_choice(scope, choice) {
+        if !is_constant_choice(choice, scope) {
             return false;
         }
     }
@@ -106,38 +106,38 @@ fn are_constant_choices(scope: &Scope<'_>, choices: &[Choice<'_>], last: bool) -
 
 /// Whether a condition with its value is constant.
 #[cycle(constant)]
-fn is_constant_choice(scope: &Scope<'_>, choice: &Choice<'_>) -> bool
+fn is_constant_choice(choice: &Choice<'_>, scope: &Scope<'_>) -> bool
     ensures { result ≡ (constant_at (scope_at scope.now) (tree_of choice.now.condition) && constant_at (scope_at scope.now) (tree_of choice.now.value)) }
 {
-    if !is_constant(scope, &choice.condition) {
+    if !is_constant(&choice.condition, scope) {
         return false;
     }
-    is_constant(scope, &choice.value)
+    is_constant(&choice.value, scope)
 }
 
 /// Whether the index of a select is constant, or the base of `+:` and `-:`.
 #[cycle(constant)]
-pub(crate) fn is_constant_select(scope: &Scope<'_>, select: &Select<'_>) -> bool
+pub(crate) fn is_constant_select(select: &Select<'_>, scope: &Scope<'_>) -> bool
     ensures { result ≡ select_constant_at (scope_at scope.now) (select_of select.now) }
 {
     match select {
-        Select::Index(index) => is_constant(scope, index),
+        Select::Index(index) => is_constant(index, scope),
         Select::Part(_, _) => true,
-        Select::PartUp(base, _) => is_constant(scope, base),
-        Select::PartDown(base, _) => is_constant(scope, base),
+        Select::PartUp(base, _) => is_constant(base, scope),
+        Select::PartDown(base, _) => is_constant(base, scope),
     }
 }
 
 /// Whether all indexes after a name are constant.
 #[cycle(constant)]
-pub fn are_constant_selects(scope: &Scope<'_>, selects: &Selects<'_>) -> bool
+pub fn are_constant_selects(selects: &Selects<'_>, scope: &Scope<'_>) -> bool
     ensures { result ≡ selects_constant_at (scope_at scope.now) (selects_of selects.now) }
 {
     match selects {
         Selects::Whole => true,
-        Selects::One(select) => is_constant_select(scope, select),
+        Selects::One(select) => is_constant_select(select, scope),
         Selects::Two(first, second) => {
-            is_constant_select(scope, first) && is_constant_select(scope, second)
+            is_constant_select(first, scope) && is_constant_select(second, scope)
         }
     }
 }

@@ -64,13 +64,13 @@ fn one_word(number: Option<u128>) -> Words
 }
 
 /// The words that an index may mean.
-fn words_meant(scope: &Scope<'_>, object: Object, select: &Select<'_>) -> Words
+fn words_meant(select: &Select<'_>, scope: &Scope<'_>, object: Object) -> Words
     requires objects { HasNarrowObjects (scope_at scope.now) }
     requires narrow { IsSelectNarrow (scope_at scope.now) (select_of select.now) }
     ensures { (k : _) → is_between result.from result.to k ≡ meant_word (scope_at scope.now) (object_of object) (select_of select.now) k }
 {
-    if is_constant_select(scope, select) {
-        word_at(object, select_index(scope, &[], select))
+    if is_constant_select(select, scope) {
+        word_at(object, select_index(select, scope, &[]))
     } else {
         all_words(object)
     }
@@ -135,17 +135,17 @@ fn all_bits(object: Object) -> u128
 }
 
 /// The bits that a select may mean.
-fn bits_meant(scope: &Scope<'_>, object: Object, select: &Select<'_>) -> u128
+fn bits_meant(select: &Select<'_>, scope: &Scope<'_>, object: Object) -> u128
     requires objects { HasNarrowObjects (scope_at scope.now) }
     requires width { object_width (object_of object) ≤ 128 }
     requires narrow { IsSelectNarrow (scope_at scope.now) (select_of select.now) }
     requires count { IsWidth (select_count (scope_at scope.now) (object_of object) (select_of select.now)) }
     ensures { (b : _) → is_set result b ≡ meant_bit (scope_at scope.now) (object_of object) (select_of select.now) b }
 {
-    if is_constant_select(scope, select) {
+    if is_constant_select(select, scope) {
         bits_within(
             object_width(object),
-            select_bits(scope, &[], object, select),
+            select_bits(select, scope, &[], object),
         )
     } else {
         all_bits(object)
@@ -167,14 +167,14 @@ fn whole_place<'s>(scope: &Scope<'_>, name: &'s str) -> Span<'s>
     }
 }
 
-fn one_place<'s>(scope: &Scope<'_>, name: &'s str, select: &Select<'_>) -> Span<'s>
+fn one_place<'s>(select: &Select<'_>, scope: &Scope<'_>, name: &'s str) -> Span<'s>
     requires objects { HasNarrowObjects (scope_at scope.now) }
     requires narrow { IsNarrow (scope_at scope.now) (named name.now (one (select_of select.now))) }
     ensures { bits_of result ≡ place_bits (scope_at scope.now) name.now (one (select_of select.now)) }
 {
     let object = scope.object(name);
     if object.addresses.is_some() {
-        let words = words_meant(scope, object, select);
+        let words = words_meant(select, scope, object);
         return Span {
             name,
             from_word: words.from,
@@ -187,40 +187,40 @@ fn one_place<'s>(scope: &Scope<'_>, name: &'s str, select: &Select<'_>) -> Span<
         name,
         from_word: words.from,
         to_word: words.to,
-        bits: bits_meant(scope, object, select),
+        bits: bits_meant(select, scope, object),
     }
 }
 
 fn two_place<'s>(
-    scope: &Scope<'_>,
-    name: &'s str,
     index: &Select<'_>,
     select: &Select<'_>,
+    scope: &Scope<'_>,
+    name: &'s str,
 ) -> Span<'s>
     requires objects { HasNarrowObjects (scope_at scope.now) }
     requires narrow { IsNarrow (scope_at scope.now) (named name.now (two (select_of index.now) (select_of select.now))) }
     ensures { bits_of result ≡ place_bits (scope_at scope.now) name.now (two (select_of index.now) (select_of select.now)) }
 {
     let object = scope.object(name);
-    let words = words_meant(scope, object, index);
+    let words = words_meant(index, scope, object);
     Span {
         name,
         from_word: words.from,
         to_word: words.to,
-        bits: bits_meant(scope, object, select),
+        bits: bits_meant(select, scope, object),
     }
 }
 
 /// The bits that a name with selects may mean.
-fn place<'s>(scope: &Scope<'_>, name: &'s str, selects: &Selects<'_>) -> Span<'s>
+fn place<'s>(selects: &Selects<'_>, scope: &Scope<'_>, name: &'s str) -> Span<'s>
     requires objects { HasNarrowObjects (scope_at scope.now) }
     requires narrow { IsNarrow (scope_at scope.now) (named name.now (selects_of selects.now)) }
     ensures { bits_of result ≡ place_bits (scope_at scope.now) name.now (selects_of selects.now) }
 {
     match selects {
         Selects::Whole => whole_place(scope, name),
-        Selects::One(select) => one_place(scope, name, select),
-        Selects::Two(index, select) => two_place(scope, name, index, select),
+        Selects::One(select) => one_place(select, scope, name),
+        Selects::Two(index, select) => two_place(index, select, scope, name),
     }
 }
 
@@ -239,15 +239,15 @@ pub(crate) fn add_whole<'s>(
 
 /// Adds the bits that a name with selects may mean.
 pub(crate) fn add_meant<'s>(
+    selects: &Selects<'_>,
     scope: &Scope<'_>,
     name: &'s str,
-    selects: &Selects<'_>,
     found: &mut Vec<Span<'s>>,
 ) -> Result<(), AllocError>
     requires objects { HasNarrowObjects (scope_at scope.now) }
     requires narrow { IsNarrow (scope_at scope.now) (named name.now (selects_of selects.now)) }
     ensures { OnOk result (bits_in found.new.items ≡ or_in (bits_in found.old.items) (place_bits (scope_at scope.now) name.now (selects_of selects.now))) }
 {
-    found.push(place(scope, name, selects))?;
+    found.push(place(selects, scope, name))?;
     Ok(())
 }

@@ -22,10 +22,10 @@ use v_value::scope::Scope;
 
 /// Adds the bits of a name with selects, those alone that are surely meant where `surely`.
 fn add_place<'s>(
+    selects: &Selects<'s>,
     scope: &Scope<'_>,
     surely: bool,
     name: &'s str,
-    selects: &Selects<'s>,
     found: &mut Vec<Span<'s>>,
 ) -> Result<(), AllocError>
     requires objects { HasNarrowObjects (scope_at scope.now) }
@@ -33,25 +33,25 @@ fn add_place<'s>(
     ensures { OnOk result (bits_in found.new.items ≡ or_in (bits_in found.old.items) (place_reached (scope_at scope.now) surely name.now (selects_of selects.now))) }
 {
     if surely {
-        add_sure(scope, name, selects, found)
+        add_sure(selects, scope, name, found)
     } else {
-        add_meant(scope, name, selects, found)
+        add_meant(selects, scope, name, found)
     }
 }
 
 /// Adds the bits of a name where all indexes behind it are constant.
 fn add_sure<'s>(
+    selects: &Selects<'s>,
     scope: &Scope<'_>,
     name: &'s str,
-    selects: &Selects<'s>,
     found: &mut Vec<Span<'s>>,
 ) -> Result<(), AllocError>
     requires objects { HasNarrowObjects (scope_at scope.now) }
     requires narrow { IsNarrow (scope_at scope.now) (named name.now (selects_of selects.now)) }
     ensures { OnOk result (bits_in found.new.items ≡ or_in (bits_in found.old.items) (place_reached (scope_at scope.now) true name.now (selects_of selects.now))) }
 {
-    if are_constant_selects(scope, selects) {
-        add_meant(scope, name, selects, found)
+    if are_constant_selects(selects, scope) {
+        add_meant(selects, scope, name, found)
     } else {
         Ok(())
     }
@@ -59,9 +59,9 @@ fn add_sure<'s>(
 
 #[cycle(reaching)]
 pub(crate) fn add_each<'s>(
+    target: &Target<'s>,
     scope: &Scope<'_>,
     surely: bool,
-    target: &Target<'s>,
     found: &mut Vec<Span<'s>>,
 ) -> Result<(), AllocError>
     requires objects { HasNarrowObjects (scope_at scope.now) }
@@ -69,16 +69,16 @@ pub(crate) fn add_each<'s>(
     ensures { OnOk result (bits_in found.new.items ≡ or_in (bits_in found.old.items) (reached (scope_at scope.now) surely (target_of target.now))) }
 {
     match target {
-        Target::Place(name, selects) => add_place(scope, surely, name, selects, found),
-        Target::Joined(targets) => add_all(scope, surely, targets, found),
+        Target::Place(name, selects) => add_place(selects, scope, surely, name, found),
+        Target::Joined(targets) => add_all(targets, scope, surely, found),
     }
 }
 
 #[cycle(reaching)]
 fn add_all<'s>(
+    targets: &[Target<'s>],
     scope: &Scope<'_>,
     surely: bool,
-    targets: &[Target<'s>],
     found: &mut Vec<Span<'s>>,
 ) -> Result<(), AllocError>
     requires objects { HasNarrowObjects (scope_at scope.now) }
@@ -86,15 +86,15 @@ fn add_all<'s>(
     ensures { OnOk result (bits_in found.new.items ≡ or_in (bits_in found.old.items) (one_reached (scope_at scope.now) surely (target_list targets.now))) }
 {
     for target in targets {
-        add_each(scope, surely, target, found)?;
+        add_each(target, scope, surely, found)?;
     }
     Ok(())
 }
 
 #[cycle(indexing)]
 pub(crate) fn add_indexes<'s>(
-    scope: &Scope<'_>,
     target: &Target<'s>,
+    scope: &Scope<'_>,
     found: &mut Vec<Span<'s>>,
 ) -> Result<(), AllocError>
     requires objects { HasNarrowObjects (scope_at scope.now) }
@@ -102,15 +102,15 @@ pub(crate) fn add_indexes<'s>(
     ensures { OnOk result (bits_in found.new.items ≡ or_in (bits_in found.old.items) (target_reads_at (scope_at scope.now) (target_of target.now))) }
 {
     match target {
-        Target::Place(_, selects) => add_selects(scope, selects, found),
-        Target::Joined(targets) => add_all_indexes(scope, targets, found),
+        Target::Place(_, selects) => add_selects(selects, scope, found),
+        Target::Joined(targets) => add_all_indexes(targets, scope, found),
     }
 }
 
 #[cycle(indexing)]
 fn add_all_indexes<'s>(
-    scope: &Scope<'_>,
     targets: &[Target<'s>],
+    scope: &Scope<'_>,
     found: &mut Vec<Span<'s>>,
 ) -> Result<(), AllocError>
     requires objects { HasNarrowObjects (scope_at scope.now) }
@@ -118,7 +118,7 @@ fn add_all_indexes<'s>(
     ensures { OnOk result (bits_in found.new.items ≡ or_in (bits_in found.old.items) (targets_read_at (scope_at scope.now) (target_list targets.now))) }
 {
     for target in targets {
-        add_indexes(scope, target, found)?;
+        add_indexes(target, scope, found)?;
     }
     Ok(())
 }
@@ -126,41 +126,41 @@ fn add_all_indexes<'s>(
 /// Adds the bits that the indexes of a target read.
 #[tactic(auto, unfolding(crate::specs::Flow::target_reads_at))]
 pub fn add_target_reads<'s>(
-    scope: &Scope<'_>,
     target: &Target<'s>,
+    scope: &Scope<'_>,
     found: &mut Vec<Span<'s>>,
 ) -> Result<(), AllocError>
     requires objects { HasNarrowObjects (scope_at scope.now) }
     requires narrow { HasNarrowParts (scope_at scope.now) (target_of target.now) }
     ensures { OnOk result (bits_in found.new.items ≡ or_in (bits_in found.old.items) (target_reads (scope_at scope.now) (target_of target.now))) }
 {
-    add_indexes(scope, target, found)
+    add_indexes(target, scope, found)
 }
 
 /// Adds the bits that an assignment to a target may assign.
 #[tactic(auto, unfolding(crate::specs::Flow::reached))]
 pub fn add_reached<'s>(
-    scope: &Scope<'_>,
     target: &Target<'s>,
+    scope: &Scope<'_>,
     found: &mut Vec<Span<'s>>,
 ) -> Result<(), AllocError>
     requires objects { HasNarrowObjects (scope_at scope.now) }
     requires narrow { HasNarrowParts (scope_at scope.now) (target_of target.now) }
     ensures { OnOk result (bits_in found.new.items ≡ or_in (bits_in found.old.items) (existing (scope_at scope.now) (may_reach (scope_at scope.now) (target_of target.now)))) }
 {
-    add_each(scope, false, target, found)
+    add_each(target, scope, false, found)
 }
 
 /// Adds the bits that an assignment to a target assigns, whatever its variable indexes are.
 #[tactic(auto, unfolding(crate::specs::Flow::reached))]
 pub fn add_surely_reached<'s>(
-    scope: &Scope<'_>,
     target: &Target<'s>,
+    scope: &Scope<'_>,
     found: &mut Vec<Span<'s>>,
 ) -> Result<(), AllocError>
     requires objects { HasNarrowObjects (scope_at scope.now) }
     requires narrow { HasNarrowParts (scope_at scope.now) (target_of target.now) }
     ensures { OnOk result (bits_in found.new.items ≡ or_in (bits_in found.old.items) (existing (scope_at scope.now) (surely_reaches (scope_at scope.now) (target_of target.now)))) }
 {
-    add_each(scope, true, target, found)
+    add_each(target, scope, true, found)
 }

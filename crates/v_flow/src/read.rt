@@ -19,9 +19,9 @@ use v_value::scope::Scope;
 
 /// Adds the bits of a name that stands with selects in an expression. A parameter has none.
 fn add_name<'s>(
+    selects: &Selects<'s>,
     scope: &Scope<'_>,
     name: &'s str,
-    selects: &Selects<'s>,
     found: &mut Vec<Span<'s>>,
 ) -> Result<(), AllocError>
     requires objects { HasNarrowObjects (scope_at scope.now) }
@@ -31,8 +31,8 @@ fn add_name<'s>(
     if scope.object(name).constant.is_some() {
         return Ok(());
     }
-    if are_constant_selects(scope, selects) {
-        add_meant(scope, name, selects, found)
+    if are_constant_selects(selects, scope) {
+        add_meant(selects, scope, name, found)
     } else {
         add_whole(scope, name, found)
     }
@@ -40,8 +40,8 @@ fn add_name<'s>(
 
 #[cycle(reading)]
 pub(crate) fn add_read<'s>(
-    scope: &Scope<'_>,
     expression: &Expression<'s>,
+    scope: &Scope<'_>,
     found: &mut Vec<Span<'s>>,
 ) -> Result<(), AllocError>
     requires objects { HasNarrowObjects (scope_at scope.now) }
@@ -50,46 +50,46 @@ pub(crate) fn add_read<'s>(
 {
     match expression {
         Expression::Number(_) => Ok(()),
-        Expression::Name(name, selects) => add_named(scope, name, selects, found),
-        Expression::Concatenation(parts) => add_parts(scope, parts, found),
-        Expression::Replication(_, parts) => add_parts(scope, parts, found),
-        Expression::AsSigned(operand) => add_read(scope, operand, found),
-        Expression::AsUnsigned(operand) => add_read(scope, operand, found),
-        Expression::Prefix(_, operand) => add_read(scope, operand, found),
+        Expression::Name(name, selects) => add_named(selects, scope, name, found),
+        Expression::Concatenation(parts) => add_parts(parts, scope, found),
+        Expression::Replication(_, parts) => add_parts(parts, scope, found),
+        Expression::AsSigned(operand) => add_read(operand, scope, found),
+        Expression::AsUnsigned(operand) => add_read(operand, scope, found),
+        Expression::Prefix(_, operand) => add_read(operand, scope, found),
         Expression::Binary(first, links) => {
-            add_read(scope, first, found)?;
-            add_links(scope, links, found)
+            add_read(first, scope, found)?;
+            add_links(links, scope, found)
         }
         Expression::Test(first, links) => {
-            add_read(scope, first, found)?;
-            add_tests(scope, links, found)
+            add_read(first, scope, found)?;
+            add_tests(links, scope, found)
         }
         Expression::Conditional(choices, last) => {
-            add_choices(scope, choices, found)?;
-            add_read(scope, last, found)
+            add_choices(choices, scope, found)?;
+            add_read(last, scope, found)
         }
     }
 }
 
 #[cycle(reading)]
 fn add_named<'s>(
+    selects: &Selects<'s>,
     scope: &Scope<'_>,
     name: &'s str,
-    selects: &Selects<'s>,
     found: &mut Vec<Span<'s>>,
 ) -> Result<(), AllocError>
     requires objects { HasNarrowObjects (scope_at scope.now) }
     requires narrow { IsNarrow (scope_at scope.now) (named name.now (selects_of selects.now)) }
     ensures { OnOk result (bits_in found.new.items ≡ or_in (bits_in found.old.items) (reads_at (scope_at scope.now) (named name.now (selects_of selects.now)))) }
 {
-    add_name(scope, name, selects, found)?;
-    add_selects(scope, selects, found)
+    add_name(selects, scope, name, found)?;
+    add_selects(selects, scope, found)
 }
 
 #[cycle(reading)]
 pub(crate) fn add_parts<'s>(
-    scope: &Scope<'_>,
     parts: &[Expression<'s>],
+    scope: &Scope<'_>,
     found: &mut Vec<Span<'s>>,
 ) -> Result<(), AllocError>
     requires objects { HasNarrowObjects (scope_at scope.now) }
@@ -97,15 +97,15 @@ pub(crate) fn add_parts<'s>(
     ensures { OnOk result (bits_in found.new.items ≡ or_in (bits_in found.old.items) (parts_read (scope_at scope.now) parts.now)) }
 {
     for part in parts {
-        add_read(scope, part, found)?;
+        add_read(part, scope, found)?;
     }
     Ok(())
 }
 
 #[cycle(reading)]
 fn add_links<'s>(
-    scope: &Scope<'_>,
     links: &[BinaryLink<'s>],
+    scope: &Scope<'_>,
     found: &mut Vec<Span<'s>>,
 ) -> Result<(), AllocError>
     requires objects { HasNarrowObjects (scope_at scope.now) }
@@ -113,15 +113,15 @@ fn add_links<'s>(
     ensures { OnOk result (bits_in found.new.items ≡ or_in (bits_in found.old.items) (links_read (scope_at scope.now) links.now)) }
 {
     for link in links {
-        add_read(scope, &link.operand, found)?;
+        add_read(&link.operand, scope, found)?;
     }
     Ok(())
 }
 
 #[cycle(reading)]
 fn add_tests<'s>(
-    scope: &Scope<'_>,
     links: &[TestLink<'s>],
+    scope: &Scope<'_>,
     found: &mut Vec<Span<'s>>,
 ) -> Result<(), AllocError>
     requires objects { HasNarrowObjects (scope_at scope.now) }
@@ -129,15 +129,15 @@ fn add_tests<'s>(
     ensures { OnOk result (bits_in found.new.items ≡ or_in (bits_in found.old.items) (tests_read (scope_at scope.now) links.now)) }
 {
     for link in links {
-        add_read(scope, &link.operand, found)?;
+        add_read(&link.operand, scope, found)?;
     }
     Ok(())
 }
 
 #[cycle(reading)]
 fn add_choices<'s>(
-    scope: &Scope<'_>,
     choices: &[Choice<'s>],
+    scope: &Scope<'_>,
     found: &mut Vec<Span<'s>>,
 ) -> Result<(), AllocError>
     requires objects { HasNarrowObjects (scope_at scope.now) }
@@ -145,8 +145,8 @@ fn add_choices<'s>(
     ensures { OnOk result (bits_in found.new.items ≡ or_in (bits_in found.old.items) (choices_read (scope_at scope.now) choices.now)) }
 {
     for choice in choices {
-        add_read(scope, &choice.condition, found)?;
-        add_read(scope, &choice.value, found)?;
+        add_read(&choice.condition, scope, found)?;
+        add_read(&choice.value, scope, found)?;
     }
     Ok(())
 }
@@ -154,8 +154,8 @@ fn add_choices<'s>(
 /// Adds what the indexes behind a name read.
 #[cycle(reading)]
 pub(crate) fn add_selects<'s>(
-    scope: &Scope<'_>,
     selects: &Selects<'s>,
+    scope: &Scope<'_>,
     found: &mut Vec<Span<'s>>,
 ) -> Result<(), AllocError>
     requires objects { HasNarrowObjects (scope_at scope.now) }
@@ -164,18 +164,18 @@ pub(crate) fn add_selects<'s>(
 {
     match selects {
         Selects::Whole => Ok(()),
-        Selects::One(select) => add_select(scope, select, found),
+        Selects::One(select) => add_select(select, scope, found),
         Selects::Two(first, second) => {
-            add_select(scope, first, found)?;
-            add_select(scope, second, found)
+            add_select(first, scope, found)?;
+            add_select(second, scope, found)
         }
     }
 }
 
 #[cycle(reading)]
 fn add_select<'s>(
-    scope: &Scope<'_>,
     select: &Select<'s>,
+    scope: &Scope<'_>,
     found: &mut Vec<Span<'s>>,
 ) -> Result<(), AllocError>
     requires objects { HasNarrowObjects (scope_at scope.now) }
@@ -183,23 +183,23 @@ fn add_select<'s>(
     ensures { OnOk result (bits_in found.new.items ≡ or_in (bits_in found.old.items) (select_reads_at (scope_at scope.now) (select_of select.now))) }
 {
     match select {
-        Select::Index(index) => add_read(scope, index, found),
+        Select::Index(index) => add_read(index, scope, found),
         Select::Part(_, _) => Ok(()),
-        Select::PartUp(base, _) => add_read(scope, base, found),
-        Select::PartDown(base, _) => add_read(scope, base, found),
+        Select::PartUp(base, _) => add_read(base, scope, found),
+        Select::PartDown(base, _) => add_read(base, scope, found),
     }
 }
 
 /// Adds the bits that an expression reads.
 #[tactic(auto, unfolding(crate::specs::Flow::reads_at))]
 pub fn add_reads<'s>(
-    scope: &Scope<'_>,
     expression: &Expression<'s>,
+    scope: &Scope<'_>,
     found: &mut Vec<Span<'s>>,
 ) -> Result<(), AllocError>
     requires objects { HasNarrowObjects (scope_at scope.now) }
     requires narrow { IsNarrow (scope_at scope.now) (tree_of expression.now) }
     ensures { OnOk result (bits_in found.new.items ≡ or_in (bits_in found.old.items) (reads (scope_at scope.now) (tree_of expression.now))) }
 {
-    add_read(scope, expression, found)
+    add_read(expression, scope, found)
 }

@@ -20,9 +20,9 @@ use v_value::scope::Scope;
 
 /// Adds what an assignment reads: its value, and the indexes of its target.
 fn add_assignment<'s>(
-    scope: &Scope<'_>,
     target: &Target<'s>,
     value: &Expression<'s>,
+    scope: &Scope<'_>,
     found: &mut Vec<Span<'s>>,
 ) -> Result<(), AllocError>
     requires objects { HasNarrowObjects (scope_at scope.now) }
@@ -30,14 +30,14 @@ fn add_assignment<'s>(
     requires value { IsNarrow (scope_at scope.now) (tree_of value.now) }
     ensures { OnOk result (bits_in found.new.items ≡ or_in (bits_in found.old.items) (or_in (reads_at (scope_at scope.now) (tree_of value.now)) (target_reads_at (scope_at scope.now) (target_of target.now)))) }
 {
-    add_read(scope, value, found)?;
-    add_indexes(scope, target, found)
+    add_read(value, scope, found)?;
+    add_indexes(target, scope, found)
 }
 
 /// Adds what the values of an item read.
 fn add_label<'s>(
-    scope: &Scope<'_>,
     item: &CaseItem<'s>,
+    scope: &Scope<'_>,
     found: &mut Vec<Span<'s>>,
 ) -> Result<(), AllocError>
     requires objects { HasNarrowObjects (scope_at scope.now) }
@@ -45,14 +45,14 @@ fn add_label<'s>(
     ensures { OnOk result (bits_in found.new.items ≡ or_in (bits_in found.old.items) (label_reads (scope_at scope.now) item.now)) }
 {
     match item {
-        CaseItem::Values(values, _) => add_parts(scope, values, found),
+        CaseItem::Values(values, _) => add_parts(values, scope, found),
         CaseItem::Default(_) => Ok(()),
     }
 }
 
 fn add_labels<'s>(
-    scope: &Scope<'_>,
     items: &[CaseItem<'s>],
+    scope: &Scope<'_>,
     found: &mut Vec<Span<'s>>,
 ) -> Result<(), AllocError>
     requires objects { HasNarrowObjects (scope_at scope.now) }
@@ -60,15 +60,15 @@ fn add_labels<'s>(
     ensures { OnOk result (bits_in found.new.items ≡ or_in (bits_in found.old.items) (labels_read (scope_at scope.now) items.now)) }
 {
     for item in items {
-        add_label(scope, item, found)?;
+        add_label(item, scope, found)?;
     }
     Ok(())
 }
 
 #[cycle(stating)]
 fn add_statement<'s>(
-    scope: &Scope<'_>,
     statement: &Statement<'s>,
+    scope: &Scope<'_>,
     found: &mut Vec<Span<'s>>,
 ) -> Result<(), AllocError>
     requires objects { HasNarrowObjects (scope_at scope.now) }
@@ -77,28 +77,28 @@ fn add_statement<'s>(
 {
     match statement {
         Statement::Empty => Ok(()),
-        Statement::Blocking(target, value) => add_assignment(scope, target, value, found),
-        Statement::Nonblocking(target, value) => add_assignment(scope, target, value, found),
+        Statement::Blocking(target, value) => add_assignment(target, value, scope, found),
+        Statement::Nonblocking(target, value) => add_assignment(target, value, scope, found),
         Statement::If(arms, last) => {
-            add_ladder(scope, arms, found)?;
+            add_ladder(arms, scope, found)?;
             match last {
-                Some(other) => add_statement(scope, other, found),
+                Some(other) => add_statement(other, scope, found),
                 None => Ok(()),
             }
         }
         Statement::Case(_, value, items) => {
-            add_read(scope, value, found)?;
-            add_labels(scope, items, found)?;
-            add_bodies(scope, items, found)
+            add_read(value, scope, found)?;
+            add_labels(items, scope, found)?;
+            add_bodies(items, scope, found)
         }
-        Statement::Block(_, statements) => add_all(scope, statements, found),
+        Statement::Block(_, statements) => add_all(statements, scope, found),
     }
 }
 
 #[cycle(stating)]
 fn add_all<'s>(
-    scope: &Scope<'_>,
     statements: &[Statement<'s>],
+    scope: &Scope<'_>,
     found: &mut Vec<Span<'s>>,
 ) -> Result<(), AllocError>
     requires objects { HasNarrowObjects (scope_at scope.now) }
@@ -106,15 +106,15 @@ fn add_all<'s>(
     ensures { OnOk result (bits_in found.new.items ≡ or_in (bits_in found.old.items) (all_read (scope_at scope.now) statements.now)) }
 {
     for statement in statements {
-        add_statement(scope, statement, found)?;
+        add_statement(statement, scope, found)?;
     }
     Ok(())
 }
 
 #[cycle(stating)]
 fn add_ladder<'s>(
-    scope: &Scope<'_>,
     arms: &[Arm<'s>],
+    scope: &Scope<'_>,
     found: &mut Vec<Span<'s>>,
 ) -> Result<(), AllocError>
     requires objects { HasNarrowObjects (scope_at scope.now) }
@@ -122,16 +122,16 @@ fn add_ladder<'s>(
     ensures { OnOk result (bits_in found.new.items ≡ or_in (bits_in found.old.items) (ladder_reads (scope_at scope.now) arms.now)) }
 {
     for arm in arms {
-        add_read(scope, &arm.condition, found)?;
-        add_statement(scope, &arm.statement, found)?;
+        add_read(&arm.condition, scope, found)?;
+        add_statement(&arm.statement, scope, found)?;
     }
     Ok(())
 }
 
 #[cycle(stating)]
 fn add_bodies<'s>(
-    scope: &Scope<'_>,
     items: &[CaseItem<'s>],
+    scope: &Scope<'_>,
     found: &mut Vec<Span<'s>>,
 ) -> Result<(), AllocError>
     requires objects { HasNarrowObjects (scope_at scope.now) }
@@ -139,15 +139,15 @@ fn add_bodies<'s>(
     ensures { OnOk result (bits_in found.new.items ≡ or_in (bits_in found.old.items) (bodies_read (scope_at scope.now) items.now)) }
 {
     for item in items {
-        add_body(scope, item, found)?;
+        add_body(item, scope, found)?;
     }
     Ok(())
 }
 
 #[cycle(stating)]
 fn add_body<'s>(
-    scope: &Scope<'_>,
     item: &CaseItem<'s>,
+    scope: &Scope<'_>,
     found: &mut Vec<Span<'s>>,
 ) -> Result<(), AllocError>
     requires objects { HasNarrowObjects (scope_at scope.now) }
@@ -155,21 +155,21 @@ fn add_body<'s>(
     ensures { OnOk result (bits_in found.new.items ≡ or_in (bits_in found.old.items) (statement_reads_at (scope_at scope.now) (item_statement item.now))) }
 {
     match item {
-        CaseItem::Values(_, statement) => add_statement(scope, statement, found),
-        CaseItem::Default(statement) => add_statement(scope, statement, found),
+        CaseItem::Values(_, statement) => add_statement(statement, scope, found),
+        CaseItem::Default(statement) => add_statement(statement, scope, found),
     }
 }
 
 /// Adds the bits that a statement reads anywhere.
 #[tactic(auto, unfolding(crate::specs::Flow::statement_reads_at))]
 pub fn add_statement_reads<'s>(
-    scope: &Scope<'_>,
     statement: &Statement<'s>,
+    scope: &Scope<'_>,
     found: &mut Vec<Span<'s>>,
 ) -> Result<(), AllocError>
     requires objects { HasNarrowObjects (scope_at scope.now) }
     requires narrow { IsNarrowFlow (scope_at scope.now) (statement_of statement.now) }
     ensures { OnOk result (bits_in found.new.items ≡ or_in (bits_in found.old.items) (statement_reads (scope_at scope.now) (statement_of statement.now))) }
 {
-    add_statement(scope, statement, found)
+    add_statement(statement, scope, found)
 }

@@ -36,9 +36,9 @@ fn are_targets_known(targets: &[Target<'_>], names: &Names<'_, '_>) -> bool
 }
 
 /// Whether each name in an assignment may be used.
-pub(crate) fn is_assignment_known(
-    target: &Target<'_>,
-    value: &Expression<'_>,
+pub(crate) fn is_assignment_known<'s>(
+    target: &Target<'s>,
+    value: &Expression<'s>,
     names: &Names<'_, '_>,
 ) -> bool
     ensures { result ≡ all_known (knows names.now) (names_in_target (target_of target.now) ++ names_in (tree_of value.now)) }

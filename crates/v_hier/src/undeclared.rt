@@ -124,10 +124,10 @@ pub fn has_undeclared_beside(
 }
 
 /// Whether the module uses a name that is not declared, a parameter before its declaration, or a module that the tree lacks.
-pub fn has_undeclared(
+pub fn has_undeclared<'s>(
     alloc: Global,
-    tree: &Tree<'_>,
-    within: &Module<'_>,
+    tree: &Tree<'s>,
+    within: &Module<'s>,
 ) -> Result<bool, AllocError>
     ensures { IfOk result (λ b. b ≡ has_undeclared (source_of tree.now) (module_of within.now)) }
 {

@@ -36,27 +36,27 @@ fn is_numbered_output(below: Option<&Interface<'_>>, place: usize) -> bool
 }
 
 /// The rules that what is connected to a port breaks.
-fn broken_connected(names: Names<'_, '_>, is_output: bool, expression: &Expression<'_>) -> Broken
+fn broken_connected(expression: &Expression<'_>, names: Names<'_, '_>, is_output: bool) -> Broken
     ensures { result ≡ connected_at (scope_at names.entry.scope.now) is_output (tree_of expression.now) }
 {
     if is_output {
-        return broken_output(names, expression);
+        return broken_output(expression, names);
     }
-    broken_expression(names, expression)
+    broken_expression(expression, names)
 }
 
 /// The rules that a connection by name breaks, if it connects something.
 fn broken_named(
+    connection: &NamedConnection<'_>,
     names: Names<'_, '_>,
     below: Option<&Interface<'_>>,
-    connection: &NamedConnection<'_>,
 ) -> Broken
     ensures { result ≡ connection_at (scope_at names.entry.scope.now) (option_map (λ i. i.now) below.entry) (port_named connection.now.name.now) (optional_tree_of connection.now.value) }
 {
     match &connection.value {
         Some(expression) => {
             let is_output = is_named_output(below, connection.name);
-            broken_connected(names, is_output, expression)
+            broken_connected(expression, names, is_output)
         }
         None => nothing(),
     }
@@ -64,17 +64,17 @@ fn broken_named(
 
 /// The rules that a connection by place breaks, if it connects something.
 fn broken_numbered(
+    entry: &Option<Expression<'_>>,
     names: Names<'_, '_>,
     below: Option<&Interface<'_>>,
     place: usize,
-    entry: &Option<Expression<'_>>,
 ) -> Broken
     ensures { result ≡ connection_at (scope_at names.entry.scope.now) (option_map (λ i. i.now) below.entry) (port_numbered place) (optional_tree_of entry.now) }
 {
     match entry {
         Some(expression) => {
             let is_output = is_numbered_output(below, place);
-            broken_connected(names, is_output, expression)
+            broken_connected(expression, names, is_output)
         }
         None => nothing(),
     }
@@ -82,113 +82,113 @@ fn broken_numbered(
 
 /// The rules that connections by name break.
 fn broken_by_name(
+    connections: &[NamedConnection<'_>],
     names: Names<'_, '_>,
     below: Option<&Interface<'_>>,
-    connections: &[NamedConnection<'_>],
 ) -> Broken
     ensures { result ≡ named_from (scope_at names.entry.scope.now) (option_map (λ i. i.now) below.entry) none (map (λ c. (c.name.now, optional_tree_of c.value)) connections.now) }
 {
     let mut all = nothing();
     for connection in connections {
-        all = also(all, broken_named(names, below, connection));
+        all = also(all, broken_named(connection, names, below));
     }
     all
 }
 
 /// The rules that connections by place break.
 fn broken_by_order(
+    entries: &[Option<Expression<'_>>],
     names: Names<'_, '_>,
     below: Option<&Interface<'_>>,
-    entries: &[Option<Expression<'_>>],
 ) -> Broken
     ensures { result ≡ ordered_from (scope_at names.entry.scope.now) (option_map (λ i. i.now) below.entry) 0 none (map optional_tree_of entries.now) }
 {
     let mut all = nothing();
     for (place, entry) in entries.iter().enumerate() {
-        all = also(all, broken_numbered(names, below, place, entry));
+        all = also(all, broken_numbered(entry, names, below, place));
     }
     all
 }
 
 /// The rules that the connections of an instance break.
 fn broken_connections(
+    connections: &Connections<'_>,
     names: Names<'_, '_>,
     below: Option<&Interface<'_>>,
-    connections: &Connections<'_>,
 ) -> Broken
     ensures { result ≡ connections_at (scope_at names.entry.scope.now) (option_map (λ i. i.now) below.entry) (connections_of connections.now) }
 {
     match connections {
-        Connections::ByName(named) => broken_by_name(names, below, named),
-        Connections::ByOrder(entries) => broken_by_order(names, below, entries),
+        Connections::ByName(named) => broken_by_name(named, names, below),
+        Connections::ByOrder(entries) => broken_by_order(entries, names, below),
     }
 }
 
 /// The rules that the connections of instances break.
 fn broken_instances(
+    instances: &[Instance<'_>],
     names: Names<'_, '_>,
     below: Option<&Interface<'_>>,
-    instances: &[Instance<'_>],
 ) -> Broken
     ensures { result ≡ instances_from (scope_at names.entry.scope.now) (option_map (λ i. i.now) below.entry) none (map (λ i. (i.name.now, connections_of i.connections)) instances.now) }
 {
     let mut all = nothing();
     for instance in instances {
-        all = also(all, broken_connections(names, below, &instance.connections));
+        all = also(all, broken_connections(&instance.connections, names, below));
     }
     all
 }
 
 /// The rules that the value breaks by which a parameter is overridden, if there is one.
-fn broken_override(names: Names<'_, '_>, value: &Option<Expression<'_>>) -> Broken
+fn broken_override(value: &Option<Expression<'_>>, names: Names<'_, '_>) -> Broken
     ensures { result ≡ override_at (scope_at names.entry.scope.now) (optional_tree_of value.now) }
 {
     match value {
-        Some(expression) => broken_constant(names, expression),
+        Some(expression) => broken_constant(expression, names),
         None => nothing(),
     }
 }
 
 /// The rules that overrides by name break.
-fn broken_named_values(names: Names<'_, '_>, given: &[NamedConnection<'_>]) -> Broken
+fn broken_named_values(given: &[NamedConnection<'_>], names: Names<'_, '_>) -> Broken
     ensures { result ≡ named_values_from (scope_at names.entry.scope.now) none (map (λ c. (c.name.now, optional_tree_of c.value)) given.now) }
 {
     let mut all = nothing();
     for each in given {
-        all = also(all, broken_override(names, &each.value));
+        all = also(all, broken_override(&each.value, names));
     }
     all
 }
 
 /// The rules that overrides by place break.
-fn broken_ordered_values(names: Names<'_, '_>, given: &[Option<Expression<'_>>]) -> Broken
+fn broken_ordered_values(given: &[Option<Expression<'_>>], names: Names<'_, '_>) -> Broken
     ensures { result ≡ ordered_values_from (scope_at names.entry.scope.now) none (map optional_tree_of given.now) }
 {
     let mut all = nothing();
     for each in given {
-        all = also(all, broken_override(names, each));
+        all = also(all, broken_override(each, names));
     }
     all
 }
 
 /// The rules that overrides of parameters break.
-fn broken_overrides(names: Names<'_, '_>, given: &Connections<'_>) -> Broken
+fn broken_overrides(given: &Connections<'_>, names: Names<'_, '_>) -> Broken
     ensures { result ≡ overrides_at (scope_at names.entry.scope.now) (connections_of given.now) }
 {
     match given {
-        Connections::ByName(named) => broken_named_values(names, named),
-        Connections::ByOrder(entries) => broken_ordered_values(names, entries),
+        Connections::ByName(named) => broken_named_values(named, names),
+        Connections::ByOrder(entries) => broken_ordered_values(entries, names),
     }
 }
 
 /// The rules that an item breaks by the instances that it is of. Of other items nothing is said.
-fn broken_item(names: Names<'_, '_>, interfaces: &Interfaces<'_>, item: &Item<'_>) -> Broken
+fn broken_item(item: &Item<'_>, names: Names<'_, '_>, interfaces: &Interfaces<'_>) -> Broken
     ensures { result ≡ instance_item_at (scope_at names.entry.scope.now) (interface_in interfaces.now) (item_of item.now) }
 {
     match item {
         Item::Instances(name, given, instances) => also(
-            broken_overrides(names, given),
-            broken_instances(names, interfaces.find(*name), instances),
+            broken_overrides(given, names),
+            broken_instances(instances, names, interfaces.find(*name)),
         ),
         Item::Port(_) => nothing(),
         Item::Parameter(_) => nothing(),
@@ -201,15 +201,15 @@ fn broken_item(names: Names<'_, '_>, interfaces: &Interfaces<'_>, item: &Item<'_
 
 /// The rules that items break by the instances that they are of.
 pub(crate) fn broken_by_instances(
+    items: &[Item<'_>],
     names: Names<'_, '_>,
     interfaces: &Interfaces<'_>,
-    items: &[Item<'_>],
 ) -> Broken
     ensures { result ≡ instance_items_from (scope_at names.entry.scope.now) (interface_in interfaces.now) none (map item_of items.now) }
 {
     let mut all = nothing();
     for item in items {
-        all = also(all, broken_item(names, interfaces, item));
+        all = also(all, broken_item(item, names, interfaces));
     }
     all
 }

@@ -26,17 +26,17 @@ pub(crate) struct Written {
 }
 
 /// The rules that an expression breaks where anything may be read.
-pub(crate) fn broken_expression(names: Names<'_, '_>, expression: &Expression<'_>) -> Broken
+pub(crate) fn broken_expression(expression: &Expression<'_>, names: Names<'_, '_>) -> Broken
     ensures { result ≡ expression_at (scope_at names.entry.scope.now) (tree_of expression.now) }
 {
-    broken_in(names, expression)
+    broken_in(expression, names)
 }
 
 /// The rules that a constant breaks in the context of its own width and sign.
-pub(crate) fn broken_constant(names: Names<'_, '_>, expression: &Expression<'_>) -> Broken
+pub(crate) fn broken_constant(expression: &Expression<'_>, names: Names<'_, '_>) -> Broken
     ensures { result ≡ constant_at (scope_at names.entry.scope.now) (tree_of expression.now) }
 {
-    let constant = constant_in(names, expression);
+    let constant = constant_in(expression, names);
     constant.broken
 }
 
@@ -132,11 +132,11 @@ fn whole_found(parts: Option<Written>) -> Option<Written>
 }
 
 /// A name with the selects after it, which must be constant.
-fn judged_place(names: Names<'_, '_>, name: &str, selects: &Selects<'_>) -> Written
+fn judged_place(selects: &Selects<'_>, names: Names<'_, '_>, name: &str) -> Written
     ensures { result ≡ written_at (scope_at names.entry.scope.now) (pure.place name.now (selects_of selects.now)) }
 {
     let object = names.scope.object(name);
-    let found = place_in(names, Position::Constant(None, false), object, selects);
+    let found = place_in(selects, names, Position::Constant(None, false), object);
     Written {
         broken: found.0,
         width: capped(found.1),
@@ -153,31 +153,31 @@ fn found_alone<X>(others: &[X], found: Option<Written>) -> Option<Written>
 
 /// An expression, where it is a target as well. A chain without links is what stands in it.
 #[cycle(output)]
-fn found_in(names: Names<'_, '_>, expression: &Expression<'_>) -> Option<Written>
+fn found_in(expression: &Expression<'_>, names: Names<'_, '_>) -> Option<Written>
     ensures { result ≡ found_at (scope_at names.entry.scope.now) (tree_of expression.now) }
 {
     match expression {
         Expression::Number(_) => None,
-        Expression::Name(name, selects) => Some(judged_place(names, name, selects)),
-        Expression::Concatenation(parts) => whole_found(found_parts(names, parts)),
+        Expression::Name(name, selects) => Some(judged_place(selects, names, name)),
+        Expression::Concatenation(parts) => whole_found(found_parts(parts, names)),
         Expression::Replication(_, _) => None,
         Expression::AsSigned(_) => None,
         Expression::AsUnsigned(_) => None,
-        Expression::Prefix(operators, operand) => found_alone(operators, found_in(names, operand)),
-        Expression::Binary(first, links) => found_alone(links, found_in(names, first)),
-        Expression::Test(first, links) => found_alone(links, found_in(names, first)),
-        Expression::Conditional(choices, last) => found_alone(choices, found_in(names, last)),
+        Expression::Prefix(operators, operand) => found_alone(operators, found_in(operand, names)),
+        Expression::Binary(first, links) => found_alone(links, found_in(first, names)),
+        Expression::Test(first, links) => found_alone(links, found_in(first, names)),
+        Expression::Conditional(choices, last) => found_alone(choices, found_in(last, names)),
     }
 }
 
 /// Expressions side by side, where all of them are targets.
 #[cycle(output)]
-fn found_parts(names: Names<'_, '_>, parts: &[Expression<'_>]) -> Option<Written>
+fn found_parts(parts: &[Expression<'_>], names: Names<'_, '_>) -> Option<Written>
     ensures { result ≡ found_from (scope_at names.entry.scope.now) (Some no_part) parts.now }
 {
     let mut all = Some(no_part());
     for part in parts {
-        all = with_found(all, found_in(names, part));
+        all = with_found(all, found_in(part, names));
     }
     all
 }
@@ -190,11 +190,11 @@ fn in_net(target: Written) -> Broken
 }
 
 /// The rules that what is connected to an output breaks.
-pub(crate) fn broken_output(names: Names<'_, '_>, expression: &Expression<'_>) -> Broken
+pub(crate) fn broken_output(expression: &Expression<'_>, names: Names<'_, '_>) -> Broken
     ensures { result ≡ output_at (scope_at names.entry.scope.now) (tree_of expression.now) }
 {
-    match found_in(names, expression) {
+    match found_in(expression, names) {
         Some(target) => in_net(target),
-        None => broken_in(names, expression),
+        None => broken_in(expression, names),
     }
 }

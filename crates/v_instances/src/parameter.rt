@@ -70,10 +70,10 @@ fn is_outside(number: Option<Integer>) -> bool
 }
 
 /// A bound of a range.
-fn judged_bound(names: Names<'_, '_>, expression: &Expression<'_>) -> Bound
+fn judged_bound(expression: &Expression<'_>, names: Names<'_, '_>) -> Bound
     ensures { result ≡ bound_at (scope_at names.entry.scope.now) (tree_of expression.now) }
 {
-    let constant = constant_in(names, expression);
+    let constant = constant_in(expression, names);
     Bound {
         broken: also(constant_if(is_outside(constant.number)), constant.broken),
         value: bound_from(constant.number),
@@ -114,13 +114,13 @@ fn ranged(left: Bound, right: Bound) -> DeclaredRange
 }
 
 /// The range of a declaration, if there is one.
-fn judged_range(names: Names<'_, '_>, range: &Option<Box<Range<'_>>>) -> DeclaredRange
+fn judged_range(range: &Option<Box<Range<'_>>>, names: Names<'_, '_>) -> DeclaredRange
     ensures { result ≡ range_at (scope_at names.entry.scope.now) (optional_range_of range.now) }
 {
     match range {
         Some(range) => ranged(
-            judged_bound(names, &range.left),
-            judged_bound(names, &range.right),
+            judged_bound(&range.left, names),
+            judged_bound(&range.right, names),
         ),
         None => DeclaredRange {
             broken: nothing(),
@@ -155,60 +155,60 @@ fn value_place(width: RangeWidth, own: Option<u32>, signed: bool) -> Position
 }
 
 /// The rules that the value of a parameter breaks.
-fn broken_value(names: Names<'_, '_>, width: RangeWidth, expression: &Expression<'_>) -> Broken
+fn broken_value(expression: &Expression<'_>, names: Names<'_, '_>, width: RangeWidth) -> Broken
     ensures { result ≡ value_at (scope_at names.entry.scope.now) width (tree_of expression.now) }
 {
-    let own = judged_in(names, Position::Anywhere, expression);
-    let signed = sign_of(names.scope, expression);
-    let judged = judged_in(names, value_place(width, own.1, signed), expression);
+    let own = judged_in(expression, names, Position::Anywhere);
+    let signed = sign_of(expression, names.scope);
+    let judged = judged_in(expression, names, value_place(width, own.1, signed));
     judged.0
 }
 
 /// The rules that the values of a declaration break.
-fn broken_values(names: Names<'_, '_>, width: RangeWidth, values: &[ParameterValue<'_>]) -> Broken
+fn broken_values(values: &[ParameterValue<'_>], names: Names<'_, '_>, width: RangeWidth) -> Broken
     ensures { result ≡ values_from (scope_at names.entry.scope.now) width none (map (λ v. (v.name.now, tree_of v.value)) values.now) }
 {
     let mut all = nothing();
     for value in values {
-        all = also(all, broken_value(names, width, &value.value));
+        all = also(all, broken_value(&value.value, names, width));
     }
     all
 }
 
 /// The rules that a declaration breaks.
-fn broken_declaration(names: Names<'_, '_>, declaration: &ParameterDeclaration<'_>) -> Broken
+fn broken_declaration(declaration: &ParameterDeclaration<'_>, names: Names<'_, '_>) -> Broken
     ensures { result ≡ declaration_at (scope_at names.entry.scope.now) (parameter_of declaration.now) }
 {
-    let range = judged_range(names, &declaration.range);
+    let range = judged_range(&declaration.range, names);
     also(
         range.broken,
         also(
             width_if(is_wide(range.width)),
-            broken_values(names, range.width, &declaration.values),
+            broken_values(&declaration.values, names, range.width),
         ),
     )
 }
 
 /// The rules that declarations break.
 pub(crate) fn broken_declarations(
-    names: Names<'_, '_>,
     declarations: &[ParameterDeclaration<'_>],
+    names: Names<'_, '_>,
 ) -> Broken
     ensures { result ≡ declarations_from (scope_at names.entry.scope.now) none (map parameter_of declarations.now) }
 {
     let mut all = nothing();
     for declaration in declarations {
-        all = also(all, broken_declaration(names, declaration));
+        all = also(all, broken_declaration(declaration, names));
     }
     all
 }
 
 /// The rules that an item breaks as a declaration of parameters. Of other items nothing is said.
-fn broken_item(names: Names<'_, '_>, item: &Item<'_>) -> Broken
+fn broken_item(item: &Item<'_>, names: Names<'_, '_>) -> Broken
     ensures { result ≡ parameter_item_at (scope_at names.entry.scope.now) (item_of item.now) }
 {
     match item {
-        Item::Parameter(declaration) => broken_declaration(names, declaration),
+        Item::Parameter(declaration) => broken_declaration(declaration, names),
         Item::Port(_) => nothing(),
         Item::Wires(_, _, _) => nothing(),
         Item::Variables(_, _, _) => nothing(),
@@ -219,12 +219,12 @@ fn broken_item(names: Names<'_, '_>, item: &Item<'_>) -> Broken
 }
 
 /// The rules that the declarations of parameters among items break.
-pub(crate) fn broken_by_parameters(names: Names<'_, '_>, items: &[Item<'_>]) -> Broken
+pub(crate) fn broken_by_parameters(items: &[Item<'_>], names: Names<'_, '_>) -> Broken
     ensures { result ≡ parameter_items_from (scope_at names.entry.scope.now) none (map item_of items.now) }
 {
     let mut all = nothing();
     for item in items {
-        all = also(all, broken_item(names, item));
+        all = also(all, broken_item(item, names));
     }
     all
 }

@@ -20,7 +20,7 @@ use v_syntax::module::{Connections, Direction, Instance, Item, NamedConnection};
 use v_syntax::tree::Expression;
 
 /// Whether some connection has a name that is none of the list.
-fn has_other(listing: &Listing<'_>, connections: &[NamedConnection<'_>]) -> bool
+fn has_other(connections: &[NamedConnection<'_>], listing: &Listing<'_>) -> bool
     ensures { result ≡ list_any (λ n. not (is_among (texts listing.now.order.items) n)) (connected_names (map (λ c. (c.name.now, optional_tree_of c.value)) connections.now)) }
 {
     for connection in connections {
@@ -47,12 +47,12 @@ fn has_repeated(alloc: Global, connections: &[NamedConnection<'_>]) -> Result<bo
 /// Whether some connection has a name that is none of the list, or two have the same name.
 fn are_bad_names(
     alloc: Global,
-    listing: &Listing<'_>,
     connections: &[NamedConnection<'_>],
+    listing: &Listing<'_>,
 ) -> Result<bool, AllocError>
     ensures { IfOk result (λ b. b ≡ are_bad_names (texts listing.now.order.items) (connected_names (map (λ c. (c.name.now, optional_tree_of c.value)) connections.now))) }
 {
-    if has_other(listing, connections) {
+    if has_other(connections, listing) {
         return Ok(true);
     }
     let repeated = has_repeated(alloc, connections)?;
@@ -82,14 +82,14 @@ fn entry_count(entries: &[Option<Expression<'_>>]) -> usize
 /// Whether connections to the names of the list have another name, have a name twice, or are too many.
 fn are_bad_connections(
     alloc: Global,
-    listing: &Listing<'_>,
     connections: &Connections<'_>,
+    listing: &Listing<'_>,
 ) -> Result<bool, AllocError>
     ensures { IfOk result (λ b. b ≡ are_bad_connections (texts listing.now.order.items) (connections_of connections.now)) }
 {
     match connections {
         Connections::ByName(named) => {
-            let bad = are_bad_names(alloc, listing, named)?;
+            let bad = are_bad_names(alloc, named, listing)?;
             Ok(bad)
         }
         Connections::ByOrder(entries) => Ok(listing.order.len() < entry_count(entries)),
@@ -121,7 +121,7 @@ pub(crate) fn is_output_numbered(interface: &Interface<'_>, place: usize) -> boo
 }
 
 /// Whether the connection of an output is to what is no target.
-fn is_bad_named(interface: &Interface<'_>, connection: &NamedConnection<'_>) -> bool
+fn is_bad_named(connection: &NamedConnection<'_>, interface: &Interface<'_>) -> bool
     ensures { result ≡ is_bad_at interface.now (port_named connection.now.name.now) (optional_tree_of connection.now.value) }
 {
     match &connection.value {
@@ -133,7 +133,7 @@ fn is_bad_named(interface: &Interface<'_>, connection: &NamedConnection<'_>) -> 
 }
 
 /// Whether the entry at this place connects an output to what is no target.
-fn is_bad_numbered(interface: &Interface<'_>, place: usize, entry: &Option<Expression<'_>>) -> bool
+fn is_bad_numbered(entry: &Option<Expression<'_>>, interface: &Interface<'_>, place: usize) -> bool
     ensures { result ≡ is_bad_at interface.now (port_numbered place) (optional_tree_of entry.now) }
 {
     match entry {
@@ -143,11 +143,11 @@ fn is_bad_numbered(interface: &Interface<'_>, place: usize, entry: &Option<Expre
 }
 
 /// Whether some connection by name of an output is to what is no target.
-fn has_bad_named(interface: &Interface<'_>, connections: &[NamedConnection<'_>]) -> bool
+fn has_bad_named(connections: &[NamedConnection<'_>], interface: &Interface<'_>) -> bool
     ensures { result ≡ one_bad_named interface.now (map (λ c. (c.name.now, optional_tree_of c.value)) connections.now) }
 {
     for connection in connections {
-        if is_bad_named(interface, connection) {
+        if is_bad_named(connection, interface) {
             return true;
         }
     }
@@ -155,11 +155,11 @@ fn has_bad_named(interface: &Interface<'_>, connections: &[NamedConnection<'_>])
 }
 
 /// Whether some connection by place of an output is to what is no target.
-fn has_bad_ordered(interface: &Interface<'_>, entries: &[Option<Expression<'_>>]) -> bool
+fn has_bad_ordered(entries: &[Option<Expression<'_>>], interface: &Interface<'_>) -> bool
     ensures { result ≡ one_bad_ordered interface.now 0 (map optional_tree_of entries.now) }
 {
     for (place, entry) in entries.iter().enumerate() {
-        if is_bad_numbered(interface, place, entry) {
+        if is_bad_numbered(entry, interface, place) {
             return true;
         }
     }
@@ -167,39 +167,39 @@ fn has_bad_ordered(interface: &Interface<'_>, entries: &[Option<Expression<'_>>]
 }
 
 /// Whether some connection of an output is to what is no target.
-fn has_bad_output(interface: &Interface<'_>, connections: &Connections<'_>) -> bool
+fn has_bad_output(connections: &Connections<'_>, interface: &Interface<'_>) -> bool
     ensures { result ≡ one_bad interface.now (connections_of connections.now) }
 {
     match connections {
-        Connections::ByName(named) => has_bad_named(interface, named),
-        Connections::ByOrder(entries) => has_bad_ordered(interface, entries),
+        Connections::ByName(named) => has_bad_named(named, interface),
+        Connections::ByOrder(entries) => has_bad_ordered(entries, interface),
     }
 }
 
 /// Whether the connections of an instance do not fit the ports.
 fn is_badly_connected(
     alloc: Global,
-    interface: &Interface<'_>,
     instance: &Instance<'_>,
+    interface: &Interface<'_>,
 ) -> Result<bool, AllocError>
     ensures { IfOk result (λ b. b ≡ is_bad_to interface.now (instance.now.name.now, connections_of instance.now.connections)) }
 {
-    if are_bad_connections(alloc, &interface.ports, &instance.connections)? {
+    if are_bad_connections(alloc, &instance.connections, &interface.ports)? {
         return Ok(true);
     }
-    Ok(has_bad_output(interface, &instance.connections))
+    Ok(has_bad_output(&instance.connections, interface))
 }
 
 /// Whether the connections of some instance do not fit the ports.
 fn has_badly_connected(
     alloc: Global,
-    interface: &Interface<'_>,
     instances: &[Instance<'_>],
+    interface: &Interface<'_>,
 ) -> Result<bool, AllocError>
     ensures { IfOk result (λ b. b ≡ one_bad_to interface.now (map (λ i. (i.name.now, connections_of i.connections)) instances.now)) }
 {
     for instance in instances {
-        if is_badly_connected(alloc, interface, instance)? {
+        if is_badly_connected(alloc, instance, interface)? {
             return Ok(true);
         }
     }
@@ -207,21 +207,21 @@ fn has_badly_connected(
 }
 
 /// Whether overrides of parameters, or connections of instances, do not fit the module of this name, if there is one.
-fn are_badly_connected(
+fn are_badly_connected<'s>(
     alloc: Global,
+    given: &Connections<'s>,
+    instances: &[Instance<'s>],
     interfaces: &Interfaces<'_>,
     name: &str,
-    given: &Connections<'_>,
-    instances: &[Instance<'_>],
 ) -> Result<bool, AllocError>
     ensures { IfOk result (λ b. b ≡ are_bad_to (interface_in interfaces.now name.now) (connections_of given.now) (map (λ i. (i.name.now, connections_of i.connections)) instances.now)) }
 {
     match interfaces.find(name) {
         Some(interface) => {
-            if are_bad_connections(alloc, &interface.parameters, given)? {
+            if are_bad_connections(alloc, given, &interface.parameters)? {
                 return Ok(true);
             }
-            let bad = has_badly_connected(alloc, interface, instances)?;
+            let bad = has_badly_connected(alloc, instances, interface)?;
             Ok(bad)
         }
         None => Ok(false),
@@ -231,14 +231,14 @@ fn are_badly_connected(
 /// Whether an item is of instances that do not fit their module.
 fn is_bad_item(
     alloc: Global,
-    interfaces: &Interfaces<'_>,
     item: &Item<'_>,
+    interfaces: &Interfaces<'_>,
 ) -> Result<bool, AllocError>
     ensures { IfOk result (λ b. b ≡ is_bad_item (interface_in interfaces.now) (item_of item.now)) }
 {
     match item {
         Item::Instances(name, given, instances) => {
-            let bad = are_badly_connected(alloc, interfaces, *name, given, instances)?;
+            let bad = are_badly_connected(alloc, given, instances, interfaces, *name)?;
             Ok(bad)
         }
         Item::Port(_) => Ok(false),
@@ -253,13 +253,13 @@ fn is_bad_item(
 /// Whether some item is of instances that do not fit their module.
 fn has_bad_item(
     alloc: Global,
-    interfaces: &Interfaces<'_>,
     items: &[Item<'_>],
+    interfaces: &Interfaces<'_>,
 ) -> Result<bool, AllocError>
     ensures { IfOk result (λ b. b ≡ one_bad_item (interface_in interfaces.now) (map item_of items.now)) }
 {
     for item in items {
-        if is_bad_item(alloc, interfaces, item)? {
+        if is_bad_item(alloc, item, interfaces)? {
             return Ok(true);
         }
     }
@@ -270,11 +270,11 @@ fn has_bad_item(
 /// are more of them than the module has, or an output is connected to what is no target. Instances of no module say nothing.
 pub fn has_bad_instance(
     alloc: Global,
-    interfaces: &Interfaces<'_>,
     items: &[Item<'_>],
+    interfaces: &Interfaces<'_>,
 ) -> Result<bool, AllocError>
     ensures { (source : Source) → AreInterfacesOf interfaces.now source → IfOk result (λ b. b ≡ designs.has_bad_instance source (map item_of items.now)) }
 {
-    let bad = has_bad_item(alloc, interfaces, items)?;
+    let bad = has_bad_item(alloc, items, interfaces)?;
     Ok(bad)
 }

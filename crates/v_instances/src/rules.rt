@@ -18,22 +18,22 @@ use v_syntax::module::{Item, Module};
 /// All rules that the instances among items break: the values that override parameters, and what is connected to ports. Other items
 /// say nothing.
 pub fn instances_rules(
+    items: &[Item<'_>],
     names: Names<'_, '_>,
     interfaces: &Interfaces<'_>,
-    items: &[Item<'_>],
 ) -> Broken
     ensures { (source : Source) → AreInterfacesOf interfaces.now source
         → result ≡ coded (broken_instance_items source (scope_at names.entry.scope.now) (map item_of items.now)) }
 {
-    broken_by_instances(names, interfaces, items)
+    broken_by_instances(items, names, interfaces)
 }
 
 /// All rules that the declarations of parameters in the header and among the items of a module break.
-pub fn parameters_rules(names: Names<'_, '_>, within: &Module<'_>) -> Broken
+pub fn parameters_rules(within: &Module<'_>, names: Names<'_, '_>) -> Broken
     ensures { result ≡ coded (broken_header (scope_at names.entry.scope.now) (all_parameters (module_of within.now))) }
 {
     also(
-        broken_declarations(names, &within.parameters),
-        broken_by_parameters(names, &within.items),
+        broken_declarations(&within.parameters, names),
+        broken_by_parameters(&within.items, names),
     )
 }

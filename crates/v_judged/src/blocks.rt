@@ -27,13 +27,16 @@ use v_syntax::module::{Item, Module};
 use v_value::scope::Scope;
 
 /// The scope of the module at a place.
-pub(crate) fn scope_of<'s>(alloc: Global, place: &Place<'_, 's>) -> Result<Scope<'s>, AllocError>
+pub(crate) fn scope_of<'t, 's>(
+    alloc: Global,
+    place: &'t Place<'t, 's>,
+) -> Result<Scope<'s>, AllocError>
     ensures { IfOk result (λ s. scope_at s ≡ spot_scope (spot_of place.now)) }
 {
     let constants = Constants {
         scope: &place.constants,
     };
-    let names = declared_scope(alloc, constants, place.within)?;
+    let names = declared_scope(alloc, place.within, constants)?;
     let scope = placed_scope(alloc, &names, &place.constants)?;
     Ok(scope)
 }
@@ -46,23 +49,23 @@ fn items_of<'x, 's>(within: &'x Module<'s>) -> &'x [Item<'s>]
 }
 
 /// Whether a block of the module at a place has a list of events that it may not have, where these are its clock nets.
-fn has_bad_event_list_at(
+fn has_bad_event_list_at<'t>(
     alloc: Global,
-    place: &Place<'_, '_>,
+    place: &'t Place<'t, '_>,
     clocks: &BTreeSet<&str>,
 ) -> Result<bool, AllocError>
     requires { IsReadySpot (spot_of place.now) }
     ensures { IfOk result (λ r. IsTrue r ↔ HasBadEventListAt (has_name clocks.now) (spot_of place.now)) }
 {
     let scope = scope_of(alloc, place)?;
-    let bad = has_bad_event_list(alloc, &scope, clocks, items_of(place.within))?;
+    let bad = has_bad_event_list(alloc, items_of(place.within), &scope, clocks)?;
     Ok(bad)
 }
 
 /// Whether one of the modules at these places has such a block, where these are the clock nets of each.
-fn any_bad_event_list(
+fn any_bad_event_list<'t>(
     alloc: Global,
-    places: &[Place<'_, '_>],
+    places: &'t [Place<'t, '_>],
     nets: &[BTreeSet<&str>],
 ) -> Result<bool, AllocError>
     requires as_many { length nets.now ≡ length places.now }
@@ -78,14 +81,14 @@ fn any_bad_event_list(
 }
 
 /// Whether the module at a place has a blocking assignment in a clocked block.
-fn has_blocking_in_clocked(place: &Place<'_, '_>) -> bool
+fn has_blocking_in_clocked<'t>(place: &'t Place<'t, '_>) -> bool
     ensures { result ≡ has_blocking_in_clocked (spot_of place.now) }
 {
     first_blocking_in_clocked(items_of(place.within)).is_some()
 }
 
 /// Whether one of the modules at these places has one.
-fn any_blocking_in_clocked(places: &[Place<'_, '_>]) -> bool
+fn any_blocking_in_clocked<'t>(places: &'t [Place<'t, '_>]) -> bool
     ensures { result ≡ list_any has_blocking_in_clocked (spots_of places.now) }
 {
     for place in places {
@@ -97,14 +100,14 @@ fn any_blocking_in_clocked(places: &[Place<'_, '_>]) -> bool
 }
 
 /// Whether the module at a place has a nonblocking assignment in a combinational block.
-fn has_nonblocking_in_combinational(place: &Place<'_, '_>) -> bool
+fn has_nonblocking_in_combinational<'t>(place: &'t Place<'t, '_>) -> bool
     ensures { result ≡ has_nonblocking_in_combinational (spot_of place.now) }
 {
     first_nonblocking_in_combinational(items_of(place.within)).is_some()
 }
 
 /// Whether one of the modules at these places has one.
-fn any_nonblocking_in_combinational(places: &[Place<'_, '_>]) -> bool
+fn any_nonblocking_in_combinational<'t>(places: &'t [Place<'t, '_>]) -> bool
     ensures { result ≡ list_any has_nonblocking_in_combinational (spots_of places.now) }
 {
     for place in places {
@@ -116,17 +119,17 @@ fn any_nonblocking_in_combinational(places: &[Place<'_, '_>]) -> bool
 }
 
 /// Whether the module at a place has a latch.
-fn has_latch_at(alloc: Global, place: &Place<'_, '_>) -> Result<bool, AllocError>
+fn has_latch_at<'t>(alloc: Global, place: &'t Place<'t, '_>) -> Result<bool, AllocError>
     requires { IsReadySpot (spot_of place.now) }
     ensures { IfOk result (λ r. IsTrue r ↔ HasLatchAt (spot_of place.now)) }
 {
     let scope = scope_of(alloc, place)?;
-    let found = has_latch(alloc, &scope, items_of(place.within))?;
+    let found = has_latch(alloc, items_of(place.within), &scope)?;
     Ok(found)
 }
 
 /// Whether one of the modules at these places has a latch.
-fn any_latch(alloc: Global, places: &[Place<'_, '_>]) -> Result<bool, AllocError>
+fn any_latch<'t>(alloc: Global, places: &'t [Place<'t, '_>]) -> Result<bool, AllocError>
     requires { AreReadySpots (spots_of places.now) }
     ensures { IfOk result (λ r. IsTrue r ↔ SomeSpot HasLatchAt (spots_of places.now)) }
 {
@@ -139,9 +142,9 @@ fn any_latch(alloc: Global, places: &[Place<'_, '_>]) -> Result<bool, AllocError
 }
 
 /// The first of the kinds on blocks whose rule one of these modules breaks, where these are the clock nets of each.
-fn items_refusal(
+fn items_refusal<'t>(
     alloc: Global,
-    places: &[Place<'_, '_>],
+    places: &'t [Place<'t, '_>],
     nets: &[BTreeSet<&str>],
 ) -> Result<Option<DesignKind>, AllocError>
     requires as_many { length nets.now ≡ length places.now }
@@ -168,9 +171,9 @@ fn items_refusal(
 }
 
 /// The first of these kinds whose rule is broken by one of the modules that stand in a design, which are those at these places.
-pub(crate) fn blocks_refusal<'s>(
+pub(crate) fn blocks_refusal<'t, 's>(
     alloc: Global,
-    places: &[Place<'_, 's>],
+    places: &'t [Place<'t, 's>],
     interfaces: &Interfaces<'s>,
     clock: &str,
 ) -> Result<Option<DesignKind>, AllocError>

@@ -32,9 +32,9 @@ fn of_names(kind: NamesKind) -> DesignKind
 }
 
 /// The first of the kinds on drivers whose rule is broken by the design that stands at these places.
-fn drivers_refusal<'s>(
+fn drivers_refusal<'t, 's>(
     alloc: Global,
-    places: &[Place<'_, 's>],
+    places: &'t [Place<'t, 's>],
     interfaces: &Interfaces<'s>,
     clock: &str,
 ) -> Result<Option<DesignKind>, AllocError>
@@ -50,9 +50,9 @@ fn drivers_refusal<'s>(
 }
 
 /// The first of the kinds after those on names whose rule is broken by the design that stands at these places.
-fn places_refusal<'s>(
+fn places_refusal<'t, 's>(
     alloc: Global,
-    places: &[Place<'_, 's>],
+    places: &'t [Place<'t, 's>],
     interfaces: &Interfaces<'s>,
     clock: &str,
 ) -> Result<Option<DesignKind>, AllocError>

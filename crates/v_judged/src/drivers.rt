@@ -22,10 +22,10 @@ use v_scopes::{Constants, declared_scope};
 use v_syntax::module::Item;
 
 /// Whether two of these items, which are what the module at a place drives, drive one bit, or one assigns a name that it may not assign.
-fn has_bad_driver_at(
+fn has_bad_driver_at<'t, 's>(
     alloc: Global,
-    place: &Place<'_, '_>,
-    items: &[Item<'_>],
+    place: &'t Place<'t, 's>,
+    items: &[Item<'s>],
 ) -> Result<bool, AllocError>
     requires { IsDrivenSpot (map item_of items.now) (spot_of place.now) }
     ensures { IfOk result (λ r. IsTrue r ↔ HasBadDriverAt (map item_of items.now) (spot_of place.now)) }
@@ -34,12 +34,12 @@ fn has_bad_driver_at(
     let constants = Constants {
         scope: &place.constants,
     };
-    let names = declared_scope(alloc, constants, place.within)?;
+    let names = declared_scope(alloc, place.within, constants)?;
     let scope = scope_of(alloc, place)?;
-    if has_bad_name(&names, &scope, items) {
+    if has_bad_name(items, &names, &scope) {
         return Ok(true);
     }
-    let twice = has_two_drivers(alloc, &scope, items)?;
+    let twice = has_two_drivers(alloc, items, &scope)?;
     Ok(twice)
 }
 
@@ -52,10 +52,10 @@ fn list_at<'x, 'a>(lists: &'x [Vec<Item<'a>>], number: usize) -> &'x [Item<'a>]
 }
 
 /// Whether it is so at one of these places, where each module drives these.
-pub(crate) fn any_bad_driver(
+pub(crate) fn any_bad_driver<'t, 's>(
     alloc: Global,
-    places: &[Place<'_, '_>],
-    lists: &[Vec<Item<'_>>],
+    places: &'t [Place<'t, 's>],
+    lists: &[Vec<Item<'s>>],
 ) -> Result<bool, AllocError>
     requires as_many { length lists.now ≡ length places.now }
     requires ready { AreDrivenSpots (lists_of lists.now) (spots_of places.now) }
@@ -70,9 +70,9 @@ pub(crate) fn any_bad_driver(
 }
 
 /// The kind on drivers, if one of the modules that stand at these places breaks its rule.
-pub(crate) fn driver_refusal<'s>(
+pub(crate) fn driver_refusal<'t, 's>(
     alloc: Global,
-    places: &[Place<'_, 's>],
+    places: &'t [Place<'t, 's>],
     interfaces: &Interfaces<'s>,
 ) -> Result<Option<DesignKind>, AllocError>
     requires { (d : Design) × IsSoundDesign interfaces.now (spots_of places.now) d }

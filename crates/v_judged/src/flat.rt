@@ -28,13 +28,13 @@ use v_scopes::{Constants, ModuleScope, declared_scope};
 use v_undriven::has_undriven;
 
 /// The names that the module at a place declares.
-fn names_of<'s>(alloc: Global, place: &Place<'_, 's>) -> Result<ModuleScope<'s>, AllocError>
+fn names_of<'t, 's>(alloc: Global, place: &'t Place<'t, 's>) -> Result<ModuleScope<'s>, AllocError>
     ensures { IfOk result (λ names. HasNamesOf names (spot_of place.now).of_module) }
 {
     let constants = Constants {
         scope: &place.constants,
     };
-    let names = declared_scope(alloc, constants, place.within)?;
+    let names = declared_scope(alloc, place.within, constants)?;
     Ok(names)
 }
 
@@ -50,7 +50,7 @@ fn flat_refusal<'n, 's: 'n>(
         → HasUndriven d ↔ HasUndrivenBit (scope_at flat.now.scope) names.now clock.now (map item_of flat.now.items.items)
         → HasLoop d ↔ HasLoopIn (scope_at flat.now.scope) (map item_of flat.now.items.items) → IsFirst d flat_kinds k) }
 {
-    let lacking = has_undriven(alloc, &flat.scope, names, clock, &flat.items)?;
+    let lacking = has_undriven(alloc, &flat.items, &flat.scope, names, clock)?;
     if lacking {
         return Ok(Some(DesignKind::Undriven));
     }
@@ -62,9 +62,9 @@ fn flat_refusal<'n, 's: 'n>(
 }
 
 /// The same of the design that stands at these places, where its names are called by the numbers of their modules.
-fn numbered_refusal<'s>(
+fn numbered_refusal<'t, 's>(
     alloc: Global,
-    places: &[Place<'_, 's>],
+    places: &'t [Place<'t, 's>],
     names: &DottedNames<'s>,
     top: &ModuleScope<'s>,
     interfaces: &Interfaces<'s>,
@@ -86,9 +86,9 @@ fn numbered_refusal<'s>(
 
 /// The first of the kinds on bits without drivers and on loops whose rule is broken by the design that stands at these places, of which the
 /// first is its top.
-pub(crate) fn one_scope_refusal<'s>(
+pub(crate) fn one_scope_refusal<'t, 's>(
     alloc: Global,
-    places: &[Place<'_, 's>],
+    places: &'t [Place<'t, 's>],
     interfaces: &Interfaces<'s>,
     clock: &str,
 ) -> Result<Option<DesignKind>, AllocError>

@@ -45,9 +45,9 @@ fn first_rule(broken: Broken, ports: bool) -> Option<DesignKind>
 }
 
 /// Which rules on expressions the module at a place breaks.
-fn place_rules(
+fn place_rules<'t>(
     alloc: Global,
-    place: &Place<'_, '_>,
+    place: &'t Place<'t, '_>,
     interfaces: &Interfaces<'_>,
 ) -> Result<Broken, AllocError>
     ensures { IfOk result (λ b. (source : Source) → AreInterfacesOf interfaces.now source → b ≡ spot_rules source (spot_of place.now)) }
@@ -60,9 +60,9 @@ fn place_rules(
 }
 
 /// Which rules on expressions the modules at these places break.
-fn all_rules(
+fn all_rules<'t>(
     alloc: Global,
-    places: &[Place<'_, '_>],
+    places: &'t [Place<'t, '_>],
     interfaces: &Interfaces<'_>,
 ) -> Result<Broken, AllocError>
     ensures { IfOk result (λ b. (source : Source) → AreInterfacesOf interfaces.now source → b ≡ all_rules source (spots_of places.now)) }
@@ -76,9 +76,9 @@ fn all_rules(
 }
 
 /// Whether the module at a place breaks the rule on ports.
-fn has_bad_ports(
+fn has_bad_ports<'t>(
     alloc: Global,
-    place: &Place<'_, '_>,
+    place: &'t Place<'t, '_>,
     interfaces: &Interfaces<'_>,
 ) -> Result<bool, AllocError>
     ensures { IfOk result (λ b. (source : Source) → AreInterfacesOf interfaces.now source → b ≡ has_bad_ports source (spot_of place.now)) }
@@ -86,15 +86,15 @@ fn has_bad_ports(
     let constants = Constants {
         scope: &place.constants,
     };
-    let names = declared_scope(alloc, constants, place.within)?;
-    let bad = has_bad_port(alloc, &names, place.within, interfaces)?;
+    let names = declared_scope(alloc, place.within, constants)?;
+    let bad = has_bad_port(alloc, place.within, &names, interfaces)?;
     Ok(bad)
 }
 
 /// Whether the module at one of these places breaks the rule on ports.
-fn any_bad_ports(
+fn any_bad_ports<'t>(
     alloc: Global,
-    places: &[Place<'_, '_>],
+    places: &'t [Place<'t, '_>],
     interfaces: &Interfaces<'_>,
 ) -> Result<bool, AllocError>
     ensures { IfOk result (λ b. (source : Source) → AreInterfacesOf interfaces.now source → b ≡ list_any (has_bad_ports source) (spots_of places.now)) }
@@ -108,9 +108,9 @@ fn any_bad_ports(
 }
 
 /// The first of these kinds whose rule is broken by one of the modules that stand in a design, which are those at these places.
-pub(crate) fn rules_refusal(
+pub(crate) fn rules_refusal<'t>(
     alloc: Global,
-    places: &[Place<'_, '_>],
+    places: &'t [Place<'t, '_>],
     interfaces: &Interfaces<'_>,
 ) -> Result<Option<DesignKind>, AllocError>
     ensures { IfOk result (λ k. (d : Design) → IsNamedDesign interfaces.now (spots_of places.now) d → IsFirst d rule_kinds k) }

@@ -44,8 +44,8 @@ fn part_of<'s>(
 /// Leaves in the table the bits that rest on its bits after a net got the value of its declaration.
 fn run_net<'s>(
     alloc: Global,
-    name: &'s str,
     value: &Expression<'_>,
+    name: &'s str,
     scope: &Scope<'_>,
     unsettled: &mut BTreeMap<&'s str, u128>,
 ) -> Result<(), AllocError>
@@ -79,7 +79,7 @@ fn run<'s>(
             Ok(())
         }
         Driver::Net(name, value) => {
-            run_net(alloc, name, value, scope, unsettled)?;
+            run_net(alloc, value, name, scope, unsettled)?;
             Ok(())
         }
         Driver::Block(block) => {
@@ -103,8 +103,8 @@ pub(crate) fn resting<'s>(
 {
     rests_where_it_depends();
     let mut needed = Vec::new(alloc);
-    add_read(scope, driver, &mut needed)?;
-    add_driven(scope, driver, &mut needed)?;
+    add_read(driver, scope, &mut needed)?;
+    add_driven(driver, scope, &mut needed)?;
     let mut table = part_of(alloc, unsettled, &needed)?;
     run(alloc, driver, scope, &mut table)?;
     Ok(table)
@@ -123,7 +123,7 @@ pub fn settled_by<'s>(
     ensures { IfOk result (λ v. AreSettled (masked unsettled.now) (scope_at scope.now) (statement_in driver.entry) (bits_in v.items)) }
 {
     let mut spans = Vec::new(alloc);
-    add_driven(scope, driver, &mut spans)?;
+    add_driven(driver, scope, &mut spans)?;
     let mut settled = Vec::new(alloc);
     let some = meets(&spans, unsettled);
     if !some {

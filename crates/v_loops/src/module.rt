@@ -24,7 +24,7 @@ pub fn has_loop(alloc: Global, items: &[Item<'_>], scope: &Scope<'_>) -> Result<
     ensures { IfOk result (λ r. IsTrue r ↔ HasLoopIn (scope_at scope.now) (map item_of items.now)) }
 {
     let drivers = drivers_of(alloc, items)?;
-    let driven = all_driven(alloc, scope, &drivers)?;
+    let driven = all_driven(alloc, &drivers, scope)?;
     let mut unsettled = masks_of(alloc, &driven)?;
     passes(alloc, &drivers, scope, &driven, &mut unsettled)?;
     let mut left = kept_in(alloc, &unsettled, &driven)?;

@@ -44,9 +44,9 @@ fn visit<'s>(
 }
 
 /// Visits the driver with an index, if there is one. Answers whether a bit was settled.
-fn visit_at<'s>(
+fn visit_at<'t, 's>(
     alloc: Global,
-    drivers: &[Driver<'_, 's>],
+    drivers: &'t [Driver<'t, 's>],
     scope: &Scope<'_>,
     index: usize,
     shared: &BTreeMap<&'s str, u128>,
@@ -69,9 +69,9 @@ fn visit_at<'s>(
 }
 
 /// Visits drivers in an order. Answers whether a bit was settled.
-fn pass<'s>(
+fn pass<'t, 's>(
     alloc: Global,
-    drivers: &[Driver<'_, 's>],
+    drivers: &'t [Driver<'t, 's>],
     scope: &Scope<'_>,
     order: &[usize],
     shared: &BTreeMap<&'s str, u128>,
@@ -92,9 +92,9 @@ fn pass<'s>(
 }
 
 /// Makes passes until one settles nothing. Bits that depend on themselves are left.
-pub(crate) fn passes<'s>(
+pub(crate) fn passes<'t, 's>(
     alloc: Global,
-    drivers: &[Driver<'_, 's>],
+    drivers: &'t [Driver<'t, 's>],
     scope: &Scope<'_>,
     driven: &[Span<'s>],
     unsettled: &mut BTreeMap<&'s str, u128>,
@@ -105,7 +105,7 @@ pub(crate) fn passes<'s>(
     ensures { OnOk result (IsPassed (scope_at scope.now) (statements_in drivers.now) (masked unsettled.old) (masked unsettled.new)) }
 {
     let shared = shared(alloc, drivers, scope)?;
-    let order = order_of(alloc, scope, drivers)?;
+    let order = order_of(alloc, drivers, scope)?;
     for _ in 0..u64::MAX {
         let some = meets(driven, unsettled);
         if !some {

@@ -33,7 +33,7 @@ fn add<'s>(
         (spread (and_in (existing (scope_at scope.now) (may_assign (scope_at scope.now) (statement_in driver.entry))) (masked once.old)))) }
 {
     let mut spans = Vec::new(alloc);
-    add_driven(scope, driver, &mut spans)?;
+    add_driven(driver, scope, &mut spans)?;
     let both = kept_in(alloc, once, &spans)?;
     add_spans(twice, &both)?;
     add_spans(once, &spans)?;
@@ -41,9 +41,9 @@ fn add<'s>(
 }
 
 /// The bits that more than one driver may assign.
-pub(crate) fn shared<'s>(
+pub(crate) fn shared<'t, 's>(
     alloc: Global,
-    drivers: &[Driver<'_, 's>],
+    drivers: &'t [Driver<'t, 's>],
     scope: &Scope<'_>,
 ) -> Result<BTreeMap<&'s str, u128>, AllocError>
     requires objects { HasNarrowObjects (scope_at scope.now) }

@@ -37,7 +37,7 @@ fn add_resting<'s>(
     ensures { OnOk result (Adds false (masked unsettled.now) (scope_at scope.now) (statement_in driver.entry ∷ []) (bits_in found.old.items) (bits_in found.new.items)) }
 {
     let mut spans = Vec::new(alloc);
-    add_driven(scope, driver, &mut spans)?;
+    add_driven(driver, scope, &mut spans)?;
     let table = resting(alloc, driver, scope, unsettled)?;
     let kept = kept_in(alloc, &table, &spans)?;
     append(&kept, found)?;
@@ -45,9 +45,9 @@ fn add_resting<'s>(
 }
 
 /// The bits that rest on an unsettled one by some driver.
-fn turn<'s>(
+fn turn<'t, 's>(
     alloc: Global,
-    drivers: &[Driver<'_, 's>],
+    drivers: &'t [Driver<'t, 's>],
     scope: &Scope<'_>,
     unsettled: &[Span<'s>],
 ) -> Result<Vec<Span<'s>>, AllocError>
@@ -65,9 +65,9 @@ fn turn<'s>(
 }
 
 /// Makes up to 128 turns. Answers whether nothing was settled by the last one.
-pub(crate) fn turns<'s>(
+pub(crate) fn turns<'t, 's>(
     alloc: Global,
-    drivers: &[Driver<'_, 's>],
+    drivers: &'t [Driver<'t, 's>],
     scope: &Scope<'_>,
     unsettled: &mut Vec<Span<'s>>,
 ) -> Result<bool, AllocError>

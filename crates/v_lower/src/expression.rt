@@ -29,9 +29,9 @@ pub enum SizeStop {
 
 /// The term of an expression that breaks no rule, or else the store as it was.
 fn lower_sound(
+    expression: &Expression<'_>,
     names: Names<'_, '_, '_, '_>,
     terms: &mut Terms,
-    expression: &Expression<'_>,
     width: u32,
     signed: bool,
 ) -> Result<TermId, SizeStop>
@@ -42,7 +42,7 @@ fn lower_sound(
     ensures { IsMade (scope_at names.entry.scope.now) (images_at names.entry.table.now) terms.old terms.new (tree_of expression.now) width signed (outcome_of result) }
 {
     let before = terms.len();
-    match lower_in(names, terms, expression, width, signed) {
+    match lower_in(expression, names, terms, width, signed) {
         Ok(id) => Ok(id),
         Err(_) => {
             terms.cut(before);
@@ -55,9 +55,9 @@ fn lower_sound(
 /// (1364-2005, 5.4 and 5.5). It answers a term of the store, or the first kind of refusal whose rule is broken, or that memory ran
 /// out, and then the store is as it was.
 pub fn lower(
+    expression: &Expression<'_>,
     scope: &Scope<'_>,
     table: &NamedTerms<'_>,
-    expression: &Expression<'_>,
     width: u32,
     signed: bool,
     terms: &mut Terms,
@@ -66,8 +66,8 @@ pub fn lower(
     requires asked { IsAsked (scope_at scope.now) (images_at table.now) terms.old (tree_of expression.now) width }
     ensures { IsAnswer (scope_at scope.now) (images_at table.now) terms.old terms.new (tree_of expression.now) width signed (outcome_of result) }
 {
-    if let Err(refusal) = size(scope, expression) {
+    if let Err(refusal) = size(expression, scope) {
         return Err(SizeStop::Refused(refusal));
     }
-    lower_sound(Names { scope, table }, terms, expression, width, signed)
+    lower_sound(expression, Names { scope, table }, terms, width, signed)
 }

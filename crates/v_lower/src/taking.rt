@@ -30,7 +30,7 @@ use v_value::width::width_of;
 use wb_terms::Terms;
 
 /// The width and the sign of an expression by itself.
-pub(crate) fn own_context(names: Names<'_, '_, '_, '_>, expression: &Expression<'_>) -> Context
+pub(crate) fn own_context(expression: &Expression<'_>, names: Names<'_, '_, '_, '_>) -> Context
     requires { IsSound (scope_at names.scope.now) (tree_of expression.now) }
     ensures width { result.width ≡ width_at (scope_at names.entry.scope.now) (tree_of expression.now) }
     ensures sign { result.signed ≡ sign_at (scope_at names.entry.scope.now) (tree_of expression.now) }
@@ -38,8 +38,8 @@ pub(crate) fn own_context(names: Names<'_, '_, '_, '_>, expression: &Expression<
     ensures at_most_128 { result.width ≤ 128 }
 {
     Context {
-        width: width_of(names.scope, expression),
-        signed: sign_of(names.scope, expression),
+        width: width_of(expression, names.scope),
+        signed: sign_of(expression, names.scope),
     }
 }
 
@@ -56,12 +56,12 @@ fn natural(integer: Integer) -> u32
 }
 
 /// The number of a constant, which is at most 128.
-pub(crate) fn count_of(names: Names<'_, '_, '_, '_>, count: &Expression<'_>) -> u32
+pub(crate) fn count_of(count: &Expression<'_>, names: Names<'_, '_, '_, '_>) -> u32
     requires narrow { IsNarrow (scope_at names.scope.now) (tree_of count.now) }
     requires at_most_128 { count_at (scope_at names.scope.now) (tree_of count.now) ≤ 128 }
     ensures { result ≡ count_at (scope_at names.entry.scope.now) (tree_of count.now) }
 {
-    natural(integer_of(names.scope, &[], count))
+    natural(integer_of(count, names.scope, &[]))
 }
 
 /// One bit of an object.
@@ -141,9 +141,9 @@ pub(crate) fn taken_bits(
 
 /// The bits that a part select between two bounds takes of an operand.
 pub(crate) fn bounded_bits(
+    select: &Select<'_>,
     names: Names<'_, '_, '_, '_>,
     terms: &mut Terms,
-    select: &Select<'_>,
     object: Object,
     operand: Operand,
 ) -> Result<Operand, NoMemory>
@@ -153,7 +153,7 @@ pub(crate) fn bounded_bits(
     ensures grows { Grows terms.old terms.new }
     ensures bits { IfOk result (λ r. TakesBits (scope_at names.entry.scope.now) (images_at names.entry.table.now) terms.old terms.new (object_of object) (select_of select.now) operand.id.0 operand.width r.width r.id.0) }
 {
-    let span = select_bits(names.scope, &[], object, select);
+    let span = select_bits(select, names.scope, &[], object);
     let id = fixed_bits(terms, operand.id, operand.width, span)?;
     Ok(Operand {
         id,

@@ -36,9 +36,9 @@ use wb_terms::{TermId, Terms};
 /// The term of an expression in a context of `width` bits and this sign.
 #[cycle(walk)]
 pub(crate) fn lower_in(
+    expression: &Expression<'_>,
     names: Names<'_, '_, '_, '_>,
     terms: &mut Terms,
-    expression: &Expression<'_>,
     width: u32,
     signed: bool,
 ) -> Result<TermId, NoMemory>
@@ -55,64 +55,64 @@ pub(crate) fn lower_in(
             Ok(id)
         }
         Expression::Name(name, selects) => {
-            let read = lower_name(names, terms, selects, name)?;
+            let read = lower_name(selects, names, terms, name)?;
             let id = lower_read(terms, read, width, signed)?;
             Ok(id)
         }
         Expression::Concatenation(parts) => {
-            let all = lower_parts(names, terms, parts)?;
+            let all = lower_parts(parts, names, terms)?;
             let id = lower_concatenation(terms, all.id, all.width, width, signed)?;
             Ok(id)
         }
         Expression::Replication(count, parts) => {
-            let all = lower_parts(names, terms, parts)?;
-            let copies = count_of(names, count);
+            let all = lower_parts(parts, names, terms)?;
+            let copies = count_of(count, names);
             let id = lower_replication(terms, copies, all.id, all.width, width, signed)?;
             Ok(id)
         }
         Expression::AsSigned(operand) => {
-            let own = lower_alone(names, terms, operand)?;
+            let own = lower_alone(operand, names, terms)?;
             let id = lower_signed(terms, own.id, own.width, width, signed)?;
             Ok(id)
         }
         Expression::AsUnsigned(operand) => {
-            let own = lower_alone(names, terms, operand)?;
+            let own = lower_alone(operand, names, terms)?;
             let id = lower_unsigned(terms, own.id, own.width, width, signed)?;
             Ok(id)
         }
         Expression::Prefix(operators, operand) => {
-            let id = lower_prefixed(names, terms, operand, operators, width, signed)?;
+            let id = lower_prefixed(operand, names, terms, operators, width, signed)?;
             Ok(id)
         }
         Expression::Binary(first, links) => {
-            let left = lower_in(names, terms, first, width, signed)?;
-            let id = lower_links(names, terms, links, left, width, signed)?;
+            let left = lower_in(first, names, terms, width, signed)?;
+            let id = lower_links(links, names, terms, left, width, signed)?;
             Ok(id)
         }
         Expression::Test(first, links) => {
             if links.is_empty() {
-                let id = lower_in(names, terms, first, width, signed)?;
+                let id = lower_in(first, names, terms, width, signed)?;
                 return Ok(id);
             }
             let link = &links[0];
-            let own = own_context(names, first);
-            let other = own_context(names, &link.operand);
+            let own = own_context(first, names);
+            let other = own_context(&link.operand, names);
             let contexts = contexts_of(link.operator, own, other);
             let left = lower_in(
+                first,
                 names,
                 terms,
-                first,
                 contexts.left.width,
                 contexts.left.signed,
             )?;
-            let said = lower_test(names, terms, link, left, contexts)?;
-            let all = lower_tests(names, terms, links, said)?;
+            let said = lower_test(link, names, terms, left, contexts)?;
+            let all = lower_tests(links, names, terms, said)?;
             let id = lower_bit(terms, all, width)?;
             Ok(id)
         }
         Expression::Conditional(choices, last) => {
-            let other = lower_in(names, terms, last, width, signed)?;
-            let id = lower_choices(names, terms, choices, other, width, signed)?;
+            let other = lower_in(last, names, terms, width, signed)?;
+            let id = lower_choices(choices, names, terms, other, width, signed)?;
             Ok(id)
         }
     }
@@ -121,9 +121,9 @@ pub(crate) fn lower_in(
 /// The term of an expression by itself.
 #[cycle(walk)]
 fn lower_alone(
+    expression: &Expression<'_>,
     names: Names<'_, '_, '_, '_>,
     terms: &mut Terms,
-    expression: &Expression<'_>,
 ) -> Result<Operand, NoMemory>
     requires known { HasImages (scope_at names.scope.now) (images_at names.table.now) terms.old }
     requires sound { IsSound (scope_at names.scope.now) (tree_of expression.now) }
@@ -131,8 +131,8 @@ fn lower_alone(
     ensures lowered { IfOk result (λ r. IsLoweredAlone (scope_at names.entry.scope.now) (images_at names.entry.table.now) terms.new (tree_of expression.now) r.width r.id.0) }
     ensures sign { IfOk result (λ r. r.signed ≡ sign_at (scope_at names.entry.scope.now) (tree_of expression.now)) }
 {
-    let own = own_context(names, expression);
-    let id = lower_in(names, terms, expression, own.width, own.signed)?;
+    let own = own_context(expression, names);
+    let id = lower_in(expression, names, terms, own.width, own.signed)?;
     Ok(Operand {
         id,
         width: own.width,
@@ -143,9 +143,9 @@ fn lower_alone(
 /// What a name with selects reads.
 #[cycle(walk)]
 fn lower_name(
+    selects: &Selects<'_>,
     names: Names<'_, '_, '_, '_>,
     terms: &mut Terms,
-    selects: &Selects<'_>,
     name: &str,
 ) -> Result<Operand, NoMemory>
     requires known { HasImages (scope_at names.scope.now) (images_at names.table.now) terms.old }
@@ -159,12 +159,12 @@ fn lower_name(
             Ok(read)
         }
         Selects::One(select) => {
-            let read = lower_selected(names, terms, select, name)?;
+            let read = lower_selected(select, names, terms, name)?;
             Ok(read)
         }
         Selects::Two(address, select) => {
-            let word = lower_addressed(names, terms, address, name)?;
-            let read = lower_bits(names, terms, select, names.scope.object(name), word)?;
+            let word = lower_addressed(address, names, terms, name)?;
+            let read = lower_bits(select, names, terms, names.scope.object(name), word)?;
             Ok(read)
         }
     }
@@ -173,9 +173,9 @@ fn lower_name(
 /// What a name with one select reads: a word of a memory, or some bits.
 #[cycle(walk)]
 fn lower_selected(
+    select: &Select<'_>,
     names: Names<'_, '_, '_, '_>,
     terms: &mut Terms,
-    select: &Select<'_>,
     name: &str,
 ) -> Result<Operand, NoMemory>
     requires known { HasImages (scope_at names.scope.now) (images_at names.table.now) terms.old }
@@ -185,20 +185,20 @@ fn lower_selected(
 {
     let object = names.scope.object(name);
     if object.addresses.is_some() {
-        let word = lower_addressed(names, terms, select, name)?;
+        let word = lower_addressed(select, names, terms, name)?;
         return Ok(word);
     }
     let whole = lower_whole(names, terms, name)?;
-    let bits = lower_bits(names, terms, select, object, whole)?;
+    let bits = lower_bits(select, names, terms, object, whole)?;
     Ok(bits)
 }
 
 /// The word of a memory that an index reads.
 #[cycle(walk)]
 fn lower_addressed(
+    select: &Select<'_>,
     names: Names<'_, '_, '_, '_>,
     terms: &mut Terms,
-    select: &Select<'_>,
     name: &str,
 ) -> Result<Operand, NoMemory>
     requires known { HasImages (scope_at names.scope.now) (images_at names.table.now) terms.old }
@@ -208,7 +208,7 @@ fn lower_addressed(
 {
     match select {
         Select::Index(index) => {
-            let address = lower_alone(names, terms, index)?;
+            let address = lower_alone(index, names, terms)?;
             let word = lower_word(names, terms, name, address)?;
             Ok(word)
         }
@@ -219,9 +219,9 @@ fn lower_addressed(
 /// The bits that a select takes of an operand.
 #[cycle(walk)]
 fn lower_bits(
+    select: &Select<'_>,
     names: Names<'_, '_, '_, '_>,
     terms: &mut Terms,
-    select: &Select<'_>,
     object: Object,
     operand: Operand,
 ) -> Result<Operand, NoMemory>
@@ -233,23 +233,23 @@ fn lower_bits(
 {
     match select {
         Select::Index(index) => {
-            let base = lower_alone(names, terms, index)?;
+            let base = lower_alone(index, names, terms)?;
             let bits = taken_bits(terms, one_bit_of(object), operand, base)?;
             Ok(bits)
         }
         Select::Part(_, _) => {
-            let bits = bounded_bits(names, terms, select, object, operand)?;
+            let bits = bounded_bits(select, names, terms, object, operand)?;
             Ok(bits)
         }
         Select::PartUp(base, count) => {
-            let base = lower_alone(names, terms, base)?;
-            let wanted = upward(object, count_of(names, count));
+            let base = lower_alone(base, names, terms)?;
+            let wanted = upward(object, count_of(count, names));
             let bits = taken_bits(terms, wanted, operand, base)?;
             Ok(bits)
         }
         Select::PartDown(base, count) => {
-            let base = lower_alone(names, terms, base)?;
-            let wanted = downward(object, count_of(names, count));
+            let base = lower_alone(base, names, terms)?;
+            let wanted = downward(object, count_of(count, names));
             let bits = taken_bits(terms, wanted, operand, base)?;
             Ok(bits)
         }
@@ -259,9 +259,9 @@ fn lower_bits(
 /// Operators before an operand, in a context of `width` bits and this sign.
 #[cycle(walk)]
 fn lower_prefixed(
+    operand: &Expression<'_>,
     names: Names<'_, '_, '_, '_>,
     terms: &mut Terms,
-    operand: &Expression<'_>,
     operators: &[PrefixOperator],
     width: u32,
     signed: bool,
@@ -275,11 +275,11 @@ fn lower_prefixed(
     ensures lowered { IfOk result (λ r. IsLowered (scope_at names.entry.scope.now) (images_at names.entry.table.now) terms.new (all_prefixed operators.now (tree_of operand.now)) width signed r.0) }
 {
     if reduces(operators) {
-        let own = lower_alone(names, terms, operand)?;
+        let own = lower_alone(operand, names, terms)?;
         let id = lower_reduced(terms, operators, own, width)?;
         return Ok(id);
     }
-    let inner = lower_in(names, terms, operand, width, signed)?;
+    let inner = lower_in(operand, names, terms, width, signed)?;
     let id = lower_kept(terms, operators, inner, width)?;
     Ok(id)
 }
@@ -287,9 +287,9 @@ fn lower_prefixed(
 /// A chain of operators after an operand that has its term, in a context of `width` bits and this sign.
 #[cycle(walk)]
 fn lower_links(
+    links: &[BinaryLink<'_>],
     names: Names<'_, '_, '_, '_>,
     terms: &mut Terms,
-    links: &[BinaryLink<'_>],
     first: TermId,
     width: u32,
     signed: bool,
@@ -305,7 +305,7 @@ fn lower_links(
 {
     let mut left = first;
     for link in links {
-        left = lower_link(names, terms, link, left, width, signed)?;
+        left = lower_link(link, names, terms, left, width, signed)?;
     }
     Ok(left)
 }
@@ -313,9 +313,9 @@ fn lower_links(
 /// One link of such a chain.
 #[cycle(walk)]
 fn lower_link(
+    link: &BinaryLink<'_>,
     names: Names<'_, '_, '_, '_>,
     terms: &mut Terms,
-    link: &BinaryLink<'_>,
     left: TermId,
     width: u32,
     signed: bool,
@@ -332,7 +332,7 @@ fn lower_link(
         → IsLowered (scope_at names.entry.scope.now) (images_at names.entry.table.now) terms.new (combined link.now.operator x (tree_of link.now.operand)) width signed r.0) }
 {
     if is_shift(link.operator) {
-        let count = lower_alone(names, terms, &link.operand)?;
+        let count = lower_alone(&link.operand, names, terms)?;
         let id = lower_shift(
             terms,
             link.operator,
@@ -344,7 +344,7 @@ fn lower_link(
         )?;
         return Ok(id);
     }
-    let right = lower_in(names, terms, &link.operand, width, signed)?;
+    let right = lower_in(&link.operand, names, terms, width, signed)?;
     let id = lower_binary(terms, link.operator, left, right, width)?;
     Ok(id)
 }
@@ -352,9 +352,9 @@ fn lower_link(
 /// One bit: what a test says of a left operand that has its term in its context, and of a right one.
 #[cycle(walk)]
 fn lower_test(
+    link: &TestLink<'_>,
     names: Names<'_, '_, '_, '_>,
     terms: &mut Terms,
-    link: &TestLink<'_>,
     left: TermId,
     contexts: Contexts,
 ) -> Result<TermId, NoMemory>
@@ -369,9 +369,9 @@ fn lower_test(
         → IsBit (scope_at names.entry.scope.now) (images_at names.entry.table.now) terms.new (tested link.now.operator x (tree_of link.now.operand)) r.0) }
 {
     let right = lower_in(
+        &link.operand,
         names,
         terms,
-        &link.operand,
         contexts.right.width,
         contexts.right.signed,
     )?;
@@ -382,9 +382,9 @@ fn lower_test(
 /// One bit: a chain of tests after its first, which has its term.
 #[cycle(walk)]
 fn lower_tests(
+    links: &[TestLink<'_>],
     names: Names<'_, '_, '_, '_>,
     terms: &mut Terms,
-    links: &[TestLink<'_>],
     first: TermId,
 ) -> Result<TermId, NoMemory>
     requires known { HasImages (scope_at names.scope.now) (images_at names.table.now) terms.old }
@@ -397,7 +397,7 @@ fn lower_tests(
 {
     let mut said = first;
     for i in 1..links.len() {
-        said = lower_next(names, terms, &links[i], said)?;
+        said = lower_next(&links[i], names, terms, said)?;
     }
     Ok(said)
 }
@@ -405,9 +405,9 @@ fn lower_tests(
 /// One bit: a test of one bit and of a right operand.
 #[cycle(walk)]
 fn lower_next(
+    link: &TestLink<'_>,
     names: Names<'_, '_, '_, '_>,
     terms: &mut Terms,
-    link: &TestLink<'_>,
     said: TermId,
 ) -> Result<TermId, NoMemory>
     requires known { HasImages (scope_at names.scope.now) (images_at names.table.now) terms.old }
@@ -421,19 +421,19 @@ fn lower_next(
     let contexts = contexts_of(
         link.operator,
         bit_context(),
-        own_context(names, &link.operand),
+        own_context(&link.operand, names),
     );
     let left = lower_bit(terms, said, contexts.left.width)?;
-    let id = lower_test(names, terms, link, left, contexts)?;
+    let id = lower_test(link, names, terms, left, contexts)?;
     Ok(id)
 }
 
 /// Conditions with their values before a last value that has its term, in a context of `width` bits and this sign.
 #[cycle(walk)]
 fn lower_choices(
+    choices: &[Choice<'_>],
     names: Names<'_, '_, '_, '_>,
     terms: &mut Terms,
-    choices: &[Choice<'_>],
     last: TermId,
     width: u32,
     signed: bool,
@@ -449,7 +449,7 @@ fn lower_choices(
 {
     let mut other = last;
     for i in (0..choices.len()).rev() {
-        other = lower_choice(names, terms, &choices[i], other, width, signed)?;
+        other = lower_choice(&choices[i], names, terms, other, width, signed)?;
     }
     Ok(other)
 }
@@ -457,9 +457,9 @@ fn lower_choices(
 /// One condition with its value before another.
 #[cycle(walk)]
 fn lower_choice(
+    choice: &Choice<'_>,
     names: Names<'_, '_, '_, '_>,
     terms: &mut Terms,
-    choice: &Choice<'_>,
     other: TermId,
     width: u32,
     signed: bool,
@@ -475,8 +475,8 @@ fn lower_choice(
     ensures lowered { IfOk result (λ r. (x : pure.Expression) → IsLowered (scope_at names.entry.scope.now) (images_at names.entry.table.now) terms.old x width signed other.0
         → IsLowered (scope_at names.entry.scope.now) (images_at names.entry.table.now) terms.new (pure.conditional (tree_of choice.now.condition) (tree_of choice.now.value) x) width signed r.0) }
 {
-    let condition = lower_alone(names, terms, &choice.condition)?;
-    let value = lower_in(names, terms, &choice.value, width, signed)?;
+    let condition = lower_alone(&choice.condition, names, terms)?;
+    let value = lower_in(&choice.value, names, terms, width, signed)?;
     let id = lower_conditional(terms, condition.id, condition.width, value, other, width)?;
     Ok(id)
 }
@@ -484,9 +484,9 @@ fn lower_choice(
 /// Parts side by side, the first at the high end.
 #[cycle(walk)]
 fn lower_parts(
+    parts: &[Expression<'_>],
     names: Names<'_, '_, '_, '_>,
     terms: &mut Terms,
-    parts: &[Expression<'_>],
 ) -> Result<Operand, NoMemory>
     requires known { HasImages (scope_at names.scope.now) (images_at names.table.now) terms.old }
     requires sound { ArePartsSound (scope_at names.scope.now) parts.now }
@@ -494,10 +494,10 @@ fn lower_parts(
     ensures grows { Grows terms.old terms.new }
     ensures lowered { IfOk result (λ r. AreLowered (scope_at names.entry.scope.now) (images_at names.entry.table.now) terms.new (expressions_of parts.now) r.width r.id.0) }
 {
-    let first = lower_alone(names, terms, &parts[0])?;
+    let first = lower_alone(&parts[0], names, terms)?;
     let mut all = first;
     for i in 1..parts.len() {
-        let part = lower_alone(names, terms, &parts[i])?;
+        let part = lower_alone(&parts[i], names, terms)?;
         let id = lower_part(terms, all.id, all.width, part.id, part.width)?;
         all = Operand {
             id,

@@ -34,7 +34,7 @@ use v_value::scope::Scope;
 fn broken_items(items: &[Item<'_>], names: Names<'_, '_>) -> Broken
     ensures { result ≡ module_items_from (scope_at names.entry.scope.now) none (map item_of items.now) }
 {
-    items_rules(names, items)
+    items_rules(items, names)
 }
 
 /// The rules that instances among items break.
@@ -42,7 +42,7 @@ fn broken_instances(items: &[Item<'_>], names: Names<'_, '_>, interfaces: &Inter
     ensures { (source : Source) → AreInterfacesOf interfaces.now source
         → result ≡ coded (broken_instance_items source (scope_at names.entry.scope.now) (map item_of items.now)) }
 {
-    instances_rules(names, interfaces, items)
+    instances_rules(items, names, interfaces)
 }
 
 /// The rules that the ports, the parameters and the items of a module break.
@@ -51,10 +51,10 @@ fn broken_text(within: &Module<'_>, names: Names<'_, '_>, interfaces: &Interface
 {
     let items = broken_items(&within.items, names);
     let parts = broken_instances(&within.items, names, interfaces);
-    let parameters = parameters_rules(names, within);
+    let parameters = parameters_rules(within, names);
     rules_of_module();
     also(
-        ports_rules(names, &within.ports),
+        ports_rules(&within.ports, names),
         also(items, also(parameters, parts)),
     )
 }
@@ -120,7 +120,7 @@ pub fn module_rule<'s>(
     ensures { IfOk result (λ b. (source : Source) (p : Placed) → AreInterfacesOf interfaces.now source → p.of_module ≡ module_of within.now
         → p.constants ≡ objects_of constants.entry.scope.now.declarations.items → b ≡ coded (kinds (broken_module source p))) }
 {
-    let rows = declared_scope(alloc, constants, within)?;
+    let rows = declared_scope(alloc, within, constants)?;
     let names = placed_scope(alloc, &rows, constants.scope)?;
     let declared = broken_names(&names, rows.declarations());
     let text = broken_narrow(

@@ -1,5 +1,6 @@
 //! The kinds on names of a design, one after the other.
-ghost use Rattle.std.specs.Prelude.{◌≡◌, None, IfOk};
+ghost use Rattle.std.specs.Prelude.{◌≡◌, None, option_map, IfOk};
+ghost use Rattle.verilog_meaning.specs.Hierarchy.{module_named};
 ghost use Rattle.verilog_meaning.specs.Settled.{Design};
 ghost use Rattle.v_syntax.specs.Source.{module_of, source_of};
 ghost use Rattle.v_named.specs.Names.{IsTopOf, IsNamesKind, IsNamed};
@@ -65,6 +66,25 @@ fn named_top<'t, 's>(
     }
 }
 
+/// The same of a design whose top is this module, if there is one.
+fn named_found<'t, 's>(
+    alloc: Global,
+    tree: &'t Tree<'s>,
+    found: Option<&'t Module<'s>>,
+    clock: &str,
+) -> Result<Named<'t, 's>, AllocError>
+    ensures { IfOk result (λ n. (d : Design) → d.source ≡ source_of tree.now → option_map (λ m. module_of m.now) found.entry ≡ module_named d.source d.top
+        → d.clock ≡ clock.now → IsNamed d n) }
+{
+    match found {
+        Some(within) => {
+            let named = named_top(alloc, tree, within, clock)?;
+            Ok(named)
+        }
+        None => Ok(Named::Refused(NamesKind::NoTop)),
+    }
+}
+
 /// The first of the kinds on names that a design breaks: no top, an undeclared name, a name that is declared twice, a bad hierarchy. Of a
 /// design that breaks none of them all modules that stand in it are listed: the top first, each other one behind the module around it.
 pub fn judged_names<'t, 's>(
@@ -75,11 +95,6 @@ pub fn judged_names<'t, 's>(
 ) -> Result<Named<'t, 's>, AllocError>
     ensures { IfOk result (IsNamed (record { source = source_of tree.now; top = top.now; clock = clock.now })) }
 {
-    match top_of(tree, top) {
-        Some(within) => {
-            let named = named_top(alloc, tree, within, clock)?;
-            Ok(named)
-        }
-        None => Ok(Named::Refused(NamesKind::NoTop)),
-    }
+    let named = named_found(alloc, tree, top_of(tree, top), clock)?;
+    Ok(named)
 }

@@ -36,86 +36,86 @@ fn all_three(first: bool, second: bool, third: bool) -> bool
 
 /// Whether the expression is narrow.
 #[cycle(narrow)]
-fn narrow(checked: Checked<'_, '_>, expression: &Expression<'_>) -> bool
+fn narrow(expression: &Expression<'_>, checked: Checked<'_, '_>) -> bool
     ensures { result ≡ narrow_at checked.entry.objects (scope_at checked.entry.scope.now) (tree_of expression.now) }
 {
     match expression {
         Expression::Number(number) => is_number_narrow(number),
         Expression::Name(name, selects) => selects_narrow(
+            selects,
             checked,
             checked.scope.object(name),
-            selects,
         ),
-        Expression::Concatenation(parts) => parts_fit(checked, parts, parts_narrow(checked, parts)),
+        Expression::Concatenation(parts) => parts_fit(parts, checked, parts_narrow(parts, checked)),
         Expression::Replication(count, parts) => repeated_fit(
-            checked,
             count,
             parts,
-            narrow(checked, count),
-            parts_narrow(checked, parts),
-        ),
-        Expression::AsSigned(operand) => narrow(checked, operand),
-        Expression::AsUnsigned(operand) => narrow(checked, operand),
-        Expression::Prefix(_, operand) => narrow(checked, operand),
-        Expression::Binary(first, links) => links_narrow(checked, narrow(checked, first), links),
-        Expression::Test(first, links) => tests_narrow(checked, narrow(checked, first), links),
-        Expression::Conditional(choices, last) => choices_narrow(
             checked,
+            narrow(count, checked),
+            parts_narrow(parts, checked),
+        ),
+        Expression::AsSigned(operand) => narrow(operand, checked),
+        Expression::AsUnsigned(operand) => narrow(operand, checked),
+        Expression::Prefix(_, operand) => narrow(operand, checked),
+        Expression::Binary(first, links) => links_narrow(links, checked, narrow(first, checked)),
+        Expression::Test(first, links) => tests_narrow(links, checked, narrow(first, checked)),
+        Expression::Conditional(choices, last) => choices_narrow(
             choices,
-            narrow(checked, last),
+            checked,
+            narrow(last, checked),
         ),
     }
 }
 
 /// Whether what the selects read of the object has 1 to 128 bits, and each select is narrow.
 #[cycle(narrow)]
-fn selects_narrow(checked: Checked<'_, '_>, object: Object, selects: &Selects<'_>) -> bool
+fn selects_narrow(selects: &Selects<'_>, checked: Checked<'_, '_>, object: Object) -> bool
     ensures { result ≡ selects_narrow_at checked.entry.objects (scope_at checked.entry.scope.now) (object_of object) (selects_of selects.now) }
 {
     match selects {
         Selects::Whole => is_object_narrow(object),
-        Selects::One(select) => one_fits(checked, object, select, select_narrow(checked, select)),
+        Selects::One(select) => one_fits(select, checked, object, select_narrow(select, checked)),
         Selects::Two(first, second) => two_fit(
-            checked,
             second,
-            select_narrow(checked, first),
-            select_narrow(checked, second),
+            checked,
+            select_narrow(first, checked),
+            select_narrow(second, checked),
         ),
     }
 }
 
 /// Whether the expressions in the select are narrow, and what is read of them with no values can be.
 #[cycle(narrow)]
-fn select_narrow(checked: Checked<'_, '_>, select: &Select<'_>) -> bool
+fn select_narrow(select: &Select<'_>, checked: Checked<'_, '_>) -> bool
     ensures { result ≡ select_narrow_at checked.entry.objects (scope_at checked.entry.scope.now) (select_of select.now) }
 {
     match select {
-        Select::Index(index) => narrow(checked, index),
+        Select::Index(index) => narrow(index, checked),
         Select::Part(left, right) => all_three(
             checked.objects,
-            narrow(checked, left),
-            narrow(checked, right),
+            narrow(left, checked),
+            narrow(right, checked),
         ),
         Select::PartUp(base, count) => all_three(
             checked.objects,
-            narrow(checked, base),
-            narrow(checked, count),
+            narrow(base, checked),
+            narrow(count, checked),
         ),
         Select::PartDown(base, count) => all_three(
             checked.objects,
-            narrow(checked, base),
-            narrow(checked, count),
+            narrow(base, checked),
+            narrow(count, checked),
         ),
     }
 }
 
 /// Whether each part is narrow.
 #[cycle(narrow)]
-fn parts_narrow(checked: Checked<'_, '_>, parts: &[Expression<'_>]) -> bool
+fn parts_narrow(parts: &[Expression<'_>], checked: Checked<'_, '_>) -> bool
     ensures { result ≡ parts_test checked.entry.objects (scope_at checked.entry.scope.now) parts.now }
 {
     for part in parts {
-        if !narrow(checked, part) {
+        if !narrow(part, checked) {
             return false;
         }
     }
@@ -124,11 +124,11 @@ fn parts_narrow(checked: Checked<'_, '_>, parts: &[Expression<'_>]) -> bool
 
 /// Whether a chain is narrow, where `first` says so of its first operand.
 #[cycle(narrow)]
-fn links_narrow(checked: Checked<'_, '_>, first: bool, links: &[BinaryLink<'_>]) -> bool
+fn links_narrow(links: &[BinaryLink<'_>], checked: Checked<'_, '_>, first: bool) -> bool
     ensures { result ≡ (first && links_test checked.entry.objects (scope_at checked.entry.scope.now) links.now) }
 {
     for link in links {
-        if !narrow(checked, &link.operand) {
+        if !narrow(&link.operand, checked) {
             return false;
         }
     }
@@ -137,11 +137,11 @@ fn links_narrow(checked: Checked<'_, '_>, first: bool, links: &[BinaryLink<'_>])
 
 /// Whether a chain of tests is narrow, where `first` says so of its first operand.
 #[cycle(narrow)]
-fn tests_narrow(checked: Checked<'_, '_>, first: bool, links: &[TestLink<'_>]) -> bool
+fn tests_narrow(links: &[TestLink<'_>], checked: Checked<'_, '_>, first: bool) -> bool
     ensures { result ≡ (first && tests_test checked.entry.objects (scope_at checked.entry.scope.now) links.now) }
 {
     for link in links {
-        if !narrow(checked, &link.operand) {
+        if !narrow(&link.operand, checked) {
             return false;
         }
     }
@@ -150,11 +150,11 @@ fn tests_narrow(checked: Checked<'_, '_>, first: bool, links: &[TestLink<'_>]) -
 
 /// Whether a conditional is narrow, where `last` says so of its last value.
 #[cycle(narrow)]
-fn choices_narrow(checked: Checked<'_, '_>, choices: &[Choice<'_>], last: bool) -> bool
+fn choices_narrow(choices: &[Choice<'_>], checked: Checked<'_, '_>, last: bool) -> bool
     ensures { result ≡ (choices_test checked.entry.objects (scope_at checked.entry.scope.now) choices.now && last) }
 {
     for choice in choices {
-        if !narrow(checked, &choice.condition) || !narrow(checked, &choice.value) {
+        if !narrow(&choice.condition, checked) || !narrow(&choice.value, checked) {
             return false;
         }
     }
@@ -164,7 +164,7 @@ fn choices_narrow(checked: Checked<'_, '_>, choices: &[Choice<'_>], last: bool) 
 /// Whether each part of the expression fits words of at most 128 bits. Counts of replications and bounds of part selects are
 /// read with no values, so where some stands all objects of the scope must fit words. The parts of a concatenation or
 /// replication are walked through again for their widths, and counts and bounds for their values.
-pub fn is_narrow(scope: &Scope<'_>, expression: &Expression<'_>) -> bool
+pub fn is_narrow(expression: &Expression<'_>, scope: &Scope<'_>) -> bool
     ensures narrow { IsTrue result → IsNarrow (scope_at scope.now) (tree_of expression.now) }
     ensures exact { IsNarrow (scope_at scope.now) (tree_of expression.now) → IsTrue result }
 {
@@ -172,5 +172,5 @@ pub fn is_narrow(scope: &Scope<'_>, expression: &Expression<'_>) -> bool
         scope,
         objects: are_declared_narrow(scope, scope.declarations()),
     };
-    narrow(checked, expression)
+    narrow(expression, checked)
 }

@@ -47,13 +47,13 @@ fn are_near(left: Integer, right: Integer) -> bool
 }
 
 /// How many bits parts that are narrow have together, 129 for all widths above 128.
-fn width_together(scope: &Scope<'_>, parts: &[Expression<'_>]) -> u32
+fn width_together(parts: &[Expression<'_>], scope: &Scope<'_>) -> u32
     requires { AreNarrow (scope_at scope.now) (expressions_of parts.now) }
     ensures { result ≡ min (widths_of (scope_at scope.now) (expressions_of parts.now)) 129 }
 {
     let mut width = 0;
     for part in parts {
-        let own = width_of(scope, part);
+        let own = width_of(part, scope);
         if own > 128 - width {
             return 129;
         }
@@ -63,21 +63,21 @@ fn width_together(scope: &Scope<'_>, parts: &[Expression<'_>]) -> u32
 }
 
 /// The integer of a constant, read where no net or variable has a value.
-fn bound_of(scope: &Scope<'_>, expression: &Expression<'_>) -> Integer
+fn bound_of(expression: &Expression<'_>, scope: &Scope<'_>) -> Integer
     requires objects { HasNarrowObjects (scope_at scope.now) }
     requires narrow { IsNarrow (scope_at scope.now) (tree_of expression.now) }
     ensures { integer_at result ≡ bound_at (scope_at scope.now) (tree_of expression.now) }
 {
-    integer_of(scope, &[], expression)
+    integer_of(expression, scope, &[])
 }
 
 /// The number of a constant, read where no net or variable has a value: one below 0 counts as 0.
-fn count_of(scope: &Scope<'_>, expression: &Expression<'_>) -> u128
+fn count_of(expression: &Expression<'_>, scope: &Scope<'_>) -> u128
     requires objects { HasNarrowObjects (scope_at scope.now) }
     requires narrow { IsNarrow (scope_at scope.now) (tree_of expression.now) }
     ensures { result ≡ count_at (scope_at scope.now) (tree_of expression.now) }
 {
-    let integer = bound_of(scope, expression);
+    let integer = bound_of(expression, scope);
     if integer.negative {
         0
     } else {
@@ -86,19 +86,19 @@ fn count_of(scope: &Scope<'_>, expression: &Expression<'_>) -> u128
 }
 
 /// Whether the parts have 1 to 128 bits together, where `narrow` says whether each is narrow.
-pub(crate) fn parts_fit(checked: Checked<'_, '_>, parts: &[Expression<'_>], narrow: bool) -> bool
+pub(crate) fn parts_fit(parts: &[Expression<'_>], checked: Checked<'_, '_>, narrow: bool) -> bool
     requires { narrow ≡ parts_test checked.objects (scope_at checked.scope.now) parts.now }
     ensures { result ≡ (parts_test checked.entry.objects (scope_at checked.entry.scope.now) parts.now && is_width (widths_of (scope_at checked.entry.scope.now) (expressions_of parts.now))) }
 {
-    narrow && copies_fit(1, width_together(checked.scope, parts))
+    narrow && copies_fit(1, width_together(parts, checked.scope))
 }
 
 /// Whether so many copies of the parts have 1 to 128 bits together, where `counted` and `narrow` say whether the count and
 /// the parts are narrow.
-pub(crate) fn repeated_fit(
+pub(crate) fn repeated_fit<'s>(
+    count: &Expression<'s>,
+    parts: &[Expression<'s>],
     checked: Checked<'_, '_>,
-    count: &Expression<'_>,
-    parts: &[Expression<'_>],
     counted: bool,
     narrow: bool,
 ) -> bool
@@ -110,29 +110,29 @@ pub(crate) fn repeated_fit(
         return false;
     }
     copies_fit(
-        count_of(checked.scope, count),
-        width_together(checked.scope, parts),
+        count_of(count, checked.scope),
+        width_together(parts, checked.scope),
     )
 }
 
 /// Whether the select takes 1 to 128 bits.
-fn takes_few(scope: &Scope<'_>, select: &Select<'_>) -> bool
+fn takes_few(select: &Select<'_>, scope: &Scope<'_>) -> bool
     requires { IsSelectNarrow (scope_at scope.now) (select_of select.now) }
     ensures { result ≡ is_width (taken_at (scope_at scope.now) (select_of select.now)) }
 {
     match select {
         Select::Index(_) => true,
-        Select::Part(left, right) => are_near(bound_of(scope, left), bound_of(scope, right)),
-        Select::PartUp(_, count) => is_width(count_of(scope, count)),
-        Select::PartDown(_, count) => is_width(count_of(scope, count)),
+        Select::Part(left, right) => are_near(bound_of(left, scope), bound_of(right, scope)),
+        Select::PartUp(_, count) => is_width(count_of(count, scope)),
+        Select::PartDown(_, count) => is_width(count_of(count, scope)),
     }
 }
 
 /// Whether one select reads 1 to 128 bits of the object, where `narrow` says whether it is narrow.
 pub(crate) fn one_fits(
+    select: &Select<'_>,
     checked: Checked<'_, '_>,
     object: Object,
-    select: &Select<'_>,
     narrow: bool,
 ) -> bool
     requires { narrow ≡ select_narrow_at checked.objects (scope_at checked.scope.now) (select_of select.now) }
@@ -144,13 +144,13 @@ pub(crate) fn one_fits(
     if object.addresses.is_some() {
         return is_object_narrow(object);
     }
-    takes_few(checked.scope, select)
+    takes_few(select, checked.scope)
 }
 
 /// Whether a select after an index takes 1 to 128 bits, where `first` and `second` say whether the two are narrow.
 pub(crate) fn two_fit(
-    checked: Checked<'_, '_>,
     select: &Select<'_>,
+    checked: Checked<'_, '_>,
     first: bool,
     second: bool,
 ) -> bool
@@ -160,5 +160,5 @@ pub(crate) fn two_fit(
     if !first || !second {
         return false;
     }
-    takes_few(checked.scope, select)
+    takes_few(select, checked.scope)
 }

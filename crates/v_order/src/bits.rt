@@ -29,14 +29,14 @@ fn add_net<'s>(
     ensures { OnOk result (bits_in found.new.items ≡ or_in (bits_in found.old.items) (existing (scope_at scope.now) (may_reach (scope_at scope.now) (place name.now whole)))) }
 {
     let target = Target::Place(name, Selects::Whole);
-    add_reached(scope, &target, found)?;
+    add_reached(&target, scope, found)?;
     Ok(())
 }
 
 /// Adds the bits that a driver may assign.
 pub fn add_driven<'s>(
-    scope: &Scope<'_>,
     driver: Driver<'_, 's>,
+    scope: &Scope<'_>,
     found: &mut Vec<Span<'s>>,
 ) -> Result<(), AllocError>
     requires objects { HasNarrowObjects (scope_at scope.now) }
@@ -45,7 +45,7 @@ pub fn add_driven<'s>(
 {
     match driver {
         Driver::Link(target, _) => {
-            add_reached(scope, target, found)?;
+            add_reached(target, scope, found)?;
             Ok(())
         }
         Driver::Net(name, _) => {
@@ -53,7 +53,7 @@ pub fn add_driven<'s>(
             Ok(())
         }
         Driver::Block(block) => {
-            add_assigned(scope, block, found)?;
+            add_assigned(block, scope, found)?;
             Ok(())
         }
     }
@@ -61,8 +61,8 @@ pub fn add_driven<'s>(
 
 /// Adds the bits that a driver reads anywhere.
 pub fn add_read<'s>(
-    scope: &Scope<'_>,
     driver: Driver<'_, 's>,
+    scope: &Scope<'_>,
     found: &mut Vec<Span<'s>>,
 ) -> Result<(), AllocError>
     requires objects { HasNarrowObjects (scope_at scope.now) }
@@ -71,26 +71,26 @@ pub fn add_read<'s>(
 {
     match driver {
         Driver::Link(target, value) => {
-            add_reads(scope, value, found)?;
-            add_target_reads(scope, target, found)?;
+            add_reads(value, scope, found)?;
+            add_target_reads(target, scope, found)?;
             Ok(())
         }
         Driver::Net(_, value) => {
-            add_reads(scope, value, found)?;
+            add_reads(value, scope, found)?;
             Ok(())
         }
         Driver::Block(block) => {
-            add_statement_reads(scope, block, found)?;
+            add_statement_reads(block, scope, found)?;
             Ok(())
         }
     }
 }
 
 /// The bits that drivers may assign.
-pub fn all_driven<'s>(
+pub fn all_driven<'t, 's>(
     alloc: Global,
+    drivers: &'t [Driver<'t, 's>],
     scope: &Scope<'_>,
-    drivers: &[Driver<'_, 's>],
 ) -> Result<Vec<Span<'s>>, AllocError>
     requires objects { HasNarrowObjects (scope_at scope.now) }
     requires narrow { AreNarrowBlocks (scope_at scope.now) (statements_in drivers.now) }
@@ -98,7 +98,7 @@ pub fn all_driven<'s>(
 {
     let mut found = Vec::new(alloc);
     for driver in drivers {
-        add_driven(scope, *driver, &mut found)?;
+        add_driven(*driver, scope, &mut found)?;
     }
     Ok(found)
 }

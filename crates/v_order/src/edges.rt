@@ -35,9 +35,9 @@ pub(crate) struct Edges<'s> {
 }
 
 /// Adds what drivers read, and where it ends.
-fn add_reads<'s>(
+fn add_reads<'t, 's>(
+    drivers: &'t [Driver<'t, 's>],
     scope: &Scope<'_>,
-    drivers: &[Driver<'_, 's>],
     reads: &mut Vec<Span<'s>>,
     ends: &mut Vec<usize>,
 ) -> Result<(), AllocError>
@@ -45,7 +45,7 @@ fn add_reads<'s>(
     requires narrow { AreNarrowBlocks (scope_at scope.now) (statements_in drivers.now) }
 {
     for driver in drivers {
-        add_read(scope, *driver, reads)?;
+        add_read(*driver, scope, reads)?;
         ends.push(reads.len())?;
     }
     Ok(())
@@ -101,10 +101,10 @@ fn add_writers<'s>(
 }
 
 /// Adds the bits that drivers may assign.
-fn add_all<'s>(
+fn add_all<'t, 's>(
     alloc: Global,
+    drivers: &'t [Driver<'t, 's>],
     scope: &Scope<'_>,
-    drivers: &[Driver<'_, 's>],
     writers: &mut Vec<Writer>,
     last: &mut BTreeMap<&'s str, usize>,
 ) -> Result<(), AllocError>
@@ -113,27 +113,27 @@ fn add_all<'s>(
 {
     for (index, driver) in drivers.iter().enumerate() {
         let mut spans = Vec::new(alloc);
-        add_driven(scope, *driver, &mut spans)?;
+        add_driven(*driver, scope, &mut spans)?;
         add_writers(index, &spans, writers, last)?;
     }
     Ok(())
 }
 
 /// What drivers read, and the writers of each name.
-pub(crate) fn edges_of<'s>(
+pub(crate) fn edges_of<'t, 's>(
     alloc: Global,
+    drivers: &'t [Driver<'t, 's>],
     scope: &Scope<'_>,
-    drivers: &[Driver<'_, 's>],
 ) -> Result<Edges<'s>, AllocError>
     requires objects { HasNarrowObjects (scope_at scope.now) }
     requires narrow { AreNarrowBlocks (scope_at scope.now) (statements_in drivers.now) }
 {
     let mut reads = Vec::new(alloc);
     let mut ends = Vec::new(alloc);
-    add_reads(scope, drivers, &mut reads, &mut ends)?;
+    add_reads(drivers, scope, &mut reads, &mut ends)?;
     let mut writers = Vec::new(alloc);
     let mut last = BTreeMap::new(alloc);
-    add_all(alloc, scope, drivers, &mut writers, &mut last)?;
+    add_all(alloc, drivers, scope, &mut writers, &mut last)?;
     Ok(Edges {
         reads,
         ends,

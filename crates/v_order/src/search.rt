@@ -161,15 +161,15 @@ fn add_from(
 }
 
 /// An order of drivers, as their indexes: each stands behind those that may assign what it reads, but for loops. Nothing is proved of it.
-pub fn order_of(
+pub fn order_of<'t>(
     alloc: Global,
+    drivers: &'t [Driver<'t, '_>],
     scope: &Scope<'_>,
-    drivers: &[Driver<'_, '_>],
 ) -> Result<Vec<usize>, AllocError>
     requires objects { HasNarrowObjects (scope_at scope.now) }
     requires narrow { AreNarrowBlocks (scope_at scope.now) (statements_in drivers.now) }
 {
-    let edges = edges_of(alloc, scope, drivers)?;
+    let edges = edges_of(alloc, drivers, scope)?;
     let mut marked = vec![in alloc; false; drivers.len()]?;
     let mut frames = Vec::new(alloc);
     let mut order = Vec::new(alloc);

@@ -9,7 +9,7 @@ use std::collections::BTreeMap;
 use v_places::Place;
 
 /// The name of a place's instance. That of the top is empty.
-fn instance_name<'s>(place: &Place<'_, 's>) -> &'s str
+fn instance_name<'t, 's>(place: &'t Place<'t, 's>) -> &'s str
     ensures { result.now ≡ (spot_of place.now).instance }
 {
     match place.instance {
@@ -19,9 +19,9 @@ fn instance_name<'s>(place: &Place<'_, 's>) -> &'s str
 }
 
 /// Enters a place, which has this number, into the table of the place that it stands in.
-fn enter<'s>(
+fn enter<'t, 's>(
     number: usize,
-    place: &Place<'_, 's>,
+    place: &'t Place<'t, 's>,
     tables: &mut Vec<BTreeMap<&'s str, usize>>,
 ) -> Result<(), AllocError>
     requires { number ≤ length tables.now.items }
@@ -52,9 +52,9 @@ fn empty_tables<'s>(
 }
 
 /// For each place the numbers of the places that stand in it.
-pub(crate) fn tables_below<'s>(
+pub(crate) fn tables_below<'t, 's>(
     alloc: Global,
-    places: &[Place<'_, 's>],
+    places: &'t [Place<'t, 's>],
 ) -> Result<Vec<BTreeMap<&'s str, usize>>, AllocError>
     ensures count { IfOk result (λ v. length v.items ≡ length places.now) }
     ensures below { IfOk result (λ v. (k : ℕ) → AreBelow (spots_of places.now) k (number_at v.items k)) }

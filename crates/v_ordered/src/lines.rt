@@ -112,9 +112,9 @@ fn module_line<'n>(
 }
 
 /// The names of each place, from the last place to the first.
-fn all_lines<'n>(
+fn all_lines<'t, 'n>(
     alloc: Global,
-    places: &[Place<'_, '_>],
+    places: &'t [Place<'t, '_>],
     tables: &[BTreeMap<&'n str, &'n str>],
     below: &[BTreeMap<&str, usize>],
 ) -> Result<Vec<Vec<&'n str>>, AllocError>
@@ -143,9 +143,9 @@ fn all_lines<'n>(
 
 /// The dotted names of all nets and variables of the design that stands at these places, in the order in which registers are told: in a
 /// module that of its text, and those of an instance where it stands.
-pub fn names_in_order<'n>(
+pub fn names_in_order<'t, 'n>(
     alloc: Global,
-    places: &[Place<'_, '_>],
+    places: &'t [Place<'t, '_>],
     names: &'n DottedNames<'n>,
 ) -> Result<Vec<&'n str>, AllocError>
     requires { map names_in names.now.places.items ≡ names_of dotted (spots_of places.now) }

@@ -62,9 +62,9 @@ fn one_is_unnamed<'s>(names: &BTreeSet<&'s str>, spans: &[Span<'_>]) -> bool
 /// Whether the names of events cover all that a combinational block reads from outside. The block assigns no memory.
 pub fn covers_reads(
     alloc: Global,
+    statement: &Statement<'_>,
     scope: &Scope<'_>,
     events: &[Event<'_>],
-    statement: &Statement<'_>,
 ) -> Result<bool, AllocError>
     requires objects { HasNarrowObjects (scope_at scope.now) }
     requires narrow { IsNarrowFlow (scope_at scope.now) (statement_of statement.now) }
@@ -72,7 +72,7 @@ pub fn covers_reads(
     ensures { IfOk result (λ r. IsTrue r ↔ CoversIn (scope_at scope.now) (events_list events.now) (statement_of statement.now)) }
 {
     let mut outside = Vec::new(alloc);
-    let _sure = walk(alloc, scope, statement, &mut outside)?;
+    let _sure = walk(alloc, statement, scope, &mut outside)?;
     let names = signal_set(alloc, events)?;
     Ok(!one_is_unnamed(&names, &outside))
 }
@@ -174,10 +174,10 @@ fn is_clock_list(scope: &Scope<'_>, clocks: &BTreeSet<&str>, events: &[Event<'_>
 /// that cover what the block reads from outside. A block without an edge assigns no memory.
 pub fn has_event_list(
     alloc: Global,
+    statement: &Statement<'_>,
     scope: &Scope<'_>,
     clocks: &BTreeSet<&str>,
     events: &Events<'_>,
-    statement: &Statement<'_>,
 ) -> Result<bool, AllocError>
     requires objects { HasNarrowObjects (scope_at scope.now) }
     requires narrow { IsNarrowFlow (scope_at scope.now) (statement_of statement.now) }
@@ -190,7 +190,7 @@ pub fn has_event_list(
             if is_clocked(events) {
                 return Ok(is_clock_list(scope, clocks, list));
             }
-            let covers = covers_reads(alloc, scope, list, statement)?;
+            let covers = covers_reads(alloc, statement, scope, list)?;
             Ok(covers)
         }
     }

@@ -34,60 +34,60 @@ fn both(x: bool, y: bool) -> bool
 }
 
 /// The context, widened to a label.
-fn joined(scope: &Scope<'_>, context: Context, label: &Expression<'_>) -> Context
+fn joined(label: &Expression<'_>, scope: &Scope<'_>, context: Context) -> Context
     requires { IsNarrow (scope_at scope.now) (tree_of label.now) }
     ensures width { result.width ≡ max context.width (width_of (scope_at scope.now) (tree_of label.now)) }
     ensures signed { result.signed ≡ (context.signed && sign_of (scope_at scope.now) (tree_of label.now)) }
 {
     Context {
-        width: context.width.max(width_of(scope, label)),
-        signed: both(context.signed, sign_of(scope, label)),
+        width: context.width.max(width_of(label, scope)),
+        signed: both(context.signed, sign_of(label, scope)),
     }
 }
 
-fn joined_all(scope: &Scope<'_>, mut context: Context, labels: &[Expression<'_>]) -> Context
+fn joined_all(labels: &[Expression<'_>], scope: &Scope<'_>, mut context: Context) -> Context
     requires { AreNarrow (scope_at scope.now) (expressions_of labels.now) }
     ensures width { result.width ≡ max context.width (greatest_width (scope_at scope.now) (expressions_of labels.now)) }
     ensures signed { result.signed ≡ (context.signed && all_signed (scope_at scope.now) (expressions_of labels.now)) }
 {
     for label in labels {
-        context = joined(scope, context, label);
+        context = joined(label, scope, context);
     }
     context
 }
 
-fn joined_item(scope: &Scope<'_>, context: Context, item: &CaseItem<'_>) -> Context
+fn joined_item(item: &CaseItem<'_>, scope: &Scope<'_>, context: Context) -> Context
     requires { IsNarrowLabel (scope_at scope.now) item.now }
     ensures width { result.width ≡ max context.width (label_width (scope_at scope.now) item.now) }
     ensures signed { result.signed ≡ (context.signed && label_signed (scope_at scope.now) item.now) }
 {
     match item {
-        CaseItem::Values(labels, _) => joined_all(scope, context, labels),
+        CaseItem::Values(labels, _) => joined_all(labels, scope, context),
         CaseItem::Default(_) => context,
     }
 }
 
-fn case_context(scope: &Scope<'_>, value: &Expression<'_>, items: &[CaseItem<'_>]) -> Context
+fn case_context<'s>(value: &Expression<'s>, items: &[CaseItem<'s>], scope: &Scope<'_>) -> Context
     requires narrow { IsNarrow (scope_at scope.now) (tree_of value.now) }
     requires items { AreNarrowItems (scope_at scope.now) items.now }
     ensures width { result.width ≡ case_width (scope_at scope.now) (tree_of value.now) (item_list items.now) }
     ensures signed { result.signed ≡ case_signed (scope_at scope.now) (tree_of value.now) (item_list items.now) }
 {
     let mut context = Context {
-        width: width_of(scope, value),
-        signed: sign_of(scope, value),
+        width: width_of(value, scope),
+        signed: sign_of(value, scope),
     };
     for item in items {
-        context = joined_item(scope, context, item);
+        context = joined_item(item, scope, context);
     }
     context
 }
 
 /// Adds the value of a label, where it is constant.
 fn add_value(
+    label: &Expression<'_>,
     scope: &Scope<'_>,
     context: Context,
-    label: &Expression<'_>,
     values: &mut BTreeSet<u128>,
 ) -> Result<(), AllocError>
     requires objects { HasNarrowObjects (scope_at scope.now) }
@@ -97,18 +97,18 @@ fn add_value(
     ensures { OnOk result ((x : ℕ) → has_number values.new x
         ≡ (has_number values.old x || label_is (scope_at scope.now) context.width context.signed x (tree_of label.now))) }
 {
-    if !is_constant(scope, label) {
+    if !is_constant(label, scope) {
         return Ok(());
     }
-    let value = value_in_context(scope, &[], label, context.width, context.signed);
+    let value = value_in_context(label, scope, &[], context.width, context.signed);
     values.insert(value)?;
     Ok(())
 }
 
 fn add_values(
+    labels: &[Expression<'_>],
     scope: &Scope<'_>,
     context: Context,
-    labels: &[Expression<'_>],
     values: &mut BTreeSet<u128>,
 ) -> Result<(), AllocError>
     requires objects { HasNarrowObjects (scope_at scope.now) }
@@ -119,15 +119,15 @@ fn add_values(
         ≡ (has_number values.old x || one_label_is (scope_at scope.now) context.width context.signed x labels.now)) }
 {
     for label in labels {
-        add_value(scope, context, label, values)?;
+        add_value(label, scope, context, values)?;
     }
     Ok(())
 }
 
 fn add_item_values(
+    item: &CaseItem<'_>,
     scope: &Scope<'_>,
     context: Context,
-    item: &CaseItem<'_>,
     values: &mut BTreeSet<u128>,
 ) -> Result<(), AllocError>
     requires objects { HasNarrowObjects (scope_at scope.now) }
@@ -138,7 +138,7 @@ fn add_item_values(
         ≡ (has_number values.old x || item_has (scope_at scope.now) context.width context.signed x item.now)) }
 {
     match item {
-        CaseItem::Values(labels, _) => add_values(scope, context, labels, values),
+        CaseItem::Values(labels, _) => add_values(labels, scope, context, values),
         CaseItem::Default(_) => Ok(()),
     }
 }
@@ -146,9 +146,9 @@ fn add_item_values(
 /// The values of the constant items, each widened so.
 fn values_of(
     alloc: Global,
+    items: &[CaseItem<'_>],
     scope: &Scope<'_>,
     context: Context,
-    items: &[CaseItem<'_>],
 ) -> Result<BTreeSet<u128>, AllocError>
     requires objects { HasNarrowObjects (scope_at scope.now) }
     requires narrow { AreNarrowItems (scope_at scope.now) items.now }
@@ -158,7 +158,7 @@ fn values_of(
 {
     let mut values = BTreeSet::new(alloc);
     for item in items {
-        add_item_values(scope, context, item, &mut values)?;
+        add_item_values(item, scope, context, &mut values)?;
     }
     Ok(values)
 }
@@ -191,22 +191,22 @@ fn has_all_below(values: &BTreeSet<u128>, count: u32) -> bool
 }
 
 /// Whether the items are at most 8 bits wide, and those that are constant have all values.
-fn has_all_values(
+fn has_all_values<'s>(
     alloc: Global,
+    value: &Expression<'s>,
+    items: &[CaseItem<'s>],
     scope: &Scope<'_>,
-    value: &Expression<'_>,
-    items: &[CaseItem<'_>],
 ) -> Result<bool, AllocError>
     requires objects { HasNarrowObjects (scope_at scope.now) }
     requires narrow { IsNarrow (scope_at scope.now) (tree_of value.now) }
     requires items { AreNarrowItems (scope_at scope.now) items.now }
     ensures { IfOk result (λ r. r ≡ values_at (scope_at scope.now) (tree_of value.now) (item_list items.now)) }
 {
-    let context = case_context(scope, value, items);
+    let context = case_context(value, items, scope);
     if context.width > 8 {
         return Ok(false);
     }
-    let values = values_of(alloc, scope, context, items)?;
+    let values = values_of(alloc, items, scope, context)?;
     Ok(has_all_below(&values, count_of(context.width)))
 }
 
@@ -223,12 +223,12 @@ fn has_default(items: &[CaseItem<'_>]) -> bool
 }
 
 /// Whether a case is full: it has a default, or the constant items of a `case` have all values.
-pub fn is_full(
+pub fn is_full<'s>(
     alloc: Global,
+    value: &Expression<'s>,
+    items: &[CaseItem<'s>],
     scope: &Scope<'_>,
     kind: CaseKind,
-    value: &Expression<'_>,
-    items: &[CaseItem<'_>],
 ) -> Result<bool, AllocError>
     requires objects { HasNarrowObjects (scope_at scope.now) }
     requires narrow { IsNarrow (scope_at scope.now) (tree_of value.now) }
@@ -241,7 +241,7 @@ pub fn is_full(
     match kind {
         CaseKind::Wild => Ok(false),
         CaseKind::Exact => {
-            let all = has_all_values(alloc, scope, value, items)?;
+            let all = has_all_values(alloc, value, items, scope)?;
             Ok(all)
         }
     }

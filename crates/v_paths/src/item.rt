@@ -16,7 +16,7 @@ use v_syntax::module::Item;
 use v_value::scope::Scope;
 
 /// Whether an item is a combinational block with a latch.
-fn is_latched_item(alloc: Global, scope: &Scope<'_>, item: &Item<'_>) -> Result<bool, AllocError>
+fn is_latched_item(alloc: Global, item: &Item<'_>, scope: &Scope<'_>) -> Result<bool, AllocError>
     requires objects { HasNarrowObjects (scope_at scope.now) }
     requires fit { IsFitItem (scope_at scope.now) (item_of item.now) }
     ensures { IfOk result (λ r. IsTrue r ↔ IsLatchedItem (scope_at scope.now) (item_of item.now)) }
@@ -26,7 +26,7 @@ fn is_latched_item(alloc: Global, scope: &Scope<'_>, item: &Item<'_>) -> Result<
             if is_clocked(events) {
                 return Ok(false);
             }
-            let latched = is_latched(alloc, scope, block)?;
+            let latched = is_latched(alloc, block, scope)?;
             Ok(latched)
         }
         Item::Port(_)
@@ -38,13 +38,13 @@ fn is_latched_item(alloc: Global, scope: &Scope<'_>, item: &Item<'_>) -> Result<
     }
 }
 
-fn one_is_latched(alloc: Global, scope: &Scope<'_>, items: &[Item<'_>]) -> Result<bool, AllocError>
+fn one_is_latched(alloc: Global, items: &[Item<'_>], scope: &Scope<'_>) -> Result<bool, AllocError>
     requires objects { HasNarrowObjects (scope_at scope.now) }
     requires fit { AreFitItems (scope_at scope.now) (map item_of items.now) }
     ensures { IfOk result (λ r. IsTrue r ↔ OneIs (IsLatchedItem (scope_at scope.now)) (map item_of items.now)) }
 {
     for item in items {
-        if is_latched_item(alloc, scope, item)? {
+        if is_latched_item(alloc, item, scope)? {
             return Ok(true);
         }
     }
@@ -52,21 +52,21 @@ fn one_is_latched(alloc: Global, scope: &Scope<'_>, items: &[Item<'_>]) -> Resul
 }
 
 /// Whether some combinational block among the items of a module has a latch. No such block assigns a memory.
-pub fn has_latch(alloc: Global, scope: &Scope<'_>, items: &[Item<'_>]) -> Result<bool, AllocError>
+pub fn has_latch(alloc: Global, items: &[Item<'_>], scope: &Scope<'_>) -> Result<bool, AllocError>
     requires objects { HasNarrowObjects (scope_at scope.now) }
     requires fit { AreFitItems (scope_at scope.now) (map item_of items.now) }
     ensures { IfOk result (λ r. IsTrue r ↔ HasLatchIn (scope_at scope.now) (map item_of items.now)) }
 {
-    let found = one_is_latched(alloc, scope, items)?;
+    let found = one_is_latched(alloc, items, scope)?;
     Ok(found)
 }
 
 /// Whether an item is a block with a list of events that it may not have.
 fn is_bad_item(
     alloc: Global,
+    item: &Item<'_>,
     scope: &Scope<'_>,
     clocks: &BTreeSet<&str>,
-    item: &Item<'_>,
 ) -> Result<bool, AllocError>
     requires objects { HasNarrowObjects (scope_at scope.now) }
     requires fit { IsFitItem (scope_at scope.now) (item_of item.now) }
@@ -74,7 +74,7 @@ fn is_bad_item(
 {
     match item {
         Item::Always(events, block) => {
-            let may = has_event_list(alloc, scope, clocks, events, block)?;
+            let may = has_event_list(alloc, block, scope, clocks, events)?;
             Ok(!may)
         }
         Item::Port(_)
@@ -88,16 +88,16 @@ fn is_bad_item(
 
 fn one_is_bad(
     alloc: Global,
+    items: &[Item<'_>],
     scope: &Scope<'_>,
     clocks: &BTreeSet<&str>,
-    items: &[Item<'_>],
 ) -> Result<bool, AllocError>
     requires objects { HasNarrowObjects (scope_at scope.now) }
     requires fit { AreFitItems (scope_at scope.now) (map item_of items.now) }
     ensures { IfOk result (λ r. IsTrue r ↔ OneIs (IsBadItem (scope_at scope.now) (has_name clocks.now)) (map item_of items.now)) }
 {
     for item in items {
-        if is_bad_item(alloc, scope, clocks, item)? {
+        if is_bad_item(alloc, item, scope, clocks)? {
             return Ok(true);
         }
     }
@@ -108,14 +108,14 @@ fn one_is_bad(
 /// combinational block assigns a memory.
 pub fn has_bad_event_list(
     alloc: Global,
+    items: &[Item<'_>],
     scope: &Scope<'_>,
     clocks: &BTreeSet<&str>,
-    items: &[Item<'_>],
 ) -> Result<bool, AllocError>
     requires objects { HasNarrowObjects (scope_at scope.now) }
     requires fit { AreFitItems (scope_at scope.now) (map item_of items.now) }
     ensures { IfOk result (λ r. IsTrue r ↔ HasBadEventListIn (scope_at scope.now) (has_name clocks.now) (map item_of items.now)) }
 {
-    let found = one_is_bad(alloc, scope, clocks, items)?;
+    let found = one_is_bad(alloc, items, scope, clocks)?;
     Ok(found)
 }

@@ -18,8 +18,8 @@ use v_value::scope::Scope;
 
 /// Adds what the labels of an item read.
 fn add_labels<'s>(
-    scope: &Scope<'_>,
     labels: &[Expression<'s>],
+    scope: &Scope<'_>,
     outside: &mut Vec<Span<'s>>,
 ) -> Result<(), AllocError>
     requires objects { HasNarrowObjects (scope_at scope.now) }
@@ -27,14 +27,14 @@ fn add_labels<'s>(
     ensures { OnOk result (bits_in outside.new.items ≡ or_in (bits_in outside.old.items) (reads_in_all (scope_at scope.now) (expressions_of labels.now))) }
 {
     for label in labels {
-        add_reads(scope, label, outside)?;
+        add_reads(label, scope, outside)?;
     }
     Ok(())
 }
 
 fn add_item_labels<'s>(
-    scope: &Scope<'_>,
     item: &CaseItem<'s>,
+    scope: &Scope<'_>,
     outside: &mut Vec<Span<'s>>,
 ) -> Result<(), AllocError>
     requires objects { HasNarrowObjects (scope_at scope.now) }
@@ -43,7 +43,7 @@ fn add_item_labels<'s>(
 {
     match item {
         CaseItem::Values(labels, _) => {
-            add_labels(scope, labels, outside)?;
+            add_labels(labels, scope, outside)?;
             Ok(())
         }
         CaseItem::Default(_) => Ok(()),
@@ -52,8 +52,8 @@ fn add_item_labels<'s>(
 
 /// Adds what the labels of all items of a case read.
 pub(crate) fn add_all_labels<'s>(
-    scope: &Scope<'_>,
     items: &[CaseItem<'s>],
+    scope: &Scope<'_>,
     outside: &mut Vec<Span<'s>>,
 ) -> Result<(), AllocError>
     requires objects { HasNarrowObjects (scope_at scope.now) }
@@ -61,7 +61,7 @@ pub(crate) fn add_all_labels<'s>(
     ensures { OnOk result (bits_in outside.new.items ≡ or_in (bits_in outside.old.items) (items_read (scope_at scope.now) (item_list items.now))) }
 {
     for item in items {
-        add_item_labels(scope, item, outside)?;
+        add_item_labels(item, scope, outside)?;
     }
     Ok(())
 }

@@ -83,8 +83,8 @@ fn all_latched<'s>(
 /// before it was assigned (1364-2005, 9.2). The block assigns no memory.
 pub fn is_latched(
     alloc: Global,
-    scope: &Scope<'_>,
     statement: &Statement<'_>,
+    scope: &Scope<'_>,
 ) -> Result<bool, AllocError>
     requires objects { HasNarrowObjects (scope_at scope.now) }
     requires narrow { IsNarrowFlow (scope_at scope.now) (statement_of statement.now) }
@@ -92,9 +92,9 @@ pub fn is_latched(
     ensures { IfOk result (λ r. IsTrue r ↔ HasLatchedBit (scope_at scope.now) (statement_of statement.now)) }
 {
     let mut outside = Vec::new(alloc);
-    let sure = walk(alloc, scope, statement, &mut outside)?;
+    let sure = walk(alloc, statement, scope, &mut outside)?;
     let mut assigned = Vec::new(alloc);
-    add_assigned(scope, statement, &mut assigned)?;
+    add_assigned(statement, scope, &mut assigned)?;
     let found = all_latched(alloc, &sure, &outside, &assigned)?;
     Ok(one_has_variable_bit(scope, &found))
 }

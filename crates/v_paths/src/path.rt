@@ -25,9 +25,9 @@ use v_value::scope::Scope;
 
 /// Adds what an assignment reads: its value, and the indexes of its target.
 fn add_assignment<'s>(
-    scope: &Scope<'_>,
     target: &Target<'s>,
     value: &Expression<'s>,
+    scope: &Scope<'_>,
     outside: &mut Vec<Span<'s>>,
 ) -> Result<(), AllocError>
     requires objects { HasNarrowObjects (scope_at scope.now) }
@@ -36,23 +36,23 @@ fn add_assignment<'s>(
     ensures { OnOk result (bits_in outside.new.items
         ≡ or_in (bits_in outside.old.items) (or_in (reads (scope_at scope.now) (tree_of value.now)) (target_reads (scope_at scope.now) (target_of target.now)))) }
 {
-    add_reads(scope, value, outside)?;
-    add_target_reads(scope, target, outside)?;
+    add_reads(value, scope, outside)?;
+    add_target_reads(target, scope, outside)?;
     Ok(())
 }
 
 /// The bits that an assignment to a target assigns, whatever its variable indexes are.
 fn reached<'s>(
     alloc: Global,
-    scope: &Scope<'_>,
     target: &Target<'s>,
+    scope: &Scope<'_>,
 ) -> Result<Vec<Span<'s>>, AllocError>
     requires objects { HasNarrowObjects (scope_at scope.now) }
     requires narrow { HasNarrowParts (scope_at scope.now) (target_of target.now) }
     ensures { IfOk result (λ v. bits_in v.items ≡ existing (scope_at scope.now) (surely_reaches (scope_at scope.now) (target_of target.now))) }
 {
     let mut sure = Vec::new(alloc);
-    add_surely_reached(scope, target, &mut sure)?;
+    add_surely_reached(target, scope, &mut sure)?;
     Ok(sure)
 }
 
@@ -101,8 +101,8 @@ fn sure_where<'s>(alloc: Global, full: bool, sure: Vec<Span<'s>>) -> Vec<Span<'s
 #[cycle(walking)]
 pub(crate) fn walk<'s>(
     alloc: Global,
-    scope: &Scope<'_>,
     statement: &Statement<'s>,
+    scope: &Scope<'_>,
     outside: &mut Vec<Span<'s>>,
 ) -> Result<Vec<Span<'s>>, AllocError>
     requires objects { HasNarrowObjects (scope_at scope.now) }
@@ -114,34 +114,34 @@ pub(crate) fn walk<'s>(
     match statement {
         Statement::Empty => Ok(Vec::new(alloc)),
         Statement::Blocking(target, value) => {
-            add_assignment(scope, target, value, outside)?;
-            let sure = reached(alloc, scope, target)?;
+            add_assignment(target, value, scope, outside)?;
+            let sure = reached(alloc, target, scope)?;
             Ok(sure)
         }
         Statement::Nonblocking(target, value) => {
-            add_assignment(scope, target, value, outside)?;
+            add_assignment(target, value, scope, outside)?;
             Ok(Vec::new(alloc))
         }
         Statement::If(arms, last) => match last {
             Some(other) => {
-                let otherwise = walk(alloc, scope, other, outside)?;
-                let sure = ladder(alloc, scope, arms, otherwise, outside)?;
+                let otherwise = walk(alloc, other, scope, outside)?;
+                let sure = ladder(alloc, arms, scope, otherwise, outside)?;
                 Ok(sure)
             }
             None => {
-                let sure = ladder(alloc, scope, arms, Vec::new(alloc), outside)?;
+                let sure = ladder(alloc, arms, scope, Vec::new(alloc), outside)?;
                 Ok(sure)
             }
         },
         Statement::Case(kind, value, items) => {
-            add_reads(scope, value, outside)?;
-            add_all_labels(scope, items, outside)?;
-            let full = is_full(alloc, scope, *kind, value, items)?;
-            let sure = bodies(alloc, scope, items, outside)?;
+            add_reads(value, scope, outside)?;
+            add_all_labels(items, scope, outside)?;
+            let full = is_full(alloc, value, items, scope, *kind)?;
+            let sure = bodies(alloc, items, scope, outside)?;
             Ok(sure_where(alloc, full, sure))
         }
         Statement::Block(_, statements) => {
-            let sure = in_turn(alloc, scope, statements, outside)?;
+            let sure = in_turn(alloc, statements, scope, outside)?;
             Ok(sure)
         }
     }
@@ -151,8 +151,8 @@ pub(crate) fn walk<'s>(
 #[cycle(walking)]
 fn in_turn<'s>(
     alloc: Global,
-    scope: &Scope<'_>,
     statements: &[Statement<'s>],
+    scope: &Scope<'_>,
     outside: &mut Vec<Span<'s>>,
 ) -> Result<Vec<Span<'s>>, AllocError>
     requires objects { HasNarrowObjects (scope_at scope.now) }
@@ -165,7 +165,7 @@ fn in_turn<'s>(
     let mut done = BTreeMap::new(alloc);
     for statement in statements {
         let mut read = Vec::new(alloc);
-        let assigned = walk(alloc, scope, statement, &mut read)?;
+        let assigned = walk(alloc, statement, scope, &mut read)?;
         follow(&mut done, &mut sure, &read, &assigned, outside)?;
     }
     Ok(sure)
@@ -175,8 +175,8 @@ fn in_turn<'s>(
 #[cycle(walking)]
 fn ladder<'s>(
     alloc: Global,
-    scope: &Scope<'_>,
     arms: &[Arm<'s>],
+    scope: &Scope<'_>,
     otherwise: Vec<Span<'s>>,
     outside: &mut Vec<Span<'s>>,
 ) -> Result<Vec<Span<'s>>, AllocError>
@@ -188,8 +188,8 @@ fn ladder<'s>(
 {
     let mut sure = otherwise;
     for arm in arms {
-        add_reads(scope, &arm.condition, outside)?;
-        let assigned = walk(alloc, scope, &arm.statement, outside)?;
+        add_reads(&arm.condition, scope, outside)?;
+        let assigned = walk(alloc, &arm.statement, scope, outside)?;
         sure = met_arms(alloc, false, &sure, assigned)?;
     }
     Ok(sure)
@@ -199,8 +199,8 @@ fn ladder<'s>(
 #[cycle(walking)]
 fn bodies<'s>(
     alloc: Global,
-    scope: &Scope<'_>,
     items: &[CaseItem<'s>],
+    scope: &Scope<'_>,
     outside: &mut Vec<Span<'s>>,
 ) -> Result<Vec<Span<'s>>, AllocError>
     requires objects { HasNarrowObjects (scope_at scope.now) }
@@ -212,7 +212,7 @@ fn bodies<'s>(
     let mut sure = Vec::new(alloc);
     let mut first = true;
     for item in items {
-        let assigned = body(alloc, scope, item, outside)?;
+        let assigned = body(alloc, item, scope, outside)?;
         sure = met_arms(alloc, first, &sure, assigned)?;
         first = false;
     }
@@ -222,8 +222,8 @@ fn bodies<'s>(
 #[cycle(walking)]
 fn body<'s>(
     alloc: Global,
-    scope: &Scope<'_>,
     item: &CaseItem<'s>,
+    scope: &Scope<'_>,
     outside: &mut Vec<Span<'s>>,
 ) -> Result<Vec<Span<'s>>, AllocError>
     requires objects { HasNarrowObjects (scope_at scope.now) }
@@ -234,11 +234,11 @@ fn body<'s>(
 {
     match item {
         CaseItem::Values(_, statement) => {
-            let sure = walk(alloc, scope, statement, outside)?;
+            let sure = walk(alloc, statement, scope, outside)?;
             Ok(sure)
         }
         CaseItem::Default(statement) => {
-            let sure = walk(alloc, scope, statement, outside)?;
+            let sure = walk(alloc, statement, scope, outside)?;
             Ok(sure)
         }
     }

@@ -24,8 +24,8 @@ const MOST_INSTANCES: usize = 65_536;
 fn place_of<'t, 's>(
     alloc: Global,
     below: &'t Module<'s>,
-    given: &[Override<'s>],
     instance: &'t Instance<'s>,
+    given: &[Override<'s>],
     parent: usize,
 ) -> Result<Place<'t, 's>, AllocError>
     ensures { IfOk result (λ p. spot_of p ≡ record { of_module = module_of below.now; instance = instance.now.name.now; parent = parent; connections = connections_of instance.now.connections; constants = known_constants (module_of below.now) (given_of given.now) }) }
@@ -58,8 +58,8 @@ fn add<'t, 's>(
 fn add_one<'t, 's>(
     alloc: Global,
     below: &'t Module<'s>,
-    given: &[Override<'s>],
     instance: &'t Instance<'s>,
+    given: &[Override<'s>],
     parent: usize,
     count: usize,
     queue: &mut VecDeque<Place<'t, 's>>,
@@ -67,7 +67,7 @@ fn add_one<'t, 's>(
     ensures { IfOk result (λ o. IsAdded count o (spots_of queue.new.items) (spots_of queue.old.items)
         (record { of_module = module_of below.now; instance = instance.now.name.now; parent = parent; connections = connections_of instance.now.connections; constants = known_constants (module_of below.now) (given_of given.now) } ∷ [])) }
 {
-    let place = place_of(alloc, below, given, instance, parent)?;
+    let place = place_of(alloc, below, instance, given, parent)?;
     let more = add(place, count, queue)?;
     Ok(more)
 }
@@ -86,7 +86,7 @@ fn add_each<'t, 's>(
 {
     let mut sum = count;
     for instance in group.instances {
-        let more = add_one(alloc, group.below, given, instance, parent, sum, queue)?;
+        let more = add_one(alloc, group.below, instance, given, parent, sum, queue)?;
         match more {
             Some(more) => sum = more,
             None => return Ok(None),
@@ -98,8 +98,8 @@ fn add_each<'t, 's>(
 /// Adds the places of a group of instances, where the constants around are these.
 fn add_group<'t, 's>(
     alloc: Global,
-    around: Constants<'_, '_>,
     group: Group<'t, 's>,
+    around: Constants<'_, '_>,
     parent: usize,
     count: usize,
     queue: &mut VecDeque<Place<'t, 's>>,
@@ -107,7 +107,7 @@ fn add_group<'t, 's>(
     ensures { IfOk result (λ o. (x : Spot) → x.constants ≡ objects_of around.entry.scope.now.declarations.items
         → IsAdded count o (spots_of queue.new.items) (spots_of queue.old.items) (group_spots parent x group.entry)) }
 {
-    let given = overrides_of(alloc, around, group.given, group.below)?;
+    let given = overrides_of(alloc, group.given, group.below, around)?;
     let more = add_each(alloc, group, &given, parent, count, queue)?;
     Ok(more)
 }
@@ -116,8 +116,8 @@ fn add_group<'t, 's>(
 fn add_item<'t, 's>(
     alloc: Global,
     item: &'t Item<'s>,
-    around: Constants<'_, '_>,
     modules: &BTreeMap<&'s str, &'t Module<'s>>,
+    around: Constants<'_, '_>,
     parent: usize,
     count: usize,
     queue: &mut VecDeque<Place<'t, 's>>,
@@ -127,7 +127,7 @@ fn add_item<'t, 's>(
 {
     match item_group(item, modules) {
         Some(group) => {
-            let more = add_group(alloc, around, group, parent, count, queue)?;
+            let more = add_group(alloc, group, around, parent, count, queue)?;
             Ok(more)
         }
         None => Ok(Some(count)),
@@ -138,8 +138,8 @@ fn add_item<'t, 's>(
 pub(crate) fn add_items<'t, 's>(
     alloc: Global,
     items: &'t [Item<'s>],
-    around: Constants<'_, '_>,
     modules: &BTreeMap<&'s str, &'t Module<'s>>,
+    around: Constants<'_, '_>,
     parent: usize,
     count: usize,
     queue: &mut VecDeque<Place<'t, 's>>,
@@ -149,7 +149,7 @@ pub(crate) fn add_items<'t, 's>(
 {
     let mut sum = count;
     for item in items {
-        let more = add_item(alloc, item, around, modules, parent, sum, queue)?;
+        let more = add_item(alloc, item, modules, around, parent, sum, queue)?;
         match more {
             Some(more) => sum = more,
             None => return Ok(None),

@@ -12,8 +12,8 @@ use v_syntax::module::{Module, Tree};
 
 /// Puts a module into the table, if it is the first of its name.
 fn enter<'t, 's>(
-    table: &mut BTreeMap<&'s str, &'t Module<'s>>,
     each: &'t Module<'s>,
+    table: &mut BTreeMap<&'s str, &'t Module<'s>>,
 ) -> Result<(), AllocError>
     ensures { OnOk result ((q : List ℕ) → module_in table.new q ≡ first_of (module_in table.old q) (cond (same_name each.now.name.now q) (Some (module_of each.now)) None)) }
 {
@@ -35,7 +35,7 @@ fn table_of<'t, 's>(
 {
     let mut table = BTreeMap::new(alloc);
     for each in modules {
-        enter(&mut table, each)?;
+        enter(each, &mut table)?;
     }
     Ok(table)
 }

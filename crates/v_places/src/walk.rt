@@ -38,8 +38,8 @@ fn top_place<'t, 's>(top: &'t Module<'s>, alloc: Global) -> Result<Place<'t, 's>
 fn add_below<'t, 's>(
     alloc: Global,
     within: &'t Module<'s>,
-    around: Constants<'_, '_>,
     modules: &BTreeMap<&'s str, &'t Module<'s>>,
+    around: Constants<'_, '_>,
     number: usize,
     count: usize,
     queue: &mut VecDeque<Place<'t, 's>>,
@@ -47,7 +47,7 @@ fn add_below<'t, 's>(
     ensures { IfOk result (λ o. (x : Spot) → x.of_module.items ≡ map item_of within.now.items.items → x.constants ≡ objects_of around.entry.scope.now.declarations.items
         → IsAdded count o (spots_of queue.new.items) (spots_of queue.old.items) (below_by (module_in modules.now) number x (all_instances x.of_module.items))) }
 {
-    let more = add_items(alloc, &within.items, around, modules, number, count, queue)?;
+    let more = add_items(alloc, &within.items, modules, around, number, count, queue)?;
     Ok(more)
 }
 
@@ -68,7 +68,7 @@ fn add_all<'t, 's>(
         let around = Constants {
             scope: &place.constants,
         };
-        let more = add_below(alloc, place.within, around, modules, number, count, queue)?;
+        let more = add_below(alloc, place.within, modules, around, number, count, queue)?;
         match more {
             Some(more) => {
                 count = more;

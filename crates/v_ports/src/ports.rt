@@ -132,8 +132,8 @@ fn lacks_port(declared: &[Declared<'_>], listed: &BTreeSet<&str>) -> bool
 /// input is declared `reg`, or two ranges of one port are unequal. A range without a value says nothing.
 fn has_bad_declaration<'s>(
     alloc: Global,
-    names: &ModuleScope<'s>,
     within: &Module<'s>,
+    names: &ModuleScope<'s>,
 ) -> Result<bool, AllocError>
     ensures { IfOk result (λ b. (s : Scope) → IsScopeIn s names.now (module_of within.now) → b ≡ ports_are_bad s (module_of within.now)) }
 {
@@ -155,16 +155,16 @@ fn has_bad_declaration<'s>(
 /// instance whose connections or overrides do not fit the module below. It is said of each such module whose declarations are these.
 pub fn has_bad_port<'s>(
     alloc: Global,
-    names: &ModuleScope<'s>,
     within: &Module<'s>,
+    names: &ModuleScope<'s>,
     interfaces: &Interfaces<'_>,
 ) -> Result<bool, AllocError>
     ensures { IfOk result (λ b. (source : Source) (p : Placed) → AreInterfacesOf interfaces.now source → p.of_module ≡ module_of within.now
         → IsScopeIn (scope_of p.constants) names.now (module_of within.now) → b ≡ is_bad_port source p) }
 {
-    if has_bad_declaration(alloc, names, within)? {
+    if has_bad_declaration(alloc, within, names)? {
         return Ok(true);
     }
-    let bad = has_bad_instance(alloc, interfaces, &within.items)?;
+    let bad = has_bad_instance(alloc, &within.items, interfaces)?;
     Ok(bad)
 }

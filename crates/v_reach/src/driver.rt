@@ -42,8 +42,8 @@ fn part_of<'s>(
 /// Leaves in the table the bits that rest on its bits after a net got the value of its declaration.
 fn run_net<'s>(
     alloc: Global,
-    name: &'s str,
     value: &Expression<'_>,
+    name: &'s str,
     scope: &Scope<'_>,
     marked: &mut BTreeMap<&'s str, u128>,
 ) -> Result<(), AllocError>
@@ -77,7 +77,7 @@ fn run<'s>(
             Ok(())
         }
         Driver::Net(name, value) => {
-            run_net(alloc, name, value, scope, marked)?;
+            run_net(alloc, value, name, scope, marked)?;
             Ok(())
         }
         Driver::Block(block) => {
@@ -101,8 +101,8 @@ pub(crate) fn resting<'s>(
 {
     rests_where_it_depends();
     let mut needed = Vec::new(alloc);
-    add_read(scope, driver, &mut needed)?;
-    add_driven(scope, driver, &mut needed)?;
+    add_read(driver, scope, &mut needed)?;
+    add_driven(driver, scope, &mut needed)?;
     let mut table = part_of(alloc, marked, &needed)?;
     run(alloc, driver, scope, &mut table)?;
     Ok(table)

@@ -35,8 +35,8 @@ pub fn mark_dependents<'s>(
 {
     rests_where_it_depends();
     let drivers = drivers_of(alloc, items)?;
-    let order = order_of(alloc, scope, &drivers)?;
-    let driven = all_driven(alloc, scope, &drivers)?;
+    let order = order_of(alloc, &drivers, scope)?;
+    let driven = all_driven(alloc, &drivers, scope)?;
     let count = driven.len();
     for _ in 0..count {
         let lasts = rounds(alloc, &drivers, scope, &order, marked)?;

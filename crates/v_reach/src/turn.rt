@@ -24,9 +24,9 @@ fn either(first: bool, second: bool) -> bool
 }
 
 /// Visits all drivers. Answers whether a bit was marked.
-fn turn<'s>(
+fn turn<'t, 's>(
     alloc: Global,
-    drivers: &[Driver<'_, 's>],
+    drivers: &'t [Driver<'t, 's>],
     scope: &Scope<'_>,
     marked: &mut BTreeMap<&'s str, u128>,
 ) -> Result<bool, AllocError>
@@ -47,9 +47,9 @@ fn turn<'s>(
 
 /// Makes up to 128 rounds: a pass in an order in which few rounds are needed, and a turn that tells whether something was left. Answers
 /// whether nothing is.
-pub(crate) fn rounds<'s>(
+pub(crate) fn rounds<'t, 's>(
     alloc: Global,
-    drivers: &[Driver<'_, 's>],
+    drivers: &'t [Driver<'t, 's>],
     scope: &Scope<'_>,
     order: &[usize],
     marked: &mut BTreeMap<&'s str, u128>,

@@ -33,7 +33,7 @@ pub(crate) fn visit<'s>(
     ensures { IfOk result (λ r. IsVisited r (scope_at scope.now) (statement_in driver.entry) (masked marked.old) (masked marked.new)) }
 {
     let mut driven = Vec::new(alloc);
-    add_driven(scope, driver, &mut driven)?;
+    add_driven(driver, scope, &mut driven)?;
     let table = resting(alloc, driver, scope, marked)?;
     let found = kept_in(alloc, &table, &driven)?;
     let mut added = Vec::new(alloc);
@@ -48,9 +48,9 @@ pub(crate) fn visit<'s>(
 }
 
 /// Visits the driver with an index, if there is one.
-fn visit_at<'s>(
+fn visit_at<'t, 's>(
     alloc: Global,
-    drivers: &[Driver<'_, 's>],
+    drivers: &'t [Driver<'t, 's>],
     scope: &Scope<'_>,
     index: usize,
     marked: &mut BTreeMap<&'s str, u128>,
@@ -71,9 +71,9 @@ fn visit_at<'s>(
 }
 
 /// Visits drivers in an order.
-pub(crate) fn pass<'s>(
+pub(crate) fn pass<'t, 's>(
     alloc: Global,
-    drivers: &[Driver<'_, 's>],
+    drivers: &'t [Driver<'t, 's>],
     scope: &Scope<'_>,
     order: &[usize],
     marked: &mut BTreeMap<&'s str, u128>,

@@ -19,8 +19,8 @@ use v_value::scope::Scope;
 
 /// Adds the bits that an item may assign, where it is a clocked block.
 fn add_item<'s>(
-    scope: &Scope<'_>,
     item: &Item<'s>,
+    scope: &Scope<'_>,
     found: &mut Vec<Span<'s>>,
 ) -> Result<(), NoMemory>
     requires objects { HasNarrowObjects (scope_at scope.now) }
@@ -32,7 +32,7 @@ fn add_item<'s>(
             if !is_clocked(events) {
                 return Ok(());
             }
-            add_assigned(scope, block, found)
+            add_assigned(block, scope, found)
         }
         Item::Port(_)
         | Item::Parameter(_)
@@ -46,8 +46,8 @@ fn add_item<'s>(
 /// The bits that the clocked blocks may assign.
 pub(crate) fn clocked_spans<'s>(
     alloc: Global,
-    scope: &Scope<'_>,
     items: &[Item<'s>],
+    scope: &Scope<'_>,
 ) -> Result<Vec<Span<'s>>, NoMemory>
     requires objects { HasNarrowObjects (scope_at scope.now) }
     requires narrow { AreNarrowBlocks (scope_at scope.now) (clocked_blocks (map item_of items.now)) }
@@ -55,7 +55,7 @@ pub(crate) fn clocked_spans<'s>(
 {
     let mut found = Vec::new(alloc);
     for item in items {
-        add_item(scope, item, &mut found)?;
+        add_item(item, scope, &mut found)?;
     }
     Ok(found)
 }

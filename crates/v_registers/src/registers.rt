@@ -119,16 +119,16 @@ fn add_name<'s>(
 /// text and the words of the names.
 pub fn registers_among<'s>(
     alloc: Global,
+    items: &[Item<'s>],
     declared: &[&'s str],
     scope: &Scope<'_>,
-    items: &[Item<'s>],
 ) -> Result<Split<'s>, NoMemory>
     requires objects { HasNarrowObjects (scope_at scope.now) }
     requires narrow { AreNarrowBlocks (scope_at scope.now) (clocked_blocks (map item_of items.now)) }
     ensures { IfOk result (λ v. AreSplit (scope_at scope.now) (clocked_blocks (map item_of items.now)) (map (λ n. n.now) declared.now)
         (map counted_of v.registers.items) (map (λ n. n.now) v.others.items)) }
 {
-    let spans = clocked_spans(alloc, scope, items)?;
+    let spans = clocked_spans(alloc, items, scope)?;
     let groups = grouped(alloc, &spans)?;
     let mut split = Split {
         registers: Vec::new(alloc),

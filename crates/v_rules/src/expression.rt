@@ -15,10 +15,10 @@ use v_syntax::tree::{CaseKind, Expression, Number};
 use v_value::select::Integer;
 
 /// The rules that an expression breaks where anything may be read.
-pub(crate) fn broken_expression(names: Names<'_, '_>, expression: &Expression<'_>) -> Broken
+pub(crate) fn broken_expression(expression: &Expression<'_>, names: Names<'_, '_>) -> Broken
     ensures { result ≡ broken_at (scope_at names.entry.scope.now) (tree_of expression.now) }
 {
-    broken_in(names, expression)
+    broken_in(expression, names)
 }
 
 /// Whether the number is outside 0 to 65,535.
@@ -39,21 +39,21 @@ fn is_outside(number: Option<Integer>) -> bool
 }
 
 /// The rules that a bound of a declared range breaks.
-fn broken_bound(names: Names<'_, '_>, expression: &Expression<'_>) -> Broken
+fn broken_bound(expression: &Expression<'_>, names: Names<'_, '_>) -> Broken
     ensures { result ≡ bound_at (scope_at names.entry.scope.now) (tree_of expression.now) }
 {
-    let constant = constant_in(names, expression);
+    let constant = constant_in(expression, names);
     also(constant_if(is_outside(constant.number)), constant.broken)
 }
 
 /// The rules that a declared range breaks, if there is one.
-pub(crate) fn broken_range(names: Names<'_, '_>, range: &Option<Box<Range<'_>>>) -> Broken
+pub(crate) fn broken_range(range: &Option<Box<Range<'_>>>, names: Names<'_, '_>) -> Broken
     ensures { result ≡ range_at (scope_at names.entry.scope.now) (optional_range_of range.now) }
 {
     match range {
         Some(range) => also(
-            broken_bound(names, &range.left),
-            broken_bound(names, &range.right),
+            broken_bound(&range.left, names),
+            broken_bound(&range.right, names),
         ),
         None => nothing(),
     }
@@ -106,30 +106,30 @@ fn judged_number(kind: CaseKind, number: Number) -> Number
 }
 
 /// The rules that an item of a case breaks.
-fn broken_value(names: Names<'_, '_>, kind: CaseKind, expression: &Expression<'_>) -> Broken
+fn broken_value(expression: &Expression<'_>, names: Names<'_, '_>, kind: CaseKind) -> Broken
     ensures { result ≡ value_at (scope_at names.entry.scope.now) (case_kind_of kind) (tree_of expression.now) }
 {
     match number_in(expression) {
         Some(number) => {
             let judged = judged_number(kind, number);
             let item = Expression::Number(judged);
-            broken_in(names, &item)
+            broken_in(&item, names)
         }
-        None => broken_in(names, expression),
+        None => broken_in(expression, names),
     }
 }
 
 /// The rules that the values of an item of a case break.
 pub(crate) fn broken_values(
+    values: &[Expression<'_>],
     names: Names<'_, '_>,
     kind: CaseKind,
-    values: &[Expression<'_>],
 ) -> Broken
     ensures { result ≡ values_from (scope_at names.entry.scope.now) (case_kind_of kind) none values.now }
 {
     let mut all = nothing();
     for value in values {
-        all = also(all, broken_value(names, kind, value));
+        all = also(all, broken_value(value, names, kind));
     }
     all
 }

@@ -19,78 +19,82 @@ use v_syntax::module::{Assignment, Event, Events, Item, PortDeclaration, Ports, 
 use v_syntax::tree::{Expression, Target};
 
 /// The rules that the ranges of ports break.
-fn broken_ports(names: Names<'_, '_>, ports: &[PortDeclaration<'_>]) -> Broken
+fn broken_ports(ports: &[PortDeclaration<'_>], names: Names<'_, '_>) -> Broken
     ensures { result ≡ ports_from (scope_at names.entry.scope.now) none (map port_of ports.now) }
 {
     let mut all = nothing();
     for port in ports {
-        all = also(all, broken_range(names, &port.range));
+        all = also(all, broken_range(&port.range, names));
     }
     all
 }
 
 /// The rules that the list of ports breaks.
-pub(crate) fn broken_header(names: Names<'_, '_>, ports: &Ports<'_>) -> Broken
+pub(crate) fn broken_header(ports: &Ports<'_>, names: Names<'_, '_>) -> Broken
     ensures { result ≡ ports_from (scope_at names.entry.scope.now) none (header_ports (ports_of ports.now)) }
 {
     match ports {
         Ports::NoPorts => nothing(),
         Ports::Listed(_) => nothing(),
-        Ports::Declared(list) => broken_ports(names, list),
+        Ports::Declared(list) => broken_ports(list, names),
     }
 }
 
 /// The rules that the value of a net breaks, if it has one.
-fn broken_initial(names: Names<'_, '_>, value: &Option<Box<Expression<'_>>>) -> Broken
+fn broken_initial(value: &Option<Box<Expression<'_>>>, names: Names<'_, '_>) -> Broken
     ensures { result ≡ optional_at (scope_at names.entry.scope.now) (boxed_tree_of value.now) }
 {
     match value {
-        Some(expression) => broken_expression(names, expression),
+        Some(expression) => broken_expression(expression, names),
         None => nothing(),
     }
 }
 
 /// The rules that the values of nets break.
-fn broken_wires(names: Names<'_, '_>, wires: &[Wire<'_>]) -> Broken
+fn broken_wires(wires: &[Wire<'_>], names: Names<'_, '_>) -> Broken
     ensures { result ≡ wires_from (scope_at names.entry.scope.now) none (map (λ w. (w.name.now, boxed_tree_of w.value)) wires.now) }
 {
     let mut all = nothing();
     for wire in wires {
-        all = also(all, broken_initial(names, &wire.value));
+        all = also(all, broken_initial(&wire.value, names));
     }
     all
 }
 
 /// The rules that the addresses of memories break.
-fn broken_variables(names: Names<'_, '_>, variables: &[Variable<'_>]) -> Broken
+fn broken_variables(variables: &[Variable<'_>], names: Names<'_, '_>) -> Broken
     ensures { result ≡ variables_from (scope_at names.entry.scope.now) none (map (λ v. (v.name.now, optional_range_of v.addresses)) variables.now) }
 {
     let mut all = nothing();
     for variable in variables {
-        all = also(all, broken_range(names, &variable.addresses));
+        all = also(all, broken_range(&variable.addresses, names));
     }
     all
 }
 
 /// The rules that a continuous assignment breaks: the indexes of its target are constants.
-fn broken_assignment(names: Names<'_, '_>, target: &Target<'_>, value: &Expression<'_>) -> Broken
+fn broken_assignment<'s>(
+    target: &Target<'s>,
+    value: &Expression<'s>,
+    names: Names<'_, '_>,
+) -> Broken
     ensures { result ≡ both (net_target_at (scope_at names.entry.scope.now) designs.by_constants (target_of target.now)) (broken_at (scope_at names.entry.scope.now) (tree_of value.now)) }
 {
     also(
-        broken_net_target(names, Position::Constant(None, false), target),
-        broken_expression(names, value),
+        broken_net_target(target, names, Position::Constant(None, false)),
+        broken_expression(value, names),
     )
 }
 
 /// The rules that continuous assignments break.
-fn broken_assignments(names: Names<'_, '_>, assignments: &[Assignment<'_>]) -> Broken
+fn broken_assignments(assignments: &[Assignment<'_>], names: Names<'_, '_>) -> Broken
     ensures { result ≡ assignments_from (scope_at names.entry.scope.now) none (map (λ a. (target_of a.target, tree_of a.value)) assignments.now) }
 {
     let mut all = nothing();
     for assignment in assignments {
         all = also(
             all,
-            broken_assignment(names, &assignment.target, &assignment.value),
+            broken_assignment(&assignment.target, &assignment.value, names),
         );
     }
     all
@@ -125,36 +129,36 @@ fn broken_events(names: Names<'_, '_>, events: &Events<'_>) -> Broken
 }
 
 /// The rules that an item breaks. Of parameters and instances nothing is said.
-fn broken_item(names: Names<'_, '_>, item: &Item<'_>) -> Broken
+fn broken_item(item: &Item<'_>, names: Names<'_, '_>) -> Broken
     ensures { result ≡ module_item_at (scope_at names.entry.scope.now) (item_of item.now) }
 {
     match item {
-        Item::Port(port) => broken_range(names, &port.range),
+        Item::Port(port) => broken_range(&port.range, names),
         Item::Parameter(_) => nothing(),
         Item::Wires(_, range, wires) => also(
-            broken_range(names, range),
-            broken_wires(names, wires),
+            broken_range(range, names),
+            broken_wires(wires, names),
         ),
         Item::Variables(_, range, variables) => also(
-            broken_range(names, range),
-            broken_variables(names, variables),
+            broken_range(range, names),
+            broken_variables(variables, names),
         ),
-        Item::Assign(assignments) => broken_assignments(names, assignments),
+        Item::Assign(assignments) => broken_assignments(assignments, names),
         Item::Always(events, statement) => also(
             broken_events(names, events),
-            broken_statement(names, is_clocked(events), statement),
+            broken_statement(statement, names, is_clocked(events)),
         ),
         Item::Instances(_, _, _) => nothing(),
     }
 }
 
 /// The rules that the items of a module break.
-pub(crate) fn broken_items(names: Names<'_, '_>, items: &[Item<'_>]) -> Broken
+pub(crate) fn broken_items(items: &[Item<'_>], names: Names<'_, '_>) -> Broken
     ensures { result ≡ module_items_from (scope_at names.entry.scope.now) none (map item_of items.now) }
 {
     let mut all = nothing();
     for item in items {
-        all = also(all, broken_item(names, item));
+        all = also(all, broken_item(item, names));
     }
     all
 }

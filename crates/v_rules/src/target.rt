@@ -92,15 +92,15 @@ fn whole(parts: Written) -> Written
 
 /// A name with the selects after it.
 fn judged_place(
+    selects: &Selects<'_>,
     names: Names<'_, '_>,
     position: Position,
     name: &str,
-    selects: &Selects<'_>,
 ) -> Written
     ensures { result ≡ target_at (scope_at names.entry.scope.now) (position_of position) (pure.place name.now (selects_of selects.now)) }
 {
     let object = names.scope.object(name);
-    let found = place_in(names, position, object, selects);
+    let found = place_in(selects, names, position, object);
     Written {
         broken: found.0,
         width: capped(found.1),
@@ -111,26 +111,26 @@ fn judged_place(
 /// A target whose indexes stand in this place.
 #[cycle(target)]
 pub(crate) fn judged_target(
+    target: &Target<'_>,
     names: Names<'_, '_>,
     position: Position,
-    target: &Target<'_>,
 ) -> Written
     ensures { result ≡ target_at (scope_at names.entry.scope.now) (position_of position) (target_of target.now) }
 {
     match target {
-        Target::Place(name, selects) => judged_place(names, position, name, selects),
-        Target::Joined(targets) => whole(judged_targets(names, position, targets)),
+        Target::Place(name, selects) => judged_place(selects, names, position, name),
+        Target::Joined(targets) => whole(judged_targets(targets, names, position)),
     }
 }
 
 /// Targets side by side.
 #[cycle(target)]
-fn judged_targets(names: Names<'_, '_>, position: Position, targets: &[Target<'_>]) -> Written
+fn judged_targets(targets: &[Target<'_>], names: Names<'_, '_>, position: Position) -> Written
     ensures { result ≡ targets_from (scope_at names.entry.scope.now) (position_of position) no_part targets.now }
 {
     let mut all = no_part();
     for target in targets {
-        all = with_part(all, judged_target(names, position, target));
+        all = with_part(all, judged_target(target, names, position));
     }
     all
 }
@@ -154,22 +154,22 @@ fn in_block(clocked: bool, target: Written) -> Broken
 
 /// The rules that a target outside clocked blocks breaks, whose indexes stand in this place.
 pub(crate) fn broken_net_target(
+    target: &Target<'_>,
     names: Names<'_, '_>,
     position: Position,
-    target: &Target<'_>,
 ) -> Broken
     ensures { result ≡ net_target_at (scope_at names.entry.scope.now) (position_of position) (target_of target.now) }
 {
-    in_net(judged_target(names, position, target))
+    in_net(judged_target(target, names, position))
 }
 
 /// The rules that the target of an assignment in a block breaks.
 pub(crate) fn broken_block_target(
+    target: &Target<'_>,
     names: Names<'_, '_>,
     clocked: bool,
-    target: &Target<'_>,
 ) -> Broken
     ensures { result ≡ block_target_at (scope_at names.entry.scope.now) clocked (target_of target.now) }
 {
-    in_block(clocked, judged_target(names, Position::Anywhere, target))
+    in_block(clocked, judged_target(target, names, Position::Anywhere))
 }

@@ -16,17 +16,17 @@ use v_size::{Broken, Names};
 use v_syntax::module::{Item, Ports};
 
 /// All rules that the declarations in a list of ports break.
-pub fn ports_rules(names: Names<'_, '_>, ports: &Ports<'_>) -> Broken
+pub fn ports_rules(ports: &Ports<'_>, names: Names<'_, '_>) -> Broken
     ensures { result ≡ coded (broken_ports (scope_at names.entry.scope.now) (header_ports (ports_of ports.now))) }
 {
-    broken_header(names, ports)
+    broken_header(ports, names)
 }
 
 /// All rules that items break which are no parameters and no instances. Of parameters and instances nothing is said.
-pub fn items_rules(names: Names<'_, '_>, items: &[Item<'_>]) -> Broken
+pub fn items_rules(items: &[Item<'_>], names: Names<'_, '_>) -> Broken
     ensures plain { result ≡ module_items_from (scope_at names.entry.scope.now) none (map item_of items.now) }
     ensures alone { (source : Source) → list_any is_part (map item_of items.now) ≡ false
         → result ≡ coded (broken_module_items source (scope_at names.entry.scope.now) (map item_of items.now)) }
 {
-    broken_items(names, items)
+    broken_items(items, names)
 }

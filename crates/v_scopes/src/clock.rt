@@ -66,25 +66,25 @@ fn is_variable(variables: &[Variable<'_>], name: &str) -> bool
 }
 
 /// Whether the range has another number of bits than one.
-fn is_wide_range(constants: Constants<'_, '_>, range: &Option<Box<Range<'_>>>) -> bool
+fn is_wide_range(range: &Option<Box<Range<'_>>>, constants: Constants<'_, '_>) -> bool
     ensures { result ≡ is_wide (bounds (scope_at constants.entry.scope.now) (optional_range_of range.now)) }
 {
-    is_wide(bounds_of(constants, range))
+    is_wide(bounds_of(range, constants))
 }
 
 /// Whether the declaration is of the name, with a range of another number of bits than one.
-fn is_wide_port(constants: Constants<'_, '_>, port: &PortDeclaration<'_>, name: &str) -> bool
+fn is_wide_port(port: &PortDeclaration<'_>, constants: Constants<'_, '_>, name: &str) -> bool
     ensures { result ≡ (is_among (port_of port.now).names name.now && is_wide (bounds (scope_at constants.entry.scope.now) (port_of port.now).range)) }
 {
-    is_named(&port.names, name) && is_wide_range(constants, &port.range)
+    is_named(&port.names, name) && is_wide_range(&port.range, constants)
 }
 
 /// Whether one of the declarations is of the name, with a range of another number of bits than one.
-fn has_wide_port(constants: Constants<'_, '_>, ports: &[PortDeclaration<'_>], name: &str) -> bool
+fn has_wide_port(ports: &[PortDeclaration<'_>], constants: Constants<'_, '_>, name: &str) -> bool
     ensures { result ≡ wide_port (scope_at constants.entry.scope.now) name.now (map port_of ports.now) }
 {
     for port in ports {
-        if is_wide_port(constants, port, name) {
+        if is_wide_port(port, constants, name) {
             return true;
         }
     }
@@ -92,37 +92,37 @@ fn has_wide_port(constants: Constants<'_, '_>, ports: &[PortDeclaration<'_>], na
 }
 
 /// Whether one of the nets has the name, and a range of another number of bits than one.
-fn is_wide_wire(
+fn is_wide_wire<'s>(
+    range: &Option<Box<Range<'s>>>,
+    wires: &[Wire<'s>],
     constants: Constants<'_, '_>,
-    range: &Option<Box<Range<'_>>>,
-    wires: &[Wire<'_>],
     name: &str,
 ) -> bool
     ensures { result ≡ (is_among (connected_names (map (λ w. (w.name.now, boxed_tree_of w.value)) wires.now)) name.now && is_wide (bounds (scope_at constants.entry.scope.now) (optional_range_of range.now))) }
 {
-    is_wire(wires, name) && is_wide_range(constants, range)
+    is_wire(wires, name) && is_wide_range(range, constants)
 }
 
 /// Whether one of the variables has the name, and a range of another number of bits than one.
-fn is_wide_variable(
+fn is_wide_variable<'s>(
+    range: &Option<Box<Range<'s>>>,
+    variables: &[Variable<'s>],
     constants: Constants<'_, '_>,
-    range: &Option<Box<Range<'_>>>,
-    variables: &[Variable<'_>],
     name: &str,
 ) -> bool
     ensures { result ≡ (is_among (variable_names (map (λ v. (v.name.now, optional_range_of v.addresses)) variables.now)) name.now && is_wide (bounds (scope_at constants.entry.scope.now) (optional_range_of range.now))) }
 {
-    is_variable(variables, name) && is_wide_range(constants, range)
+    is_variable(variables, name) && is_wide_range(range, constants)
 }
 
 /// Whether the item declares the name with a range of another number of bits than one.
-fn is_wide_item(constants: Constants<'_, '_>, item: &Item<'_>, name: &str) -> bool
+fn is_wide_item(item: &Item<'_>, constants: Constants<'_, '_>, name: &str) -> bool
     ensures { result ≡ is_wide_item (scope_at constants.entry.scope.now) name.now (item_of item.now) }
 {
     match item {
-        Item::Port(port) => is_wide_port(constants, port, name),
-        Item::Wires(_, range, wires) => is_wide_wire(constants, range, wires, name),
-        Item::Variables(_, range, variables) => is_wide_variable(constants, range, variables, name),
+        Item::Port(port) => is_wide_port(port, constants, name),
+        Item::Wires(_, range, wires) => is_wide_wire(range, wires, constants, name),
+        Item::Variables(_, range, variables) => is_wide_variable(range, variables, constants, name),
         Item::Parameter(_) => false,
         Item::Assign(_) => false,
         Item::Always(_, _) => false,
@@ -131,11 +131,11 @@ fn is_wide_item(constants: Constants<'_, '_>, item: &Item<'_>, name: &str) -> bo
 }
 
 /// Whether one of the items declares the name with a range of another number of bits than one.
-fn has_wide_item(constants: Constants<'_, '_>, items: &[Item<'_>], name: &str) -> bool
+fn has_wide_item(items: &[Item<'_>], constants: Constants<'_, '_>, name: &str) -> bool
     ensures { result ≡ wide_item (scope_at constants.entry.scope.now) name.now (map item_of items.now) }
 {
     for item in items {
-        if is_wide_item(constants, item, name) {
+        if is_wide_item(item, constants, name) {
             return true;
         }
     }
@@ -258,23 +258,23 @@ fn is_input_port(within: &Module<'_>, name: &str) -> bool
 }
 
 /// Whether the list of ports declares the name with a range of another number of bits than one.
-fn is_wide_header(constants: Constants<'_, '_>, ports: &Ports<'_>, name: &str) -> bool
+fn is_wide_header(ports: &Ports<'_>, constants: Constants<'_, '_>, name: &str) -> bool
     ensures { result ≡ wide_port (scope_at constants.entry.scope.now) name.now (header_ports (ports_of ports.now)) }
 {
     match ports {
         Ports::NoPorts => false,
         Ports::Listed(_) => false,
-        Ports::Declared(ports) => has_wide_port(constants, ports, name),
+        Ports::Declared(ports) => has_wide_port(ports, constants, name),
     }
 }
 
 /// Whether the module declares the name with a range of another number of bits than one.
-fn is_wide_name(constants: Constants<'_, '_>, within: &Module<'_>, name: &str) -> bool
+fn is_wide_name(within: &Module<'_>, constants: Constants<'_, '_>, name: &str) -> bool
     ensures { result ≡ (wide_port (scope_at constants.entry.scope.now) name.now (header_ports (module_of within.now).ports) || wide_item (scope_at constants.entry.scope.now) name.now (module_of within.now).items) }
 {
     either(
-        is_wide_header(constants, &within.ports, name),
-        has_wide_item(constants, &within.items, name),
+        is_wide_header(&within.ports, constants, name),
+        has_wide_item(&within.items, constants, name),
     )
 }
 
@@ -285,7 +285,7 @@ pub(crate) fn lacks_clock(alloc: Global, within: &Module<'_>, clock: &str) -> bo
     let scope = no_constants(alloc);
     let constants = Constants { scope: &scope };
     let input = is_input_port(within, clock);
-    let wide = is_wide_name(constants, within, clock);
+    let wide = is_wide_name(within, constants, clock);
     either(!input, wide)
 }
 

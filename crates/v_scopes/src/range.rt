@@ -41,10 +41,10 @@ fn bound_from(number: Option<Integer>) -> Option<u32>
 }
 
 /// The value of a bound.
-fn bound(constants: Constants<'_, '_>, expression: &Expression<'_>) -> Option<u32>
+fn bound(expression: &Expression<'_>, constants: Constants<'_, '_>) -> Option<u32>
     ensures { result ≡ bound_at (scope_at constants.entry.scope.now) (tree_of expression.now) }
 {
-    bound_from(constant_number(constants.scope, expression))
+    bound_from(constant_number(expression, constants.scope))
 }
 
 /// The range of two bounds.
@@ -58,13 +58,13 @@ fn between(left: Option<u32>, right: Option<u32>) -> Bounds
 }
 
 /// The value of a range, if one is declared.
-pub fn bounds_of(constants: Constants<'_, '_>, range: &Option<Box<Range<'_>>>) -> Bounds
+pub fn bounds_of(range: &Option<Box<Range<'_>>>, constants: Constants<'_, '_>) -> Bounds
     ensures { result ≡ bounds (scope_at constants.entry.scope.now) (optional_range_of range.now) }
 {
     match range {
         Some(range) => between(
-            bound(constants, &range.left),
-            bound(constants, &range.right),
+            bound(&range.left, constants),
+            bound(&range.right, constants),
         ),
         None => Bounds::Absent,
     }

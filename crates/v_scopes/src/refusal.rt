@@ -1,5 +1,5 @@
 //! What is refused in the names of a design: its top, its clock, names that nothing declares, names that are declared twice.
-ghost use Rattle.std.specs.Prelude.{◌≡◌, IfOk};
+ghost use Rattle.std.specs.Prelude.{◌≡◌, IfOk, option_map};
 ghost use Rattle.verilog_meaning.specs.Hierarchy.{module_named};
 ghost use Rattle.v_syntax.specs.Source.{module_of, source_of};
 ghost use Rattle.v_scopes.specs.Refusals.{IsNamesRefusal, names_kind, top_kind, design_kind};
@@ -23,10 +23,10 @@ pub enum ScopesKind {
 }
 
 /// Why the names of the module that is the top, or those of the source, are refused, if they are.
-fn kind_of_names(
+fn kind_of_names<'s>(
     alloc: Global,
-    tree: &Tree<'_>,
-    within: &Module<'_>,
+    tree: &Tree<'s>,
+    within: &Module<'s>,
     clock: &str,
 ) -> Result<Option<ScopesKind>, AllocError>
     ensures { IfOk result (λ k. k ≡ names_kind (source_of tree.now) clock.now (module_of within.now)) }
@@ -51,6 +51,24 @@ fn kind_of_names(
 }
 
 /// The same of a module that may not be there.
+fn kind_of_found<'s>(
+    alloc: Global,
+    tree: &Tree<'s>,
+    found: Option<&Module<'s>>,
+    clock: &str,
+) -> Result<Option<ScopesKind>, AllocError>
+    ensures { IfOk result (λ k. k ≡ top_kind (source_of tree.now) clock.now (option_map (λ m. module_of m.now) found.entry)) }
+{
+    match found {
+        Some(within) => {
+            let kind = kind_of_names(alloc, tree, within, clock)?;
+            Ok(kind)
+        }
+        None => Ok(Some(ScopesKind::NoTop)),
+    }
+}
+
+/// The same of the module of this name.
 fn kind_of_top(
     alloc: Global,
     tree: &Tree<'_>,
@@ -59,13 +77,8 @@ fn kind_of_top(
 ) -> Result<Option<ScopesKind>, AllocError>
     ensures { IfOk result (λ k. k ≡ top_kind (source_of tree.now) clock.now (module_named (source_of tree.now) top.now)) }
 {
-    match top_of(tree, top) {
-        Some(within) => {
-            let kind = kind_of_names(alloc, tree, within, clock)?;
-            Ok(kind)
-        }
-        None => Ok(Some(ScopesKind::NoTop)),
-    }
+    let kind = kind_of_found(alloc, tree, top_of(tree, top), clock)?;
+    Ok(kind)
 }
 
 /// Why the names of a design are refused: the first kind, in their order, whose rule is broken, if one is. Before them a source with a

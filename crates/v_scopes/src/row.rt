@@ -89,35 +89,35 @@ fn add_wires<'s>(
 
 /// Adds a variable, or a memory.
 fn add_variable<'s>(
-    constants: Constants<'_, '_>,
     variable: &Variable<'s>,
+    constants: Constants<'_, '_>,
     form: Form,
     list: &mut Vec<Declared<'s>>,
 ) -> Result<(), AllocError>
     ensures { OnOk result (rows_of list.new.items ≡ rows_of list.old.items ++ formed form (bounds (scope_at constants.entry.scope.now) (optional_range_of variable.now.addresses)) variable.now.name.now ∷ []) }
 {
-    let addresses = bounds_of(constants, &variable.addresses);
+    let addresses = bounds_of(&variable.addresses, constants);
     add(variable.name, form, addresses, list)?;
     Ok(())
 }
 
 /// Adds variables and memories.
 fn add_variables<'s>(
-    constants: Constants<'_, '_>,
     variables: &[Variable<'s>],
+    constants: Constants<'_, '_>,
     form: Form,
     list: &mut Vec<Declared<'s>>,
 ) -> Result<(), AllocError>
     ensures { OnOk result (rows_of list.new.items ≡ rows_of list.old.items ++ placed (scope_at constants.entry.scope.now) form (map (λ v. (v.name.now, optional_range_of v.addresses)) variables.now)) }
 {
     for variable in variables {
-        add_variable(constants, variable, form, list)?;
+        add_variable(variable, constants, form, list)?;
     }
     Ok(())
 }
 
 /// How a declaration of ports declares its names.
-fn port_form(constants: Constants<'_, '_>, port: &PortDeclaration<'_>) -> Form
+fn port_form(port: &PortDeclaration<'_>, constants: Constants<'_, '_>) -> Form
     ensures direction { result.direction ≡ Some port.now.direction }
     ensures kind { result.kind ≡ port.now.kind }
     ensures signed { result.signed ≡ port.now.signed }
@@ -127,41 +127,41 @@ fn port_form(constants: Constants<'_, '_>, port: &PortDeclaration<'_>) -> Form
         direction: Some(port.direction),
         kind: port.kind,
         signed: port.signed,
-        range: bounds_of(constants, &port.range),
+        range: bounds_of(&port.range, constants),
     }
 }
 
 /// Adds the names of a declaration of ports.
 fn add_port<'s>(
-    constants: Constants<'_, '_>,
     port: &PortDeclaration<'s>,
+    constants: Constants<'_, '_>,
     list: &mut Vec<Declared<'s>>,
 ) -> Result<(), AllocError>
     ensures { OnOk result (rows_of list.new.items ≡ rows_of list.old.items ++ rows (scope_at constants.entry.scope.now) (each_port (port_of port.now) (port_of port.now).names)) }
 {
-    let form = port_form(constants, port);
+    let form = port_form(port, constants);
     add_names(&port.names, form, list)?;
     Ok(())
 }
 
 /// Adds the names of declarations of ports.
 fn add_ports<'s>(
-    constants: Constants<'_, '_>,
     ports: &[PortDeclaration<'s>],
+    constants: Constants<'_, '_>,
     list: &mut Vec<Declared<'s>>,
 ) -> Result<(), AllocError>
     ensures { OnOk result (rows_of list.new.items ≡ rows_of list.old.items ++ rows (scope_at constants.entry.scope.now) (port_declarations (map port_of ports.now))) }
 {
     for port in ports {
-        add_port(constants, port, list)?;
+        add_port(port, constants, list)?;
     }
     Ok(())
 }
 
 /// Adds the names that the list of ports declares.
 fn add_header<'s>(
-    constants: Constants<'_, '_>,
     ports: &Ports<'s>,
+    constants: Constants<'_, '_>,
     list: &mut Vec<Declared<'s>>,
 ) -> Result<(), AllocError>
     ensures { OnOk result (rows_of list.new.items ≡ rows_of list.old.items ++ rows (scope_at constants.entry.scope.now) (port_declarations (header_ports (ports_of ports.now)))) }
@@ -170,7 +170,7 @@ fn add_header<'s>(
         Ports::NoPorts => Ok(()),
         Ports::Listed(_) => Ok(()),
         Ports::Declared(declared) => {
-            add_ports(constants, declared, list)?;
+            add_ports(declared, constants, list)?;
             Ok(())
         }
     }
@@ -178,10 +178,10 @@ fn add_header<'s>(
 
 /// How a declaration of nets or variables declares its names.
 fn net_form(
+    range: &Option<Box<Range<'_>>>,
     constants: Constants<'_, '_>,
     kind: NetKind,
     signed: bool,
-    range: &Option<Box<Range<'_>>>,
 ) -> Form
     ensures { result ≡ record { direction = None; kind = Some kind; signed = signed; range = bounds (scope_at constants.entry.scope.now) (optional_range_of range.now) } }
 {
@@ -189,14 +189,14 @@ fn net_form(
         direction: None,
         kind: Some(kind),
         signed,
-        range: bounds_of(constants, range),
+        range: bounds_of(range, constants),
     }
 }
 
 /// Adds the ports, nets and variables that an item declares.
 fn add_item<'s>(
-    constants: Constants<'_, '_>,
     item: &Item<'s>,
+    constants: Constants<'_, '_>,
     list: &mut Vec<Declared<'s>>,
 ) -> Result<(), AllocError>
     ensures { OnOk result ((rest : List pure.Item) → rows_of list.old.items ++ rows (scope_at constants.entry.scope.now) (item_declarations (item_of item.now ∷ rest))
@@ -204,17 +204,17 @@ fn add_item<'s>(
 {
     match item {
         Item::Port(port) => {
-            add_port(constants, port, list)?;
+            add_port(port, constants, list)?;
             Ok(())
         }
         Item::Wires(signed, range, wires) => {
-            let form = net_form(constants, NetKind::Wire, *signed, range);
+            let form = net_form(range, constants, NetKind::Wire, *signed);
             add_wires(wires, form, list)?;
             Ok(())
         }
         Item::Variables(signed, range, variables) => {
-            let form = net_form(constants, NetKind::Reg, *signed, range);
-            add_variables(constants, variables, form, list)?;
+            let form = net_form(range, constants, NetKind::Reg, *signed);
+            add_variables(variables, constants, form, list)?;
             Ok(())
         }
         Item::Parameter(_) => Ok(()),
@@ -226,14 +226,14 @@ fn add_item<'s>(
 
 /// Adds the ports, nets and variables that items declare.
 fn add_items<'s>(
-    constants: Constants<'_, '_>,
     items: &[Item<'s>],
+    constants: Constants<'_, '_>,
     list: &mut Vec<Declared<'s>>,
 ) -> Result<(), AllocError>
     ensures { OnOk result (rows_of list.new.items ≡ rows_of list.old.items ++ rows (scope_at constants.entry.scope.now) (item_declarations (map item_of items.now))) }
 {
     for item in items {
-        add_item(constants, item, list)?;
+        add_item(item, constants, list)?;
     }
     Ok(())
 }
@@ -242,13 +242,13 @@ fn add_items<'s>(
 /// port and as a net or variable besides stands there twice.
 pub fn declared_rows<'s>(
     alloc: Global,
-    constants: Constants<'_, '_>,
     within: &Module<'s>,
+    constants: Constants<'_, '_>,
 ) -> Result<Vec<Declared<'s>>, AllocError>
     ensures { IfOk result (λ v. rows_of v.items ≡ rows (scope_at constants.entry.scope.now) (declarations (module_of within.now))) }
 {
     let mut all = Vec::new(alloc);
-    add_header(constants, &within.ports, &mut all)?;
-    add_items(constants, &within.items, &mut all)?;
+    add_header(&within.ports, constants, &mut all)?;
+    add_items(&within.items, constants, &mut all)?;
     Ok(all)
 }

@@ -88,12 +88,12 @@ fn table_of<'s>(
 /// in it.
 pub fn declared_scope<'s>(
     alloc: Global,
-    constants: Constants<'_, '_>,
     within: &Module<'s>,
+    constants: Constants<'_, '_>,
 ) -> Result<ModuleScope<'s>, AllocError>
     ensures { IfOk result (λ s. rows_of s.declared.items ≡ rows (scope_at constants.entry.scope.now) (declarations (module_of within.now))) }
 {
-    let declared = declared_rows(alloc, constants, within)?;
+    let declared = declared_rows(alloc, within, constants)?;
     let table = table_of(alloc, &declared)?;
     Ok(ModuleScope { declared, table })
 }
@@ -104,7 +104,7 @@ pub fn module_scope<'s>(alloc: Global, within: &Module<'s>) -> Result<ModuleScop
     ensures scope { IfOk result (λ s. scope_in s ≡ known_module_scope (module_of within.now) []) }
 {
     let scope = no_constants(alloc);
-    let names = declared_scope(alloc, Constants { scope: &scope }, within)?;
+    let names = declared_scope(alloc, within, Constants { scope: &scope })?;
     Ok(names)
 }
 

@@ -2,7 +2,7 @@
 ghost use Rattle.std.specs.Prelude.{◌≡◌, [], option_map, IfOk};
 ghost use Rattle.verilog_meaning.specs.Hierarchy.{module_named};
 ghost use Rattle.verilog_designs.specs.Known.{known_module_scope};
-ghost use Rattle.v_syntax.specs.Source.{source_of};
+ghost use Rattle.v_syntax.specs.Source.{module_of, source_of};
 ghost use Rattle.v_scopes.specs.Scopes.{scope_in, with_top, IsScoping};
 
 use crate::refusal::{ScopesKind, names_refusal};
@@ -10,7 +10,7 @@ use crate::scope::module_scope;
 use crate::table::ModuleScope;
 use std::alloc::{AllocError, Global};
 use v_hier::top_of;
-use v_syntax::module::Tree;
+use v_syntax::module::{Module, Tree};
 
 /// The scopes of the modules that stand in a design: that of its top alone, as long as instances are not read.
 #[derive(Drop)]
@@ -31,6 +31,22 @@ pub enum ScopesStop {
     NoMemory,
 }
 
+/// The scope of a module, if it is there.
+fn scope_of_found<'s>(
+    alloc: Global,
+    found: Option<&Module<'s>>,
+) -> Result<Option<ModuleScope<'s>>, AllocError>
+    ensures { IfOk result (λ o. option_map scope_in o ≡ option_map (λ m. known_module_scope m []) (option_map (λ m. module_of m.now) found.entry)) }
+{
+    match found {
+        Some(within) => {
+            let scope = module_scope(alloc, within)?;
+            Ok(Some(scope))
+        }
+        None => Ok(None),
+    }
+}
+
 /// The scope of the top, if there is one.
 fn top_scope<'s>(
     alloc: Global,
@@ -39,13 +55,8 @@ fn top_scope<'s>(
 ) -> Result<Option<ModuleScope<'s>>, AllocError>
     ensures { IfOk result (λ o. option_map scope_in o ≡ option_map (λ m. known_module_scope m []) (module_named (source_of tree.now) top.now)) }
 {
-    match top_of(tree, top) {
-        Some(within) => {
-            let scope = module_scope(alloc, within)?;
-            Ok(Some(scope))
-        }
-        None => Ok(None),
-    }
+    let scope = scope_of_found(alloc, top_of(tree, top))?;
+    Ok(scope)
 }
 
 /// The scopes of a design whose names are in order, where this is the scope of its top.

@@ -47,15 +47,15 @@ fn lower_link<'s>(
     ensures lowered { OnOk result (IsLinkLowered (scope_at scope.now) (images_at table.old) terms.old (target_of target.now) (tree_of value.now) (images_at table.new) terms.new) }
 {
     let width = target_width(target, scope);
-    let number = assigned(scope, table, terms, value, width)?;
+    let number = assigned(value, scope, table, terms, width)?;
     write_bits(target, scope, table, terms, number, width, 0)?;
     Ok(())
 }
 
 /// Writes the value that a declaration gives a net.
 fn lower_net<'s>(
-    name: &'s str,
     value: &Expression<'s>,
+    name: &'s str,
     scope: &Scope<'_>,
     table: &mut NamedTerms<'s>,
     terms: &mut Terms,
@@ -98,11 +98,11 @@ fn lower_driver<'s>(
             Ok(())
         }
         Driver::Net(name, value) => {
-            lower_net(name, value, scope, table, terms)?;
+            lower_net(value, name, scope, table, terms)?;
             Ok(())
         }
         Driver::Block(block) => {
-            lower_statement(alloc, scope, block, table, spare, terms)?;
+            lower_statement(alloc, block, scope, table, spare, terms)?;
             Ok(())
         }
     }

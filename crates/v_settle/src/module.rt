@@ -39,8 +39,8 @@ fn settle_all<'s>(
 {
     let mut spare = copied(alloc, scope, table)?;
     let drivers = drivers_of(alloc, items)?;
-    let spans = all_driven(alloc, scope, &drivers)?;
-    let order = order_of(alloc, scope, &drivers)?;
+    let spans = all_driven(alloc, &drivers, scope)?;
+    let order = order_of(alloc, &drivers, scope)?;
     let mut unsettled = masks_of(alloc, &spans)?;
     let count = spans.len();
     for _ in 0..count {

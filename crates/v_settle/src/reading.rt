@@ -23,10 +23,10 @@ use wb_terms::{TermId, Terms};
 
 /// The term of an expression in a context of `width` bits and this sign.
 fn lowered(
+    expression: &Expression<'_>,
     scope: &Scope<'_>,
     table: &NamedTerms<'_>,
     terms: &mut Terms,
-    expression: &Expression<'_>,
     width: u32,
     signed: bool,
 ) -> Result<TermId, NoMemory>
@@ -38,7 +38,7 @@ fn lowered(
     ensures grows { Grows terms.old terms.new }
     ensures lowered { IfOk result (λ r. IsLowered (scope_at scope.now) (images_at table.now) terms.new (tree_of expression.now) width signed r.0) }
 {
-    match lower(scope, table, expression, width, signed, terms) {
+    match lower(expression, scope, table, width, signed, terms) {
         Ok(id) => Ok(id),
         // No rule is broken, so memory ran out.
         Err(_) => Err(AllocError),
@@ -46,21 +46,21 @@ fn lowered(
 }
 
 /// How many bits an expression has by itself.
-fn own_width(scope: &Scope<'_>, expression: &Expression<'_>) -> u32
+fn own_width(expression: &Expression<'_>, scope: &Scope<'_>) -> u32
     requires objects { HasNarrowObjects (scope_at scope.now) }
     requires sound { IsSound (scope_at scope.now) (tree_of expression.now) }
     ensures width { result ≡ width_at (scope_at scope.now) (tree_of expression.now) }
     ensures at_most_128 { result ≤ 128 }
 {
-    width_of(scope, expression)
+    width_of(expression, scope)
 }
 
 /// The term of the value that an assignment of an expression gives a target of `width` bits.
 pub(crate) fn assigned(
+    expression: &Expression<'_>,
     scope: &Scope<'_>,
     table: &NamedTerms<'_>,
     terms: &mut Terms,
-    expression: &Expression<'_>,
     width: u32,
 ) -> Result<TermId, NoMemory>
     requires objects { HasNarrowObjects (scope_at scope.now) }
@@ -71,13 +71,13 @@ pub(crate) fn assigned(
     ensures grows { Grows terms.old terms.new }
     ensures assigned { IfOk result (λ r. IsAssigned (scope_at scope.now) (images_at table.now) terms.new (tree_of expression.now) width r.0) }
 {
-    let own = own_width(scope, expression);
-    let signed = sign_of(scope, expression);
+    let own = own_width(expression, scope);
+    let signed = sign_of(expression, scope);
     if own <= width {
-        let id = lowered(scope, table, terms, expression, width, signed)?;
+        let id = lowered(expression, scope, table, terms, width, signed)?;
         return Ok(id);
     }
-    let all = lowered(scope, table, terms, expression, own, signed)?;
+    let all = lowered(expression, scope, table, terms, own, signed)?;
     let id = resized(terms, all, own, width)?;
     Ok(id)
 }

@@ -33,9 +33,9 @@ use v_value::scope::Scope;
 use wb_terms::Terms;
 
 /// Comes to all drivers, in the order of the text.
-fn turn<'s>(
+fn turn<'t, 's>(
     alloc: Global,
-    drivers: &[Driver<'_, 's>],
+    drivers: &'t [Driver<'t, 's>],
     scope: &Scope<'_>,
     unsettled: &mut BTreeMap<&'s str, u128>,
     table: &mut NamedTerms<'s>,
@@ -59,9 +59,9 @@ fn turn<'s>(
 }
 
 /// Comes to the driver with an index, if there is one.
-fn visit_at<'s>(
+fn visit_at<'t, 's>(
     alloc: Global,
-    drivers: &[Driver<'_, 's>],
+    drivers: &'t [Driver<'t, 's>],
     scope: &Scope<'_>,
     index: usize,
     unsettled: &mut BTreeMap<&'s str, u128>,
@@ -89,9 +89,9 @@ fn visit_at<'s>(
 }
 
 /// Comes to drivers in an order.
-fn pass<'s>(
+fn pass<'t, 's>(
     alloc: Global,
-    drivers: &[Driver<'_, 's>],
+    drivers: &'t [Driver<'t, 's>],
     scope: &Scope<'_>,
     order: &[usize],
     unsettled: &mut BTreeMap<&'s str, u128>,
@@ -119,10 +119,10 @@ fn pass<'s>(
 
 /// Makes up to 128 turns, each in an order that settles most, and then in the order of the text. Answers whether no further one would settle
 /// a bit: none is left, or the last turn settled none in the order of the text.
-pub(crate) fn turns<'s>(
+pub(crate) fn turns<'t, 's>(
     alloc: Global,
     _items: &[Item<'s>],
-    drivers: &[Driver<'_, 's>],
+    drivers: &'t [Driver<'t, 's>],
     scope: &Scope<'_>,
     order: &[usize],
     driven: &[Span<'s>],

@@ -46,10 +46,10 @@ pub(crate) fn part_span(selects: &Selects<'_>, name: &str, scope: &Scope<'_>) ->
             if object.addresses.is_some() {
                 whole_span(object)
             } else {
-                select_bits(scope, &[], object, select)
+                select_bits(select, scope, &[], object)
             }
         }
-        Selects::Two(_, select) => select_bits(scope, &[], object, select),
+        Selects::Two(_, select) => select_bits(select, scope, &[], object),
     }
 }
 

@@ -14,32 +14,32 @@ use v_syntax::tree::{Expression, Selects};
 use v_value::scope::Object;
 
 /// The rules that an expression breaks where anything may be read.
-pub fn broken_in(names: Names<'_, '_>, expression: &Expression<'_>) -> Broken
+pub fn broken_in(expression: &Expression<'_>, names: Names<'_, '_>) -> Broken
     ensures { result ≡ coded (rules.broken (scope_at names.entry.scope.now) rules.anywhere (tree_of expression.now)) }
 {
-    let judged = judge(names, Position::Anywhere, expression);
+    let judged = judge(expression, names, Position::Anywhere);
     judged.broken
 }
 
 /// The rules that an expression breaks in this place, and its width, where that has a value.
 pub fn judged_in(
+    expression: &Expression<'_>,
     names: Names<'_, '_>,
     place: Position,
-    expression: &Expression<'_>,
 ) -> (Broken, Option<u32>)
     ensures broken { result.0 ≡ coded (rules.broken (scope_at names.entry.scope.now) (position_of place) (tree_of expression.now)) }
     ensures width { result.1 ≡ some_if (rules.has_width (scope_at names.entry.scope.now) (tree_of expression.now)) (width_of (scope_at names.entry.scope.now) (tree_of expression.now)) }
 {
-    let judged = judge(names, place, expression);
+    let judged = judge(expression, names, place);
     (judged.broken, judged.width)
 }
 
 /// A constant: the rules that it breaks in the context of its own width and sign, and its number, where it breaks none.
-pub fn constant_in(names: Names<'_, '_>, expression: &Expression<'_>) -> ConstantNumber
+pub fn constant_in(expression: &Expression<'_>, names: Names<'_, '_>) -> ConstantNumber
     ensures broken { result.broken ≡ coded (rules.broken_constant (scope_at names.entry.scope.now) (tree_of expression.now)) }
     ensures number { number_at result.number ≡ rules.constant_number (scope_at names.entry.scope.now) (tree_of expression.now) }
 {
-    judged_constant(names, expression)
+    judged_constant(expression, names)
 }
 
 /// The object with a number where it has none.
@@ -55,16 +55,16 @@ fn numbered(object: Object) -> Object
 /// What a name breaks that is assigned, where the indexes behind it stand in this place, and the width of what is assigned of it,
 /// where that has a value. The name itself may be a net also where its indexes must be constant, so it is judged as one with a number.
 pub fn place_in(
+    selects: &Selects<'_>,
     names: Names<'_, '_>,
     place: Position,
     object: Object,
-    selects: &Selects<'_>,
 ) -> (Broken, Option<u32>)
     ensures broken { result.0 ≡ coded (rules.also (rules.by_name rules.anywhere (object_of object) (selects_of selects.now))
         (rules.broken_selects (scope_at names.entry.scope.now) (position_of place) (object_of object) (selects_of selects.now))) }
     ensures width { result.1 ≡ some_if (((object_of object).is_declared && nat_le (object_width (object_of object)) 128) && rules.selects_have_width (scope_at names.entry.scope.now) (object_of object) (selects_of selects.now))
         (selects_width (scope_at names.entry.scope.now) (object_of object) (selects_of selects.now)) }
 {
-    let judged = named(names, place, numbered(object), selects);
+    let judged = named(selects, names, place, numbered(object));
     (judged.broken, judged.width)
 }

@@ -13,9 +13,9 @@ use v_value::select::Integer;
 
 /// The number that a constant has by its own width and sign, where it breaks no rule. All names of the scope have at most 128 bits.
 #[tactic(auto, unfolding(crate::specs::Judged::constant_number_at))]
-pub fn constant_number(scope: &Scope<'_>, expression: &Expression<'_>) -> Option<Integer>
+pub fn constant_number(expression: &Expression<'_>, scope: &Scope<'_>) -> Option<Integer>
     requires { HasNarrowObjects (scope_at scope.now) }
     ensures { number_at result ≡ constant_number (scope_at scope.now) (tree_of expression.now) }
 {
-    judged_constant(Names { scope }, expression).number
+    judged_constant(expression, Names { scope }).number
 }

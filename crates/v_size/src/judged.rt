@@ -102,10 +102,10 @@ fn own_place(place: Position, width: Option<u32>, signed: bool) -> Position
 }
 
 /// The sign of an operand.
-fn operand_sign(names: Names<'_, '_>, operand: &Expression<'_>) -> bool
+fn operand_sign(operand: &Expression<'_>, names: Names<'_, '_>) -> bool
     ensures { result ≡ sign_at (scope_at names.entry.scope.now) (tree_of operand.now) }
 {
-    sign_of(names.scope, operand)
+    sign_of(operand, names.scope)
 }
 
 /// An operand that is widened by its own sign or width alone.
@@ -152,12 +152,12 @@ fn constant_rule(broken: bool, operand: Judged) -> Judged
 }
 
 /// The number of a constant, which breaks these rules in the context of its own width and sign.
-fn number_of(names: Names<'_, '_>, constant: &Expression<'_>, broken: Broken) -> Option<Integer>
+fn number_of(constant: &Expression<'_>, names: Names<'_, '_>, broken: Broken) -> Option<Integer>
     requires { broken ≡ constant_broken_at (scope_at names.scope.now) (tree_of constant.now) }
     ensures { number_at result ≡ constant_number_at (scope_at names.entry.scope.now) (tree_of constant.now) }
 {
     if is_unbroken(broken) {
-        Some(integer_of(names.scope, &[], constant))
+        Some(integer_of(constant, names.scope, &[]))
     } else {
         None
     }
@@ -165,9 +165,9 @@ fn number_of(names: Names<'_, '_>, constant: &Expression<'_>, broken: Broken) ->
 
 /// Whether an exponent that breaks these rules by itself is refused: where no constant is wanted, and where it is below 0.
 fn is_bad_exponent(
+    exponent: &Expression<'_>,
     names: Names<'_, '_>,
     place: Position,
-    exponent: &Expression<'_>,
     broken: Broken,
 ) -> bool
     requires { broken ≡ (itself_at (scope_at names.scope.now) place (tree_of exponent.now)).broken }
@@ -175,7 +175,7 @@ fn is_bad_exponent(
 {
     match place {
         Position::Anywhere => true,
-        Position::Constant(_, _) => is_number_below_zero(number_of(names, exponent, broken)),
+        Position::Constant(_, _) => is_number_below_zero(number_of(exponent, names, broken)),
     }
 }
 
@@ -192,8 +192,8 @@ fn fits_context(own: Option<u32>, width: u32) -> bool
 /// Whether a constant that breaks these rules in a context is 0 there. It has a value where it breaks none, and the context is no
 /// narrower than it and has at most 128 bits.
 fn is_zero(
-    names: Names<'_, '_>,
     constant: &Expression<'_>,
+    names: Names<'_, '_>,
     judged: Judged,
     width: u32,
     signed: bool,
@@ -207,13 +207,13 @@ fn is_zero(
     if !fits_context(judged.width, width) {
         return false;
     }
-    value_in_context(names.scope, &[], constant, width, signed) == 0
+    value_in_context(constant, names.scope, &[], width, signed) == 0
 }
 
 /// The same where the context may have no width.
 fn is_zero_constant(
-    names: Names<'_, '_>,
     constant: &Expression<'_>,
+    names: Names<'_, '_>,
     judged: Judged,
     width: Option<u32>,
     signed: bool,
@@ -222,16 +222,16 @@ fn is_zero_constant(
     ensures { result ≡ divisor_test (scope_at names.entry.scope.now) (Constant width signed) (tree_of constant.now) judged.broken }
 {
     match width {
-        Some(width) => is_zero(names, constant, judged, width, signed),
+        Some(width) => is_zero(constant, names, judged, width, signed),
         None => false,
     }
 }
 
 /// Whether a divisor is refused: where no constant is wanted, and where it is 0.
 fn is_bad_divisor(
+    divisor: &Expression<'_>,
     names: Names<'_, '_>,
     place: Position,
-    divisor: &Expression<'_>,
     judged: Judged,
 ) -> bool
     requires { judged ≡ judged_at (scope_at names.scope.now) place (tree_of divisor.now) }
@@ -240,7 +240,7 @@ fn is_bad_divisor(
     match place {
         Position::Anywhere => true,
         Position::Constant(width, signed) => is_zero_constant(
-            names, divisor, judged, width, signed,
+            divisor, names, judged, width, signed,
         ),
     }
 }
@@ -399,44 +399,44 @@ fn many_taken(base: Judged, count: ConstantNumber) -> Selected
 
 /// What an expression in this place breaks, and its width.
 #[cycle(judged)]
-pub(crate) fn judge(names: Names<'_, '_>, place: Position, expression: &Expression<'_>) -> Judged
+pub(crate) fn judge(expression: &Expression<'_>, names: Names<'_, '_>, place: Position) -> Judged
     ensures { result ≡ judged_at (scope_at names.entry.scope.now) place (tree_of expression.now) }
 {
     match expression {
         Expression::Number(number) => number_judged(number),
-        Expression::Name(name, selects) => named(names, place, names.scope.object(name), selects),
-        Expression::Concatenation(parts) => joined(parts_judged(names, place, parts)),
+        Expression::Name(name, selects) => named(selects, names, place, names.scope.object(name)),
+        Expression::Concatenation(parts) => joined(parts_judged(parts, names, place)),
         Expression::Replication(count, parts) => repeated(
-            judged_constant(names, count),
-            parts_judged(names, place, parts),
+            judged_constant(count, names),
+            parts_judged(parts, names, place),
         ),
-        Expression::AsSigned(operand) => regarded(by_itself(names, place, operand)),
-        Expression::AsUnsigned(operand) => regarded(by_itself(names, place, operand)),
-        Expression::Prefix(operators, operand) => prefixed(names, place, operators, operand),
+        Expression::AsSigned(operand) => regarded(by_itself(operand, names, place)),
+        Expression::AsUnsigned(operand) => regarded(by_itself(operand, names, place)),
+        Expression::Prefix(operators, operand) => prefixed(operand, names, place, operators),
         Expression::Binary(first, links) => links_judged(
+            links,
             names,
             place,
-            judge(names, place, first),
-            links,
+            judge(first, names, place),
         ),
         Expression::Test(first, links) => {
-            let own = judge(names, Position::Anywhere, first);
-            let signed = operand_sign(names, first);
-            let first_place = first_place(names, place, own.width, signed, links);
-            let judged = in_place(names, first_place, first, own);
+            let own = judge(first, names, Position::Anywhere);
+            let signed = operand_sign(first, names);
+            let first_place = first_place(links, names, place, own.width, signed);
+            let judged = in_place(first, names, first_place, own);
             let left = Left {
                 broken: judged.broken,
                 width: own.width,
                 signed,
                 unsized_number: own.unsized_number,
             };
-            tests_judged(names, place, left, links)
+            tests_judged(links, names, place, left)
         }
         Expression::Conditional(choices, last) => choices_judged(
+            choices,
             names,
             place,
-            choices,
-            judge(names, place, last),
+            judge(last, names, place),
         ),
     }
 }
@@ -444,9 +444,9 @@ pub(crate) fn judge(names: Names<'_, '_>, place: Position, expression: &Expressi
 /// The same expression in another place, where `own` is what it is anywhere.
 #[cycle(judged)]
 fn in_place(
+    expression: &Expression<'_>,
     names: Names<'_, '_>,
     place: Position,
-    expression: &Expression<'_>,
     own: Judged,
 ) -> Judged
     requires { own ≡ judged_at (scope_at names.scope.now) Anywhere (tree_of expression.now) }
@@ -455,102 +455,102 @@ fn in_place(
     match place {
         Position::Anywhere => own,
         Position::Constant(width, signed) => judge(
+            expression,
             names,
             Position::Constant(width, signed),
-            expression,
         ),
     }
 }
 
 /// An expression by itself.
 #[cycle(judged)]
-fn by_itself(names: Names<'_, '_>, place: Position, expression: &Expression<'_>) -> Judged
+fn by_itself(expression: &Expression<'_>, names: Names<'_, '_>, place: Position) -> Judged
     ensures { result ≡ itself_at (scope_at names.entry.scope.now) place (tree_of expression.now) }
 {
-    let own = judge(names, Position::Anywhere, expression);
-    let signed = operand_sign(names, expression);
-    in_place(names, own_place(place, own.width, signed), expression, own)
+    let own = judge(expression, names, Position::Anywhere);
+    let signed = operand_sign(expression, names);
+    in_place(expression, names, own_place(place, own.width, signed), own)
 }
 
 /// A constant, in the context of its own width and sign.
 #[cycle(judged)]
-pub(crate) fn judged_constant(names: Names<'_, '_>, expression: &Expression<'_>) -> ConstantNumber
+pub(crate) fn judged_constant(expression: &Expression<'_>, names: Names<'_, '_>) -> ConstantNumber
     ensures broken { result.broken ≡ constant_broken_at (scope_at names.entry.scope.now) (tree_of expression.now) }
     ensures number { number_at result.number ≡ constant_number_at (scope_at names.entry.scope.now) (tree_of expression.now) }
 {
-    let judged = by_itself(names, Position::Constant(None, false), expression);
+    let judged = by_itself(expression, names, Position::Constant(None, false));
     ConstantNumber {
         broken: judged.broken,
-        number: number_of(names, expression, judged.broken),
+        number: number_of(expression, names, judged.broken),
     }
 }
 
 /// An operand after operators.
 #[cycle(judged)]
 fn prefixed(
+    operand: &Expression<'_>,
     names: Names<'_, '_>,
     place: Position,
     operators: &[PrefixOperator],
-    operand: &Expression<'_>,
 ) -> Judged
     ensures { result ≡ prefixed_at (scope_at names.entry.scope.now) place operators.now (tree_of operand.now) }
 {
     if reduces(operators) {
-        one_bit(by_itself(names, place, operand))
+        one_bit(by_itself(operand, names, place))
     } else {
-        kept(operators, judge(names, place, operand))
+        kept(operators, judge(operand, names, place))
     }
 }
 
 /// The right operand of an operator.
 #[cycle(judged)]
 fn right(
+    operand: &Expression<'_>,
     names: Names<'_, '_>,
     place: Position,
     operator: BinaryOperator,
-    operand: &Expression<'_>,
 ) -> Judged
     ensures { result ≡ right_at (scope_at names.entry.scope.now) place operator (tree_of operand.now) }
 {
     match operator {
-        BinaryOperator::Power => exponent(names, place, operand),
-        BinaryOperator::ShiftLeft => by_itself(names, place, operand),
-        BinaryOperator::ShiftRight => by_itself(names, place, operand),
-        BinaryOperator::ArithmeticShiftRight => by_itself(names, place, operand),
-        BinaryOperator::Divide => divisor(names, place, operand),
-        BinaryOperator::Modulo => divisor(names, place, operand),
-        _ => judge(names, place, operand),
+        BinaryOperator::Power => exponent(operand, names, place),
+        BinaryOperator::ShiftLeft => by_itself(operand, names, place),
+        BinaryOperator::ShiftRight => by_itself(operand, names, place),
+        BinaryOperator::ArithmeticShiftRight => by_itself(operand, names, place),
+        BinaryOperator::Divide => divisor(operand, names, place),
+        BinaryOperator::Modulo => divisor(operand, names, place),
+        _ => judge(operand, names, place),
     }
 }
 
 /// An exponent.
 #[cycle(judged)]
-fn exponent(names: Names<'_, '_>, place: Position, operand: &Expression<'_>) -> Judged
+fn exponent(operand: &Expression<'_>, names: Names<'_, '_>, place: Position) -> Judged
     ensures { result ≡ exponent_at (scope_at names.entry.scope.now) place (tree_of operand.now) }
 {
-    let judged = by_itself(names, place, operand);
+    let judged = by_itself(operand, names, place);
     constant_rule(
-        is_bad_exponent(names, place, operand, judged.broken),
+        is_bad_exponent(operand, names, place, judged.broken),
         judged,
     )
 }
 
 /// A divisor.
 #[cycle(judged)]
-fn divisor(names: Names<'_, '_>, place: Position, operand: &Expression<'_>) -> Judged
+fn divisor(operand: &Expression<'_>, names: Names<'_, '_>, place: Position) -> Judged
     ensures { result ≡ divisor_at (scope_at names.entry.scope.now) place (tree_of operand.now) }
 {
-    let judged = judge(names, place, operand);
-    constant_rule(is_bad_divisor(names, place, operand, judged), judged)
+    let judged = judge(operand, names, place);
+    constant_rule(is_bad_divisor(operand, names, place, judged), judged)
 }
 
 /// A chain after its first operand.
 #[cycle(judged)]
 fn links_judged(
+    links: &[BinaryLink<'_>],
     names: Names<'_, '_>,
     place: Position,
     first: Judged,
-    links: &[BinaryLink<'_>],
 ) -> Judged
     ensures { result ≡ links_judged (scope_at names.entry.scope.now) place first links.now }
 {
@@ -559,7 +559,7 @@ fn links_judged(
         left = applied(
             link.operator,
             left,
-            right(names, place, link.operator, &link.operand),
+            right(&link.operand, names, place, link.operator),
         );
     }
     left
@@ -568,22 +568,22 @@ fn links_judged(
 /// Where the first operand of a chain of tests stands, whose width and sign these are.
 #[cycle(judged)]
 fn first_place(
+    links: &[TestLink<'_>],
     names: Names<'_, '_>,
     place: Position,
     width: Option<u32>,
     signed: bool,
-    links: &[TestLink<'_>],
 ) -> Position
     ensures { result ≡ first_place (scope_at names.entry.scope.now) place width signed links.now }
 {
     match place {
         Position::Anywhere => Position::Anywhere,
         Position::Constant(own, own_signed) => first_context(
+            links,
             names,
             Position::Constant(own, own_signed),
             width,
             signed,
-            links,
         ),
     }
 }
@@ -591,11 +591,11 @@ fn first_place(
 /// The same where a constant is wanted.
 #[cycle(judged)]
 fn first_context(
+    links: &[TestLink<'_>],
     names: Names<'_, '_>,
     place: Position,
     width: Option<u32>,
     signed: bool,
-    links: &[TestLink<'_>],
 ) -> Position
     ensures { result ≡ first_place (scope_at names.entry.scope.now) place width signed links.now }
 {
@@ -605,7 +605,7 @@ fn first_context(
             if is_logical(link.operator) {
                 own_place(place, width, signed)
             } else {
-                right_context(names, place, width, signed, &link.operand)
+                right_context(&link.operand, names, place, width, signed)
             }
         }
     }
@@ -614,26 +614,26 @@ fn first_context(
 /// The place in the context of what has this width and sign and of a right operand.
 #[cycle(judged)]
 fn right_context(
+    operand: &Expression<'_>,
     names: Names<'_, '_>,
     place: Position,
     width: Option<u32>,
     signed: bool,
-    operand: &Expression<'_>,
 ) -> Position
     ensures { result ≡ own_place place (rules.wider width (sized_at (scope_at names.entry.scope.now) (tree_of operand.now))) (signed && sign_at (scope_at names.entry.scope.now) (tree_of operand.now)) }
 {
-    let right = judge(names, Position::Anywhere, operand);
-    let right_signed = operand_sign(names, operand);
+    let right = judge(operand, names, Position::Anywhere);
+    let right_signed = operand_sign(operand, names);
     own_place(place, wider(width, right.width), both(signed, right_signed))
 }
 
 /// A chain of tests after its first operand.
 #[cycle(judged)]
 fn tests_judged(
+    links: &[TestLink<'_>],
     names: Names<'_, '_>,
     place: Position,
     first: Left,
-    links: &[TestLink<'_>],
 ) -> Judged
     ensures { result ≡ tests_judged (scope_at names.entry.scope.now) place first links.now }
 {
@@ -642,12 +642,12 @@ fn tests_judged(
         left = after_test(
             left,
             tested(
+                &link.operand,
                 names,
                 place,
                 left.width,
                 left.signed,
                 link.operator,
-                &link.operand,
             ),
         );
     }
@@ -661,27 +661,27 @@ fn tests_judged(
 /// What the right operand of a test breaks, where the left has this width and sign.
 #[cycle(judged)]
 fn tested(
+    operand: &Expression<'_>,
     names: Names<'_, '_>,
     place: Position,
     width: Option<u32>,
     signed: bool,
     operator: TestOperator,
-    operand: &Expression<'_>,
 ) -> Broken
     ensures { result ≡ tested_at (scope_at names.entry.scope.now) place width signed operator (tree_of operand.now) }
 {
-    let own = judge(names, Position::Anywhere, operand);
-    let own_signed = operand_sign(names, operand);
+    let own = judge(operand, names, Position::Anywhere);
+    let own_signed = operand_sign(operand, names);
     let operand_place = test_place(place, operator, width, signed, own.width, own_signed);
-    in_place(names, operand_place, operand, own).broken
+    in_place(operand, names, operand_place, own).broken
 }
 
 /// Conditions with their values before a last value.
 #[cycle(judged)]
 fn choices_judged(
+    choices: &[Choice<'_>],
     names: Names<'_, '_>,
     place: Position,
-    choices: &[Choice<'_>],
     last: Judged,
 ) -> Judged
     ensures { result ≡ choices_judged (scope_at names.entry.scope.now) place last choices.now }
@@ -690,8 +690,8 @@ fn choices_judged(
     for choice in choices {
         all = with_choice(
             all,
-            by_itself(names, place, &choice.condition),
-            judge(names, place, &choice.value),
+            by_itself(&choice.condition, names, place),
+            judge(&choice.value, names, place),
         );
     }
     all
@@ -699,12 +699,12 @@ fn choices_judged(
 
 /// Parts side by side.
 #[cycle(judged)]
-fn parts_judged(names: Names<'_, '_>, place: Position, parts: &[Expression<'_>]) -> Judged
+fn parts_judged(parts: &[Expression<'_>], names: Names<'_, '_>, place: Position) -> Judged
     ensures { result ≡ parts_judged (scope_at names.entry.scope.now) place no_parts parts.now }
 {
     let mut all = no_parts();
     for part in parts {
-        all = with_part(all, by_itself(names, place, part));
+        all = with_part(all, by_itself(part, names, place));
     }
     all
 }
@@ -712,45 +712,45 @@ fn parts_judged(names: Names<'_, '_>, place: Position, parts: &[Expression<'_>])
 /// A name with what stands after it.
 #[cycle(judged)]
 pub(crate) fn named(
+    selects: &Selects<'_>,
     names: Names<'_, '_>,
     place: Position,
     object: Object,
-    selects: &Selects<'_>,
 ) -> Judged
     ensures { result ≡ name_at (scope_at names.entry.scope.now) place (object_of object) (selects_of selects.now) }
 {
     let own = by_name(place, object, selects);
     match selects {
         Selects::Whole => whole_judged(own, object),
-        Selects::One(select) => one_judged(own, object, selected(names, place, select)),
+        Selects::One(select) => one_judged(own, object, selected(select, names, place)),
         Selects::Two(first, second) => two_judged(
             own,
             object,
-            selected(names, place, first).broken,
-            selected(names, place, second),
+            selected(first, names, place).broken,
+            selected(second, names, place),
         ),
     }
 }
 
 /// What the expressions in a select break, and the bits that it takes.
 #[cycle(judged)]
-fn selected(names: Names<'_, '_>, place: Position, select: &Select<'_>) -> Selected
+fn selected(select: &Select<'_>, names: Names<'_, '_>, place: Position) -> Selected
     ensures broken { result.broken ≡ select_broken_at (scope_at names.entry.scope.now) place (select_of select.now) }
     ensures bits { taken_by result.bits ≡ taken_at (scope_at names.entry.scope.now) (select_of select.now) }
 {
     match select {
-        Select::Index(index) => one_taken(by_itself(names, place, index)),
+        Select::Index(index) => one_taken(by_itself(index, names, place)),
         Select::Part(left, right) => between(
-            judged_constant(names, left),
-            judged_constant(names, right),
+            judged_constant(left, names),
+            judged_constant(right, names),
         ),
         Select::PartUp(base, count) => many_taken(
-            by_itself(names, place, base),
-            judged_constant(names, count),
+            by_itself(base, names, place),
+            judged_constant(count, names),
         ),
         Select::PartDown(base, count) => many_taken(
-            by_itself(names, place, base),
-            judged_constant(names, count),
+            by_itself(base, names, place),
+            judged_constant(count, names),
         ),
     }
 }

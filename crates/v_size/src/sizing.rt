@@ -35,12 +35,12 @@ fn given(kind: Option<Kind>, width: Option<u32>, signed: bool) -> Result<(u32, b
 /// The width of the expression in bits, 1 to 128, and whether it is signed (1364-2005, 5.4.1 and 5.5.1), or the first kind of
 /// refusal whose rule it breaks. All names of the scope have at most 128 bits, and what is said holds of an expression of a text,
 /// whose numbers fit their widths.
-pub fn size(scope: &Scope<'_>, expression: &Expression<'_>) -> Result<(u32, bool), SizeRefusal>
+pub fn size(expression: &Expression<'_>, scope: &Scope<'_>) -> Result<(u32, bool), SizeRefusal>
     requires { HasNarrowObjects (scope_at scope.now) }
     ensures { (broken (scope_at scope.now) anywhere (tree_of expression.now)).misshapen ≡ false → IsSizing (scope_at scope.now) (tree_of expression.now) result }
 {
     let names = Names { scope };
-    let judged = judge(names, Position::Anywhere, expression);
-    let signed = sign_of(scope, expression);
+    let judged = judge(expression, names, Position::Anywhere);
+    let signed = sign_of(expression, scope);
     given(first_kind(judged.broken), judged.width, signed)
 }

@@ -13,8 +13,8 @@ use v_syntax::module::{Module, Tree};
 
 /// Puts a module into the table, if it is the first of its name.
 fn put<'t, 's>(
-    table: &mut BTreeMap<&'s str, &'t Module<'s>>,
     within: &'t Module<'s>,
+    table: &mut BTreeMap<&'s str, &'t Module<'s>>,
 ) -> Result<(), AllocError>
     ensures { OnOk result ((q : List ℕ) → module_at table.new q
         ≡ first_of (module_at table.old q) (cond (same_name (module_of within.now).module_name q) (Some (module_of within.now)) None)) }
@@ -37,7 +37,7 @@ pub(crate) fn modules_by_name<'t, 's>(
 {
     let mut table = BTreeMap::new(alloc);
     for each in modules {
-        put(&mut table, each)?;
+        put(each, &mut table)?;
     }
     Ok(table)
 }

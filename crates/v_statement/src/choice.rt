@@ -51,13 +51,13 @@ fn matches(kind: CaseKind, wild: u128, value: u128, item: u128) -> bool
 
 /// Whether one of the expressions, widened to `width` bits by this sign, matches the value.
 fn any_matches(
+    expressions: &[Expression<'_>],
     scope: &Scope<'_>,
     values: &[Entry<'_>],
     kind: CaseKind,
     width: u32,
     signed: bool,
     value: u128,
-    expressions: &[Expression<'_>],
 ) -> bool
     requires ready { IsReadyFor (scope_at scope.now) (valuation_at values.now) }
     requires narrow { AreNarrow (scope_at scope.now) (expressions_of expressions.now) }
@@ -67,7 +67,7 @@ fn any_matches(
         (expressions_of expressions.now) }
 {
     for expression in expressions {
-        let item = value_of(scope, values, expression, width, signed);
+        let item = value_of(expression, scope, values, width, signed);
         if matches(kind, wild_bits(expression), value, item) {
             return true;
         }
@@ -76,22 +76,22 @@ fn any_matches(
 }
 
 /// The greatest width of the expressions, or this one where it is greater.
-fn greatest_width(scope: &Scope<'_>, mut width: u32, expressions: &[Expression<'_>]) -> u32
+fn greatest_width(expressions: &[Expression<'_>], scope: &Scope<'_>, mut width: u32) -> u32
     requires { AreNarrow (scope_at scope.now) (expressions_of expressions.now) }
     ensures { result ≡ max width (greatest_width (scope_at scope.now) (expressions_of expressions.now)) }
 {
     for expression in expressions {
-        width = width.max(width_of(scope, expression));
+        width = width.max(width_of(expression, scope));
     }
     width
 }
 
 /// Whether all the expressions are signed.
-fn all_signed(scope: &Scope<'_>, expressions: &[Expression<'_>]) -> bool
+fn all_signed(expressions: &[Expression<'_>], scope: &Scope<'_>) -> bool
     ensures { result ≡ all_signed (scope_at scope.now) (expressions_of expressions.now) }
 {
     for expression in expressions {
-        if !sign_of(scope, expression) {
+        if !sign_of(expression, scope) {
             return false;
         }
     }
@@ -99,25 +99,25 @@ fn all_signed(scope: &Scope<'_>, expressions: &[Expression<'_>]) -> bool
 }
 
 /// The greatest width of the items' expressions, or this one where it is greater.
-fn items_width(scope: &Scope<'_>, mut width: u32, items: &[CaseItem<'_>]) -> u32
+fn items_width(items: &[CaseItem<'_>], scope: &Scope<'_>, mut width: u32) -> u32
     requires { AreValuesNarrow (scope_at scope.now) items.now }
     ensures { result ≡ max width (items_width (scope_at scope.now) (item_list items.now)) }
 {
     for item in items {
         if let CaseItem::Values(expressions, _) = item {
-            width = greatest_width(scope, width, expressions);
+            width = greatest_width(expressions, scope, width);
         }
     }
     width
 }
 
 /// Whether all the items' expressions are signed.
-fn items_signed(scope: &Scope<'_>, items: &[CaseItem<'_>]) -> bool
+fn items_signed(items: &[CaseItem<'_>], scope: &Scope<'_>) -> bool
     ensures { result ≡ items_signed (scope_at scope.now) (item_list items.now) }
 {
     for item in items {
         if let CaseItem::Values(expressions, _) = item
-            && !all_signed(scope, expressions)
+            && !all_signed(expressions, scope)
         {
             return false;
         }
@@ -127,13 +127,13 @@ fn items_signed(scope: &Scope<'_>, items: &[CaseItem<'_>]) -> bool
 
 /// The index of the item that is run for this value, widened as all items are.
 fn matching(
+    items: &[CaseItem<'_>],
     scope: &Scope<'_>,
     values: &[Entry<'_>],
     kind: CaseKind,
     width: u32,
     signed: bool,
     value: u128,
-    items: &[CaseItem<'_>],
 ) -> Option<usize>
     requires ready { IsReadyFor (scope_at scope.now) (valuation_at values.now) }
     requires narrow { AreValuesNarrow (scope_at scope.now) items.now }
@@ -145,7 +145,7 @@ fn matching(
     for (index, item) in items.iter().enumerate() {
         match item {
             CaseItem::Values(expressions, _) => {
-                if any_matches(scope, values, kind, width, signed, value, expressions) {
+                if any_matches(expressions, scope, values, kind, width, signed, value) {
                     return Some(index);
                 }
             }
@@ -156,12 +156,12 @@ fn matching(
 }
 
 /// The index of the item of a case that is run, if one is.
-pub(crate) fn chosen_item(
+pub(crate) fn chosen_item<'s>(
+    expression: &Expression<'s>,
+    items: &[CaseItem<'s>],
     scope: &Scope<'_>,
     values: &[Entry<'_>],
     kind: CaseKind,
-    expression: &Expression<'_>,
-    items: &[CaseItem<'_>],
 ) -> Option<usize>
     requires ready { IsReadyFor (scope_at scope.now) (valuation_at values.now) }
     requires narrow { IsNarrow (scope_at scope.now) (tree_of expression.now) }
@@ -169,8 +169,8 @@ pub(crate) fn chosen_item(
     ensures below { IfSome result (λ index. index < length items.now) }
     ensures value { result ≡ chosen_item (scope_at scope.now) (valuation_at values.now) (case_kind_of kind) (tree_of expression.now) items.now }
 {
-    let width = items_width(scope, width_of(scope, expression), items);
-    let signed = sign_of(scope, expression) && items_signed(scope, items);
-    let value = value_of(scope, values, expression, width, signed);
-    matching(scope, values, kind, width, signed, value, items)
+    let width = items_width(items, scope, width_of(expression, scope));
+    let signed = sign_of(expression, scope) && items_signed(items, scope);
+    let value = value_of(expression, scope, values, width, signed);
+    matching(items, scope, values, kind, width, signed, value)
 }

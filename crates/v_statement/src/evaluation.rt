@@ -18,9 +18,9 @@ use v_value::width::width_of;
 
 /// The value of the expression in a context of this width and sign.
 pub(crate) fn value_of(
+    expression: &Expression<'_>,
     scope: &Scope<'_>,
     values: &[Entry<'_>],
-    expression: &Expression<'_>,
     width: u32,
     signed: bool,
 ) -> u128
@@ -31,43 +31,43 @@ pub(crate) fn value_of(
     ensures value { result ≡ value_of (scope_at scope.now) (valuation_at values.now) (tree_of expression.now) width signed }
     ensures fits { result < 2 ^ width }
 {
-    value_in_context(scope, values, expression, width, signed)
+    value_in_context(expression, scope, values, width, signed)
 }
 
 /// Whether the expression is true as a condition.
-pub(crate) fn is_true(scope: &Scope<'_>, values: &[Entry<'_>], expression: &Expression<'_>) -> bool
+pub(crate) fn is_true(expression: &Expression<'_>, scope: &Scope<'_>, values: &[Entry<'_>]) -> bool
     requires ready { IsReadyFor (scope_at scope.now) (valuation_at values.now) }
     requires narrow { IsNarrow (scope_at scope.now) (tree_of expression.now) }
     ensures { result ≡ is_true (scope_at scope.now) (valuation_at values.now) (tree_of expression.now) }
 {
-    let width = width_of(scope, expression);
-    let signed = sign_of(scope, expression);
-    value_of(scope, values, expression, width, signed) > 0
+    let width = width_of(expression, scope);
+    let signed = sign_of(expression, scope);
+    value_of(expression, scope, values, width, signed) > 0
 }
 
 /// The value that an assignment of the expression gives a target of `width` bits.
 pub(crate) fn assigned_value(
+    expression: &Expression<'_>,
     scope: &Scope<'_>,
     values: &[Entry<'_>],
     width: u32,
-    expression: &Expression<'_>,
 ) -> u128
     requires ready { IsReadyFor (scope_at scope.now) (valuation_at values.now) }
     requires narrow { IsNarrow (scope_at scope.now) (tree_of expression.now) }
     requires at_most_128 { width ≤ 128 }
     ensures { result ≡ assigned_value (scope_at scope.now) (valuation_at values.now) width (tree_of expression.now) }
 {
-    let wider = width.max(width_of(scope, expression));
-    let signed = sign_of(scope, expression);
-    lowest(value_of(scope, values, expression, wider, signed), width)
+    let wider = width.max(width_of(expression, scope));
+    let signed = sign_of(expression, scope);
+    lowest(value_of(expression, scope, values, wider, signed), width)
 }
 
 /// The integer of a constant, read where no net or variable has a value.
-pub(crate) fn constant_of(scope: &Scope<'_>, expression: &Expression<'_>) -> Integer
+pub(crate) fn constant_of(expression: &Expression<'_>, scope: &Scope<'_>) -> Integer
     requires objects { HasNarrowObjects (scope_at scope.now) }
     requires narrow { IsNarrow (scope_at scope.now) (tree_of expression.now) }
     ensures value { integer_at result ≡ meaning_integer (scope_at scope.now) no_values (tree_of expression.now) }
     ensures small { result.negative ≡ true → result.magnitude < 2 ^ 127 }
 {
-    integer_of(scope, &[], expression)
+    integer_of(expression, scope, &[])
 }

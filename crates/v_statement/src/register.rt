@@ -53,8 +53,8 @@ pub fn is_clocked(events: &Events<'_>) -> bool
 /// Runs a block on a copy of the values, and adds its updates after those that wait.
 fn add_updates<'s>(
     alloc: Global,
-    scope: &Scope<'_>,
     block: &Statement<'s>,
+    scope: &Scope<'_>,
     values: &[Entry<'s>],
     updates: &mut Vec<Update<'s>>,
 ) -> Result<(), AllocError>
@@ -64,14 +64,14 @@ fn add_updates<'s>(
         ≡ updates_of updates.old.items ++ (run (scope_at scope.now) (statement_of block.now) (valuation_at values.now)).updates) }
 {
     let mut copy = copied(alloc, values)?;
-    run_statement(alloc, scope, block, &mut copy, updates)
+    run_statement(alloc, block, scope, &mut copy, updates)
 }
 
 /// Adds the updates of the item's block where it is clocked.
 fn add_item<'s>(
     alloc: Global,
-    scope: &Scope<'_>,
     item: &Item<'s>,
+    scope: &Scope<'_>,
     values: &[Entry<'s>],
     updates: &mut Vec<Update<'s>>,
 ) -> Result<(), AllocError>
@@ -84,7 +84,7 @@ fn add_item<'s>(
     match item {
         Item::Always(events, block) => {
             if is_clocked(events) {
-                add_updates(alloc, scope, block, values, updates)
+                add_updates(alloc, block, scope, values, updates)
             } else {
                 Ok(())
             }
@@ -101,8 +101,8 @@ fn add_item<'s>(
 /// Adds the updates of the clocked blocks among the items, each run on the same values, in the order of the text.
 fn add_clocked<'s>(
     alloc: Global,
-    scope: &Scope<'_>,
     items: &[Item<'s>],
+    scope: &Scope<'_>,
     values: &[Entry<'s>],
     updates: &mut Vec<Update<'s>>,
 ) -> Result<(), AllocError>
@@ -113,7 +113,7 @@ fn add_clocked<'s>(
         ++ updates_of_blocks (scope_at scope.now) (valuation_at values.now) (clocked_blocks (map item_of items.now))) }
 {
     for item in items {
-        add_item(alloc, scope, item, values, updates)?;
+        add_item(alloc, item, scope, values, updates)?;
     }
     Ok(())
 }
@@ -141,8 +141,8 @@ fn apply<'s>(
 /// stay as they were.
 pub fn after_edge<'s>(
     alloc: Global,
-    scope: &Scope<'_>,
     items: &[Item<'s>],
+    scope: &Scope<'_>,
     values: &mut Values<'s>,
 ) -> Result<(), AllocError>
     requires ready { IsReadyFor (scope_at scope.now) (valuation_at values.old.entries.items) }
@@ -152,7 +152,7 @@ pub fn after_edge<'s>(
     ensures kept { OnErr result (values.new.entries.items ≡ values.old.entries.items) }
 {
     let mut updates = Vec::new(alloc);
-    add_clocked(alloc, scope, items, &values.entries, &mut updates)?;
+    add_clocked(alloc, items, scope, &values.entries, &mut updates)?;
     let mut after = copied(alloc, &values.entries)?;
     apply(alloc, scope, &updates, &mut after)?;
     *values = after;

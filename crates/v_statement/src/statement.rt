@@ -23,9 +23,9 @@ use v_value::scope::{Entry, Scope, Values};
 /// The places of a target.
 fn places_of<'s>(
     alloc: Global,
+    target: &Target<'s>,
     scope: &Scope<'_>,
     values: &[Entry<'_>],
-    target: &Target<'s>,
 ) -> Result<Vec<Place<'s>>, AllocError>
     requires ready { IsReadyFor (scope_at scope.now) (valuation_at values.now) }
     requires narrow { IsNarrowTarget (scope_at scope.now) (target_of target.now) }
@@ -33,16 +33,16 @@ fn places_of<'s>(
         ≡ places (scope_at scope.now) (valuation_at values.now) (target_of target.now)) }
 {
     let mut found = Vec::new(alloc);
-    add_places(scope, values, target, &mut found)?;
+    add_places(target, scope, values, &mut found)?;
     Ok(found)
 }
 
 /// A blocking assignment.
 fn assign<'s>(
     alloc: Global,
-    scope: &Scope<'_>,
     target: &Target<'s>,
-    expression: &Expression<'_>,
+    expression: &Expression<'s>,
+    scope: &Scope<'_>,
     values: &mut Values<'s>,
 ) -> Result<(), AllocError>
     requires ready { IsReadyFor (scope_at scope.now) (valuation_at values.old.entries.items) }
@@ -54,18 +54,18 @@ fn assign<'s>(
         (assigned_value (scope_at scope.now) (valuation_at values.old.entries.items)
         (target_width (scope_at scope.now) (target_of target.now)) (tree_of expression.now))) }
 {
-    let places = places_of(alloc, scope, &values.entries, target)?;
+    let places = places_of(alloc, target, scope, &values.entries)?;
     let width = places_width(&places);
-    let value = assigned_value(scope, &values.entries, width, expression);
+    let value = assigned_value(expression, scope, &values.entries, width);
     write(alloc, scope, values, &places, value)
 }
 
 /// A nonblocking assignment: its update, with its places and its value as they are now.
 fn update_of<'s>(
     alloc: Global,
-    scope: &Scope<'_>,
     target: &Target<'s>,
-    expression: &Expression<'_>,
+    expression: &Expression<'s>,
+    scope: &Scope<'_>,
     values: &[Entry<'_>],
 ) -> Result<Update<'s>, AllocError>
     requires ready { IsReadyFor (scope_at scope.now) (valuation_at values.now) }
@@ -78,18 +78,18 @@ fn update_of<'s>(
               (target_width (scope_at scope.now) (target_of target.now)) (tree_of expression.now);
         }) }
 {
-    let places = places_of(alloc, scope, values, target)?;
+    let places = places_of(alloc, target, scope, values)?;
     let width = places_width(&places);
-    let value = assigned_value(scope, values, width, expression);
+    let value = assigned_value(expression, scope, values, width);
     Ok(Update { places, value })
 }
 
 /// A nonblocking assignment adds its update.
 fn defer<'s>(
     alloc: Global,
-    scope: &Scope<'_>,
     target: &Target<'s>,
-    expression: &Expression<'_>,
+    expression: &Expression<'s>,
+    scope: &Scope<'_>,
     values: &[Entry<'_>],
     updates: &mut Vec<Update<'s>>,
 ) -> Result<(), AllocError>
@@ -104,7 +104,7 @@ fn defer<'s>(
               (target_width (scope_at scope.now) (target_of target.now)) (tree_of expression.now);
         } ∷ []) }
 {
-    let update = update_of(alloc, scope, target, expression, values)?;
+    let update = update_of(alloc, target, expression, scope, values)?;
     updates.push(update)?;
     Ok(())
 }
@@ -112,8 +112,8 @@ fn defer<'s>(
 /// Runs a statement on the values, and adds its updates after those that wait. When memory runs out, both stay as they were.
 pub fn run<'s>(
     alloc: Global,
-    scope: &Scope<'_>,
     statement: &Statement<'s>,
+    scope: &Scope<'_>,
     values: &mut Values<'s>,
     updates: &mut Vec<Update<'s>>,
 ) -> Result<(), AllocError>
@@ -127,7 +127,7 @@ pub fn run<'s>(
 {
     let mut after = copied(alloc, &values.entries)?;
     let mut added = Vec::new(alloc);
-    run_statement(alloc, scope, statement, &mut after, &mut added)?;
+    run_statement(alloc, statement, scope, &mut after, &mut added)?;
     updates.append(&mut added)?;
     *values = after;
     Ok(())
@@ -137,8 +137,8 @@ pub fn run<'s>(
 #[cycle(run)]
 pub(crate) fn run_statement<'s>(
     alloc: Global,
-    scope: &Scope<'_>,
     statement: &Statement<'s>,
+    scope: &Scope<'_>,
     values: &mut Values<'s>,
     updates: &mut Vec<Update<'s>>,
 ) -> Result<(), AllocError>
@@ -150,23 +150,23 @@ pub(crate) fn run_statement<'s>(
 {
     match statement {
         Statement::Empty => Ok(()),
-        Statement::Blocking(target, expression) => assign(alloc, scope, target, expression, values),
+        Statement::Blocking(target, expression) => assign(alloc, target, expression, scope, values),
         Statement::Nonblocking(target, expression) => {
-            defer(alloc, scope, target, expression, &values.entries, updates)
+            defer(alloc, target, expression, scope, &values.entries, updates)
         }
         Statement::If(arms, last) => {
-            if run_arms(alloc, scope, arms, values, updates)? {
+            if run_arms(alloc, arms, scope, values, updates)? {
                 return Ok(());
             }
             match last {
-                Some(other) => run_statement(alloc, scope, other, values, updates),
+                Some(other) => run_statement(alloc, other, scope, values, updates),
                 None => Ok(()),
             }
         }
         Statement::Case(kind, expression, items) => {
-            run_case(alloc, scope, items, *kind, expression, values, updates)
+            run_case(alloc, items, expression, scope, *kind, values, updates)
         }
-        Statement::Block(_, statements) => run_all(alloc, scope, statements, values, updates),
+        Statement::Block(_, statements) => run_all(alloc, statements, scope, values, updates),
     }
 }
 
@@ -174,8 +174,8 @@ pub(crate) fn run_statement<'s>(
 #[cycle(run)]
 fn run_all<'s>(
     alloc: Global,
-    scope: &Scope<'_>,
     statements: &[Statement<'s>],
+    scope: &Scope<'_>,
     values: &mut Values<'s>,
     updates: &mut Vec<Update<'s>>,
 ) -> Result<(), AllocError>
@@ -186,7 +186,7 @@ fn run_all<'s>(
         (run_all (scope_at scope.now) (statement_list statements.now) (valuation_at values.old.entries.items))) }
 {
     for statement in statements {
-        run_statement(alloc, scope, statement, values, updates)?;
+        run_statement(alloc, statement, scope, values, updates)?;
     }
     Ok(())
 }
@@ -195,8 +195,8 @@ fn run_all<'s>(
 #[cycle(run)]
 fn run_arms<'s>(
     alloc: Global,
-    scope: &Scope<'_>,
     arms: &[Arm<'s>],
+    scope: &Scope<'_>,
     values: &mut Values<'s>,
     updates: &mut Vec<Update<'s>>,
 ) -> Result<bool, AllocError>
@@ -210,8 +210,8 @@ fn run_arms<'s>(
         (valuation_at values.old.entries.items))) }
 {
     for arm in arms {
-        if is_true(scope, &values.entries, &arm.condition) {
-            run_statement(alloc, scope, &arm.statement, values, updates)?;
+        if is_true(&arm.condition, scope, &values.entries) {
+            run_statement(alloc, &arm.statement, scope, values, updates)?;
             return Ok(true);
         }
     }
@@ -222,10 +222,10 @@ fn run_arms<'s>(
 #[cycle(run)]
 fn run_case<'s>(
     alloc: Global,
-    scope: &Scope<'_>,
     items: &[CaseItem<'s>],
+    expression: &Expression<'s>,
+    scope: &Scope<'_>,
     kind: CaseKind,
-    expression: &Expression<'_>,
     values: &mut Values<'s>,
     updates: &mut Vec<Update<'s>>,
 ) -> Result<(), AllocError>
@@ -237,8 +237,8 @@ fn run_case<'s>(
         (run (scope_at scope.now) (meaning_case (case_kind_of kind) (tree_of expression.now) (item_list items.now))
         (valuation_at values.old.entries.items))) }
 {
-    match chosen_item(scope, &values.entries, kind, expression, items) {
-        Some(index) => run_item(alloc, scope, &items[index], values, updates),
+    match chosen_item(expression, items, scope, &values.entries, kind) {
+        Some(index) => run_item(alloc, &items[index], scope, values, updates),
         None => Ok(()),
     }
 }
@@ -247,8 +247,8 @@ fn run_case<'s>(
 #[cycle(run)]
 fn run_item<'s>(
     alloc: Global,
-    scope: &Scope<'_>,
     item: &CaseItem<'s>,
+    scope: &Scope<'_>,
     values: &mut Values<'s>,
     updates: &mut Vec<Update<'s>>,
 ) -> Result<(), AllocError>
@@ -259,7 +259,7 @@ fn run_item<'s>(
         (run (scope_at scope.now) (item_statement item.now) (valuation_at values.old.entries.items))) }
 {
     match item {
-        CaseItem::Values(_, statement) => run_statement(alloc, scope, statement, values, updates),
-        CaseItem::Default(statement) => run_statement(alloc, scope, statement, values, updates),
+        CaseItem::Values(_, statement) => run_statement(alloc, statement, scope, values, updates),
+        CaseItem::Default(statement) => run_statement(alloc, statement, scope, values, updates),
     }
 }

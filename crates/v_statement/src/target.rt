@@ -20,13 +20,13 @@ use v_value::select::Integer;
 use v_value::taken::integer_of;
 
 /// The number of an index by its own sign; of a part select, which is no index, one that is out of range.
-fn select_index(scope: &Scope<'_>, values: &[Entry<'_>], select: &Select<'_>) -> Integer
+fn select_index(select: &Select<'_>, scope: &Scope<'_>, values: &[Entry<'_>]) -> Integer
     requires ready { IsReadyFor (scope_at scope.now) (valuation_at values.now) }
     requires narrow { IsNarrowSelect (scope_at scope.now) (select_of select.now) }
     ensures { integer_at result ≡ select_index (scope_at scope.now) (valuation_at values.now) (select_of select.now) }
 {
     match select {
-        Select::Index(index) => integer_of(scope, values, index),
+        Select::Index(index) => integer_of(index, scope, values),
         Select::Part(_, _) | Select::PartUp(_, _) | Select::PartDown(_, _) => Integer {
             negative: true,
             magnitude: 0,
@@ -35,7 +35,7 @@ fn select_index(scope: &Scope<'_>, values: &[Entry<'_>], select: &Select<'_>) ->
 }
 
 /// The bits that a select takes.
-fn select_bits(scope: &Scope<'_>, values: &[Entry<'_>], object: Object, select: &Select<'_>) -> Bits
+fn select_bits(select: &Select<'_>, scope: &Scope<'_>, values: &[Entry<'_>], object: Object) -> Bits
     requires ready { IsReadyFor (scope_at scope.now) (valuation_at values.now) }
     requires narrow { IsNarrowSelect (scope_at scope.now) (select_of select.now) }
     requires at_most_128 { (select_bits (scope_at scope.now) no_values (object_of object) (select_of select.now)).count ≤ 128 }
@@ -43,31 +43,31 @@ fn select_bits(scope: &Scope<'_>, values: &[Entry<'_>], object: Object, select: 
         ≡ select_bits (scope_at scope.now) (valuation_at values.now) (object_of object) (select_of select.now) }
 {
     match select {
-        Select::Index(index) => bit_at(object, integer_of(scope, values, index)),
+        Select::Index(index) => bit_at(object, integer_of(index, scope, values)),
         Select::Part(left, right) => bits_between(
             object,
-            constant_of(scope, left),
-            constant_of(scope, right),
+            constant_of(left, scope),
+            constant_of(right, scope),
         ),
         Select::PartUp(base, width) => bits_upward(
             object,
-            integer_of(scope, values, base),
-            count_of(constant_of(scope, width)),
+            integer_of(base, scope, values),
+            count_of(constant_of(width, scope)),
         ),
         Select::PartDown(base, width) => bits_downward(
             object,
-            integer_of(scope, values, base),
-            count_of(constant_of(scope, width)),
+            integer_of(base, scope, values),
+            count_of(constant_of(width, scope)),
         ),
     }
 }
 
 /// The place that a name with selects means, its indexes read in the values.
 fn place_of<'s>(
+    selects: &Selects<'s>,
     scope: &Scope<'_>,
     values: &[Entry<'_>],
     name: &'s str,
-    selects: &Selects<'s>,
 ) -> Place<'s>
     requires ready { IsReadyFor (scope_at scope.now) (valuation_at values.now) }
     requires narrow { AreNarrowSelects (scope_at scope.now) (selects_of selects.now) }
@@ -80,14 +80,14 @@ fn place_of<'s>(
         Selects::Whole => (Cell::Variable, all_bits(object)),
         Selects::One(select) if object.addresses.is_some() => {
             (
-                indexed_cell(object, select_index(scope, values, select)),
+                indexed_cell(object, select_index(select, scope, values)),
                 all_bits(object),
             )
         }
-        Selects::One(select) => (Cell::Variable, select_bits(scope, values, object, select)),
+        Selects::One(select) => (Cell::Variable, select_bits(select, scope, values, object)),
         Selects::Two(index, select) => (
-            indexed_cell(object, select_index(scope, values, index)),
-            select_bits(scope, values, object, select),
+            indexed_cell(object, select_index(index, scope, values)),
+            select_bits(select, scope, values, object),
         ),
     };
     Place { name, cell, bits }
@@ -96,9 +96,9 @@ fn place_of<'s>(
 /// Adds the places of a target, the leftmost first.
 #[cycle(places)]
 pub(crate) fn add_places<'s>(
+    target: &Target<'s>,
     scope: &Scope<'_>,
     values: &[Entry<'_>],
-    target: &Target<'s>,
     found: &mut Vec<Place<'s>>,
 ) -> Result<(), AllocError>
     requires ready { IsReadyFor (scope_at scope.now) (valuation_at values.now) }
@@ -108,17 +108,17 @@ pub(crate) fn add_places<'s>(
         ≡ places_of found.old.items ++ places (scope_at scope.now) (valuation_at values.now) (target_of target.now)) }
 {
     match target {
-        Target::Place(name, selects) => add_place(scope, values, name, selects, found),
-        Target::Joined(targets) => add_all_places(scope, values, targets, found),
+        Target::Place(name, selects) => add_place(selects, scope, values, name, found),
+        Target::Joined(targets) => add_all_places(targets, scope, values, found),
     }
 }
 
 /// Adds the place of a name with selects.
 fn add_place<'s>(
+    selects: &Selects<'s>,
     scope: &Scope<'_>,
     values: &[Entry<'_>],
     name: &'s str,
-    selects: &Selects<'s>,
     found: &mut Vec<Place<'s>>,
 ) -> Result<(), AllocError>
     requires ready { IsReadyFor (scope_at scope.now) (valuation_at values.now) }
@@ -127,16 +127,16 @@ fn add_place<'s>(
     ensures { OnOk result (places_of found.new.items
         ≡ places_of found.old.items ++ named_place (scope_at scope.now) (valuation_at values.now) name.now (selects_of selects.now) ∷ []) }
 {
-    found.push(place_of(scope, values, name, selects))?;
+    found.push(place_of(selects, scope, values, name))?;
     Ok(())
 }
 
 /// Adds the places of targets, the leftmost first.
 #[cycle(places)]
 fn add_all_places<'s>(
+    targets: &[Target<'s>],
     scope: &Scope<'_>,
     values: &[Entry<'_>],
-    targets: &[Target<'s>],
     found: &mut Vec<Place<'s>>,
 ) -> Result<(), AllocError>
     requires ready { IsReadyFor (scope_at scope.now) (valuation_at values.now) }
@@ -146,7 +146,7 @@ fn add_all_places<'s>(
         ≡ places_of found.old.items ++ all_places (scope_at scope.now) (valuation_at values.now) (target_list targets.now)) }
 {
     for target in targets {
-        add_places(scope, values, target, found)?;
+        add_places(target, scope, values, found)?;
     }
     Ok(())
 }

@@ -23,16 +23,16 @@ use v_value::scope::Scope;
 /// All that is read in a module, and its outputs.
 fn reads_of<'s, 'm: 's>(
     alloc: Global,
+    items: &[Item<'s>],
     scope: &Scope<'_>,
     names: &ModuleScope<'m>,
-    items: &[Item<'s>],
 ) -> Result<Vec<Span<'s>>, AllocError>
     requires objects { HasNarrowObjects (scope_at scope.now) }
     requires narrow { AreNarrowReads (scope_at scope.now) (map item_of items.now) }
     ensures { IfOk result (λ v. bits_in v.items ≡ module_reads (scope_at scope.now) names.now (map item_of items.now)) }
 {
     let mut found = Vec::new(alloc);
-    add_items(scope, items, &mut found)?;
+    add_items(items, scope, &mut found)?;
     add_outputs(scope, names, names.declarations(), &mut found)?;
     Ok(found)
 }
@@ -42,19 +42,19 @@ fn reads_of<'s, 'm: 's>(
 /// no instances, and these are its names and its clock. Answers `AllocError` where memory runs out.
 pub fn has_undriven<'s, 'm: 's>(
     alloc: Global,
+    items: &[Item<'s>],
     scope: &Scope<'_>,
     names: &ModuleScope<'m>,
     clock: &str,
-    items: &[Item<'s>],
 ) -> Result<bool, AllocError>
     requires objects { HasNarrowObjects (scope_at scope.now) }
     requires targets { AreNarrowItems (scope_at scope.now) (map item_of items.now) }
     requires values { AreNarrowReads (scope_at scope.now) (map item_of items.now) }
     ensures { IfOk result (λ r. IsTrue r ↔ HasUndrivenBit (scope_at scope.now) names.now clock.now (map item_of items.now)) }
 {
-    let drivers = drivers_of(alloc, scope, items)?;
+    let drivers = drivers_of(alloc, items, scope)?;
     let table = table_of(alloc, scope, &drivers)?;
-    let reads = reads_of(alloc, scope, names, items)?;
+    let reads = reads_of(alloc, items, scope, names)?;
     let found = one_has_more(scope, names, clock, &table, &reads);
     Ok(found)
 }

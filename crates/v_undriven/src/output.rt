@@ -30,7 +30,7 @@ fn add_output<'s, 'm: 's>(
         return Ok(());
     }
     let whole = Expression::Name(declared.name, Selects::Whole);
-    add_reads(scope, &whole, found)
+    add_reads(&whole, scope, found)
 }
 
 /// Adds all bits of the declared names that are outputs.

@@ -18,8 +18,8 @@ use v_value::scope::Scope;
 
 /// Adds what the values of continuous assignments read.
 fn add_assignments<'s>(
-    scope: &Scope<'_>,
     assignments: &[Assignment<'s>],
+    scope: &Scope<'_>,
     found: &mut Vec<Span<'s>>,
 ) -> Result<(), AllocError>
     requires objects { HasNarrowObjects (scope_at scope.now) }
@@ -27,15 +27,15 @@ fn add_assignments<'s>(
     ensures { OnOk result (bits_in found.new.items ≡ or_in (bits_in found.old.items) (links_read (scope_at scope.now) (links_of assignments.now))) }
 {
     for assignment in assignments {
-        add_reads(scope, &assignment.value, found)?;
+        add_reads(&assignment.value, scope, found)?;
     }
     Ok(())
 }
 
 /// Adds what the value of a net reads, where its declaration gives it one.
 fn add_wire<'s>(
-    scope: &Scope<'_>,
     wire: &Wire<'s>,
+    scope: &Scope<'_>,
     found: &mut Vec<Span<'s>>,
 ) -> Result<(), AllocError>
     requires objects { HasNarrowObjects (scope_at scope.now) }
@@ -43,15 +43,15 @@ fn add_wire<'s>(
     ensures { OnOk result (bits_in found.new.items ≡ or_in (bits_in found.old.items) (value_reads (scope_at scope.now) (boxed_tree_of wire.now.value))) }
 {
     match &wire.value {
-        Some(value) => add_reads(scope, value, found),
+        Some(value) => add_reads(value, scope, found),
         None => Ok(()),
     }
 }
 
 /// Adds what the nets of a declaration read.
 fn add_wires<'s>(
-    scope: &Scope<'_>,
     wires: &[Wire<'s>],
+    scope: &Scope<'_>,
     found: &mut Vec<Span<'s>>,
 ) -> Result<(), AllocError>
     requires objects { HasNarrowObjects (scope_at scope.now) }
@@ -59,15 +59,15 @@ fn add_wires<'s>(
     ensures { OnOk result (bits_in found.new.items ≡ or_in (bits_in found.old.items) (links_read (scope_at scope.now) (wire_links wires.now))) }
 {
     for wire in wires {
-        add_wire(scope, wire, found)?;
+        add_wire(wire, scope, found)?;
     }
     Ok(())
 }
 
 /// Adds what an item reads.
 fn add_item<'s>(
-    scope: &Scope<'_>,
     item: &Item<'s>,
+    scope: &Scope<'_>,
     found: &mut Vec<Span<'s>>,
 ) -> Result<(), AllocError>
     requires objects { HasNarrowObjects (scope_at scope.now) }
@@ -75,9 +75,9 @@ fn add_item<'s>(
     ensures { OnOk result (bits_in found.new.items ≡ or_in (bits_in found.old.items) (item_reads (scope_at scope.now) (item_of item.now))) }
 {
     match item {
-        Item::Wires(_, _, wires) => add_wires(scope, wires, found),
-        Item::Assign(assignments) => add_assignments(scope, assignments, found),
-        Item::Always(_, block) => add_statement_reads(scope, block, found),
+        Item::Wires(_, _, wires) => add_wires(wires, scope, found),
+        Item::Assign(assignments) => add_assignments(assignments, scope, found),
+        Item::Always(_, block) => add_statement_reads(block, scope, found),
         Item::Port(_) | Item::Parameter(_) | Item::Variables(_, _, _) | Item::Instances(_, _, _) =>
             Ok(()),
     }
@@ -85,8 +85,8 @@ fn add_item<'s>(
 
 /// Adds what the items of a module read.
 pub(crate) fn add_items<'s>(
-    scope: &Scope<'_>,
     items: &[Item<'s>],
+    scope: &Scope<'_>,
     found: &mut Vec<Span<'s>>,
 ) -> Result<(), AllocError>
     requires objects { HasNarrowObjects (scope_at scope.now) }
@@ -94,7 +94,7 @@ pub(crate) fn add_items<'s>(
     ensures { OnOk result (bits_in found.new.items ≡ or_in (bits_in found.old.items) (all_items_read (scope_at scope.now) (map item_of items.now))) }
 {
     for item in items {
-        add_item(scope, item, found)?;
+        add_item(item, scope, found)?;
     }
     Ok(())
 }

@@ -15,9 +15,9 @@ use wb_bits::Word;
 /// The value of the expression in a context of `width` bits, at most 128 and no fewer than its own, where `signed` says
 /// whether its operands are widened with their sign (1364-2005, 5.4.2 and 5.5.2).
 pub fn value_of(
+    expression: &Expression<'_>,
     scope: &Scope<'_>,
     values: &Values<'_>,
-    expression: &Expression<'_>,
     width: u32,
     signed: bool,
 ) -> u128
@@ -29,36 +29,36 @@ pub fn value_of(
     ensures value { result ≡ meaning.value_of (scope_at scope.now) (valuation_in values.now) (tree_of expression.now) width signed }
     ensures fits { result < 2 ^ width }
 {
-    value_in_context(scope, &values.entries, expression, width, signed)
+    value_in_context(expression, scope, &values.entries, width, signed)
 }
 
 /// The value of the expression by itself, in a context of its own width and sign.
-pub fn self_value(scope: &Scope<'_>, values: &Values<'_>, expression: &Expression<'_>) -> u128
+pub fn self_value(expression: &Expression<'_>, scope: &Scope<'_>, values: &Values<'_>) -> u128
     requires objects { HasNarrowObjects (scope_at scope.now) }
     requires values { HasFittingValues (scope_at scope.now) (valuation_in values.now) }
     requires narrow { IsNarrow (scope_at scope.now) (tree_of expression.now) }
     ensures { result ≡ meaning.self_value (scope_at scope.now) (valuation_in values.now) (tree_of expression.now) }
 {
-    self_word(scope, &values.entries, expression).value
+    self_word(expression, scope, &values.entries).value
 }
 
 /// Whether the expression is true as a condition: whether it is not 0.
-pub fn is_true(scope: &Scope<'_>, values: &Values<'_>, expression: &Expression<'_>) -> bool
+pub fn is_true(expression: &Expression<'_>, scope: &Scope<'_>, values: &Values<'_>) -> bool
     requires objects { HasNarrowObjects (scope_at scope.now) }
     requires values { HasFittingValues (scope_at scope.now) (valuation_in values.now) }
     requires narrow { IsNarrow (scope_at scope.now) (tree_of expression.now) }
     ensures { result ≡ meaning.is_true (scope_at scope.now) (valuation_in values.now) (tree_of expression.now) }
 {
-    self_word(scope, &values.entries, expression).value != 0
+    self_word(expression, scope, &values.entries).value != 0
 }
 
 /// The value that an assignment gives a target of `width` bits, 1 to 128: evaluated in the wider of both widths by the
 /// expression's own sign, then cut (1364-2005, 5.4 and 5.5.3).
 pub fn assigned_value(
+    expression: &Expression<'_>,
     scope: &Scope<'_>,
     values: &Values<'_>,
     width: u32,
-    expression: &Expression<'_>,
 ) -> u128
     requires objects { HasNarrowObjects (scope_at scope.now) }
     requires values { HasFittingValues (scope_at scope.now) (valuation_in values.now) }
@@ -67,8 +67,8 @@ pub fn assigned_value(
     requires at_most_128 { width ≤ 128 }
     ensures { result ≡ meaning.assigned_value (scope_at scope.now) (valuation_in values.now) width (tree_of expression.now) }
 {
-    let context = width.max(width_of(scope, expression));
-    let signed = sign_of(scope, expression);
-    let value = value_in_context(scope, &values.entries, expression, context, signed);
+    let context = width.max(width_of(expression, scope));
+    let signed = sign_of(expression, scope);
+    let value = value_in_context(expression, scope, &values.entries, context, signed);
     Word::lowest_bits(width, value).value
 }

@@ -72,7 +72,7 @@ fn prefixed_sign(operators: &[PrefixOperator], signed: bool) -> bool
 
 /// Whether the expression is signed.
 #[cycle(sign)]
-pub fn sign_of(scope: &Scope<'_>, expression: &Expression<'_>) -> bool
+pub fn sign_of(expression: &Expression<'_>, scope: &Scope<'_>) -> bool
     ensures { result ≡ sign_of (scope_at scope.now) (tree_of expression.now) }
 {
     match expression {
@@ -81,20 +81,20 @@ pub fn sign_of(scope: &Scope<'_>, expression: &Expression<'_>) -> bool
         Expression::Concatenation(_) | Expression::Replication(_, _) => false,
         Expression::AsSigned(_) => true,
         Expression::AsUnsigned(_) => false,
-        Expression::Prefix(operators, operand) => prefixed_sign(operators, sign_of(scope, operand)),
-        Expression::Binary(first, links) => linked_sign(scope, sign_of(scope, first), links),
-        Expression::Test(first, links) => tested_sign(sign_of(scope, first), links),
-        Expression::Conditional(choices, last) => chosen_sign(scope, choices, sign_of(scope, last)),
+        Expression::Prefix(operators, operand) => prefixed_sign(operators, sign_of(operand, scope)),
+        Expression::Binary(first, links) => linked_sign(links, scope, sign_of(first, scope)),
+        Expression::Test(first, links) => tested_sign(sign_of(first, scope), links),
+        Expression::Conditional(choices, last) => chosen_sign(choices, scope, sign_of(last, scope)),
     }
 }
 
 /// The sign of a chain whose first operand has this sign.
 #[cycle(sign)]
-fn linked_sign(scope: &Scope<'_>, signed: bool, links: &[BinaryLink<'_>]) -> bool
+fn linked_sign(links: &[BinaryLink<'_>], scope: &Scope<'_>, signed: bool) -> bool
     ensures { result ≡ (signed && links_signed (scope_at scope.now) links.now) }
 {
     for link in links {
-        if !leaves_to_left(link.operator) && !sign_of(scope, &link.operand) {
+        if !leaves_to_left(link.operator) && !sign_of(&link.operand, scope) {
             return false;
         }
     }
@@ -103,11 +103,11 @@ fn linked_sign(scope: &Scope<'_>, signed: bool, links: &[BinaryLink<'_>]) -> boo
 
 /// The sign of a conditional whose last value has this sign.
 #[cycle(sign)]
-fn chosen_sign(scope: &Scope<'_>, choices: &[Choice<'_>], signed: bool) -> bool
+fn chosen_sign(choices: &[Choice<'_>], scope: &Scope<'_>, signed: bool) -> bool
     ensures { result ≡ (choices_signed (scope_at scope.now) choices.now && signed) }
 {
     for choice in choices {
-        if !sign_of(scope, &choice.value) {
+        if !sign_of(&choice.value, scope) {
             return false;
         }
     }

@@ -138,20 +138,20 @@ fn both(x: bool, y: bool) -> bool
 
 /// The width of an expression, with its bounds.
 #[cycle(value)]
-fn operand_width(scope: &Scope<'_>, operand: &Expression<'_>) -> u32
+fn operand_width(operand: &Expression<'_>, scope: &Scope<'_>) -> u32
     requires narrow { IsNarrow (scope_at scope.now) (tree_of operand.now) }
     ensures width { result ≡ width_at (scope_at scope.now) (tree_of operand.now) }
     ensures some_bits { 1 ≤ result }
     ensures at_most_128 { result ≤ 128 }
 {
-    width_of(scope, operand)
+    width_of(operand, scope)
 }
 
 /// The sign of an expression.
-pub(crate) fn operand_sign(scope: &Scope<'_>, operand: &Expression<'_>) -> bool
+pub(crate) fn operand_sign(operand: &Expression<'_>, scope: &Scope<'_>) -> bool
     ensures { result ≡ sign_at (scope_at scope.now) (tree_of operand.now) }
 {
-    sign_of(scope, operand)
+    sign_of(operand, scope)
 }
 
 /// What stands left of a test: its width, its sign, and its value in the context that the test gives it.
@@ -164,7 +164,7 @@ struct Left {
 
 /// The width of the context in which the first operand of a chain of tests is evaluated; `width` is the whole's.
 #[cycle(value)]
-fn context_width(scope: &Scope<'_>, own: u32, links: &[TestLink<'_>], width: u32) -> u32
+fn context_width(links: &[TestLink<'_>], scope: &Scope<'_>, own: u32, width: u32) -> u32
     requires narrow { AreTestsNarrow (scope_at scope.now) links.now }
     ensures { result ≡ context_width (scope_at scope.now) own links.now width }
 {
@@ -174,14 +174,14 @@ fn context_width(scope: &Scope<'_>, own: u32, links: &[TestLink<'_>], width: u32
             if is_logical(link.operator) {
                 own
             } else {
-                own.max(operand_width(scope, &link.operand))
+                own.max(operand_width(&link.operand, scope))
             }
         }
     }
 }
 
 /// Whether the first operand of a chain of tests is widened with its sign; `signed` says so of the whole.
-fn context_sign(scope: &Scope<'_>, own: bool, links: &[TestLink<'_>], signed: bool) -> bool
+fn context_sign(links: &[TestLink<'_>], scope: &Scope<'_>, own: bool, signed: bool) -> bool
     ensures { result ≡ context_sign (scope_at scope.now) own links.now signed }
 {
     match links {
@@ -190,7 +190,7 @@ fn context_sign(scope: &Scope<'_>, own: bool, links: &[TestLink<'_>], signed: bo
             if is_logical(link.operator) {
                 own
             } else {
-                both(own, operand_sign(scope, &link.operand))
+                both(own, operand_sign(&link.operand, scope))
             }
         }
     }
@@ -199,9 +199,9 @@ fn context_sign(scope: &Scope<'_>, own: bool, links: &[TestLink<'_>], signed: bo
 /// The value of the expression in a context of `width` bits and this sign.
 #[cycle(value)]
 fn value_in(
+    expression: &Expression<'_>,
     scope: &Scope<'_>,
     values: &[Entry<'_>],
-    expression: &Expression<'_>,
     width: u32,
     signed: bool,
 ) -> u128
@@ -220,50 +220,50 @@ fn value_in(
             number.value,
         ),
         Expression::Name(name, selects) => in_context(
-            named(scope, values, name, selects),
+            named(selects, scope, values, name),
             width,
             signed,
         ),
-        Expression::Concatenation(parts) => in_context(joined(scope, values, parts), width, signed),
+        Expression::Concatenation(parts) => in_context(joined(parts, scope, values), width, signed),
         Expression::Replication(count, parts) => in_context(
-            copies(constant_of(scope, count), joined(scope, values, parts)),
+            copies(constant_of(count, scope), joined(parts, scope, values)),
             width,
             signed,
         ),
         Expression::AsSigned(operand) => in_context(
-            self_value(scope, values, operand),
+            self_value(operand, scope, values),
             width,
             signed,
         ),
         Expression::AsUnsigned(operand) => in_context(
-            self_value(scope, values, operand),
+            self_value(operand, scope, values),
             width,
             signed,
         ),
         Expression::Prefix(operators, operand) => prefixed_value(
-            scope, values, operators, operand, width, signed,
+            operand, scope, values, operators, width, signed,
         ),
         Expression::Binary(first, links) => {
-            let left = value_in(scope, values, first, width, signed);
-            linked_value(scope, values, left, links, width, signed)
+            let left = value_in(first, scope, values, width, signed);
+            linked_value(links, scope, values, left, width, signed)
         }
         Expression::Test(first, links) => {
-            let own_width = operand_width(scope, first);
-            let own_sign = operand_sign(scope, first);
-            let first_width = context_width(scope, own_width, links, width);
-            let first_sign = context_sign(scope, own_sign, links, signed);
-            let value = value_in(scope, values, first, first_width, first_sign);
+            let own_width = operand_width(first, scope);
+            let own_sign = operand_sign(first, scope);
+            let first_width = context_width(links, scope, own_width, width);
+            let first_sign = context_sign(links, scope, own_sign, signed);
+            let value = value_in(first, scope, values, first_width, first_sign);
             let left = Left {
                 width: own_width,
                 signed: own_sign,
                 value,
             };
-            tests_value(scope, values, left, links, width)
+            tests_value(links, scope, values, left, width)
         }
         Expression::Conditional(choices, last) => {
-            match chosen_value(scope, values, choices, width, signed) {
+            match chosen_value(choices, scope, values, width, signed) {
                 Some(value) => value,
-                None => value_in(scope, values, last, width, signed),
+                None => value_in(last, scope, values, width, signed),
             }
         }
     }
@@ -272,36 +272,36 @@ fn value_in(
 /// The expression by itself.
 #[cycle(value)]
 pub(crate) fn self_value(
+    expression: &Expression<'_>,
     scope: &Scope<'_>,
     values: &[Entry<'_>],
-    expression: &Expression<'_>,
 ) -> Word
     requires ready { IsReady (scope_at scope.now) (valuation_at values.now) }
     requires narrow { IsNarrow (scope_at scope.now) (tree_of expression.now) }
     ensures width { result.width ≡ width_at (scope_at scope.now) (tree_of expression.now) }
     ensures value { result.value ≡ self_at (scope_at scope.now) (valuation_at values.now) (tree_of expression.now) }
 {
-    let width = operand_width(scope, expression);
-    let signed = operand_sign(scope, expression);
-    Word::new(width, value_in(scope, values, expression, width, signed))
+    let width = operand_width(expression, scope);
+    let signed = operand_sign(expression, scope);
+    Word::new(width, value_in(expression, scope, values, width, signed))
 }
 
 /// The number of a constant, read where no net or variable has a value; one below 0 counts as 0.
 #[cycle(value)]
-pub(crate) fn constant_of(scope: &Scope<'_>, expression: &Expression<'_>) -> u128
+pub(crate) fn constant_of(expression: &Expression<'_>, scope: &Scope<'_>) -> u128
     requires objects { HasNarrowObjects (scope_at scope.now) }
     requires narrow { IsNarrow (scope_at scope.now) (tree_of expression.now) }
     ensures { result ≡ count_at (scope_at scope.now) (tree_of expression.now) }
 {
     natural(
-        operand_sign(scope, expression),
-        self_value(scope, &[], expression),
+        operand_sign(expression, scope),
+        self_value(expression, scope, &[]),
     )
 }
 
 /// What a name with selects reads.
 #[cycle(value)]
-fn named(scope: &Scope<'_>, values: &[Entry<'_>], name: &str, selects: &Selects<'_>) -> Word
+fn named(selects: &Selects<'_>, scope: &Scope<'_>, values: &[Entry<'_>], name: &str) -> Word
     requires ready { IsReady (scope_at scope.now) (valuation_at values.now) }
     requires narrow { AreSelectsNarrow (scope_at scope.now) (selects_of selects.now) }
     requires width { IsWidth (selects_width_at (scope_at scope.now) name.now (selects_of selects.now)) }
@@ -313,15 +313,15 @@ fn named(scope: &Scope<'_>, values: &[Entry<'_>], name: &str, selects: &Selects<
         Selects::Whole => named_value(scope, values, name),
         Selects::One(select) => {
             if object.addresses.is_some() {
-                memory_word(scope, values, name, index_of(scope, values, select))
+                memory_word(scope, values, name, index_of(select, scope, values))
             } else {
                 let whole = named_value(scope, values, name);
-                bits_of(whole.value, taken_by(scope, values, object, select))
+                bits_of(whole.value, taken_by(select, scope, values, object))
             }
         }
         Selects::Two(address, select) => {
-            let word = memory_word(scope, values, name, index_of(scope, values, address));
-            bits_of(word.value, taken_by(scope, values, object, select))
+            let word = memory_word(scope, values, name, index_of(address, scope, values));
+            bits_of(word.value, taken_by(select, scope, values, object))
         }
     }
 }
@@ -329,10 +329,10 @@ fn named(scope: &Scope<'_>, values: &[Entry<'_>], name: &str, selects: &Selects<
 /// The value of an operand behind operators in a context of `width` bits and this sign.
 #[cycle(value)]
 fn prefixed_value(
+    operand: &Expression<'_>,
     scope: &Scope<'_>,
     values: &[Entry<'_>],
     operators: &[PrefixOperator],
-    operand: &Expression<'_>,
     width: u32,
     signed: bool,
 ) -> u128
@@ -345,9 +345,9 @@ fn prefixed_value(
     ensures fits { result < 2 ^ width }
 {
     if reduces(operators) {
-        prefixed(operators, width, 0, self_value(scope, values, operand))
+        prefixed(operators, width, 0, self_value(operand, scope, values))
     } else {
-        let value = value_in(scope, values, operand, width, signed);
+        let value = value_in(operand, scope, values, width, signed);
         prefixed(operators, width, value, Word::new(width, value))
     }
 }
@@ -355,10 +355,10 @@ fn prefixed_value(
 /// The value of a chain whose first operand has this value, in a context of `width` bits and this sign.
 #[cycle(value)]
 fn linked_value(
+    links: &[BinaryLink<'_>],
     scope: &Scope<'_>,
     values: &[Entry<'_>],
     first: u128,
-    links: &[BinaryLink<'_>],
     width: u32,
     signed: bool,
 ) -> u128
@@ -374,11 +374,11 @@ fn linked_value(
     let mut left = first;
     for link in links {
         left = applied(
+            &link.operand,
             scope,
             values,
             link.operator,
             left,
-            &link.operand,
             width,
             signed,
         );
@@ -389,11 +389,11 @@ fn linked_value(
 /// What an operator makes of a left operand of this value and a right operand.
 #[cycle(value)]
 fn applied(
+    operand: &Expression<'_>,
     scope: &Scope<'_>,
     values: &[Entry<'_>],
     operator: BinaryOperator,
     left: u128,
-    operand: &Expression<'_>,
     width: u32,
     signed: bool,
 ) -> u128
@@ -407,11 +407,11 @@ fn applied(
     ensures fits { result < 2 ^ width }
 {
     if leaves_to_left(operator) {
-        let right = self_value(scope, values, operand);
-        let right_signed = operand_sign(scope, operand);
+        let right = self_value(operand, scope, values);
+        let right_signed = operand_sign(operand, scope);
         word::by_operand(operator, width, signed, left, right, right_signed)
     } else {
-        let right = value_in(scope, values, operand, width, signed);
+        let right = value_in(operand, scope, values, width, signed);
         word::binary(operator, width, signed, left, right)
     }
 }
@@ -419,9 +419,9 @@ fn applied(
 /// The value behind the first true condition in a context of `width` bits and this sign.
 #[cycle(value)]
 fn chosen_value(
+    choices: &[Choice<'_>],
     scope: &Scope<'_>,
     values: &[Entry<'_>],
-    choices: &[Choice<'_>],
     width: u32,
     signed: bool,
 ) -> Option<u128>
@@ -433,8 +433,8 @@ fn chosen_value(
     ensures fits { IfSome result (λ x. x < 2 ^ width) }
 {
     for choice in choices {
-        if self_value(scope, values, &choice.condition).value != 0 {
-            return Some(value_in(scope, values, &choice.value, width, signed));
+        if self_value(&choice.condition, scope, values).value != 0 {
+            return Some(value_in(&choice.value, scope, values, width, signed));
         }
     }
     None
@@ -442,7 +442,7 @@ fn chosen_value(
 
 /// The parts side by side, the first at the high end.
 #[cycle(value)]
-fn joined(scope: &Scope<'_>, values: &[Entry<'_>], parts: &[Expression<'_>]) -> Word
+fn joined(parts: &[Expression<'_>], scope: &Scope<'_>, values: &[Entry<'_>]) -> Word
     requires ready { IsReady (scope_at scope.now) (valuation_at values.now) }
     requires narrow { AreNarrow (scope_at scope.now) (expressions_of parts.now) }
     requires some_bits { 1 ≤ parts_width (scope_at scope.now) parts.now }
@@ -453,7 +453,7 @@ fn joined(scope: &Scope<'_>, values: &[Entry<'_>], parts: &[Expression<'_>]) -> 
     let mut width = 0;
     let mut value = 0;
     for part in parts {
-        let word = self_value(scope, values, part);
+        let word = self_value(part, scope, values);
         value = extended(width, value, word);
         width += word.width;
     }
@@ -463,10 +463,10 @@ fn joined(scope: &Scope<'_>, values: &[Entry<'_>], parts: &[Expression<'_>]) -> 
 /// The value of a chain of tests in a context of `width` bits.
 #[cycle(value)]
 fn tests_value(
+    links: &[TestLink<'_>],
     scope: &Scope<'_>,
     values: &[Entry<'_>],
     first: Left,
-    links: &[TestLink<'_>],
     width: u32,
 ) -> u128
     requires ready { IsReady (scope_at scope.now) (valuation_at values.now) }
@@ -480,7 +480,7 @@ fn tests_value(
 {
     let mut left = first;
     for link in links {
-        let truth = tested(scope, values, left, link.operator, &link.operand);
+        let truth = tested(&link.operand, scope, values, left, link.operator);
         left = Left {
             width: 1,
             signed: false,
@@ -493,11 +493,11 @@ fn tests_value(
 /// What a test says of what stands left of it and a right operand.
 #[cycle(value)]
 fn tested(
+    operand: &Expression<'_>,
     scope: &Scope<'_>,
     values: &[Entry<'_>],
     left: Left,
     operator: TestOperator,
-    operand: &Expression<'_>,
 ) -> bool
     requires ready { IsReady (scope_at scope.now) (valuation_at values.now) }
     requires narrow { IsNarrow (scope_at scope.now) (tree_of operand.now) }
@@ -507,21 +507,21 @@ fn tested(
     ensures { result ≡ said (scope_at scope.now) (valuation_at values.now) operator left.width left.signed left.value (tree_of operand.now) }
 {
     if is_logical(operator) {
-        let right = self_value(scope, values, operand);
+        let right = self_value(operand, scope, values);
         word::logical(operator, left.value != 0, right.value != 0)
     } else {
-        compared(scope, values, left, operator, operand)
+        compared(operand, scope, values, left, operator)
     }
 }
 
 /// What a comparison says of what stands left of it and a right operand, both widened to the wider of them.
 #[cycle(value)]
 fn compared(
+    operand: &Expression<'_>,
     scope: &Scope<'_>,
     values: &[Entry<'_>],
     left: Left,
     operator: TestOperator,
-    operand: &Expression<'_>,
 ) -> bool
     requires ready { IsReady (scope_at scope.now) (valuation_at values.now) }
     requires narrow { IsNarrow (scope_at scope.now) (tree_of operand.now) }
@@ -530,18 +530,18 @@ fn compared(
     requires fits { left.value < 2 ^ max left.width (width_at (scope_at scope.now) (tree_of operand.now)) }
     ensures { result ≡ compared_said (scope_at scope.now) (valuation_at values.now) operator left.width left.signed left.value (tree_of operand.now) }
 {
-    let width = left.width.max(operand_width(scope, operand));
-    let signed = both(left.signed, operand_sign(scope, operand));
-    let right = value_in(scope, values, operand, width, signed);
+    let width = left.width.max(operand_width(operand, scope));
+    let signed = both(left.signed, operand_sign(operand, scope));
+    let right = value_in(operand, scope, values, width, signed);
     word::compared(operator, signed, width, left.value, right)
 }
 
 /// The value of the expression in a context of `width` bits, at most 128 and no fewer than its own, where `signed` says
 /// whether its operands are widened with their sign.
 pub fn value_in_context(
+    expression: &Expression<'_>,
     scope: &Scope<'_>,
     values: &[Entry<'_>],
-    expression: &Expression<'_>,
     width: u32,
     signed: bool,
 ) -> u128
@@ -553,14 +553,14 @@ pub fn value_in_context(
     ensures value { result ≡ meaning.value_of (scope_at scope.now) (valuation_at values.now) (tree_of expression.now) width signed }
     ensures fits { result < 2 ^ width }
 {
-    value_in(scope, values, expression, width, signed)
+    value_in(expression, scope, values, width, signed)
 }
 
 /// The expression by itself, as the meaning has it.
 pub(crate) fn self_word(
+    expression: &Expression<'_>,
     scope: &Scope<'_>,
     values: &[Entry<'_>],
-    expression: &Expression<'_>,
 ) -> Word
     requires objects { HasNarrowObjects (scope_at scope.now) }
     requires values { HasFittingValues (scope_at scope.now) (valuation_at values.now) }
@@ -568,5 +568,5 @@ pub(crate) fn self_word(
     ensures width { result.width ≡ meaning.width_of (scope_at scope.now) (tree_of expression.now) }
     ensures value { result.value ≡ meaning.self_value (scope_at scope.now) (valuation_at values.now) (tree_of expression.now) }
 {
-    self_value(scope, values, expression)
+    self_value(expression, scope, values)
 }

@@ -44,37 +44,37 @@ fn repeated_width(count: u128, width: u32) -> u32
 
 /// How many bits the expression has by itself.
 #[cycle(value)]
-pub fn width_of(scope: &Scope<'_>, expression: &Expression<'_>) -> u32
+pub fn width_of(expression: &Expression<'_>, scope: &Scope<'_>) -> u32
     requires narrow { IsNarrow (scope_at scope.now) (tree_of expression.now) }
     ensures { result ≡ width_of (scope_at scope.now) (tree_of expression.now) }
 {
     match expression {
         Expression::Number(number) => number.width as u32,
-        Expression::Name(name, selects) => selected_width(scope, scope.object(name), selects),
-        Expression::Concatenation(parts) => parts_width(scope, parts),
+        Expression::Name(name, selects) => selected_width(selects, scope, scope.object(name)),
+        Expression::Concatenation(parts) => parts_width(parts, scope),
         Expression::Replication(count, parts) => repeated_width(
-            constant_of(scope, count),
-            parts_width(scope, parts),
+            constant_of(count, scope),
+            parts_width(parts, scope),
         ),
-        Expression::AsSigned(operand) => width_of(scope, operand),
-        Expression::AsUnsigned(operand) => width_of(scope, operand),
+        Expression::AsSigned(operand) => width_of(operand, scope),
+        Expression::AsUnsigned(operand) => width_of(operand, scope),
         Expression::Prefix(operators, operand) => prefixed_width(
             operators,
-            width_of(scope, operand),
+            width_of(operand, scope),
         ),
-        Expression::Binary(first, links) => linked_width(scope, width_of(scope, first), links),
-        Expression::Test(first, links) => tested_width(width_of(scope, first), links),
+        Expression::Binary(first, links) => linked_width(links, scope, width_of(first, scope)),
+        Expression::Test(first, links) => tested_width(width_of(first, scope), links),
         Expression::Conditional(choices, last) => chosen_width(
-            scope,
             choices,
-            width_of(scope, last),
+            scope,
+            width_of(last, scope),
         ),
     }
 }
 
 /// How many bits selects read of an object: a word of a memory is read whole.
 #[cycle(value)]
-fn selected_width(scope: &Scope<'_>, object: Object, selects: &Selects<'_>) -> u32
+fn selected_width(selects: &Selects<'_>, scope: &Scope<'_>, object: Object) -> u32
     requires narrow { AreSelectsNarrow (scope_at scope.now) (selects_of selects.now) }
     requires at_most_128 { selects_width (scope_at scope.now) (object_of object) (selects_of selects.now) ≤ 128 }
     ensures { result ≡ selects_width (scope_at scope.now) (object_of object) (selects_of selects.now) }
@@ -85,36 +85,36 @@ fn selected_width(scope: &Scope<'_>, object: Object, selects: &Selects<'_>) -> u
             if object.addresses.is_some() {
                 object_width(object)
             } else {
-                count_of(scope, select)
+                count_of(select, scope)
             }
         }
-        Selects::Two(_, select) => count_of(scope, select),
+        Selects::Two(_, select) => count_of(select, scope),
     }
 }
 
 /// How many bits the parts have together.
 #[cycle(value)]
-pub(crate) fn parts_width(scope: &Scope<'_>, parts: &[Expression<'_>]) -> u32
+pub(crate) fn parts_width(parts: &[Expression<'_>], scope: &Scope<'_>) -> u32
     requires narrow { AreNarrow (scope_at scope.now) (expressions_of parts.now) }
     requires at_most_128 { widths_of (scope_at scope.now) (expressions_of parts.now) ≤ 128 }
     ensures { result ≡ widths_of (scope_at scope.now) (expressions_of parts.now) }
 {
     let mut width = 0;
     for part in parts {
-        width += width_of(scope, part);
+        width += width_of(part, scope);
     }
     width
 }
 
 /// The width of a chain whose first operand has this width.
 #[cycle(value)]
-fn linked_width(scope: &Scope<'_>, mut width: u32, links: &[BinaryLink<'_>]) -> u32
+fn linked_width(links: &[BinaryLink<'_>], scope: &Scope<'_>, mut width: u32) -> u32
     requires narrow { AreLinksNarrow (scope_at scope.now) links.now }
     ensures { result ≡ links_width (scope_at scope.now) width links.now }
 {
     for link in links {
         if !leaves_to_left(link.operator) {
-            width = width.max(width_of(scope, &link.operand));
+            width = width.max(width_of(&link.operand, scope));
         }
     }
     width
@@ -122,12 +122,12 @@ fn linked_width(scope: &Scope<'_>, mut width: u32, links: &[BinaryLink<'_>]) -> 
 
 /// The width of a conditional whose last value has this width.
 #[cycle(value)]
-fn chosen_width(scope: &Scope<'_>, choices: &[Choice<'_>], mut width: u32) -> u32
+fn chosen_width(choices: &[Choice<'_>], scope: &Scope<'_>, mut width: u32) -> u32
     requires narrow { AreChoicesNarrow (scope_at scope.now) choices.now }
     ensures { result ≡ choices_width (scope_at scope.now) choices.now width }
 {
     for choice in choices {
-        width = width.max(width_of(scope, &choice.value));
+        width = width.max(width_of(&choice.value, scope));
     }
     width
 }

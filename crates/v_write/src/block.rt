@@ -25,8 +25,8 @@ use wb_terms::{TermId, Terms};
 /// Writes a number to a target. Where memory runs out, the store and the table may have further terms.
 fn write_number<'s>(
     alloc: Global,
-    scope: &Scope<'_>,
     target: &Target<'s>,
+    scope: &Scope<'_>,
     number: TermId,
     width: u32,
     table: &mut NamedTerms<'s>,
@@ -41,7 +41,7 @@ fn write_number<'s>(
     ensures written { OnOk result (IsTargetWritten (scope_at scope.now) (images_at table.old) terms.old (target_of target.now) number.0 width (images_at table.new) terms.new) }
 {
     let mut parts = Vec::new(alloc);
-    add_parts(scope, table, terms, target, &mut parts)?;
+    add_parts(target, scope, table, terms, &mut parts)?;
     write_parts(scope, table, terms, &parts, number, width, None)?;
     Ok(())
 }
@@ -52,8 +52,8 @@ fn write_number<'s>(
 /// any terms.
 pub fn write_target<'s>(
     alloc: Global,
-    scope: &Scope<'_>,
     target: &Target<'s>,
+    scope: &Scope<'_>,
     number: TermId,
     width: u32,
     table: &mut NamedTerms<'s>,
@@ -69,7 +69,7 @@ pub fn write_target<'s>(
     ensures kept { OnErr result (terms.new ≡ terms.old) }
 {
     let before = terms.len();
-    match write_number(alloc, scope, target, number, width, table, terms) {
+    match write_number(alloc, target, scope, number, width, table, terms) {
         Ok(()) => Ok(()),
         Err(_) => {
             terms.cut(before);
@@ -83,8 +83,8 @@ pub fn write_target<'s>(
 /// are in the first where the assignment stands. Where memory runs out, the store is as it was, and the tables may have any terms.
 pub fn lower_statement<'s>(
     alloc: Global,
-    scope: &Scope<'_>,
     statement: &Statement<'s>,
+    scope: &Scope<'_>,
     table: &mut NamedTerms<'s>,
     next: &mut NamedTerms<'s>,
     terms: &mut Terms,
@@ -98,7 +98,7 @@ pub fn lower_statement<'s>(
     ensures kept { OnErr result (terms.new ≡ terms.old) }
 {
     let before = terms.len();
-    match run_statement(alloc, scope, statement, table, next, terms, None) {
+    match run_statement(alloc, statement, scope, table, next, terms, None) {
         Ok(()) => Ok(()),
         Err(_) => {
             terms.cut(before);

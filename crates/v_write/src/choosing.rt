@@ -39,22 +39,22 @@ pub(crate) struct Selector {
 }
 
 /// The greatest width of the expressions, or this one where it is greater.
-fn greatest_width(scope: &Scope<'_>, mut width: u32, expressions: &[Expression<'_>]) -> u32
+fn greatest_width(expressions: &[Expression<'_>], scope: &Scope<'_>, mut width: u32) -> u32
     requires { AreNarrow (scope_at scope.now) (expressions_of expressions.now) }
     ensures { result ≡ max width (greatest_width (scope_at scope.now) (expressions_of expressions.now)) }
 {
     for expression in expressions {
-        width = width.max(width_of(scope, expression));
+        width = width.max(width_of(expression, scope));
     }
     width
 }
 
 /// Whether all the expressions are signed.
-fn all_signed(scope: &Scope<'_>, expressions: &[Expression<'_>]) -> bool
+fn all_signed(expressions: &[Expression<'_>], scope: &Scope<'_>) -> bool
     ensures { result ≡ all_signed (scope_at scope.now) (expressions_of expressions.now) }
 {
     for expression in expressions {
-        if !sign_of(scope, expression) {
+        if !sign_of(expression, scope) {
             return false;
         }
     }
@@ -62,25 +62,25 @@ fn all_signed(scope: &Scope<'_>, expressions: &[Expression<'_>]) -> bool
 }
 
 /// The greatest width of the items' values, or this one where it is greater.
-fn items_width(scope: &Scope<'_>, mut width: u32, items: &[CaseItem<'_>]) -> u32
+fn items_width(items: &[CaseItem<'_>], scope: &Scope<'_>, mut width: u32) -> u32
     requires { AreValuesNarrow (scope_at scope.now) items.now }
     ensures { result ≡ max width (items_width (scope_at scope.now) (item_list items.now)) }
 {
     for item in items {
         if let CaseItem::Values(values, _) = item {
-            width = greatest_width(scope, width, values);
+            width = greatest_width(values, scope, width);
         }
     }
     width
 }
 
 /// Whether all the items' values are signed.
-fn items_signed(scope: &Scope<'_>, items: &[CaseItem<'_>]) -> bool
+fn items_signed(items: &[CaseItem<'_>], scope: &Scope<'_>) -> bool
     ensures { result ≡ items_signed (scope_at scope.now) (item_list items.now) }
 {
     for item in items {
         if let CaseItem::Values(values, _) = item
-            && !all_signed(scope, values)
+            && !all_signed(values, scope)
         {
             return false;
         }
@@ -89,30 +89,30 @@ fn items_signed(scope: &Scope<'_>, items: &[CaseItem<'_>]) -> bool
 }
 
 /// How many bits the expression of a case and all its values are widened to.
-fn case_width(scope: &Scope<'_>, expression: &Expression<'_>, items: &[CaseItem<'_>]) -> u32
+fn case_width<'s>(expression: &Expression<'s>, items: &[CaseItem<'s>], scope: &Scope<'_>) -> u32
     requires narrow { IsNarrow (scope_at scope.now) (tree_of expression.now) }
     requires values_narrow { AreValuesNarrow (scope_at scope.now) items.now }
     ensures width { result ≡ max (width_of (scope_at scope.now) (tree_of expression.now)) (items_width (scope_at scope.now) (item_list items.now)) }
     ensures at_most_128 { result ≤ 128 }
 {
-    items_width(scope, width_of(scope, expression), items)
+    items_width(items, scope, width_of(expression, scope))
 }
 
 /// Whether they are widened with their sign.
-fn case_signed(scope: &Scope<'_>, expression: &Expression<'_>, items: &[CaseItem<'_>]) -> bool
+fn case_signed<'s>(expression: &Expression<'s>, items: &[CaseItem<'s>], scope: &Scope<'_>) -> bool
     ensures { result ≡ (sign_of (scope_at scope.now) (tree_of expression.now) && items_signed (scope_at scope.now) (item_list items.now)) }
 {
-    sign_of(scope, expression) && items_signed(scope, items)
+    sign_of(expression, scope) && items_signed(items, scope)
 }
 
 /// The term of the expression of a case, in the context of all its values.
-pub(crate) fn lowered_selector(
+pub(crate) fn lowered_selector<'s>(
+    expression: &Expression<'s>,
+    items: &[CaseItem<'s>],
     scope: &Scope<'_>,
     table: &NamedTerms<'_>,
     terms: &mut Terms,
     kind: CaseKind,
-    expression: &Expression<'_>,
-    items: &[CaseItem<'_>],
 ) -> Result<Selector, NoMemory>
     requires objects { HasNarrowObjects (scope_at scope.now) }
     requires known { HasImages (scope_at scope.now) (images_at table.now) terms.old }
@@ -122,9 +122,9 @@ pub(crate) fn lowered_selector(
     ensures selector { IfOk result (λ r. IsSelector (scope_at scope.now) (images_at table.now) terms.new (tree_of expression.now) (item_list items.now) r.width r.signed r.id.0) }
     ensures kind { IfOk result (λ r. r.kind ≡ kind) }
 {
-    let width = case_width(scope, expression, items);
-    let signed = case_signed(scope, expression, items);
-    let id = lowered(scope, table, terms, expression, width, signed)?;
+    let width = case_width(expression, items, scope);
+    let signed = case_signed(expression, items, scope);
+    let id = lowered(expression, scope, table, terms, width, signed)?;
     Ok(Selector {
         kind,
         id,
@@ -216,11 +216,11 @@ fn number_matches(terms: &mut Terms, selector: Selector, number: Number) -> Resu
 
 /// Whether one of the values of an item matches.
 fn value_matches(
+    value: &Expression<'_>,
     scope: &Scope<'_>,
     table: &NamedTerms<'_>,
     terms: &mut Terms,
     selector: Selector,
-    value: &Expression<'_>,
 ) -> Result<TermId, NoMemory>
     requires objects { HasNarrowObjects (scope_at scope.now) }
     requires known { HasImages (scope_at scope.now) (images_at table.now) terms.old }
@@ -237,7 +237,7 @@ fn value_matches(
             Ok(said)
         }
         None => {
-            let id = lowered(scope, table, terms, value, selector.width, selector.signed)?;
+            let id = lowered(value, scope, table, terms, selector.width, selector.signed)?;
             let said = is_equal(terms, selector.id, id, selector.width)?;
             Ok(said)
         }
@@ -279,11 +279,11 @@ fn any_of(terms: &mut Terms, tests: Option<TermId>) -> Result<TermId, NoMemory>
 
 /// Whether an item matches: whether one of its values does.
 pub(crate) fn item_matches(
+    values: &[Expression<'_>],
     scope: &Scope<'_>,
     table: &NamedTerms<'_>,
     terms: &mut Terms,
     selector: Selector,
-    values: &[Expression<'_>],
 ) -> Result<TermId, NoMemory>
     requires objects { HasNarrowObjects (scope_at scope.now) }
     requires known { HasImages (scope_at scope.now) (images_at table.now) terms.old }
@@ -295,7 +295,7 @@ pub(crate) fn item_matches(
 {
     let mut tests = None;
     for value in values {
-        let said = value_matches(scope, table, terms, selector, value)?;
+        let said = value_matches(value, scope, table, terms, selector)?;
         let all = with_test(terms, tests, said)?;
         tests = Some(all);
     }

@@ -48,10 +48,10 @@ struct Meant {
 
 /// The term of an index of a memory.
 fn address_of(
+    select: &Select<'_>,
     scope: &Scope<'_>,
     table: &NamedTerms<'_>,
     terms: &mut Terms,
-    select: &Select<'_>,
 ) -> Result<Operand, NoMemory>
     requires objects { HasNarrowObjects (scope_at scope.now) }
     requires known { HasImages (scope_at scope.now) (images_at table.now) terms.old }
@@ -62,7 +62,7 @@ fn address_of(
 {
     match select {
         Select::Index(index) => {
-            let own = lowered_alone(scope, table, terms, index)?;
+            let own = lowered_alone(index, scope, table, terms)?;
             Ok(own)
         }
         _ => unreachable!(),
@@ -82,13 +82,13 @@ fn natural(integer: Integer) -> u32
 }
 
 /// The number of a constant, which is at most 128.
-fn count_of(scope: &Scope<'_>, count: &Expression<'_>) -> u32
+fn count_of(count: &Expression<'_>, scope: &Scope<'_>) -> u32
     requires objects { HasNarrowObjects (scope_at scope.now) }
     requires narrow { IsNarrow (scope_at scope.now) (tree_of count.now) }
     requires at_most_128 { count_at (scope_at scope.now) (tree_of count.now) ≤ 128 }
     ensures { result ≡ count_at (scope_at scope.now) (tree_of count.now) }
 {
-    natural(integer_of(scope, &[], count))
+    natural(integer_of(count, scope, &[]))
 }
 
 /// The bit with an index.
@@ -170,11 +170,11 @@ fn known_bits(span: Span) -> Taken
 
 /// The bits that a select takes of an object.
 fn taken_bits(
+    select: &Select<'_>,
     scope: &Scope<'_>,
     table: &NamedTerms<'_>,
     terms: &mut Terms,
     object: Object,
-    select: &Select<'_>,
 ) -> Result<Taken, NoMemory>
     requires objects { HasNarrowObjects (scope_at scope.now) }
     requires known { HasImages (scope_at scope.now) (images_at table.now) terms.old }
@@ -184,21 +184,21 @@ fn taken_bits(
 {
     match select {
         Select::Index(index) => {
-            let own = lowered_alone(scope, table, terms, index)?;
+            let own = lowered_alone(index, scope, table, terms)?;
             Ok(one_bit(object, own))
         }
         Select::Part(_, _) => {
-            let span = select_bits(scope, &[], object, select);
+            let span = select_bits(select, scope, &[], object);
             Ok(known_bits(span))
         }
         Select::PartUp(base, count) => {
-            let own = lowered_alone(scope, table, terms, base)?;
-            let most = count_of(scope, count);
+            let own = lowered_alone(base, scope, table, terms)?;
+            let most = count_of(count, scope);
             Ok(upward(object, own, most))
         }
         Select::PartDown(base, count) => {
-            let own = lowered_alone(scope, table, terms, base)?;
-            let most = count_of(scope, count);
+            let own = lowered_alone(base, scope, table, terms)?;
+            let most = count_of(count, scope);
             Ok(downward(object, own, most))
         }
     }
@@ -206,12 +206,12 @@ fn taken_bits(
 
 /// What a name with one select means: a word of a memory, or some bits.
 fn selected_by_one(
+    select: &Select<'_>,
     scope: &Scope<'_>,
     table: &NamedTerms<'_>,
     terms: &mut Terms,
     object: Object,
     name: &str,
-    select: &Select<'_>,
 ) -> Result<Meant, NoMemory>
     requires objects { HasNarrowObjects (scope_at scope.now) }
     requires known { HasImages (scope_at scope.now) (images_at table.now) terms.old }
@@ -221,7 +221,7 @@ fn selected_by_one(
     ensures selected { IfOk result (λ r. IsSelectedBy (scope_at scope.now) (images_at table.now) terms.new name.now (pure.one (select_of select.now)) r.address r.bits r.count) }
 {
     if object.addresses.is_some() {
-        let address = address_of(scope, table, terms, select)?;
+        let address = address_of(select, scope, table, terms)?;
         let count = object_width(object);
         return Ok(Meant {
             address: Some(address),
@@ -229,7 +229,7 @@ fn selected_by_one(
             count,
         });
     }
-    let taken = taken_bits(scope, table, terms, object, select)?;
+    let taken = taken_bits(select, scope, table, terms, object)?;
     Ok(Meant {
         address: None,
         bits: taken.bits,
@@ -239,12 +239,12 @@ fn selected_by_one(
 
 /// What a name with selects means.
 fn selected(
+    selects: &Selects<'_>,
     scope: &Scope<'_>,
     table: &NamedTerms<'_>,
     terms: &mut Terms,
     object: Object,
     name: &str,
-    selects: &Selects<'_>,
 ) -> Result<Meant, NoMemory>
     requires objects { HasNarrowObjects (scope_at scope.now) }
     requires known { HasImages (scope_at scope.now) (images_at table.now) terms.old }
@@ -263,12 +263,12 @@ fn selected(
             })
         }
         Selects::One(select) => {
-            let one = selected_by_one(scope, table, terms, object, name, select)?;
+            let one = selected_by_one(select, scope, table, terms, object, name)?;
             Ok(one)
         }
         Selects::Two(index, select) => {
-            let address = address_of(scope, table, terms, index)?;
-            let taken = taken_bits(scope, table, terms, object, select)?;
+            let address = address_of(index, scope, table, terms)?;
+            let taken = taken_bits(select, scope, table, terms, object)?;
             Ok(Meant {
                 address: Some(address),
                 bits: taken.bits,
@@ -280,11 +280,11 @@ fn selected(
 
 /// Adds the part of a name with selects.
 fn add_part<'s>(
+    selects: &Selects<'s>,
     scope: &Scope<'_>,
     table: &NamedTerms<'_>,
     terms: &mut Terms,
     name: &'s str,
-    selects: &Selects<'s>,
     parts: &mut Vec<Part<'s>>,
 ) -> Result<(), NoMemory>
     requires objects { HasNarrowObjects (scope_at scope.now) }
@@ -295,7 +295,7 @@ fn add_part<'s>(
     ensures prepared { OnOk result (ArePrepared (scope_at scope.now) (images_at table.now) terms.old parts.old.items (pure.place name.now (selects_of selects.now)) terms.new parts.new.items) }
 {
     let object = scope.object(name);
-    let found = selected(scope, table, terms, object, name, selects)?;
+    let found = selected(selects, scope, table, terms, object, name)?;
     parts.push(Part {
         name,
         address: found.address,
@@ -308,10 +308,10 @@ fn add_part<'s>(
 /// Adds the parts of a target, the leftmost first.
 #[cycle(parts)]
 pub(crate) fn add_parts<'s>(
+    target: &Target<'s>,
     scope: &Scope<'_>,
     table: &NamedTerms<'_>,
     terms: &mut Terms,
-    target: &Target<'s>,
     parts: &mut Vec<Part<'s>>,
 ) -> Result<(), NoMemory>
     requires objects { HasNarrowObjects (scope_at scope.now) }
@@ -323,11 +323,11 @@ pub(crate) fn add_parts<'s>(
 {
     match target {
         Target::Place(name, selects) => {
-            add_part(scope, table, terms, name, selects, parts)?;
+            add_part(selects, scope, table, terms, name, parts)?;
             Ok(())
         }
         Target::Joined(targets) => {
-            add_all_parts(scope, table, terms, targets, parts)?;
+            add_all_parts(targets, scope, table, terms, parts)?;
             Ok(())
         }
     }
@@ -336,10 +336,10 @@ pub(crate) fn add_parts<'s>(
 /// Adds the parts of targets, the leftmost first.
 #[cycle(parts)]
 fn add_all_parts<'s>(
+    targets: &[Target<'s>],
     scope: &Scope<'_>,
     table: &NamedTerms<'_>,
     terms: &mut Terms,
-    targets: &[Target<'s>],
     parts: &mut Vec<Part<'s>>,
 ) -> Result<(), NoMemory>
     requires objects { HasNarrowObjects (scope_at scope.now) }
@@ -350,7 +350,7 @@ fn add_all_parts<'s>(
     ensures prepared { OnOk result (ArePrepared (scope_at scope.now) (images_at table.now) terms.old parts.old.items (pure.joined (target_list targets.now)) terms.new parts.new.items) }
 {
     for target in targets {
-        add_parts(scope, table, terms, target, parts)?;
+        add_parts(target, scope, table, terms, parts)?;
     }
     Ok(())
 }
@@ -378,11 +378,11 @@ pub(crate) struct Assignment<'s> {
 /// The parts of a target and the value that an assignment gives it, both read in the table.
 pub(crate) fn prepared<'s>(
     alloc: Global,
+    target: &Target<'s>,
+    expression: &Expression<'s>,
     scope: &Scope<'_>,
     table: &NamedTerms<'_>,
     terms: &mut Terms,
-    target: &Target<'s>,
-    expression: &Expression<'_>,
 ) -> Result<Assignment<'s>, NoMemory>
     requires objects { HasNarrowObjects (scope_at scope.now) }
     requires known { HasImages (scope_at scope.now) (images_at table.now) terms.old }
@@ -391,9 +391,9 @@ pub(crate) fn prepared<'s>(
     ensures prepared { IfOk result (λ r. IsPrepared (scope_at scope.now) (images_at table.now) terms.new (target_of target.now) (tree_of expression.now) r.parts.items r.value.0 r.width) }
 {
     let mut parts = Vec::new(alloc);
-    add_parts(scope, table, terms, target, &mut parts)?;
+    add_parts(target, scope, table, terms, &mut parts)?;
     let width = width_of_parts(&parts);
-    let value = assigned(scope, table, terms, expression, width)?;
+    let value = assigned(expression, scope, table, terms, width)?;
     Ok(Assignment {
         parts,
         value,

@@ -32,9 +32,9 @@ use wb_terms::{TermId, Terms};
 /// A blocking assignment, where a condition holds.
 pub(crate) fn assign<'s>(
     alloc: Global,
-    scope: &Scope<'_>,
     target: &Target<'s>,
-    expression: &Expression<'_>,
+    expression: &Expression<'s>,
+    scope: &Scope<'_>,
     table: &mut NamedTerms<'s>,
     terms: &mut Terms,
     guard: Option<TermId>,
@@ -46,7 +46,7 @@ pub(crate) fn assign<'s>(
     ensures grows { Grows terms.old terms.new }
     ensures ran { OnOk result ((n : Images) → HasImages (scope_at scope.now) n terms.old → Runs (scope_at scope.now) (images_at table.old) n terms.old guard (run (scope_at scope.now) (pure.blocking (target_of target.now) (tree_of expression.now))) (images_at table.new) n terms.new) }
 {
-    let ready = prepared(alloc, scope, table, terms, target, expression)?;
+    let ready = prepared(alloc, target, expression, scope, table, terms)?;
     write_parts(
         scope,
         table,
@@ -62,9 +62,9 @@ pub(crate) fn assign<'s>(
 /// A nonblocking assignment, where a condition holds: its places and its value are read in one table, and written in the other.
 pub(crate) fn defer<'s>(
     alloc: Global,
-    scope: &Scope<'_>,
     target: &Target<'s>,
-    expression: &Expression<'_>,
+    expression: &Expression<'s>,
+    scope: &Scope<'_>,
     table: &NamedTerms<'_>,
     next: &mut NamedTerms<'s>,
     terms: &mut Terms,
@@ -78,7 +78,7 @@ pub(crate) fn defer<'s>(
     ensures grows { Grows terms.old terms.new }
     ensures ran { OnOk result (Runs (scope_at scope.now) (images_at table.now) (images_at next.old) terms.old guard (run (scope_at scope.now) (pure.nonblocking (target_of target.now) (tree_of expression.now))) (images_at table.now) (images_at next.new) terms.new) }
 {
-    let ready = prepared(alloc, scope, table, terms, target, expression)?;
+    let ready = prepared(alloc, target, expression, scope, table, terms)?;
     write_parts(
         scope,
         next,
@@ -95,8 +95,8 @@ pub(crate) fn defer<'s>(
 #[cycle(run)]
 pub(crate) fn run_statement<'s>(
     alloc: Global,
-    scope: &Scope<'_>,
     statement: &Statement<'s>,
+    scope: &Scope<'_>,
     table: &mut NamedTerms<'s>,
     next: &mut NamedTerms<'s>,
     terms: &mut Terms,
@@ -113,18 +113,18 @@ pub(crate) fn run_statement<'s>(
     match statement {
         Statement::Empty => Ok(()),
         Statement::Blocking(target, expression) => {
-            assign(alloc, scope, target, expression, table, terms, guard)?;
+            assign(alloc, target, expression, scope, table, terms, guard)?;
             Ok(())
         }
         Statement::Nonblocking(target, expression) => {
-            defer(alloc, scope, target, expression, table, next, terms, guard)?;
+            defer(alloc, target, expression, scope, table, next, terms, guard)?;
             Ok(())
         }
         Statement::If(arms, last) => {
-            let rest = run_arms(alloc, scope, arms, table, next, terms, guard)?;
+            let rest = run_arms(alloc, arms, scope, table, next, terms, guard)?;
             match last {
                 Some(other) => {
-                    run_statement(alloc, scope, other, table, next, terms, rest)?;
+                    run_statement(alloc, other, scope, table, next, terms, rest)?;
                     Ok(())
                 }
                 None => Ok(()),
@@ -132,12 +132,12 @@ pub(crate) fn run_statement<'s>(
         }
         Statement::Case(kind, expression, items) => {
             run_case(
-                alloc, scope, items, *kind, expression, table, next, terms, guard,
+                alloc, items, expression, scope, *kind, table, next, terms, guard,
             )?;
             Ok(())
         }
         Statement::Block(_, statements) => {
-            run_all(alloc, scope, statements, table, next, terms, guard)?;
+            run_all(alloc, statements, scope, table, next, terms, guard)?;
             Ok(())
         }
     }
@@ -147,8 +147,8 @@ pub(crate) fn run_statement<'s>(
 #[cycle(run)]
 fn run_all<'s>(
     alloc: Global,
-    scope: &Scope<'_>,
     statements: &[Statement<'s>],
+    scope: &Scope<'_>,
     table: &mut NamedTerms<'s>,
     next: &mut NamedTerms<'s>,
     terms: &mut Terms,
@@ -163,7 +163,7 @@ fn run_all<'s>(
     ensures ran { OnOk result (Runs (scope_at scope.now) (images_at table.old) (images_at next.old) terms.old guard (run_all (scope_at scope.now) (statement_list statements.now)) (images_at table.new) (images_at next.new) terms.new) }
 {
     for statement in statements {
-        run_statement(alloc, scope, statement, table, next, terms, guard)?;
+        run_statement(alloc, statement, scope, table, next, terms, guard)?;
     }
     Ok(())
 }
@@ -172,8 +172,8 @@ fn run_all<'s>(
 #[cycle(run)]
 fn run_arms<'s>(
     alloc: Global,
-    scope: &Scope<'_>,
     arms: &[Arm<'s>],
+    scope: &Scope<'_>,
     table: &mut NamedTerms<'s>,
     next: &mut NamedTerms<'s>,
     terms: &mut Terms,
@@ -190,7 +190,7 @@ fn run_arms<'s>(
 {
     let mut rest = guard;
     for arm in arms {
-        rest = run_arm(alloc, scope, arm, table, next, terms, rest)?;
+        rest = run_arm(alloc, arm, scope, table, next, terms, rest)?;
     }
     Ok(rest)
 }
@@ -199,8 +199,8 @@ fn run_arms<'s>(
 #[cycle(run)]
 fn run_arm<'s>(
     alloc: Global,
-    scope: &Scope<'_>,
     arm: &Arm<'s>,
+    scope: &Scope<'_>,
     table: &mut NamedTerms<'s>,
     next: &mut NamedTerms<'s>,
     terms: &mut Terms,
@@ -217,12 +217,12 @@ fn run_arm<'s>(
         (λ v. cond (is_true (scope_at scope.now) v (tree_of arm.now.condition)) (run (scope_at scope.now) (statement_of arm.now.statement) v) (rest v))
         (images_at table.new) (images_at next.new) terms.new r rest) }
 {
-    let said = condition(scope, table, terms, &arm.condition)?;
+    let said = condition(&arm.condition, scope, table, terms)?;
     let split = sides(terms, guard, said)?;
     run_statement(
         alloc,
-        scope,
         &arm.statement,
+        scope,
         table,
         next,
         terms,
@@ -235,10 +235,10 @@ fn run_arm<'s>(
 #[cycle(run)]
 fn run_case<'s>(
     alloc: Global,
-    scope: &Scope<'_>,
     items: &[CaseItem<'s>],
+    expression: &Expression<'s>,
+    scope: &Scope<'_>,
     kind: CaseKind,
-    expression: &Expression<'_>,
     table: &mut NamedTerms<'s>,
     next: &mut NamedTerms<'s>,
     terms: &mut Terms,
@@ -254,14 +254,14 @@ fn run_case<'s>(
     ensures ran { OnOk result (Runs (scope_at scope.now) (images_at table.old) (images_at next.old) terms.old guard
         (run (scope_at scope.now) (pure.case (case_kind_of kind) (tree_of expression.now) (item_list items.now))) (images_at table.new) (images_at next.new) terms.new) }
 {
-    let selector = lowered_selector(scope, table, terms, kind, expression, items)?;
+    let selector = lowered_selector(expression, items, scope, table, terms, kind)?;
     let mut rest = guard;
     for item in items {
-        rest = run_item(alloc, scope, item, selector, table, next, terms, rest)?;
+        rest = run_item(alloc, item, scope, selector, table, next, terms, rest)?;
     }
     match default_item(items) {
         Some(index) => {
-            run_default(alloc, scope, &items[index], table, next, terms, rest)?;
+            run_default(alloc, &items[index], scope, table, next, terms, rest)?;
             Ok(())
         }
         None => Ok(()),
@@ -272,8 +272,8 @@ fn run_case<'s>(
 #[cycle(run)]
 fn run_item<'s>(
     alloc: Global,
-    scope: &Scope<'_>,
     item: &CaseItem<'s>,
+    scope: &Scope<'_>,
     selector: Selector,
     table: &mut NamedTerms<'s>,
     next: &mut NamedTerms<'s>,
@@ -294,12 +294,12 @@ fn run_item<'s>(
 {
     match item {
         CaseItem::Values(values, statement) => {
-            let said = item_matches(scope, table, terms, selector, values)?;
+            let said = item_matches(values, scope, table, terms, selector)?;
             let split = sides(terms, guard, said)?;
             run_statement(
                 alloc,
-                scope,
                 statement,
+                scope,
                 table,
                 next,
                 terms,
@@ -315,8 +315,8 @@ fn run_item<'s>(
 #[cycle(run)]
 fn run_default<'s>(
     alloc: Global,
-    scope: &Scope<'_>,
     item: &CaseItem<'s>,
+    scope: &Scope<'_>,
     table: &mut NamedTerms<'s>,
     next: &mut NamedTerms<'s>,
     terms: &mut Terms,
@@ -332,11 +332,11 @@ fn run_default<'s>(
 {
     match item {
         CaseItem::Values(_, statement) => {
-            run_statement(alloc, scope, statement, table, next, terms, guard)?;
+            run_statement(alloc, statement, scope, table, next, terms, guard)?;
             Ok(())
         }
         CaseItem::Default(statement) => {
-            run_statement(alloc, scope, statement, table, next, terms, guard)?;
+            run_statement(alloc, statement, scope, table, next, terms, guard)?;
             Ok(())
         }
     }

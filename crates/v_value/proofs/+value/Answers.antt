@@ -42,7 +42,7 @@ value::value_in-in_context-requires-in-AsUnsigned-clause-wider t c =
 
 pub value::value_in-prefixed_value-requires : goal.value::value_in-prefixed_value-requires
 value::value_in-prefixed_value-requires t c =
-    (search (rules, the_lemmas), (c.requires.ready, (arms.prefix-narrow (scope_at c.args.scope.now) (valuation_at c.args.values.now) c.args.expression.now c.args.width c.args.signed 0 c.requires.narrow c.requires.within c.in-Prefix.operators c.in-Prefix.operand c.in-Prefix.is c.deref-in-Prefix-2.result.now c.deref-in-Prefix-2.ensures, (arms.prefix-within (scope_at c.args.scope.now) (valuation_at c.args.values.now) c.args.expression.now c.args.width c.args.signed 0 c.requires.narrow c.requires.within c.in-Prefix.operators c.in-Prefix.operand c.in-Prefix.is c.deref-in-Prefix-2.result.now c.deref-in-Prefix-2.ensures c.deref-in-Prefix.result.now c.deref-in-Prefix.ensures.value, (arms.some_bits (scope_at c.args.scope.now) c.args.expression.now c.args.width c.requires.narrow c.requires.within, c.requires.at_most_128)))))
+    (search (rules, the_lemmas), (c.requires.ready, (arms.prefix-narrow (scope_at c.args.scope.now) (valuation_at c.args.values.now) c.args.expression.now c.args.width c.args.signed 0 c.requires.narrow c.requires.within c.in-Prefix.operators c.in-Prefix.operand c.in-Prefix.is c.deref-in-Prefix.result.now c.deref-in-Prefix.ensures, (arms.prefix-within (scope_at c.args.scope.now) (valuation_at c.args.values.now) c.args.expression.now c.args.width c.args.signed 0 c.requires.narrow c.requires.within c.in-Prefix.operators c.in-Prefix.operand c.in-Prefix.is c.deref-in-Prefix.result.now c.deref-in-Prefix.ensures c.deref-in-Prefix-2.result.now c.deref-in-Prefix-2.ensures.value, (arms.some_bits (scope_at c.args.scope.now) c.args.expression.now c.args.width c.requires.narrow c.requires.within, c.requires.at_most_128)))))
 
 pub value::value_in-value_in-left-requires : goal.value::value_in-value_in-left-requires
 value::value_in-value_in-left-requires t c =
@@ -98,7 +98,7 @@ value::value_in-returns-in-AsUnsigned-clause-value t c =
 
 pub value::value_in-returns-in-Prefix-clause-value : goal.value::value_in-returns-in-Prefix-clause-value
 value::value_in-returns-in-Prefix-clause-value t c =
-    arms.prefix-value (scope_at c.args.scope.now) (valuation_at c.args.values.now) c.args.expression.now c.args.width c.args.signed c.prefixed_value.result c.requires.narrow c.requires.within c.in-Prefix.operators c.in-Prefix.operand c.in-Prefix.is c.deref-in-Prefix-2.result.now c.deref-in-Prefix-2.ensures c.deref-in-Prefix.result.now c.deref-in-Prefix.ensures.value c.prefixed_value.ensures.value
+    arms.prefix-value (scope_at c.args.scope.now) (valuation_at c.args.values.now) c.args.expression.now c.args.width c.args.signed c.prefixed_value.result c.requires.narrow c.requires.within c.in-Prefix.operators c.in-Prefix.operand c.in-Prefix.is c.deref-in-Prefix.result.now c.deref-in-Prefix.ensures c.deref-in-Prefix-2.result.now c.deref-in-Prefix-2.ensures.value c.prefixed_value.ensures.value
 
 pub value::value_in-returns-in-Binary-clause-value : goal.value::value_in-returns-in-Binary-clause-value
 value::value_in-returns-in-Binary-clause-value t c =
@@ -176,13 +176,13 @@ pub width::width_of-width_of-requires-in-Binary : goal.width::width_of-width_of-
 width::width_of-width_of-requires-in-Binary t c =
     let s = scope_at c.args.scope.now in
     let h = narrow.of-Binary s c.args.expression.now c.requires.narrow c.in-Binary.first c.in-Binary.links c.in-Binary.is in
-    (search (rules, the_lemmas), subst (λ x. IsNarrow s (tree_of x)) (sym c.deref-in-Binary.ensures) h.0)
+    (search (rules, the_lemmas), subst (λ x. IsNarrow s (tree_of x)) (sym c.deref-in-Binary-2.ensures) h.0)
 
 pub width::width_of-linked_width-requires : goal.width::width_of-linked_width-requires
 width::width_of-linked_width-requires t c =
     let s = scope_at c.args.scope.now in
     let h = narrow.of-Binary s c.args.expression.now c.requires.narrow c.in-Binary.first c.in-Binary.links c.in-Binary.is in
-    (search (rules, the_lemmas), subst (AreLinksNarrow s) (sym c.deref-in-Binary-2.ensures.value) h.1)
+    (search (rules, the_lemmas), subst (AreLinksNarrow s) (sym c.deref-in-Binary.ensures.value) h.1)
 
 pub width::width_of-width_of-requires-in-Test : goal.width::width_of-width_of-requires-in-Test
 width::width_of-width_of-requires-in-Test t c =
@@ -214,8 +214,8 @@ width::width_of-returns-in-Prefix t c =
 
 pub width::width_of-returns-in-Binary : goal.width::width_of-returns-in-Binary
 width::width_of-returns-in-Binary t c =
-    widths.at-Binary (scope_at c.args.scope.now) c.args.expression.now c.deref-in-Binary.result.now c.width_of-in-Binary.result c.linked_width.result c.width_of-in-Binary.ensures
-    c.in-Binary.first c.in-Binary.links c.in-Binary.is c.deref-in-Binary.ensures c.deref-in-Binary-2.result.now c.deref-in-Binary-2.ensures.value c.linked_width.ensures
+    widths.at-Binary (scope_at c.args.scope.now) c.args.expression.now c.deref-in-Binary-2.result.now c.width_of-in-Binary.result c.linked_width.result c.width_of-in-Binary.ensures
+    c.in-Binary.first c.in-Binary.links c.in-Binary.is c.deref-in-Binary-2.ensures c.deref-in-Binary.result.now c.deref-in-Binary.ensures.value c.linked_width.ensures
 
 pub width::width_of-returns-in-Test : goal.width::width_of-returns-in-Test
 width::width_of-returns-in-Test t c =

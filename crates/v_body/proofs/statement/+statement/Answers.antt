@@ -37,9 +37,9 @@ block-returns-clause-read t c =
 
 pub statements-loop-after-init : goal.statements-loop-after-init
 statements-loop-after-init t c = (
-  (starts (after_word (codes "end")) (statement_in c.args.levels) (map statement_of c.new-statements.result.items) (tokens_of c.in_ok-rest.rest.now) (tokens_of c.args.tokens.now)
-      (ap (map statement_of) c.new-statements.ensures.items) (ap tokens_of c.in_ok-rest.ensures.same)),
-  each-none IsFlatStatement c.new-statements.result.items c.new-statements.ensures.items,
+  (starts (after_word (codes "end")) (statement_in c.args.levels) (map statement_of c.in_ok-statements.statements.items) (tokens_of c.in_ok-rest.rest.now) (tokens_of c.args.tokens.now)
+      (ap (map statement_of) c.in_ok-statements.ensures.items) (ap tokens_of c.in_ok-rest.ensures.same)),
+  each-none IsFlatStatement c.in_ok-statements.statements.items c.in_ok-statements.ensures.items,
 )
 
 pub statements-returns-in-Some-clause-read : goal.statements-returns-in-Some-clause-read
@@ -71,9 +71,9 @@ statements-loop-after-preserved t c =
 
 pub items-loop-after-init : goal.items-loop-after-init
 items-loop-after-init t c = (
-  (items_start (statement_in c.args.levels) (map item_of c.new-items.result.items) (tokens_of c.in_ok-rest.rest.now) (tokens_of c.args.tokens.now)
-      (ap (map item_of) c.new-items.ensures.items) (ap tokens_of c.in_ok-rest.ensures.same)),
-  each-none IsFlatCaseItem c.new-items.result.items c.new-items.ensures.items,
+  (items_start (statement_in c.args.levels) (map item_of c.in_ok-items.items.items) (tokens_of c.in_ok-rest.rest.now) (tokens_of c.args.tokens.now)
+      (ap (map item_of) c.in_ok-items.ensures.items) (ap tokens_of c.in_ok-rest.ensures.same)),
+  each-none IsFlatCaseItem c.in_ok-items.items.items c.in_ok-items.ensures.items,
 )
 
 pub items-returns-in-Some-clause-read : goal.items-returns-in-Some-clause-read

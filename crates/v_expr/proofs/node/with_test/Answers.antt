@@ -13,10 +13,10 @@ returns-in_ok-push-in-Test-clause-made c =
 
 pub returns-in_ok-push-in_default : goal.returns-in_ok-push-in_default
 returns-in_ok-push-in_default c = record {
-  made = one_test c.in_ok-first-in_default.first c.push-in_default.new.self c.new-links.result.items c.args.link c.args.left c.in_ok-push-in_default.ensures.items
-      (ap (λ ls. test_linked ls (tree_of c.in_ok-first-in_default.first.value)) c.new-links.ensures.items ∙ ap tree_of c.in_ok-first-in_default.ensures.ok);
-  flat = λ left operand. first_test c.in_ok-first-in_default.first c.push-in_default.new.self c.new-links.result.items c.args.link c.args.left
-      c.in_ok-first-in_default.ensures.ok c.new-links.ensures.items c.in_ok-push-in_default.ensures.items c.in_default.not-Test left operand;
+  made = one_test c.in_ok-first-in_default.first c.push-in_default.new.self c.in_ok-links-in_default.links.items c.args.link c.args.left c.in_ok-push-in_default.ensures.items
+      (ap (λ ls. test_linked ls (tree_of c.in_ok-first-in_default.first.value)) c.in_ok-links-in_default.ensures.items ∙ ap tree_of c.in_ok-first-in_default.ensures.ok);
+  flat = λ left operand. first_test c.in_ok-first-in_default.first c.push-in_default.new.self c.in_ok-links-in_default.links.items c.args.link c.args.left
+      c.in_ok-first-in_default.ensures.ok c.in_ok-links-in_default.ensures.items c.in_ok-push-in_default.ensures.items c.in_default.not-Test left operand;
   memory = tt;
 }
 

@@ -39,13 +39,13 @@ narrow-returns-in-Prefix t c =
 
 pub narrow-returns-in-Binary : goal.narrow-returns-in-Binary
 narrow-returns-in-Binary t c =
-    arms.at-Binary c.args.checked.objects (scope_at c.args.checked.scope.now) c.args.expression.now _ c.deref-in-Binary.result.now c.narrow-in-Binary.result c.narrow-in-Binary.ensures
-    c.in-Binary.first c.in-Binary.links c.in-Binary.is c.deref-in-Binary.ensures c.deref-in-Binary-2.result.now c.deref-in-Binary-2.ensures.value c.links_narrow.ensures
+    arms.at-Binary c.args.checked.objects (scope_at c.args.checked.scope.now) c.args.expression.now _ c.deref-in-Binary-2.result.now c.narrow-in-Binary.result c.narrow-in-Binary.ensures
+    c.in-Binary.first c.in-Binary.links c.in-Binary.is c.deref-in-Binary-2.ensures c.deref-in-Binary.result.now c.deref-in-Binary.ensures.value c.links_narrow.ensures
 
 pub narrow-returns-in-Test : goal.narrow-returns-in-Test
 narrow-returns-in-Test t c =
-    arms.at-Test c.args.checked.objects (scope_at c.args.checked.scope.now) c.args.expression.now _ c.deref-in-Test.result.now c.narrow-in-Test.result c.narrow-in-Test.ensures
-    c.in-Test.first c.in-Test.links c.in-Test.is c.deref-in-Test.ensures c.deref-in-Test-2.result.now c.deref-in-Test-2.ensures.value c.tests_narrow.ensures
+    arms.at-Test c.args.checked.objects (scope_at c.args.checked.scope.now) c.args.expression.now _ c.deref-in-Test-2.result.now c.narrow-in-Test.result c.narrow-in-Test.ensures
+    c.in-Test.first c.in-Test.links c.in-Test.is c.deref-in-Test-2.ensures c.deref-in-Test.result.now c.deref-in-Test.ensures.value c.tests_narrow.ensures
 
 pub narrow-returns-in-Conditional : goal.narrow-returns-in-Conditional
 narrow-returns-in-Conditional t c =

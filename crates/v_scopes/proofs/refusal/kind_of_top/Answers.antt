@@ -3,8 +3,5 @@ use Rattle.v_syntax.specs.Source.{source_of}
 use Rattle.v_scopes.specs.Refusals.{top_kind}
 use Rattle.v_scopes.proofs.refusal.kind_of_top.Goals as goal
 
-pub returns-in_ok-kind-in-Some : goal.returns-in_ok-kind-in-Some
-returns-in_ok-kind-in-Some c = c.in_ok-kind-in-Some.ensures ∙ ap (top_kind (source_of c.args.tree.now) c.args.clock.now) c.in-Some.ensures
-
-pub returns-in-None : goal.returns-in-None
-returns-in-None c = ap (top_kind (source_of c.args.tree.now) c.args.clock.now) c.in-None.ensures
+pub returns : goal.returns
+returns c = c.in_ok-kind.ensures ∙ ap (top_kind (source_of c.args.tree.now) c.args.clock.now) c.top_of.ensures

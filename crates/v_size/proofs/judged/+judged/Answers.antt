@@ -40,11 +40,11 @@ judge-returns-in-AsUnsigned t c =
 
 pub judge-returns-in-Prefix : goal.judge-returns-in-Prefix
 judge-returns-in-Prefix t c =
-    arms.at-Prefix (scope_at c.args.names.scope.now) c.args.place c.args.expression.now c.prefixed.result c.in-Prefix.operand c.deref-in-Prefix-2.result.now c.deref-in-Prefix-2.ensures c.in-Prefix.operators c.in-Prefix.is c.deref-in-Prefix.result.now c.deref-in-Prefix.ensures.value c.prefixed.ensures
+    arms.at-Prefix (scope_at c.args.names.scope.now) c.args.place c.args.expression.now c.prefixed.result c.in-Prefix.operand c.deref-in-Prefix.result.now c.deref-in-Prefix.ensures c.in-Prefix.operators c.in-Prefix.is c.deref-in-Prefix-2.result.now c.deref-in-Prefix-2.ensures.value c.prefixed.ensures
 
 pub judge-returns-in-Binary : goal.judge-returns-in-Binary
 judge-returns-in-Binary t c =
-    arms.at-Binary (scope_at c.args.names.scope.now) c.args.place c.args.expression.now c.links_judged.result c.in-Binary.first c.deref-in-Binary.result.now c.deref-in-Binary.ensures c.judge.result c.judge.ensures c.in-Binary.links c.in-Binary.is c.deref-in-Binary-2.result.now c.deref-in-Binary-2.ensures.value c.links_judged.ensures
+    arms.at-Binary (scope_at c.args.names.scope.now) c.args.place c.args.expression.now c.links_judged.result c.in-Binary.first c.deref-in-Binary-2.result.now c.deref-in-Binary-2.ensures c.judge.result c.judge.ensures c.in-Binary.links c.in-Binary.is c.deref-in-Binary.result.now c.deref-in-Binary.ensures.value c.links_judged.ensures
 
 pub judge-returns-in-Test : goal.judge-returns-in-Test
 judge-returns-in-Test t c =
