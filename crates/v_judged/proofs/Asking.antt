@@ -1,11 +1,13 @@
 -- What is asked of a place, and what is told of it, where the code has the same scope and the same items in its own form.
 use Rattle.std.proofs.Common.{◌≡◌, ◌∙◌, refl, ap, sym, subst, Bool, true, false, true≢false, inl, inr, List, map, length}
+use mathlib.Core.Path.{fun_ext}
 use Rattle.std.specs.Prelude.{◌↔◌, ◌⊎◌, IsTrue}
 use Rattle.std.proofs.lemmas.List.{length-map}
 use Rattle.verilog_trees.specs.Syntax.{Item}
 use Rattle.verilog_meaning.specs.Expression.{Scope}
 use Rattle.v_syntax.specs.declared.module.Item.{Item as CodeItem}
 use Rattle.v_syntax.specs.Source.{item_of}
+use Rattle.v_value.specs.Scope.{scope_at}
 use Rattle.v_scopes.specs.declared.table.ModuleScope.{ModuleScope}
 use Rattle.v_drivers.specs.Sets.{drivers, TwoMeet}
 use Rattle.v_assigned.specs.Names.{HasNamesOf}
@@ -13,6 +15,8 @@ use Rattle.v_assigned.specs.Assigned.{names_are_bad}
 use Rattle.v_places.specs.Below.{Spot}
 use Rattle.place_kinds.specs.Places.{spot_scope, assigns_bad_name, HasBadDriverAt}
 use Rattle.place_kinds.specs.Drivers.{BadNamesAreFound}
+use Rattle.v_judged.specs.declared.place.PlaceScope.{PlaceScope}
+use Rattle.v_judged.specs.Spots.{spot_in}
 
 -- ---- the same scope and items
 
@@ -22,6 +26,10 @@ module _ (P : Scope → List Item → Type 0) (s t : Scope) (same : s ≡ t) (xs
 
   pub told_of : P s (map item_of xs) → P t (map item_of ys)
   told_of h = subst (λ u. P u (map item_of ys)) same (subst (λ zs. P s (map item_of zs)) items h)
+
+-- the scope of a place
+pub own_scope : (x : PlaceScope) → scope_at x.scope ≡ spot_scope (spot_in x)
+own_scope x = fun_ext (λ n. x.scope_so n)
 
 -- as many of each
 pub as_many : {A B C D : Type 0} (f : A → C) (g : B → D) (xs : List A) (ys : List B) → length (map f xs) ≡ length (map g ys) → length xs ≡ length ys

@@ -4,3 +4,4 @@ mod Sound
 mod Listed
 mod Loops
 mod Asking
+mod Sharing

@@ -2,17 +2,20 @@
 ghost use Rattle.std.specs.Prelude.{◌≡◌, ◌↔◌, length, IsTrue, IfOk};
 ghost use Rattle.std.specs.List.{list_any};
 ghost use Rattle.verilog_meaning.specs.Settled.{Design};
-ghost use Rattle.v_value.specs.Scope.{scope_at};
 ghost use Rattle.v_hier.specs.Tables.{has_name};
 ghost use Rattle.v_instances.specs.declared.interface.Interfaces.{Interfaces};
 ghost use Rattle.v_places.specs.Views.{spot_of, spots_of};
 ghost use Rattle.v_clocks.specs.Views.{sets_of};
 ghost use Rattle.v_clocks.specs.Whole.{AreClockNets};
 ghost use Rattle.v_judged.specs.First.{IsFirst, item_kinds, block_kinds};
-ghost use Rattle.place_kinds.specs.Places.{SomeSpot, SomeWith, spot_scope, IsReadySpot, AreReadySpots, HasBadEventListAt, HasLatchAt, has_blocking_in_clocked, has_nonblocking_in_combinational};
+ghost use Rattle.place_kinds.specs.Places.{SomeSpot, SomeWith, IsReadySpot, AreReadySpots, HasBadEventListAt, HasLatchAt, has_blocking_in_clocked, has_nonblocking_in_combinational};
+ghost use Rattle.v_judged.specs.Sharing.{IsSame, IsSharing};
+ghost use Rattle.v_judged.specs.Spots.{spot_in, spots_in};
 ghost use Rattle.v_judged.specs.Standing.{IsSoundDesign};
 
 use crate::kind::DesignKind;
+use crate::place::PlaceScope;
+use crate::scopes::scope_with;
 use flat_rules::laws::sound_modules_are_known;
 use place_kinds::laws::block_kinds_are_at_places;
 use std::alloc::{AllocError, Global};
@@ -22,24 +25,7 @@ use v_clocks::{clock_nets, has_clock_as_data};
 use v_instances::interface::Interfaces;
 use v_paths::{has_bad_event_list, has_latch};
 use v_places::Place;
-use v_scopes::{Constants, declared_scope, placed_scope};
 use v_syntax::module::{Item, Module};
-use v_value::scope::Scope;
-
-/// The scope of the module at a place.
-pub(crate) fn scope_of<'t, 's>(
-    alloc: Global,
-    place: &'t Place<'t, 's>,
-) -> Result<Scope<'s>, AllocError>
-    ensures { IfOk result (λ s. scope_at s ≡ spot_scope (spot_of place.now)) }
-{
-    let constants = Constants {
-        scope: &place.constants,
-    };
-    let names = declared_scope(alloc, place.within, constants)?;
-    let scope = placed_scope(alloc, &names, &place.constants)?;
-    Ok(scope)
-}
 
 /// The items of a module.
 fn items_of<'x, 's>(within: &'x Module<'s>) -> &'x [Item<'s>]
@@ -48,32 +34,35 @@ fn items_of<'x, 's>(within: &'x Module<'s>) -> &'x [Item<'s>]
     &within.items
 }
 
-/// Whether a block of the module at a place has a list of events that it may not have, where these are its clock nets.
+/// Whether a block of the module of a scope has a list of events that it may not have, where these are its clock nets.
 fn has_bad_event_list_at<'t>(
     alloc: Global,
-    place: &'t Place<'t, '_>,
+    own: &'t PlaceScope<'t, '_>,
     clocks: &BTreeSet<&str>,
 ) -> Result<bool, AllocError>
-    requires { IsReadySpot (spot_of place.now) }
-    ensures { IfOk result (λ r. IsTrue r ↔ HasBadEventListAt (has_name clocks.now) (spot_of place.now)) }
+    requires { IsReadySpot (spot_in own.now) }
+    ensures { IfOk result (λ r. IsTrue r ↔ HasBadEventListAt (has_name clocks.now) (spot_in own.now)) }
 {
-    let scope = scope_of(alloc, place)?;
-    let bad = has_bad_event_list(alloc, items_of(place.within), &scope, clocks)?;
+    let bad = has_bad_event_list(alloc, items_of(own.place.within), &own.scope, clocks)?;
     Ok(bad)
 }
 
-/// Whether one of the modules at these places has such a block, where these are the clock nets of each.
-fn any_bad_event_list<'t>(
+/// Whether one of the modules at these places has such a block, where these are their scopes and the clock nets of each.
+fn any_bad_event_list<'t, 's>(
     alloc: Global,
-    places: &'t [Place<'t, '_>],
+    places: &'t [Place<'t, 's>],
+    scopes: &'t [PlaceScope<'t, 's>],
+    numbers: &[usize],
     nets: &[BTreeSet<&str>],
 ) -> Result<bool, AllocError>
     requires as_many { length nets.now ≡ length places.now }
     requires ready { AreReadySpots (spots_of places.now) }
+    requires shared { IsSharing IsSame (spots_in scopes.now) numbers.now (spots_of places.now) }
     ensures { IfOk result (λ r. IsTrue r ↔ SomeWith HasBadEventListAt (sets_of nets.now) (spots_of places.now)) }
 {
-    for (number, place) in places.iter().enumerate() {
-        if has_bad_event_list_at(alloc, place, &nets[number])? {
+    for number in 0..places.len() {
+        let own = scope_with(scopes, numbers, number);
+        if has_bad_event_list_at(alloc, own, &nets[number])? {
             return Ok(true);
         }
     }
@@ -118,42 +107,44 @@ fn any_nonblocking_in_combinational<'t>(places: &'t [Place<'t, '_>]) -> bool
     false
 }
 
-/// Whether the module at a place has a latch.
-fn has_latch_at<'t>(alloc: Global, place: &'t Place<'t, '_>) -> Result<bool, AllocError>
-    requires { IsReadySpot (spot_of place.now) }
-    ensures { IfOk result (λ r. IsTrue r ↔ HasLatchAt (spot_of place.now)) }
+/// Whether the module of a scope has a latch.
+fn has_latch_at<'t>(alloc: Global, one: &'t PlaceScope<'t, '_>) -> Result<bool, AllocError>
+    requires { IsReadySpot (spot_in one.now) }
+    ensures { IfOk result (λ r. IsTrue r ↔ HasLatchAt (spot_in one.now)) }
 {
-    let scope = scope_of(alloc, place)?;
-    let found = has_latch(alloc, items_of(place.within), &scope)?;
+    let found = has_latch(alloc, items_of(one.place.within), &one.scope)?;
     Ok(found)
 }
 
-/// Whether one of the modules at these places has a latch.
-fn any_latch<'t>(alloc: Global, places: &'t [Place<'t, '_>]) -> Result<bool, AllocError>
-    requires { AreReadySpots (spots_of places.now) }
-    ensures { IfOk result (λ r. IsTrue r ↔ SomeSpot HasLatchAt (spots_of places.now)) }
+/// Whether the module of one of these scopes has a latch.
+fn any_latch<'t>(alloc: Global, scopes: &'t [PlaceScope<'t, '_>]) -> Result<bool, AllocError>
+    requires { AreReadySpots (spots_in scopes.now) }
+    ensures { IfOk result (λ r. IsTrue r ↔ SomeSpot HasLatchAt (spots_in scopes.now)) }
 {
-    for place in places {
-        if has_latch_at(alloc, place)? {
+    for one in scopes {
+        if has_latch_at(alloc, one)? {
             return Ok(true);
         }
     }
     Ok(false)
 }
 
-/// The first of the kinds on blocks whose rule one of these modules breaks, where these are the clock nets of each.
-fn items_refusal<'t>(
+/// The first of the kinds on blocks whose rule one of these modules breaks, where these are their scopes and the clock nets of each.
+fn items_refusal<'t, 's>(
     alloc: Global,
-    places: &'t [Place<'t, '_>],
+    places: &'t [Place<'t, 's>],
+    scopes: &'t [PlaceScope<'t, 's>],
+    numbers: &[usize],
     nets: &[BTreeSet<&str>],
 ) -> Result<Option<DesignKind>, AllocError>
     requires as_many { length nets.now ≡ length places.now }
+    requires shared { IsSharing IsSame (spots_in scopes.now) numbers.now (spots_of places.now) }
     requires ready { AreReadySpots (spots_of places.now) }
     ensures { IfOk result (λ k. (d : Design) (t : Interfaces) → IsSoundDesign t (spots_of places.now) d → AreClockNets d (spots_of places.now) (sets_of nets.now)
         → IsFirst d item_kinds k) }
 {
     block_kinds_are_at_places();
-    let events = any_bad_event_list(alloc, places, nets)?;
+    let events = any_bad_event_list(alloc, places, scopes, numbers, nets)?;
     if events {
         return Ok(Some(DesignKind::BadEventList));
     }
@@ -163,7 +154,7 @@ fn items_refusal<'t>(
     if any_nonblocking_in_combinational(places) {
         return Ok(Some(DesignKind::NonblockingInComb));
     }
-    let latched = any_latch(alloc, places)?;
+    let latched = any_latch(alloc, scopes)?;
     if latched {
         return Ok(Some(DesignKind::Latch));
     }
@@ -174,10 +165,13 @@ fn items_refusal<'t>(
 pub(crate) fn blocks_refusal<'t, 's>(
     alloc: Global,
     places: &'t [Place<'t, 's>],
+    scopes: &'t [PlaceScope<'t, 's>],
+    numbers: &[usize],
     interfaces: &Interfaces<'s>,
     clock: &str,
 ) -> Result<Option<DesignKind>, AllocError>
-    requires { (d : Design) × IsSoundDesign interfaces.now (spots_of places.now) d × (d.clock ≡ clock.now) }
+    requires sound { (d : Design) × IsSoundDesign interfaces.now (spots_of places.now) d × (d.clock ≡ clock.now) }
+    requires shared { IsSharing IsSame (spots_in scopes.now) numbers.now (spots_of places.now) }
     ensures { IfOk result (λ k. (d : Design) → IsSoundDesign interfaces.now (spots_of places.now) d → d.clock ≡ clock.now → IsFirst d block_kinds k) }
 {
     sound_modules_are_known();
@@ -187,6 +181,6 @@ pub(crate) fn blocks_refusal<'t, 's>(
     if data {
         return Ok(Some(DesignKind::ClockAsData));
     }
-    let kind = items_refusal(alloc, places, &nets)?;
+    let kind = items_refusal(alloc, places, scopes, numbers, &nets)?;
     Ok(kind)
 }

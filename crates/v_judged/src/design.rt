@@ -6,13 +6,17 @@ ghost use Rattle.v_syntax.specs.Source.{source_of};
 ghost use Rattle.v_places.specs.Views.{spots_of};
 ghost use Rattle.v_judged.specs.First.{IsFirst, later_kinds, block_kinds, driver_kinds};
 ghost use Rattle.v_judged.specs.Refusal.{of_names, IsDesignRefusal, IsJudged};
+ghost use Rattle.v_judged.specs.Sharing.{IsSame, IsSharing};
+ghost use Rattle.v_judged.specs.Spots.{spots_in};
 ghost use Rattle.v_judged.specs.Standing.{IsNamedDesign, IsSoundDesign};
 
 use crate::blocks::blocks_refusal;
 use crate::drivers::driver_refusal;
 use crate::flat::one_scope_refusal;
 use crate::kind::{DesignKind, Judged};
+use crate::place::PlaceScope;
 use crate::rules::rules_refusal;
+use crate::scopes::shared_scopes;
 use std::alloc::{AllocError, Global};
 use v_instances::interface::{Interfaces, interfaces_of};
 use v_named::{Named, NamesKind, judged_names};
@@ -35,21 +39,49 @@ fn of_names(kind: NamesKind) -> DesignKind
 fn drivers_refusal<'t, 's>(
     alloc: Global,
     places: &'t [Place<'t, 's>],
+    scopes: &'t [PlaceScope<'t, 's>],
+    numbers: &[usize],
     interfaces: &Interfaces<'s>,
     clock: &str,
 ) -> Result<Option<DesignKind>, AllocError>
-    requires { (d : Design) × IsSoundDesign interfaces.now (spots_of places.now) d }
+    requires sound { (d : Design) × IsSoundDesign interfaces.now (spots_of places.now) d }
+    requires shared { IsSharing IsSame (spots_in scopes.now) numbers.now (spots_of places.now) }
     ensures { IfOk result (λ k. (d : Design) → IsSoundDesign interfaces.now (spots_of places.now) d → d.clock ≡ clock.now → IsFirst d driver_kinds k) }
 {
-    let driver = driver_refusal(alloc, places, interfaces)?;
+    let driver = driver_refusal(alloc, places, scopes, numbers, interfaces)?;
     if driver.is_some() {
         return Ok(driver);
     }
-    let kind = one_scope_refusal(alloc, places, interfaces, clock)?;
+    let kind = one_scope_refusal(alloc, places, scopes, numbers, interfaces, clock)?;
     Ok(kind)
 }
 
-/// The first of the kinds after those on names whose rule is broken by the design that stands at these places.
+/// The first of the kinds after those on names whose rule is broken by the design that stands at these places, where these are their scopes.
+fn scopes_refusal<'t, 's>(
+    alloc: Global,
+    places: &'t [Place<'t, 's>],
+    scopes: &'t [PlaceScope<'t, 's>],
+    numbers: &[usize],
+    interfaces: &Interfaces<'s>,
+    clock: &str,
+) -> Result<Option<DesignKind>, AllocError>
+    requires named { (d : Design) × IsNamedDesign interfaces.now (spots_of places.now) d × (d.clock ≡ clock.now) }
+    requires shared { IsSharing IsSame (spots_in scopes.now) numbers.now (spots_of places.now) }
+    ensures { IfOk result (λ k. (d : Design) → IsNamedDesign interfaces.now (spots_of places.now) d → d.clock ≡ clock.now → IsFirst d later_kinds k) }
+{
+    let rules = rules_refusal(alloc, scopes, interfaces)?;
+    if rules.is_some() {
+        return Ok(rules);
+    }
+    let blocks = blocks_refusal(alloc, places, scopes, numbers, interfaces, clock)?;
+    if blocks.is_some() {
+        return Ok(blocks);
+    }
+    let drivers = drivers_refusal(alloc, places, scopes, numbers, interfaces, clock)?;
+    Ok(drivers)
+}
+
+/// The same, of places alone.
 fn places_refusal<'t, 's>(
     alloc: Global,
     places: &'t [Place<'t, 's>],
@@ -59,16 +91,16 @@ fn places_refusal<'t, 's>(
     requires { (d : Design) × IsNamedDesign interfaces.now (spots_of places.now) d × (d.clock ≡ clock.now) }
     ensures { IfOk result (λ k. (d : Design) → IsNamedDesign interfaces.now (spots_of places.now) d → d.clock ≡ clock.now → IsFirst d later_kinds k) }
 {
-    let rules = rules_refusal(alloc, places, interfaces)?;
-    if rules.is_some() {
-        return Ok(rules);
-    }
-    let blocks = blocks_refusal(alloc, places, interfaces, clock)?;
-    if blocks.is_some() {
-        return Ok(blocks);
-    }
-    let drivers = drivers_refusal(alloc, places, interfaces, clock)?;
-    Ok(drivers)
+    let shared = shared_scopes(alloc, places)?;
+    let kind = scopes_refusal(
+        alloc,
+        places,
+        &shared.scopes,
+        &shared.numbers,
+        interfaces,
+        clock,
+    )?;
+    Ok(kind)
 }
 
 /// The design, judged by all rules: the first kind, in their order, whose rule it breaks, or all modules that stand in it. The design is the

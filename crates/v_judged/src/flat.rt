@@ -9,34 +9,27 @@ ghost use Rattle.v_assigned.specs.Names.{HasNamesOf};
 ghost use Rattle.v_undriven.specs.Undriven.{HasUndrivenBit};
 ghost use Rattle.v_loops.specs.OneModule.{HasLoopIn};
 ghost use Rattle.v_places.specs.Below.{Spot};
-ghost use Rattle.v_places.specs.Views.{spot_of, spots_of};
+ghost use Rattle.v_places.specs.Views.{spots_of};
 ghost use Rattle.v_flat.specs.Numbered.{numbered};
 ghost use Rattle.v_flat.specs.Whole.{IsPlacing, AreCalled};
 ghost use Rattle.v_flat.specs.Views.{names_in};
 ghost use Rattle.place_kinds.specs.Flat.{FlatIsReady};
 ghost use Rattle.v_judged.specs.First.{IsFirst, flat_kinds};
+ghost use Rattle.v_judged.specs.Sharing.{IsSame, IsSharing};
+ghost use Rattle.v_judged.specs.Spots.{spots_in};
 ghost use Rattle.v_judged.specs.Standing.{IsSoundDesign};
 
 use crate::kind::DesignKind;
+use crate::place::PlaceScope;
+use crate::scopes::scope_with;
 use place_kinds::laws::{flat_kinds_are_kinds_of_the_design, places_are_placed};
 use std::alloc::{AllocError, Global};
 use v_flat::{DottedNames, FlatDesign, flat_design, numbered_names};
 use v_instances::interface::Interfaces;
 use v_loops::has_loop;
 use v_places::Place;
-use v_scopes::{Constants, ModuleScope, declared_scope};
+use v_scopes::ModuleScope;
 use v_undriven::has_undriven;
-
-/// The names that the module at a place declares.
-fn names_of<'t, 's>(alloc: Global, place: &'t Place<'t, 's>) -> Result<ModuleScope<'s>, AllocError>
-    ensures { IfOk result (λ names. HasNamesOf names (spot_of place.now).of_module) }
-{
-    let constants = Constants {
-        scope: &place.constants,
-    };
-    let names = declared_scope(alloc, place.within, constants)?;
-    Ok(names)
-}
 
 /// The first of these kinds whose rule a design breaks that is this one in one scope, whose top declares these names.
 fn flat_refusal<'n, 's: 'n>(
@@ -85,18 +78,21 @@ fn numbered_refusal<'t, 's>(
 }
 
 /// The first of the kinds on bits without drivers and on loops whose rule is broken by the design that stands at these places, of which the
-/// first is its top.
+/// first is its top. These are their scopes.
 pub(crate) fn one_scope_refusal<'t, 's>(
     alloc: Global,
     places: &'t [Place<'t, 's>],
+    scopes: &'t [PlaceScope<'t, 's>],
+    numbers: &[usize],
     interfaces: &Interfaces<'s>,
     clock: &str,
 ) -> Result<Option<DesignKind>, AllocError>
-    requires { (d : Design) × IsSoundDesign interfaces.now (spots_of places.now) d }
+    requires sound { (d : Design) × IsSoundDesign interfaces.now (spots_of places.now) d }
+    requires shared { IsSharing IsSame (spots_in scopes.now) numbers.now (spots_of places.now) }
     ensures { IfOk result (λ k. (d : Design) → IsSoundDesign interfaces.now (spots_of places.now) d → d.clock ≡ clock.now → IsFirst d flat_kinds k) }
 {
-    let names = names_of(alloc, &places[0])?;
+    let top = scope_with(scopes, numbers, 0);
     let numbered = numbered_names(alloc, places)?;
-    let kind = numbered_refusal(alloc, places, &numbered, &names, interfaces, clock)?;
+    let kind = numbered_refusal(alloc, places, &numbered, &top.names, interfaces, clock)?;
     Ok(kind)
 }

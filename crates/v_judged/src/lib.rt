@@ -6,7 +6,9 @@ mod design;
 mod drivers;
 mod flat;
 mod kind;
+mod place;
 mod rules;
+mod scopes;
 
 pub use design::{design_refusal, judged};
 pub use kind::{DesignKind, Judged};

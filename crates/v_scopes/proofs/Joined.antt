@@ -1,11 +1,5 @@
 -- The table of a module's names has under each name what all its declarations say together.
-use Rattle.std.proofs.Common.{◌≡◌, ◌∙◌, refl, ap, sym, subst, ℕ, suc, ◌+◌, ◌<◌, Bool, true, false, cond, ◌||◌, List, [], ◌∷◌, length, drop, get_or, Bor, Option, Some, None, option_map, add-one, drop-cons}
-use Rattle.std.specs.Ordering.{nat_cmp}
-use Rattle.std.specs.Cmp.Lexicographic.{slice_cmp}
-use Rattle.std.specs.BTreeMap as tree
-use Rattle.std.specs.BTreeMap.{BTreeMap}
-use Rattle.std.proofs.lemmas.Slice.Eq.{bytes_eq-Decides}
-use Rattle.std.proofs.lemmas.Map.Text.{btree_map_updates_str}
+use Rattle.std.proofs.Common.{◌≡◌, ◌∙◌, refl, ap, sym, ℕ, ◌+◌, ◌<◌, Bool, true, false, cond, ◌||◌, List, [], ◌∷◌, length, drop, get_or, Option, Some, None, option_map, add-one, drop-cons}
 use Rattle.wb_values.specs.Value.{Name, same_name}
 use Rattle.wb_values.specs.Choice.{first_of}
 use Rattle.verilog_trees.specs.Syntax.{Range}
@@ -20,9 +14,8 @@ use Rattle.v_syntax.specs.Source.{direction_of, kind_of}
 use Rattle.v_scopes.specs.declared.range.Bounds.{Bounds}
 use Rattle.v_scopes.specs.declared.range.Bounds.TheVariants.{Absent, Unknown, Known}
 use Rattle.v_scopes.specs.declared.row.Declared.{Declared}
-use Rattle.v_scopes.specs.Bounds.{bound_at, known_bounds, range_bounds, bounds, first_bounds}
+use Rattle.v_scopes.specs.Bounds.{bound_at, known_bounds, bounds, first_bounds}
 use Rattle.v_scopes.specs.Rows.{Row, row, rows, row_of, rows_of, both_rows, row_and_later, row_after, row_named, joined_rows}
-use Rattle.v_scopes.specs.Tables.{under_name, row_at}
 
 -- ---- declarations of a name, with and without the values of ranges
 
@@ -142,20 +135,3 @@ none_before (Some d) = refl
 -- at the end no declaration is left
 pub row_end : (ds : List Declared) (i : ℕ) (o all : Option Row) (n : Name) → drop i ds ≡ [] → joined_rows o (row_named (rows_of (drop i ds)) n) ≡ all → o ≡ all
 row_end ds i o all n h e = sym (ap (λ xs. joined_rows o (row_named (rows_of xs) n)) h ∙ none_before o) ∙ e
-
--- ---- the table
-
-row_cond : (b : Bool) (x : Declared) (o : Option Declared) → option_map row_of (cond b (Some x) o) ≡ cond b (Some (row_of x)) (option_map row_of o)
-row_cond true x o = refl
-row_cond false x o = refl
-
-pub stands_so : (old new : BTreeMap (Bor (List ℕ)) Declared) (k : Bor (List ℕ)) (d x : Declared) → row_of x ≡ row_after (row_at old k.now) (row_of d)
-    → tree.Updates (λ a b. slice_cmp nat_cmp a.now b.now) old new k (Some x) → (q : Name)
-    → row_at new q ≡ cond (same_name k.now q) (Some (row_after (row_at old q) (row_of d))) (row_at old q)
-stands_so old new k d x e u q =
-    ap (option_map row_of) (btree_map_updates_str k.now old new (Some x) u q)
-    ∙ (row_cond (same_name k.now q) x (under_name old q)
-    ∙ (elim (same_name k.now q) as (λ b. same_name k.now q ≡ b → cond b (Some (row_of x)) (row_at old q) ≡ cond b (Some (row_after (row_at old q) (row_of d))) (row_at old q)) [
-      | true ↦ λ h. ap Some (subst (λ n. row_of x ≡ row_after (row_at old n) (row_of d)) ((bytes_eq-Decides k.now q).0 h) e)
-      | false ↦ λ h. refl
-    ]) refl)

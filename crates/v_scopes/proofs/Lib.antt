@@ -3,6 +3,7 @@ mod Judged
 mod Clocks
 mod Listed
 pub mod Joined
+mod Tabled
 pub mod Objects
 mod Empty
 mod Chosen

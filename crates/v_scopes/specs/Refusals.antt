@@ -1,5 +1,5 @@
 -- What an answer on the names of a design says.
-use Rattle.std.specs.Prelude.{◌≡◌, Bool, true, false, cond, ◌||◌, Option, Some, None, Result, Ok, Err, IsTrue}
+use Rattle.std.specs.Prelude.{◌≡◌, true, false, cond, Option, Some, None}
 use Rattle.wb_values.specs.Value.{Name}
 use Rattle.verilog_trees.specs.Syntax.{Module, Source}
 use Rattle.verilog_meaning.specs.Hierarchy.{module_named}

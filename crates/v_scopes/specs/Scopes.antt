@@ -1,5 +1,5 @@
 -- The scope that a module's table of names stands for, and what an answer of `scopes` says.
-use Rattle.std.specs.Prelude.{◌≡◌, ℕ, List, [], Option, Some, None, Result, Ok, Err}
+use Rattle.std.specs.Prelude.{◌≡◌, List, [], Option, Some, None, Result, Ok, Err}
 use Rattle.wb_values.specs.Value.{Name}
 use Rattle.verilog_meaning.specs.Expression.{Scope}
 use Rattle.verilog_meaning.specs.Hierarchy.{PathStep, Placed}

@@ -5,6 +5,7 @@
 mod clock;
 mod constant;
 pub mod laws;
+mod names;
 mod range;
 mod refusal;
 mod row;

@@ -1,5 +1,5 @@
 //! The scope of a module, made of its declarations, and what its names stand for.
-ghost use Rattle.std.specs.Prelude.{◌≡◌, ◌++◌, ℕ, List, [], option_map, cond, Some, IfOk, OnOk};
+ghost use Rattle.std.specs.Prelude.{◌≡◌, ◌++◌, ℕ, List, [], option_map, cond, Some, None, IfOk, OnOk};
 ghost use Rattle.wb_values.specs.Value.{same_name};
 ghost use Rattle.verilog_trees.specs.Syntax as pure;
 ghost use Rattle.verilog_meaning.specs.Expression.{undeclared, object_or_undeclared, scope_of};
@@ -9,17 +9,19 @@ ghost use Rattle.v_syntax.specs.Source.{module_of};
 ghost use Rattle.v_value.specs.Scope.{object_of, objects_of, scope_at};
 ghost use Rattle.v_scopes.specs.Bounds.{first_bounds};
 ghost use Rattle.v_scopes.specs.Rows.{rows, row_of, rows_of, both_rows, row_after, row_named, addresses_at, row_object, objects_by};
-ghost use Rattle.v_scopes.specs.Tables.{row_at};
+ghost use Rattle.v_scopes.specs.Tables.{hashed_at, other_at, row_at};
 ghost use Rattle.v_scopes.specs.Scopes.{declared_in, scope_in};
 
 use crate::clock::either;
 use crate::constant::{Constants, no_constants};
+use crate::names::Table;
 use crate::range::Bounds;
 use crate::row::{Declared, declared_rows};
 use crate::table::ModuleScope;
 use std::alloc::{AllocError, Global};
 use std::collections::BTreeMap;
 use v_syntax::module::Module;
+use v_value::hash::hash_of;
 use v_value::scope::{Declaration, Object, Scope};
 
 /// The range that the first of two declarations gives, or else the second.
@@ -47,37 +49,92 @@ fn both<'s>(first: Declared<'s>, later: Declared<'s>) -> Declared<'s>
     }
 }
 
-/// What is declared of a name with one more declaration.
-fn with_earlier<'s>(table: &BTreeMap<&'s str, Declared<'s>>, declared: Declared<'s>) -> Declared<'s>
-    ensures { row_of result ≡ row_after (row_at table.now declared.entry.name.now) (row_of declared.entry) }
+/// What is declared of a name whose hash another one has.
+fn earlier<'s>(others: &BTreeMap<&'s str, Declared<'s>>, name: &str) -> Option<Declared<'s>>
+    ensures { option_map row_of result ≡ other_at others.now name.now }
 {
-    match table.get(declared.name) {
-        Some(first) => both(*first, declared),
-        None => declared,
+    others.get(name).copied()
+}
+
+/// What is declared of a name that is the one of its hash.
+fn hashed<'s>(hashes: &BTreeMap<u64, Declared<'s>>, name: &str) -> Option<Declared<'s>>
+    ensures { option_map row_of result ≡ hashed_at hashes.now name.now }
+{
+    match hashes.get(&hash_of(name)) {
+        Some(first) => {
+            if first.name == name {
+                Some(*first)
+            } else {
+                None
+            }
+        }
+        None => None,
+    }
+}
+
+/// All that the table has of a name.
+fn found<'s>(table: &Table<'s>, name: &str) -> Option<Declared<'s>>
+    ensures { option_map row_of result ≡ row_at table.now name.now }
+{
+    match earlier(&table.others, name) {
+        Some(declared) => Some(declared),
+        None => hashed(&table.hashed, name),
+    }
+}
+
+/// Puts a declaration into the table, where no name that shares its hash has been put aside under its name.
+fn add<'s>(table: &mut Table<'s>, declared: Declared<'s>) -> Result<(), AllocError>
+    requires { other_at table.old.others declared.name.now ≡ None }
+    ensures { OnOk result ((q : List ℕ) → row_at table.new q
+        ≡ cond (same_name declared.entry.name.now q) (Some (row_after (row_at table.old q) (row_of declared.entry))) (row_at table.old q)) }
+{
+    let hash = hash_of(declared.name);
+    match table.hashed.insert(hash, declared)? {
+        None => Ok(()),
+        Some(first) => {
+            if first.name == declared.name {
+                table.hashed.insert(hash, both(first, declared))?;
+                return Ok(());
+            }
+            table.hashed.insert(hash, first)?;
+            table.others.insert(declared.name, declared)?;
+            Ok(())
+        }
     }
 }
 
 /// Puts a declaration into the table.
-fn declare<'s>(
-    table: &mut BTreeMap<&'s str, Declared<'s>>,
-    declared: Declared<'s>,
-) -> Result<(), AllocError>
+fn declare<'s>(table: &mut Table<'s>, declared: Declared<'s>) -> Result<(), AllocError>
     ensures { OnOk result ((q : List ℕ) → row_at table.new q
         ≡ cond (same_name declared.entry.name.now q) (Some (row_after (row_at table.old q) (row_of declared.entry))) (row_at table.old q)) }
 {
-    let row = with_earlier(table, declared);
-    table.insert(declared.name, row)?;
-    Ok(())
+    match earlier(&table.others, declared.name) {
+        Some(first) => {
+            table.others.insert(declared.name, both(first, declared))?;
+            Ok(())
+        }
+        None => {
+            add(table, declared)?;
+            Ok(())
+        }
+    }
+}
+
+/// A table without names.
+fn no_names<'s>(alloc: Global) -> Table<'s>
+    ensures { (q : List ℕ) → row_at result q ≡ None }
+{
+    Table {
+        hashed: BTreeMap::new(alloc),
+        others: BTreeMap::new(alloc),
+    }
 }
 
 /// The table of declarations by their names.
-fn table_of<'s>(
-    alloc: Global,
-    declared: &[Declared<'s>],
-) -> Result<BTreeMap<&'s str, Declared<'s>>, AllocError>
+fn table_of<'s>(alloc: Global, declared: &[Declared<'s>]) -> Result<Table<'s>, AllocError>
     ensures { IfOk result (λ t. (q : List ℕ) → row_at t q ≡ row_named (rows_of declared.now) q) }
 {
-    let mut table = BTreeMap::new(alloc);
+    let mut table = no_names(alloc);
     for each in declared {
         declare(&mut table, *each)?;
     }
@@ -171,7 +228,7 @@ impl<'s> ModuleScope<'s> {
     pub fn find(&self, name: &str) -> Option<Declared<'s>>
         ensures { option_map row_of result ≡ declared_in self.now name.now }
     {
-        self.table.get(name).copied()
+        found(&self.table, name)
     }
 
     /// What a name stands for.

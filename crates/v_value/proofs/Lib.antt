@@ -9,4 +9,5 @@ pub mod Steps
 pub mod Bits
 pub mod Selected
 pub mod Taking
+pub mod Hashed
 pub mod Objects

@@ -1,9 +1,9 @@
 -- The table of a scope has under each name what its first declaration says.
-use Rattle.std.proofs.Common.{◌≡◌, ◌∙◌, refl, ap, sym, ℕ, ◌+◌, ◌<◌, Bool, true, false, cond, List, [], ◌∷◌, ◌++◌, length, drop, get_or, Bor, Option, Some, None, option_map, add-one, drop-cons}
+use Rattle.std.proofs.Common.{◌≡◌, ◌∙◌, refl, ap, sym, ℕ, ◌+◌, ◌<◌, Bool, true, false, true≢false, nat_eq, eq-eqb, cond, List, [], ◌∷◌, ◌++◌, length, drop, get_or, Bor, Option, Some, None, option_map, add-one, drop-cons}
 use Rattle.std.specs.Ordering.{nat_cmp}
 use Rattle.std.specs.Cmp.Lexicographic.{slice_cmp}
 use Rattle.std.specs.BTreeMap as tree
-use Rattle.std.specs.BTreeMap.{BTreeMap, get_by}
+use Rattle.std.specs.BTreeMap.{BTreeMap, get, get_by}
 use Rattle.std.proofs.lemmas.Slice.Eq.{bytes_eq-Decides}
 use Rattle.std.proofs.lemmas.Map.Text.{btree_map_updates_str}
 use Rattle.wb_values.specs.Value.{Name, same_name, entry_of}
@@ -11,7 +11,10 @@ use Rattle.wb_values.specs.Choice.{first_of}
 use Rattle.verilog_meaning.specs.Expression as meaning
 use Rattle.v_value.specs.declared.scope.Object.{Object}
 use Rattle.v_value.specs.declared.scope.Declaration.{Declaration}
-use Rattle.v_value.specs.Scope.{object_of, objects_of, object_at}
+use Rattle.v_value.specs.Objects.{object_of, objects_of}
+use Rattle.v_value.specs.Hash.{hash_of}
+use Rattle.v_value.specs.Tables.{under, hashed_at, other_at}
+use Rattle.v_value.proofs.Hashed.{are_same, at_hash, taken_back}
 
 -- ---- one declaration
 
@@ -19,44 +22,94 @@ use Rattle.v_value.specs.Scope.{object_of, objects_of, object_at}
 abbrev after : Option meaning.Object → Declaration → Name → Option meaning.Object
 after o d q = first_of o (cond (same_name d.name.now q) (Some (object_of d.object)) None)
 
--- A name that stands in the table stays as it is.
-pub stays : (t : BTreeMap (Bor (List ℕ)) Object) (d : Declaration) (x : meaning.Object) (q : Name) → object_at t d.name.now ≡ Some x → object_at t q ≡ after (object_at t q) d q
-stays t d x q e =
+no_more : (o : Option meaning.Object) → o ≡ first_of o None
+no_more None = refl
+no_more (Some y) = refl
+
+-- what is under a name in two tables
+abbrev both_at : BTreeMap ℕ Declaration → BTreeMap (Bor (List ℕ)) Object → Name → Option meaning.Object
+both_at hs os q = first_of (hashed_at hs q) (other_at os q)
+
+-- a name that is there stays as it is
+stays : (hs : BTreeMap ℕ Declaration) (os : BTreeMap (Bor (List ℕ)) Object) (d : Declaration) (x : meaning.Object) (q : Name) → both_at hs os d.name.now ≡ Some x
+    → both_at hs os q ≡ after (both_at hs os q) d q
+stays hs os d x q e =
     (elim (same_name d.name.now q) as (λ b. same_name d.name.now q ≡ b
-    → object_at t q ≡ first_of (object_at t q) (cond b (Some (object_of d.object)) None)) [
-      | true ↦ λ h. found (ap (object_at t) (sym ((bytes_eq-Decides d.name.now q).0 h)) ∙ e)
-      | false ↦ λ h. no_more (object_at t q)
+    → both_at hs os q ≡ first_of (both_at hs os q) (cond b (Some (object_of d.object)) None)) [
+      | true ↦ λ h. found (ap (both_at hs os) (sym ((bytes_eq-Decides d.name.now q).0 h)) ∙ e)
+      | false ↦ λ h. no_more (both_at hs os q)
     ]) refl
   where
-    found : object_at t q ≡ Some x → object_at t q ≡ first_of (object_at t q) (Some (object_of d.object))
+    found : both_at hs os q ≡ Some x → both_at hs os q ≡ first_of (both_at hs os q) (Some (object_of d.object))
     found f = f ∙ sym (ap (λ o. first_of o (Some (object_of d.object))) f)
 
-    no_more : (o : Option meaning.Object) → o ≡ first_of o None
-    no_more None = refl
-    no_more (Some y) = refl
+some_behind : (a : Option meaning.Object) (x : meaning.Object) → (y : meaning.Object) × (first_of a (Some x) ≡ Some y)
+some_behind None x = (x, refl)
+some_behind (Some y) x = (y, refl)
+
+-- a name of which the other table has something
+pub stays_other : (hs : BTreeMap ℕ Declaration) (os : BTreeMap (Bor (List ℕ)) Object) (d : Declaration) (x : meaning.Object) (q : Name) → other_at os d.name.now ≡ Some x
+    → both_at hs os q ≡ after (both_at hs os q) d q
+stays_other hs os d x q e =
+    let s = some_behind (hashed_at hs d.name.now) x in
+    stays hs os d s.0 q (ap (first_of (hashed_at hs d.name.now)) e ∙ s.1)
+
+-- ---- the table by hashes
 
 mapped_cond : (b : Bool) (x : Object) (o : Option Object) → option_map object_of (cond b (Some x) o) ≡ cond b (Some (object_of x)) (option_map object_of o)
 mapped_cond true x o = refl
 mapped_cond false x o = refl
 
--- A new name is put.
-pub stands : (old new : BTreeMap (Bor (List ℕ)) Object) (d : Declaration) → object_at old d.name.now ≡ None
-    → tree.Updates (λ a b. slice_cmp nat_cmp a.now b.now) old new d.name (Some d.object) → (q : Name) → object_at new q ≡ after (object_at old q) d q
-stands old new d e u q =
-    ap (option_map object_of) (btree_map_updates_str d.name.now old new (Some d.object) u q)
-    ∙ (mapped_cond (same_name d.name.now q) d.object (get_by (λ k. slice_cmp nat_cmp q k.now) old)
-    ∙ (elim (same_name d.name.now q) as (λ b. same_name d.name.now q ≡ b
-    → cond b (Some (object_of d.object)) (object_at old q) ≡ first_of (object_at old q) (cond b (Some (object_of d.object)) None)) [
-      | true ↦ λ h. absent (ap (object_at old) (sym ((bytes_eq-Decides d.name.now q).0 h)) ∙ e)
-      | false ↦ λ h. no_more (object_at old q)
-    ]) refl)
-  where
-    absent : object_at old q ≡ None → Some (object_of d.object) ≡ first_of (object_at old q) (Some (object_of d.object))
-    absent f = sym (ap (λ o. first_of o (Some (object_of d.object))) f)
+module _ (d : Declaration) (q : Name) where
+  -- the hash is free
+  free_by : (b e : Bool) (o : Option Declaration) (x : Option meaning.Object) → same_name d.name.now q ≡ b → (b ≡ true → e ≡ true) → (e ≡ true → o ≡ None) → (b ≡ true → x ≡ None)
+      → first_of (under (cond e (Some d) o) q) x ≡ after (first_of (under o q) x) d q
+  free_by true true o x s g f n = rw (f refl, n refl, s) refl
+  free_by true false o x s g f n = absurd (true≢false (sym (g refl)))
+  free_by false true o x s g f n = rw (f refl, s) (no_more x)
+  free_by false false o x s g f n = rw s (no_more (first_of (under o q) x))
 
-    no_more : (o : Option meaning.Object) → o ≡ first_of o None
-    no_more None = refl
-    no_more (Some y) = refl
+  pub put_first : (hs ks : BTreeMap ℕ Declaration) (os : BTreeMap (Bor (List ℕ)) Object) (h : ℕ) → h ≡ hash_of d.name.now → other_at os d.name.now ≡ None
+      → None ≡ get nat_cmp hs h → tree.Updates nat_cmp hs ks h (Some d) → both_at ks os q ≡ after (both_at hs os q) d q
+  put_first hs ks os h is apart free u =
+      ap (λ o. first_of (under o q) (other_at os q)) (at_hash hs ks h (Some d) u (hash_of q))
+      ∙ free_by (same_name d.name.now q) (nat_eq h (hash_of q)) (get nat_cmp hs (hash_of q)) (other_at os q) refl
+      (λ t. eq-eqb h (hash_of q) (is ∙ ap hash_of (named t))) (λ t. sym (free ∙ ap (get nat_cmp hs) (are_same h (hash_of q) t))) (λ t. sym (ap (other_at os) (named t)) ∙ apart)
+    where
+      named : same_name d.name.now q ≡ true → d.name.now ≡ q
+      named t = (bytes_eq-Decides d.name.now q).0 t
+
+  module _ (hs ks ls : BTreeMap ℕ Declaration) (h : ℕ) (first : Declaration) (is : h ≡ hash_of d.name.now) (u : tree.Updates nat_cmp hs ks h (Some d))
+      (was : Some first ≡ get nat_cmp hs h) (v : tree.Updates nat_cmp ks ls h (Some first)) where
+    same_hashed : hashed_at ls q ≡ hashed_at hs q
+    same_hashed = ap (λ o. under o q) (taken_back hs ks ls h d first u was v (hash_of q))
+
+    first_there : get nat_cmp hs (hash_of d.name.now) ≡ Some first
+    first_there = sym (was ∙ ap (get nat_cmp hs) is)
+
+    -- the declaration of that hash has the same name
+    pub stays_hashed : (os : BTreeMap (Bor (List ℕ)) Object) → same_name first.name.now d.name.now ≡ true → both_at ls os q ≡ after (both_at hs os q) d q
+    stays_hashed os s =
+        ap (λ o. first_of o (other_at os q)) same_hashed
+        ∙ stays hs os d (object_of first.object) q
+        (ap (λ o. first_of (under o d.name.now) (other_at os d.name.now)) first_there ∙ ap (λ b. first_of (cond b (Some (object_of first.object)) None) (other_at os d.name.now)) s)
+
+    -- it has another one
+    pub put_other : (os ps : BTreeMap (Bor (List ℕ)) Object) → other_at os d.name.now ≡ None → same_name first.name.now d.name.now ≡ false
+        → tree.Updates (λ a b. slice_cmp nat_cmp a.now b.now) os ps d.name (Some d.object) → both_at ls ps q ≡ after (both_at hs os q) d q
+    put_other os ps apart s w =
+        ap (λ o. first_of o (other_at ps q)) same_hashed
+        ∙ (ap (λ o. first_of (hashed_at hs q) o) (ap (option_map object_of) (btree_map_updates_str d.name.now os ps (Some d.object) w q) ∙ mapped_cond (same_name d.name.now q) d.object (get_by (λ k. slice_cmp nat_cmp q k.now) os))
+        ∙ by (same_name d.name.now q) refl)
+      where
+        by : (b : Bool) → same_name d.name.now q ≡ b
+            → first_of (hashed_at hs q) (cond b (Some (object_of d.object)) (other_at os q)) ≡ first_of (both_at hs os q) (cond b (Some (object_of d.object)) None)
+        by false t = no_more (both_at hs os q)
+        by true t =
+            let same : d.name.now ≡ q = (bytes_eq-Decides d.name.now q).0 t in
+            let none : hashed_at hs q ≡ None = sym (ap (hashed_at hs) same) ∙ (ap (λ o. under o d.name.now) first_there ∙ ap (λ b. cond b (Some (object_of first.object)) None) s) in
+            let absent : other_at os q ≡ None = sym (ap (other_at os) same) ∙ apart in
+            rw (none, absent) refl
 
 -- ---- declaration after declaration
 

@@ -1,4 +1,6 @@
 pub mod Objects
+pub mod Hash
+pub mod Tables
 pub mod Scope
 pub mod Links
 pub mod Operators

@@ -3,7 +3,7 @@ use Rattle.std.specs.Prelude.{List, [], ◌∷◌}
 use Rattle.wb_values.specs.Value.{Name, number, words, Valuation, Entries, valuation_of}
 use Rattle.wb_values.specs.Value as pure
 use Rattle.verilog_meaning.specs.Expression as meaning
-pub use Rattle.v_value.specs.Objects.{object_of, objects_of, object_at}
+pub use Rattle.v_value.specs.Objects.{object_of, objects_of}
 use Rattle.v_value.specs.declared.scope.Scope.{Scope}
 use Rattle.v_value.specs.declared.scope.Value.{Value}
 use Rattle.v_value.specs.declared.scope.Value.TheVariants.{Number, Words}

@@ -3,10 +3,12 @@
 
 mod arithmetic;
 pub mod expression;
+pub mod hash;
 mod lookup;
 pub mod scope;
 pub mod select;
 pub mod sign;
+mod table;
 pub mod taken;
 pub mod value;
 pub mod width;

@@ -1,39 +1,19 @@
 //! Look-ups of names: of objects in a sorted table, and of values one after the other.
-ghost use Rattle.std.specs.Prelude.{◌≡◌, ◌++◌, ◌∷◌, ℕ, List, [], cond, Some, None, slice_index, IfOk, OnOk};
-ghost use Rattle.wb_values.specs.Value.{same_name, entry_of, as_number, as_words};
-ghost use Rattle.wb_values.specs.Choice.{first_of};
-ghost use Rattle.v_value.specs.Objects.{object_of, objects_of, object_at};
+ghost use Rattle.std.specs.Prelude.{◌≡◌, ◌++◌, ◌∷◌, ℕ, List, [], slice_index, IfOk};
+ghost use Rattle.wb_values.specs.Value.{entry_of, as_number, as_words};
+ghost use Rattle.v_value.specs.Objects.{object_of, objects_of};
+ghost use Rattle.v_value.specs.Tables.{object_at};
 ghost use Rattle.v_value.specs.Scope.{scope_at, valuation_at};
 
 use crate::scope::{Declaration, Entry, Object, Scope, Value};
+use crate::table::{Table, declare, find, no_names};
 use std::alloc::{AllocError, Global};
-use std::collections::BTreeMap;
-
-/// Puts a declaration into the table, if it is the first of its name.
-fn declare<'s>(
-    table: &mut BTreeMap<&'s str, Object>,
-    declaration: Declaration<'s>,
-) -> Result<(), AllocError>
-    ensures { OnOk result ((q : List ℕ) → object_at table.new q
-        ≡ first_of (object_at table.old q) (cond (same_name declaration.entry.name.now q) (Some (object_of declaration.entry.object)) None)) }
-{
-    match table.get(declaration.name) {
-        Some(_) => Ok(()),
-        None => {
-            table.insert(declaration.name, declaration.object)?;
-            Ok(())
-        }
-    }
-}
 
 /// The table of declarations by their names.
-fn table_of<'s>(
-    alloc: Global,
-    declarations: &[Declaration<'s>],
-) -> Result<BTreeMap<&'s str, Object>, AllocError>
+fn table_of<'s>(alloc: Global, declarations: &[Declaration<'s>]) -> Result<Table<'s>, AllocError>
     ensures { IfOk result (λ t. (q : List ℕ) → object_at t q ≡ entry_of (objects_of declarations.now) q) }
 {
-    let mut table = BTreeMap::new(alloc);
+    let mut table = no_names(alloc);
     for each in declarations {
         declare(&mut table, *each)?;
     }
@@ -47,7 +27,7 @@ impl<'s> Scope<'s> {
     {
         Scope {
             declarations: Vec::new(alloc),
-            table: BTreeMap::new(alloc),
+            table: no_names(alloc),
         }
     }
 
@@ -87,8 +67,8 @@ impl<'s> Scope<'s> {
     pub fn object(&self, name: &str) -> Object
         ensures { object_of result ≡ scope_at self.now name.now }
     {
-        match self.table.get(name) {
-            Some(object) => *object,
+        match find(&self.table, name) {
+            Some(object) => object,
             None => Object {
                 is_declared: false,
                 signed: false,

@@ -1,9 +1,10 @@
 //! What names stand for: objects by name, and values by name.
 ghost use Rattle.std.specs.Prelude.{◌≡◌, ℕ, List};
 ghost use Rattle.wb_values.specs.Value.{entry_of};
-ghost use Rattle.v_value.specs.Objects.{objects_of, object_at};
+ghost use Rattle.v_value.specs.Objects.{objects_of};
+ghost use Rattle.v_value.specs.Tables.{object_at};
 
-use std::collections::BTreeMap;
+use crate::table::Table;
 
 /// What a name of a module stands for: whether it is declared, its sign, whether it has a range, its bits `[left:right]`, for a memory
 /// its addresses `[first:last]`, and for a parameter its number. A parameter always has a range, perhaps that of its value.
@@ -30,7 +31,7 @@ pub struct Declaration<'s> {
 #[derive(Drop)]
 pub struct Scope<'s> {
     pub(crate) declarations: Vec<Declaration<'s>>,
-    pub(crate) table: BTreeMap<&'s str, Object>,
+    pub(crate) table: Table<'s>,
     pub(crate) ghost holds: { (q : List ℕ) → object_at table q ≡ entry_of (objects_of declarations.items) q },
 }
 

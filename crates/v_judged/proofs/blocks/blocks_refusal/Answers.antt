@@ -9,12 +9,12 @@ use Rattle.v_judged.proofs.blocks.blocks_refusal.Goals as goal
 
 pub items_refusal-requires-clause-as_many : goal.items_refusal-requires-clause-as_many
 items_refusal-requires-clause-as_many c =
-    let h = c.requires.1 in
-    let own = c.in_ok-nets.ensures c.requires.0 (known_places _ _ _ h c.sound_modules_are_known.ensures) h.named.interfaces c.requires.2 in
+    let h = c.requires.sound.1 in
+    let own = c.in_ok-nets.ensures c.requires.sound.0 (known_places _ _ _ h c.sound_modules_are_known.ensures) h.named.interfaces c.requires.sound.2 in
     ap length c.deref-2.ensures.value ∙ as_many has_name spot_of c.in_ok-nets.nets.items c.args.places.now own.as_many
 
 pub items_refusal-requires-clause-ready : goal.items_refusal-requires-clause-ready
-items_refusal-requires-clause-ready c = c.block_kinds_are_at_places.ensures.ready c.requires.0 (spots_of c.args.places.now) (sound_places _ _ _ c.requires.1)
+items_refusal-requires-clause-ready c = c.block_kinds_are_at_places.ensures.ready c.requires.sound.0 (spots_of c.args.places.now) (sound_places _ _ _ c.requires.sound.1)
 
 pub returns-then-data : goal.returns-then-data
 returns-then-data c = λ d h k.

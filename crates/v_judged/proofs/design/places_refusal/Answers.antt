@@ -1,45 +1,13 @@
-use Rattle.std.proofs.Common.{◌∙◌, sym, subst, ◌++◌}
+use Rattle.std.proofs.Common.{sym, subst}
 use Rattle.v_places.specs.Views.{spots_of}
-use Rattle.v_judged.specs.First.{IsFirst, rule_kinds, block_kinds, driver_kinds}
-use Rattle.v_judged.specs.Standing.{IsSoundDesign}
-use Rattle.v_judged.proofs.First.{joined, kept, none_is}
+use Rattle.v_judged.specs.Sharing.{IsSame, IsSharing}
+use Rattle.v_judged.specs.Spots.{spots_in}
+use Rattle.v_judged.proofs.Sharing.{same_modules}
 use Rattle.v_judged.proofs.design.places_refusal.Goals as goal
 
-pub blocks_refusal-requires : goal.blocks_refusal-requires
-blocks_refusal-requires c =
-    let d = c.requires.0 in
-    let h = c.requires.1 in
-    let none = subst (IsFirst d rule_kinds) (none_is c.in_ok-rules.rules (sym c.is_some.ensures ∙ c.if-is_some.false))
-    (c.in_ok-rules.ensures d h) in
-    (d, record { named = h; rules = none }, c.requires.2)
-
-pub drivers_refusal-requires : goal.drivers_refusal-requires
-drivers_refusal-requires c =
-    let d = c.requires.0 in
-    let h = c.requires.1 in
-    let none = subst (IsFirst d rule_kinds) (none_is c.in_ok-rules.rules (sym c.is_some.ensures ∙ c.if-is_some.false))
-    (c.in_ok-rules.ensures d h) in
-    (d, record { named = h; rules = none })
-
-pub returns-then-is_some : goal.returns-then-is_some
-returns-then-is_some c = λ d h k.
-    kept d rule_kinds (block_kinds ++ driver_kinds) c.in_ok-rules.rules (sym c.is_some.ensures ∙ c.if-is_some.true)
-    (c.in_ok-rules.ensures d h)
-
-pub returns-then-is_some-2 : goal.returns-then-is_some-2
-returns-then-is_some-2 c = λ d h k.
-    let none = subst (IsFirst d rule_kinds) (none_is c.in_ok-rules.rules (sym c.is_some.ensures ∙ c.if-is_some.false))
-    (c.in_ok-rules.ensures d h) in
-    let sound : IsSoundDesign c.args.interfaces.now (spots_of c.args.places.now) d = record { named = h; rules = none } in
-    joined d rule_kinds (block_kinds ++ driver_kinds) c.in_ok-blocks.blocks none
-    (kept d block_kinds driver_kinds c.in_ok-blocks.blocks (sym c.is_some-2.ensures ∙ c.if-is_some-2.true)
-    (c.in_ok-blocks.ensures d sound k))
-
-pub returns : goal.returns
-returns c = λ d h k.
-    let none = subst (IsFirst d rule_kinds) (none_is c.in_ok-rules.rules (sym c.is_some.ensures ∙ c.if-is_some.false))
-    (c.in_ok-rules.ensures d h) in
-    let sound : IsSoundDesign c.args.interfaces.now (spots_of c.args.places.now) d = record { named = h; rules = none } in
-    let clear = subst (IsFirst d block_kinds) (none_is c.in_ok-blocks.blocks (sym c.is_some-2.ensures ∙ c.if-is_some-2.false))
-    (c.in_ok-blocks.ensures d sound k) in
-    joined d rule_kinds (block_kinds ++ driver_kinds) c.in_ok-drivers.drivers none (joined d block_kinds driver_kinds c.in_ok-drivers.drivers clear (c.in_ok-drivers.ensures d sound k))
+pub scopes_refusal-requires-clause-shared : goal.scopes_refusal-requires-clause-shared
+scopes_refusal-requires-clause-shared c =
+    let spots = spots_of c.args.places.now in
+    subst (λ xs. IsSharing IsSame (spots_in xs) c.deref-2.result.now spots) (sym c.deref.ensures.value)
+    (subst (λ ns. IsSharing IsSame (spots_in c.in_ok-shared.shared.scopes.items) ns spots) (sym c.deref-2.ensures.value)
+    (same_modules c.requires.0 spots c.requires.1.places (spots_in c.in_ok-shared.shared.scopes.items) c.in_ok-shared.shared.numbers.items c.in_ok-shared.ensures))

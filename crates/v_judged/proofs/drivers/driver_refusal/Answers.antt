@@ -9,8 +9,8 @@ use Rattle.v_judged.proofs.drivers.driver_refusal.Goals as goal
 
 pub any_bad_driver-requires-clause-as_many : goal.any_bad_driver-requires-clause-as_many
 any_bad_driver-requires-clause-as_many c =
-    let d = c.requires.0 in
-    let h = c.requires.1 in
+    let d = c.requires.sound.0 in
+    let h = c.requires.sound.1 in
     let spots = spots_of c.args.places.now in
     let placed = placing _ spots d h c.places_are_placed.ensures.placing in
     let made = c.in_ok-lists.ensures d h.named.interfaces placed in
@@ -19,8 +19,8 @@ any_bad_driver-requires-clause-as_many c =
 
 pub any_bad_driver-requires-clause-ready : goal.any_bad_driver-requires-clause-ready
 any_bad_driver-requires-clause-ready c =
-    let d = c.requires.0 in
-    let h = c.requires.1 in
+    let d = c.requires.sound.0 in
+    let h = c.requires.sound.1 in
     let spots = spots_of c.args.places.now in
     let placed = placing _ spots d h c.places_are_placed.ensures.placing in
     let made = c.in_ok-lists.ensures d h.named.interfaces placed in

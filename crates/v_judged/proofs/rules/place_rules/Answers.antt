@@ -1,7 +1,7 @@
 use Rattle.std.proofs.Common.{[], refl}
-use Rattle.v_places.specs.Views.{spot_of}
 use Rattle.v_places.specs.Places.{placed_by}
+use Rattle.v_judged.specs.Spots.{spot_in}
 use Rattle.v_judged.proofs.rules.place_rules.Goals as goal
 
 pub returns : goal.returns
-returns c = λ source i. c.in_ok-broken.ensures source (placed_by [] (spot_of c.args.place.now)) i refl refl
+returns c = λ source i. c.in_ok-broken.ensures source (placed_by [] (spot_in c.args.one.now)) i refl refl

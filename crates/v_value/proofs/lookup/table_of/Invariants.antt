@@ -1,7 +1,8 @@
 use Rattle.std.proofs.Common.{◌≡◌, ℕ, List, drop}
 use Rattle.wb_values.specs.Value.{entry_of}
 use Rattle.wb_values.specs.Choice.{first_of}
-use Rattle.v_value.specs.Scope.{objects_of, object_at}
+use Rattle.v_value.specs.Objects.{objects_of}
+use Rattle.v_value.specs.Tables.{object_at}
 use Rattle.v_value.proofs.lookup.table_of.Given as goal
 
 abbrev pub invariant-loop-each : goal.invariant-loop-each
