@@ -3,6 +3,7 @@
 ghost use Rattle.std.specs.Prelude.{IfOk, map};
 ghost use Rattle.wb_top.specs.Cases.{IsCase};
 
+use crate::places::note_of_case;
 use crate::stop::NoMemory;
 use crate::texts::{
     refusal_by, refusal_of_design, refusal_of_map, refusal_of_text, refusal_of_tree,
@@ -50,7 +51,8 @@ pub(crate) fn case_of(
             Ok(Case::Refused(text))
         }
         FilesCase::Design(kind) => {
-            let text = refusal_of_design(alloc, kind)?;
+            let note = note_of_case(alloc, map_file, designs, kind)?;
+            let text = refusal_of_design(alloc, names, kind, &note)?;
             Ok(Case::Refused(text))
         }
     }

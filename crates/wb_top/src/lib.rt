@@ -7,6 +7,7 @@ mod cases;
 pub mod laws;
 mod length;
 mod outcome;
+mod places;
 mod replaying;
 mod rtl;
 mod simulation;

@@ -12,6 +12,7 @@ ghost use Rattle.wb_top.specs.Showing.{told_of};
 ghost use Rattle.wb_top.specs.SimulatedRtl.{IsSimulatedDesign, IsRtlSimulated};
 
 use crate::answer::Outcome;
+use crate::places::note_of_design;
 use crate::status::Status;
 use crate::stop::NoMemory;
 use crate::texts::{refusal_of_design, refusal_of_script, refusal_of_text, refusal_of_tree};
@@ -20,7 +21,7 @@ use designs_of_texts::laws::trees_are_of_texts;
 use rtl_simulation::RtlSimulation;
 use std::alloc::{AllocError, Global};
 use v_judged::DesignKind;
-use v_lex::{LexStop, note_behind, tokens};
+use v_lex::{LexStop, Note, note_behind, tokens};
 use v_parse::{ParseStop, parse};
 use v_syntax::module::Tree;
 use v_token::token::Token;
@@ -60,7 +61,7 @@ fn of_tokens(
     ensures nothing { IfOk result (λ o. (told_of o).spent ≡ []) }
 {
     match parse(alloc, tokens) {
-        Ok(tree) => of_tree(&tree, alloc, design, script, designs),
+        Ok(tree) => of_tree(&tree, tokens, alloc, names, design, script, designs),
         Err(ParseStop::Refused(left)) => {
             let count = tokens.len().saturating_sub(left);
             match note_behind(alloc, designs, tokens, count) {
@@ -75,10 +76,12 @@ fn of_tokens(
     }
 }
 
-/// The answer to a simulation of the design that is a module of the tree of some Verilog files.
-fn of_tree(
-    tree: &Tree<'_>,
+/// The answer to a simulation of the design that is a module of the tree of some Verilog files, made of these tokens.
+fn of_tree<'s>(
+    tree: &Tree<'s>,
+    tokens: &[Token<'s>],
     alloc: Global,
+    names: &[String],
     design: &Top,
     script: &[u8],
     designs: &[Vec<u8>],
@@ -90,7 +93,18 @@ fn of_tree(
     trees_are_of_texts();
     match rtl_simulation::simulated_rtl(tree, &design.top, &design.clock, script, alloc)? {
         RtlSimulation::Text(text) => Ok(Outcome::plain(Status::Done, text)),
-        RtlSimulation::Design(kind) => refused_design(alloc, kind),
+        RtlSimulation::Design(kind) => {
+            let note = note_of_design(
+                tree,
+                tokens,
+                alloc,
+                &design.top,
+                &design.clock,
+                designs,
+                kind,
+            )?;
+            refused_design(alloc, names, kind, &note)
+        }
         RtlSimulation::Script(refusal) => {
             let text = refusal_of_script(alloc, &refusal)?;
             Ok(Outcome::plain(Status::Refused, text))
@@ -98,12 +112,17 @@ fn of_tree(
     }
 }
 
-/// The answer where a design is refused by a kind.
-fn refused_design(alloc: Global, kind: DesignKind) -> Result<Outcome, NoMemory>
+/// The answer where a design is refused by a kind, with the note on its place, where there is one.
+fn refused_design(
+    alloc: Global,
+    names: &[String],
+    kind: DesignKind,
+    note: &Option<Note>,
+) -> Result<Outcome, NoMemory>
     ensures status { IfOk result (λ o. o.status ≡ Status.Refused) }
     ensures text { IfOk result (λ o. IsRefusalBy (kind_name (kind_of kind)) o.text.items) }
     ensures nothing { IfOk result (λ o. (told_of o).spent ≡ []) }
 {
-    let text = refusal_of_design(alloc, kind)?;
+    let text = refusal_of_design(alloc, names, kind, note)?;
     Ok(Outcome::plain(Status::Refused, text))
 }

@@ -136,8 +136,36 @@ fn text_kind(kind: LexKind) -> &'static str
     }
 }
 
-/// The text for a design that breaks a rule.
-pub(crate) fn refusal_of_design(alloc: Global, kind: DesignKind) -> Result<Vec<u8>, NoMemory>
+/// The text for a design that breaks a rule, with the note on its place, or else on the rule.
+pub(crate) fn refusal_of_design(
+    alloc: Global,
+    names: &[String],
+    kind: DesignKind,
+    place: &Option<Note>,
+) -> Result<Vec<u8>, NoMemory>
+    ensures { IfOk result (λ text. IsRefusalBy (kind_name (kind_of kind)) text.items) }
+{
+    match place {
+        Some(note) => refusal_there(alloc, names, kind, note),
+        None => refusal_by_rule(alloc, kind),
+    }
+}
+
+/// The text for a design that breaks a rule, with a note on the place.
+fn refusal_there(
+    alloc: Global,
+    names: &[String],
+    kind: DesignKind,
+    note: &Note,
+) -> Result<Vec<u8>, NoMemory>
+    ensures { IfOk result (λ text. IsRefusalBy (kind_name (kind_of kind)) text.items) }
+{
+    let note = with_name(alloc, names, note)?;
+    refusal_text_by(alloc, design_kind(kind).as_bytes(), note.as_bytes())
+}
+
+/// The text for a design that breaks a rule, with a note on the rule.
+fn refusal_by_rule(alloc: Global, kind: DesignKind) -> Result<Vec<u8>, NoMemory>
     ensures { IfOk result (λ text. IsRefusalBy (kind_name (kind_of kind)) text.items) }
 {
     refusal_text_by(
@@ -173,7 +201,7 @@ fn design_kind(kind: DesignKind) -> &'static str
     }
 }
 
-/// The rule of a kind in a line. Where in the text it is broken is not told yet.
+/// The rule of a kind in a line, where there is no place to lead to.
 fn design_note(kind: DesignKind) -> &'static str
     ensures { IsTrue (fits_note result.now) }
 {

@@ -1,6 +1,6 @@
 use Rattle.std.proofs.Common.{◌∙◌}
 use Rattle.wb_top.proofs.Lines.{noted, refused}
-use Rattle.wb_top.proofs.texts.refusal_of_design.Goals as goal
+use Rattle.wb_top.proofs.texts.refusal_by_rule.Goals as goal
 
 pub returns : goal.returns
 returns c =

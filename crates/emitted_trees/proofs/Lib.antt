@@ -1,0 +1,10 @@
+pub mod Turns
+pub mod Rows
+pub mod Numbering
+pub mod Leaves
+pub mod Bounds
+pub mod Listing
+pub mod Decodes
+pub mod Marking
+pub mod Written
+pub mod Whole
