@@ -11,7 +11,7 @@ const FAR: u128 = 1 << 40;
 
 /// The number of a constant, or 0 where it has none.
 pub(crate) fn number_of(expression: &Expression<'_>, names: Names<'_, '_>) -> i64 {
-    let Some(number) = constant_in(names, expression).number else {
+    let Some(number) = constant_in(expression, names).number else {
         return 0;
     };
     let magnitude = number.magnitude.min(FAR) as i64;
@@ -88,7 +88,7 @@ pub(crate) fn reach(selects: &Selects<'_>, names: Names<'_, '_>, object: Object)
     if object.addresses.is_some() {
         return (1, false);
     }
-    let fixed = are_constant_selects(names.scope, selects);
+    let fixed = are_constant_selects(selects, names.scope);
     match selects {
         Selects::One(select) | Selects::Two(select, _) if fixed => {
             let (one, other) = ends_of(select, names);

@@ -108,7 +108,7 @@ fn lay_out<'s>(
     nets: bool,
     out: &mut Layout<'s>,
 ) -> Result<(), AllocError> {
-    let declared = declared_scope(alloc, constants, within)?;
+    let declared = declared_scope(alloc, within, constants)?;
     let scope = scope_of(alloc, &declared, constants.scope, nets)?;
     if are_objects_narrow(&scope) {
         let names = Names { scope: &scope };
@@ -184,8 +184,8 @@ fn first_by_names<'s>(
 const MOST_PIECES: usize = 1 << 22;
 
 /// Lays out the modules at these places, where these are the clock nets of each. Says whether there was room for all.
-fn lay_out_places<'s>(
-    list: &[Place<'_, 's>],
+fn lay_out_places<'t, 's>(
+    list: &'t [Place<'t, 's>],
     alloc: Global,
     modules: &BTreeMap<&'s str, usize>,
     interfaces: &Interfaces<'s>,
@@ -251,8 +251,8 @@ fn first_in_pieces(
 }
 
 /// The first place at which a design that stands at these places breaks the rule of a kind, if it can be told.
-fn first_at_places<'s>(
-    list: &[Place<'_, 's>],
+fn first_at_places<'t, 's>(
+    list: &'t [Place<'t, 's>],
     alloc: Global,
     modules: &BTreeMap<&'s str, usize>,
     interfaces: &Interfaces<'s>,
@@ -283,10 +283,7 @@ fn first_below<'t, 's>(
 ) -> Result<Option<Found>, AllocError> {
     let found = places(alloc, tree, within)?;
     match found {
-        Some(list) => {
-            let mut list = list;
-            first_at_places(list.as_mut_slice(), alloc, modules, interfaces, clock, kind)
-        }
+        Some(list) => first_at_places(&list, alloc, modules, interfaces, clock, kind),
         None => Ok(None),
     }
 }

@@ -180,7 +180,7 @@ pub(crate) fn add_written<'s>(
     } else {
         Position::Anywhere
     };
-    let (broken, width) = place_in(scopes.names, position, object, selects);
+    let (broken, width) = place_in(selects, scopes.names, position, object);
     let token = out.at.token;
     let number = out.number(scopes, name);
     let info = out.known_of(number);
@@ -355,7 +355,7 @@ pub(crate) fn end_assignment<'s>(
     out: &mut Layout<'s>,
 ) {
     let is_copy = out.kind == RuleKind::CombLoop && add_copy(value, scopes, out);
-    let bits = if sign_of(scopes.names.scope, value) {
+    let bits = if sign_of(value, scopes.names.scope) {
         1
     } else {
         0

@@ -7,7 +7,7 @@ use v_syntax::tree::{CaseItem, CaseKind, Expression};
 
 /// The width of an expression, if it has at most 128 bits, or else 129.
 fn width_of(expression: &Expression<'_>, names: Names<'_, '_>) -> u32 {
-    judged_in(names, Position::Anywhere, expression)
+    judged_in(expression, names, Position::Anywhere)
         .1
         .unwrap_or(129)
 }
@@ -48,7 +48,7 @@ struct Values {
 /// The same with the value of a label, where it is constant.
 fn with_label(label: &Expression<'_>, names: Names<'_, '_>, values: Values) -> Values {
     let mut found = values;
-    if is_constant(names.scope, label) {
+    if is_constant(label, names.scope) {
         let width = width_of(label, names);
         let number = number_of(label, names).cast_unsigned() & low_bits(width);
         if number < 128 {

@@ -60,7 +60,7 @@ fn add_header<'s>(ports: &Ports<'s>, scopes: Scopes<'_, 's>, out: &mut Layout<'s
 fn is_wide(range: &Option<Box<Range<'_>>>, scopes: Scopes<'_, '_>) -> bool {
     let scope = scopes.names.scope;
     let constants = Constants { scope };
-    match bounds_of(constants, range) {
+    match bounds_of(range, constants) {
         Bounds::Known(left, right) => left.max(right) - left.min(right) > 127,
         _ => false,
     }

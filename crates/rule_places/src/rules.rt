@@ -111,7 +111,7 @@ fn constant_breaks(
     kind: RuleKind,
     at: At,
 ) -> bool {
-    let constant = constant_in(names, expression);
+    let constant = constant_in(expression, names);
     if at.stance == Stance::Bound && kind == RuleKind::BadConstant {
         if let Some(number) = constant.number {
             return number.negative || number.magnitude > 65_535;
@@ -133,5 +133,5 @@ pub(crate) fn value_breaks(
     if at.is_constant {
         return constant_breaks(expression, names, kind, at);
     }
-    has_rule(kind, broken_in(names, expression))
+    has_rule(kind, broken_in(expression, names))
 }
