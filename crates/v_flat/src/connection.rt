@@ -94,11 +94,11 @@ fn direction_under(interface: &Interface<'_>, port: &str) -> Option<Direction>
 }
 
 /// Adds what is connected to the port of this name, if it has the direction that is asked for.
-fn add_port<'a>(
+fn add_port<'a, 's: 'a>(
     expression: &Expression<'a>,
     port: &'a str,
     way: Direction,
-    interface: &Interface<'a>,
+    interface: &Interface<'s>,
     names: &Names<'a>,
     below: &Names<'a>,
     list: &mut Vec<Assignment<'a>>,
@@ -117,10 +117,10 @@ fn add_port<'a>(
 }
 
 /// Adds what is connected by name, if anything is.
-fn add_named<'a>(
+fn add_named<'a, 's: 'a>(
     connection: &NamedConnection<'a>,
     way: Direction,
-    interface: &Interface<'a>,
+    interface: &Interface<'s>,
     names: &Names<'a>,
     below: &Names<'a>,
     list: &mut Vec<Assignment<'a>>,
@@ -148,10 +148,10 @@ fn add_named<'a>(
 }
 
 /// Adds connections by name.
-fn add_all_named<'a>(
+fn add_all_named<'a, 's: 'a>(
     connections: &[NamedConnection<'a>],
     way: Direction,
-    interface: &Interface<'a>,
+    interface: &Interface<'s>,
     names: &Names<'a>,
     below: &Names<'a>,
     list: &mut Vec<Assignment<'a>>,
@@ -167,11 +167,11 @@ fn add_all_named<'a>(
 }
 
 /// Adds what is connected to the port at a place of the module's list, if there is one.
-fn add_numbered<'a>(
+fn add_numbered<'a, 's: 'a>(
     expression: &Expression<'a>,
     place: usize,
     way: Direction,
-    interface: &Interface<'a>,
+    interface: &Interface<'s>,
     names: &Names<'a>,
     below: &Names<'a>,
     list: &mut Vec<Assignment<'a>>,
@@ -190,11 +190,11 @@ fn add_numbered<'a>(
 }
 
 /// Adds what is connected by place, if anything is.
-fn add_entry<'a>(
+fn add_entry<'a, 's: 'a>(
     entry: &Option<Expression<'a>>,
     place: usize,
     way: Direction,
-    interface: &Interface<'a>,
+    interface: &Interface<'s>,
     names: &Names<'a>,
     below: &Names<'a>,
     list: &mut Vec<Assignment<'a>>,
@@ -213,10 +213,10 @@ fn add_entry<'a>(
 }
 
 /// Adds connections by place.
-fn add_all_ordered<'a>(
+fn add_all_ordered<'a, 's: 'a>(
     entries: &[Option<Expression<'a>>],
     way: Direction,
-    interface: &Interface<'a>,
+    interface: &Interface<'s>,
     names: &Names<'a>,
     below: &Names<'a>,
     list: &mut Vec<Assignment<'a>>,
@@ -232,10 +232,10 @@ fn add_all_ordered<'a>(
 }
 
 /// Adds the connections of an instance to ports of one direction.
-pub(crate) fn add_connections<'a>(
+pub(crate) fn add_connections<'a, 's: 'a>(
     connections: &Connections<'a>,
     way: Direction,
-    interface: &Interface<'a>,
+    interface: &Interface<'s>,
     names: &Names<'a>,
     below: &Names<'a>,
     list: &mut Vec<Assignment<'a>>,

@@ -20,12 +20,12 @@ use v_syntax::module::{Assignment, Direction, Item};
 
 /// Adds the connections of a place's instance to ports of one direction, with these new names around it and for its own names. The top
 /// has none.
-pub(crate) fn add_between<'t, 'a>(
-    place: &'t Place<'t, 'a>,
+pub(crate) fn add_between<'t, 'a, 's: 'a>(
+    place: &'t Place<'t, 's>,
     way: Direction,
     around: &Names<'a>,
     own: &Names<'a>,
-    interfaces: &Interfaces<'a>,
+    interfaces: &Interfaces<'s>,
     list: &mut Vec<Assignment<'a>>,
     alloc: Global,
 ) -> Result<(), AllocError>
@@ -52,12 +52,12 @@ pub(crate) fn add_between<'t, 'a>(
 }
 
 /// Adds the connections of a place's instance to ports of one direction, where its own names are those of `own`. The top has none.
-fn add_links<'t, 'a>(
-    place: &'t Place<'t, 'a>,
+fn add_links<'t, 'a, 's: 'a>(
+    place: &'t Place<'t, 's>,
     way: Direction,
     own: &Names<'a>,
     tables: &[Names<'a>],
-    interfaces: &Interfaces<'a>,
+    interfaces: &Interfaces<'s>,
     list: &mut Vec<Assignment<'a>>,
     alloc: Global,
 ) -> Result<(), AllocError>
@@ -72,11 +72,11 @@ fn add_links<'t, 'a>(
 }
 
 /// What the outputs of a place's instance drive.
-fn outputs<'t, 'a>(
-    place: &'t Place<'t, 'a>,
+fn outputs<'t, 'a, 's: 'a>(
+    place: &'t Place<'t, 's>,
     own: &Names<'a>,
     tables: &[Names<'a>],
-    interfaces: &Interfaces<'a>,
+    interfaces: &Interfaces<'s>,
     alloc: Global,
 ) -> Result<Vec<Assignment<'a>>, AllocError>
     ensures { IfOk result (λ v. (source : pure.Source) → AreInterfacesOf interfaces.now source → IsRowOf source (length tables.now) (spot_of place.now)
@@ -96,11 +96,11 @@ fn outputs<'t, 'a>(
 }
 
 /// Adds what the module at a place drives, and what its outputs drive around it.
-fn add_place<'t, 'a>(
-    place: &'t Place<'t, 'a>,
+fn add_place<'t, 'a, 's: 'a>(
+    place: &'t Place<'t, 's>,
     own: &Names<'a>,
     tables: &[Names<'a>],
-    interfaces: &Interfaces<'a>,
+    interfaces: &Interfaces<'s>,
     list: &mut Vec<Item<'a>>,
     alloc: Global,
 ) -> Result<(), AllocError>
@@ -114,10 +114,10 @@ fn add_place<'t, 'a>(
 }
 
 /// Adds what the modules of all places drive, and what their outputs drive around them.
-fn add_places<'t, 'a>(
-    places: &'t [Place<'t, 'a>],
+fn add_places<'t, 'a, 's: 'a>(
+    places: &'t [Place<'t, 's>],
     tables: &[Names<'a>],
-    interfaces: &Interfaces<'a>,
+    interfaces: &Interfaces<'s>,
     list: &mut Vec<Item<'a>>,
     alloc: Global,
 ) -> Result<(), AllocError>
@@ -132,10 +132,10 @@ fn add_places<'t, 'a>(
 }
 
 /// What drives the inputs of all places.
-fn inputs<'t, 'a>(
-    places: &'t [Place<'t, 'a>],
+fn inputs<'t, 'a, 's: 'a>(
+    places: &'t [Place<'t, 's>],
     tables: &[Names<'a>],
-    interfaces: &Interfaces<'a>,
+    interfaces: &Interfaces<'s>,
     alloc: Global,
 ) -> Result<Vec<Assignment<'a>>, AllocError>
     requires { length tables.now ≡ length places.now }
@@ -158,10 +158,10 @@ fn inputs<'t, 'a>(
 }
 
 /// What all places drive, and last what drives their inputs.
-pub(crate) fn all_items<'t, 'a>(
-    places: &'t [Place<'t, 'a>],
+pub(crate) fn all_items<'t, 'a, 's: 'a>(
+    places: &'t [Place<'t, 's>],
     tables: &[Names<'a>],
-    interfaces: &Interfaces<'a>,
+    interfaces: &Interfaces<'s>,
     alloc: Global,
 ) -> Result<Vec<Item<'a>>, AllocError>
     requires { length tables.now ≡ length places.now }

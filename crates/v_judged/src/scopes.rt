@@ -40,7 +40,11 @@ fn is_like<'t, 's>(one: &'t PlaceScope<'t, 's>, place: &'t Place<'t, 's>) -> boo
 }
 
 /// The number of a scope, if that is like the place's.
-fn like_at<'t, 's>(scopes: &'t [PlaceScope<'t, 's>], number: usize, place: &'t Place<'t, 's>) -> Option<usize>
+fn like_at<'t, 's>(
+    scopes: &'t [PlaceScope<'t, 's>],
+    number: usize,
+    place: &'t Place<'t, 's>,
+) -> Option<usize>
     ensures { IfSome result (λ w. HasLike (spots_in scopes.now) w (spot_of place.now)) }
 {
     if number < scopes.len() && is_like(&scopes[number], place) {
