@@ -17,9 +17,9 @@ use v_syntax::module::{Assignment, Connections, Direction, NamedConnection};
 use v_syntax::tree::{Expression, Selects, Target};
 
 /// Adds the assignment of an expression to an input.
-fn add_into<'a>(
-    expression: &Expression<'a>,
-    port: &'a str,
+fn add_into<'a, 's: 'a>(
+    expression: &Expression<'s>,
+    port: &'s str,
     names: &Names<'a>,
     below: &Names<'a>,
     list: &mut Vec<Assignment<'a>>,
@@ -34,9 +34,9 @@ fn add_into<'a>(
 }
 
 /// Adds the assignment of an output to what is connected to it, if this is a target.
-fn add_from<'a>(
-    expression: &Expression<'a>,
-    port: &'a str,
+fn add_from<'a, 's: 'a>(
+    expression: &Expression<'s>,
+    port: &'s str,
     names: &Names<'a>,
     below: &Names<'a>,
     list: &mut Vec<Assignment<'a>>,
@@ -56,9 +56,9 @@ fn add_from<'a>(
 }
 
 /// Adds what is connected to a port of this direction, if it is the one that is asked for.
-fn add_way<'a>(
-    expression: &Expression<'a>,
-    port: &'a str,
+fn add_way<'a, 's: 'a>(
+    expression: &Expression<'s>,
+    port: &'s str,
     found: Direction,
     way: Direction,
     names: &Names<'a>,
@@ -95,8 +95,8 @@ fn direction_under(interface: &Interface<'_>, port: &str) -> Option<Direction>
 
 /// Adds what is connected to the port of this name, if it has the direction that is asked for.
 fn add_port<'a, 's: 'a>(
-    expression: &Expression<'a>,
-    port: &'a str,
+    expression: &Expression<'s>,
+    port: &'s str,
     way: Direction,
     interface: &Interface<'s>,
     names: &Names<'a>,
@@ -118,7 +118,7 @@ fn add_port<'a, 's: 'a>(
 
 /// Adds what is connected by name, if anything is.
 fn add_named<'a, 's: 'a>(
-    connection: &NamedConnection<'a>,
+    connection: &NamedConnection<'s>,
     way: Direction,
     interface: &Interface<'s>,
     names: &Names<'a>,
@@ -149,7 +149,7 @@ fn add_named<'a, 's: 'a>(
 
 /// Adds connections by name.
 fn add_all_named<'a, 's: 'a>(
-    connections: &[NamedConnection<'a>],
+    connections: &[NamedConnection<'s>],
     way: Direction,
     interface: &Interface<'s>,
     names: &Names<'a>,
@@ -168,7 +168,7 @@ fn add_all_named<'a, 's: 'a>(
 
 /// Adds what is connected to the port at a place of the module's list, if there is one.
 fn add_numbered<'a, 's: 'a>(
-    expression: &Expression<'a>,
+    expression: &Expression<'s>,
     place: usize,
     way: Direction,
     interface: &Interface<'s>,
@@ -191,7 +191,7 @@ fn add_numbered<'a, 's: 'a>(
 
 /// Adds what is connected by place, if anything is.
 fn add_entry<'a, 's: 'a>(
-    entry: &Option<Expression<'a>>,
+    entry: &Option<Expression<'s>>,
     place: usize,
     way: Direction,
     interface: &Interface<'s>,
@@ -214,7 +214,7 @@ fn add_entry<'a, 's: 'a>(
 
 /// Adds connections by place.
 fn add_all_ordered<'a, 's: 'a>(
-    entries: &[Option<Expression<'a>>],
+    entries: &[Option<Expression<'s>>],
     way: Direction,
     interface: &Interface<'s>,
     names: &Names<'a>,
@@ -233,7 +233,7 @@ fn add_all_ordered<'a, 's: 'a>(
 
 /// Adds the connections of an instance to ports of one direction.
 pub(crate) fn add_connections<'a, 's: 'a>(
-    connections: &Connections<'a>,
+    connections: &Connections<'s>,
     way: Direction,
     interface: &Interface<'s>,
     names: &Names<'a>,

@@ -15,8 +15,8 @@ use v_syntax::module::{Assignment, Event, Events, Item, Wire};
 use v_syntax::tree::{Expression, Selects, Target};
 
 /// Assignments under new names.
-fn assignments<'a>(
-    assigned: &[Assignment<'a>],
+fn assignments<'a, 's: 'a>(
+    assigned: &[Assignment<'s>],
     names: &Names<'a>,
     alloc: Global,
 ) -> Result<Vec<Assignment<'a>>, AllocError>
@@ -31,9 +31,9 @@ fn assignments<'a>(
 }
 
 /// Adds the assignment that a declaration of a net gives it.
-fn add_wire<'a>(
-    value: &Expression<'a>,
-    wire: &'a str,
+fn add_wire<'a, 's: 'a>(
+    value: &Expression<'s>,
+    wire: &'s str,
     names: &Names<'a>,
     list: &mut Vec<Assignment<'a>>,
     alloc: Global,
@@ -47,8 +47,8 @@ fn add_wire<'a>(
 }
 
 /// Adds the assignment that a declaration of a net gives it, if there is one.
-fn add_net<'a>(
-    net: &Wire<'a>,
+fn add_net<'a, 's: 'a>(
+    net: &Wire<'s>,
     names: &Names<'a>,
     list: &mut Vec<Assignment<'a>>,
     alloc: Global,
@@ -65,8 +65,8 @@ fn add_net<'a>(
 }
 
 /// The assignments that declarations of nets give them, under new names.
-fn wires<'a>(
-    nets: &[Wire<'a>],
+fn wires<'a, 's: 'a>(
+    nets: &[Wire<'s>],
     names: &Names<'a>,
     alloc: Global,
 ) -> Result<Vec<Assignment<'a>>, AllocError>
@@ -80,8 +80,8 @@ fn wires<'a>(
 }
 
 /// Events under new names.
-fn on_events<'a>(
-    events: &[Event<'a>],
+fn on_events<'a, 's: 'a>(
+    events: &[Event<'s>],
     names: &Names<'a>,
     alloc: Global,
 ) -> Result<Vec<Event<'a>>, AllocError>
@@ -98,8 +98,8 @@ fn on_events<'a>(
 }
 
 /// What a block waits for, under new names.
-fn events<'a>(
-    waited: &Events<'a>,
+fn events<'a, 's: 'a>(
+    waited: &Events<'s>,
     names: &Names<'a>,
     alloc: Global,
 ) -> Result<Events<'a>, AllocError>
@@ -115,8 +115,8 @@ fn events<'a>(
 }
 
 /// Adds what an item drives, instances aside.
-fn add_item<'a>(
-    item: &Item<'a>,
+fn add_item<'a, 's: 'a>(
+    item: &Item<'s>,
     names: &Names<'a>,
     list: &mut Vec<Item<'a>>,
     alloc: Global,
@@ -148,8 +148,8 @@ fn add_item<'a>(
 }
 
 /// Adds what items drive, instances aside.
-pub(crate) fn add_items<'a>(
-    items: &[Item<'a>],
+pub(crate) fn add_items<'a, 's: 'a>(
+    items: &[Item<'s>],
     names: &Names<'a>,
     list: &mut Vec<Item<'a>>,
     alloc: Global,

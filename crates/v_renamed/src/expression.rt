@@ -21,9 +21,9 @@ fn copy_operators(
 
 /// The expression with its names replaced.
 #[cycle(expression)]
-pub(crate) fn copy<'a>(
+pub(crate) fn copy<'a, 's: 'a>(
     alloc: Global,
-    tree: &Expression<'a>,
+    tree: &Expression<'s>,
     names: &Names<'a>,
 ) -> Result<Expression<'a>, AllocError>
     ensures { IfOk result (λ e. tree_of e ≡ renamed_at (new_name names.now) (tree_of tree.now)) }
@@ -76,9 +76,9 @@ pub(crate) fn copy<'a>(
 
 /// The expression with its names replaced, in a box.
 #[cycle(expression)]
-fn copy_boxed<'a>(
+fn copy_boxed<'a, 's: 'a>(
     alloc: Global,
-    tree: &Expression<'a>,
+    tree: &Expression<'s>,
     names: &Names<'a>,
 ) -> Result<Box<Expression<'a>>, AllocError>
     ensures { IfOk result (λ b. tree_of b.value ≡ renamed_at (new_name names.now) (tree_of tree.now)) }
@@ -89,9 +89,9 @@ fn copy_boxed<'a>(
 
 /// Expressions with their names replaced.
 #[cycle(expression)]
-pub(crate) fn copy_parts<'a>(
+pub(crate) fn copy_parts<'a, 's: 'a>(
     alloc: Global,
-    parts: &[Expression<'a>],
+    parts: &[Expression<'s>],
     names: &Names<'a>,
 ) -> Result<Vec<Expression<'a>>, AllocError>
     ensures { IfOk result (λ v. map tree_of v.items ≡ map (part_under (new_name names.now)) parts.now) }
@@ -106,9 +106,9 @@ pub(crate) fn copy_parts<'a>(
 
 /// Operators with their right operands, whose names are replaced.
 #[cycle(expression)]
-fn copy_links<'a>(
+fn copy_links<'a, 's: 'a>(
     alloc: Global,
-    links: &[BinaryLink<'a>],
+    links: &[BinaryLink<'s>],
     names: &Names<'a>,
 ) -> Result<Vec<BinaryLink<'a>>, AllocError>
     ensures { IfOk result (λ v. map link_of v.items ≡ map (link_under (new_name names.now)) links.now) }
@@ -126,9 +126,9 @@ fn copy_links<'a>(
 
 /// The same of comparisons and logical operators.
 #[cycle(expression)]
-fn copy_tests<'a>(
+fn copy_tests<'a, 's: 'a>(
     alloc: Global,
-    links: &[TestLink<'a>],
+    links: &[TestLink<'s>],
     names: &Names<'a>,
 ) -> Result<Vec<TestLink<'a>>, AllocError>
     ensures { IfOk result (λ v. map test_of v.items ≡ map (test_under (new_name names.now)) links.now) }
@@ -146,9 +146,9 @@ fn copy_tests<'a>(
 
 /// Conditions with values, whose names are replaced.
 #[cycle(expression)]
-fn copy_choices<'a>(
+fn copy_choices<'a, 's: 'a>(
     alloc: Global,
-    choices: &[Choice<'a>],
+    choices: &[Choice<'s>],
     names: &Names<'a>,
 ) -> Result<Vec<Choice<'a>>, AllocError>
     ensures { IfOk result (λ v. map choice_of v.items ≡ map (choice_under (new_name names.now)) choices.now) }
@@ -164,9 +164,9 @@ fn copy_choices<'a>(
 
 /// The select with its names replaced.
 #[cycle(expression)]
-fn copy_select<'a>(
+fn copy_select<'a, 's: 'a>(
     alloc: Global,
-    select: &Select<'a>,
+    select: &Select<'s>,
     names: &Names<'a>,
 ) -> Result<Select<'a>, AllocError>
     ensures { IfOk result (λ x. select_of x ≡ select_at (new_name names.now) (select_of select.now)) }
@@ -196,9 +196,9 @@ fn copy_select<'a>(
 
 /// The selects after a name with their names replaced.
 #[cycle(expression)]
-pub(crate) fn copy_selects<'a>(
+pub(crate) fn copy_selects<'a, 's: 'a>(
     alloc: Global,
-    selects: &Selects<'a>,
+    selects: &Selects<'s>,
     names: &Names<'a>,
 ) -> Result<Selects<'a>, AllocError>
     ensures { IfOk result (λ x. selects_of x ≡ selects_at (new_name names.now) (selects_of selects.now)) }

@@ -15,9 +15,9 @@ use v_syntax::module::Assignment;
 use v_syntax::tree::{Expression, Statement, Target};
 
 /// The expression with its names replaced. The copy lives as long as the new names.
-pub fn renamed_expression<'a>(
+pub fn renamed_expression<'a, 's: 'a>(
     alloc: Global,
-    tree: &Expression<'a>,
+    tree: &Expression<'s>,
     names: &Names<'a>,
 ) -> Result<Expression<'a>, AllocError>
     ensures { IfOk result (λ e. tree_of e ≡ renamed.renamed_expression (new_name names.now) (tree_of tree.now)) }
@@ -26,9 +26,9 @@ pub fn renamed_expression<'a>(
 }
 
 /// The target with its names replaced.
-pub fn renamed_target<'a>(
+pub fn renamed_target<'a, 's: 'a>(
     alloc: Global,
-    tree: &Target<'a>,
+    tree: &Target<'s>,
     names: &Names<'a>,
 ) -> Result<Target<'a>, AllocError>
     ensures { IfOk result (λ t. target_of t ≡ renamed.renamed_target (new_name names.now) (target_of tree.now)) }
@@ -37,9 +37,9 @@ pub fn renamed_target<'a>(
 }
 
 /// The statement with its names replaced. Names of blocks stay as they are.
-pub fn renamed_statement<'a>(
+pub fn renamed_statement<'a, 's: 'a>(
     alloc: Global,
-    tree: &Statement<'a>,
+    tree: &Statement<'s>,
     names: &Names<'a>,
 ) -> Result<Box<Statement<'a>>, AllocError>
     ensures { IfOk result (λ b. statement_of b.value ≡ renamed.renamed_statement (new_name names.now) (statement_of tree.now)) }
@@ -48,9 +48,9 @@ pub fn renamed_statement<'a>(
 }
 
 /// The assignment with the names of both sides replaced.
-pub fn renamed_assignment<'a>(
+pub fn renamed_assignment<'a, 's: 'a>(
     alloc: Global,
-    assignment: &Assignment<'a>,
+    assignment: &Assignment<'s>,
     names: &Names<'a>,
 ) -> Result<Assignment<'a>, AllocError>
     ensures { IfOk result (λ a. (target_of a.target, tree_of a.value) ≡ renamed.renamed_assignment (new_name names.now) (target_of assignment.now.target, tree_of assignment.now.value)) }
@@ -61,9 +61,9 @@ pub fn renamed_assignment<'a>(
 }
 
 /// The expression as a target with its names replaced, where it is one, as what is connected to an output is.
-pub fn renamed_as_target<'a>(
+pub fn renamed_as_target<'a, 's: 'a>(
     alloc: Global,
-    tree: &Expression<'a>,
+    tree: &Expression<'s>,
     names: &Names<'a>,
 ) -> Result<Option<Target<'a>>, AllocError>
     ensures { IfOk result (λ o. option_map target_of o ≡ option_map (renamed.renamed_target (new_name names.now)) (as_target (tree_of tree.now))) }

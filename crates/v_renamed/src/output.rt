@@ -18,10 +18,10 @@ fn are_none<X>(others: &[X]) -> bool
 }
 
 /// The name with its selects as a target, with other names.
-fn copy_place<'a>(
+fn copy_place<'a, 's: 'a>(
     alloc: Global,
-    selects: &Selects<'a>,
-    name: &'a str,
+    selects: &Selects<'s>,
+    name: &'s str,
     names: &Names<'a>,
 ) -> Result<Target<'a>, AllocError>
     ensures { IfOk result (λ t. target_of t ≡ target_at (new_name names.now) (pure.place name.now (selects_of selects.now))) }
@@ -32,9 +32,9 @@ fn copy_place<'a>(
 
 /// The expression as a target with its names replaced, where it is one. A chain without links is what stands in it.
 #[cycle(output)]
-pub(crate) fn copy_as_target<'a>(
+pub(crate) fn copy_as_target<'a, 's: 'a>(
     alloc: Global,
-    tree: &Expression<'a>,
+    tree: &Expression<'s>,
     names: &Names<'a>,
 ) -> Result<Option<Target<'a>>, AllocError>
     ensures { IfOk result (λ o. option_map target_of o ≡ as_renamed (new_name names.now) (tree_of tree.now)) }
@@ -95,9 +95,9 @@ fn joined<'a>(targets: Option<Vec<Target<'a>>>) -> Option<Target<'a>>
 
 /// Expressions as targets with their names replaced, where all are targets.
 #[cycle(output)]
-fn copy_all_as_targets<'a>(
+fn copy_all_as_targets<'a, 's: 'a>(
     alloc: Global,
-    parts: &[Expression<'a>],
+    parts: &[Expression<'s>],
     names: &Names<'a>,
 ) -> Result<Option<Vec<Target<'a>>>, AllocError>
     ensures { IfOk result (λ o. option_map (λ v. map target_of v.items) o ≡ all_renamed (new_name names.now) parts.now) }

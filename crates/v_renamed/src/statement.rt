@@ -12,9 +12,9 @@ use v_syntax::tree::{Arm, CaseItem, Statement};
 
 /// The statement with its names replaced.
 #[cycle(statement)]
-fn copy_statement<'a>(
+fn copy_statement<'a, 's: 'a>(
     alloc: Global,
-    tree: &Statement<'a>,
+    tree: &Statement<'s>,
     names: &Names<'a>,
 ) -> Result<Statement<'a>, AllocError>
     ensures { IfOk result (λ x. statement_of x ≡ statement_at (new_name names.now) (statement_of tree.now)) }
@@ -56,9 +56,9 @@ fn copy_statement<'a>(
 
 /// The statement with its names replaced, in a box.
 #[cycle(statement)]
-pub(crate) fn copy_boxed_statement<'a>(
+pub(crate) fn copy_boxed_statement<'a, 's: 'a>(
     alloc: Global,
-    tree: &Statement<'a>,
+    tree: &Statement<'s>,
     names: &Names<'a>,
 ) -> Result<Box<Statement<'a>>, AllocError>
     ensures { IfOk result (λ b. statement_of b.value ≡ statement_at (new_name names.now) (statement_of tree.now)) }
@@ -69,9 +69,9 @@ pub(crate) fn copy_boxed_statement<'a>(
 
 /// Statements with their names replaced.
 #[cycle(statement)]
-fn copy_statements<'a>(
+fn copy_statements<'a, 's: 'a>(
     alloc: Global,
-    statements: &[Statement<'a>],
+    statements: &[Statement<'s>],
     names: &Names<'a>,
 ) -> Result<Vec<Statement<'a>>, AllocError>
     ensures { IfOk result (λ v. map statement_of v.items ≡ map (statement_under (new_name names.now)) statements.now) }
@@ -86,9 +86,9 @@ fn copy_statements<'a>(
 
 /// The arms of an `if` with their names replaced.
 #[cycle(statement)]
-fn copy_arms<'a>(
+fn copy_arms<'a, 's: 'a>(
     alloc: Global,
-    arms: &[Arm<'a>],
+    arms: &[Arm<'s>],
     names: &Names<'a>,
 ) -> Result<Vec<Arm<'a>>, AllocError>
     ensures { IfOk result (λ v. map arm_of v.items ≡ map (arm_under (new_name names.now)) arms.now) }
@@ -107,9 +107,9 @@ fn copy_arms<'a>(
 
 /// The items of a `case` with their names replaced.
 #[cycle(statement)]
-fn copy_items<'a>(
+fn copy_items<'a, 's: 'a>(
     alloc: Global,
-    items: &[CaseItem<'a>],
+    items: &[CaseItem<'s>],
     names: &Names<'a>,
 ) -> Result<Vec<CaseItem<'a>>, AllocError>
     ensures { IfOk result (λ v. map item_of v.items ≡ map (item_under (new_name names.now)) items.now) }
@@ -124,9 +124,9 @@ fn copy_items<'a>(
 
 /// An item of a `case` with its names replaced.
 #[cycle(statement)]
-fn copy_item<'a>(
+fn copy_item<'a, 's: 'a>(
     alloc: Global,
-    item: &CaseItem<'a>,
+    item: &CaseItem<'s>,
     names: &Names<'a>,
 ) -> Result<CaseItem<'a>, AllocError>
     ensures { IfOk result (λ i. item_of i ≡ item_under (new_name names.now) item.now) }

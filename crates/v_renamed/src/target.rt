@@ -11,9 +11,9 @@ use v_syntax::tree::Target;
 
 /// The target with its names replaced.
 #[cycle(target)]
-pub(crate) fn copy_target<'a>(
+pub(crate) fn copy_target<'a, 's: 'a>(
     alloc: Global,
-    target: &Target<'a>,
+    target: &Target<'s>,
     names: &Names<'a>,
 ) -> Result<Target<'a>, AllocError>
     ensures { IfOk result (λ t. target_of t ≡ target_at (new_name names.now) (target_of target.now)) }
@@ -32,9 +32,9 @@ pub(crate) fn copy_target<'a>(
 
 /// Targets with their names replaced.
 #[cycle(target)]
-fn copy_targets<'a>(
+fn copy_targets<'a, 's: 'a>(
     alloc: Global,
-    targets: &[Target<'a>],
+    targets: &[Target<'s>],
     names: &Names<'a>,
 ) -> Result<Vec<Target<'a>>, AllocError>
     ensures { IfOk result (λ v. map target_of v.items ≡ map (target_under (new_name names.now)) targets.now) }
