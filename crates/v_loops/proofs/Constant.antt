@@ -9,7 +9,7 @@ use Rattle.verilog_trees.specs.Syntax as pure
 use Rattle.verilog_trees.specs.Syntax.{place, joined, blocking}
 use Rattle.verilog_meaning.specs.Expression.{Scope}
 use Rattle.verilog_settled.specs.Locality.{has_constant_selects}
-use Rattle.verilog_designs.specs.Reads.{BitSet, or_in, reads, target_reads}
+use Rattle.verilog_designs.specs.Reads.{BitSet, reads, target_reads}
 use Rattle.verilog_designs.specs.Drivers.{statement_reads}
 use Rattle.verilog_designs.specs.Dependence.{is_in}
 use Rattle.v_syntax.specs.declared.tree.Target.{Target, Place, Joined}

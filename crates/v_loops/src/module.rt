@@ -28,7 +28,14 @@ pub fn has_loop(alloc: Global, items: &[Item<'_>], scope: &Scope<'_>) -> Result<
     let mut driven = Vec::new(alloc);
     let mut unsettled = BTreeMap::new(alloc);
     let mut shared = BTreeMap::new(alloc);
-    add_all(alloc, &drivers, scope, &mut driven, &mut unsettled, &mut shared)?;
+    add_all(
+        alloc,
+        &drivers,
+        scope,
+        &mut driven,
+        &mut unsettled,
+        &mut shared,
+    )?;
     passes(alloc, &drivers, scope, &driven, &shared, &mut unsettled)?;
     let mut left = held_in(alloc, &unsettled, &driven)?;
     if left.is_empty() {
