@@ -28,6 +28,10 @@ append-turn xs i d ys zs t h p g =
     turn t (bits_in ys) (bits_in zs) (bits_of (get_or xs i d)) (bits_in (drop (i + 1) xs)) (g ∙ ap (λ ws. or_in (bits_in ys) (bits_in ws)) (drop_more xs i d h))
     (ap bits_in p ∙ push ys (get_or xs i d))
 
+-- what a driver reads, and what it may assign
+pub both-needed : (a b reads own all : BitSet) → a ≡ reads → b ≡ own → all ≡ or_in a b → all ≡ or_in reads own
+both-needed a b reads own all e f g = g ∙ ap (λ (z : BitSet). or_in z b) e ∙ ap (or_in reads) f
+
 -- ---- one driver
 
 module _ (s : Scope) (x : pure.Statement) (p : BitSet) where

@@ -2,6 +2,8 @@ pub mod Steps
 mod Stages
 mod Covered
 mod Local
+mod Held
+mod Constant
 pub mod Listed
 pub mod Driven
 mod Adding

@@ -1,7 +1,7 @@
 -- What a bit depends on after a statement is the bit itself, or a bit that the statement reads: so a table of these bits alone says as much.
 use Rattle.std.proofs.Common.{◌≡◌, ◌∙◌, ℕ, ◌+◌, ◌-◌, ◌%◌, ◌<◌, ◌≤◌, refl, ap, sym, subst, arith, Bool, true, false, cond, not, inl, inr, Option, Some, None}
 use Rattle.std.specs.Prelude.{IsTrue, ◌↔◌, ◌⊎◌, ◌&&◌, ◌||◌, nat_lt, is_none, option_and_then, ℤ, pos, negsuc, ◌+ℤ◌, int_le, int_lt}
-use Rattle.std.proofs.lemmas.Bool.{false≢true, and_parts, and_from, or_left, or_right}
+use Rattle.std.proofs.lemmas.Bool.{true≢false, false≢true, and_parts, and_from, or_left, or_right}
 use Rattle.std.proofs.lemmas.Bool.Decides.{nat_tests}
 use Rattle.std.proofs.lemmas.Int.{ints}
 use Rattle.wb_values.specs.Value.{Name, same_name}
@@ -10,7 +10,7 @@ use Rattle.verilog_trees.specs.Syntax.{Expression, number, name, concatenation, 
 use Rattle.verilog_meaning.specs.Expression.{Object, Scope, object_width, is_memory, Bits, no_values, word_number, select_index, select_bits, selects_width, sign_of, width_of, widths_of}
 use Rattle.verilog_meaning.specs.Statement.{Place, variable_cell, cell_at, indexed_cell, all_bits, named_place}
 use Rattle.verilog_meaning.specs.Register.{select_is_constant, selects_are_constant, is_within, is_word_number, may_mean_bit, may_mean_word, may_mean, may_reach, may_assign, may_assign_in_case, is_bit_of}
-use Rattle.verilog_designs.specs.Reads.{BitSet, or_in, and_in, name_reads, reads, reads_in_all, selects_read, target_reads, targets_read, items_read, surely_reaches, is_full}
+use Rattle.verilog_designs.specs.Reads.{BitSet, no_bits, or_in, and_in, name_reads, reads, reads_in_all, selects_read, target_reads, targets_read, items_read, surely_reaches, is_full}
 use Rattle.verilog_designs.specs.Drivers.{statement_reads, statements_read, arms_read}
 use Rattle.verilog_designs.specs.Dependence.{Bit, is_in, word_of_cell, natural_in, bit_in, bit_at, widened_bit, copied, copied_in, index_reads, one_index_reads, IsGivenBy, copied_to, computed, Dependences, at_start, ThroughReads, AfterAssignment, kept, given, indexed, AfterChoice, NoArm, After, AfterAll, AfterArms}
 use Rattle.verilog_unique.proofs.Options.{is_same}
@@ -19,7 +19,8 @@ use Rattle.v_flow.specs.Spans.{existing}
 use Rattle.v_flow.specs.Narrow.{IsNarrowFlow, AreNarrowFlows, AreNarrowArms}
 use Rattle.v_masks.specs.Masks.{spread}
 use Rattle.v_paths.specs.Premises.{HasNoMemory}
-use Rattle.v_depend.specs.Resting.{IsThere, RestsAfter}
+use Rattle.v_depend.specs.Resting.{IsThere, OneIsUnsettled, RestsAfter}
+use Rattle.v_loops.specs.Turns.{TellsWhereAssigned}
 use Rattle.v_loops.proofs.Steps.{RestsWhereItDepends, in-first, spread-free, after-there}
 
 -- ---- the bits that a part of a name takes
@@ -149,7 +150,7 @@ mutual
       (by-test (is_in (reads_in_all s (expression e es)) y ≡ true) (nat_lt (j - widths_of s es) (width_of s e)) (copied s e (sign_of s e) (j - widths_of s es)) None y
       (λ t g. or_left (is_in (reads s e) y) (is_in (reads_in_all s es) y) (copied-read s e (sign_of s e) (j - widths_of s es) y n.0 g)) (never y)) h
 
-given-read : (s : Scope) (t : Target) (e : Expression) (u x : Bit) → IsNarrow s e → IsGivenBy s t s e u x → is_in (reads s e) x ≡ true
+pub given-read : (s : Scope) (t : Target) (e : Expression) (u x : Bit) → IsNarrow s e → IsGivenBy s t s e u x → is_in (reads s e) x ≡ true
 given-read s t e u x n (copied_to j p l k c) = copied-read s e (sign_of s e) j x n c
 given-read s t e u x n (computed p r h) = h
 
@@ -272,6 +273,28 @@ depends-read s x u y n h =
 abbrev pub needs : Scope → Statement → BitSet
 needs s x = or_in (statement_reads s x) (existing s (may_assign s x))
 
+needed : (s : Scope) (x : Statement) → IsNarrowFlow s x → (u : Bit) → IsThere s u → IsTrue (may_assign s x u.of_name u.word u.place)
+    → (y : Bit) → After s at_start x u y → is_in (needs s x) y ≡ true
+needed s x narrow u at may y h =
+    elim (depends-read s x u y narrow h) as (λ _. is_in (needs s x) y ≡ true) [
+      | inl e ↦ subst (λ z. is_in (needs s x) z ≡ true) e
+          (or_right (is_in (statement_reads s x) u) (is_in (existing s (may_assign s x)) u)
+          (and_from (is_bit_of (s u.of_name) u.word u.place) (may_assign s x u.of_name u.word u.place) at may))
+      | inr r ↦ or_left (is_in (statement_reads s x) y) (is_in (existing s (may_assign s x)) y) r
+    ]
+
+-- where none of these is unsettled, nothing rests on one
+pub nothing-rests : RestsWhereItDepends → (s : Scope) (x : Statement) (p m spans : BitSet) (some : Bool) → IsNarrowFlow s x → spans ≡ needs s x
+    → IsTrue some ↔ OneIsUnsettled p spans → some ≡ false → m ≡ no_bits → TellsWhereAssigned p s x m
+nothing-rests law s x p m spans some narrow is f e none u at may =
+    ((λ h. absurd (false≢true (subst (λ (q : BitSet). is_in q u ≡ true) none h))), back)
+  where
+    back : RestsAfter p s x u → IsTrue (is_in m u)
+    back r =
+        let y = (law p s x u at).0 r in
+        let n = subst (λ (q : BitSet). is_in q y.0 ≡ true) (sym is) (needed s x narrow u at may y.0 y.2) in
+        absurd (true≢false (sym (f.1 (y.0, n, y.1)) ∙ e))
+
 module _ (s : Scope) (x : Statement) (p own : BitSet) (none : HasNoMemory s p) (is : own ≡ spread (and_in (needs s x) p)) where
   both-free : HasNoMemory s (and_in (needs s x) p)
   both-free n k b m = ap (λ t. needs s x n k b && t) (none n k b m) ∙ and-false (needs s x n k b)
@@ -284,15 +307,6 @@ module _ (s : Scope) (x : Statement) (p own : BitSet) (none : HasNoMemory s p) (
   own-free = subst (λ (q : BitSet). HasNoMemory s (existing s q)) (sym is) (spread-free s (and_in (needs s x) p) both-free)
 
   module _ (law : RestsWhereItDepends) (narrow : IsNarrowFlow s x) (u : Bit) (at : IsThere s u) (may : IsTrue (may_assign s x u.of_name u.word u.place)) where
-    needed : (y : Bit) → After s at_start x u y → is_in (needs s x) y ≡ true
-    needed y h =
-        elim (depends-read s x u y narrow h) as (λ _. is_in (needs s x) y ≡ true) [
-          | inl e ↦ subst (λ z. is_in (needs s x) z ≡ true) e
-              (or_right (is_in (statement_reads s x) u) (is_in (existing s (may_assign s x)) u)
-              (and_from (is_bit_of (s u.of_name) u.word u.place) (may_assign s x u.of_name u.word u.place) at may))
-          | inr r ↦ or_left (is_in (statement_reads s x) y) (is_in (existing s (may_assign s x)) y) r
-        ]
-
     pub same-rests : RestsAfter own s x u ↔ RestsAfter (spread p) s x u
     same-rests = (there, back)
       where
@@ -306,6 +320,6 @@ module _ (s : Scope) (x : Statement) (p own : BitSet) (none : HasNoMemory s p) (
         back h =
             let r = (law (spread p) s x u at).0 h in
             let zero_word = in-first s p r.0 none (after-there s x u r.0 at r.2) 0 r.0.place r.1 in
-            let n = subst (λ k. needs s x r.0.of_name k r.0.place ≡ true) zero_word (needed r.0 r.2) in
+            let n = subst (λ k. needs s x r.0.of_name k r.0.place ≡ true) zero_word (needed s x narrow u at may r.0 r.2) in
             (law own s x u at).1
             (r.0, subst (λ (q : BitSet). is_in q r.0 ≡ true) (sym is) (and_from (needs s x r.0.of_name 0 r.0.place) (p r.0.of_name 0 r.0.place) n r.1), r.2)

@@ -1,6 +1,6 @@
 -- Passes: what a driver settles is no bit of a loop, where it is the bit's one driver.
 use Rattle.std.proofs.Common.{◌≡◌, ◌∙◌, ℕ, refl, ap, sym, subst, Bool, true, false, not, List, ◌⊎◌, inl, inr}
-use Rattle.std.specs.Prelude.{IsTrue, ◌↔◌, ◌&&◌}
+use Rattle.std.specs.Prelude.{IsTrue, ◌&&◌}
 use Rattle.std.proofs.lemmas.Bool.{true≢false, false≢true, false_from_ne_true, and_parts, and_from, cases_Bool}
 use Rattle.verilog_trees.specs.Syntax.{Statement, Item}
 use Rattle.verilog_meaning.specs.Expression.{Scope}
@@ -11,8 +11,8 @@ use Rattle.verilog_designs.specs.Dependence.{Bit, is_in, at_start, After}
 use Rattle.v_flow.specs.Spans.{existing}
 use Rattle.v_masks.specs.Masks.{spread}
 use Rattle.v_paths.specs.Premises.{HasNoMemory}
-use Rattle.v_depend.specs.Resting.{IsThere, OneIsUnsettled, RestsAfter}
-use Rattle.v_loops.specs.Turns.{TellsWhereAssigned, Settles, AreSettled, AreApartBut, IsVisited, IsPassed, AreOf, HasAllLoops}
+use Rattle.v_depend.specs.Resting.{IsThere, RestsAfter}
+use Rattle.v_loops.specs.Turns.{RestsNowhere, TellsWhereAssigned, Settles, AreSettled, AreApartBut, IsVisited, IsPassed, AreOf, HasAllLoops}
 use Rattle.v_loops.proofs.Steps.{RestsWhereItDepends, in-first}
 use Rattle.v_loops.proofs.Stages.{first-step, turned}
 use Rattle.v_loops.proofs.Listed.{by-driver}
@@ -36,13 +36,25 @@ module _ (s : Scope) (x : Statement) (p spans : BitSet) (is_spans : spans ≡ ex
   has-assigned u there m =
       subst (λ (q : BitSet). is_in q u ≡ true) (sym is_spans) (and_from (is_bit_of (s u.of_name) u.word u.place) (may_assign s x u.of_name u.word u.place) there m)
 
-  -- none of its bits is unsettled
-  pub none-settled : (q : BitSet) (some : Bool) → IsTrue some ↔ OneIsUnsettled p spans → some ≡ false → q ≡ no_bits → AreSettled p s x q
-  none-settled q some f e g =
-      record {
-        settled = λ u h. absurd (false≢true (subst (λ (z : BitSet). is_in z u ≡ true) g h));
-        rests = λ u there h m k. absurd (true≢false (sym (f.1 (u, has-assigned u there m, h)) ∙ e));
-      }
+  -- what waits is settled, where nothing that it may assign rests on an unsettled bit
+  module _ (q : BitSet) (waits : q ≡ and_in spans p) where
+    all-wait : (u : Bit) → IsThere s u → IsTrue (is_in p u) → IsTrue (may_assign s x u.of_name u.word u.place) → is_in q u ≡ false → ⊥
+    all-wait u there h m k =
+        true≢false
+        (sym (subst (λ (z : BitSet). is_in z u ≡ true) (sym waits) (and_from (is_in spans u) (is_in p u) (has-assigned u there m) h)) ∙ k)
+
+    pub waiting-settled : RestsNowhere p s x → AreSettled p s x q
+    waiting-settled nowhere = record { settled = now; rests = λ u there h m k. absurd (all-wait u there h m k) }
+      where
+        now : (u : Bit) → IsTrue (is_in q u) → Settles p s x u
+        now u h =
+            let both = and_parts (is_in spans u) (is_in p u) (subst (λ (z : BitSet). is_in z u ≡ true) waits h) in
+            let a = assigned u both.0 in
+            record { there = a.0; was = both.1; assigned = a.1; rests = λ r. nowhere u a.0 a.1 r }
+
+    -- none of its bits is unsettled
+    pub none-settled : ((u : Bit) → IsTrue (is_in q u) → ⊥) → AreSettled p s x q
+    none-settled none = record { settled = λ u h. absurd (none u h); rests = λ u there h m k. absurd (all-wait u there h m k) }
 
   pub are-settled : (m unsettled start q : BitSet) → TellsWhereAssigned p s x m → unsettled ≡ and_in spans p → start ≡ no_bits → q ≡ or_in start (but_not_in unsettled m) → AreSettled p s x q
   are-settled m unsettled start q f is_open none is = record { settled = there; rests = rests }

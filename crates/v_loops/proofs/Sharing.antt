@@ -1,22 +1,25 @@
 -- Bits that more than one driver may assign.
 use Rattle.std.proofs.Common.{◌≡◌, ◌∙◌, ◌+◌, ◌<◌, ◌≤◌, ℕ, zero, suc, arith, refl, ap, sym, subst, Bool, true, false, List, [], ◌∷◌, ◌++◌, ◌⊎◌, inl, inr, drop, append-nil, length, get_or, Option, Some, Bor}
-use Rattle.std.specs.Prelude.{IsTrue, MatchOption}
+use Rattle.std.specs.Prelude.{IsTrue, MatchOption, ◌&&◌, ◌||◌}
 use Rattle.std.specs.List.{HoldsAt}
 use Rattle.std.proofs.lemmas.Bool.{true≢false, and_from, or_left, or_right}
 use Rattle.std.proofs.lemmas.List.{append_assoc}
 use Rattle.verilog_trees.specs.Syntax.{Statement}
 use Rattle.verilog_meaning.specs.Expression.{Scope}
-use Rattle.verilog_meaning.specs.Register.{is_bit_of, may_assign}
+use Rattle.verilog_meaning.specs.Register.{is_bit_of, may_assign, one_may_assign}
 use Rattle.verilog_unique.proofs.Descent.{IsAmong, among_either, among_contains}
-use Rattle.verilog_designs.specs.Reads.{BitSet, or_in, and_in}
+use Rattle.verilog_designs.specs.Reads.{BitSet, no_bits, or_in, and_in}
 use Rattle.verilog_designs.specs.Dependence.{Bit, is_in}
-use Rattle.v_flow.specs.Spans.{existing}
+use Rattle.v_flow.specs.declared.span.Span.{Span}
+use Rattle.v_flow.specs.Spans.{bits_in, existing}
+use Rattle.v_flow.proofs.Sets.{turn, end}
 use Rattle.v_masks.specs.Masks.{spread}
 use Rattle.v_paths.specs.Premises.{AssignsNoMemory}
 use Rattle.v_depend.specs.Resting.{IsThere}
 use Rattle.v_depend.specs.Running.{IsFit}
 use Rattle.v_order.specs.declared.driver.Driver.{Driver}
 use Rattle.v_order.specs.Lists.{statement_in, statements_in}
+use Rattle.v_order.proofs.Driven.{driven-set}
 use Rattle.v_loops.specs.Turns.{AreFitToRun, AreApartBut}
 use Rattle.v_loops.proofs.Steps.{there-spread}
 
@@ -115,3 +118,42 @@ among-got ds j o x e m = at (subst (λ (q : Option (Bor Driver)). MatchOption q 
   where
     at : (j < length ds) × HoldsAt (λ z. x.now ≡ z) ds j → IsAmong (statements_in ds) (statement_in x.now)
     at h = subst (λ (z : Driver). IsAmong (statements_in ds) (statement_in z)) (sym (h.1 x.now)) (among-at ds j x.now h.0)
+
+-- ---- all that is driven
+
+all-more : (s : Scope) (x : Statement) (xs : List Statement) → driven-set s (x ∷ xs) ≡ or_in (existing s (may_assign s x)) (driven-set s xs)
+all-more s x xs = λ i n k b. over-or (is_bit_of (s n) k b) (may_assign s x n k b) (one_may_assign s xs n k b) i
+  where
+    over-or : (t p q : Bool) → (t && (p || q)) ≡ ((t && p) || (t && q))
+    over-or true p q = refl
+    over-or false p q = refl
+
+no-more : (s : Scope) → spread (driven-set s []) ≡ no_bits
+no-more s = λ i n k b. and-false (is_bit_of (s n) 0 b) i
+  where
+    and-false : (t : Bool) → (t && false) ≡ false
+    and-false true = refl
+    and-false false = refl
+
+-- the same in a table
+pub once-turn : (s : Scope) (ds : List Driver) (i : ℕ) (r : Driver) (whole a b : BitSet) → drop i ds ≡ r ∷ drop (i + 1) ds
+    → whole ≡ or_in a (spread (driven-set s (statements_in (drop i ds)))) → b ≡ or_in a (spread (existing s (may_assign s (statement_in r))))
+    → whole ≡ or_in b (spread (driven-set s (statements_in (drop (i + 1) ds))))
+once-turn s ds i r whole a b e f h =
+    let x = statement_in r in
+    let more = statements_in (drop (i + 1) ds) in
+    turn whole a b (spread (existing s (may_assign s x))) (spread (driven-set s more))
+    (f ∙ ap (λ (z : BitSet). or_in a (spread z)) (ap (λ (xs : List Driver). driven-set s (statements_in xs)) e ∙ all-more s x more)) h
+
+pub once-end : (s : Scope) (rest : List Statement) (whole a : BitSet) → rest ≡ [] → whole ≡ or_in a (spread (driven-set s rest)) → a ≡ whole
+once-end s rest whole a e f = end whole a (spread (driven-set s rest)) f (ap (λ (xs : List Statement). spread (driven-set s xs)) e ∙ no-more s)
+
+-- from an empty list and an empty table
+pub begun-list : (s : Scope) (xs ys : List Statement) (vs : List Span) (d : BitSet) → vs ≡ [] → xs ≡ ys → d ≡ or_in (bits_in vs) (driven-set s xs)
+    → d ≡ driven-set s ys
+begun-list s xs ys vs d e f h = h ∙ ap (λ (zs : List Span). or_in (bits_in zs) (driven-set s xs)) e ∙ ap (driven-set s) f
+
+pub begun-table : (s : Scope) (xs ys : List Statement) (m0 d m : BitSet) → m0 ≡ no_bits → xs ≡ ys → d ≡ driven-set s ys
+    → m ≡ or_in m0 (spread (driven-set s xs)) → m ≡ spread d
+begun-table s xs ys m0 d m e f g h =
+    h ∙ ap (λ (z : BitSet). or_in z (spread (driven-set s xs))) e ∙ ap (λ (zs : List Statement). spread (driven-set s zs)) f ∙ ap spread (sym g)

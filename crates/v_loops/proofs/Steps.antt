@@ -127,7 +127,7 @@ both-ways true h g = false≢true h
 both-ways false h g = false≢true g
 
 -- what an assignment with constant selects gives
-only-given : (s : Scope) (t : Target) (e : Expression) (u y : Bit) → has_constant_selects s t ≡ true → may_reach s t u.of_name u.word u.place ≡ true
+pub only-given : (s : Scope) (t : Target) (e : Expression) (u y : Bit) → has_constant_selects s t ≡ true → may_reach s t u.of_name u.word u.place ≡ true
     → AfterAssignment s at_start t e u y → IsGivenBy s t s e u y
 only-given s t e u y h m (kept n g) = absurd (both-ways (is_in (surely_reaches s t) u) n (sure s t u h m))
 only-given s t e u y h m (given x i g) = subst (λ (z : Bit). IsGivenBy s t s e u z) g i

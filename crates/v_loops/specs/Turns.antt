@@ -1,9 +1,9 @@
 -- What turns over the drivers of a module leave unsettled.
 use Rattle.std.specs.Prelude.{◌≡◌, ◌↔◌, ◌⊎◌, ℕ, zero, suc, ◌+◌, Bool, true, false, List, [], ◌∷◌, Contains, IsTrue}
 use Rattle.wb_values.specs.Value.{Name}
-use Rattle.verilog_trees.specs.Syntax.{Expression, Target, Statement, Item}
+use Rattle.verilog_trees.specs.Syntax.{Expression, Target, place, joined, Statement, Item}
 use Rattle.verilog_meaning.specs.Expression.{Scope}
-use Rattle.verilog_meaning.specs.Register.{may_assign, combinational_blocks}
+use Rattle.verilog_meaning.specs.Register.{selects_are_constant, may_assign, combinational_blocks}
 use Rattle.verilog_meaning.specs.Settled.{assignments}
 use Rattle.verilog_settled.specs.Locality.{has_constant_selects}
 use Rattle.verilog_designs.specs.Reads.{BitSet, no_bits}
@@ -11,7 +11,7 @@ use Rattle.verilog_designs.specs.Dependence.{Bit, is_in}
 use Rattle.v_masks.specs.Masks.{spread}
 use Rattle.v_depend.specs.Resting.{IsThere, RestsAfter}
 use Rattle.v_depend.specs.Running.{IsFit}
-use Rattle.v_order.specs.Drivers.{as_statements, drivers}
+use Rattle.v_order.specs.Drivers.{as_statements, drivers, Driving, by_link, by_block}
 use Rattle.v_loops.specs.OneModule.{DependsIn, DependsFarIn}
 
 -- Each of the statements has values that fit words, and assigns no memory.
@@ -92,6 +92,20 @@ pub record AreOf (s : Scope) (items : List Item) (xs : List Statement) : Type 0 
   pub runnable : IsRunnable s items
 
 -- ---- passes
+
+-- a name with constant selects
+abbrev pub is_constant_place : Scope → Target → Bool
+is_constant_place s (place n x) = selects_are_constant s x
+is_constant_place s (joined ts) = false
+
+-- an assignment to one, which assigns each bit that it may assign
+abbrev pub is_constant_link : Scope → Driving → Bool
+is_constant_link s (by_link t e) = is_constant_place s t
+is_constant_link s (by_block x) = false
+
+-- No bit that the statement may assign rests on an unsettled one after it.
+abbrev pub RestsNowhere : (unsettled : BitSet) → Scope → Statement → Type 0
+RestsNowhere p s x = (u : Bit) → IsThere s u → IsTrue (may_assign s x u.of_name u.word u.place) → ¬ RestsAfter p s x u
 
 -- of the bits that the statement may assign a set has those that rest on an unsettled one after it
 abbrev pub TellsWhereAssigned : (unsettled : BitSet) → Scope → Statement → BitSet → Type 0

@@ -8,11 +8,12 @@ ghost use Rattle.v_loops.specs.OneModule.{HasLoopIn};
 ghost use Rattle.v_loops.specs.Turns.{IsRunnable};
 
 use crate::pass::passes;
-use crate::span::has_bits;
+use crate::shared::add_all;
+use crate::span::{has_bits, held_in};
 use crate::turn::turns;
 use std::alloc::{AllocError, Global};
-use v_order::{all_driven, drivers_of};
-use v_paths::mask::{kept_in, masks_of};
+use std::collections::BTreeMap;
+use v_order::drivers_of;
 use v_syntax::module::Item;
 use v_value::scope::Scope;
 
@@ -24,12 +25,20 @@ pub fn has_loop(alloc: Global, items: &[Item<'_>], scope: &Scope<'_>) -> Result<
     ensures { IfOk result (λ r. IsTrue r ↔ HasLoopIn (scope_at scope.now) (map item_of items.now)) }
 {
     let drivers = drivers_of(alloc, items)?;
-    let driven = all_driven(alloc, &drivers, scope)?;
-    let mut unsettled = masks_of(alloc, &driven)?;
-    passes(alloc, &drivers, scope, &driven, &mut unsettled)?;
-    let mut left = kept_in(alloc, &unsettled, &driven)?;
-    let some = has_bits(alloc, &left)?;
-    if !some {
+    let mut driven = Vec::new(alloc);
+    let mut unsettled = BTreeMap::new(alloc);
+    let mut shared = BTreeMap::new(alloc);
+    add_all(
+        alloc,
+        &drivers,
+        scope,
+        &mut driven,
+        &mut unsettled,
+        &mut shared,
+    )?;
+    passes(alloc, &drivers, scope, &driven, &shared, &mut unsettled)?;
+    let mut left = held_in(alloc, &unsettled, &driven)?;
+    if left.is_empty() {
         return Ok(false);
     }
     let count = driven.len();

@@ -1,4 +1,4 @@
-//! Passes over all drivers, each behind those that it reads from: bits that no longer rest on an unsettled one are settled at once.
+//! Passes over all drivers, each after those that it reads from: bits that no longer rest on an unsettled one are settled at once.
 
 ghost use Rattle.std.specs.Prelude.{IfOk, OnOk};
 ghost use Rattle.v_value.specs.Scope.{scope_at};
@@ -10,7 +10,6 @@ ghost use Rattle.v_order.specs.Lists.{statement_in, statements_in};
 ghost use Rattle.v_loops.specs.Turns.{AreFitToRun, AreApartBut, IsVisited, IsPassed};
 
 use crate::driver::settled_by;
-use crate::shared::shared;
 use crate::span::remove;
 use std::alloc::{AllocError, Global};
 use std::collections::BTreeMap;
@@ -97,21 +96,22 @@ pub(crate) fn passes<'t, 's>(
     drivers: &'t [Driver<'t, 's>],
     scope: &Scope<'_>,
     driven: &[Span<'s>],
+    shared: &BTreeMap<&'s str, u128>,
     unsettled: &mut BTreeMap<&'s str, u128>,
 ) -> Result<(), AllocError>
     requires objects { HasNarrowObjects (scope_at scope.now) }
     requires fit { AreFitToRun (scope_at scope.now) (statements_in drivers.now) }
+    requires apart { AreApartBut (scope_at scope.now) (statements_in drivers.now) (masked shared.now) }
     requires variables { HasNoMemory (scope_at scope.now) (masked unsettled.old) }
     ensures { OnOk result (IsPassed (scope_at scope.now) (statements_in drivers.now) (masked unsettled.old) (masked unsettled.new)) }
 {
-    let shared = shared(alloc, drivers, scope)?;
     let order = order_of(alloc, drivers, scope)?;
     for _ in 0..u64::MAX {
         let some = meets(driven, unsettled);
         if !some {
             return Ok(());
         }
-        let settled = pass(alloc, drivers, scope, &order, &shared, unsettled)?;
+        let settled = pass(alloc, drivers, scope, &order, shared, unsettled)?;
         if !settled {
             return Ok(());
         }

@@ -1,8 +1,8 @@
-//! Lists of spans: joined, compared, and taken out of tables.
+//! Lists of spans: joined, compared, found in tables, and taken out of them.
 
 ghost use Rattle.std.specs.Prelude.{◌≡◌, ◌↔◌, ℕ, true, IsTrue, IfOk, OnOk};
 ghost use Rattle.wb_values.specs.Value.{Name};
-ghost use Rattle.verilog_designs.specs.Reads.{or_in, but_not_in};
+ghost use Rattle.verilog_designs.specs.Reads.{or_in, and_in, but_not_in};
 ghost use Rattle.v_flow.specs.Spans.{bits_of, bits_in};
 ghost use Rattle.v_masks.specs.Masks.{masked, spread};
 ghost use Rattle.v_loops.specs.Turns.{HasFirst};
@@ -12,7 +12,7 @@ use std::collections::BTreeMap;
 use v_depend::meets;
 use v_flow::span::Span;
 use v_masks::mask_under;
-use v_paths::mask::{add_left, first_word, masks_of, without};
+use v_paths::mask::{add_left, first_word, masks_of, with_bits, without};
 
 /// Adds spans.
 pub(crate) fn append<'s>(spans: &[Span<'s>], found: &mut Vec<Span<'s>>) -> Result<(), AllocError>
@@ -22,6 +22,37 @@ pub(crate) fn append<'s>(spans: &[Span<'s>], found: &mut Vec<Span<'s>>) -> Resul
         found.push(*span)?;
     }
     Ok(())
+}
+
+/// Adds the bits of a span that a table has, if there are any.
+fn add_held<'s>(
+    table: &BTreeMap<&'s str, u128>,
+    span: Span<'s>,
+    found: &mut Vec<Span<'s>>,
+) -> Result<(), AllocError>
+    ensures { OnOk result (bits_in found.new.items ≡ or_in (bits_in found.old.items) (and_in (bits_of span.entry) (masked table.now))) }
+{
+    let bits = span.bits & mask_under(table, span.name);
+    if bits == 0 {
+        return Ok(());
+    }
+    found.push(with_bits(span, bits))?;
+    Ok(())
+}
+
+/// The bits of spans that a table has. A span that has none of them is left out.
+pub(crate) fn held_in<'s>(
+    alloc: Global,
+    table: &BTreeMap<&'s str, u128>,
+    spans: &[Span<'s>],
+) -> Result<Vec<Span<'s>>, AllocError>
+    ensures { IfOk result (λ v. bits_in v.items ≡ and_in (bits_in spans.now) (masked table.now)) }
+{
+    let mut found = Vec::new(alloc);
+    for span in spans {
+        add_held(table, *span, &mut found)?;
+    }
+    Ok(found)
 }
 
 /// Takes the bits of a span out of a table.

@@ -13,14 +13,14 @@ ghost use Rattle.v_order.specs.Lists.{statement_in, statements_in};
 ghost use Rattle.v_loops.specs.Turns.{AreFitToRun, AreOf, OneRests, Adds, IsLeft, IsLater};
 
 use crate::driver::resting;
-use crate::span::{append, has_all};
+use crate::span::{append, has_all, held_in};
 use std::alloc::{AllocError, Global};
 use std::collections::BTreeMap;
 use v_depend::laws::rests_where_it_depends;
 use v_flow::span::Span;
-use v_order::add_driven;
 use v_order::driver::Driver;
-use v_paths::mask::{kept_in, masks_of};
+use v_order::{add_driven, add_read};
+use v_paths::mask::masks_of;
 use v_value::scope::Scope;
 
 /// Adds the bits that a driver may assign and that rest on an unsettled one after it.
@@ -38,8 +38,11 @@ fn add_resting<'s>(
 {
     let mut spans = Vec::new(alloc);
     add_driven(driver, scope, &mut spans)?;
-    let table = resting(alloc, driver, scope, unsettled)?;
-    let kept = kept_in(alloc, &table, &spans)?;
+    let mut needed = Vec::new(alloc);
+    add_read(driver, scope, &mut needed)?;
+    append(&spans, &mut needed)?;
+    let table = resting(alloc, driver, scope, unsettled, &needed)?;
+    let kept = held_in(alloc, &table, &spans)?;
     append(&kept, found)?;
     Ok(())
 }

@@ -1,37 +1,28 @@
 use Rattle.std.proofs.Common.{◌∙◌, ap}
-use Rattle.verilog_meaning.specs.Register.{may_assign}
-use Rattle.verilog_designs.specs.Reads.{or_in, and_in}
-use Rattle.verilog_designs.specs.Drivers.{statement_reads}
+use Rattle.verilog_designs.specs.Reads.{and_in}
 use Rattle.v_value.specs.Scope.{scope_at}
-use Rattle.v_flow.specs.Spans.{bits_in, existing}
+use Rattle.v_flow.specs.Spans.{bits_in}
 use Rattle.v_masks.specs.Masks.{masked, spread}
 use Rattle.v_order.specs.Lists.{statement_in}
-use Rattle.v_loops.proofs.Local.{own-free}
+use Rattle.v_loops.proofs.Held.{none-masked}
+use Rattle.v_loops.proofs.Local.{own-free, nothing-rests}
 use Rattle.v_loops.proofs.Adding.{tells}
 use Rattle.v_loops.proofs.driver.resting.Goals as goal
 
-pub add_read-requires-clause-narrow : goal.add_read-requires-clause-narrow
-add_read-requires-clause-narrow c = c.requires.fit.narrow
-
-pub add_driven-requires-clause-narrow : goal.add_driven-requires-clause-narrow
-add_driven-requires-clause-narrow c = c.requires.fit.narrow
+pub returns-then-not-some : goal.returns-then-not-some
+returns-then-not-some c =
+    nothing-rests c.rests_where_it_depends.ensures (scope_at c.args.scope.now) (statement_in c.args.driver) (masked c.args.unsettled.now) (masked c.new-none.result)
+    (bits_in c.args.needed.now) c.meets-some.result c.requires.fit.narrow c.requires.needed c.meets-some.ensures c.if-not-some.true
+    (none-masked c.new-none.result c.new-none.ensures.empty)
 
 pub run-requires-clause-variables : goal.run-requires-clause-variables
 run-requires-clause-variables c =
-    let s = scope_at c.args.scope.now in
-    let x = statement_in c.args.driver in
-    own-free s x (masked c.args.unsettled.now) (masked c.in_ok-table.table) c.requires.variables
-    (c.in_ok-table.ensures ∙ ap (λ p. spread (and_in p (masked c.args.unsettled.now)))
-    (ap bits_in c.deref.ensures.value ∙ c.in_ok-add_driven.ensures ∙ ap (λ p. or_in p (existing s (may_assign s x)))
-    (c.in_ok-add_read.ensures ∙ ap (λ ys. or_in (bits_in ys) (statement_reads s x)) c.new-needed.ensures.items)))
+    own-free (scope_at c.args.scope.now) (statement_in c.args.driver) (masked c.args.unsettled.now) (masked c.in_ok-table.table) c.requires.variables
+    (c.in_ok-table.ensures ∙ ap (λ p. spread (and_in p (masked c.args.unsettled.now))) c.requires.needed)
 
 pub returns : goal.returns
 returns c =
-    let s = scope_at c.args.scope.now in
-    let x = statement_in c.args.driver in
-    tells s x (masked c.args.unsettled.now) c.rests_where_it_depends.ensures c.requires.fit.narrow c.requires.variables
-    (masked c.in_ok-table.table) (masked c.run.new.unsettled)
-    (c.in_ok-table.ensures ∙ ap (λ p. spread (and_in p (masked c.args.unsettled.now)))
-    (ap bits_in c.deref.ensures.value ∙ c.in_ok-add_driven.ensures ∙ ap (λ p. or_in p (existing s (may_assign s x)))
-    (c.in_ok-add_read.ensures ∙ ap (λ ys. or_in (bits_in ys) (statement_reads s x)) c.new-needed.ensures.items)))
+    tells (scope_at c.args.scope.now) (statement_in c.args.driver) (masked c.args.unsettled.now) c.rests_where_it_depends.ensures c.requires.fit.narrow
+    c.requires.variables (masked c.in_ok-table.table) (masked c.run.new.unsettled)
+    (c.in_ok-table.ensures ∙ ap (λ p. spread (and_in p (masked c.args.unsettled.now))) c.requires.needed)
     c.in_ok-run.ensures

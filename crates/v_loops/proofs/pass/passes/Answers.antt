@@ -15,7 +15,7 @@ pub returns-then-not-some : goal.returns-then-not-some
 returns-then-not-some c = c.loop.invariant
 
 pub pass-requires-clause-apart : goal.pass-requires-clause-apart
-pass-requires-clause-apart c = c.in_ok-shared.ensures
+pass-requires-clause-apart c = c.requires.apart
 
 pub pass-requires-clause-variables : goal.pass-requires-clause-variables
 pass-requires-clause-variables c =

@@ -7,6 +7,13 @@ use Rattle.v_masks.specs.Masks.{masked, spread}
 use Rattle.v_order.specs.Lists.{statement_in}
 use Rattle.v_loops.proofs.shared.add.Goals as goal
 
+pub returns-clause-driven : goal.returns-clause-driven
+returns-clause-driven c =
+    let s = scope_at c.args.scope.now in
+    let x = statement_in c.args.driver in
+    c.in_ok-append.ensures ∙ ap (or_in (bits_in c.args.driven.now.items))
+    (ap bits_in c.deref-4.ensures.value ∙ c.in_ok-add_driven.ensures ∙ ap (λ ys. or_in (bits_in ys) (existing s (may_assign s x))) c.new-spans.ensures.items)
+
 pub returns-clause-once : goal.returns-clause-once
 returns-clause-once c =
     let s = scope_at c.args.scope.now in
