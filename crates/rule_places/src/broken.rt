@@ -283,7 +283,10 @@ fn first_below<'t, 's>(
 ) -> Result<Option<Found>, AllocError> {
     let found = places(alloc, tree, within)?;
     match found {
-        Some(list) => first_at_places(&list, alloc, modules, interfaces, clock, kind),
+        Some(list) => {
+            let mut list = list;
+            first_at_places(list.as_mut_slice(), alloc, modules, interfaces, clock, kind)
+        }
         None => Ok(None),
     }
 }
