@@ -1,0 +1,13 @@
+mod Lists
+mod Names
+mod Members
+mod Ports
+mod Scope
+mod Widths
+mod Memories
+mod Expressions
+mod Registers
+mod Items
+mod Inputs
+mod Sorts
+mod Accepted
