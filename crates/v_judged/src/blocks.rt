@@ -35,9 +35,9 @@ fn items_of<'x, 's>(within: &'x Module<'s>) -> &'x [Item<'s>]
 }
 
 /// Whether a block of the module of a scope has a list of events that it may not have, where these are its clock nets.
-fn has_bad_event_list_at<'t>(
+fn has_bad_event_list_at<'p>(
     alloc: Global,
-    own: &'t PlaceScope<'t, '_>,
+    own: &'p PlaceScope<'p, 'p, '_>,
     clocks: &BTreeSet<&str>,
 ) -> Result<bool, AllocError>
     requires { IsReadySpot (spot_in own.now) }
@@ -48,10 +48,10 @@ fn has_bad_event_list_at<'t>(
 }
 
 /// Whether one of the modules at these places has such a block, where these are their scopes and the clock nets of each.
-fn any_bad_event_list<'t, 's>(
+fn any_bad_event_list<'p, 't, 's>(
     alloc: Global,
     places: &'t [Place<'t, 's>],
-    scopes: &'t [PlaceScope<'t, 's>],
+    scopes: &'p [PlaceScope<'p, 'p, 's>],
     numbers: &[usize],
     nets: &[BTreeSet<&str>],
 ) -> Result<bool, AllocError>
@@ -108,7 +108,7 @@ fn any_nonblocking_in_combinational<'t>(places: &'t [Place<'t, '_>]) -> bool
 }
 
 /// Whether the module of a scope has a latch.
-fn has_latch_at<'t>(alloc: Global, one: &'t PlaceScope<'t, '_>) -> Result<bool, AllocError>
+fn has_latch_at<'p>(alloc: Global, one: &'p PlaceScope<'p, 'p, '_>) -> Result<bool, AllocError>
     requires { IsReadySpot (spot_in one.now) }
     ensures { IfOk result (λ r. IsTrue r ↔ HasLatchAt (spot_in one.now)) }
 {
@@ -117,7 +117,7 @@ fn has_latch_at<'t>(alloc: Global, one: &'t PlaceScope<'t, '_>) -> Result<bool, 
 }
 
 /// Whether the module of one of these scopes has a latch.
-fn any_latch<'t>(alloc: Global, scopes: &'t [PlaceScope<'t, '_>]) -> Result<bool, AllocError>
+fn any_latch<'p>(alloc: Global, scopes: &'p [PlaceScope<'p, 'p, '_>]) -> Result<bool, AllocError>
     requires { AreReadySpots (spots_in scopes.now) }
     ensures { IfOk result (λ r. IsTrue r ↔ SomeSpot HasLatchAt (spots_in scopes.now)) }
 {
@@ -130,10 +130,10 @@ fn any_latch<'t>(alloc: Global, scopes: &'t [PlaceScope<'t, '_>]) -> Result<bool
 }
 
 /// The first of the kinds on blocks whose rule one of these modules breaks, where these are their scopes and the clock nets of each.
-fn items_refusal<'t, 's>(
+fn items_refusal<'p, 't, 's>(
     alloc: Global,
     places: &'t [Place<'t, 's>],
-    scopes: &'t [PlaceScope<'t, 's>],
+    scopes: &'p [PlaceScope<'p, 'p, 's>],
     numbers: &[usize],
     nets: &[BTreeSet<&str>],
 ) -> Result<Option<DesignKind>, AllocError>
@@ -162,10 +162,10 @@ fn items_refusal<'t, 's>(
 }
 
 /// The first of these kinds whose rule is broken by one of the modules that stand in a design, which are those at these places.
-pub(crate) fn blocks_refusal<'t, 's>(
+pub(crate) fn blocks_refusal<'p, 't, 's>(
     alloc: Global,
     places: &'t [Place<'t, 's>],
-    scopes: &'t [PlaceScope<'t, 's>],
+    scopes: &'p [PlaceScope<'p, 'p, 's>],
     numbers: &[usize],
     interfaces: &Interfaces<'s>,
     clock: &str,

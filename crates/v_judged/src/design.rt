@@ -16,7 +16,7 @@ use crate::flat::one_scope_refusal;
 use crate::kind::{DesignKind, Judged};
 use crate::place::PlaceScope;
 use crate::rules::rules_refusal;
-use crate::scopes::shared_scopes;
+use crate::scopes::{Sharing, shared_scopes};
 use std::alloc::{AllocError, Global};
 use v_instances::interface::{Interfaces, interfaces_of};
 use v_named::{Named, NamesKind, judged_names};
@@ -36,10 +36,10 @@ fn of_names(kind: NamesKind) -> DesignKind
 }
 
 /// The first of the kinds on drivers whose rule is broken by the design that stands at these places.
-fn drivers_refusal<'t, 's>(
+fn drivers_refusal<'p, 't, 's>(
     alloc: Global,
     places: &'t [Place<'t, 's>],
-    scopes: &'t [PlaceScope<'t, 's>],
+    scopes: &'p [PlaceScope<'p, 'p, 's>],
     numbers: &[usize],
     interfaces: &Interfaces<'s>,
     clock: &str,
@@ -57,10 +57,10 @@ fn drivers_refusal<'t, 's>(
 }
 
 /// The first of the kinds after those on names whose rule is broken by the design that stands at these places, where these are their scopes.
-fn scopes_refusal<'t, 's>(
+fn scopes_refusal<'p, 't, 's>(
     alloc: Global,
     places: &'t [Place<'t, 's>],
-    scopes: &'t [PlaceScope<'t, 's>],
+    scopes: &'p [PlaceScope<'p, 'p, 's>],
     numbers: &[usize],
     interfaces: &Interfaces<'s>,
     clock: &str,
@@ -91,12 +91,13 @@ fn places_refusal<'t, 's>(
     requires { (d : Design) × IsNamedDesign interfaces.now (spots_of places.now) d × (d.clock ≡ clock.now) }
     ensures { IfOk result (λ k. (d : Design) → IsNamedDesign interfaces.now (spots_of places.now) d → d.clock ≡ clock.now → IsFirst d later_kinds k) }
 {
-    let shared = shared_scopes(alloc, places)?;
+    let Sharing { scopes, numbers } = shared_scopes(alloc, places)?;
+    let mut list = scopes;
     let kind = scopes_refusal(
         alloc,
         places,
-        &shared.scopes,
-        &shared.numbers,
+        list.as_mut_slice(),
+        &numbers,
         interfaces,
         clock,
     )?;
@@ -120,10 +121,11 @@ pub fn judged<'t, 's>(
     match named {
         Named::Refused(kind) => Ok(Judged::Refused(of_names(kind))),
         Named::Places(places) => {
-            let kind = places_refusal(alloc, &places, &interfaces, clock)?;
+            let mut list = places;
+            let kind = places_refusal(alloc, list.as_mut_slice(), &interfaces, clock)?;
             match kind {
                 Some(kind) => Ok(Judged::Refused(kind)),
-                None => Ok(Judged::Accepted(places)),
+                None => Ok(Judged::Accepted(list)),
             }
         }
     }

@@ -24,9 +24,9 @@ use v_places::Place;
 use v_syntax::module::Item;
 
 /// Whether two of these items, which are what a module of this scope drives, drive one bit, or one assigns a name that it may not assign.
-fn has_bad_driver_at<'t, 's>(
+fn has_bad_driver_at<'p, 's>(
     alloc: Global,
-    own: &'t PlaceScope<'t, 's>,
+    own: &'p PlaceScope<'p, 'p, 's>,
     items: &[Item<'s>],
 ) -> Result<bool, AllocError>
     requires { IsDrivenSpot (map item_of items.now) (spot_in own.now) }
@@ -49,10 +49,10 @@ fn list_at<'x, 'a>(lists: &'x [Vec<Item<'a>>], number: usize) -> &'x [Item<'a>]
 }
 
 /// Whether it is so at one of these places, where these are their scopes and each module drives these.
-pub(crate) fn any_bad_driver<'t, 's>(
+pub(crate) fn any_bad_driver<'p, 't, 's>(
     alloc: Global,
     places: &'t [Place<'t, 's>],
-    scopes: &'t [PlaceScope<'t, 's>],
+    scopes: &'p [PlaceScope<'p, 'p, 's>],
     numbers: &[usize],
     lists: &[Vec<Item<'s>>],
 ) -> Result<bool, AllocError>
@@ -71,10 +71,10 @@ pub(crate) fn any_bad_driver<'t, 's>(
 }
 
 /// The kind on drivers, if one of the modules that stand at these places breaks its rule.
-pub(crate) fn driver_refusal<'t, 's>(
+pub(crate) fn driver_refusal<'p, 't, 's>(
     alloc: Global,
     places: &'t [Place<'t, 's>],
-    scopes: &'t [PlaceScope<'t, 's>],
+    scopes: &'p [PlaceScope<'p, 'p, 's>],
     numbers: &[usize],
     interfaces: &Interfaces<'s>,
 ) -> Result<Option<DesignKind>, AllocError>

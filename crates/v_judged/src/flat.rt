@@ -79,10 +79,10 @@ fn numbered_refusal<'t, 's>(
 
 /// The first of the kinds on bits without drivers and on loops whose rule is broken by the design that stands at these places, of which the
 /// first is its top. These are their scopes.
-pub(crate) fn one_scope_refusal<'t, 's>(
+pub(crate) fn one_scope_refusal<'p, 't, 's>(
     alloc: Global,
     places: &'t [Place<'t, 's>],
-    scopes: &'t [PlaceScope<'t, 's>],
+    scopes: &'p [PlaceScope<'p, 'p, 's>],
     numbers: &[usize],
     interfaces: &Interfaces<'s>,
     clock: &str,

@@ -13,8 +13,8 @@ use v_value::scope::Scope;
 
 /// What the module at a place declares, and its scope.
 #[derive(Drop)]
-pub(crate) struct PlaceScope<'t, 's> {
-    pub(crate) place: &'t Place<'t, 's>,
+pub(crate) struct PlaceScope<'p, 't, 's> {
+    pub(crate) place: &'p Place<'t, 's>,
     pub(crate) names: ModuleScope<'s>,
     pub(crate) scope: Scope<'s>,
     pub(crate) ghost rows_so: { rows_of names.declared.items ≡ rows (scope_at place.now.constants) (declarations (module_of place.now.within.now)) },

@@ -47,9 +47,9 @@ fn first_rule(broken: Broken, ports: bool) -> Option<DesignKind>
 }
 
 /// Which rules on expressions the module of a scope breaks.
-fn place_rules<'t>(
+fn place_rules<'p>(
     alloc: Global,
-    one: &'t PlaceScope<'t, '_>,
+    one: &'p PlaceScope<'p, 'p, '_>,
     interfaces: &Interfaces<'_>,
 ) -> Result<Broken, AllocError>
     ensures { IfOk result (λ b. (source : Source) → AreInterfacesOf interfaces.now source → b ≡ spot_rules source (spot_in one.now)) }
@@ -62,9 +62,9 @@ fn place_rules<'t>(
 }
 
 /// Which rules on expressions the modules of these scopes break.
-fn all_rules<'t>(
+fn all_rules<'p>(
     alloc: Global,
-    scopes: &'t [PlaceScope<'t, '_>],
+    scopes: &'p [PlaceScope<'p, 'p, '_>],
     interfaces: &Interfaces<'_>,
 ) -> Result<Broken, AllocError>
     ensures { IfOk result (λ b. (source : Source) → AreInterfacesOf interfaces.now source → b ≡ all_rules source (spots_in scopes.now)) }
@@ -78,9 +78,9 @@ fn all_rules<'t>(
 }
 
 /// Whether the module of a scope breaks the rule on ports.
-fn has_bad_ports<'t>(
+fn has_bad_ports<'p>(
     alloc: Global,
-    one: &'t PlaceScope<'t, '_>,
+    one: &'p PlaceScope<'p, 'p, '_>,
     interfaces: &Interfaces<'_>,
 ) -> Result<bool, AllocError>
     ensures { IfOk result (λ b. (source : Source) → AreInterfacesOf interfaces.now source → b ≡ has_bad_ports source (spot_in one.now)) }
@@ -90,9 +90,9 @@ fn has_bad_ports<'t>(
 }
 
 /// Whether the module of one of these scopes breaks the rule on ports.
-fn any_bad_ports<'t>(
+fn any_bad_ports<'p>(
     alloc: Global,
-    scopes: &'t [PlaceScope<'t, '_>],
+    scopes: &'p [PlaceScope<'p, 'p, '_>],
     interfaces: &Interfaces<'_>,
 ) -> Result<bool, AllocError>
     ensures { IfOk result (λ b. (source : Source) → AreInterfacesOf interfaces.now source → b ≡ list_any (has_bad_ports source) (spots_in scopes.now)) }
@@ -106,9 +106,9 @@ fn any_bad_ports<'t>(
 }
 
 /// The first of these kinds whose rule is broken by one of the modules that stand in a design, of whose places these are the scopes.
-pub(crate) fn rules_refusal<'t>(
+pub(crate) fn rules_refusal<'p>(
     alloc: Global,
-    scopes: &'t [PlaceScope<'t, '_>],
+    scopes: &'p [PlaceScope<'p, 'p, '_>],
     interfaces: &Interfaces<'_>,
 ) -> Result<Option<DesignKind>, AllocError>
     ensures { IfOk result (λ k. (d : Design) (numbers : List ℕ) (spots : List Spot) → IsSharing IsSame (spots_in scopes.now) numbers spots
