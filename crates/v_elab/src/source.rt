@@ -39,7 +39,7 @@ pub fn elaborate<'s>(
     match told {
         Judged::Refused(kind) => Ok(Elaborated::Refused(kind)),
         Judged::Accepted(places) => {
-            let design = placed_design(&places, &interfaces, alloc, clock)?;
+            let design = placed_design(places.as_slice(), &interfaces, alloc, clock)?;
             Ok(Elaborated::Design(design))
         }
     }

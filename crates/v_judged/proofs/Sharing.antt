@@ -1,5 +1,5 @@
 -- What is asked of some places is asked of all that share with them.
-use Rattle.std.proofs.Common.{◌≡◌, ◌∙◌, ◌<◌, ◌≤◌, ◌+◌, ℕ, zero, suc, refl, ap, sym, subst, arith, inl, inr, Bool, true, false, true≢false, nat_eq, ◌⊎◌, ◌||◌, List, [], ◌∷◌, ◌++◌, map, length, get_or, Option, Some, None, option_map}
+use Rattle.std.proofs.Common.{◌≡◌, ◌∙◌, ◌<◌, ◌≤◌, ◌+◌, ℕ, zero, suc, refl, ap, sym, subst, arith, inl, inr, Bool, true, false, true≢false, nat_eq, ◌⊎◌, ◌||◌, List, [], ◌∷◌, ◌++◌, map, length, get_or, Some, option_map}
 use Rattle.std.specs.Prelude.{◌↔◌, slice_get, IsTrue}
 use Rattle.std.specs.List.{list_any}
 use Rattle.std.proofs.lemmas.Bool.{cases_lt}

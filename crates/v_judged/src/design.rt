@@ -91,7 +91,8 @@ fn places_refusal<'t, 's>(
     requires { (d : Design) × IsNamedDesign interfaces.now (spots_of places.now) d × (d.clock ≡ clock.now) }
     ensures { IfOk result (λ k. (d : Design) → IsNamedDesign interfaces.now (spots_of places.now) d → d.clock ≡ clock.now → IsFirst d later_kinds k) }
 {
-    let Sharing { scopes, numbers } = shared_scopes(alloc, places)?;
+    let shared = shared_scopes(alloc, places)?;
+    let Sharing { scopes, numbers } = shared;
     let mut list = scopes;
     let kind = scopes_refusal(
         alloc,
@@ -121,11 +122,10 @@ pub fn judged<'t, 's>(
     match named {
         Named::Refused(kind) => Ok(Judged::Refused(of_names(kind))),
         Named::Places(places) => {
-            let mut list = places;
-            let kind = places_refusal(alloc, list.as_mut_slice(), &interfaces, clock)?;
+            let kind = places_refusal(alloc, places.as_slice(), &interfaces, clock)?;
             match kind {
                 Some(kind) => Ok(Judged::Refused(kind)),
-                None => Ok(Judged::Accepted(list)),
+                None => Ok(Judged::Accepted(places)),
             }
         }
     }

@@ -16,6 +16,6 @@ placed_design-requires c =
     let d : Design = record { source = source_of c.args.tree.now; top = c.args.top.now; clock = c.args.clock.now } in
     let h = subst (IsJudged d) c.in-Accepted.is c.in_ok-told.ensures in (
       d,
-      subst (λ ps. StandsAt c.in_ok-interfaces.interfaces c.args.clock.now (spots_of ps) d) (sym c.deref.ensures.value)
+      subst (λ ps. StandsAt c.in_ok-interfaces.interfaces c.args.clock.now (spots_of ps) d) (sym c.as_slice.ensures.value)
           (record { accepted = h.0; of_text = c.requires; is_clock = refl; are_interfaces = c.in_ok-interfaces.ensures; places = h.1 }),
     )

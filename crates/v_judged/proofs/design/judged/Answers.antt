@@ -21,7 +21,7 @@ places_refusal-requires c =
     let n = subst (IsNamed d) c.in-Places.is c.in_ok-named.ensures in
     let h : IsNamedDesign c.in_ok-interfaces.interfaces (spots_of c.in-Places.places.items) d
     = record { of_text = c.requires; interfaces = c.in_ok-interfaces.ensures; names = none_named d n.0 n.1 n.2 n.3; places = n.4 } in
-    (d, subst (λ ps. IsNamedDesign c.in_ok-interfaces.interfaces (spots_of ps) d) (sym c.deref.ensures.value) h, refl)
+    (d, subst (λ ps. IsNamedDesign c.in_ok-interfaces.interfaces (spots_of ps) d) (sym c.as_slice.ensures.value) h, refl)
 
 pub returns-in-Some : goal.returns-in-Some
 returns-in-Some c =
@@ -29,7 +29,7 @@ returns-in-Some c =
     let n = subst (IsNamed d) c.in-Places.is c.in_ok-named.ensures in
     let h : IsNamedDesign c.in_ok-interfaces.interfaces (spots_of c.in-Places.places.items) d
     = record { of_text = c.requires; interfaces = c.in_ok-interfaces.ensures; names = none_named d n.0 n.1 n.2 n.3; places = n.4 } in
-    let own = subst (λ ps. IsNamedDesign c.in_ok-interfaces.interfaces (spots_of ps) d) (sym c.deref.ensures.value) h in
+    let own = subst (λ ps. IsNamedDesign c.in_ok-interfaces.interfaces (spots_of ps) d) (sym c.as_slice.ensures.value) h in
     subst (IsDesignRefusal d) c.in-Some.is
     (answered d c.in_ok-kind-in-Places.kind (joined d name_kinds later_kinds c.in_ok-kind-in-Places.kind h.names (c.in_ok-kind-in-Places.ensures d own refl)))
 
@@ -39,7 +39,7 @@ returns c =
     let n = subst (IsNamed d) c.in-Places.is c.in_ok-named.ensures in
     let h : IsNamedDesign c.in_ok-interfaces.interfaces (spots_of c.in-Places.places.items) d
     = record { of_text = c.requires; interfaces = c.in_ok-interfaces.ensures; names = none_named d n.0 n.1 n.2 n.3; places = n.4 } in
-    let own = subst (λ ps. IsNamedDesign c.in_ok-interfaces.interfaces (spots_of ps) d) (sym c.deref.ensures.value) h in (
+    let own = subst (λ ps. IsNamedDesign c.in_ok-interfaces.interfaces (spots_of ps) d) (sym c.as_slice.ensures.value) h in (
       subst (IsDesignRefusal d) c.in-None.is
           (answered d c.in_ok-kind-in-Places.kind (joined d name_kinds later_kinds c.in_ok-kind-in-Places.kind h.names (c.in_ok-kind-in-Places.ensures d own refl))),
       n.4,

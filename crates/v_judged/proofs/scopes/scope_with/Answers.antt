@@ -1,6 +1,6 @@
 use Rattle.std.proofs.Common.{refl}
 use Rattle.v_judged.specs.Spots.{spot_in}
-use Rattle.v_judged.proofs.Sharing.{number_within, own_within, own_is}
+use Rattle.v_judged.proofs.Sharing.{own_is}
 use Rattle.v_judged.proofs.scopes.scope_with.Goals as goal
 
 pub returns : goal.returns
