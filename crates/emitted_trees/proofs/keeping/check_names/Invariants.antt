@@ -1,5 +1,0 @@
-use Rattle.emitted_trees.proofs.Marking.{AreInRangeTo}
-use Rattle.emitted_trees.proofs.keeping.check_names.Given as goal
-
-abbrev pub invariant-loop-place : goal.invariant-loop-place
-invariant-loop-place l = AreInRangeTo l.terms l.place

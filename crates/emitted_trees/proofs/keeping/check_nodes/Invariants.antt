@@ -1,5 +1,0 @@
-use Rattle.emitted_trees.proofs.Marking.{AreToldTo}
-use Rattle.emitted_trees.proofs.keeping.check_nodes.Given as goal
-
-abbrev pub invariant-loop-place : goal.invariant-loop-place
-invariant-loop-place l = AreToldTo l.terms l.place
