@@ -1,7 +1,7 @@
 -- What a bit depends on after a statement is the bit itself, or a bit that the statement reads: so a table of these bits alone says as much.
 use Rattle.std.proofs.Common.{◌≡◌, ◌∙◌, ℕ, ◌+◌, ◌-◌, ◌%◌, ◌<◌, ◌≤◌, refl, ap, sym, subst, arith, Bool, true, false, cond, not, inl, inr, Option, Some, None}
 use Rattle.std.specs.Prelude.{IsTrue, ◌↔◌, ◌⊎◌, ◌&&◌, ◌||◌, nat_lt, is_none, option_and_then, ℤ, pos, negsuc, ◌+ℤ◌, int_le, int_lt}
-use Rattle.std.proofs.lemmas.Bool.{false≢true, and_parts, and_from, or_left, or_right}
+use Rattle.std.proofs.lemmas.Bool.{true≢false, false≢true, and_parts, and_from, or_left, or_right}
 use Rattle.std.proofs.lemmas.Bool.Decides.{nat_tests}
 use Rattle.std.proofs.lemmas.Int.{ints}
 use Rattle.wb_values.specs.Value.{Name, same_name}
@@ -19,7 +19,8 @@ use Rattle.v_flow.specs.Spans.{existing}
 use Rattle.v_flow.specs.Narrow.{IsNarrowFlow, AreNarrowFlows, AreNarrowArms}
 use Rattle.v_masks.specs.Masks.{spread}
 use Rattle.v_paths.specs.Premises.{HasNoMemory}
-use Rattle.v_depend.specs.Resting.{IsThere, RestsAfter}
+use Rattle.v_depend.specs.Resting.{IsThere, OneIsUnsettled, RestsAfter}
+use Rattle.v_loops.specs.Turns.{RestsBy}
 use Rattle.v_loops.proofs.Steps.{RestsWhereItDepends, in-first, spread-free, after-there}
 
 -- ---- the bits that a part of a name takes
@@ -265,6 +266,18 @@ depends-read : (s : Scope) (x : Statement) (u y : Bit) → IsNarrowFlow s x → 
 depends-read s x u y n h =
     after-keeps s at_start (λ z. (u ≡ z) ⊎ (is_in (statement_reads s x) z ≡ true)) x n (λ a b e f. subst (λ z. (u ≡ z) ⊎ (is_in (statement_reads s x) z ≡ true)) e f)
     (λ z r. inr r) u y h (inl refl)
+
+-- where the statement reads no bit of a set, what rests on one is one itself
+pub marks-nothing : RestsWhereItDepends → (s : Scope) (x : Statement) (p read : BitSet) (some : Bool) → HasNoMemory s p → IsNarrowFlow s x → read ≡ statement_reads s x
+    → IsTrue some ↔ OneIsUnsettled p read → some ≡ false → (u : Bit) → RestsBy false p s x u → IsTrue (is_in p u)
+marks-nothing law s x p read some none narrow is f e u r =
+    let y = (law (spread p) s x u r.0).0 r.2 in
+    let zero_word = in-first s p y.0 none (after-there s x u y.0 r.0 y.2) 0 y.0.place y.1 in
+    let marked = subst (λ k. p y.0.of_name k y.0.place ≡ true) (sym zero_word) y.1 in
+    elim (depends-read s x u y.0 narrow y.2) as (λ _. is_in p u ≡ true) [
+      | inl same ↦ subst (λ z. is_in p z ≡ true) (sym same) marked
+      | inr h ↦ absurd (true≢false (sym (f.1 (y.0, subst (λ (q : BitSet). is_in q y.0 ≡ true) (sym is) h, marked)) ∙ e))
+    ]
 
 -- ---- a table of these bits alone
 

@@ -1,6 +1,6 @@
 -- What a visit to a driver marks, and what it says of itself.
 use Rattle.std.proofs.Common.{◌≡◌, ◌∙◌, ℕ, refl, ap, sym, subst, Bool, true, false, not, List, [], ◌∷◌, ◌⊎◌, inl, inr, Bor}
-use Rattle.std.specs.Prelude.{IsTrue, ◌↔◌, ◌&&◌, ◌||◌, Contains}
+use Rattle.std.specs.Prelude.{IsTrue, ◌↔◌, ◌&&◌}
 use Rattle.std.specs.BTreeMap.{BTreeMap}
 use Rattle.std.proofs.lemmas.Bool.{true≢false, false≢true, false_from_ne_true, and_parts, and_from, or_cases, or_left, or_right}
 use Rattle.wb_values.specs.Value.{Name}
@@ -9,6 +9,7 @@ use Rattle.verilog_meaning.specs.Expression.{Scope}
 use Rattle.verilog_meaning.specs.Register.{is_bit_of, may_assign}
 use Rattle.verilog_unique.proofs.Descent.{IsAmong, among_contains, contains_among}
 use Rattle.verilog_designs.specs.Reads.{BitSet, no_bits, or_in, and_in, but_not_in}
+use Rattle.verilog_designs.specs.Drivers.{statement_reads}
 use Rattle.verilog_designs.specs.Dependence.{Bit, is_in}
 use Rattle.v_flow.specs.Spans.{existing}
 use Rattle.v_flow.specs.Narrow.{IsNarrowFlow}
@@ -17,14 +18,30 @@ use Rattle.v_paths.specs.Premises.{HasNoMemory, AssignsNoMemory}
 use Rattle.v_depend.specs.Resting.{IsThere, OneIsUnsettled, RestsAfter}
 use Rattle.v_loops.specs.Turns.{TellsWhereAssigned, RestsBy}
 use Rattle.v_loops.proofs.Steps.{RestsWhereItDepends, in-first}
-use Rattle.v_reach.specs.Marking.{HasAll, IsClosed, IsMore, IsVisited}
-use Rattle.v_reach.proofs.Local.{needs, same-rests}
+use Rattle.v_reach.specs.Marking.{HasAll, IsVisited}
+use Rattle.v_reach.proofs.Local.{needs, same-rests, marks-nothing}
 
 -- what a table of the bits that the driver needs tells
 pub tells : (s : Scope) (x : Statement) (p : BitSet) → RestsWhereItDepends → IsNarrowFlow s x → HasNoMemory s p → (m0 m : BitSet) → m0 ≡ spread (and_in (needs s x) p)
     → ((u : Bit) → IsThere s u → IsTrue (is_in m u) ↔ RestsAfter m0 s x u) → TellsWhereAssigned (spread p) s x m
 tells s x p law narrow none m0 m start f u there a =
     let r = same-rests s x p m0 none start law narrow u there a in ((λ h. r.0 ((f u there).0 h)), (λ h. (f u there).1 (r.1 h)))
+
+-- ---- a driver that reads no marked bit
+
+only-one : (x y : Statement) → IsAmong (x ∷ []) y → x ≡ y
+only-one x y (inl e) = e
+only-one x y (inr h) = absurd h
+
+pub unreached-visited : RestsWhereItDepends → (s : Scope) (x : Statement) (p read : BitSet) (some : Bool) → HasNoMemory s p → IsNarrowFlow s x → read ≡ statement_reads s x
+    → IsTrue some ↔ OneIsUnsettled p read → some ≡ false → IsVisited false s x p p
+unreached-visited law s x p read some none narrow is f e =
+    record {
+      more = λ n k b h. h;
+      free = λ h. h;
+      rests = λ u there h. inl h;
+      grown = (refl, λ y u c r. marks-nothing law s x p read some none narrow is f e u (subst (λ (z : Statement). RestsBy false p s z u) (sym (only-one x y (among_contains (x ∷ []) y c))) r));
+    }
 
 is-not : (b : Bool) → not b ≡ true → b ≡ false
 is-not true h = absurd (false≢true h)

@@ -15,13 +15,13 @@ use std::alloc::{AllocError, Global};
 use std::collections::BTreeMap;
 use v_depend::laws::rests_where_it_depends;
 use v_depend::meets;
-use v_order::add_driven;
 use v_order::driver::Driver;
+use v_order::{add_driven, add_read};
 use v_paths::mask::{add_left, add_spans, kept_in, masks_of};
 use v_value::scope::Scope;
 
-/// Marks the bits that a driver may assign and that rest on a marked one after it. Answers whether one of them was not marked before.
-pub(crate) fn visit<'s>(
+/// The same of a driver that reads a marked bit: with a table of what rests on one after it.
+fn visit_reached<'s>(
     alloc: Global,
     driver: Driver<'_, 's>,
     scope: &Scope<'_>,
@@ -45,6 +45,30 @@ pub(crate) fn visit<'s>(
     }
     add_spans(marked, &added)?;
     Ok(true)
+}
+
+/// Marks the bits that a driver may assign and that rest on a marked one after it. Answers whether one of them was not marked before.
+/// Where the driver reads no marked bit, none is.
+pub(crate) fn visit<'s>(
+    alloc: Global,
+    driver: Driver<'_, 's>,
+    scope: &Scope<'_>,
+    marked: &mut BTreeMap<&'s str, u128>,
+) -> Result<bool, AllocError>
+    requires objects { HasNarrowObjects (scope_at scope.now) }
+    requires fit { IsFit (scope_at scope.now) (statement_in driver) }
+    requires variables { HasNoMemory (scope_at scope.now) (masked marked.old) }
+    ensures { IfOk result (λ r. IsVisited r (scope_at scope.now) (statement_in driver.entry) (masked marked.old) (masked marked.new)) }
+{
+    rests_where_it_depends();
+    let mut read = Vec::new(alloc);
+    add_read(driver, scope, &mut read)?;
+    let reached = meets(&read, marked);
+    if !reached {
+        return Ok(false);
+    }
+    let some = visit_reached(alloc, driver, scope, marked)?;
+    Ok(some)
 }
 
 /// Visits the driver with an index, if there is one.
