@@ -28,6 +28,8 @@ EXAMPLES = ("counter", "sum", "multiplier", "fifo", "uart", "registers", "copier
 TIME = "/usr/bin/time"
 SECONDS = 600
 ROOM = 12 << 30
+# As the launcher ./wb has it.
+os.environ.setdefault("GLIBC_TUNABLES", "glibc.malloc.hugetlb=1")
 # the statuses of a run that its seconds ended
 STOPPED = (128 + signal.SIGXCPU, 128 + signal.SIGKILL)
 DOTTED = re.compile(r"[A-Za-z_]\w*(?:\.[A-Za-z_]\w*)+")

@@ -19,6 +19,8 @@ import tempfile
 import time
 
 TOP = os.path.realpath(os.path.join(os.path.dirname(os.path.abspath(__file__)), "..", "..", ".."))
+# As the launcher ./wb has it.
+os.environ.setdefault("GLIBC_TUNABLES", "glibc.malloc.hugetlb=1")
 CYCLES = 20000
 STAGES = 40
 STEPS = ("(p + {c})", "(p ^ {c})", "(p - {{p[15:0], p[31:16]}})", "(p << 3) + b", "{{p[0], p[31:1]}} ^ (p & {c})", "p[7] ? p + b : ~p", "p * {c}", "p + (b >>> 2)")

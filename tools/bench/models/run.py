@@ -17,6 +17,8 @@ HERE = os.path.dirname(os.path.abspath(__file__))
 BUILT = os.path.join(HERE, "../../../crates/wb_main/out/wb_main")
 SECONDS = 30
 ROOM = 4 << 30
+# As the launcher ./wb has it.
+os.environ.setdefault("GLIBC_TUNABLES", "glibc.malloc.hugetlb=1")
 
 
 def limited():

@@ -18,6 +18,8 @@ import tempfile
 
 HERE = os.path.dirname(os.path.abspath(__file__))
 TOP = os.path.join(HERE, "../../..")
+# As the launcher ./wb has it.
+os.environ.setdefault("GLIBC_TUNABLES", "glibc.malloc.hugetlb=1")
 BUILT = os.path.join(TOP, "crates/wb_main/out/wb_main")
 COUNTER = os.path.join(TOP, "examples/counter")
 BOUND_SECONDS, BOUND_MEMORY = 2.0, 700
