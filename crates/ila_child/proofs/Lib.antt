@@ -10,3 +10,5 @@ pub mod Starts
 pub mod Answers
 pub mod Effects
 pub mod Checked
+pub mod Movement
+pub mod StepLemmas

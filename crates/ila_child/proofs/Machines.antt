@@ -9,9 +9,9 @@ use Rattle.model_meaning.specs.Model as pure
 use Rattle.model_meaning.specs.Model.{holds, updated}
 use Rattle.model_meaning.specs.Instruction as instruction
 use Rattle.model_meaning.specs.Instruction.{NoneDecodes, SomeDecodes, DoesChild, DoesInstruction, DoesOne, ChildTrouble, InstructionTrouble, OneTrouble}
-use Rattle.wb_terms.specs.declared.values.Env.{Env}
 use Rattle.wb_terms.specs.Graph.{Graph, tree}
-use Rattle.wb_terms.specs.Environment.{values_by_name, values_of, valuation, Fits}
+use Rattle.wb_terms.specs.Environment.{AreOfSorts}
+use Rattle.wb_terms.specs.Links.{valuation_at}
 use Rattle.ila_model.specs.declared.parts.ChildId.{ChildId}
 use Rattle.ila_model.specs.declared.parts.Child.{Child}
 use Rattle.ila_model.specs.declared.parts.Instruction.{Instruction}
@@ -67,10 +67,10 @@ are_conditions-from p at from (i ∷ is) h =
     and_from _ _ w.0 (are_conditions-from p at (child_after from i.child) is z.1)
 
 -- conditions hold in the environment as at the point
-pub holds_same : (p : Parts) (at : Option ℕ) (d : ℕ) (e : Env) (k : ℕ) → HasDepth p.children.items d at → d ≤ nesting → is_condition p at k ≡ true → holds (tree p.terms k) (valuation p.terms e) ≡ holds (tree p.terms k) (seen p at e)
-holds_same p at d e k deep low h = ap as_truth (term_at_point p at d (values_of e) truth k deep low h)
+pub holds_same : (p : Parts) (at : Option ℕ) (d : ℕ) (e : List meaning.Value) (k : ℕ) → HasDepth p.children.items d at → d ≤ nesting → is_condition p at k ≡ true → holds (tree p.terms k) (valuation_at p.terms e) ≡ holds (tree p.terms k) (seen p at e)
+holds_same p at d e k deep low h = ap as_truth (term_at_point p at d e truth k deep low h)
 
-decodes_at : (p : Parts) (at : Option ℕ) (d from : ℕ) (e : Env) (is : List Instruction) (k : ℕ) → HasDepth p.children.items d at → d ≤ nesting → are_instructions p at from is ≡ true → decodes p.terms (valuation p.terms e) is k ≡ decodes p.terms (seen p at e) is k
+decodes_at : (p : Parts) (at : Option ℕ) (d from : ℕ) (e : List meaning.Value) (is : List Instruction) (k : ℕ) → HasDepth p.children.items d at → d ≤ nesting → are_instructions p at from is ≡ true → decodes p.terms (valuation_at p.terms e) is k ≡ decodes p.terms (seen p at e) is k
 decodes_at p at d from e [] k deep low h = refl
 decodes_at p at d from e (i ∷ is) zero deep low h =
     let x = and_parts (is_instruction p at i) _ h in
@@ -81,7 +81,7 @@ decodes_at p at d from e (i ∷ is) (suc k) deep low h =
     let z = and_parts (is_link p.children.items at from i.child) _ x.1 in
     decodes_at p at d (child_after from i.child) e is k deep low z.1
 
-pub decodes_same : (p : Parts) (at : Option ℕ) (d : ℕ) (e : Env) (is : List Instruction) → HasDepth p.children.items d at → d ≤ nesting → are_instructions p at 0 is ≡ true → decodes p.terms (valuation p.terms e) is ≡ decodes p.terms (seen p at e) is
+pub decodes_same : (p : Parts) (at : Option ℕ) (d : ℕ) (e : List meaning.Value) (is : List Instruction) → HasDepth p.children.items d at → d ≤ nesting → are_instructions p at 0 is ≡ true → decodes p.terms (valuation_at p.terms e) is ≡ decodes p.terms (seen p at e) is
 decodes_same p at d e is deep low h = fun_ext (λ k. decodes_at p at d 0 e is k deep low h)
 
 -- which instructions decode
@@ -129,11 +129,11 @@ several_stuck g inner p depth step (x ∷ is) (suc j) (suc k) f =
     inr (inr (f.0.2 0 (omega arith) (λ e. absurd (omega (arith, e))), several_stuck g inner p depth step is j k rest))
 
 -- the instruction that alone decodes, behind its updates
-pub one_taken : (p : Parts) (s : AreSorted p) (at : Option ℕ) (d : ℕ) (is : List Instruction) (j : ℕ) (i : Instruction) (e f : Env) → HasDepth p.children.items d at → d ≤ nesting → are_instructions p at 0 is ≡ true → i ≡ get_or is j i → IsOnlyFound (decodes p.terms (seen p at e) is) (length is) j → Fits p.terms e → values_of f ≡ with_updates p.terms (valuation p.terms e) i.updates.items (values_of e) → IsOneTaken p at is e f i.child
+pub one_taken : (p : Parts) (s : AreSorted p) (at : Option ℕ) (d : ℕ) (is : List Instruction) (j : ℕ) (i : Instruction) (e f : List meaning.Value) → HasDepth p.children.items d at → d ≤ nesting → are_instructions p at 0 is ≡ true → i ≡ get_or is j i → IsOnlyFound (decodes p.terms (seen p at e) is) (length is) j → AreOfSorts p.terms.names e → f ≡ with_updates p.terms (valuation_at p.terms e) i.updates.items e → IsOneTaken p at is e f i.child
 one_taken p s at d is j i e f deep low h here found fits made =
     let g = p.terms in
     let sorted = subst (IsSorted p at) (sym here) (sorted_at p at 0 is j i h found.0) in
-    let moved = updated_point p s at d i.updates.items (values_of e) deep low sorted.updates (AreOfSorts-length g.names (values_of e) fits) ∙ ap (point_at p at) (sym made) in
+    let moved = updated_point p s at d i.updates.items e deep low sorted.updates (AreOfSorts-length g.names e fits) ∙ ap (point_at p at) (sym made) in
     record {
       linked = sorted.linked;
       does = λ inner q r.

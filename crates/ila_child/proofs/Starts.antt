@@ -9,8 +9,7 @@ use Rattle.model_meaning.specs.Model as pure
 use Rattle.model_meaning.specs.Model.{StateDeclaration, InputDeclaration, is_input_name, state_named, point_of, states_of}
 use Rattle.model_meaning.specs.Instruction.{own_states}
 use Rattle.wb_terms.specs.declared.values.Value.{Value}
-use Rattle.wb_terms.specs.declared.values.Env.{Env}
-use Rattle.wb_terms.specs.Environment.{AreOfSorts, values_by_name, values_of, Fits}
+use Rattle.wb_terms.specs.Environment.{AreOfSorts, values_by_name}
 use Rattle.ila_model.specs.declared.parts.Child.{Child}
 use Rattle.ila_model.specs.declared.parts.Parts.{Parts}
 use Rattle.ila_model.specs.declared.scopes.Scope.{Scope}
@@ -22,7 +21,7 @@ use Rattle.ila_model.proofs.Declarations.{AreSorted}
 use Rattle.ila_child.specs.State.{sorts_of_states, sorts_of_inputs, IsStateOf, AreInputsOf, state_valuation, input_valuation}
 use Rattle.ila_child.specs.Updating.{value_at}
 use Rattle.ila_child.specs.Running.{seen, point_at}
-use Rattle.ila_child.specs.Start.{zeros_of, IsEnvironment, HasStates}
+use Rattle.ila_child.specs.Start.{zeros_of, IsPointOf, HasStates}
 use Rattle.ila_child.proofs.Initial.{zero_has_sort}
 use Rattle.ila_child.proofs.Updates.{AreOfSorts-length, AreOfSorts-at}
 use Rattle.ila_child.proofs.Places.{valuation-at, valuation-lacking, distinct-take, distinct-drop, lacks-take, lacks-drop, behind_take, home-at, top_scope, at_copies, behind_copies, below_or, states_by, stated_only, declared-by, named-lacking, named_in, named_behind, input_lacking, input_in, input_before, input_behind}
@@ -39,13 +38,13 @@ inputs_table zero ns = refl
 inputs_table (suc m) [] = refl
 inputs_table (suc m) (n ∷ ns) = ap (λ (r : Entries Sort). n ∷ r) (inputs_table m ns)
 
-AreOfSorts-append : (a b : Entries Sort) (xs ys : List meaning.Value) → AreOfSorts a xs → AreOfSorts b ys → AreOfSorts (a ++ b) (xs ++ ys)
+pub AreOfSorts-append : (a b : Entries Sort) (xs ys : List meaning.Value) → AreOfSorts a xs → AreOfSorts b ys → AreOfSorts (a ++ b) (xs ++ ys)
 AreOfSorts-append [] b [] ys h k = k
 AreOfSorts-append [] b (x ∷ xs) ys h k = absurd h
 AreOfSorts-append (n ∷ a) b [] ys h k = absurd h
 AreOfSorts-append (n ∷ a) b (x ∷ xs) ys h k = (h.0, AreOfSorts-append a b xs ys h.1 k)
 
-zeros_sorted : (ns : Entries Sort) → AreOfSorts ns (zeros_of ns)
+pub zeros_sorted : (ns : Entries Sort) → AreOfSorts ns (zeros_of ns)
 zeros_sorted [] = tt
 zeros_sorted (n ∷ ns) = (zero_has_sort n.1, zeros_sorted ns)
 
@@ -60,7 +59,7 @@ two_parts (suc n) m (x ∷ ns) =
     let e : suc (n + m) ≡ suc n + m = omega arith in
     ap (λ (r : Entries Sort). x ∷ r) (two_parts n m ns) ∙ ap (λ k. take k (x ∷ ns)) e
 
-whole : (n : ℕ) (ns : Entries Sort) → take n ns ++ drop n ns ≡ ns
+pub whole : (n : ℕ) (ns : Entries Sort) → take n ns ++ drop n ns ≡ ns
 whole zero ns = refl
 whole (suc n) [] = refl
 whole (suc n) (x ∷ ns) = ap (λ (r : Entries Sort). x ∷ r) (whole n ns)
@@ -86,28 +85,19 @@ given p s name q w a b =
       inputs_count = omega (arith, AreOfSorts-length (take p.inputs (drop n ns)) w d, length-take p.inputs (drop n ns), length-drop n ns);
     }
 
-pub environment_fits : (p : Parts) (q w : List meaning.Value) (e : Env) → AreGiven p q w → IsEnvironment p.terms.names q w e → Fits p.terms e
-environment_fits p q w e a i =
-    let ns = p.terms.names in
+-- the value of a state, and of an input
+state_at : (p : Parts) (q w xs : List meaning.Value) (k : ℕ) → IsPointOf p q w xs → k < length p.initial_values.items → value_at xs k ≡ value_at q k
+state_at p q w xs k i h = sym (get_or-take (length p.initial_values.items) xs k (number 0) h) ∙ ap (λ (ys : List meaning.Value). value_at ys k) i.state
+
+input_at : (p : Parts) (q w xs : List meaning.Value) (k : ℕ) → IsPointOf p q w xs → length p.initial_values.items ≤ k → k < length p.initial_values.items + p.inputs
+    → value_at xs k ≡ value_at w (k - length p.initial_values.items)
+input_at p q w xs k i lo hi =
     let n = length p.initial_values.items in
-    let k = length (q ++ w) in
-    let same : n + p.inputs ≡ k = omega (arith, a.states_count, a.inputs_count, length-append q w) in
-    let front = subst (λ t. AreOfSorts t (q ++ w)) (two_parts n p.inputs ns ∙ ap (λ j. take j ns) same) (AreOfSorts-append _ _ q w a.states a.inputs) in
-    let all = AreOfSorts-append (take k ns) (drop k ns) (q ++ w) (zeros_of (drop k ns)) front (zeros_sorted (drop k ns)) in
-    subst (AreOfSorts ns) (sym i) (subst (λ t. AreOfSorts t ((q ++ w) ++ zeros_of (drop k ns))) (whole k ns) all)
-
--- places of appended lists
-first_part : (xs ys : List meaning.Value) (k : ℕ) → k < length xs → value_at (xs ++ ys) k ≡ value_at xs k
-first_part [] ys k h = absurd (omega arith)
-first_part (x ∷ xs) ys zero h = refl
-first_part (x ∷ xs) ys (suc k) h = first_part xs ys k (omega arith)
-
-second_part : (xs ys : List meaning.Value) (k : ℕ) → length xs ≤ k → value_at (xs ++ ys) k ≡ value_at ys (k - length xs)
-second_part [] ys k h = ap (value_at ys) (let e : k ≡ k - 0 = omega arith in e)
-second_part (x ∷ xs) ys zero h = absurd (omega arith)
-second_part (x ∷ xs) ys (suc k) h =
-    let e : k - length xs ≡ suc k - suc (length xs) = omega arith in
-    second_part xs ys k (omega arith) ∙ ap (value_at ys) e
+    let e : n + (k - n) ≡ k = omega arith in
+    sym (ap (value_at xs) e)
+    ∙ sym (get_or-drop n xs (k - n) (number 0))
+    ∙ sym (get_or-take p.inputs (drop n xs) (k - n) (number 0) (omega arith))
+    ∙ ap (λ (ys : List meaning.Value). value_at ys (k - n)) i.inputs
 
 -- values under the names of a part of the table
 front_value : (n : ℕ) (ns : Entries Sort) (xs : List meaning.Value) (k : ℕ) → are_distinct ns ≡ true → n ≤ length ns → length xs ≡ n → k < n → valuation_of (values_by_name (take n ns) xs) (name_at ns k) ≡ value_at xs k
@@ -162,40 +152,32 @@ hidden_value p s xs k l h b =
     known_point p None xs k s.distinct l b ∙ ap (λ r. cond r (value_at xs k) (number 0)) (hidden_home p s k h b)
 
 -- the top sees the point of state and inputs
-pub start_point : (p : Parts) (s : AreSorted p) (name : Name) (q w : List meaning.Value) (e : Env) → AreGiven p q w → IsEnvironment p.terms.names q w e → seen p None e ≡ point_of (model_from name p) (state_valuation (model_from name p) q) (input_valuation (model_from name p) w)
-start_point p s name q w e a i =
+pub start_point : (p : Parts) (s : AreSorted p) (name : Name) (q w : List meaning.Value) (xs : List meaning.Value) → AreGiven p q w → IsPointOf p q w xs → seen p None xs ≡ point_of (model_from name p) (state_valuation (model_from name p) q) (input_valuation (model_from name p) w)
+start_point p s name q w xs a i =
     let ns = p.terms.names in
     let n = length p.initial_values.items in
     let m = p.inputs in
     let mo = model_from name p in
     let sv = state_valuation mo q in
     let iv = input_valuation mo w in
-    let xs = values_of e in
     let within = s.declared.within in
-    let l = AreOfSorts-length ns xs (environment_fits p q w e a i) in
-    let zs = zeros_of (drop (length (q ++ w)) ns) in
+    let l = AreOfSorts-length ns xs i.fits in
     let sv_is : (x : Name) → sv x ≡ valuation_of (values_by_name (take n ns) q) x = λ x. ap (λ t. valuation_of (values_by_name t q) x) (states_table ns p.initial_values.items) in
     let iv_is : (x : Name) → iv x ≡ valuation_of (values_by_name (take m (drop n ns)) w) x = λ x. ap (λ t. valuation_of (values_by_name t w) x) (inputs_table m (drop n ns)) in
-    by_places ns (seen p None e) (point_of mo sv iv)
+    by_places ns (seen p None xs) (point_of mo sv iv)
     (λ k b.
     let x = name_at ns k in
     elim (below_or k n) [
       | inl lo ↦
           top_value p s xs k l (omega arith)
-          ∙ ap (λ ys. value_at ys k) i
-          ∙ first_part (q ++ w) zs k (omega (arith, length-append q w, a.states_count))
-          ∙ first_part q w k (omega (arith, a.states_count))
+          ∙ state_at p q w xs k i lo
           ∙ sym (front_value n ns q k s.distinct (omega arith) a.states_count lo)
           ∙ sym (sv_is x)
           ∙ sym (ap (λ r. cond r (iv x) (sv x)) (input_before m n ns k s.distinct lo b))
       | inr lo ↦ elim (below_or k (n + m)) [
         | inl hi ↦
-            let at : k - length q ≡ k - n = omega (arith, a.states_count) in
             top_value p s xs k l hi
-            ∙ ap (λ ys. value_at ys k) i
-            ∙ first_part (q ++ w) zs k (omega (arith, length-append q w, a.states_count, a.inputs_count))
-            ∙ second_part q w k (omega (arith, a.states_count))
-            ∙ ap (value_at w) at
+            ∙ input_at p q w xs k i lo hi
             ∙ sym (middle_value n m ns w k s.distinct (omega arith) a.inputs_count lo hi)
             ∙ sym (iv_is x)
             ∙ sym (ap (λ r. cond r (iv x) (sv x)) (input_in m n ns k s.distinct lo hi b))

@@ -1,7 +1,7 @@
--- Lemmas on updates and writes by the places of names.
-use Rattle.std.proofs.Common.{◌≡◌, ℕ, zero, suc, ◌+◌, ◌<◌, ◌≤◌, true, cond, nat_le, nat_lt, nat_eq, List, [], ◌∷◌, ◌++◌, length, get_or, set, drop, take, Option, Some, None, inl, inr, refl, sym, ap, ◌∙◌, subst, arith}
+-- Lemmas on updates by the places of names.
+use Rattle.std.proofs.Common.{◌≡◌, ℕ, zero, suc, ◌+◌, ◌<◌, ◌≤◌, true, cond, nat_le, nat_lt, nat_eq, List, [], ◌∷◌, ◌++◌, map, length, get_or, set, drop, take, Option, Some, None, inl, inr, refl, sym, ap, ◌∙◌, subst, arith, append_assoc}
 use Rattle.std.proofs.lemmas.Bool.{cases_eq, and_parts, and_from, leb-true, le-leb, ltb-true, lt-ltb, eq-eqb, eqb-true, ne_eqb, false≢true}
-use Rattle.std.proofs.lemmas.List.{get_or-set_same, get_or-set_other, drop_more}
+use Rattle.std.proofs.lemmas.List.{get_or-set_same, get_or-set_other, drop_more, drop_at, take_more, map-append}
 use Rattle.std.proofs.Math.ListN.{length-set}
 use Rattle.wb_values.specs.Value as meaning
 use Rattle.wb_values.specs.Value.{Sort, truth, word, memory, number, Entries, Valuation, HasSort}
@@ -9,12 +9,14 @@ use Rattle.model_meaning.specs.Term.{same_sort, sort_of, val}
 use Rattle.model_meaning.specs.Model.{updated_value}
 use Rattle.wb_terms.specs.declared.values.Value.{Value}
 use Rattle.wb_terms.specs.Graph.{Graph, tree}
-use Rattle.wb_terms.specs.Environment.{HasSortOf, AreOfSorts, as_value}
+use Rattle.wb_terms.specs.Points.{PointView, HasRoom}
+use Rattle.wb_bits.specs.declared.Word.{Word}
+use Rattle.sparse_memories.specs.declared.pool.Memory.{Memory}
+use Rattle.wb_terms.specs.Environment.{HasSortOf, AreOfSorts}
 use Rattle.ila_model.specs.declared.parts.Update.{Update}
 use Rattle.ila_model.specs.declared.parts.Parts.{Parts}
 use Rattle.ila_model.specs.Sorted.{has_sort, is_term_of, is_read_at, is_state_at, sort_at, are_updates}
-use Rattle.ila_child.specs.declared.updating.Write.{Write}
-use Rattle.ila_child.specs.Updating.{are_updates_of, update_at, value_at, with_updates, with_writes, with_initial, AreFitting, AreWritesOf}
+use Rattle.ila_child.specs.Updating.{are_updates_of, update_at, value_at, values_of_updates, with_updates, with_kept, with_initial, AreUpdatesSorted}
 use Rattle.ila_child.specs.Values.{beginning}
 
 -- what is known of the first of some updates
@@ -125,31 +127,69 @@ AreOfSorts-set (n ∷ ns) [] k v a h = absurd a
 AreOfSorts-set (n ∷ ns) (x ∷ xs) zero v a h = (h, a.1)
 AreOfSorts-set (n ∷ ns) (x ∷ xs) (suc k) v a h = (a.0, AreOfSorts-set ns xs k v a.1 h)
 
--- one write more
-pub AreWritesOf-push : (g : Graph) (p : Valuation) (us : List Update) (ws : List Write) (u : Update) (w : Write) → AreWritesOf g p us ws → w.place ≡ u.state.0 → as_value w.value ≡ val (tree g u.term.0) p → u.state.0 < length g.names → HasSort (as_value w.value) (sort_at g.names u.state.0) → AreWritesOf g p (us ++ u ∷ []) (ws ++ w ∷ [])
-AreWritesOf-push g p [] [] u w a e v b s = (e, v, b, s, tt)
-AreWritesOf-push g p [] (x ∷ ws) u w a e v b s = absurd a
-AreWritesOf-push g p (x ∷ us) [] u w a e v b s = absurd a
-AreWritesOf-push g p (x ∷ us) (y ∷ ws) u w a e v b s = (a.0, a.1, a.2, a.3, AreWritesOf-push g p us ws u w a.4 e v b s)
+-- values that were kept for updates
+pub with_kept-of : (g : Graph) (p : Valuation) (us : List Update) (xs : List meaning.Value) → with_kept us (values_of_updates g p us) xs ≡ with_updates g p us xs
+with_kept-of g p [] xs = refl
+with_kept-of g p (u ∷ us) xs = with_kept-of g p us (set xs u.state.0 (val (tree g u.term.0) p))
 
-pub with_writes-of : (g : Graph) (p : Valuation) (us : List Update) (ws : List Write) (xs : List meaning.Value) → AreWritesOf g p us ws → with_writes ws xs ≡ with_updates g p us xs
-with_writes-of g p [] [] xs a = refl
-with_writes-of g p [] (w ∷ ws) xs a = absurd a
-with_writes-of g p (u ∷ us) [] xs a = absurd a
-with_writes-of g p (u ∷ us) (w ∷ ws) xs a =
-    ap (λ k. with_writes ws (set xs k (as_value w.value))) a.0
-    ∙ ap (λ v. with_writes ws (set xs u.state.0 v)) a.1
-    ∙ with_writes-of g p us ws (set xs u.state.0 (val (tree g u.term.0) p)) a.4
+-- the same values after others that were kept before
+pub with_kept-after : (g : Graph) (p : Valuation) (us : List Update) (before all xs : List meaning.Value) (n : ℕ) → n ≡ length before → all ≡ before ++ values_of_updates g p us → with_kept us (drop n all) xs ≡ with_updates g p us xs
+with_kept-after g p us before all xs n e f =
+    ap (λ (vs : List meaning.Value). with_kept us (drop n vs) xs) f
+    ∙ ap (λ (vs : List meaning.Value). with_kept us vs xs) (drop_at before (values_of_updates g p us) n (sym e))
+    ∙ with_kept-of g p us xs
 
-pub AreFitting-of : (g : Graph) (p : Valuation) (us : List Update) (ws : List Write) → AreWritesOf g p us ws → AreFitting g.names ws
-AreFitting-of g p [] [] a = tt
-AreFitting-of g p [] (w ∷ ws) a = absurd a
-AreFitting-of g p (u ∷ us) [] a = absurd a
-AreFitting-of g p (u ∷ us) (w ∷ ws) a =
-    let e : u.state.0 ≡ w.place = sym a.0 in
-    let b = subst (λ k. k < length g.names) e a.2 in
-    let s = subst (λ k. HasSort (as_value w.value) (sort_at g.names k)) e a.3 in
-    (b, s, AreFitting-of g p us ws a.4)
+-- one of them is given to its name
+pub with_kept-turn : (us : List Update) (vs xs : List meaning.Value) (first k : ℕ) (u : Update) → k < length us → first + k < length vs → u ≡ get_or us k u
+    → with_kept (drop (k + 1) us) (drop (first + (k + 1)) vs) (set xs u.state.0 (get_or vs (first + k) (number 0))) ≡ with_kept (drop k us) (drop (first + k) vs) xs
+with_kept-turn us vs xs first k u h b e =
+    let n : first + (k + 1) ≡ first + k + 1 = omega arith in
+    let v = get_or vs (first + k) (number 0) in
+    ap (λ (j : ℕ). with_kept (drop (k + 1) us) (drop j vs) (set xs u.state.0 v)) n
+    ∙ ap (λ (x : Update). with_kept (drop (k + 1) us) (drop (first + k + 1) vs) (set xs x.state.0 v)) e
+    ∙ sym (ap (λ (ys : List meaning.Value). with_kept (drop k us) ys xs) (drop_more vs (first + k) (number 0) b)
+    ∙ ap (λ (ws : List Update). with_kept ws (v ∷ drop (first + k + 1) vs) xs) (drop_more us k u h))
+
+-- one value more is kept
+pub values_kept : (g : Graph) (p : Valuation) (us : List Update) (old now : List meaning.Value) (k : ℕ) (u : Update) (v : meaning.Value) → k < length us → u ≡ get_or us k u → v ≡ val (tree g u.term.0) p
+    → now ≡ old ++ values_of_updates g p (take k us) → now ++ v ∷ [] ≡ old ++ values_of_updates g p (take (k + 1) us)
+values_kept g p us old now k u v h e f q =
+    let f_of = λ (w : Update). val (tree g w.term.0) p in
+    ap (λ (ys : List meaning.Value). ys ++ v ∷ []) q
+    ∙ append_assoc old (values_of_updates g p (take k us)) (v ∷ [])
+    ∙ ap (λ (y : meaning.Value). old ++ (values_of_updates g p (take k us) ++ y ∷ [])) (f ∙ ap f_of e)
+    ∙ ap (λ (ys : List meaning.Value). old ++ ys) (sym (ap (map f_of) (take_more us k u h) ∙ map-append f_of (take k us) (get_or us k u ∷ [])))
+
+-- the values fit the names
+pub updates_sorted-push : (g : Graph) (p : Valuation) (us : List Update) (u : Update) → AreUpdatesSorted g p us → HasSort (val (tree g u.term.0) p) (sort_at g.names u.state.0) → AreUpdatesSorted g p (us ++ u ∷ [])
+updates_sorted-push g p [] u a h = (h, tt)
+updates_sorted-push g p (x ∷ us) u a h = (a.0, updates_sorted-push g p us u a.1 h)
+
+pub with_updates-sorted : (g : Graph) (p : Valuation) (us : List Update) (xs : List meaning.Value) → AreUpdatesSorted g p us → AreOfSorts g.names xs → AreOfSorts g.names (with_updates g p us xs)
+with_updates-sorted g p [] xs a f = f
+with_updates-sorted g p (u ∷ us) xs a f = with_updates-sorted g p us (set xs u.state.0 (val (tree g u.term.0) p)) a.1 (AreOfSorts-set g.names xs u.state.0 (val (tree g u.term.0) p) f a.0)
+
+-- an update, where one is wanted past the end
+abbrev pub no_update : Update
+no_update = record { state = record { 0 = 0 }; term = record { 0 = 0 } }
+
+pub none_left : (us : List Update) (k : ℕ) → length us ≤ k → drop k us ≡ []
+none_left [] zero h = refl
+none_left [] (suc k) h = refl
+none_left (u ∷ us) zero h = absurd (omega arith)
+none_left (u ∷ us) (suc k) h = none_left us k (omega arith)
+
+pub length-values_of_updates : (g : Graph) (p : Valuation) (us : List Update) → length (values_of_updates g p us) ≡ length us
+length-values_of_updates g p [] = refl
+length-values_of_updates g p (u ∷ us) = ap suc (length-values_of_updates g p us)
+
+-- nothing was put aside yet
+pub kept_none : (x : PointView) → x ≡ record x { aside = x.aside ++ [] }
+kept_none x = ap (λ (vs : List meaning.Value). record x { aside = vs }) (sym (append_nothing x.aside))
+  where
+    append_nothing : (vs : List meaning.Value) → vs ++ [] ≡ vs
+    append_nothing [] = refl
+    append_nothing (v ∷ vs) = ap (λ (ws : List meaning.Value). v ∷ ws) (append_nothing vs)
 
 -- the updates of a machine, as far as its evaluation needs
 pub are_updates-of : (p : Parts) (at : Option ℕ) (from : ℕ) (us : List Update) → are_updates p at from us ≡ true → are_updates_of p.terms from us ≡ true
@@ -162,12 +202,10 @@ are_updates-of p at from (u ∷ us) h =
     let e = and_parts (is_term_of p.terms (sort_at p.terms.names u.state.0) u.term.0) _ c.0 in
     and_from _ _ a.0 (and_from _ _ d.0 (and_from _ _ e.0 (are_updates-of p at (suc u.state.0) us c.1)))
 
--- the first of some writes is made
-pub with_writes-turn : (all rest : List Write) (w : Write) (xs : List meaning.Value) → all ≡ w ∷ rest → with_writes rest (set xs w.place (as_value w.value)) ≡ with_writes all xs
-with_writes-turn all rest w xs e = ap (λ ws. with_writes ws xs) (sym e)
-
-pub first_fits : (ns : Entries Sort) (all rest : List Write) (w : Write) → all ≡ w ∷ rest → AreFitting ns all → AreFitting ns (w ∷ rest)
-first_fits ns all rest w e f = subst (AreFitting ns) e f
+-- a point with as many words and links has the same room
+pub room_kept : (g : Graph) (x y : PointView) → y.words ≡ x.words → y.links ≡ x.links → HasRoom g x → HasRoom g y
+room_kept g x y e f r =
+    (subst (λ (ws : List Word). length g.nodes ≤ length ws) (sym e) r.0, subst (λ (ls : List Memory). length g.nodes ≤ length ls) (sym f) r.1)
 
 -- one private state begins
 pub with_initial-turn : (ns : Entries Sort) (from : ℕ) (is : List (Option Value)) (k : ℕ) (d : Option Value) (xs : List meaning.Value) → k < length is → with_initial ns (from + (k + 1)) (drop (k + 1) is) (set xs (from + k) (beginning (sort_at ns (from + k)) (get_or is k d))) ≡ with_initial ns (from + k) (drop k is) xs

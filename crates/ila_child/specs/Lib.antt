@@ -6,3 +6,4 @@ pub mod Updating
 pub mod Running
 pub mod Start
 pub mod Applied
+pub mod Runs

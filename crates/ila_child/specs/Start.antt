@@ -1,5 +1,5 @@
 -- The environment in which a step begins, and what the instruction that starts does.
-use Rattle.std.specs.Prelude.{ℕ, ◌+◌, ◌<◌, ◌≡◌, ◌++◌, List, [], map, length, drop, Option, Some, slice_get}
+use Rattle.std.specs.Prelude.{ℕ, ◌<◌, ◌≡◌, List, map, length, take, drop, Option, Some, None, slice_get}
 use Rattle.wb_values.specs.Value as meaning
 use Rattle.wb_values.specs.Value.{Sort, Entries, Valuation, HasSort}
 use Rattle.model_meaning.specs.Model as pure
@@ -7,8 +7,7 @@ use Rattle.model_meaning.specs.Instruction.{DoesInstruction, InstructionTrouble,
 use Rattle.model_meaning.specs.Instruction as instruction
 use Rattle.ila_child.specs.declared.running.Trouble.{Trouble}
 use Rattle.ila_child.specs.declared.running.Trouble.TheVariants.{Stuck, TooLong}
-use Rattle.wb_terms.specs.declared.values.Env.{Env}
-use Rattle.wb_terms.specs.Environment.{values_of}
+use Rattle.wb_terms.specs.Environment.{AreOfSorts}
 use Rattle.ila_model.specs.declared.parts.Instruction.{Instruction}
 use Rattle.ila_model.specs.declared.parts.Parts.{Parts}
 use Rattle.ila_model.specs.Scope.{nesting}
@@ -16,14 +15,19 @@ use Rattle.ila_model.specs.Sorted.{name_at, sort_at}
 use Rattle.ila_model.specs.Meaning.{zero_of, instruction_of, program_of}
 use Rattle.ila_child.specs.declared.stepping.Stepped.{Stepped}
 use Rattle.ila_child.specs.declared.stepping.Stepped.TheVariants.{Next, NotValid, NoInstruction, Several, ChildStuck, ChildTooLong}
+use Rattle.ila_child.specs.declared.runs.Moved.{Moved}
+use Rattle.ila_child.specs.declared.runs.Moved.TheVariants.{ChildStuck as StuckChild, ChildTooLong as TooLongChild}
 use Rattle.ila_child.specs.Updating.{value_at}
+use Rattle.ila_child.specs.Running.{trouble_of}
 
 abbrev pub zeros_of : Entries Sort → List meaning.Value
 zeros_of = map (λ n. zero_of n.1)
 
--- The values of the states, those of the inputs, and zeros.
-abbrev pub IsEnvironment : Entries Sort → (q w : List meaning.Value) → Env → Type 0
-IsEnvironment ns q w e = values_of e ≡ (q ++ w) ++ zeros_of (drop (length (q ++ w)) ns)
+-- The names of the states have the values of a state, and those of the inputs the values of inputs.
+pub record IsPointOf (p : Parts) (q w xs : List meaning.Value) : Type 0 where
+  pub fits : AreOfSorts p.terms.names xs
+  pub state : take (length p.initial_values.items) xs ≡ q
+  pub inputs : take p.inputs (drop (length p.initial_values.items) xs) ≡ w
 
 -- The states have the values of a point.
 pub record HasStates (p : Parts) (xs : List meaning.Value) (after : Valuation) : Type 0 where
@@ -49,7 +53,12 @@ IsStart p v k (Several i j) = ⊥
 IsStart p v k (ChildStuck d s) = IsTroubledAt p v k (stuck d s)
 IsStart p v k (ChildTooLong d) = IsTroubledAt p v k (too_long d)
 
+-- What the instruction of the code at a place does: it leads to these values of the names, or its child has trouble.
+abbrev pub IsGoingOn : Parts → Valuation → ℕ → List meaning.Value → Option Trouble → Type 0
+IsGoingOn p v k xs None = IsLed p v k (take (length p.initial_values.items) xs)
+IsGoingOn p v k xs (Some t) = IsTroubledAt p v k (trouble_of t)
+
 -- the answer where a child has trouble
-abbrev pub stop_of : Trouble → Stepped
-stop_of (Stuck d s) = ChildStuck d s
-stop_of (TooLong d) = ChildTooLong d
+abbrev pub stop_of : Trouble → Moved
+stop_of (Stuck d s) = StuckChild d s
+stop_of (TooLong d) = TooLongChild d

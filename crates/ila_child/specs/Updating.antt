@@ -1,14 +1,12 @@
 -- The values of the names after updates, and after private states have begun.
-use Rattle.std.specs.Prelude.{ℕ, suc, ◌<◌, ◌≡◌, Bool, true, ◌&&◌, nat_le, nat_lt, cond, ◌==◌, List, [], ◌∷◌, length, ⊤, Option, Some, None, slice_index_or, slice_set}
+use Rattle.std.specs.Prelude.{ℕ, suc, ◌<◌, ◌≡◌, Bool, true, ◌&&◌, nat_le, nat_lt, cond, ◌==◌, List, [], ◌∷◌, map, length, ⊤, Option, Some, None, slice_index_or, slice_set}
 use Rattle.wb_values.specs.Value as meaning
 use Rattle.wb_values.specs.Value.{Sort, Entries, number, Valuation, HasSort}
 use Rattle.model_meaning.specs.Term.{Term, val}
 use Rattle.wb_terms.specs.declared.values.Value.{Value}
 use Rattle.wb_terms.specs.Graph.{Graph, tree}
-use Rattle.wb_terms.specs.Environment.{as_value}
 use Rattle.ila_model.specs.declared.parts.Update.{Update}
 use Rattle.ila_model.specs.Sorted.{is_term_of, sort_at}
-use Rattle.ila_child.specs.declared.updating.Write.{Write}
 use Rattle.ila_child.specs.Values.{beginning}
 
 -- The updates are of declared names, each by a term of its sort, in ascending order from a place on.
@@ -31,25 +29,22 @@ abbrev pub with_updates : Graph → Valuation → List Update → List meaning.V
 with_updates g p [] xs = xs
 with_updates g p (u ∷ us) xs = with_updates g p us (slice_set xs u.state.0 (val (tree g u.term.0) p))
 
-abbrev pub with_writes : List Write → List meaning.Value → List meaning.Value
-with_writes [] xs = xs
-with_writes (w ∷ ws) xs = with_writes ws (slice_set xs w.place (as_value w.value))
+-- the values of updates at the point
+abbrev pub values_of_updates : Graph → Valuation → List Update → List meaning.Value
+values_of_updates g p us = map (λ (u : Update). val (tree g u.term.0) p) us
+
+-- each updated name has the value that was kept for it
+abbrev pub with_kept : List Update → (kept : List meaning.Value) → List meaning.Value → List meaning.Value
+with_kept [] vs xs = xs
+with_kept (u ∷ us) [] xs = xs
+with_kept (u ∷ us) (v ∷ vs) xs = with_kept us vs (slice_set xs u.state.0 v)
 
 -- the names from a place on have the values with which they begin
 abbrev pub with_initial : Entries Sort → (from : ℕ) → List (Option Value) → List meaning.Value → List meaning.Value
 with_initial ns k [] xs = xs
 with_initial ns k (i ∷ is) xs = with_initial ns (suc k) is (slice_set xs k (beginning (sort_at ns k) i))
 
--- each write is of a declared name, of its sort
-abbrev pub AreFitting : Entries Sort → List Write → Type 0
-AreFitting ns [] = ⊤
-AreFitting ns (w ∷ ws) = (w.place < length ns) × HasSort (as_value w.value) (sort_at ns w.place) × AreFitting ns ws
-
--- the writes are those of the updates at the point
-abbrev pub AreWritesOf : Graph → Valuation → List Update → List Write → Type 0
-AreWritesOf g p [] [] = ⊤
-AreWritesOf g p [] (w ∷ ws) = ⊥
-AreWritesOf g p (u ∷ us) [] = ⊥
-AreWritesOf g p (u ∷ us) (w ∷ ws) =
-    (w.place ≡ u.state.0) × (as_value w.value ≡ val (tree g u.term.0) p) × (u.state.0 < length g.names)
-    × HasSort (as_value w.value) (sort_at g.names u.state.0) × AreWritesOf g p us ws
+-- The values of the updates are of the sorts of the names that they update.
+abbrev pub AreUpdatesSorted : Graph → Valuation → List Update → Type 0
+AreUpdatesSorted g p [] = ⊤
+AreUpdatesSorted g p (u ∷ us) = HasSort (val (tree g u.term.0) p) (sort_at g.names u.state.0) × AreUpdatesSorted g p us

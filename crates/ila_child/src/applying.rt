@@ -1,16 +1,17 @@
 //! What one instruction does, whether or not it starts.
 
-ghost use Rattle.std.specs.Prelude.{◌≡◌, ◌<◌, None, IfOk, length, map};
+ghost use Rattle.std.specs.Prelude.{◌≡◌, ◌<◌, IfOk, length};
 ghost use Rattle.ila_model.specs.Model.{model_of};
 ghost use Rattle.ila_child.specs.State.{IsStateOf, AreInputsOf};
 ghost use Rattle.ila_child.specs.Applied.{IsApplied, state_of_step};
+ghost use Rattle.ila_child.specs.Runs.{IsRunnerOf, state_in, stepped_of};
 
-use crate::evaluation::holds;
+use crate::evaluation::holds_at;
+use crate::runs::{Moved, Runner, first_point, set_inputs, start_or_stay};
 use crate::states::{Inputs, State};
-use crate::stepping::{Stepped, environment, start};
 use ila_model::IlaModel;
 use std::alloc::Global;
-use wb_terms::{Evaluated, NoMemory};
+use wb_terms::NoMemory;
 
 /// What an instruction does at a state under inputs, whether or not it starts there.
 #[derive(Drop)]
@@ -35,25 +36,27 @@ pub fn apply(
     requires inputs { AreInputsOf (model_of model.now) inputs.now }
     ensures { IfOk result (IsApplied (model_of model.now) place state.now inputs.now) }
 {
-    let env = environment(alloc, &model.parts.terms, state.values(), inputs.values())?;
+    let mut point = first_point(alloc, model, state)?;
     let terms = &model.parts.terms;
-    let mut words = Evaluated::new(alloc, terms)?;
-    words.evaluate(terms, &env);
+    set_inputs(alloc, model, &mut point, inputs.values())?;
+    point.evaluate(alloc, terms)?;
     let instruction = &model.parts.instructions[place];
-    let decodes = holds(terms, &env, &words, instruction.decode);
-    let stepped = start(alloc, model, place, env, words)?;
+    let decodes = holds_at(terms, &point, instruction.decode);
+    let moved = start_or_stay(alloc, model, place, &mut point)?;
+    let runner = Runner { point };
     Ok(Applied {
         decodes,
-        state: next_state(stepped),
+        state: next_state(model, runner, moved),
     })
 }
 
 /// The state that an answer leads to, if it leads to one.
-fn next_state(stepped: Stepped) -> Option<State>
-    ensures { result ≡ state_of_step stepped }
+fn next_state(model: &IlaModel, runner: Runner, moved: Moved) -> Option<State>
+    requires { IsRunnerOf model.now.parts runner }
+    ensures { result ≡ state_of_step (stepped_of moved (state_in model.now.parts runner)) }
 {
-    match stepped {
-        Stepped::Next(_, state) => Some(state),
+    match moved {
+        Moved::Next(_) => Some(runner.into_state(model)),
         _ => None,
     }
 }

@@ -1,13 +1,13 @@
 //! Which instructions of a machine decode.
 
 ghost use Rattle.std.specs.Prelude.{◌≡◌, true, length};
-ghost use Rattle.wb_terms.specs.Environment.{valuation};
-ghost use Rattle.wb_terms.specs.Held.{Holds};
+ghost use Rattle.wb_terms.specs.Links.{valuation_at};
+ghost use Rattle.wb_terms.specs.Points.{AreHeldAt, HasRoom};
 ghost use Rattle.ila_child.specs.Decoding.{decodes, are_conditions, AreDecoded};
 
-use crate::evaluation::holds;
+use crate::evaluation::holds_at;
 use ila_model::Instruction;
-use wb_terms::{Env, Evaluated, Terms};
+use wb_terms::{Point, Terms};
 
 /// The instructions that decode, as far as a step asks, by their places in the machine's order.
 #[derive(Clone, Copy)]
@@ -21,19 +21,15 @@ pub(crate) enum Decoded {
 }
 
 /// Looks for the first two instructions whose decode conditions hold.
-pub(crate) fn find_decoded(
-    terms: &Terms,
-    env: &Env,
-    words: &Evaluated,
-    instructions: &[Instruction],
-) -> Decoded
+pub(crate) fn find_decoded(terms: &Terms, point: &Point, instructions: &[Instruction]) -> Decoded
     requires conditions { are_conditions terms.now instructions.now ≡ true }
-    requires words { Holds terms.now env.now words.now }
-    ensures { AreDecoded (decodes terms.now (valuation terms.now env.now) instructions.now) (length instructions.now) result }
+    requires room { HasRoom terms.now point.now }
+    requires held { AreHeldAt terms.now point.now }
+    ensures { AreDecoded (decodes terms.now (valuation_at terms.now point.now.values) instructions.now) (length instructions.now) result }
 {
     let mut found = None;
     for (place, instruction) in instructions.iter().enumerate() {
-        if holds(terms, env, words, instruction.decode) {
+        if holds_at(terms, point, instruction.decode) {
             match found {
                 Some(first) => return Decoded::Several(first, place),
                 None => found = Some(place),

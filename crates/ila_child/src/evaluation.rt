@@ -1,4 +1,4 @@
-//! Values of a model's terms, by one pass over its store under an environment.
+//! Values of terms: of a model's at a point that holds them, and of others by one pass over their store under an environment.
 
 ghost use Rattle.std.specs.Prelude.{◌≡◌, ◌<◌, true, length, IfOk};
 ghost use Rattle.wb_values.specs.Value.{truth, as_words};
@@ -7,11 +7,23 @@ ghost use Rattle.model_meaning.specs.Model.{holds};
 ghost use Rattle.wb_terms.specs.Graph.{tree};
 ghost use Rattle.wb_terms.specs.Environment.{Fits, HasSortOf, valuation, value_of, as_value};
 ghost use Rattle.wb_terms.specs.Held.{Holds};
+ghost use Rattle.wb_terms.specs.Links.{valuation_at};
+ghost use Rattle.wb_terms.specs.Points.{AreHeldAt, HasRoom};
 ghost use Rattle.ila_model.specs.Sorted.{is_term_of};
 ghost use Rattle.ila_child.specs.Values.{IsMemoryOf};
 
 use std::alloc::Global;
-use wb_terms::{Env, Evaluated, NoMemory, Sort, TermId, Terms, Value};
+use wb_terms::{Env, Evaluated, NoMemory, Point, Sort, TermId, Terms, Value};
+
+/// Whether a condition holds at a point.
+pub(crate) fn holds_at(terms: &Terms, point: &Point, id: TermId) -> bool
+    requires condition { is_term_of terms.now truth id.0 ≡ true }
+    requires room { HasRoom terms.now point.now }
+    requires held { AreHeldAt terms.now point.now }
+    ensures { result ≡ holds (tree terms.now id.0) (valuation_at terms.now point.now.values) }
+{
+    point.number(terms, id) == 1
+}
 
 /// Whether a condition holds.
 pub fn holds(terms: &Terms, env: &Env, words: &Evaluated, id: TermId) -> bool

@@ -5,6 +5,7 @@ mod applying;
 mod decoding;
 mod evaluation;
 mod running;
+mod runs;
 mod states;
 mod stepping;
 mod updating;
@@ -12,5 +13,6 @@ mod values;
 
 pub use applying::{Applied, apply};
 pub use evaluation::{holds, term_value};
+pub use runs::{Moved, Runner};
 pub use states::{Inputs, State, initial_state};
 pub use stepping::{Stepped, step};

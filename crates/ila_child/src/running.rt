@@ -1,16 +1,17 @@
 //! Steps of a machine, and child programs run to their end.
 
-ghost use Rattle.std.specs.Prelude.{◌≡◌, ◌≤◌, true, length, IfOk, OnOk};
-ghost use Rattle.wb_terms.specs.Environment.{Fits};
+ghost use Rattle.std.specs.Prelude.{◌≡◌, true, IfOk, OnOk};
+ghost use Rattle.wb_terms.specs.Environment.{AreOfSorts};
+ghost use Rattle.wb_terms.specs.Points.{HasRoom};
 ghost use Rattle.ila_model.specs.Sorted.{is_machine};
 ghost use Rattle.ila_child.specs.Running.{HasDepth, IsDeep, IsLinked, IsTaken, IsRun};
 
 use crate::decoding::{Decoded, find_decoded};
-use crate::evaluation::holds;
+use crate::evaluation::holds_at;
 use crate::updating::{begin, update};
 use ila_model::{ChildId, IlaModel, Instruction};
 use std::alloc::Global;
-use wb_terms::{Env, Evaluated, NoMemory, TermId};
+use wb_terms::{NoMemory, Point, TermId};
 
 /// How a child program fails to end. The outermost child has depth 1; steps count from 0 at each entry of their child.
 #[derive(Clone, Copy, Debug)]
@@ -38,26 +39,26 @@ fn take(
     at: Option<usize>,
     valid: TermId,
     instructions: &[Instruction],
-    env: &mut Env,
-    words: &mut Evaluated,
+    point: &mut Point,
 ) -> Result<Taken, NoMemory>
     requires deep { IsDeep model.now.parts.children.items at }
     requires machine { is_machine model.now.parts at valid.0 instructions.now ≡ true }
-    requires room { length model.now.parts.terms.nodes ≤ length words.old }
-    requires fits { Fits model.now.parts.terms env.old }
-    ensures taken { IfOk result (IsTaken model.now.parts at valid.0 instructions.now env.old env.new) }
-    ensures fits { OnOk result (Fits model.now.parts.terms env.new) }
-    ensures room { OnOk result (length words.new ≡ length words.old) }
+    requires room { HasRoom model.now.parts.terms point.old }
+    requires fits { AreOfSorts model.now.parts.terms.names point.old.values }
+    ensures taken { IfOk result (IsTaken model.now.parts at valid.0 instructions.now point.old.values point.new.values) }
+    ensures aside { OnOk result (point.new.aside ≡ point.old.aside) }
+    ensures fits { OnOk result (AreOfSorts model.now.parts.terms.names point.new.values) }
+    ensures room { OnOk result (HasRoom model.now.parts.terms point.new) }
 {
     let terms = &model.parts.terms;
-    words.evaluate(terms, env);
-    if !holds(terms, env, words, valid) {
+    point.evaluate(alloc, terms)?;
+    if !holds_at(terms, point, valid) {
         return Ok(Taken::NotValid);
     }
-    match find_decoded(terms, env, words, instructions) {
+    match find_decoded(terms, point, instructions) {
         Decoded::One(place) => {
             let instruction = &instructions[place];
-            update(alloc, terms, env, words, &instruction.updates)?;
+            update(terms, point, &instruction.updates)?;
             Ok(Taken::One(instruction.child))
         }
         Decoded::Nothing => Ok(Taken::Stuck),
@@ -73,16 +74,16 @@ pub(crate) fn run_program(
     at: Option<usize>,
     depth: u32,
     program: Option<ChildId>,
-    env: &mut Env,
-    words: &mut Evaluated,
+    point: &mut Point,
 ) -> Result<Option<Trouble>, NoMemory>
     requires depth { HasDepth model.now.parts.children.items depth at }
     requires linked { IsLinked model.now.parts.children.items at program }
-    requires room { length model.now.parts.terms.nodes ≤ length words.old }
-    requires fits { Fits model.now.parts.terms env.old }
-    ensures run { IfOk result (IsRun model.now.parts at depth program env.old env.new) }
-    ensures fits { OnOk result (Fits model.now.parts.terms env.new) }
-    ensures room { OnOk result (length words.new ≡ length words.old) }
+    requires room { HasRoom model.now.parts.terms point.old }
+    requires fits { AreOfSorts model.now.parts.terms.names point.old.values }
+    ensures run { IfOk result (IsRun model.now.parts at depth program point.old.values point.new.values) }
+    ensures aside { OnOk result (point.new.aside ≡ point.old.aside) }
+    ensures fits { OnOk result (AreOfSorts model.now.parts.terms.names point.new.values) }
+    ensures room { OnOk result (HasRoom model.now.parts.terms point.new) }
 {
     let Some(id) = program else {
         return Ok(None);
@@ -90,7 +91,7 @@ pub(crate) fn run_program(
     let child = &model.parts.children[id.0];
     let inside = Some(id.0);
     let terms = &model.parts.terms;
-    begin(alloc, terms, env, child.first.0, &child.initial_values)?;
+    begin(alloc, terms, point, child.first.0, &child.initial_values)?;
     for step in 0..child.steps {
         match take(
             alloc,
@@ -98,21 +99,20 @@ pub(crate) fn run_program(
             inside,
             child.valid,
             &child.instructions,
-            env,
-            words,
+            point,
         )? {
             Taken::NotValid => return Ok(None),
             Taken::Stuck => return Ok(Some(Trouble::Stuck(depth + 1, step))),
             Taken::One(inner) => {
-                match run_program(alloc, model, inside, depth + 1, inner, env, words)? {
+                match run_program(alloc, model, inside, depth + 1, inner, point)? {
                     None => {}
                     Some(trouble) => return Ok(Some(trouble)),
                 }
             }
         }
     }
-    words.evaluate(terms, env);
-    if holds(terms, env, words, child.valid) {
+    point.evaluate(alloc, terms)?;
+    if holds_at(terms, point, child.valid) {
         Ok(Some(Trouble::TooLong(depth + 1)))
     } else {
         Ok(None)

@@ -1,75 +1,60 @@
-//! What changes an environment: the updates of an instruction, all at the old values, and the private states of a child.
+//! What changes a point: the updates of an instruction, all at the old values, and the private states of a child.
 
-ghost use Rattle.std.specs.Prelude.{◌≡◌, ◌≤◌, ◌+◌, true, length, drop, IfOk, OnOk};
-ghost use Rattle.wb_terms.specs.Environment.{Fits, values_of, valuation};
-ghost use Rattle.wb_terms.specs.Held.{Holds};
+ghost use Rattle.std.specs.Prelude.{◌≡◌, ◌≤◌, ◌+◌, ◌++◌, true, length, drop, map, OnOk};
+ghost use Rattle.wb_terms.specs.Environment.{AreOfSorts};
+ghost use Rattle.wb_terms.specs.Links.{valuation_at};
+ghost use Rattle.wb_terms.specs.Points.{AreHeldAt, HasRoom};
 ghost use Rattle.ila_model.specs.Sorted.{are_states};
-ghost use Rattle.ila_child.specs.Updating.{are_updates_of, with_writes, with_updates, with_initial, AreWritesOf, AreFitting};
+ghost use Rattle.ila_child.specs.Updating.{are_updates_of, with_updates, with_kept, with_initial, values_of_updates, AreUpdatesSorted};
 
-use crate::evaluation::term_value;
 use crate::values::begun;
 use ila_model::Update;
 use std::alloc::Global;
-use wb_terms::{Env, Evaluated, NameId, NoMemory, Terms, Value};
+use wb_terms::{NameId, NoMemory, Point, Terms, Value};
 
-/// A state that is to get a value.
-#[derive(Drop)]
-pub(crate) struct Write {
-    place: usize,
-    value: Value,
-}
-
-/// What updates make of the environment, which the words hold: each updated state gets the value of its term, the others
-/// keep theirs.
-pub(crate) fn update(
-    alloc: Global,
-    terms: &Terms,
-    env: &mut Env,
-    words: &Evaluated,
-    updates: &[Update],
-) -> Result<(), NoMemory>
+/// What updates make of a point that holds their terms: each updated state gets the value of its term, the others keep theirs.
+/// Values that were put aside stay so.
+pub(crate) fn update(terms: &Terms, point: &mut Point, updates: &[Update]) -> Result<(), NoMemory>
     requires updates { are_updates_of terms.now 0 updates.now ≡ true }
-    requires words { Holds terms.now env.old words.now }
-    requires fits { Fits terms.now env.old }
-    ensures values { OnOk result (values_of env.new ≡ with_updates terms.now (valuation terms.now env.old) updates.now (values_of env.old)) }
-    ensures fits { OnOk result (Fits terms.now env.new) }
+    requires room { HasRoom terms.now point.old }
+    requires held { AreHeldAt terms.now point.old }
+    requires fits { AreOfSorts terms.now.names point.old.values }
+    ensures values { OnOk result (point.new.values ≡ with_updates terms.now (valuation_at terms.now point.old.values) updates.now point.old.values) }
+    ensures aside { OnOk result (point.new.aside ≡ point.old.aside) }
+    ensures fits { OnOk result (AreOfSorts terms.now.names point.new.values) }
+    ensures room { OnOk result (HasRoom terms.now point.new) }
 {
-    let writes = written(alloc, terms, env, words, updates)?;
-    make_writes(terms, env, writes);
+    let first = point.kept();
+    keep_updates(terms, point, updates)?;
+    put_updates(terms, point, first, updates);
+    point.forget(first);
     Ok(())
 }
 
-/// The writes of updates.
-fn written(
-    alloc: Global,
-    terms: &Terms,
-    env: &Env,
-    words: &Evaluated,
-    updates: &[Update],
-) -> Result<Vec<Write>, NoMemory>
+/// Puts the values of updates aside.
+fn keep_updates(terms: &Terms, point: &mut Point, updates: &[Update]) -> Result<(), NoMemory>
     requires updates { are_updates_of terms.now 0 updates.now ≡ true }
-    requires words { Holds terms.now env.now words.now }
-    requires fits { Fits terms.now env.now }
-    ensures { IfOk result (λ writes. AreWritesOf terms.now (valuation terms.now env.now) updates.now writes.items) }
+    requires room { HasRoom terms.now point.old }
+    requires held { AreHeldAt terms.now point.old }
+    ensures kept { OnOk result (point.new ≡ record point.old { aside = point.old.aside ++ values_of_updates terms.now (valuation_at terms.now point.old.values) updates.now }) }
+    ensures sorted { OnOk result (AreUpdatesSorted terms.now (valuation_at terms.now point.old.values) updates.now) }
 {
-    let mut writes = Vec::with_capacity(alloc, updates.len())?;
-    for update in updates {
-        let value = term_value(alloc, terms, env, words, update.term)?;
-        let place = update.state.0;
-        writes.push(Write { place, value })?;
+    for k in 0..updates.len() {
+        point.keep(terms, updates[k].term)?;
     }
-    Ok(writes)
+    Ok(())
 }
 
-/// Makes writes, one after another.
-fn make_writes(terms: &Terms, env: &mut Env, writes: Vec<Write>)
-    requires writes { AreFitting terms.now.names writes.items }
-    requires fits { Fits terms.now env.old }
-    ensures values { values_of env.new ≡ with_writes writes.items (values_of env.old) }
-    ensures fits { Fits terms.now env.new }
+/// Gives the updated states the values that were put aside from a place on.
+fn put_updates(terms: &Terms, point: &mut Point, first: usize, updates: &[Update])
+    requires updates { are_updates_of terms.now 0 updates.now ≡ true }
+    requires kept { first + length updates.now ≤ length point.old.aside }
+    requires fits { AreOfSorts terms.now.names point.old.values }
+    ensures { point.new ≡ record point.old { values = with_kept updates.now (drop first point.old.aside) point.old.values } }
 {
-    for write in writes {
-        env.values[write.place] = write.value;
+    let _ = terms;
+    for k in 0..updates.len() {
+        point.put(updates[k].state.0, first + k);
     }
 }
 
@@ -77,21 +62,25 @@ fn make_writes(terms: &Terms, env: &mut Env, writes: Vec<Write>)
 pub(crate) fn begin(
     alloc: Global,
     terms: &Terms,
-    env: &mut Env,
+    point: &mut Point,
     first: usize,
     initial_values: &[Option<Value>],
 ) -> Result<(), NoMemory>
     requires states { are_states true (drop first terms.now.names) initial_values.now ≡ true }
     requires within { first + length initial_values.now ≤ length terms.now.names }
-    requires fits { Fits terms.now env.old }
-    ensures values { OnOk result (values_of env.new ≡ with_initial terms.now.names first initial_values.now (values_of env.old)) }
-    ensures fits { OnOk result (Fits terms.now env.new) }
+    requires fits { AreOfSorts terms.now.names point.old.values }
+    requires room { HasRoom terms.now point.old }
+    ensures values { OnOk result (point.new.values ≡ with_initial terms.now.names first initial_values.now point.old.values) }
+    ensures aside { OnOk result (point.new.aside ≡ point.old.aside) }
+    ensures fits { OnOk result (AreOfSorts terms.now.names point.new.values) }
+    ensures room { OnOk result (HasRoom terms.now point.new) }
 {
     let _names = terms.name_count();
     for (k, initial) in initial_values.iter().enumerate() {
         let place = first + k;
-        let value = begun(alloc, terms.name_sort(NameId(place)), initial)?;
-        env.values[place] = value;
+        let sort = terms.name_sort(NameId(place));
+        let value = begun(alloc, sort, initial)?;
+        point.set(place, &value, sort)?;
     }
     Ok(())
 }

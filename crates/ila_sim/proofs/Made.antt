@@ -1,12 +1,13 @@
 -- Lemmas on what settings make of values: values of the same sorts, and what they mean under their names.
-use Rattle.std.proofs.Common.{◌≡◌, ℕ, zero, suc, ◌^◌, ◌<◌, Bool, true, false, cond, List, [], ◌∷◌, map, length, get_or, set, Option, Some, None, option_map, slice_get, refl, sym, ap, ◌∙◌, subst, arith}
+use Rattle.std.proofs.Common.{◌≡◌, ℕ, zero, suc, ◌^◌, ◌+◌, ◌<◌, Bool, true, false, cond, List, [], ◌∷◌, map, length, get_or, set, drop, Option, Some, None, option_map, slice_get, refl, sym, ap, ◌∙◌, subst, arith}
 use Rattle.std.specs.Prelude.{◌==◌, nat_lt}
 use Rattle.std.proofs.Math.Path.{fun_ext}
 use Rattle.std.proofs.lemmas.Bool.{and_from, and_parts, false≢true}
-use Rattle.std.proofs.lemmas.List.{length-set}
+use Rattle.std.proofs.lemmas.List.{length-set, drop_more}
 use Rattle.wb_values.specs.Value.{Name, same_name, Sort, truth, word, memory, Value, truth_value, number, words, all_below, is_of_sort, Entries, entry_of, value_or_zero, valuation_of, with_value}
 use Rattle.model_meaning.specs.Model.{StateDeclaration, InputDeclaration, Model, states_of, state_named, value_or}
 use Rattle.scripts.specs.Script.{Settable, settable, settables_of, zero_value, with_word, with_sets, initial_or_zero, first_value, initial_state, zero_input, inputs_of}
+use Rattle.wb_terms.specs.Slots.{with_number}
 use Rattle.wb_terms.specs.declared.values.Value as code
 use Rattle.wb_terms.specs.Environment.{as_value, AreOfSorts, values_by_name}
 use Rattle.ila_model.specs.Meaning.{zero_of}
@@ -21,6 +22,19 @@ use Rattle.ila_sim.specs.Outcomes.{with_set, with_all, zero_values, settables_by
 use Rattle.ila_sim.specs.Sets.{suits, suits_at, is_right, are_right}
 use Rattle.ila_sim.proofs.Apart.{absent, turned, left_part, right_part}
 use Rattle.ila_sim.proofs.Declared.{named_as, states_by, inputs_by}
+
+-- ---- words set in shared values
+
+pub same_with_word : (v : Value) (k x : ℕ) → with_number v k x ≡ with_word v k x
+same_with_word (truth_value b) k x = refl
+same_with_word (number n) k x = refl
+same_with_word (words ws) k x = refl
+
+pub set_turn : (q : List Value) (sets : List Set) (k : ℕ) (s : Set) (r : List Value) → k < length sets → s ≡ get_or sets k s
+    → r ≡ set q s.place (with_number (get_or q s.place (number 0)) s.word s.value) → with_all r (drop (k + 1) sets) ≡ with_all q (drop k sets)
+set_turn q sets k s r h e f =
+    ap (λ (xs : List Value). with_all xs (drop (k + 1) sets)) (f ∙ ap (set q s.place) (same_with_word (get_or q s.place (number 0)) s.word s.value))
+    ∙ sym (ap (with_all q) (drop_more sets k s h) ∙ ap (λ (one : Set). with_all (with_set q one) (drop (k + 1) sets)) (sym e))
 
 -- ---- sorts
 

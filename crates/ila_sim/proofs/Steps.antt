@@ -12,6 +12,9 @@ use Rattle.ila_child.specs.State.{IsStateOf, state_valuation}
 use Rattle.ila_child.specs.Step.{outcome_view, IsWell}
 use Rattle.ila_child.specs.declared.stepping.Stepped.{Stepped}
 use Rattle.ila_child.specs.declared.stepping.Stepped.TheVariants.{Next, NotValid, NoInstruction, Several, ChildStuck, ChildTooLong}
+use Rattle.ila_child.specs.declared.runs.Moved.{Moved}
+use Rattle.ila_child.specs.declared.runs.Moved.TheVariants.{Next as NextPlace, NotValid as NotValidNow, NoInstruction as NoneNow, Several as SeveralNow, ChildStuck as StuckNow, ChildTooLong as TooLongNow}
+use Rattle.ila_child.specs.Runs.{Stays, stepped_of}
 use Rattle.ila_sim.specs.declared.set.Set.{Set}
 use Rattle.ila_sim.specs.Lines.{sets_view}
 use Rattle.ila_sim.specs.Outcomes.{values_after, IsToldFrom, inputs_from}
@@ -25,6 +28,15 @@ after_meant m q NoInstruction = refl
 after_meant m q (Several j k) = refl
 after_meant m q (ChildStuck d s) = refl
 after_meant m q (ChildTooLong d) = refl
+
+-- the state after a step, by what stays
+pub after_moved : (a : Moved) (q r : List Value) → Stays a q r → r ≡ values_after q (stepped_of a r)
+after_moved (NextPlace j) q r h = refl
+after_moved NotValidNow q r h = h
+after_moved NoneNow q r h = h
+after_moved (SeveralNow j k) q r h = h
+after_moved (StuckNow d s) q r h = h
+after_moved (TooLongNow d) q r h = h
 
 pub after_well : (m : Model) (q r : List Value) (a : Stepped) → IsStateOf m q → IsWell m a → r ≡ values_after q a → IsStateOf m r
 after_well m q r a h g e = subst (IsStateOf m) (sym e) (shown a g) where

@@ -1,14 +1,21 @@
 -- Lemmas on the text of states and on texts put together.
 use Rattle.std.proofs.Common.{◌≡◌, ℕ, zero, suc, ◌+◌, ◌<◌, true, List, [], ◌∷◌, ◌++◌, length, get_or, drop, Some, option_map, slice_get, refl, sym, ap, ◌∙◌, subst, arith, append_assoc, add-one, ◌≤◌}
 use Rattle.std.proofs.lemmas.List.{drop_all}
-use Rattle.wb_values.specs.Value.{Name, Value, number, Valuation}
+use Rattle.std.specs.Prelude.{Bool, false, cond, ◌==◌, Vec}
+use Rattle.std.specs.Global.{Global}
+use Rattle.sparse_memories.specs.declared.listing.SetWord.{SetWord}
+use Rattle.sparse_memories.specs.Nodes.{set_words_from}
+use Rattle.wb_values.specs.Value.{Name, Value, truth_value, number, words, Valuation}
 use Rattle.model_meaning.specs.Model.{StateDeclaration, Model, states_of}
 use Rattle.scripts.specs.Script.{settables_of}
-use Rattle.scripts.specs.Simulation.{state_text, states_text}
+use Rattle.scripts.specs.Simulation.{words_text, state_text, states_text}
+use Rattle.wb_terms.specs.declared.slots.Shown.TheVariants.{Truth as TruthShown, Number as NumberShown, Words as WordsShown}
+use Rattle.wb_terms.specs.Slots.{IsShownAs}
 use Rattle.ila_child.specs.State.{sorts_of_states, state_valuation}
 use Rattle.ila_sim.specs.Names.{are_apart}
 use Rattle.ila_sim.specs.Outcomes.{settables_by, values_text}
 use Rattle.ila_sim.specs.Places.{called_at}
+use Rattle.ila_sim.specs.Texts.{number_text, address_text, set_words_text}
 use Rattle.ila_sim.proofs.Declared.{named_as, states_by}
 use Rattle.ila_sim.proofs.Made.{meant_at}
 
@@ -54,6 +61,33 @@ states_told m xs a =
     let ns = sorts_of_states (states_of m.top) in
     let apart = subst (λ ss. are_apart ss ≡ true) (states_by (states_of m.top)) a in
     told_by (states_of m.top) xs (state_valuation m xs) (λ k h. meant_at ns xs k apart h)
+
+-- ---- what is shown of values
+
+shown_or_not : (t : Bool) (n : Name) (a w : ℕ) (rest : List SetWord) (told : List ℕ) → set_words_text n rest ≡ told
+    → set_words_text n (cond t rest (record { address = a; word = w } ∷ rest)) ≡ cond t [] (address_text n a w) ++ told
+shown_or_not true n a w rest told e = e
+shown_or_not false n a w rest told e = ap (λ (t : List ℕ). address_text n a w ++ t) e
+
+-- The words other than 0 of a memory are told as all its words are.
+pub words_shown : (n : Name) (a : ℕ) (ws : List ℕ) → set_words_text n (set_words_from a ws) ≡ words_text n a ws
+words_shown n a [] = refl
+words_shown n a (w ∷ ws) = shown_or_not (w == 0) n a w (set_words_from (suc a) ws) (words_text n (suc a) ws) (words_shown n (suc a) ws)
+
+pub truth_told : (n : Name) (v : Value) (b : Bool) → IsShownAs v (TruthShown b) → number_text n (cond b 1 0) ≡ state_text n v
+truth_told n (truth_value c) b h = ap (λ (t : Bool). number_text n (cond t 1 0)) h
+truth_told n (number m) b h = absurd h
+truth_told n (words ws) b h = absurd h
+
+pub number_told : (n : Name) (v : Value) (x : ℕ) → IsShownAs v (NumberShown x) → number_text n x ≡ state_text n v
+number_told n (truth_value c) x h = absurd h
+number_told n (number m) x h = ap (number_text n) h
+number_told n (words ws) x h = absurd h
+
+pub words_told : (n : Name) (v : Value) (found : Vec SetWord Global) → IsShownAs v (WordsShown found) → set_words_text n found.items ≡ state_text n v
+words_told n (truth_value c) found h = absurd h
+words_told n (number m) found h = absurd h
+words_told n (words ws) found h = ap (set_words_text n) h ∙ words_shown n 0 ws
 
 -- ---- texts put together
 

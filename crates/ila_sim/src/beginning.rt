@@ -1,16 +1,16 @@
 //! The state in which a script begins, and the inputs that its lines give.
 
-ghost use Rattle.std.specs.Prelude.{◌≡◌, IfOk, IsTrue, map};
+ghost use Rattle.std.specs.Prelude.{◌≡◌, IfOk, OnOk, IsTrue, map};
 ghost use Rattle.scripts.specs.Script.{settables_of, initial_state, with_sets, inputs_of};
 ghost use Rattle.wb_terms.specs.Environment.{as_value};
 ghost use Rattle.ila_model.specs.Model.{model_of};
 ghost use Rattle.ila_child.specs.State.{IsStateOf, AreInputsOf, state_valuation, input_valuation};
 ghost use Rattle.ila_sim.specs.Lines.{sets_view};
-ghost use Rattle.ila_sim.specs.Outcomes.{zero_values};
+ghost use Rattle.ila_sim.specs.Outcomes.{with_all, zero_values};
 ghost use Rattle.ila_sim.specs.Sets.{are_right};
 
 use crate::set::Set;
-use crate::values::{copies, set_all, zero};
+use crate::values::{set_all, zero};
 use ila_child::{Inputs, State, initial_state};
 use ila_model::IlaModel;
 use std::alloc::Global;
@@ -22,10 +22,20 @@ pub(crate) fn first_state(alloc: Global, model: &IlaModel, sets: &[Set]) -> Resu
     ensures values { IfOk result (λ q. state_valuation (model_of model.now) q ≡ with_sets (initial_state (model_of model.now)) (sets_view (settables_of (model_of model.now)).states sets.now)) }
     ensures sorted { IfOk result (IsStateOf (model_of model.now)) }
 {
-    let initial = initial_state(alloc, model)?;
-    let mut values = copies(alloc, initial.values())?;
-    set_all(&mut values, sets);
-    Ok(State::new(values))
+    let mut state = initial_state(alloc, model)?;
+    set_states(&mut state, sets)?;
+    Ok(state)
+}
+
+/// Makes the settings of a line in a state.
+fn set_states(state: &mut State, sets: &[Set]) -> Result<(), NoMemory>
+    ensures { OnOk result (state.new ≡ with_all state.old sets.now) }
+{
+    for k in 0..sets.len() {
+        let one = sets[k];
+        state.set_word(one.place, one.word, one.value)?;
+    }
+    Ok(())
 }
 
 /// The zeros of the inputs.

@@ -1,21 +1,22 @@
 //! The text that tells what a model did.
 
-ghost use Rattle.std.specs.Prelude.{◌≡◌, ◌++◌, ◌<◌, cond, OnOk, IfOk, length, map, decimal, slice_index_or};
-ghost use Rattle.wb_values.specs.Value.{number};
+ghost use Rattle.std.specs.Prelude.{◌≡◌, ◌++◌, cond, OnOk, IfOk, map, decimal, slice_index_or};
+ghost use Rattle.wb_values.specs.Value.{Value, number};
 ghost use Rattle.model_meaning.specs.Model.{states_of};
 ghost use Rattle.model_meaning.specs.Instruction.{stuck, too_long};
-ghost use Rattle.scripts.specs.Simulation.{words_text, state_text, name_of_instruction, trouble_text, outcome_text, simulation_text};
-ghost use Rattle.wb_terms.specs.Environment.{as_value};
+ghost use Rattle.scripts.specs.Simulation.{state_text, name_of_instruction, trouble_text, outcome_text, simulation_text};
+ghost use Rattle.wb_terms.specs.Slots.{IsShownAs};
 ghost use Rattle.ila_model.specs.Model.{model_of};
+ghost use Rattle.ila_child.specs.Runs.{IsRunnerOf, state_in, stepped_of};
 ghost use Rattle.ila_child.specs.Step.{outcome_view};
 ghost use Rattle.ila_sim.specs.Outcomes.{values_text};
-ghost use Rattle.ila_sim.specs.Texts.{number_text, address_text, word_text, several_text, next_text, outcome_line};
+ghost use Rattle.ila_sim.specs.Texts.{number_text, address_text, set_words_text, several_text, next_text, outcome_line};
 
-use ila_child::Stepped;
+use ila_child::{Moved, Runner, Stepped};
 use ila_model::IlaModel;
 use itoa::Buffer;
 use std::alloc::Global;
-use wb_terms::{NoMemory, Value};
+use wb_terms::{NoMemory, SetWord, SharedValues, Shown};
 
 /// Appends a number in decimal.
 pub fn append_decimal(out: &mut Vec<u8>, number: u128) -> Result<(), NoMemory>
@@ -38,35 +39,25 @@ fn append_number(out: &mut Vec<u8>, name: &str, number: u128) -> Result<(), NoMe
 }
 
 /// Appends ` m[5]=7`.
-fn append_address(out: &mut Vec<u8>, name: &str, address: usize, word: u128) -> Result<(), NoMemory>
+fn append_address(out: &mut Vec<u8>, name: &str, address: u64, word: u128) -> Result<(), NoMemory>
     ensures { OnOk result (out.new.items ≡ out.old.items ++ address_text name.now address word) }
 {
     out.push(b' ')?;
     out.extend_from_slice(name.as_bytes())?;
     out.push(b'[')?;
-    append_decimal(out, address as u128)?;
+    append_decimal(out, u128::from(address))?;
     out.extend_from_slice(b"]=")?;
     append_decimal(out, word)?;
     Ok(())
 }
 
-/// Appends a word of a memory that is not 0.
-fn append_word(out: &mut Vec<u8>, name: &str, address: usize, word: u128) -> Result<(), NoMemory>
-    ensures { OnOk result (out.new.items ≡ out.old.items ++ word_text name.now address word) }
-{
-    if word == 0 {
-        return Ok(());
-    }
-    append_address(out, name, address, word)?;
-    Ok(())
-}
-
 /// Appends the words of a memory that are not 0.
-fn append_words(out: &mut Vec<u8>, name: &str, words: &[u128]) -> Result<(), NoMemory>
-    ensures { OnOk result (out.new.items ≡ out.old.items ++ words_text name.now 0 words.now) }
+fn append_words(out: &mut Vec<u8>, name: &str, words: &[SetWord]) -> Result<(), NoMemory>
+    ensures { OnOk result (out.new.items ≡ out.old.items ++ set_words_text name.now words.now) }
 {
-    for (address, word) in words.iter().enumerate() {
-        append_word(out, name, address, *word)?;
+    for k in 0..words.len() {
+        let word = words[k];
+        append_address(out, name, word.address, word.word)?;
     }
     Ok(())
 }
@@ -78,28 +69,30 @@ fn bit(truth: bool) -> u128
     if truth { 1 } else { 0 }
 }
 
-/// Appends the value of a state.
-fn append_value(out: &mut Vec<u8>, name: &str, value: &Value) -> Result<(), NoMemory>
-    ensures { OnOk result (out.new.items ≡ out.old.items ++ state_text name.now (as_value value.now)) }
+/// Appends the value of a state, by what is shown of it.
+fn append_value(out: &mut Vec<u8>, name: &str, shown: &Shown) -> Result<(), NoMemory>
+    ensures { (v : Value) → IsShownAs v shown.now → OnOk result (out.new.items ≡ out.old.items ++ state_text name.now v) }
 {
-    match value {
-        Value::Truth(truth) => append_number(out, name, bit(*truth)),
-        Value::Number(number) => append_number(out, name, *number),
-        Value::Words(words) => append_words(out, name, words),
+    match shown {
+        Shown::Truth(truth) => append_number(out, name, bit(*truth)),
+        Shown::Number(number) => append_number(out, name, *number),
+        Shown::Words(words) => append_words(out, name, words),
     }
 }
 
 /// Appends the value of the state at a place, 0 where there is none.
 fn append_value_at(
+    alloc: Global,
     out: &mut Vec<u8>,
     name: &str,
-    values: &[Value],
+    values: &SharedValues,
     place: usize,
 ) -> Result<(), NoMemory>
-    ensures { OnOk result (out.new.items ≡ out.old.items ++ state_text name.now (slice_index_or (map as_value values.now) place (number 0))) }
+    ensures { OnOk result (out.new.items ≡ out.old.items ++ state_text name.now (slice_index_or values.now place (number 0))) }
 {
     if place < values.len() {
-        append_value(out, name, &values[place])?;
+        let shown = values.shown(alloc, place)?;
+        append_value(out, name, &shown)?;
         return Ok(());
     }
     append_number(out, name, 0)?;
@@ -107,11 +100,33 @@ fn append_value_at(
 }
 
 /// Appends the values of all states.
-fn append_states(out: &mut Vec<u8>, model: &IlaModel, values: &[Value]) -> Result<(), NoMemory>
-    ensures { OnOk result (out.new.items ≡ out.old.items ++ values_text (states_of (model_of model.now).top) (map as_value values.now)) }
+fn append_states(
+    alloc: Global,
+    out: &mut Vec<u8>,
+    model: &IlaModel,
+    values: &SharedValues,
+) -> Result<(), NoMemory>
+    ensures { OnOk result (out.new.items ≡ out.old.items ++ values_text (states_of (model_of model.now).top) values.now) }
 {
     for place in 0..model.state_count() {
-        append_value_at(out, model.state_name(place), values, place)?;
+        append_value_at(alloc, out, model.state_name(place), values, place)?;
+    }
+    Ok(())
+}
+
+/// Appends the values of the states of a model that is run.
+fn append_states_there(
+    alloc: Global,
+    out: &mut Vec<u8>,
+    model: &IlaModel,
+    runner: &Runner,
+) -> Result<(), NoMemory>
+    requires { IsRunnerOf model.now.parts runner.now }
+    ensures { OnOk result (out.new.items ≡ out.old.items ++ values_text (states_of (model_of model.now).top) (state_in model.now.parts runner.now)) }
+{
+    for place in 0..model.state_count() {
+        let shown = runner.shown(alloc, place)?;
+        append_value(out, model.state_name(place), &shown)?;
     }
     Ok(())
 }
@@ -165,15 +180,32 @@ fn append_too_long(out: &mut Vec<u8>, depth: u32) -> Result<(), NoMemory>
 
 /// Appends an instruction's name and the state that it led to.
 fn append_next(
+    alloc: Global,
     out: &mut Vec<u8>,
     model: &IlaModel,
     place: usize,
-    values: &[Value],
+    values: &SharedValues,
 ) -> Result<(), NoMemory>
-    ensures { OnOk result (out.new.items ≡ out.old.items ++ next_text (model_of model.now) place (map as_value values.now)) }
+    ensures { OnOk result (out.new.items ≡ out.old.items ++ next_text (model_of model.now) place values.now) }
 {
     append_name(out, model, place)?;
-    append_states(out, model, values)?;
+    append_states(alloc, out, model, values)?;
+    Ok(())
+}
+
+/// The same of a model that is run.
+fn append_next_there(
+    alloc: Global,
+    out: &mut Vec<u8>,
+    model: &IlaModel,
+    place: usize,
+    runner: &Runner,
+) -> Result<(), NoMemory>
+    requires { IsRunnerOf model.now.parts runner.now }
+    ensures { OnOk result (out.new.items ≡ out.old.items ++ next_text (model_of model.now) place (state_in model.now.parts runner.now)) }
+{
+    append_name(out, model, place)?;
+    append_states_there(alloc, out, model, runner)?;
     Ok(())
 }
 
@@ -186,11 +218,16 @@ fn append_bytes(out: &mut Vec<u8>, bytes: &[u8]) -> Result<(), NoMemory>
 }
 
 /// Appends what a step gave.
-fn append_outcome(out: &mut Vec<u8>, model: &IlaModel, answer: &Stepped) -> Result<(), NoMemory>
+fn append_outcome(
+    alloc: Global,
+    out: &mut Vec<u8>,
+    model: &IlaModel,
+    answer: &Stepped,
+) -> Result<(), NoMemory>
     ensures { OnOk result (out.new.items ≡ out.old.items ++ outcome_text (model_of model.now) (outcome_view (model_of model.now) answer.now)) }
 {
     match answer {
-        Stepped::Next(place, state) => append_next(out, model, *place, state.values()),
+        Stepped::Next(place, state) => append_next(alloc, out, model, *place, state.values()),
         Stepped::NotValid => append_bytes(out, b"none"),
         Stepped::NoInstruction => append_bytes(out, b"no-instruction"),
         Stepped::Several(first, second) => append_several(out, model, *first, *second),
@@ -199,8 +236,30 @@ fn append_outcome(out: &mut Vec<u8>, model: &IlaModel, answer: &Stepped) -> Resu
     }
 }
 
+/// The same of a model that is run.
+fn append_outcome_there(
+    alloc: Global,
+    out: &mut Vec<u8>,
+    model: &IlaModel,
+    runner: &Runner,
+    moved: Moved,
+) -> Result<(), NoMemory>
+    requires { IsRunnerOf model.now.parts runner.now }
+    ensures { OnOk result (out.new.items ≡ out.old.items ++ outcome_text (model_of model.now) (outcome_view (model_of model.now) (stepped_of moved (state_in model.now.parts runner.now)))) }
+{
+    match moved {
+        Moved::Next(place) => append_next_there(alloc, out, model, place, runner),
+        Moved::NotValid => append_bytes(out, b"none"),
+        Moved::NoInstruction => append_bytes(out, b"no-instruction"),
+        Moved::Several(first, second) => append_several(out, model, first, second),
+        Moved::ChildStuck(depth, step) => append_stuck(out, depth, step),
+        Moved::ChildTooLong(depth) => append_too_long(out, depth),
+    }
+}
+
 /// Appends the line of a step with its number.
-pub(crate) fn append_line(
+fn append_line(
+    alloc: Global,
     out: &mut Vec<u8>,
     model: &IlaModel,
     number: usize,
@@ -210,7 +269,26 @@ pub(crate) fn append_line(
 {
     append_decimal(out, number as u128)?;
     out.push(b' ')?;
-    append_outcome(out, model, answer)?;
+    append_outcome(alloc, out, model, answer)?;
+    out.push(b'\n')?;
+    Ok(())
+}
+
+/// The same of a model that is run.
+pub(crate) fn append_moved(
+    alloc: Global,
+    out: &mut Vec<u8>,
+    model: &IlaModel,
+    number: usize,
+    runner: &Runner,
+    moved: Moved,
+) -> Result<(), NoMemory>
+    requires { IsRunnerOf model.now.parts runner.now }
+    ensures { OnOk result (out.new.items ≡ out.old.items ++ outcome_line (model_of model.now) number (outcome_view (model_of model.now) (stepped_of moved (state_in model.now.parts runner.now)))) }
+{
+    append_decimal(out, number as u128)?;
+    out.push(b' ')?;
+    append_outcome_there(alloc, out, model, runner, moved)?;
     out.push(b'\n')?;
     Ok(())
 }
@@ -225,7 +303,7 @@ pub fn simulation_text(
 {
     let mut text = Vec::new(alloc);
     for (place, answer) in steps.iter().enumerate() {
-        append_line(&mut text, model, place + 1, answer)?;
+        append_line(alloc, &mut text, model, place + 1, answer)?;
     }
     Ok(text)
 }

@@ -1,6 +1,6 @@
 //! Settings put into lists of values.
 
-ghost use Rattle.std.specs.Prelude.{◌≡◌, ◌++◌, IfOk, OnOk, IsTrue, map, slice_set};
+ghost use Rattle.std.specs.Prelude.{◌≡◌, IfOk, IsTrue, map, slice_set};
 ghost use Rattle.model_meaning.specs.Term.{is_sort};
 ghost use Rattle.scripts.specs.Script.{with_word, zero_value};
 ghost use Rattle.wb_terms.specs.Sort.{as_sort};
@@ -24,28 +24,6 @@ pub fn zero(alloc: Global, sort: Sort) -> Result<Value, NoMemory>
             Ok(Value::Words(words))
         }
     }
-}
-
-/// A copy of a value.
-fn copy_of(value: &Value) -> Result<Value, NoMemory>
-    ensures { IfOk result (λ copy. as_value copy ≡ as_value value.now) }
-{
-    match value {
-        Value::Truth(truth) => Ok(Value::Truth(*truth)),
-        Value::Number(number) => Ok(Value::Number(*number)),
-        Value::Words(words) => Ok(Value::Words(words.clone()?)),
-    }
-}
-
-/// Copies of values.
-pub(crate) fn copies(alloc: Global, values: &[Value]) -> Result<Vec<Value>, NoMemory>
-    ensures { IfOk result (λ v. map as_value v.items ≡ map as_value values.now) }
-{
-    let mut copies = Vec::with_capacity(alloc, values.len())?;
-    for value in values {
-        copies.push(copy_of(value)?)?;
-    }
-    Ok(copies)
 }
 
 /// Sets a word of a memory, where it is there.

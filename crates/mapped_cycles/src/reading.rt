@@ -64,7 +64,8 @@ pub fn mapped_state(
         → q ≡ map (value_in (parts_of mapped.now.design) rs is) (mapped_of mapped.now).states) }
 {
     let values = term_values(alloc, cycle, &mapped.design.terms, &mapped.states)?;
-    Ok(State::new(values))
+    let state = State::of_values(alloc, model, &values)?;
+    Ok(state)
 }
 
 /// What the inputs of the model are mapped to in the last cycle.

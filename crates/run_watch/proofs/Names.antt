@@ -1,13 +1,12 @@
 -- States by their names: each has its place, and a list of values gives each its value.
 use Rattle.std.proofs.Common.{◌≡◌, ◌∙◌, ℕ, zero, suc, Bool, true, false, cond, ◌&&◌, List, [], ◌∷◌, length, map, slice_get, Option, Some, None, is_none, refl, sym, ap, subst}
 use Rattle.std.proofs.lemmas.Bool.{false≢true}
-use Rattle.std.proofs.lemmas.List.{length-map}
 use Rattle.std.proofs.lemmas.Slice.Eq.{bytes_eq-Decides}
 use Rattle.wb_values.specs.Value.{Name, same_name, Sort, Value, Entries, entry_of, value_or_zero, valuation_of}
 use Rattle.model_meaning.specs.Model.{Model, StateDeclaration, states_of, state_named}
 use Rattle.wb_terms.specs.declared.values.Value as code_value
 use Rattle.wb_terms.specs.Graph.{HasDistinctNames}
-use Rattle.wb_terms.specs.Environment.{AreOfSorts, as_value, values_by_name}
+use Rattle.wb_terms.specs.Environment.{AreOfSorts, values_by_name}
 use Rattle.ila_model.specs.declared.model.IlaModel.{IlaModel}
 use Rattle.ila_model.specs.Sorted.{are_distinct}
 use Rattle.ila_model.specs.Meaning.{declared_states}
@@ -139,9 +138,8 @@ pub state_length : (m : Model) (xs : List Value) → IsStateOf m xs → length x
 state_length m xs h = length_for (states_of m.top) xs h
 
 -- the values that the code has of a state
-pub length_fits : (m : Model) (a : List Value) (xs : List code_value.Value) → IsStateOf m a → map as_value xs ≡ a → length xs ≡ length (states_of m.top)
-length_fits m a xs h e = sym (length-map xs as_value) ∙ (ap length e ∙ state_length m a h)
+pub length_fits : (m : Model) (a xs : List Value) → IsStateOf m a → xs ≡ a → length xs ≡ length (states_of m.top)
+length_fits m a xs h e = ap length e ∙ state_length m a h
 
-pub lengths_agree : (m : Model) (a q : List Value) (xs ys : List code_value.Value) → IsStateOf m a → IsStateOf m q → map as_value xs ≡ a → map as_value ys ≡ q
-    → length xs ≡ length ys
+pub lengths_agree : (m : Model) (a q xs ys : List Value) → IsStateOf m a → IsStateOf m q → xs ≡ a → ys ≡ q → length xs ≡ length ys
 lengths_agree m a q xs ys h g e f = length_fits m a xs h e ∙ sym (length_fits m q ys g f)

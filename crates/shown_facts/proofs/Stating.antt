@@ -1,17 +1,16 @@
 -- States by their names, and facts on them.
-use Rattle.std.proofs.Common.{◌≡◌, ◌∙◌, ◌<◌, ℕ, zero, suc, Bool, true, false, cond, ◌&&◌, is_none, List, [], ◌∷◌, length, get_or, map, Option, Some, None, option_map, refl, sym, ap, subst, arith}
+use Rattle.std.proofs.Common.{◌≡◌, ◌∙◌, ◌<◌, ℕ, zero, suc, Bool, true, false, cond, ◌&&◌, is_none, List, [], ◌∷◌, length, get_or, Option, Some, None, option_map, refl, sym, ap, subst, arith}
 use Rattle.std.specs.Prelude.{IsTrue, slice_get, ◌↔◌}
 use Rattle.std.proofs.lemmas.Bool.{and_parts, false≢true}
 use Rattle.std.proofs.lemmas.Cmp.{nat_list_eq_equiv}
-use Rattle.std.proofs.lemmas.List.{length-map}
-use Rattle.std.proofs.lemmas.Option.{none-some, same_Some, slice_get-map, slice_get_read}
+use Rattle.std.proofs.lemmas.Option.{none-some, same_Some}
 use Rattle.wb_values.specs.Value as meaning
 use Rattle.wb_values.specs.Value.{Name, Sort, Entries, same_name, entry_of, value_or_zero, valuation_of}
 use Rattle.model_meaning.specs.Model.{Model, StateDeclaration, states_of, state_named}
 use Rattle.refinement.specs.Obligation.{initial, same}
 use Rattle.wb_terms.specs.declared.values.Value.{Value}
 use Rattle.wb_terms.specs.Graph.{HasDistinctNames}
-use Rattle.wb_terms.specs.Environment.{AreOfSorts, as_value, values_by_name}
+use Rattle.wb_terms.specs.Environment.{AreOfSorts, values_by_name}
 use Rattle.ila_model.specs.declared.model.IlaModel.{IlaModel}
 use Rattle.ila_model.specs.Sorted.{are_distinct}
 use Rattle.ila_model.specs.Meaning.{declared_states}
@@ -81,10 +80,11 @@ value_named (z ∷ ss) (x ∷ xs) (suc k) d y h s e =
     let other : same_name z.state_name d.state_name ≡ false = nat_list_eq_equiv.symm z.state_name d.state_name ∙ absent ss z.state_name k d h.0 s in
     ap (λ t. value_or_zero (cond t (Some x) (entry_of (values_by_name (sorts_of_states ss) xs) d.state_name))) other ∙ value_named ss xs k d y h.1 s e
 
--- the value that the code reads at a place
-pub value_at : (vs : List Value) (xs : List meaning.Value) (k : ℕ) (v : Value) → map as_value vs ≡ xs → k < length vs → v ≡ get_or vs k v → slice_get xs k ≡ Some (as_value v)
-value_at vs xs k v are lt e =
-    subst (λ ys. slice_get ys k ≡ Some (as_value v)) are (slice_get-map as_value vs k ∙ ap (option_map as_value) (slice_get_read vs (length vs) k v refl lt e))
+-- the value that is read at a place
+pub value_at : (xs : List meaning.Value) (k : ℕ) (d : meaning.Value) → k < length xs → slice_get xs k ≡ Some (get_or xs k d)
+value_at [] k d b = absurd (omega (arith, b))
+value_at (x ∷ xs) zero d b = refl
+value_at (x ∷ xs) (suc k) d b = value_at xs k d (omega arith)
 
 -- a state that is told to stand at a place
 there_named : (o : Option StateDeclaration) (n : Name) → option_map (λ (s : StateDeclaration). s.state_name) o ≡ Some n → (d : StateDeclaration) × (o ≡ Some d) × (d.state_name ≡ n)
@@ -103,12 +103,12 @@ sorted_count (s ∷ ss) [] h = absurd h
 sorted_count (s ∷ ss) (x ∷ xs) h = ap suc (sorted_count ss xs h.1)
 
 -- the place of a state is one of the values of a state of the model
-pub within_values : (m : Model) (vs : List Value) (xs : List meaning.Value) (k : ℕ) (n : Name) → map as_value vs ≡ xs → IsStateOf m xs
-    → option_map (λ (s : StateDeclaration). s.state_name) (slice_get (states_of m.top) k) ≡ Some n → k < length vs
-within_values m vs xs k n are sorted e =
+pub within_values : (m : Model) (xs ys : List meaning.Value) (k : ℕ) (n : Name) → ys ≡ xs → IsStateOf m xs
+    → option_map (λ (s : StateDeclaration). s.state_name) (slice_get (states_of m.top) k) ≡ Some n → k < length ys
+within_values m xs ys k n are sorted e =
     let a = place_within (states_of m.top) k n e in
     let b = sorted_count (states_of m.top) xs sorted in
-    omega (arith, a, b, ap length are, length-map vs as_value)
+    omega (arith, a, b, ap length are)
 
 -- the value of a state, by its place and its name
 pub value_there : (m : Model) (xs : List meaning.Value) (k : ℕ) (n : Name) (y : meaning.Value) → HasDistinctNames (sorts_of_states (states_of m.top))

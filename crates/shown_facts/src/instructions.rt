@@ -9,7 +9,6 @@ ghost use Rattle.shown_facts.specs.Values.{model_in, map_in, values_in};
 ghost use Rattle.shown_facts.specs.Noted.{IsShown, IsNoted};
 ghost use Rattle.shown_facts.specs.Begun.{is_begun};
 
-use crate::comparing::{is_same_value, value_at};
 use crate::given::Given;
 use crate::shown::{Shown, seen_at};
 use ila_child::{Applied, Stepped, apply, step};
@@ -101,9 +100,7 @@ pub(crate) fn has_result(
             let seen = seen_at(shown, cycle);
             let there = seen.state.values();
             let wanted = reached.values();
-            let held = value_at(there, state.place);
-            let asked = value_at(wanted, state.place);
-            Ok(is_same_value(held, asked))
+            Ok(there.is_same_at(state.place, wanted, state.place))
         }
         None => Ok(true),
     }

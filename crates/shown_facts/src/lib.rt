@@ -2,7 +2,6 @@
 #![tactic(auto)]
 
 mod bits;
-mod comparing;
 mod conditions;
 mod facts;
 mod given;

@@ -7,7 +7,6 @@ ghost use Rattle.mapped_designs.specs.Runs.{Shows};
 ghost use Rattle.shown_facts.specs.Values.{model_in, map_in, values_in};
 ghost use Rattle.shown_facts.specs.Noted.{IsShown, IsNoted};
 
-use crate::comparing::{is_same_value, value_at};
 use crate::given::Given;
 use crate::shown::{Shown, seen_at};
 use obligation_lists::StateAt;
@@ -32,7 +31,7 @@ pub(crate) fn has_initial(given: &Given<'_>, shown: &Shown, state: StateAt<'_>, 
     let seen = seen_at(shown, cycle);
     let there = seen.state.values();
     match given.model.initial_value(state.place) {
-        Some(value) => is_same_value(value_at(there, state.place), value),
+        Some(value) => there.is_value_at(state.place, value),
         None => true,
     }
 }
@@ -45,7 +44,5 @@ pub(crate) fn is_same(given: &Given<'_>, shown: &Shown, state: StateAt<'_>) -> b
 {
     let before = shown.first.state.values();
     let after = shown.later.state.values();
-    let new = value_at(after, state.place);
-    let old = value_at(before, state.place);
-    is_same_value(new, old)
+    after.is_same_at(state.place, before, state.place)
 }

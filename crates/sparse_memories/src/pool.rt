@@ -106,7 +106,7 @@ impl Pool {
     }
 
     /// How many branches the pool has.
-    pub(crate) fn branch_count(&self) -> usize
+    pub fn branch_count(&self) -> usize
         ensures { result ≡ length self.now.nodes.branches }
     {
         self.branches.len()

@@ -1,9 +1,9 @@
 //! Scripts that are run on models, and single steps.
 
+ghost use Rattle.std.specs.Prelude.{◌<◌, length};
 ghost use Rattle.ila_model.specs.Model.{model_of};
 ghost use Rattle.ila_child.specs.State.{IsStateOf};
 
-use crate::models::add_value;
 use crate::rows::halves;
 use crate::sheet::Sheet;
 use ila_child::{Inputs, State, Stepped, initial_state, step};
@@ -12,7 +12,7 @@ use ila_sim::{
     ScriptStop, Simulation, names_of, read_script, simulate, simulated, simulation_text,
 };
 use std::alloc::Global;
-use wb_terms::Value;
+use wb_terms::{SetWord, SharedValues, Shown, Value};
 
 /// What is told of texts that are no state or no inputs.
 const OTHER: &str = "is no state, or no inputs";
@@ -69,9 +69,10 @@ fn values(alloc: Global, text: &str) -> Vec<Value> {
 /// Adds what a model with one state does in it under inputs: `STATE INPUT..`.
 pub fn add_stepped(alloc: Global, model: &IlaModel, text: &str, out: &mut Sheet) {
     let (state, inputs) = halves(text, " ");
-    match State::checked(model, values(alloc, state)) {
-        Some(state) => add_step(alloc, model, &state, inputs, out),
-        None => out.add(OTHER),
+    match State::checked(alloc, model, &values(alloc, state)) {
+        Ok(Some(state)) => add_step(alloc, model, &state, inputs, out),
+        Ok(None) => out.add(OTHER),
+        Err(_) => out.fail(),
     }
 }
 
@@ -80,8 +81,9 @@ pub fn add_first_step(alloc: Global, model: &IlaModel, inputs: &str, out: &mut S
     let Ok(state) = initial_state(alloc, model) else {
         return out.fail();
     };
-    for value in state.values() {
-        add_value(alloc, value, out);
+    let values = state.values();
+    for place in 0..values.len() {
+        add_shown(alloc, values, place, out);
         out.add(" ");
     }
     add_step(alloc, model, &state, inputs, out);
@@ -100,13 +102,38 @@ fn add_step(alloc: Global, model: &IlaModel, state: &State, inputs: &str, out: &
     }
 }
 
+/// Adds what is shown of a value.
+fn add_shown(alloc: Global, values: &SharedValues, place: usize, out: &mut Sheet)
+    requires { place < length values.now }
+{
+    match values.shown(alloc, place) {
+        Ok(Shown::Truth(true)) => out.add("true"),
+        Ok(Shown::Truth(false)) => out.add("false"),
+        Ok(Shown::Number(number)) => out.add_number(alloc, "", number),
+        Ok(Shown::Words(words)) => add_words(alloc, &words, out),
+        Err(_) => out.fail(),
+    }
+}
+
+/// Adds the words of a memory other than 0.
+fn add_words(alloc: Global, words: &[SetWord], out: &mut Sheet) {
+    out.add("[");
+    for k in 0..words.len() {
+        let word = words[k];
+        out.add_number(alloc, " ", u128::from(word.address));
+        out.add_number(alloc, "=", word.word);
+    }
+    out.add(" ]");
+}
+
 fn add_answer(alloc: Global, stepped: &Stepped, out: &mut Sheet) {
     match stepped {
         Stepped::Next(place, next) => {
             out.add_number(alloc, "next ", *place as u128);
-            for value in next.values() {
+            let values = next.values();
+            for place in 0..values.len() {
                 out.add(" ");
-                add_value(alloc, value, out);
+                add_shown(alloc, values, place, out);
             }
         }
         Stepped::NotValid => out.add("not valid"),

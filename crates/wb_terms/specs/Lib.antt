@@ -4,3 +4,6 @@ pub mod Environment
 pub mod Entries
 pub mod Held
 pub mod Walk
+pub mod Slots
+pub mod Links
+pub mod Points

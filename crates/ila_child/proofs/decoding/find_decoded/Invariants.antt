@@ -1,6 +1,6 @@
-use Rattle.wb_terms.specs.Environment.{valuation}
+use Rattle.wb_terms.specs.Links.{valuation_at}
 use Rattle.ila_child.specs.Decoding.{decodes, IsFound}
 use Rattle.ila_child.proofs.decoding.find_decoded.Given as goal
 
 abbrev pub invariant-loop-place : goal.invariant-loop-place
-invariant-loop-place l = IsFound (decodes l.terms (valuation l.terms l.env) l.instructions) l.place l.found
+invariant-loop-place l = IsFound (decodes l.terms (valuation_at l.terms l.point.values) l.instructions) l.place l.found

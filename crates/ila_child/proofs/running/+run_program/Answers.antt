@@ -4,7 +4,7 @@ use Rattle.std.proofs.lemmas.Bool.{and_parts}
 use Rattle.model_meaning.specs.Model.{entered}
 use Rattle.model_meaning.specs.Instruction as instruction
 use Rattle.model_meaning.specs.Instruction.{Reaches, DoesChild, DoesOne, ChildTrouble, OneTrouble}
-use Rattle.wb_terms.specs.Environment.{values_of, valuation}
+use Rattle.wb_terms.specs.Links.{valuation_at}
 use Rattle.wb_terms.specs.Graph.{tree}
 use Rattle.ila_model.specs.declared.parts.ChildId.{ChildId}
 use Rattle.ila_model.specs.declared.parts.Child.{Child}
@@ -59,13 +59,14 @@ loop-step-init t c =
     let x = c.index-child.result.now in
     let linked = subst (IsLinked p.children.items at) c.in-Some.is c.requires.linked in
     let sc = sorted_child p s at i.0 d x c.requires.depth linked.0 linked.1 c.index-child.ensures in
-    let xs = values_of c.args.env.now in
+    let xs = c.args.point.now.values in
     let begun = c.in_ok-begin.ensures.values ∙ ap (λ is. with_initial g.names x.first.0 is xs) c.deref.ensures.value in
     let there = entered_point p s i.0 d x xs sc.inside (AreOfSorts-length g.names xs c.requires.fits) in
     record {
       reaches = subst (λ a. entered (privates_of g x) (point_at p a xs) ≡ point_at p (Some i.0) (with_initial g.names x.first.0 x.initial_values.items xs)) linked.1 there ∙ ap (point_at p (Some i.0)) (sym begun);
       fits = c.in_ok-begin.ensures.fits;
-      room = refl;
+      room = c.in_ok-begin.ensures.room;
+      aside = c.in_ok-begin.ensures.aside;
     }
 
 pub take-requires-clause-deep : goal.take-requires-clause-deep
@@ -105,13 +106,13 @@ returns-in-NotValid-clause-run t c =
     let x = c.index-child.result.now in
     let linked = subst (IsLinked p.children.items at) c.in-Some.is c.requires.linked in
     let sc = sorted_child p s at i.0 d x c.requires.depth linked.0 linked.1 c.index-child.ensures in
-    let e = c.loop-step.env in
-    let f = c.take.new.env in
+    let e = c.loop-step.point.values in
+    let f = c.take.new.point.values in
     let n = c.loop-step.step in
-    let v = seen p at c.args.env.now in
+    let v = seen p at c.args.point.now.values in
     let taken = subst (IsTaken p (Some i.0) x.valid.0 c.deref-in-loop-step.result.now e f) c.in-NotValid.is c.in_ok-take.ensures.taken in
     let steps : n ≤ x.steps = omega arith in
-    let end = ended p s at i d n x (values_of c.args.env.now) (values_of e) linked.1 sc (AreOfSorts-length g.names _ c.requires.fits) (AreOfSorts-length g.names _ c.loop-step.invariant.fits) steps c.loop-step.invariant.reaches taken.1 in
+    let end = ended p s at i d n x c.args.point.now.values e linked.1 sc (AreOfSorts-length g.names _ c.requires.fits) (AreOfSorts-length g.names _ c.loop-step.invariant.fits) steps c.loop-step.invariant.reaches taken.1 in
     subst (λ o. DoesChild (program_in p d o) v (seen p at f)) (sym c.in-Some.is)
     (subst (λ z. DoesChild (program_in p d (Some i)) v (seen p at z)) (sym taken.0) end)
 
@@ -143,8 +144,8 @@ overflow_add-depth t c =
     let low = sc.low in
     omega arith
 
-pub overflow_add-result-then-holds : goal.overflow_add-result-then-holds
-overflow_add-result-then-holds t c =
+pub overflow_add-result-then-holds_at : goal.overflow_add-result-then-holds_at
+overflow_add-result-then-holds_at t c =
     let p = c.args.model.now.parts in
     let g = p.terms in
     let s = sorted p c.args.model.now.well_sorted in
@@ -168,10 +169,10 @@ returns-in-Stuck-clause-run t c =
     let x = c.index-child.result.now in
     let linked = subst (IsLinked p.children.items at) c.in-Some.is c.requires.linked in
     let sc = sorted_child p s at i.0 d x c.requires.depth linked.0 linked.1 c.index-child.ensures in
-    let e = c.loop-step.env in
-    let f = c.take.new.env in
+    let e = c.loop-step.point.values in
+    let f = c.take.new.point.values in
     let n = c.loop-step.step in
-    let v = seen p at c.args.env.now in
+    let v = seen p at c.args.point.now.values in
     let is = c.deref-in-loop-step.result.now in
     let taken = subst (IsTaken p (Some i.0) x.valid.0 is e f) c.in-Stuck.is c.in_ok-take.ensures.taken in
     let one = subst (λ js. OneTrouble (instructions_of g (program_in p (suc d)) js) (seen p (Some i.0) e) (suc d) n (instruction.stuck (suc d) n)) c.deref-in-loop-step.ensures.value (taken.1 (program_in p (suc d)) (suc d) n) in
@@ -190,17 +191,17 @@ run_program-requires t c =
     let x = c.index-child.result.now in
     let linked = subst (IsLinked p.children.items at) c.in-Some.is c.requires.linked in
     let sc = sorted_child p s at i.0 d x c.requires.depth linked.0 linked.1 c.index-child.ensures in
-    let e = c.loop-step.env in
-    let f = c.take.new.env in
+    let e = c.loop-step.point.values in
+    let f = c.take.new.point.values in
     let n = c.loop-step.step in
-    let v = seen p at c.args.env.now in
+    let v = seen p at c.args.point.now.values in
     let is = c.deref-in-loop-step.result.now in
     let o = c.in-One.inner in
     let taken = subst (IsTaken p (Some i.0) x.valid.0 is e f) c.in-One.is c.in_ok-take.ensures.taken in
     let started = taken.1 in
     let low = sc.low in
     let smaller : 4 - (d + 1) < t = omega (arith, c.decreases) in
-    (smaller, (subst (λ k. HasDepth p.children.items k (Some i.0)) (sym (add-one d)) sc.inside.deep, (started.linked, (omega (arith, c.in_ok-take.ensures.room, c.loop-step.invariant.room, c.requires.room), c.in_ok-take.ensures.fits))))
+    (smaller, (subst (λ k. HasDepth p.children.items k (Some i.0)) (sym (add-one d)) sc.inside.deep, (started.linked, (c.in_ok-take.ensures.room, c.in_ok-take.ensures.fits))))
 
 pub returns-in-Some-2-clause-run : goal.returns-in-Some-2-clause-run
 returns-in-Some-2-clause-run t c =
@@ -213,15 +214,15 @@ returns-in-Some-2-clause-run t c =
     let x = c.index-child.result.now in
     let linked = subst (IsLinked p.children.items at) c.in-Some.is c.requires.linked in
     let sc = sorted_child p s at i.0 d x c.requires.depth linked.0 linked.1 c.index-child.ensures in
-    let e = c.loop-step.env in
-    let f = c.take.new.env in
+    let e = c.loop-step.point.values in
+    let f = c.take.new.point.values in
     let n = c.loop-step.step in
-    let v = seen p at c.args.env.now in
+    let v = seen p at c.args.point.now.values in
     let is = c.deref-in-loop-step.result.now in
     let o = c.in-One.inner in
     let taken = subst (IsTaken p (Some i.0) x.valid.0 is e f) c.in-One.is c.in_ok-take.ensures.taken in
     let started = taken.1 in
-    let h = c.run_program.new.env in
+    let h = c.run_program.new.point.values in
     let ran = subst (IsRun p (Some i.0) (d + 1) o f h) c.in-Some-2.is c.in_ok-run_program-in-One.ensures.run in
     let q = trouble_of c.in-Some-2.trouble in
     let inner = subst (λ k. ChildTrouble (program_in p k o) (seen p (Some i.0) f) (suc k) q) (add-one d) ran in
@@ -241,15 +242,15 @@ loop-step-preserved t c =
     let x = c.index-child.result.now in
     let linked = subst (IsLinked p.children.items at) c.in-Some.is c.requires.linked in
     let sc = sorted_child p s at i.0 d x c.requires.depth linked.0 linked.1 c.index-child.ensures in
-    let e = c.loop-step.env in
-    let f = c.take.new.env in
+    let e = c.loop-step.point.values in
+    let f = c.take.new.point.values in
     let n = c.loop-step.step in
-    let v = seen p at c.args.env.now in
+    let v = seen p at c.args.point.now.values in
     let is = c.deref-in-loop-step.result.now in
     let o = c.in-One.inner in
     let taken = subst (IsTaken p (Some i.0) x.valid.0 is e f) c.in-One.is c.in_ok-take.ensures.taken in
     let started = taken.1 in
-    let h = c.run_program.new.env in
+    let h = c.run_program.new.point.values in
     let ran = subst (IsRun p (Some i.0) (d + 1) o f h) c.in-None.is c.in_ok-run_program-in-One.ensures.run in
     let inner = subst (λ k. DoesChild (program_in p k o) (seen p (Some i.0) f) (seen p (Some i.0) h)) (add-one d) ran in
     let here = started.does (program_in p (suc d)) (seen p (Some i.0) h) inner in
@@ -259,11 +260,12 @@ loop-step-preserved t c =
     record {
       reaches = subst (λ k. Reaches (steps_of p d x) k begins (seen p (Some i.0) h)) (sym (add-one n)) more;
       fits = c.in_ok-run_program-in-One.ensures.fits;
-      room = c.in_ok-run_program-in-One.ensures.room ∙ c.in_ok-take.ensures.room ∙ c.loop-step.invariant.room;
+      room = c.in_ok-run_program-in-One.ensures.room;
+      aside = c.in_ok-run_program-in-One.ensures.aside ∙ c.in_ok-take.ensures.aside ∙ c.loop-step.invariant.aside;
     }
 
-pub holds-requires-clause-condition : goal.holds-requires-clause-condition
-holds-requires-clause-condition t c =
+pub holds_at-requires-clause-condition : goal.holds_at-requires-clause-condition
+holds_at-requires-clause-condition t c =
     let p = c.args.model.now.parts in
     let g = p.terms in
     let s = sorted p c.args.model.now.well_sorted in
@@ -276,8 +278,8 @@ holds-requires-clause-condition t c =
     let m = and_parts (is_condition p (Some i.0) x.valid.0) _ sc.machine in
     (and_parts (is_term_of g truth x.valid.0) _ m.0).0
 
-pub returns-then-holds-clause-run : goal.returns-then-holds-clause-run
-returns-then-holds-clause-run t c =
+pub returns-then-holds_at-clause-run : goal.returns-then-holds_at-clause-run
+returns-then-holds_at-clause-run t c =
     let p = c.args.model.now.parts in
     let g = p.terms in
     let s = sorted p c.args.model.now.well_sorted in
@@ -287,18 +289,18 @@ returns-then-holds-clause-run t c =
     let x = c.index-child.result.now in
     let linked = subst (IsLinked p.children.items at) c.in-Some.is c.requires.linked in
     let sc = sorted_child p s at i.0 d x c.requires.depth linked.0 linked.1 c.index-child.ensures in
-    let e = c.loop-step.env in
+    let e = c.loop-step.point.values in
     let n = c.loop-step.step in
-    let v = seen p at c.args.env.now in
+    let v = seen p at c.args.point.now.values in
     let m = and_parts (is_condition p (Some i.0) x.valid.0) _ sc.machine in
-    let same = sym (holds_same p (Some i.0) (suc d) e x.valid.0 sc.inside.deep (low_enough (suc d) sc.low) m.0) ∙ sym c.holds.ensures in
+    let same = sym (holds_same p (Some i.0) (suc d) e x.valid.0 sc.inside.deep (low_enough (suc d) sc.low) m.0) ∙ sym c.holds_at.ensures in
     let steps : n ≡ x.steps = omega arith in
-    let end = too_long_at p i d n x v (seen p (Some i.0) e) sc steps c.loop-step.invariant.reaches (same ∙ c.if-holds.true) in
+    let end = too_long_at p i d n x v (seen p (Some i.0) e) sc steps c.loop-step.invariant.reaches (same ∙ c.if-holds_at.true) in
     subst (λ o. ChildTrouble (program_in p d o) v (suc d) (instruction.too_long (d + 1))) (sym c.in-Some.is)
     (subst (λ m. ChildTrouble (program_in p d (Some i)) v (suc d) (instruction.too_long m)) (sym (add-one d)) end)
 
-pub returns-else-holds-clause-run : goal.returns-else-holds-clause-run
-returns-else-holds-clause-run t c =
+pub returns-else-holds_at-clause-run : goal.returns-else-holds_at-clause-run
+returns-else-holds_at-clause-run t c =
     let p = c.args.model.now.parts in
     let g = p.terms in
     let s = sorted p c.args.model.now.well_sorted in
@@ -308,12 +310,12 @@ returns-else-holds-clause-run t c =
     let x = c.index-child.result.now in
     let linked = subst (IsLinked p.children.items at) c.in-Some.is c.requires.linked in
     let sc = sorted_child p s at i.0 d x c.requires.depth linked.0 linked.1 c.index-child.ensures in
-    let e = c.loop-step.env in
+    let e = c.loop-step.point.values in
     let n = c.loop-step.step in
-    let v = seen p at c.args.env.now in
+    let v = seen p at c.args.point.now.values in
     let m = and_parts (is_condition p (Some i.0) x.valid.0) _ sc.machine in
-    let same = sym (holds_same p (Some i.0) (suc d) e x.valid.0 sc.inside.deep (low_enough (suc d) sc.low) m.0) ∙ sym c.holds.ensures in
+    let same = sym (holds_same p (Some i.0) (suc d) e x.valid.0 sc.inside.deep (low_enough (suc d) sc.low) m.0) ∙ sym c.holds_at.ensures in
     let steps : n ≡ x.steps = omega arith in
     let below : n ≤ x.steps = omega arith in
-    let end = ended p s at i d n x (values_of c.args.env.now) (values_of e) linked.1 sc (AreOfSorts-length g.names _ c.requires.fits) (AreOfSorts-length g.names _ c.loop-step.invariant.fits) below c.loop-step.invariant.reaches (same ∙ c.if-holds.false) in
+    let end = ended p s at i d n x c.args.point.now.values e linked.1 sc (AreOfSorts-length g.names _ c.requires.fits) (AreOfSorts-length g.names _ c.loop-step.invariant.fits) below c.loop-step.invariant.reaches (same ∙ c.if-holds_at.false) in
     subst (λ o. DoesChild (program_in p d o) v (seen p at e)) (sym c.in-Some.is) end

@@ -1,7 +1,8 @@
-use Rattle.std.proofs.Common.{◌≡◌, ◌-◌, length}
+use Rattle.std.proofs.Common.{◌≡◌, ◌-◌}
 use Rattle.model_meaning.specs.Model.{entered}
 use Rattle.model_meaning.specs.Instruction.{Reaches}
-use Rattle.wb_terms.specs.Environment.{Fits}
+use Rattle.wb_terms.specs.Environment.{AreOfSorts}
+use Rattle.wb_terms.specs.Points.{HasRoom}
 use Rattle.ila_model.specs.Meaning.{privates_of}
 use Rattle.ila_child.specs.Running.{seen}
 use Rattle.ila_child.proofs.Programs.{steps_of}
@@ -12,7 +13,8 @@ decreases-run_program l = 4 - l.depth
 
 abbrev pub invariant-loop-step : goal.invariant-loop-step
 invariant-loop-step l = record {
-  reaches : Reaches (steps_of l.model.parts l.depth l.child) l.step (entered (privates_of l.model.parts.terms l.child) (seen l.model.parts l.fn.at l.fn.env)) (seen l.model.parts l.inside l.env);
-  fits : Fits l.model.parts.terms l.env;
-  room : length l.words ≡ length l.fn.words;
+  reaches : Reaches (steps_of l.model.parts l.depth l.child) l.step (entered (privates_of l.model.parts.terms l.child) (seen l.model.parts l.fn.at l.fn.point.values)) (seen l.model.parts l.inside l.point.values);
+  fits : AreOfSorts l.model.parts.terms.names l.point.values;
+  room : HasRoom l.model.parts.terms l.point;
+  aside : l.point.aside ≡ l.fn.point.aside;
 }

@@ -9,6 +9,7 @@ use Rattle.ila_model.specs.Model.{model_of}
 use Rattle.ila_sim.specs.declared.set.Set.{Set}
 use Rattle.ila_sim.specs.Lines.{sets_view}
 use Rattle.ila_child.specs.Step.{outcome_view, IsWell}
+use Rattle.ila_child.specs.Runs.{state_in, stepped_of}
 use Rattle.ila_sim.specs.Outcomes.{inputs_from}
 use Rattle.ila_sim.specs.Scripts.{script_view}
 use Rattle.ila_sim.specs.Sets.{are_right}
@@ -21,16 +22,21 @@ loop-sets-preserved c =
     let items = c.deref-sets-items.result.now in
     let k = c.loop-sets.sets-index in
     let line = c.sets-item.result in
-    let a = c.in_ok-answer.answer in
+    let p = c.args.model.now.parts in
+    let q = state_in p c.loop-sets.runner in
+    let r = state_in p c.answer.new.runner in
+    let a = stepped_of c.in_ok-moved.moved r in
     let outcome =
-    subst (λ (ss : List Set). IsOutcome m (state_valuation m c.loop-sets.state) (inputs_of m (sets_view (settables_of m).inputs ss)) (outcome_view m a)) c.deref-in-loop-sets.ensures.value c.in_ok-answer.ensures.outcome in
+    subst (λ (ss : List Set). IsOutcome m (state_valuation m q) (inputs_of m (sets_view (settables_of m).inputs ss)) (outcome_view m a)) c.deref-in-loop-sets.ensures.value c.in_ok-moved.ensures.outcome in
     let cut = lines_next items k line (omega arith) c.sets-item.is in
-    let pushed = ap (map (outcome_view m)) c.in_ok-push.ensures.items ∙ map-append (outcome_view m) c.loop-sets.answers.items (a ∷ []) in record {
-      well = All-same (IsWell m) c.push.new.self.items (c.loop-sets.answers.items ++ a ∷ []) c.in_ok-push.ensures.items (All-push (IsWell m) c.loop-sets.answers.items a c.loop-sets.invariant.well c.in_ok-answer.ensures.well);
-      state = after_well m c.loop-sets.state c.in_ok-state-2.state a c.loop-sets.invariant.state c.in_ok-answer.ensures.well c.in_ok-state-2.ensures;
+    let items_now = c.in_ok-push.ensures.items ∙ ap (λ b. c.loop-sets.answers.items ++ b ∷ []) c.in_ok-stepped.ensures in
+    let pushed = ap (map (outcome_view m)) items_now ∙ map-append (outcome_view m) c.loop-sets.answers.items (a ∷ []) in record {
+      made = c.in_ok-moved.ensures.made;
+      well = All-same (IsWell m) c.push.new.self.items (c.loop-sets.answers.items ++ a ∷ []) items_now (All-push (IsWell m) c.loop-sets.answers.items a c.loop-sets.invariant.well c.in_ok-moved.ensures.well);
+      state = after_well m q r a c.loop-sets.invariant.state c.in_ok-moved.ensures.well c.in_ok-moved.ensures.after;
       right = rest_right (λ (l : Vec Set Global). are_right (settables_of m).inputs l.items) (drop k items) (drop (k + 1) items) line cut c.loop-sets.invariant.right;
-      runs = one_more m (first_state m (script_view (settables_of m) c.args.script.now)) (inputs_from m c.args.script.now.inputs.items) c.loop-sets.state c.in_ok-state-2.state a (drop k items) (drop (k + 1) items) line
-          (map (outcome_view m) c.loop-sets.answers.items) (map (outcome_view m) c.push.new.self.items) cut c.loop-sets.invariant.runs outcome c.in_ok-state-2.ensures pushed;
+      runs = one_more m (first_state m (script_view (settables_of m) c.args.script.now)) (inputs_from m c.args.script.now.inputs.items) q r a (drop k items) (drop (k + 1) items) line
+          (map (outcome_view m) c.loop-sets.answers.items) (map (outcome_view m) c.push.new.self.items) cut c.loop-sets.invariant.runs outcome c.in_ok-moved.ensures.after pushed;
     }
 
 pub returns-clause-outcomes : goal.returns-clause-outcomes
@@ -40,4 +46,4 @@ returns-clause-outcomes c =
     let v = first_state m (script_view (settables_of m) c.args.script.now) in
     let ws = inputs_from m c.args.script.now.inputs.items in
     let left = drop_all c.loop-sets.sets-index c.deref-sets-items.result.now (omega arith) in
-    subst (AreOutcomes m v ws) (append-nil done) (ended m (state_valuation m c.loop-sets.state) _ (λ os. AreOutcomes m v ws (done ++ os)) left c.loop-sets.invariant.runs)
+    subst (AreOutcomes m v ws) (append-nil done) (ended m (state_valuation m (state_in c.args.model.now.parts c.loop-sets.runner)) _ (λ os. AreOutcomes m v ws (done ++ os)) left c.loop-sets.invariant.runs)

@@ -1,10 +1,9 @@
-use Rattle.std.proofs.Common.{◌≡◌, ◌++◌, drop, map}
+use Rattle.std.proofs.Common.{◌≡◌, ◌++◌, drop}
 use Rattle.model_meaning.specs.Model.{states_of}
-use Rattle.wb_terms.specs.Environment.{as_value}
 use Rattle.ila_model.specs.Model.{model_of}
 use Rattle.ila_sim.specs.Outcomes.{values_text}
 use Rattle.ila_sim.proofs.text.append_states.Given as goal
 
 abbrev pub invariant-loop-place : goal.invariant-loop-place
 invariant-loop-place l =
-    l.out.items ++ values_text (drop l.place (states_of (model_of l.model).top)) (drop l.place (map as_value l.values)) ≡ l.initial.out.items ++ values_text (states_of (model_of l.model).top) (map as_value l.values)
+    l.out.items ++ values_text (drop l.place (states_of (model_of l.model).top)) (drop l.place l.values) ≡ l.initial.out.items ++ values_text (states_of (model_of l.model).top) l.values

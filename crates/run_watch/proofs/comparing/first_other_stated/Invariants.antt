@@ -1,9 +1,7 @@
-use Rattle.std.proofs.Common.{map}
 use Rattle.model_meaning.specs.Model.{states_of}
-use Rattle.wb_terms.specs.Environment.{as_value}
 use Rattle.ila_model.specs.Model.{model_of}
 use Rattle.run_watch.proofs.Differing.{NoneOtherTo}
 use Rattle.run_watch.proofs.comparing.first_other_stated.Given as goal
 
 abbrev pub invariant-loop-k : goal.invariant-loop-k
-invariant-loop-k l = NoneOtherTo l.k (states_of (model_of l.model).top) (map as_value l.values)
+invariant-loop-k l = NoneOtherTo l.k (states_of (model_of l.model).top) l.values

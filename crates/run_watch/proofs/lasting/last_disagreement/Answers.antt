@@ -1,6 +1,5 @@
 use Rattle.std.proofs.Common.{Some, None, map, subst, arith}
 use Rattle.model_meaning.specs.Model.{states_of}
-use Rattle.wb_terms.specs.Environment.{as_value}
 use Rattle.ila_model.specs.Model.{model_of}
 use Rattle.mapped_designs.specs.View.{mapped_of}
 use Rattle.watch_laws.specs.Positions.{IsWatchedTo}
@@ -58,7 +57,7 @@ returns-in-Some-first_difference c x s run cycles z w =
     let sound = subst (IsPosition m e c.args.t) c.in-Idle.is c.requires.position in
     let found =
     subst (λ ys. IsFirstDifference ys q (Some c.in-Some-first_difference.k)) c.values-in-Idle.ensures
-    (subst (λ ys. IsFirstDifference (map as_value c.values-in-Idle.result.now) ys (Some c.in-Some-first_difference.k)) c.values-in-Idle-2.ensures c.in-Some-first_difference.ensures) in
+    (subst (λ ys. IsFirstDifference c.values-in-Idle.result.now ys (Some c.in-Some-first_difference.k)) c.values-in-Idle-2.ensures c.in-Some-first_difference.ensures) in
     last_other m e c.args.cycle.now c.args.t x s run cycles (states_apart model) z a q _ c.in-Some-first_difference.k c.in_ok-state-in-Idle.ensures.sorted sound.1
     c.in_ok-state-in-Idle.ensures.values stands found
 
@@ -73,7 +72,7 @@ returns-in-Idle c x s run cycles z w =
     let sound = subst (IsPosition m e c.args.t) c.in-Idle.is c.requires.position in
     let found =
     subst (λ ys. IsFirstDifference ys q None) c.values-in-Idle.ensures
-    (subst (λ ys. IsFirstDifference (map as_value c.values-in-Idle.result.now) ys None) c.values-in-Idle-2.ensures c.in-None-first_difference.ensures) in
+    (subst (λ ys. IsFirstDifference c.values-in-Idle.result.now ys None) c.values-in-Idle-2.ensures c.in-None-first_difference.ensures) in
     last_same m e c.args.cycle.now c.args.t x s run cycles (states_apart model) z a q _ c.in_ok-state-in-Idle.ensures.sorted sound.1 c.in_ok-state-in-Idle.ensures.values
     stands found
 

@@ -1,0 +1,11 @@
+use Rattle.std.proofs.Common.{◌≡◌, ◌++◌, take}
+use Rattle.wb_terms.specs.Links.{valuation_at}
+use Rattle.wb_terms.specs.Points.{PointView}
+use Rattle.ila_child.specs.Updating.{values_of_updates, AreUpdatesSorted}
+use Rattle.ila_child.proofs.updating.keep_updates.Given as goal
+
+abbrev pub invariant-loop-k : goal.invariant-loop-k
+invariant-loop-k l = record {
+  kept : l.point ≡ record l.initial.point { aside = l.initial.point.aside ++ values_of_updates l.terms (valuation_at l.terms l.initial.point.values) (take l.k l.updates) };
+  sorted : AreUpdatesSorted l.terms (valuation_at l.terms l.initial.point.values) (take l.k l.updates);
+}
