@@ -11,7 +11,7 @@ use Rattle.model_meaning.specs.Instruction as instruction
 use Rattle.model_meaning.specs.Instruction.{NoneDecodes, SomeDecodes, DoesChild, DoesInstruction, DoesOne, ChildTrouble, InstructionTrouble, OneTrouble}
 use Rattle.wb_terms.specs.Graph.{Graph, tree}
 use Rattle.wb_terms.specs.Environment.{AreOfSorts}
-use Rattle.wb_terms.specs.Links.{valuation_at}
+use Rattle.term_evaluation.specs.Links.{valuation_at}
 use Rattle.ila_model.specs.declared.parts.ChildId.{ChildId}
 use Rattle.ila_model.specs.declared.parts.Child.{Child}
 use Rattle.ila_model.specs.declared.parts.Instruction.{Instruction}

@@ -6,7 +6,7 @@ use Rattle.wb_values.specs.Value as meaning
 use Rattle.wb_values.specs.Value.{Name, Sort, truth, number, Entries, Valuation, HasSort}
 use Rattle.model_meaning.specs.Instruction.{DoesChild, ChildTrouble}
 use Rattle.wb_terms.specs.Environment.{AreOfSorts}
-use Rattle.wb_terms.specs.Links.{valuation_at}
+use Rattle.term_evaluation.specs.Links.{valuation_at}
 use Rattle.ila_model.specs.declared.parts.Instruction.{Instruction}
 use Rattle.ila_model.specs.declared.parts.Parts.{Parts}
 use Rattle.ila_model.specs.Scope.{nesting}

@@ -6,7 +6,7 @@ use Rattle.wb_values.specs.Value.{Name, Valuation}
 use Rattle.model_meaning.specs.Model.{holds, point_of}
 use Rattle.wb_terms.specs.Graph.{tree}
 use Rattle.wb_terms.specs.Environment.{AreOfSorts}
-use Rattle.wb_terms.specs.Links.{valuation_at}
+use Rattle.term_evaluation.specs.Links.{valuation_at}
 use Rattle.ila_model.specs.declared.parts.Instruction.{Instruction}
 use Rattle.ila_model.specs.declared.parts.Parts.{Parts}
 use Rattle.ila_model.specs.Scope.{nesting}

@@ -9,7 +9,7 @@ use Rattle.model_meaning.specs.Term.{same_sort, sort_of, val}
 use Rattle.model_meaning.specs.Model.{updated_value}
 use Rattle.wb_terms.specs.declared.values.Value.{Value}
 use Rattle.wb_terms.specs.Graph.{Graph, tree}
-use Rattle.wb_terms.specs.Points.{PointView, HasRoom}
+use Rattle.term_evaluation.specs.Points.{PointView, HasRoom}
 use Rattle.wb_bits.specs.declared.Word.{Word}
 use Rattle.sparse_memories.specs.declared.pool.Memory.{Memory}
 use Rattle.wb_terms.specs.Environment.{HasSortOf, AreOfSorts}

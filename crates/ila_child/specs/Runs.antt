@@ -2,7 +2,7 @@
 use Rattle.std.specs.Prelude.{ℕ, suc, ◌≡◌, List, [], ◌∷◌, length, take, ⊤, slice_set}
 use Rattle.wb_values.specs.Value as meaning
 use Rattle.wb_terms.specs.Environment.{AreOfSorts}
-use Rattle.wb_terms.specs.Points.{HasRoom}
+use Rattle.term_evaluation.specs.Points.{HasRoom}
 use Rattle.ila_model.specs.declared.parts.Parts.{Parts}
 use Rattle.ila_child.specs.declared.runs.Runner.{Runner}
 use Rattle.ila_child.specs.declared.runs.Moved.{Moved}

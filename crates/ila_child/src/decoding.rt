@@ -1,13 +1,14 @@
 //! Which instructions of a machine decode.
 
 ghost use Rattle.std.specs.Prelude.{◌≡◌, true, length};
-ghost use Rattle.wb_terms.specs.Links.{valuation_at};
-ghost use Rattle.wb_terms.specs.Points.{AreHeldAt, HasRoom};
+ghost use Rattle.term_evaluation.specs.Links.{valuation_at};
+ghost use Rattle.term_evaluation.specs.Points.{AreHeldAt, HasRoom};
 ghost use Rattle.ila_child.specs.Decoding.{decodes, are_conditions, AreDecoded};
 
 use crate::evaluation::holds_at;
 use ila_model::Instruction;
-use wb_terms::{Point, Terms};
+use term_evaluation::Point;
+use wb_terms::Terms;
 
 /// The instructions that decode, as far as a step asks, by their places in the machine's order.
 #[derive(Clone, Copy)]

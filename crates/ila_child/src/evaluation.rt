@@ -7,13 +7,14 @@ ghost use Rattle.model_meaning.specs.Model.{holds};
 ghost use Rattle.wb_terms.specs.Graph.{tree};
 ghost use Rattle.wb_terms.specs.Environment.{Fits, HasSortOf, valuation, value_of, as_value};
 ghost use Rattle.wb_terms.specs.Held.{Holds};
-ghost use Rattle.wb_terms.specs.Links.{valuation_at};
-ghost use Rattle.wb_terms.specs.Points.{AreHeldAt, HasRoom};
+ghost use Rattle.term_evaluation.specs.Links.{valuation_at};
+ghost use Rattle.term_evaluation.specs.Points.{AreHeldAt, HasRoom};
 ghost use Rattle.ila_model.specs.Sorted.{is_term_of};
 ghost use Rattle.ila_child.specs.Values.{IsMemoryOf};
 
 use std::alloc::Global;
-use wb_terms::{Env, Evaluated, NoMemory, Point, Sort, TermId, Terms, Value};
+use term_evaluation::Point;
+use wb_terms::{Env, Evaluated, NoMemory, Sort, TermId, Terms, Value};
 
 /// Whether a condition holds at a point.
 pub(crate) fn holds_at(terms: &Terms, point: &Point, id: TermId) -> bool

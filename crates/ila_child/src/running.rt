@@ -2,7 +2,7 @@
 
 ghost use Rattle.std.specs.Prelude.{◌≡◌, true, IfOk, OnOk};
 ghost use Rattle.wb_terms.specs.Environment.{AreOfSorts};
-ghost use Rattle.wb_terms.specs.Points.{HasRoom};
+ghost use Rattle.term_evaluation.specs.Points.{HasRoom};
 ghost use Rattle.ila_model.specs.Sorted.{is_machine};
 ghost use Rattle.ila_child.specs.Running.{HasDepth, IsDeep, IsLinked, IsTaken, IsRun};
 
@@ -11,7 +11,8 @@ use crate::evaluation::holds_at;
 use crate::updating::{begin, update};
 use ila_model::{ChildId, IlaModel, Instruction};
 use std::alloc::Global;
-use wb_terms::{NoMemory, Point, TermId};
+use term_evaluation::Point;
+use wb_terms::{NoMemory, TermId};
 
 /// How a child program fails to end. The outermost child has depth 1; steps count from 0 at each entry of their child.
 #[derive(Clone, Copy, Debug)]

@@ -3,8 +3,8 @@
 ghost use Rattle.std.specs.Prelude.{◌≡◌, ◌<◌, ◌≤◌, ◌++◌, None, IfOk, OnOk, length, map, take, drop, slice_index_or};
 ghost use Rattle.wb_terms.specs.Environment.{AreOfSorts, as_value};
 ghost use Rattle.wb_values.specs.Value.{number};
-ghost use Rattle.wb_terms.specs.Points.{AreHeldAt, HasRoom};
-ghost use Rattle.wb_terms.specs.Slots.{IsShownAs};
+ghost use Rattle.term_evaluation.specs.Points.{AreHeldAt, HasRoom};
+ghost use Rattle.term_evaluation.specs.Slots.{IsShownAs};
 ghost use Rattle.ila_model.specs.Model.{model_of};
 ghost use Rattle.ila_child.specs.State.{IsStateOf, AreInputsOf};
 ghost use Rattle.ila_child.specs.Running.{seen};
@@ -20,7 +20,8 @@ use crate::stepping::Stepped;
 use crate::updating::update;
 use ila_model::IlaModel;
 use std::alloc::Global;
-use wb_terms::{NameId, NoMemory, Point, SharedValues, Shown, Terms, Value};
+use term_evaluation::{Point, SharedValues, Shown};
+use wb_terms::{NameId, NoMemory, Terms, Value};
 
 /// What a model does at its state under inputs. Instructions are named by their places in the model's order, from 0. The
 /// outermost child program has depth 1, and its steps count from 0 at each entry.

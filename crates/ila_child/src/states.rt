@@ -4,7 +4,7 @@ ghost use Rattle.std.specs.Prelude.{◌≡◌, ◌≤◌, ◌<◌, ◌+◌, ◌+
 ghost use Rattle.wb_values.specs.Value.{number};
 ghost use Rattle.model_meaning.specs.Model.{states_of};
 ghost use Rattle.wb_terms.specs.Environment.{AreOfSorts, as_value};
-ghost use Rattle.wb_terms.specs.Slots.{with_number};
+ghost use Rattle.term_evaluation.specs.Slots.{with_number};
 ghost use Rattle.ila_model.specs.Model.{model_of};
 ghost use Rattle.ila_child.specs.State.{IsStateOf, AreInputsOf, initial_values};
 
@@ -12,7 +12,8 @@ use crate::values::are_of_sorts;
 use ila_model::IlaModel;
 use std::alloc::Global;
 use std::marker::Model;
-use wb_terms::{NameId, NoMemory, SharedValues, Terms, Value};
+use term_evaluation::SharedValues;
+use wb_terms::{NameId, NoMemory, Terms, Value};
 
 /// A state: a value for each state of a model, in the model's order. Contracts see the list of the values.
 #[derive(Drop)]

@@ -2,15 +2,16 @@
 
 ghost use Rattle.std.specs.Prelude.{◌≡◌, ◌≤◌, ◌+◌, ◌++◌, true, length, drop, map, OnOk};
 ghost use Rattle.wb_terms.specs.Environment.{AreOfSorts};
-ghost use Rattle.wb_terms.specs.Links.{valuation_at};
-ghost use Rattle.wb_terms.specs.Points.{AreHeldAt, HasRoom};
+ghost use Rattle.term_evaluation.specs.Links.{valuation_at};
+ghost use Rattle.term_evaluation.specs.Points.{AreHeldAt, HasRoom};
 ghost use Rattle.ila_model.specs.Sorted.{are_states};
 ghost use Rattle.ila_child.specs.Updating.{are_updates_of, with_updates, with_kept, with_initial, values_of_updates, AreUpdatesSorted};
 
 use crate::values::begun;
 use ila_model::Update;
 use std::alloc::Global;
-use wb_terms::{NameId, NoMemory, Point, Terms, Value};
+use term_evaluation::Point;
+use wb_terms::{NameId, NoMemory, Terms, Value};
 
 /// What updates make of a point that holds their terms: each updated state gets the value of its term, the others keep theirs.
 /// Values that were put aside stay so.

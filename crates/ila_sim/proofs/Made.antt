@@ -7,7 +7,7 @@ use Rattle.std.proofs.lemmas.List.{length-set, drop_more}
 use Rattle.wb_values.specs.Value.{Name, same_name, Sort, truth, word, memory, Value, truth_value, number, words, all_below, is_of_sort, Entries, entry_of, value_or_zero, valuation_of, with_value}
 use Rattle.model_meaning.specs.Model.{StateDeclaration, InputDeclaration, Model, states_of, state_named, value_or}
 use Rattle.scripts.specs.Script.{Settable, settable, settables_of, zero_value, with_word, with_sets, initial_or_zero, first_value, initial_state, zero_input, inputs_of}
-use Rattle.wb_terms.specs.Slots.{with_number}
+use Rattle.term_evaluation.specs.Slots.{with_number}
 use Rattle.wb_terms.specs.declared.values.Value as code
 use Rattle.wb_terms.specs.Environment.{as_value, AreOfSorts, values_by_name}
 use Rattle.ila_model.specs.Meaning.{zero_of}

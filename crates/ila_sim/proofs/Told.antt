@@ -9,8 +9,8 @@ use Rattle.wb_values.specs.Value.{Name, Value, truth_value, number, words, Valua
 use Rattle.model_meaning.specs.Model.{StateDeclaration, Model, states_of}
 use Rattle.scripts.specs.Script.{settables_of}
 use Rattle.scripts.specs.Simulation.{words_text, state_text, states_text}
-use Rattle.wb_terms.specs.declared.slots.Shown.TheVariants.{Truth as TruthShown, Number as NumberShown, Words as WordsShown}
-use Rattle.wb_terms.specs.Slots.{IsShownAs}
+use Rattle.term_evaluation.specs.declared.slots.Shown.TheVariants.{Truth as TruthShown, Number as NumberShown, Words as WordsShown}
+use Rattle.term_evaluation.specs.Slots.{IsShownAs}
 use Rattle.ila_child.specs.State.{sorts_of_states, state_valuation}
 use Rattle.ila_sim.specs.Names.{are_apart}
 use Rattle.ila_sim.specs.Outcomes.{settables_by, values_text}

@@ -5,7 +5,7 @@ ghost use Rattle.wb_values.specs.Value.{Value, number};
 ghost use Rattle.model_meaning.specs.Model.{states_of};
 ghost use Rattle.model_meaning.specs.Instruction.{stuck, too_long};
 ghost use Rattle.scripts.specs.Simulation.{state_text, name_of_instruction, trouble_text, outcome_text, simulation_text};
-ghost use Rattle.wb_terms.specs.Slots.{IsShownAs};
+ghost use Rattle.term_evaluation.specs.Slots.{IsShownAs};
 ghost use Rattle.ila_model.specs.Model.{model_of};
 ghost use Rattle.ila_child.specs.Runs.{IsRunnerOf, state_in, stepped_of};
 ghost use Rattle.ila_child.specs.Step.{outcome_view};
@@ -16,7 +16,8 @@ use ila_child::{Moved, Runner, Stepped};
 use ila_model::IlaModel;
 use itoa::Buffer;
 use std::alloc::Global;
-use wb_terms::{NoMemory, SetWord, SharedValues, Shown};
+use term_evaluation::{SetWord, SharedValues, Shown};
+use wb_terms::NoMemory;
 
 /// Appends a number in decimal.
 pub fn append_decimal(out: &mut Vec<u8>, number: u128) -> Result<(), NoMemory>

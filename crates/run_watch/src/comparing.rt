@@ -6,7 +6,7 @@ ghost use Rattle.ila_model.specs.Model.{model_of};
 ghost use Rattle.run_watch.specs.Comparing.{IsFirstDifference, IsFirstOtherStated};
 
 use ila_model::IlaModel;
-use wb_terms::SharedValues;
+use term_evaluation::SharedValues;
 
 /// The first place at which two lists of values differ.
 pub(crate) fn first_difference(xs: &SharedValues, ys: &SharedValues) -> Option<usize>

@@ -12,7 +12,8 @@ use ila_sim::{
     ScriptStop, Simulation, names_of, read_script, simulate, simulated, simulation_text,
 };
 use std::alloc::Global;
-use wb_terms::{SetWord, SharedValues, Shown, Value};
+use term_evaluation::{SetWord, SharedValues, Shown};
+use wb_terms::Value;
 
 /// What is told of texts that are no state or no inputs.
 const OTHER: &str = "is no state, or no inputs";

@@ -58,7 +58,7 @@ held_memory a d (words ws) w n h = (ws, refl, h.2, h.3)
 sixteen_from : (a : ℕ) → IsTrue (nat_le a 16) → a < 17
 sixteen_from a h = grind (arith, nat_tests)
 
-pub sixteen : (a d : ℕ) → IsTrue (is_sort (memory a d)) → a < 17
+sixteen : (a d : ℕ) → IsTrue (is_sort (memory a d)) → a < 17
 sixteen a d h =
     let l = (both (nat_le 1 a && nat_le a 16) (is_width d) h).0 in
     let k = (both (nat_le 1 a) (nat_le a 16) l).1 in

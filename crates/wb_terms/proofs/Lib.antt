@@ -3,6 +3,3 @@ pub mod InRange
 pub mod EnvironmentLemmas
 pub mod HeldLemmas
 pub mod ValueSorts
-pub mod SlotLemmas
-pub mod LinkLemmas
-pub mod PointLemmas

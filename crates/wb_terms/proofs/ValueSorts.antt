@@ -182,7 +182,7 @@ is_of_sext n (Some (word w)) x h =
     is_of_if (nat_le w n && nat_le n 128) (word n) (number (word_sext n w (as_number x))) (λ t. test_of (word_sext n w (as_number x)) (2 ^ n) (sext_below n w (as_number x) (wider n w t) (number_below w x h)))
 is_of_sext n _ x h = tt
 
-pub same_from_sorts : (s t : Sort) → IsTrue (same_sort s t) → t ≡ s
+same_from_sorts : (s t : Sort) → IsTrue (same_sort s t) → t ≡ s
 same_from_sorts truth truth h = refl
 same_from_sorts (word w) (word u) h = ap word (sym (same_number w u h))
 same_from_sorts (memory a d) (memory b e) h =

@@ -4,6 +4,3 @@ pub mod Environment
 pub mod Entries
 pub mod Held
 pub mod Walk
-pub mod Slots
-pub mod Links
-pub mod Points

@@ -125,7 +125,7 @@ pub(crate) fn word_of(terms: &Terms, env: &Env, words: &[Word], id: TermId) -> W
 }
 
 /// A truth value as a word of one bit.
-pub(crate) fn truth_word(truth: bool) -> Word
+fn truth_word(truth: bool) -> Word
     ensures width { result.width ≡ 1 }
     ensures value { result.value ≡ cond truth 1 0 }
 {
@@ -133,7 +133,7 @@ pub(crate) fn truth_word(truth: bool) -> Word
 }
 
 /// The first word where the condition is true, else the second.
-pub(crate) fn choice(condition: Word, x: Word, y: Word) -> Word
+fn choice(condition: Word, x: Word, y: Word) -> Word
     ensures { result ≡ (if condition.value == 1 then x else y) }
 {
     if condition.value == 1 { x } else { y }

@@ -1,13 +1,9 @@
 //! Terms of models: a store of shared terms of truth, word and memory sort, each checked when it is put, and their values under an environment.
 #![tactic(auto)]
 
-mod evaluating;
 mod evaluation;
 mod nodes;
 mod passes;
-mod points;
-mod shared;
-mod slots;
 mod sorts;
 mod store;
 mod values;
@@ -15,11 +11,7 @@ mod values;
 pub use evaluation::{Scratch, eval, eval_at};
 pub use nodes::{NameId, Node, TermId};
 pub use passes::Evaluated;
-pub use points::Point;
-pub use shared::SharedValues;
-pub use slots::Shown;
 pub use sorts::Sort;
-pub use sparse_memories::SetWord;
 use std::alloc::AllocError;
 pub use store::{PutStop, Terms};
 pub use values::{Env, Value};

@@ -4,7 +4,7 @@ use Rattle.std.proofs.lemmas.List.{take_at}
 use Rattle.model_meaning.specs.Model.{holds, point_of}
 use Rattle.wb_terms.specs.Graph.{tree}
 use Rattle.wb_terms.specs.Environment.{AreOfSorts}
-use Rattle.wb_terms.specs.Links.{valuation_at}
+use Rattle.term_evaluation.specs.Links.{valuation_at}
 use Rattle.ila_model.specs.Scope.{nesting}
 use Rattle.ila_model.specs.Sorted.{is_condition}
 use Rattle.ila_model.specs.Meaning.{model_from}

@@ -1,5 +1,5 @@
 use Rattle.std.proofs.Common.{◌≡◌, ◌+◌, sym, subst, ◌∙◌}
-use Rattle.wb_terms.specs.Links.{valuation_at}
+use Rattle.term_evaluation.specs.Links.{valuation_at}
 use Rattle.ila_child.specs.Decoding.{decodes, IsFound}
 use Rattle.ila_child.proofs.Effects.{found_at, condition_here}
 use Rattle.ila_child.proofs.Found.{decodes-item, IsFound-pass, IsFound-first}

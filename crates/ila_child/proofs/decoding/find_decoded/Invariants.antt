@@ -1,4 +1,4 @@
-use Rattle.wb_terms.specs.Links.{valuation_at}
+use Rattle.term_evaluation.specs.Links.{valuation_at}
 use Rattle.ila_child.specs.Decoding.{decodes, IsFound}
 use Rattle.ila_child.proofs.decoding.find_decoded.Given as goal
 

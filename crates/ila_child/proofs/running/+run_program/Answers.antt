@@ -4,7 +4,7 @@ use Rattle.std.proofs.lemmas.Bool.{and_parts}
 use Rattle.model_meaning.specs.Model.{entered}
 use Rattle.model_meaning.specs.Instruction as instruction
 use Rattle.model_meaning.specs.Instruction.{Reaches, DoesChild, DoesOne, ChildTrouble, OneTrouble}
-use Rattle.wb_terms.specs.Links.{valuation_at}
+use Rattle.term_evaluation.specs.Links.{valuation_at}
 use Rattle.wb_terms.specs.Graph.{tree}
 use Rattle.ila_model.specs.declared.parts.ChildId.{ChildId}
 use Rattle.ila_model.specs.declared.parts.Child.{Child}

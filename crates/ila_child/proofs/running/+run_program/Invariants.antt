@@ -2,7 +2,7 @@ use Rattle.std.proofs.Common.{◌≡◌, ◌-◌}
 use Rattle.model_meaning.specs.Model.{entered}
 use Rattle.model_meaning.specs.Instruction.{Reaches}
 use Rattle.wb_terms.specs.Environment.{AreOfSorts}
-use Rattle.wb_terms.specs.Points.{HasRoom}
+use Rattle.term_evaluation.specs.Points.{HasRoom}
 use Rattle.ila_model.specs.Meaning.{privates_of}
 use Rattle.ila_child.specs.Running.{seen}
 use Rattle.ila_child.proofs.Programs.{steps_of}

@@ -3,7 +3,7 @@ use Rattle.std.proofs.lemmas.Bool.{and_parts}
 use Rattle.model_meaning.specs.Model.{holds}
 use Rattle.wb_terms.specs.Graph.{tree}
 use Rattle.wb_terms.specs.Environment.{AreOfSorts}
-use Rattle.wb_terms.specs.Links.{valuation_at}
+use Rattle.term_evaluation.specs.Links.{valuation_at}
 use Rattle.ila_model.specs.declared.parts.Instruction.{Instruction}
 use Rattle.ila_model.specs.Sorted.{is_condition, are_instructions}
 use Rattle.ila_model.proofs.Declarations.{sorted}

@@ -2,7 +2,7 @@ use Rattle.std.proofs.Common.{◌≡◌, ◌∙◌, ◌+◌, ◌<◌, ◌++◌, 
 use Rattle.std.proofs.lemmas.List.{take_more}
 use Rattle.wb_values.specs.Value as meaning
 use Rattle.wb_values.specs.Value.{number}
-use Rattle.wb_terms.specs.Points.{PointView}
+use Rattle.term_evaluation.specs.Points.{PointView}
 use Rattle.ila_child.proofs.Updates.{kept_none}
 use Rattle.ila_child.proofs.runs.keep_states.Goals as goal
 

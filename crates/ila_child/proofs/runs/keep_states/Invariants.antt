@@ -1,5 +1,5 @@
 use Rattle.std.proofs.Common.{◌≡◌, ◌++◌, take}
-use Rattle.wb_terms.specs.Points.{PointView}
+use Rattle.term_evaluation.specs.Points.{PointView}
 use Rattle.ila_child.proofs.runs.keep_states.Given as goal
 
 abbrev pub invariant-loop-k : goal.invariant-loop-k

@@ -2,7 +2,7 @@ use Rattle.std.proofs.Common.{◌≡◌, ◌∙◌, ◌+◌, ◌<◌, ◌++◌, 
 use Rattle.std.proofs.lemmas.List.{length-take, length-drop}
 use Rattle.wb_values.specs.Value as meaning
 use Rattle.wb_values.specs.Value.{number}
-use Rattle.wb_terms.specs.Points.{PointView}
+use Rattle.term_evaluation.specs.Points.{PointView}
 use Rattle.ila_child.proofs.Movement.{put_back-turn}
 use Rattle.ila_child.proofs.runs.put_back.Goals as goal
 

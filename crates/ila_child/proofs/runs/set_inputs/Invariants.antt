@@ -1,6 +1,6 @@
 use Rattle.std.proofs.Common.{◌≡◌, ◌+◌, map, drop}
 use Rattle.wb_terms.specs.Environment.{AreOfSorts, as_value}
-use Rattle.wb_terms.specs.Points.{HasRoom}
+use Rattle.term_evaluation.specs.Points.{HasRoom}
 use Rattle.ila_child.specs.Runs.{with_values}
 use Rattle.ila_child.proofs.runs.set_inputs.Given as goal
 

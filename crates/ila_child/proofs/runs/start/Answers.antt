@@ -1,6 +1,6 @@
 use Rattle.std.proofs.Common.{◌≡◌, ◌∙◌, None, true, sym, ap, subst}
 use Rattle.std.proofs.lemmas.Bool.{and_parts}
-use Rattle.wb_terms.specs.Links.{valuation_at}
+use Rattle.term_evaluation.specs.Links.{valuation_at}
 use Rattle.ila_model.specs.Sorted.{is_condition}
 use Rattle.ila_model.proofs.Declarations.{sorted}
 use Rattle.ila_child.specs.Updating.{with_updates, are_updates_of}

@@ -2,7 +2,7 @@ use Rattle.std.proofs.Common.{◌≡◌, ◌+◌, ◌<◌, ◌∙◌, set, lengt
 use Rattle.wb_values.specs.Value.{HasSort}
 use Rattle.wb_terms.specs.Sort.{as_sort}
 use Rattle.wb_terms.specs.Environment.{as_value, AreOfSorts}
-use Rattle.wb_terms.specs.Points.{HasRoom}
+use Rattle.term_evaluation.specs.Points.{HasRoom}
 use Rattle.ila_model.specs.Sorted.{sort_at}
 use Rattle.ila_child.specs.Values.{beginning}
 use Rattle.ila_child.specs.Updating.{with_initial}

@@ -1,6 +1,6 @@
 use Rattle.std.proofs.Common.{◌≡◌, ◌+◌, drop}
 use Rattle.wb_terms.specs.Environment.{AreOfSorts}
-use Rattle.wb_terms.specs.Points.{HasRoom}
+use Rattle.term_evaluation.specs.Points.{HasRoom}
 use Rattle.ila_child.specs.Updating.{with_initial}
 use Rattle.ila_child.proofs.updating.begin.Given as goal
 

@@ -4,8 +4,8 @@ use Rattle.wb_values.specs.Value as meaning
 use Rattle.model_meaning.specs.Term.{sort_of}
 use Rattle.wb_terms.specs.Graph.{tree}
 use Rattle.wb_terms.specs.Environment.{HasSortOf}
-use Rattle.wb_terms.specs.Links.{valuation_at, value_at}
-use Rattle.wb_terms.specs.Points.{PointView, AreHeldAt, HasRoom}
+use Rattle.term_evaluation.specs.Links.{valuation_at, value_at}
+use Rattle.term_evaluation.specs.Points.{PointView, AreHeldAt, HasRoom}
 use Rattle.ila_model.specs.declared.parts.Update.{Update}
 use Rattle.ila_model.specs.Sorted.{sort_at}
 use Rattle.ila_child.specs.Updating.{values_of_updates, AreUpdatesSorted}

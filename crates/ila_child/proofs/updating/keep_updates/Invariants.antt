@@ -1,6 +1,6 @@
 use Rattle.std.proofs.Common.{◌≡◌, ◌++◌, take}
-use Rattle.wb_terms.specs.Links.{valuation_at}
-use Rattle.wb_terms.specs.Points.{PointView}
+use Rattle.term_evaluation.specs.Links.{valuation_at}
+use Rattle.term_evaluation.specs.Points.{PointView}
 use Rattle.ila_child.specs.Updating.{values_of_updates, AreUpdatesSorted}
 use Rattle.ila_child.proofs.updating.keep_updates.Given as goal
 

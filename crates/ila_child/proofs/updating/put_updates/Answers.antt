@@ -3,7 +3,7 @@ use Rattle.std.proofs.Math.ListN.{length-set}
 use Rattle.std.proofs.lemmas.List.{get_or_default}
 use Rattle.wb_values.specs.Value as meaning
 use Rattle.wb_values.specs.Value.{number}
-use Rattle.wb_terms.specs.Points.{PointView}
+use Rattle.term_evaluation.specs.Points.{PointView}
 use Rattle.ila_model.specs.declared.parts.Update.{Update}
 use Rattle.ila_child.specs.Updating.{with_kept}
 use Rattle.ila_child.proofs.Updates.{no_update, update_now, AreOfSorts-length, with_kept-turn, none_left}

@@ -1,5 +1,5 @@
 use Rattle.std.proofs.Common.{◌≡◌, ◌+◌, drop, length}
-use Rattle.wb_terms.specs.Points.{PointView}
+use Rattle.term_evaluation.specs.Points.{PointView}
 use Rattle.ila_child.specs.Updating.{with_kept}
 use Rattle.ila_child.proofs.updating.put_updates.Given as goal
 

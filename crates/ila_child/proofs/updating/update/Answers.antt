@@ -1,8 +1,8 @@
 use Rattle.std.proofs.Common.{◌≡◌, ◌∙◌, ◌+◌, ◌≤◌, length, take, drop, refl, sym, ap, subst, arith}
 use Rattle.std.proofs.lemmas.List.{length-append, length-map, take_at}
 use Rattle.wb_terms.specs.Environment.{AreOfSorts}
-use Rattle.wb_terms.specs.Links.{valuation_at}
-use Rattle.wb_terms.specs.Points.{PointView}
+use Rattle.term_evaluation.specs.Links.{valuation_at}
+use Rattle.term_evaluation.specs.Points.{PointView}
 use Rattle.ila_child.specs.Updating.{values_of_updates, with_kept}
 use Rattle.ila_child.proofs.Updates.{room_kept, with_kept-after, with_updates-sorted, length-values_of_updates}
 use Rattle.ila_child.proofs.updating.update.Goals as goal

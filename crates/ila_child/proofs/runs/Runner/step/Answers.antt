@@ -2,7 +2,7 @@ use Rattle.std.proofs.Common.{◌≡◌, ◌∙◌, ◌<◌, List, None, true, l
 use Rattle.std.proofs.lemmas.Bool.{and_parts}
 use Rattle.wb_values.specs.Value.{truth}
 use Rattle.wb_terms.specs.Environment.{AreOfSorts}
-use Rattle.wb_terms.specs.Links.{valuation_at}
+use Rattle.term_evaluation.specs.Links.{valuation_at}
 use Rattle.ila_model.specs.declared.parts.Instruction.{Instruction}
 use Rattle.ila_model.specs.Sorted.{is_condition, is_term_of}
 use Rattle.ila_model.specs.Meaning.{model_from}

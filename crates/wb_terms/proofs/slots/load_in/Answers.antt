@@ -1,7 +1,0 @@
-use Rattle.std.proofs.Common.{arith}
-use Rattle.wb_terms.proofs.SlotLemmas.{loaded_past}
-use Rattle.wb_terms.proofs.slots.load_in.Goals as goal
-
-pub returns-then-from-le-address : goal.returns-then-from-le-address
-returns-then-from-le-address c =
-    loaded_past c.args.pool.now c.args.depth c.args.memory c.word_count.result c.args.address c.word_count.ensures (omega arith)
