@@ -1,4 +1,4 @@
--- What stands below a place, by the table of modules and by the source; and how many places there are.
+-- What stands below a place, by the table of numbers and by the source; and how many places there are.
 use Rattle.std.proofs.Common.{◌≡◌, ℕ, suc, ◌+◌, ◌-◌, ◌<◌, ◌≤◌, List, [], ◌∷◌, ◌++◌, length, Bor, refl, sym, ap, ◌∙◌, subst, Option, Some, None, true, false, arith}
 use Rattle.std.proofs.lemmas.List.{length-append}
 use mathlib.Core.Path.{fun_ext}
@@ -15,9 +15,9 @@ use Rattle.v_places.specs.Walk.{IsWalked, IsWalk}
 use Rattle.v_places.proofs.Rooms.{spots_length, spots_append}
 use Rattle.v_places.proofs.Turns.{walk_on, walk_off, walk_end}
 
-pub whole_part : (t : BTreeMap (Bor (List ℕ)) (Bor Module)) (source : Source) (k : ℕ) (x : Spot) → Knows t source
-    → below_by (module_in t) k x (all_instances x.of_module.items) ≡ spots_below source k x
-whole_part t source k x h = ap (λ modules. below_by modules k x (all_instances x.of_module.items)) (fun_ext h)
+pub whole_part : (ms : List Module) (t : BTreeMap (Bor (List ℕ)) ℕ) (source : Source) (k : ℕ) (x : Spot) → Knows ms t source
+    → below_by (module_in ms t) k x (all_instances x.of_module.items) ≡ spots_below source k x
+whole_part ms t source k x h = ap (λ modules. below_by modules k x (all_instances x.of_module.items)) (fun_ext h)
 
 -- the numbers of the list and of the queue, after a turn
 module _ (count more : ℕ) (o : Option ℕ) (list after waiting rest queue : List Place) (p : Place) (part : List Spot) (is : count ≡ length list + length waiting) (popped : waiting ≡ p ∷ rest)
@@ -60,16 +60,16 @@ nearer n l = omega (arith, l)
 
 -- ---- the queue with the top
 
-pub one_waits : (queue empty : List Place) (p : Place) → queue ≡ empty ++ p ∷ [] → empty ≡ [] → length queue ≡ 1
-one_waits queue empty p e f = ap length (e ∙ ap (λ q. q ++ p ∷ []) f)
+pub one_waits : (queue empty : List Place) (x : Spot) → spots_of queue ≡ spots_of empty ++ x ∷ [] → empty ≡ [] → length queue ≡ 1
+one_waits queue empty x e f = sym (spots_length queue) ∙ ap length (e ∙ ap (λ q. spots_of q ++ x ∷ []) f)
 
-pub top_waits : (queue empty : List Place) (p : Place) (z : Spot) → queue ≡ empty ++ p ∷ [] → empty ≡ [] → spot_of p ≡ z → spots_of queue ≡ z ∷ []
-top_waits queue empty p z e f g = ap spots_of (e ∙ ap (λ q. q ++ p ∷ []) f) ∙ ap (λ s. s ∷ []) g
+pub top_waits : (queue empty : List Place) (x : Spot) → spots_of queue ≡ spots_of empty ++ x ∷ [] → empty ≡ [] → spots_of queue ≡ x ∷ []
+top_waits queue empty x e f = e ∙ ap (λ q. spots_of q ++ x ∷ []) f
 
 -- a turn, over the code's lists
-module _ (t : BTreeMap (Bor (List ℕ)) (Bor Module)) (source : Source) (top : pure.Module) (n count : ℕ) (o : Option ℕ) (list waiting rest queue : List Place) (p : Place) (knows : Knows t source) (number : n ≡ length list)
+module _ (ms : List Module) (t : BTreeMap (Bor (List ℕ)) ℕ) (source : Source) (top : pure.Module) (n count : ℕ) (o : Option ℕ) (list waiting rest queue : List Place) (p : Place) (knows : Knows ms t source) (number : n ≡ length list)
     (walked : IsWalked source top n (spots_of list ++ spots_of waiting)) (popped : waiting ≡ p ∷ rest)
-    (added : IsAdded count o (spots_of queue) (spots_of rest) (below_by (module_in t) n (spot_of p) (all_instances (spot_of p).of_module.items))) where
+    (added : IsAdded count o (spots_of queue) (spots_of rest) (below_by (module_in ms t) n (spot_of p) (all_instances (spot_of p).of_module.items))) where
   so_long : n ≡ length (spots_of list)
   so_long = number ∙ sym (spots_length list)
 
@@ -77,12 +77,12 @@ module _ (t : BTreeMap (Bor (List ℕ)) (Bor Module)) (source : Source) (top : p
   turn_on more after e f =
       subst (λ xs. IsWalked source top (n + 1) (xs ++ spots_of queue)) (sym (ap spots_of f ∙ spots_append list (p ∷ [])))
       (walk_on source top n count (spots_of list) (spots_of waiting) (spots_of rest) (spot_of p) so_long (ap spots_of popped) walked (spots_of queue)
-      (below_by (module_in t) n (spot_of p) (all_instances (spot_of p).of_module.items)) o (whole_part t source n (spot_of p) knows) added more (n + 1) e refl)
+      (below_by (module_in ms t) n (spot_of p) (all_instances (spot_of p).of_module.items)) o (whole_part ms t source n (spot_of p) knows) added more (n + 1) e refl)
 
   pub turn_off : (new : List Spot) → o ≡ None → count ≡ length list + length waiting → IsWalk source top false new
   turn_off new e f =
       walk_off source top n count (spots_of list) (spots_of waiting) (spots_of rest) (spot_of p) so_long (ap spots_of popped) walked (spots_of queue)
-      (below_by (module_in t) n (spot_of p) (all_instances (spot_of p).of_module.items)) o (whole_part t source n (spot_of p) knows) added new e (counts_both count list waiting f)
+      (below_by (module_in ms t) n (spot_of p) (all_instances (spot_of p).of_module.items)) o (whole_part ms t source n (spot_of p) knows) added new e (counts_both count list waiting f)
 
 pub turn_end : (source : Source) (top : pure.Module) (n count : ℕ) (list waiting : List Place) → n ≡ length list → count ≡ length list + length waiting → count ≤ 65537 → waiting ≡ []
     → IsWalked source top n (spots_of list ++ spots_of waiting) → IsWalk source top true (spots_of list)

@@ -1,6 +1,6 @@
 -- What stands below a module, item by item and instance by instance.
-use Rattle.std.proofs.Common.{◌≡◌, ℕ, suc, ◌+◌, ◌<◌, ◌≤◌, List, [], ◌∷◌, ◌++◌, append_assoc, append-nil, length, drop, get_or, map, refl, sym, ap, ◌∙◌, subst, Option, Some, None, add-one, drop-cons}
-use Rattle.std.proofs.lemmas.List.{drop_all}
+use Rattle.std.proofs.Common.{◌≡◌, ℕ, suc, ◌+◌, ◌<◌, ◌≤◌, List, [], ◌∷◌, ◌++◌, append_assoc, append-nil, length, drop, get_or, map, refl, sym, ap, ◌∙◌, subst, Option, Some, None, Bool, true, false, add-one, drop-cons}
+use Rattle.std.proofs.lemmas.Bool.{false≢true}
 use mathlib.Core.Path.{fun_ext}
 use Rattle.wb_values.specs.Value.{Name, Entries}
 use Rattle.verilog_trees.specs.Syntax as pure
@@ -11,8 +11,7 @@ use Rattle.verilog_designs.specs.Known.{KnownOverrides, known_constants, known_m
 use Rattle.v_syntax.specs.declared.module.Instance.{Instance as CodeInstance}
 use Rattle.v_syntax.specs.declared.module.Item.{Item}
 use Rattle.v_syntax.specs.Source.{connections_of, item_of, module_of}
-use Rattle.v_places.specs.declared.group.Group.{Group}
-use Rattle.v_places.specs.Views.{group_spots}
+use Rattle.v_places.specs.Views.{each_if_any}
 use Rattle.v_places.specs.Below.{Spot, each_instance, all_instances, item_instances, each_spot, spot_below, one_if_any, below_by}
 
 abbrev pub pairs_of : List CodeInstance → List (Name × Connections)
@@ -27,14 +26,6 @@ each_below modules k x name c m e (i ∷ is) =
     let u : Name × Instance = (i.name.now, record { of_module = name; parameters = c; connections = connections_of i.connections }) in
     ap (λ zs. spot_below k x u m ∷ zs) (each_below modules k x name c m e is)
     ∙ ap (λ o. one_if_any k x u o ++ below_by modules k x (each_instance name c (pairs_of is))) (sym e)
-
--- what overrides the parameters, name by name, where the constants around are these
-pub given_so : (k : ℕ) (x : Spot) (g : Group) (given : KnownOverrides) (objects : Entries Object) → x.constants ≡ objects
-    → ((n : Name) → given n ≡ known_overrides (known_module_scope x.of_module objects) (connections_of g.given.now) (module_of g.below.now) n)
-    → each_spot k (module_of g.below.now) given (pairs_of g.instances.now) ≡ group_spots k x g
-given_so k x g given objects e h =
-    ap (λ o. each_spot k (module_of g.below.now) o (pairs_of g.instances.now)) (fun_ext h)
-    ∙ ap (λ os. each_spot k (module_of g.below.now) (known_overrides (known_module_scope x.of_module os) (connections_of g.given.now) (module_of g.below.now)) (pairs_of g.instances.now)) (sym e)
 
 pub none_below : (modules : Name → Option Module) (k : ℕ) (x : Spot) (name : Name) (c : Connections) → modules name ≡ None → (is : List CodeInstance)
     → below_by modules k x (each_instance name c (pairs_of is)) ≡ []
@@ -80,15 +71,42 @@ items_first modules k x items i d h e =
     parted : drop i items ≡ d ∷ drop (i + 1) items
     parted = rw (add-one, drop-cons items i d h) (ap (λ c. c ∷ drop (suc i) items) (sym e))
 
--- the group of an item of instances
-pub item_found : (modules : Name → Option Module) (k : ℕ) (x : Spot) (i : pure.Item) (name : Name) (c : Connections) (m : Module) (is : List CodeInstance) → i ≡ instances name c (pairs_of is)
+-- an item of instances
+item_found : (modules : Name → Option Module) (k : ℕ) (x : Spot) (i : pure.Item) (name : Name) (c : Connections) (m : Module) (is : List CodeInstance) → i ≡ instances name c (pairs_of is)
     → modules name ≡ Some m → each_spot k m (known_overrides (known_module_scope x.of_module x.constants) c m) (pairs_of is) ≡ below_by modules k x (item_instances i)
 item_found modules k x i name c m is e h =
     each_below modules k x name c m h is
     ∙ (ap (below_by modules k x) (sym (append-nil (each_instance name c (pairs_of is)))) ∙ ap (λ j. below_by modules k x (item_instances j)) (sym e))
 
-pub item_lacking : (modules : Name → Option Module) (k : ℕ) (x : Spot) (i : pure.Item) (name : Name) (c : Connections) (is : List CodeInstance) → i ≡ instances name c (pairs_of is)
+item_lacking : (modules : Name → Option Module) (k : ℕ) (x : Spot) (i : pure.Item) (name : Name) (c : Connections) (is : List CodeInstance) → i ≡ instances name c (pairs_of is)
     → modules name ≡ None → [] ≡ below_by modules k x (item_instances i)
 item_lacking modules k x i name c is e h =
     sym (none_below modules k x name c h is)
     ∙ (ap (below_by modules k x) (sym (append-nil (each_instance name c (pairs_of is)))) ∙ ap (λ j. below_by modules k x (item_instances j)) (sym e))
+
+pub item_spots : (modules : Name → Option Module) (k : ℕ) (x : Spot) (i : pure.Item) (name : Name) (c : Connections) (objects : Entries Object) (o : Option Module) (given : KnownOverrides) (is : List CodeInstance)
+    → i ≡ instances name c (pairs_of is) → o ≡ modules name → x.constants ≡ objects
+    → ((m : Module) → o ≡ Some m → (n : Name) → given n ≡ known_overrides (known_module_scope x.of_module objects) c m n)
+    → each_if_any k o given (pairs_of is) ≡ below_by modules k x (item_instances i)
+item_spots modules k x i name c objects None given is e f h g = item_lacking modules k x i name c is e (sym f)
+item_spots modules k x i name c objects (Some m) given is e f h g =
+    ap (λ o. each_spot k m o (pairs_of is)) (fun_ext (g m refl) ∙ ap (λ os. known_overrides (known_module_scope x.of_module os) c m) (sym h))
+    ∙ item_found modules k x i name c m is e (sym f)
+
+none_is : (m : Module) → None ≡ Some m → ⊥
+none_is m e = false≢true (ap is e)
+  where
+    is : Option Module → Bool
+    is None = false
+    is (Some x) = true
+
+-- what overrides the parameters of a module, if it is there
+pub given_some : (m d : Module) (given : Module → KnownOverrides) (list : KnownOverrides) → ((n : Name) → list n ≡ given m n) → Some m ≡ Some d → (n : Name) → list n ≡ given d n
+given_some m d given list h e n = h n ∙ ap (λ x. given x n) (ap from e)
+  where
+    from : Option Module → Module
+    from None = m
+    from (Some x) = x
+
+pub given_none : (d : Module) (A : Type 0) → None ≡ Some d → A
+given_none d A e = absurd (none_is d e)

@@ -59,8 +59,8 @@ pub spots_length : (xs : List Place) → length (spots_of xs) ≡ length xs
 spots_length [] = refl
 spots_length (x ∷ xs) = ap suc (spots_length xs)
 
-pub one_added : (count : ℕ) (old new : List Place) (p : Place) → new ≡ old ++ p ∷ [] → count ≤ 65536 → IsAdded count (Some (count + 1)) (spots_of new) (spots_of old) (spot_of p ∷ [])
-one_added count old new p e l = (ap spots_of e ∙ spots_append old (p ∷ []), refl, λ h. omega (arith, l))
+pub place_added : (old new : List Place) (p : Place) (x : Spot) → new ≡ old ++ p ∷ [] → spot_of p ≡ x → spots_of new ≡ spots_of old ++ x ∷ []
+place_added old new p x e f = ap spots_of e ∙ (spots_append old (p ∷ []) ∙ ap (λ y. spots_of old ++ y ∷ []) f)
 
-pub none_added : (count : ℕ) (old new : List Place) (p : Place) → 65536 < count → IsAdded count None (spots_of new) (spots_of old) (spot_of p ∷ [])
-none_added count old new p l = omega (arith, l)
+pub one_added : (count : ℕ) (old new : List Spot) (x : Spot) → new ≡ old ++ x ∷ [] → count ≤ 65536 → IsAdded count (Some (count + 1)) new old (x ∷ [])
+one_added count old new x e l = (e, refl, λ h. omega (arith, l))

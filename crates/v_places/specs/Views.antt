@@ -1,5 +1,5 @@
 -- The lists of places that the code has, and the modules by their names.
-use Rattle.std.specs.Prelude.{◌≡◌, ◌++◌, ℕ, List, [], ◌∷◌, map, Option, Some, None, option_map}
+use Rattle.std.specs.Prelude.{◌≡◌, ◌++◌, ℕ, List, [], ◌∷◌, map, Option, Some, None, option_map, slice_get}
 use Rattle.std.specs.Borrow.{Bor}
 use Rattle.std.specs.Ordering.{nat_cmp}
 use Rattle.std.specs.Cmp.Lexicographic.{slice_cmp}
@@ -7,12 +7,11 @@ use Rattle.std.specs.BTreeMap.{BTreeMap, get_by}
 use Rattle.wb_values.specs.Value.{Name}
 use Rattle.verilog_trees.specs.Syntax as pure
 use Rattle.verilog_trees.specs.Syntax.{Connections, by_order}
-use Rattle.verilog_designs.specs.Known.{known_module_scope, known_overrides}
+use Rattle.verilog_designs.specs.Known.{KnownOverrides}
 use Rattle.v_syntax.specs.declared.module.Instance.{Instance}
 use Rattle.v_syntax.specs.declared.module.Module.{Module}
 use Rattle.v_syntax.specs.Source.{connections_of, module_of}
 use Rattle.v_value.specs.Scope.{objects_of}
-use Rattle.v_places.specs.declared.group.Group.{Group}
 use Rattle.v_places.specs.declared.place.Place.{Place}
 use Rattle.v_places.specs.Below.{Spot, each_spot}
 
@@ -37,16 +36,20 @@ spot_of p =
 abbrev pub spots_of : List Place → List Spot
 spots_of ps = map spot_of ps
 
--- the places of a group of instances below the module with this number
-abbrev pub group_spots : ℕ → Spot → Group → List Spot
-group_spots k x g =
-    each_spot k (module_of g.below.now) (known_overrides (known_module_scope x.of_module x.constants) (connections_of g.given.now) (module_of g.below.now))
-    (map (λ i. (i.name.now, connections_of i.connections)) g.instances.now)
+-- the places of instances of a module, if it is there
+abbrev pub each_if_any : ℕ → Option pure.Module → KnownOverrides → List (Name × Connections) → List Spot
+each_if_any k None given is = []
+each_if_any k (Some m) given is = each_spot k m given is
 
-abbrev pub optional_spots : ℕ → Spot → Option Group → List Spot
-optional_spots k x None = []
-optional_spots k x (Some g) = group_spots k x g
+-- what a table of numbers has under a name
+abbrev pub number_in : BTreeMap (Bor (List ℕ)) ℕ → Name → Option ℕ
+number_in t n = get_by (λ k. slice_cmp nat_cmp n k.now) t
 
--- what a table of modules has under a name
-abbrev pub module_in : BTreeMap (Bor (List ℕ)) (Bor Module) → Name → Option pure.Module
-module_in t n = option_map (λ m. module_of m.now) (get_by (λ k. slice_cmp nat_cmp n k.now) t)
+-- the module with a number, if one has it
+abbrev pub module_at : List Module → Option ℕ → Option pure.Module
+module_at ms None = None
+module_at ms (Some k) = option_map module_of (slice_get ms k)
+
+-- the module of a name, where the table has the numbers of the modules
+abbrev pub module_in : List Module → BTreeMap (Bor (List ℕ)) ℕ → Name → Option pure.Module
+module_in ms t n = module_at ms (number_in t n)

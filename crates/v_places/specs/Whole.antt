@@ -12,9 +12,9 @@ use Rattle.v_places.specs.Below.{Spot}
 use Rattle.v_places.specs.Places.{ArePlaces}
 use Rattle.v_places.specs.Views.{module_in}
 
--- the table has the modules of the source
-abbrev pub Knows : BTreeMap (Bor (List ℕ)) (Bor Module) → Source → Type 0
-Knows t source = (n : Name) → module_in t n ≡ module_named source n
+-- the table has the numbers of the modules of the source
+abbrev pub Knows : List Module → BTreeMap (Bor (List ℕ)) ℕ → Source → Type 0
+Knows ms t source = (n : Name) → module_in ms t n ≡ module_named source n
 
 -- all places of a design, or none where its hierarchy is bad
 abbrev pub AreAllPlaces : Design → Option (List Spot) → Type 0

@@ -3,11 +3,10 @@
 #![tactic(auto)]
 
 mod below;
-mod group;
-mod groups;
 pub mod laws;
 mod modules;
 mod place;
+mod queue;
 mod walk;
 
 pub use place::Place;

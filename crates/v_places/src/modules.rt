@@ -1,52 +1,65 @@
-//! A table of the modules of a source by their names.
-ghost use Rattle.std.specs.Prelude.{◌≡◌, ℕ, List, map, cond, Some, None, IfOk, OnOk};
+//! The modules of a source by their names: a table of the numbers that they have in it.
+ghost use Rattle.std.specs.Prelude.{◌≡◌, ℕ, List, map, cond, Some, None, option_map, IfOk, OnOk};
 ghost use Rattle.wb_values.specs.Value.{same_name};
 ghost use Rattle.wb_values.specs.Choice.{first_of};
-ghost use Rattle.v_syntax.specs.Source.{module_of, source_of};
-ghost use Rattle.v_places.specs.Views.{module_in};
+ghost use Rattle.v_syntax.specs.Source.{module_of};
+ghost use Rattle.v_places.specs.Views.{number_in, module_in, module_at};
 ghost use Rattle.v_places.specs.Whole.{Knows};
 
 use std::alloc::{AllocError, Global};
 use std::collections::BTreeMap;
-use v_syntax::module::{Module, Tree};
+use v_syntax::module::Module;
 
-/// Puts a module into the table, if it is the first of its name.
-fn enter<'t, 's>(
-    each: &'t Module<'s>,
-    table: &mut BTreeMap<&'s str, &'t Module<'s>>,
+/// Puts the number of a module into the table, if the module is the first of its name.
+fn enter<'s>(
+    name: &'s str,
+    number: usize,
+    table: &mut BTreeMap<&'s str, usize>,
 ) -> Result<(), AllocError>
-    ensures { OnOk result ((q : List ℕ) → module_in table.new q ≡ first_of (module_in table.old q) (cond (same_name each.now.name.now q) (Some (module_of each.now)) None)) }
+    ensures { OnOk result ((q : List ℕ) → number_in table.new q ≡ first_of (number_in table.old q) (cond (same_name name.now q) (Some number) None)) }
 {
-    match table.get(each.name) {
+    match table.get(name) {
         Some(_) => Ok(()),
         None => {
-            table.insert(each.name, each)?;
+            table.insert(name, number)?;
             Ok(())
         }
     }
 }
 
-/// The table of these modules by their names.
-fn table_of<'t, 's>(
-    modules: &'t [Module<'s>],
+/// The numbers of these modules by their names: that of the first where several have one.
+pub(crate) fn numbers_of<'s>(
+    modules: &[Module<'s>],
     alloc: Global,
-) -> Result<BTreeMap<&'s str, &'t Module<'s>>, AllocError>
-    ensures { IfOk result (λ t. Knows t (map module_of modules.now)) }
+) -> Result<BTreeMap<&'s str, usize>, AllocError>
+    ensures { IfOk result (λ t. Knows modules.now t (map module_of modules.now)) }
 {
     let mut table = BTreeMap::new(alloc);
+    let mut number = 0;
     for each in modules {
-        enter(each, &mut table)?;
+        enter(each.name, number, &mut table)?;
+        number += 1;
     }
     Ok(table)
 }
 
-/// The modules of a source by their names: the first where several have one.
-pub(crate) fn modules_of<'t, 's>(
-    tree: &'t Tree<'s>,
-    alloc: Global,
-) -> Result<BTreeMap<&'s str, &'t Module<'s>>, AllocError>
-    ensures { IfOk result (λ t. Knows t (source_of tree.now)) }
+/// The module with this number, if one has it.
+fn numbered<'t, 's>(modules: &'t [Module<'s>], number: Option<&usize>) -> Option<&'t Module<'s>>
+    ensures { option_map (λ m. module_of m.now) result ≡ module_at modules.now (option_map (λ k. k.now) number.entry) }
 {
-    let table = table_of(&tree.modules, alloc)?;
-    Ok(table)
+    match number {
+        Some(number) => modules.get(*number),
+        None => None,
+    }
+}
+
+/// The first of the modules with this name, where the table has their numbers.
+pub(crate) fn named<'t, 's>(
+    modules: &'t [Module<'s>],
+    numbers: &BTreeMap<&str, usize>,
+    name: &str,
+) -> Option<&'t Module<'s>>
+    ensures { option_map (λ m. module_of m.now) result ≡ module_in modules.now numbers.now name.now }
+{
+    numbered(modules, numbers.get(name))
 }

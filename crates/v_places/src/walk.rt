@@ -9,57 +9,55 @@ ghost use Rattle.v_value.specs.Scope.{objects_of};
 ghost use Rattle.v_places.specs.Added.{IsAdded};
 ghost use Rattle.v_places.specs.Below.{Spot, top_spot, all_instances, below_by};
 ghost use Rattle.v_places.specs.Walk.{IsWalk};
-ghost use Rattle.v_places.specs.Views.{spot_of, spots_of, module_in};
+ghost use Rattle.v_places.specs.Views.{spots_of, module_in};
 ghost use Rattle.v_places.specs.Whole.{Knows, AreAllPlaces};
 
 use crate::below::add_items;
-use crate::modules::modules_of;
+use crate::modules::numbers_of;
 use crate::place::Place;
+use crate::queue::{add_place, append};
 use std::alloc::{AllocError, Global};
 use std::collections::{BTreeMap, VecDeque};
-use v_constants::constants_of;
 use v_scopes::Constants;
 use v_syntax::module::{Module, Tree};
-
-/// The place of the top, whose parameters nothing overrides.
-fn top_place<'t, 's>(top: &'t Module<'s>, alloc: Global) -> Result<Place<'t, 's>, AllocError>
-    ensures { IfOk result (λ p. spot_of p ≡ top_spot (module_of top.now)) }
-{
-    let constants = constants_of(alloc, top, &[])?;
-    Ok(Place {
-        within: top,
-        instance: None,
-        parent: 0,
-        constants,
-    })
-}
 
 /// Adds what stands below a place with this module and these constants, of this number.
 fn add_below<'t, 's>(
     alloc: Global,
     within: &'t Module<'s>,
-    modules: &BTreeMap<&'s str, &'t Module<'s>>,
+    modules: &'t [Module<'s>],
+    numbers: &BTreeMap<&str, usize>,
     around: Constants<'_, '_>,
     number: usize,
     count: usize,
     queue: &mut VecDeque<Place<'t, 's>>,
 ) -> Result<Option<usize>, AllocError>
     ensures { IfOk result (λ o. (x : Spot) → x.of_module.items ≡ map item_of within.now.items.items → x.constants ≡ objects_of around.entry.scope.now.declarations.items
-        → IsAdded count o (spots_of queue.new.items) (spots_of queue.old.items) (below_by (module_in modules.now) number x (all_instances x.of_module.items))) }
+        → IsAdded count o (spots_of queue.new.items) (spots_of queue.old.items) (below_by (module_in modules.now numbers.now) number x (all_instances x.of_module.items))) }
 {
-    let more = add_items(alloc, &within.items, modules, around, number, count, queue)?;
+    let more = add_items(
+        alloc,
+        &within.items,
+        modules,
+        numbers,
+        around,
+        number,
+        count,
+        queue,
+    )?;
     Ok(more)
 }
 
 /// Takes each place of the queue to the end of the list, and puts into the queue what stands below it, if there is room.
 fn add_all<'t, 's>(
     alloc: Global,
-    modules: &BTreeMap<&'s str, &'t Module<'s>>,
+    modules: &'t [Module<'s>],
+    numbers: &BTreeMap<&str, usize>,
     queue: &mut VecDeque<Place<'t, 's>>,
     list: &mut Vec<Place<'t, 's>>,
 ) -> Result<bool, AllocError>
     requires { (length queue.now.items ≡ 1) × (list.now.items ≡ []) }
-    ensures { IfOk result (λ b. (source : pure.Source) (top : pure.Module) → Knows modules.now source → spots_of queue.old.items ≡ top_spot top ∷ []
+    ensures { IfOk result (λ b. (source : pure.Source) (top : pure.Module) → Knows modules.now numbers.now source → spots_of queue.old.items ≡ top_spot top ∷ []
         → IsWalk source top b (spots_of list.new.items)) }
 {
     let mut number = 0;
@@ -68,17 +66,43 @@ fn add_all<'t, 's>(
         let around = Constants {
             scope: &place.constants,
         };
-        let more = add_below(alloc, place.within, modules, around, number, count, queue)?;
+        let more = add_below(
+            alloc,
+            place.within,
+            modules,
+            numbers,
+            around,
+            number,
+            count,
+            queue,
+        )?;
         match more {
             Some(more) => {
                 count = more;
-                list.push(place)?;
+                append(list, place)?;
                 number += 1;
             }
             None => return Ok(false),
         }
     }
     Ok(true)
+}
+
+/// The places of a design with these modules and this top, as `places` gives them.
+fn places_of<'t, 's>(
+    alloc: Global,
+    modules: &'t [Module<'s>],
+    top: &'t Module<'s>,
+) -> Result<Option<Vec<Place<'t, 's>>>, AllocError>
+    ensures { IfOk result (λ o. (d : Design) → d.source ≡ map module_of modules.now → module_named d.source d.top ≡ Some (module_of top.now)
+        → ¬ HasDuplicateName d → AreAllPlaces d (option_map (λ v. spots_of v.items) o)) }
+{
+    let mut queue = VecDeque::new(alloc);
+    add_place(alloc, top, None, &[], 0, &mut queue)?;
+    let numbers = numbers_of(modules, alloc)?;
+    let mut list = Vec::new(alloc);
+    let whole = add_all(alloc, modules, &numbers, &mut queue, &mut list)?;
+    if whole { Ok(Some(list)) } else { Ok(None) }
 }
 
 /// The places of a design whose top this is: the top, then breadth first what stands below, each below its parent in the order of the
@@ -92,10 +116,5 @@ pub fn places<'t, 's>(
     ensures { IfOk result (λ o. (d : Design) → d.source ≡ source_of tree.now → module_named d.source d.top ≡ Some (module_of top.now)
         → ¬ HasDuplicateName d → AreAllPlaces d (option_map (λ v. spots_of v.items) o)) }
 {
-    let modules = modules_of(tree, alloc)?;
-    let mut queue = VecDeque::new(alloc);
-    queue.push_back(top_place(top, alloc)?)?;
-    let mut list = Vec::new(alloc);
-    let whole = add_all(alloc, &modules, &mut queue, &mut list)?;
-    if whole { Ok(Some(list)) } else { Ok(None) }
+    places_of(alloc, &tree.modules, top)
 }

@@ -10,5 +10,5 @@ use Rattle.v_places.proofs.below.add_each.Given as goal
 abbrev pub invariant-loop-instance : goal.invariant-loop-instance
 invariant-loop-instance l =
     IsAdding l.count l.sum (spots_of l.queue.items) (spots_of l.initial.queue.items)
-    (each_spot l.parent (module_of l.group.below.now) (given_of l.given) (pairs_of (drop l.instance-index l.group.instances.now)))
-    (each_spot l.parent (module_of l.group.below.now) (given_of l.given) (pairs_of l.group.instances.now))
+    (each_spot l.parent (module_of l.below) (given_of l.given) (pairs_of (drop l.instance-index l.instances)))
+    (each_spot l.parent (module_of l.below) (given_of l.given) (pairs_of l.instances))

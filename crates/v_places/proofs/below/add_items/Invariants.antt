@@ -9,5 +9,5 @@ use Rattle.v_places.proofs.below.add_items.Given as goal
 abbrev pub invariant-loop-item : goal.invariant-loop-item
 invariant-loop-item l =
     (x : Spot) → x.constants ≡ objects_of l.around.scope.now.declarations.items
-    → IsAdding l.count l.sum (spots_of l.queue.items) (spots_of l.initial.queue.items) (items_below (module_in l.modules) l.parent x (drop l.item-index l.items))
-    (items_below (module_in l.modules) l.parent x l.items)
+    → IsAdding l.count l.sum (spots_of l.queue.items) (spots_of l.initial.queue.items) (items_below (module_in l.modules l.numbers) l.parent x (drop l.item-index l.items))
+    (items_below (module_in l.modules l.numbers) l.parent x l.items)

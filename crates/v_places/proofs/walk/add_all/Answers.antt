@@ -15,14 +15,14 @@ pub loop-place-preserved : goal.loop-place-preserved
 loop-place-preserved c =
     let inv = c.loop-place.invariant in
     let added = c.in_ok-more.ensures (spot_of c.in-Some.place) refl refl in (
-      one_listed c.loop-place.number c.loop-place.list.items c.push.new.self.items c.in-Some.place inv.0 c.in_ok-push-in-Some-more.ensures.items,
-      all_counted c.loop-place.count c.in-Some-more.more c.in_ok-more.more c.loop-place.list.items c.push.new.self.items c.loop-place.queue.items c.pop_front.new.self.items c.add_below.new.queue.items c.in-Some.place _
-          inv.1 c.in-Some.ensures.items c.in-Some-more.is added c.in_ok-push-in-Some-more.ensures.items,
-      all_fit c.loop-place.count c.in-Some-more.more c.in_ok-more.more c.loop-place.list.items c.push.new.self.items c.loop-place.queue.items c.pop_front.new.self.items c.add_below.new.queue.items c.in-Some.place _
-          inv.1 c.in-Some.ensures.items c.in-Some-more.is added c.in_ok-push-in-Some-more.ensures.items inv.2,
+      one_listed c.loop-place.number c.loop-place.list.items c.append.new.list.items c.in-Some.place inv.0 c.in_ok-append-in-Some-more.ensures,
+      all_counted c.loop-place.count c.in-Some-more.more c.in_ok-more.more c.loop-place.list.items c.append.new.list.items c.loop-place.queue.items c.pop_front.new.self.items c.add_below.new.queue.items c.in-Some.place _
+          inv.1 c.in-Some.ensures.items c.in-Some-more.is added c.in_ok-append-in-Some-more.ensures,
+      all_fit c.loop-place.count c.in-Some-more.more c.in_ok-more.more c.loop-place.list.items c.append.new.list.items c.loop-place.queue.items c.pop_front.new.self.items c.add_below.new.queue.items c.in-Some.place _
+          inv.1 c.in-Some.ensures.items c.in-Some-more.is added c.in_ok-append-in-Some-more.ensures inv.2,
       λ source top knows e.
-          turn_on c.args.modules.now source top c.loop-place.number c.loop-place.count c.in_ok-more.more c.loop-place.list.items c.loop-place.queue.items c.pop_front.new.self.items c.add_below.new.queue.items c.in-Some.place
-          knows inv.0 (inv.3 source top knows e) c.in-Some.ensures.items added c.in-Some-more.more c.push.new.self.items c.in-Some-more.is c.in_ok-push-in-Some-more.ensures.items,
+          turn_on c.args.modules.now c.args.numbers.now source top c.loop-place.number c.loop-place.count c.in_ok-more.more c.loop-place.list.items c.loop-place.queue.items c.pop_front.new.self.items c.add_below.new.queue.items c.in-Some.place
+          knows inv.0 (inv.3 source top knows e) c.in-Some.ensures.items added c.in-Some-more.more c.append.new.list.items c.in-Some-more.is c.in_ok-append-in-Some-more.ensures,
     )
 
 pub loop-place-smaller : goal.loop-place-smaller
@@ -33,7 +33,7 @@ loop-place-smaller c =
 pub returns-in-None : goal.returns-in-None
 returns-in-None c = λ source top knows e.
     let inv = c.loop-place.invariant in
-    turn_off c.args.modules.now source top c.loop-place.number c.loop-place.count c.in_ok-more.more c.loop-place.list.items c.loop-place.queue.items c.pop_front.new.self.items c.add_below.new.queue.items c.in-Some.place
+    turn_off c.args.modules.now c.args.numbers.now source top c.loop-place.number c.loop-place.count c.in_ok-more.more c.loop-place.list.items c.loop-place.queue.items c.pop_front.new.self.items c.add_below.new.queue.items c.in-Some.place
     knows inv.0 (inv.3 source top knows e) c.in-Some.ensures.items (c.in_ok-more.ensures (spot_of c.in-Some.place) refl refl) (spots_of c.loop-place.list.items) c.in-None.is inv.1
 
 pub returns : goal.returns

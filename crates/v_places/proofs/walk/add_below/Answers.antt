@@ -7,5 +7,5 @@ use Rattle.v_places.proofs.walk.add_below.Goals as goal
 
 pub returns : goal.returns
 returns c = λ x e h.
-    subst (λ is. IsAdded c.args.count c.in_ok-more.more (spots_of c.add_items.new.queue.items) (spots_of c.args.queue.now.items) (below_by (module_in c.args.modules.now) c.args.number x (all_instances is)))
+    subst (λ is. IsAdded c.args.count c.in_ok-more.more (spots_of c.add_items.new.queue.items) (spots_of c.args.queue.now.items) (below_by (module_in c.args.modules.now c.args.numbers.now) c.args.number x (all_instances is)))
     (ap (map item_of) c.deref.ensures.value ∙ sym e) (c.in_ok-more.ensures x h)

@@ -1,26 +1,14 @@
-use Rattle.std.proofs.Common.{true, false, subst}
-use Rattle.v_syntax.specs.Source.{module_of, source_of}
-use Rattle.v_places.specs.Walk.{IsWalk}
+use Rattle.std.proofs.Common.{◌≡◌, map, subst, Some, option_map}
+use Rattle.std.specs.Prelude.{IfOk}
+use Rattle.verilog_meaning.specs.Hierarchy.{module_named}
+use Rattle.verilog_meaning.specs.Settled.{Design}
+use Rattle.verilog_designs.specs.Accepted.{HasDuplicateName}
+use Rattle.v_syntax.specs.Source.{module_of}
 use Rattle.v_places.specs.Views.{spots_of}
-use Rattle.v_places.proofs.Joined.{one_waits, top_waits}
-use Rattle.v_places.proofs.Results.{all_places}
+use Rattle.v_places.specs.Whole.{AreAllPlaces}
 use Rattle.v_places.proofs.walk.places.Goals as goal
 
-pub add_all-requires : goal.add_all-requires
-add_all-requires c = (one_waits _ _ _ c.in_ok-push_back.ensures.items c.new-queue.ensures.items, c.new-list.ensures.items)
-
-pub returns-then-whole : goal.returns-then-whole
-returns-then-whole c = λ d e t u.
-    let source = source_of c.args.tree.now in
-    let top = module_of c.args.top.now in
-    all_places d source top true (spots_of c.add_all.new.list.items) e t u
-    (subst (λ b. IsWalk source top b (spots_of c.add_all.new.list.items)) c.if-whole.true
-    (c.in_ok-whole.ensures source top c.in_ok-modules.ensures (top_waits _ _ _ _ c.in_ok-push_back.ensures.items c.new-queue.ensures.items c.in_ok-top_place.ensures)))
-
 pub returns : goal.returns
-returns c = λ d e t u.
-    let source = source_of c.args.tree.now in
-    let top = module_of c.args.top.now in
-    all_places d source top false (spots_of c.add_all.new.list.items) e t u
-    (subst (λ b. IsWalk source top b (spots_of c.add_all.new.list.items)) c.if-whole.false
-    (c.in_ok-whole.ensures source top c.in_ok-modules.ensures (top_waits _ _ _ _ c.in_ok-push_back.ensures.items c.new-queue.ensures.items c.in_ok-top_place.ensures)))
+returns c =
+    subst (λ ms. IfOk c.places_of.result (λ o. (d : Design) → d.source ≡ map module_of ms → module_named d.source d.top ≡ Some (module_of c.args.top.now)
+    → ¬ HasDuplicateName d → AreAllPlaces d (option_map (λ v. spots_of v.items) o))) c.deref.ensures.value c.places_of.ensures
