@@ -10,7 +10,8 @@ ghost use Rattle.wb_terms.specs.Environment.{AreOfSorts, HasSortOf, as_value};
 ghost use Rattle.wb_terms.specs.Held.{IsHeldBy};
 ghost use Rattle.term_evaluation.specs.Slots.{IsShownAs, IsSlotOf, value_in};
 ghost use Rattle.term_evaluation.specs.Links.{value_at, IsLinkTo};
-ghost use Rattle.term_evaluation.specs.Points.{IsPointOf, IsHeldAt, AreNotAfter, stamp_at};
+ghost use Rattle.term_evaluation.specs.Pending.{AreNotAfter, stamp_at};
+ghost use Rattle.term_evaluation.specs.Points.{IsPointOf, IsHeldAt};
 
 use crate::NoMemory;
 use crate::evaluating::fill_term;
@@ -43,7 +44,8 @@ pub struct Point {
 
 impl Model for Point {
     ghost use Rattle.term_evaluation.specs.Slots.{values_in, AreSlotsOf};
-    ghost use Rattle.term_evaluation.specs.Points.{PointView, AreNotAfter};
+    ghost use Rattle.term_evaluation.specs.Pending.{AreNotAfter};
+    ghost use Rattle.term_evaluation.specs.Points.{PointView};
 
     ghost Value = { PointView };
 
