@@ -127,7 +127,7 @@ top_below ss t n (x ∷ xs) top p =
     (omega (arith, l, k), h.1)
 
 pub pending_more : (ss : List ℕ) (t n : ℕ) (xs : List TermId) (top o : TermId) → ArePending ss t n (xs ++ top ∷ []) → o.0 < top.0 → IsOpen ss t o.0 → ArePending ss t n ((xs ++ top ∷ []) ++ o ∷ [])
-pending_more ss t n [] top o p l h = (p.0, p.1, l, h, tt)
+pending_more ss t n [] top o p l h = (p.0, p.1, (l, h, tt))
 pending_more ss t n (x ∷ xs) top o p l h = (p.0, p.1, pending_more ss t x.0 xs top o p.2 l h)
 
 pub pending_less : (ss : List ℕ) (t n : ℕ) (xs : List TermId) (top : TermId) → ArePending ss t n (xs ++ top ∷ []) → ArePending (set ss top.0 t) t n xs

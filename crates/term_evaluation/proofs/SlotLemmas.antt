@@ -1,5 +1,6 @@
 -- Lemmas on slots of a pool: what a larger pool makes of them, and what they stand for at a place.
 use Rattle.std.proofs.Common.{◌≡◌, ◌∙◌, ℕ, zero, suc, ◌+◌, ◌<◌, ◌≤◌, ◌^◌, Bool, true, false, ◌&&◌, nat_lt, nat_le, List, [], ◌∷◌, ◌++◌, map, length, get_or, set, take, ◌⊎◌, inl, inr, IsTrue, refl, sym, ap, subst, arith}
+use Rattle.std.specs.Prelude.{Result, Ok, Err, OnErr}
 use Rattle.std.proofs.lemmas.List.{length-map, get_or-map, map-set, map-append, take_more, take_all, get_or_past}
 use Rattle.std.proofs.Math.Pow.{pow-lt}
 use Rattle.std.proofs.lemmas.Bool.Decides.{nat_tests}
@@ -15,6 +16,11 @@ use Rattle.term_evaluation.specs.declared.slots.Slot.{Slot}
 use Rattle.term_evaluation.specs.declared.slots.Slot.TheVariants.{Truth, Number, Memory as MemorySlot}
 use Rattle.term_evaluation.specs.Slots.{value_in, values_in, IsSlotOf, AreSlotsOf}
 use Rattle.term_evaluation.specs.Links.{IsLinkOf}
+
+-- what holds anyway holds where there is an error
+pub on_err : {T E : Type 0} (r : Result T E) (P : Type 0) → P → OnErr r P
+on_err (Ok x) P h = tt
+on_err (Err e) P h = h
 
 -- addresses have 16 bits at most
 sixteen_from : (a : ℕ) → IsTrue (nat_le a 16) → a ≤ 16

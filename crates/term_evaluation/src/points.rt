@@ -112,7 +112,7 @@ impl Point {
         requires { place < length self.now.values }
         ensures { IfOk result (IsShownAs (slice_index_or self.now.values place (number 0))) }
     {
-        let slot = self.names[place];
+        let slot = self.slot_of_name(place);
         let shown = shown_slot(alloc, &self.pool, slot)?;
         Ok(shown)
     }
@@ -158,8 +158,7 @@ impl Point {
             &mut self.pending,
             &mut self.pool,
             id,
-        )?;
-        Ok(())
+        )
     }
 
     /// The value of a truth value, as 0 or 1, or of a word. A memory has no number: it gives 0.
@@ -174,12 +173,25 @@ impl Point {
         ensures point { IsPointOf terms.now self.new }
     {
         self.demand(terms, id)?;
-        let word = self.words[id.0];
-        Ok(word.value)
+        let number = self.held_number(terms, id);
+        Ok(number)
     }
 
-    /// The value of a term that was evaluated.
-    fn slot(&self, terms: &Terms, id: TermId) -> Slot
+    /// The number of a term that was evaluated.
+    fn held_number(&self, terms: &Terms, id: TermId) -> u128
+        requires id { id.0 < length terms.now.nodes }
+        requires point { IsPointOf terms.now self.now }
+        requires held { IsHeldAt terms.now self.now id.0 }
+        ensures number { result ≡ numeral_of (value_at terms.now self.now.values id.0) }
+        ensures sorted { HasSortOf (value_at terms.now self.now.values id.0) (sort_of (tree terms.now id.0)) }
+    {
+        let _ = terms;
+        let word = self.words[id.0];
+        word.value
+    }
+
+    /// The slot of a term that was evaluated.
+    fn held_slot(&self, terms: &Terms, id: TermId) -> Slot
         requires id { id.0 < length terms.now.nodes }
         requires point { IsPointOf terms.now self.now }
         requires held { IsHeldAt terms.now self.now id.0 }
@@ -190,6 +202,61 @@ impl Point {
         let word = self.words[id.0];
         let link = self.links[id.0];
         slot_of_term(&self.pool, terms.sort(id), word, link)
+    }
+
+    /// The slot of a name.
+    fn slot_of_name(&self, place: usize) -> Slot
+        requires { place < length self.now.values }
+        ensures slot { IsSlotOf self.now.pool result }
+        ensures value { value_in self.now.pool result ≡ slice_index_or self.now.values place (number 0) }
+    {
+        let slot = self.names[place];
+        slot
+    }
+
+    /// The slot of a value that was put aside.
+    fn slot_aside(&self, from: usize) -> Slot
+        requires { from < length self.now.aside }
+        ensures slot { IsSlotOf self.now.pool result }
+        ensures value { value_in self.now.pool result ≡ slice_index_or self.now.aside from (number 0) }
+    {
+        let slot = self.aside[from];
+        slot
+    }
+
+    /// Puts the value of a slot aside.
+    fn add_aside(&mut self, slot: Slot) -> Result<(), NoMemory>
+        requires { IsSlotOf self.old.pool slot }
+        ensures ok { OnOk result (self.new ≡ record self.old { aside = self.old.aside ++ value_in self.old.pool slot ∷ [] }) }
+        ensures err { OnErr result (self.new ≡ self.old) }
+    {
+        self.aside.push(slot)?;
+        Ok(())
+    }
+
+    /// Gives a name the value of a slot. No term counts as evaluated then.
+    fn set_name(&mut self, place: usize, slot: Slot)
+        requires place { place < length self.old.values }
+        requires slot { IsSlotOf self.old.pool slot }
+        ensures values { self.new.values ≡ slice_set self.old.values place (value_in self.old.pool slot) }
+        ensures aside { self.new.aside ≡ self.old.aside }
+        ensures point { (g : Graph) → IsPointOf g self.old → IsPointOf g self.new }
+    {
+        self.names[place] = slot;
+        self.time = later(&mut self.stamps, self.time);
+    }
+
+    /// The slot of a value of a sort.
+    fn add_value(&mut self, value: &Value, sort: Sort) -> Result<Slot, NoMemory>
+        requires in_range { IsTrue (is_sort (as_sort sort)) }
+        requires sort { HasSort (as_value value.now) (as_sort sort) }
+        ensures slot { IfOk result (IsSlotOf self.new.pool) }
+        ensures value { IfOk result (λ s. value_in self.new.pool s ≡ as_value value.now) }
+        ensures values { self.new.values ≡ self.old.values }
+        ensures aside { self.new.aside ≡ self.old.aside }
+        ensures point { (g : Graph) → IsPointOf g self.old → IsPointOf g self.new }
+    {
+        slot_of(&mut self.pool, value, sort)
     }
 
     /// Puts the value of a term aside.
@@ -203,8 +270,8 @@ impl Point {
         ensures point { IsPointOf terms.now self.new }
     {
         self.demand(terms, id)?;
-        let slot = self.slot(terms, id);
-        self.aside.push(slot)?;
+        let slot = self.held_slot(terms, id);
+        self.add_aside(slot)?;
         Ok(())
     }
 
@@ -215,8 +282,8 @@ impl Point {
         ensures values { self.new.values ≡ self.old.values }
         ensures point { (g : Graph) → IsPointOf g self.old → IsPointOf g self.new }
     {
-        let slot = self.names[place];
-        self.aside.push(slot)?;
+        let slot = self.slot_of_name(place);
+        self.add_aside(slot)?;
         Ok(())
     }
 
@@ -235,9 +302,8 @@ impl Point {
         ensures aside { self.new.aside ≡ self.old.aside }
         ensures point { (g : Graph) → IsPointOf g self.old → IsPointOf g self.new }
     {
-        let slot = self.aside[from];
-        self.names[place] = slot;
-        self.time = later(&mut self.stamps, self.time);
+        let slot = self.slot_aside(from);
+        self.set_name(place, slot);
     }
 
     /// Forgets the values that were put aside, but for the first ones.
@@ -259,26 +325,34 @@ impl Point {
         ensures point { (g : Graph) → IsPointOf g self.old → IsPointOf g self.new }
         ensures err { OnErr result (self.new.values ≡ self.old.values) }
     {
-        let slot = slot_of(&mut self.pool, value, sort)?;
-        self.names[place] = slot;
-        self.time = later(&mut self.stamps, self.time);
+        let slot = self.add_value(value, sort)?;
+        self.set_name(place, slot);
         Ok(())
     }
 }
 
-/// A time after those of all stamps, and after this one. Where there is none, the stamps are set to 0 and times begin again.
-fn later(stamps: &mut [u64], time: u64) -> u64
-    requires { AreNotAfter time stamps.old }
-    ensures stamps { (k : ℕ) → stamp_at stamps.new k < result }
+/// A time after those of all stamps. Where there is none, the stamps are set to 0 and times begin again.
+fn later(stamps: &mut Vec<u64>, time: u64) -> u64
+    requires { AreNotAfter time stamps.old.items }
+    ensures stamps { (k : ℕ) → stamp_at stamps.new.items k < result }
+    ensures length { length stamps.new.items ≡ length stamps.old.items }
 {
     match time.checked_add(1) {
         Some(next) => next,
         None => {
-            for k in 0..stamps.len() {
-                stamps[k] = 0;
-            }
+            set_to_0(stamps);
             1
         }
+    }
+}
+
+/// Sets all stamps to 0.
+fn set_to_0(stamps: &mut Vec<u64>)
+    ensures stamps { (k : ℕ) → stamp_at stamps.new.items k ≡ 0 }
+    ensures length { length stamps.new.items ≡ length stamps.old.items }
+{
+    for k in 0..stamps.len() {
+        stamps[k] = 0;
     }
 }
 

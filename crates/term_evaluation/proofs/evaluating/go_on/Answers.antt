@@ -13,11 +13,17 @@ node-node-requires c =
 
 pub first_open-requires : goal.first_open-requires
 first_open-requires c =
+    let xs = c.args.pending.now.items in
+    let p = subst (λ (ys : List TermId). ArePending c.args.stamps.now c.args.time (length c.args.terms.now.nodes) ys) c.last_of-top.ensures c.requires.pending in
+    let low = (top_below c.args.stamps.now c.args.time (length c.args.terms.now.nodes) (take (length xs - 1) xs) c.last_of-top.result p).0 in
     let room = c.requires.kept.2 in
-    below_more c.last_of-top.result.0 (length c.args.stamps.now) (operands_of c.node-node.result.now) (omega (arith, room, c.node-node.requires)) c.node-node.ensures.over.operands
+    below_more c.last_of-top.result.0 (length c.args.stamps.now) (operands_of c.node-node.result.now) (omega (arith, room, low)) c.node-node.ensures.over.operands
 
 pub evaluate-requires-clause-id : goal.evaluate-requires-clause-id
-evaluate-requires-clause-id c = c.node-node.requires
+evaluate-requires-clause-id c =
+    let xs = c.args.pending.now.items in
+    let p = subst (λ (ys : List TermId). ArePending c.args.stamps.now c.args.time (length c.args.terms.now.nodes) ys) c.last_of-top.ensures c.requires.pending in
+    (top_below c.args.stamps.now c.args.time (length c.args.terms.now.nodes) (take (length xs - 1) xs) c.last_of-top.result p).0
 
 pub evaluate-requires-clause-operands : goal.evaluate-requires-clause-operands
 evaluate-requires-clause-operands c = none_open c.args.stamps.now c.args.time (operands_of c.node-node.result.now) (sym c.first_open.ensures ∙ c.in-None.is)
@@ -63,5 +69,8 @@ returns-in_ok-evaluate-in-None-clause-less c =
 
 pub returns-in_ok-evaluate-in-None-clause-past : goal.returns-in_ok-evaluate-in-None-clause-past
 returns-in_ok-evaluate-in-None-clause-past c h =
+    let xs = c.args.pending.now.items in
+    let p = subst (λ (ys : List TermId). ArePending c.args.stamps.now c.args.time (length c.args.terms.now.nodes) ys) c.last_of-top.ensures c.requires.pending in
+    let low = (top_below c.args.stamps.now c.args.time (length c.args.terms.now.nodes) (take (length xs - 1) xs) c.last_of-top.result p).0 in
     let room = c.requires.kept.2 in
-    subst (AreNotAfter c.args.time) (sym c.in_ok-evaluate-in-None.ensures.ok) (past_set c.args.stamps.now c.args.time c.last_of-top.result.0 (omega (arith, room, c.node-node.requires)) h)
+    subst (AreNotAfter c.args.time) (sym c.in_ok-evaluate-in-None.ensures.ok) (past_set c.args.stamps.now c.args.time c.last_of-top.result.0 (omega (arith, room, low)) h)

@@ -46,8 +46,8 @@ returns-in-Ite-clause-link c =
 pub returns-in-Ite-clause-keeps : goal.returns-in-Ite-clause-keeps
 returns-in-Ite-clause-keeps c = keeps_self c.args.pool.now
 
-pub store_to-requires-clause-memory : goal.store_to-requires-clause-memory
-store_to-requires-clause-memory c =
+pub store_to-requires : goal.store_to-requires
+store_to-requires c =
     let g = c.args.terms.now in
     let p = c.args.pool.now in
     let xs = values_in p c.args.names.now in
@@ -56,7 +56,9 @@ store_to-requires-clause-memory c =
     let links = rw arm.is at c.requires.memories in
     let old = link_read g xs p c.args.links.now arm.memory.0 c.kept_link-old.result links.0 c.kept_link-old.ensures in
     let sort : sort_of (tree_of_node g c.args.node) ≡ Some (as_sort c.sort.result) = sym (ap sort_of c.requires.tree) ∙ c.sort.ensures.sort in
-    stored_tree p (sort_of (tree g arm.memory.0)) (sort_of (tree g arm.address.0)) (sort_of (tree g arm.x.0)) c.sort.result (value_at g xs arm.memory.0) c.kept_link-old.result (rw arm.is at sort) old
+    record {
+      memory = stored_tree p (sort_of (tree g arm.memory.0)) (sort_of (tree g arm.address.0)) (sort_of (tree g arm.x.0)) c.sort.result (value_at g xs arm.memory.0) c.kept_link-old.result (rw arm.is at sort) old;
+    }
 
 pub returns-in_ok-stored-in-Store-clause-link : goal.returns-in_ok-stored-in-Store-clause-link
 returns-in_ok-stored-in-Store-clause-link c =

@@ -18,7 +18,7 @@ new-requires-clause-at_most_128 c = (width_bounds c.in-Memory.width (rw c.in-Mem
 
 pub new-requires-clause-fits : goal.new-requires-clause-fits
 new-requires-clause-fits c =
-    let m = rw c.in-Memory.is at c.requires in
+    let m = rw c.in-Memory.is at c.requires.memory in
     subst (λ n. n < 2 ^ c.in-Memory.width) (sym c.load_in-word.ensures) (below_anywhere c.in-Memory.width (words_of c.args.pool.now c.in-Memory.depth c.args.link) c.args.address.value m.3)
 
 pub returns-clause-width : goal.returns-clause-width

@@ -24,8 +24,8 @@ returns-in-Name c =
     c.slot_of_name-slot.ensures c.name_sort.ensures.sort c.name_sort.ensures.in_range in
     rw (l.sort, l.value) c.word_of_slot.ensures
 
-pub loaded-requires-clause-memory : goal.loaded-requires-clause-memory
-loaded-requires-clause-memory c =
+pub loaded-requires : goal.loaded-requires
+loaded-requires c =
     let g = c.args.terms.now in
     let p = c.args.pool.now in
     let xs = values_in p c.args.names.now in
@@ -35,8 +35,10 @@ loaded-requires-clause-memory c =
     let s : IsSome (sort_of (tree_of_node g c.args.node)) = rw c.requires.tree at c.requires.sorted in
     let l = rw arm.is at s in
     let link = link_read g xs p c.args.links.now arm.memory.0 c.kept_link-link.result links.0 c.kept_link-link.ensures in
-    (memory_loaded p (sort_of (tree g arm.memory.0)) (sort_of (tree g arm.address.0)) (value_at g xs arm.memory.0) c.kept_link-link.result c.sort.result l c.sort.ensures.sort c.sort.ensures.in_range
-    link _ _ (held.0 c.kept_word-place.result)).0
+    record {
+      memory = (memory_loaded p (sort_of (tree g arm.memory.0)) (sort_of (tree g arm.address.0)) (value_at g xs arm.memory.0) c.kept_link-link.result c.sort.result l c.sort.ensures.sort c.sort.ensures.in_range
+        link _ _ (held.0 c.kept_word-place.result)).0;
+    }
 
 pub returns-in-Load : goal.returns-in-Load
 returns-in-Load c =
