@@ -1,5 +1,6 @@
 -- Lemmas on points: what of a point changes, and what a point holds.
-use Rattle.std.proofs.Common.{◌≡◌, ◌∙◌, ℕ, zero, suc, ◌<◌, ◌≤◌, cond, List, length, get_or, replicate, Option, Some, None, refl, sym, ap, subst, arith}
+use Rattle.std.proofs.Common.{◌≡◌, ◌∙◌, ℕ, ◌<◌, ◌≤◌, cond, List, length, get_or, Option, Some, None, refl, sym, ap, subst, arith}
+use Rattle.std.specs.Prelude.{Result, Ok, Err, OnOk}
 use Rattle.sparse_memories.specs.declared.pool.Memory.{Memory}
 use Rattle.sparse_memories.specs.Nodes.{Content}
 use Rattle.wb_values.specs.Value as meaning
@@ -28,11 +29,15 @@ nothing_kept g xs ys p q ws ls ss us t u old e h =
 pub all_before : (ss : List ℕ) (u : ℕ) → ((k : ℕ) → stamp_at ss k < u) → AreNotAfter u ss
 all_before ss u h k = let l = h k in omega (arith, l)
 
--- stamps that are all 0
-pub stamp_zeros : (n k : ℕ) → stamp_at (replicate n 0) k ≡ 0
-stamp_zeros zero k = refl
-stamp_zeros (suc n) zero = refl
-stamp_zeros (suc n) (suc k) = stamp_zeros n k
+-- what is kept, in lists that are equal
+pub kept_in : (g : Graph) (xs : List meaning.Value) (p : Content) (ws us : List Word) (ls ms : List Memory) (ss ts : List ℕ) (t : ℕ) → us ≡ ws → ms ≡ ls → ts ≡ ss → AreKept g xs p ws ls ss t → AreKept g xs p us ms ts t
+kept_in g xs p ws us ls ms ss ts t e f h k =
+    subst (λ (us : List Word). AreKept g xs p us ms ts t) (sym e)
+    (subst (λ (ms : List Memory). AreKept g xs p ws ms ts t) (sym f) (subst (λ (ts : List ℕ). AreKept g xs p ws ls ts t) (sym h) k))
+
+pub where_ok : {T E : Type 0} (r : Result T E) (P Q : Type 0) → OnOk r P → (P → Q) → OnOk r Q
+where_ok (Ok x) P Q h f = f h
+where_ok (Err e) P Q h f = tt
 
 -- the number of a word that stands for a value
 pub numeral_held : (o : Option Sort) (v : meaning.Value) (w n : ℕ) → IsHeldBy o v w n → n ≡ numeral_of v

@@ -8,7 +8,7 @@ ghost use Rattle.wb_terms.specs.Sort.{as_sort};
 ghost use Rattle.wb_terms.specs.Graph.{Graph, tree};
 ghost use Rattle.wb_terms.specs.Environment.{AreOfSorts, HasSortOf, as_value};
 ghost use Rattle.wb_terms.specs.Held.{IsHeldBy};
-ghost use Rattle.term_evaluation.specs.Slots.{IsShownAs, IsSlotOf, value_in};
+ghost use Rattle.term_evaluation.specs.Slots.{AreSlotsOf, IsShownAs, IsSlotOf, value_in, values_in};
 ghost use Rattle.term_evaluation.specs.Links.{value_at, IsLinkTo};
 ghost use Rattle.term_evaluation.specs.Pending.{AreNotAfter, stamp_at};
 ghost use Rattle.term_evaluation.specs.Points.{IsPointOf, IsHeldAt};
@@ -126,16 +126,39 @@ impl Point {
         if self.pool.branch_count() <= self.limit {
             return Ok(());
         }
+        self.copy_used(alloc)
+    }
+
+    /// Copies the memories that are used into a pool of their own.
+    fn copy_used(&mut self, alloc: Global) -> Result<(), NoMemory>
+        ensures values { self.new.values ≡ self.old.values }
+        ensures aside { self.new.aside ≡ self.old.aside }
+        ensures point { (g : Graph) → IsPointOf g self.old → IsPointOf g self.new }
+    {
         let mut pool = Pool::new(alloc)?;
         let mut copies = Copies::new(alloc, &self.pool)?;
         let names = copy_slots(alloc, &mut pool, &self.pool, &mut copies, &self.names)?;
         let aside = copy_slots(alloc, &mut pool, &self.pool, &mut copies, &self.aside)?;
+        self.take_parts(names, aside, pool);
+        Ok(())
+    }
+
+    /// Keeps the same values in another pool. No term counts as evaluated then.
+    fn take_parts(&mut self, names: Vec<Slot>, aside: Vec<Slot>, pool: Pool)
+        requires names { AreSlotsOf pool names.items }
+        requires aside { AreSlotsOf pool aside.items }
+        requires values { values_in pool names.items ≡ self.old.values }
+        requires kept { values_in pool aside.items ≡ self.old.aside }
+        ensures values { self.new.values ≡ self.old.values }
+        ensures aside { self.new.aside ≡ self.old.aside }
+        ensures point { (g : Graph) → IsPointOf g self.old → IsPointOf g self.new }
+    {
         self.limit = limit_for(pool.branch_count(), names.len());
         self.names = names;
         self.aside = aside;
         self.pool = pool;
-        self.time = later(&mut self.stamps, self.time);
-        Ok(())
+        let time = later(&mut self.stamps, self.time);
+        self.time = time;
     }
 
     /// Evaluates a term, and those that it stands on, as far as they were not evaluated since the last change.
@@ -243,7 +266,8 @@ impl Point {
         ensures point { (g : Graph) → IsPointOf g self.old → IsPointOf g self.new }
     {
         self.names[place] = slot;
-        self.time = later(&mut self.stamps, self.time);
+        let time = later(&mut self.stamps, self.time);
+        self.time = time;
     }
 
     /// The slot of a value of a sort.

@@ -8,7 +8,7 @@ use Rattle.term_evaluation.proofs.points.Point.add_aside.Goals as goal
 pub invariant_of-self-2 : goal.invariant_of-self-2
 invariant_of-self-2 c =
     let there = subst (λ (y : PointView). IsSlotOf y.pool c.args.slot) (sym c.self.view_is) c.requires in
-    (c.self.invariant.0, (rw c.in_ok-push.ensures.items (slots-push c.self.inside.pool c.self.inside.aside.items c.args.slot c.self.invariant.1 there), c.self.invariant.2))
+    (c.self.invariant.0, rw c.in_ok-push.ensures.items (slots-push c.self.inside.pool c.self.inside.aside.items c.args.slot c.self.invariant.1 there), c.self.invariant.2)
 
 pub returns-clause-ok : goal.returns-clause-ok
 returns-clause-ok c =

@@ -10,7 +10,7 @@ invariant_of-self c =
     let q = c.slot_of.new.pool in
     let names = slots_kept c.self.inside.pool q c.self.inside.names.items c.slot_of.ensures.keeps c.self.invariant.0 in
     let aside = slots_kept c.self.inside.pool q c.self.inside.aside.items c.slot_of.ensures.keeps c.self.invariant.1 in
-    (names.0, (aside.0, c.self.invariant.2))
+    (names.0, aside.0, c.self.invariant.2)
 
 pub returns-clause-values : goal.returns-clause-values
 returns-clause-values c = (slots_kept c.self.inside.pool c.slot_of.new.pool c.self.inside.names.items c.slot_of.ensures.keeps c.self.invariant.0).1 ∙ ap (λ (y : PointView). y.values) c.self.view_is

@@ -6,7 +6,7 @@ use Rattle.term_evaluation.proofs.SlotLemmas.{slots-take}
 use Rattle.term_evaluation.proofs.points.Point.forget.Goals as goal
 
 pub invariant_of-self : goal.invariant_of-self
-invariant_of-self c = (c.self.invariant.0, (rw c.truncate.ensures.items (slots-take c.self.inside.pool c.self.inside.aside.items c.args.len c.self.invariant.1), c.self.invariant.2))
+invariant_of-self c = (c.self.invariant.0, rw c.truncate.ensures.items (slots-take c.self.inside.pool c.self.inside.aside.items c.args.len c.self.invariant.1), c.self.invariant.2)
 
 pub returns-clause-values : goal.returns-clause-values
 returns-clause-values c = ap (λ (y : PointView). y.values) c.self.view_is

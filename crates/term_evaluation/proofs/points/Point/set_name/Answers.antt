@@ -10,13 +10,13 @@ index_mut-requires c =
     let low = subst (λ (y : PointView). c.args.place < length y.values) (sym c.self.view_is) c.requires.place in
     omega (arith, low, length-values c.self.inside.pool c.self.inside.names.items, c.self.inside.names.ok.0)
 
-pub later-requires : goal.later-requires
-later-requires c = c.self.invariant.2
+pub later-time-requires : goal.later-time-requires
+later-time-requires c = c.self.invariant.2
 
 pub invariant_of-self : goal.invariant_of-self
 invariant_of-self c =
     let there = subst (λ (y : PointView). IsSlotOf y.pool c.args.slot) (sym c.self.view_is) c.requires.slot in
-    (slots-set c.self.inside.pool c.self.inside.names.items c.args.place c.args.slot c.self.invariant.0 there, (c.self.invariant.1, all_before c.later.new.stamps.items c.later.result c.later.ensures.stamps))
+    (slots-set c.self.inside.pool c.self.inside.names.items c.args.place c.args.slot c.self.invariant.0 there, c.self.invariant.1, all_before c.later-time.new.stamps.items c.later-time.result c.later-time.ensures.stamps)
 
 pub returns-clause-values : goal.returns-clause-values
 returns-clause-values c =
@@ -31,5 +31,5 @@ pub returns-clause-point : goal.returns-clause-point
 returns-clause-point c g h =
     let p = c.self.inside.pool in
     let xs = c.self.inside.names.items in
-    nothing_kept g (values_in p xs) (values_in p (set xs c.args.place c.args.slot)) p p c.self.inside.words.items c.self.inside.links.items c.self.inside.stamps.items c.later.new.stamps.items c.self.inside.time c.later.result
-    (subst (λ (y : PointView). IsPointOf g y) (sym c.self.view_is) h) c.later.ensures.length c.later.ensures.stamps
+    nothing_kept g (values_in p xs) (values_in p (set xs c.args.place c.args.slot)) p p c.self.inside.words.items c.self.inside.links.items c.self.inside.stamps.items c.later-time.new.stamps.items c.self.inside.time c.later-time.result
+    (subst (λ (y : PointView). IsPointOf g y) (sym c.self.view_is) h) c.later-time.ensures.length c.later-time.ensures.stamps
