@@ -1,5 +1,5 @@
 -- Lemmas on terms that are to be evaluated: which are, that what is kept of them stays so, and that ever less is left to be done.
-use Rattle.std.proofs.Common.{◌≡◌, ◌∙◌, ℕ, zero, suc, ◌+◌, ◌-◌, ◌<◌, ◌≤◌, Bool, true, false, cond, List, [], ◌∷◌, ◌++◌, length, get_or, set, take, Option, Some, None, ◌⊎◌, inl, inr, IsTrue, refl, sym, ap, subst, arith}
+use Rattle.std.proofs.Common.{◌≡◌, ◌∙◌, ℕ, zero, suc, ◌+◌, ◌-◌, ◌<◌, ◌≤◌, Bool, true, false, cond, List, [], ◌∷◌, ◌++◌, length, get_or, set, take, Some, None, inl, inr, refl, sym, ap, subst, arith}
 use Rattle.std.specs.Prelude.{◌==◌}
 use Rattle.std.proofs.Math.ListN.{length-set}
 use Rattle.std.proofs.lemmas.Bool.{cases_eq}
@@ -92,15 +92,15 @@ kept_more g xs p q ws ls ss t k w m f b hw hl old =
       omega (arith, ls_, length-set ss k t),
       λ i c e. elim (cases_eq k i) [
         | inl s ↦ subst (λ (j : ℕ). IsWordHeld g xs (set ws k w) j × IsLinkHeld g xs q (set ls k m) j) s (
-            λ d. subst (λ (x : Word). IsHeldBy (sort_of (tree g k)) (value_at g xs k) x.width x.value) (sym (get_or-set_same ws k w d (omega (arith, b, lw)))) hw,
-            subst (λ (x : Memory). IsLinkTo q (sort_of (tree g k)) (value_at g xs k) x) (sym (get_or-set_same ls k m (record { 0 = 0 }) (omega (arith, b, ll)))) hl,
-          )
+          λ d. subst (λ (x : Word). IsHeldBy (sort_of (tree g k)) (value_at g xs k) x.width x.value) (sym (get_or-set_same ws k w d (omega (arith, b, lw)))) hw,
+          subst (λ (x : Memory). IsLinkTo q (sort_of (tree g k)) (value_at g xs k) x) (sym (get_or-set_same ls k m (record { 0 = 0 }) (omega (arith, b, ll)))) hl,
+        )
         | inr n ↦
-          let before = old.3 i c (sym (get_or-set_other ss k i t 0 (λ s. n (sym s))) ∙ e) in (
-            λ d. subst (λ (x : Word). IsHeldBy (sort_of (tree g i)) (value_at g xs i) x.width x.value) (sym (get_or-set_other ws k i w d (λ s. n (sym s)))) (before.0 d),
-            subst (λ (x : Memory). IsLinkTo q (sort_of (tree g i)) (value_at g xs i) x) (sym (get_or-set_other ls k i m (record { 0 = 0 }) (λ s. n (sym s))))
-            (link_kept p q (sort_of (tree g i)) (value_at g xs i) (link_at ls i) f before.1),
-          )
+            let before = old.3 i c (sym (get_or-set_other ss k i t 0 (λ s. n (sym s))) ∙ e) in (
+              λ d. subst (λ (x : Word). IsHeldBy (sort_of (tree g i)) (value_at g xs i) x.width x.value) (sym (get_or-set_other ws k i w d (λ s. n (sym s)))) (before.0 d),
+              subst (λ (x : Memory). IsLinkTo q (sort_of (tree g i)) (value_at g xs i) x) (sym (get_or-set_other ls k i m (record { 0 = 0 }) (λ s. n (sym s))))
+                  (link_kept p q (sort_of (tree g i)) (value_at g xs i) (link_at ls i) f before.1),
+            )
       ],
     )
 
@@ -171,14 +171,14 @@ weight_less : (ss : List ℕ) (t m n k : ℕ) → k < n → k < length ss → Is
 weight_less ss t m zero k h b o = absurd (omega (arith, h))
 weight_less ss t m (suc n) k h b o = elim (cases_eq k n) [
   | inl e ↦
-    let now : cond (stamp_at (set ss k t) k == t) 0 m ≡ 0 = ap (λ (c : Bool). cond c 0 m) (is_same (stamp_at (set ss k t) k) t (get_or-set_same ss k t 0 b)) in
-    let before : cond (stamp_at ss k == t) 0 m ≡ m = ap (λ (c : Bool). cond c 0 m) (is_other (stamp_at ss k) t o) in
-    let rest = weight_past ss t m k k (omega arith) in
-    subst (λ (i : ℕ). open_weight (set ss k t) t m (suc i) + m ≡ open_weight ss t m (suc i)) e (omega (arith, now, before, rest))
+      let now : cond (stamp_at (set ss k t) k == t) 0 m ≡ 0 = ap (λ (c : Bool). cond c 0 m) (is_same (stamp_at (set ss k t) k) t (get_or-set_same ss k t 0 b)) in
+      let before : cond (stamp_at ss k == t) 0 m ≡ m = ap (λ (c : Bool). cond c 0 m) (is_other (stamp_at ss k) t o) in
+      let rest = weight_past ss t m k k (omega arith) in
+      subst (λ (i : ℕ). open_weight (set ss k t) t m (suc i) + m ≡ open_weight ss t m (suc i)) e (omega (arith, now, before, rest))
   | inr ne ↦
-    let one : cond (stamp_at (set ss k t) n == t) 0 m ≡ cond (stamp_at ss n == t) 0 m = ap (λ (i : ℕ). cond (i == t) 0 m) (get_or-set_other ss k n t 0 (λ s. ne (sym s))) in
-    let rest = weight_less ss t m n k (omega (arith, h, ne)) b o in
-    omega (arith, one, rest)
+      let one : cond (stamp_at (set ss k t) n == t) 0 m ≡ cond (stamp_at ss n == t) 0 m = ap (λ (i : ℕ). cond (i == t) 0 m) (get_or-set_other ss k n t 0 (λ s. ne (sym s))) in
+      let rest = weight_less ss t m n k (omega (arith, h, ne)) b o in
+      omega (arith, one, rest)
 ]
 
 pub less_by_push : (ss : List ℕ) (t n : ℕ) (xs : List TermId) (top o : TermId) → o.0 < top.0 → work_left ss t n ((xs ++ top ∷ []) ++ o ∷ []) < work_left ss t n (xs ++ top ∷ [])
@@ -209,8 +209,8 @@ after_push ss t n xs ys before top o e f p h =
       pending = subst (λ (zs : List TermId). ArePending ss t n zs) (sym g) (pending_more ss t n before top o q h.0 h.1);
       first = λ k w. subst (λ (zs : List TermId). IsFor ss t k zs) (sym g) (for_more ss t k before top o (subst (λ (zs : List TermId). IsFor ss t k zs) e w));
       less =
-        subst (λ (zs : List TermId). work_left ss t n zs < work_left ss t n xs) (sym g)
-        (subst (λ (zs : List TermId). work_left ss t n ((before ++ top ∷ []) ++ o ∷ []) < work_left ss t n zs) (sym e) (less_by_push ss t n before top o h.0));
+          subst (λ (zs : List TermId). work_left ss t n zs < work_left ss t n xs) (sym g)
+          (subst (λ (zs : List TermId). work_left ss t n ((before ++ top ∷ []) ++ o ∷ []) < work_left ss t n zs) (sym e) (less_by_push ss t n before top o h.0));
     }
 
 -- the last one was evaluated

@@ -1,5 +1,5 @@
 -- Lemmas on points: what of a point changes, and what a point holds.
-use Rattle.std.proofs.Common.{◌≡◌, ◌∙◌, ℕ, ◌<◌, ◌≤◌, cond, List, length, get_or, Option, Some, None, refl, sym, ap, subst, arith}
+use Rattle.std.proofs.Common.{◌≡◌, ℕ, ◌<◌, List, length, Option, Some, None, sym, ap, subst, arith}
 use Rattle.std.specs.Prelude.{Result, Ok, Err, OnOk}
 use Rattle.sparse_memories.specs.declared.pool.Memory.{Memory}
 use Rattle.sparse_memories.specs.Nodes.{Content}

@@ -1,4 +1,4 @@
-use Rattle.std.proofs.Common.{length, arith}
+use Rattle.std.proofs.Common.{arith}
 use Rattle.wb_terms.specs.Graph.{operands_of}
 use Rattle.term_evaluation.specs.Slots.{values_in}
 use Rattle.term_evaluation.proofs.PendingLemmas.{words_held, links_held, kept_over, kept_more}

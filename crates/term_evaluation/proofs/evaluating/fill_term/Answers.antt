@@ -15,8 +15,8 @@ loop-words-preserved c =
       values = slots.1 ∙ c.loop-words.invariant.values;
       keeps = keeps_then c.args.pool.now before after c.loop-words.invariant.keeps c.in_ok-go_on.ensures.keeps;
       kept =
-        kept_at c.args.terms.now (values_in before names) (values_in c.args.pool.now names) after c.go_on.new.words c.go_on.new.links c.go_on.new.stamps c.args.time c.loop-words.invariant.values
-        c.in_ok-go_on.ensures.kept;
+          kept_at c.args.terms.now (values_in before names) (values_in c.args.pool.now names) after c.go_on.new.words c.go_on.new.links c.go_on.new.stamps c.args.time c.loop-words.invariant.values
+          c.in_ok-go_on.ensures.kept;
       pending = c.in_ok-go_on.ensures.pending;
       first = c.in_ok-go_on.ensures.first c.args.id.0 c.loop-words.invariant.first;
       past = λ h. c.in_ok-go_on.ensures.past (c.loop-words.invariant.past h);

@@ -1,4 +1,4 @@
-use Rattle.std.proofs.Common.{◌≡◌, ◌∙◌, ◌<◌, ◌-◌, ℕ, List, length, take, sym, subst, arith}
+use Rattle.std.proofs.Common.{◌∙◌, ◌-◌, List, length, take, sym, subst, arith}
 use Rattle.wb_terms.specs.declared.nodes.TermId.{TermId}
 use Rattle.wb_terms.specs.Graph.{operands_of}
 use Rattle.term_evaluation.specs.Pending.{AreNotAfter, ArePending}

@@ -1,5 +1,5 @@
-use Rattle.std.proofs.Common.{◌≡◌, ◌∙◌, Some, sym, ap, arith}
-use Rattle.model_meaning.specs.Term.{store_sort, sort_of}
+use Rattle.std.proofs.Common.{◌≡◌, ◌∙◌, Some, sym, ap}
+use Rattle.model_meaning.specs.Term.{sort_of}
 use Rattle.wb_terms.specs.Graph.{tree, tree_of_node}
 use Rattle.wb_terms.specs.Sort.{as_sort}
 use Rattle.term_evaluation.specs.Links.{value_at}

@@ -1,5 +1,4 @@
-use Rattle.std.proofs.Common.{◌∙◌, ◌<◌, ◌^◌, sym, subst, arith}
-use Rattle.wb_terms.proofs.HeldLemmas.{both}
+use Rattle.std.proofs.Common.{◌∙◌, ◌<◌, ◌^◌, sym, subst}
 use Rattle.term_evaluation.proofs.LinkLemmas.{width_bounds, below_anywhere}
 use Rattle.sparse_memories.specs.Memories.{words_of}
 use Rattle.term_evaluation.proofs.evaluating.loaded.Goals as goal

@@ -1,8 +1,8 @@
-use Rattle.std.proofs.Common.{◌∙◌, ap, IsSome, arith}
+use Rattle.std.proofs.Common.{IsSome}
 use Rattle.model_meaning.specs.Term.{sort_of}
 use Rattle.wb_terms.specs.Graph.{tree, tree_of_node}
 use Rattle.term_evaluation.specs.Links.{value_at}
-use Rattle.term_evaluation.specs.Slots.{value_in, values_in}
+use Rattle.term_evaluation.specs.Slots.{values_in}
 use Rattle.wb_terms.proofs.HeldLemmas.{held_store}
 use Rattle.term_evaluation.proofs.LinkLemmas.{name_below, leaf_of, word_read, link_read, memory_loaded, loaded_held}
 use Rattle.term_evaluation.proofs.evaluating.word_of.Goals as goal
@@ -37,7 +37,7 @@ loaded-requires c =
     let link = link_read g xs p c.args.links.now arm.memory.0 c.kept_link-link.result links.0 c.kept_link-link.ensures in
     record {
       memory = (memory_loaded p (sort_of (tree g arm.memory.0)) (sort_of (tree g arm.address.0)) (value_at g xs arm.memory.0) c.kept_link-link.result c.sort.result l c.sort.ensures.sort c.sort.ensures.in_range
-        link _ _ (held.0 c.kept_word-place.result)).0;
+          link _ _ (held.0 c.kept_word-place.result)).0;
     }
 
 pub returns-in-Load : goal.returns-in-Load
@@ -63,10 +63,9 @@ returns-in-Store c =
     let arm = c.in-Store in
     let word = c.truth_word-in-Store in
     let held = rw arm.is at c.requires.words in
-    let links = rw arm.is at c.requires.memories in
     let s : IsSome (sort_of (tree_of_node g c.args.node)) = rw c.requires.tree at c.requires.sorted in
     let l = rw arm.is at s in
-    let m = (held.0 word.result) in
-    let x = (held.1.1.0 word.result) in
+    let m = held.0 word.result in
+    let x = held.1.1.0 word.result in
     let h = held_store (sort_of (tree g arm.field-0.0)) (sort_of (tree g arm.field-1.0)) (sort_of (tree g arm.field-2.0)) (value_at g xs arm.field-0.0) (value_at g xs arm.field-1.0) (value_at g xs arm.field-2.0) _ _ _ _ _ _ l m x word.ensures.width word.ensures.value in
     rw (c.requires.tree, arm.is) h

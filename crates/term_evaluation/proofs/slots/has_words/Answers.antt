@@ -1,5 +1,5 @@
 use Rattle.std.proofs.Common.{◌≡◌, ◌∙◌, ℕ, List, length, get_or, refl, sym, ap, arith}
-use Rattle.std.proofs.lemmas.Bool.{cases_eq, false≢true}
+use Rattle.std.proofs.lemmas.Bool.{false≢true}
 use Rattle.sparse_memories.specs.Memories.{words_of}
 use Rattle.term_evaluation.proofs.SlotLemmas.{length-words_of, same_lists, same_more}
 use Rattle.term_evaluation.proofs.slots.has_words.Goals as goal

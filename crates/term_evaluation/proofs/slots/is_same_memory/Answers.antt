@@ -1,4 +1,3 @@
-use Rattle.std.proofs.Common.{sym}
 use Rattle.std.proofs.lemmas.Bool.{false≢true}
 use Rattle.term_evaluation.proofs.SlotLemmas.{same_depth, other_depth, same_from, same_to}
 use Rattle.term_evaluation.proofs.slots.is_same_memory.Goals as goal

@@ -1,4 +1,4 @@
-use Rattle.std.proofs.Common.{◌≡◌, ◌++◌, [], ◌∷◌, refl, sym, subst}
+use Rattle.std.proofs.Common.{◌++◌, [], ◌∷◌, refl, sym, subst}
 use Rattle.term_evaluation.specs.Slots.{IsSlotOf, value_in, values_in}
 use Rattle.term_evaluation.specs.Points.{PointView}
 use Rattle.term_evaluation.proofs.SlotLemmas.{slots-push, values-push}

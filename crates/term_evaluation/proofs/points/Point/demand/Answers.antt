@@ -6,7 +6,7 @@ use Rattle.wb_bits.specs.declared.Word.{Word}
 use Rattle.wb_terms.specs.Environment.{AreOfSorts}
 use Rattle.term_evaluation.specs.declared.slots.Slot.{Slot}
 use Rattle.term_evaluation.specs.Slots.{AreSlotsOf, values_in}
-use Rattle.term_evaluation.specs.Pending.{stamp_at, AreNotAfter, AreKept}
+use Rattle.term_evaluation.specs.Pending.{stamp_at, AreNotAfter}
 use Rattle.term_evaluation.specs.Points.{PointView, IsPointOf}
 use Rattle.term_evaluation.proofs.SlotLemmas.{slots_kept}
 use Rattle.term_evaluation.proofs.PendingLemmas.{kept_at}
@@ -28,7 +28,7 @@ fill_term-requires-clause-kept c =
     kept_in g (values_in p c.deref.result.now) p c.self.inside.words.items c.deref_mut.result.now c.self.inside.links.items c.deref_mut-2.result.now c.self.inside.stamps.items c.deref_mut-3.result.now c.self.inside.time c.deref_mut.ensures.value
     c.deref_mut-2.ensures.value c.deref_mut-3.ensures.value
     (kept_at g (values_in p xs) (values_in p c.deref.result.now) p c.self.inside.words.items c.self.inside.links.items c.self.inside.stamps.items c.self.inside.time
-      (ap (λ (ys : List Slot). values_in p ys) (sym c.deref.ensures.value)) (subst (λ (y : PointView). IsPointOf g y) (sym c.self.view_is) c.requires.point))
+    (ap (λ (ys : List Slot). values_in p ys) (sym c.deref.ensures.value)) (subst (λ (y : PointView). IsPointOf g y) (sym c.self.view_is) c.requires.point))
 
 pub invariant_of-self : goal.invariant_of-self
 invariant_of-self c =
@@ -57,9 +57,9 @@ returns-clause-held c =
     let stamps = with_items_is c.self.inside.stamps c.fill_term.new.stamps (omega (arith, c.fill_term.auto.stamps, ap (λ (ss : List ℕ). length ss) c.deref_mut-3.ensures.value, c.self.inside.stamps.ok.0)) in
     let same = ap (λ (ys : List Slot). values_in p ys) c.deref.ensures.value ∙ sym (slots_kept p q xs c.fill_term.ensures.keeps c.self.invariant.0).1 in
     let kept =
-      kept_in g (values_in q xs) q c.fill_term.new.words (with_items c.self.inside.words c.fill_term.new.words).items c.fill_term.new.links (with_items c.self.inside.links c.fill_term.new.links).items c.fill_term.new.stamps
-      (with_items c.self.inside.stamps c.fill_term.new.stamps).items c.self.inside.time words links stamps
-      (kept_at g (values_in p c.deref.result.now) (values_in q xs) q c.fill_term.new.words c.fill_term.new.links c.fill_term.new.stamps c.self.inside.time same c.fill_term.ensures.kept) in
+    kept_in g (values_in q xs) q c.fill_term.new.words (with_items c.self.inside.words c.fill_term.new.words).items c.fill_term.new.links (with_items c.self.inside.links c.fill_term.new.links).items c.fill_term.new.stamps
+    (with_items c.self.inside.stamps c.fill_term.new.stamps).items c.self.inside.time words links stamps
+    (kept_at g (values_in p c.deref.result.now) (values_in q xs) q c.fill_term.new.words c.fill_term.new.links c.fill_term.new.stamps c.self.inside.time same c.fill_term.ensures.kept) in
     where_ok c.fill_term.result (stamp_at c.fill_term.new.stamps c.args.id.0 ≡ c.self.inside.time) _ c.fill_term.ensures.done (λ h. kept.3 c.args.id.0 c.requires.id (ap (λ (ss : List ℕ). stamp_at ss c.args.id.0) stamps ∙ h))
 
 pub returns-clause-point : goal.returns-clause-point
@@ -73,7 +73,7 @@ returns-clause-point c =
     let stamps = with_items_is c.self.inside.stamps c.fill_term.new.stamps (omega (arith, c.fill_term.auto.stamps, ap (λ (ss : List ℕ). length ss) c.deref_mut-3.ensures.value, c.self.inside.stamps.ok.0)) in
     let same = ap (λ (ys : List Slot). values_in p ys) c.deref.ensures.value ∙ sym (slots_kept p q xs c.fill_term.ensures.keeps c.self.invariant.0).1 in
     let kept =
-      kept_in g (values_in q xs) q c.fill_term.new.words (with_items c.self.inside.words c.fill_term.new.words).items c.fill_term.new.links (with_items c.self.inside.links c.fill_term.new.links).items c.fill_term.new.stamps
-      (with_items c.self.inside.stamps c.fill_term.new.stamps).items c.self.inside.time words links stamps
-      (kept_at g (values_in p c.deref.result.now) (values_in q xs) q c.fill_term.new.words c.fill_term.new.links c.fill_term.new.stamps c.self.inside.time same c.fill_term.ensures.kept) in
+    kept_in g (values_in q xs) q c.fill_term.new.words (with_items c.self.inside.words c.fill_term.new.words).items c.fill_term.new.links (with_items c.self.inside.links c.fill_term.new.links).items c.fill_term.new.stamps
+    (with_items c.self.inside.stamps c.fill_term.new.stamps).items c.self.inside.time words links stamps
+    (kept_at g (values_in p c.deref.result.now) (values_in q xs) q c.fill_term.new.words c.fill_term.new.links c.fill_term.new.stamps c.self.inside.time same c.fill_term.ensures.kept) in
     kept

@@ -1,4 +1,4 @@
-use Rattle.std.proofs.Common.{◌≡◌, ◌∙◌, ◌<◌, length, set, refl, sym, ap, subst, arith}
+use Rattle.std.proofs.Common.{◌∙◌, ◌<◌, length, set, refl, sym, ap, subst, arith}
 use Rattle.term_evaluation.specs.Slots.{IsSlotOf, value_in, values_in}
 use Rattle.term_evaluation.specs.Points.{PointView, IsPointOf}
 use Rattle.term_evaluation.proofs.SlotLemmas.{slots-set, values-set, length-values}

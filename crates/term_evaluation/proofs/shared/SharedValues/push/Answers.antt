@@ -1,7 +1,7 @@
-use Rattle.std.proofs.Common.{◌≡◌, ◌∙◌, ap, List, ◌++◌, [], ◌∷◌}
+use Rattle.std.proofs.Common.{◌∙◌, ap, List, ◌++◌, [], ◌∷◌}
 use Rattle.wb_values.specs.Value as meaning
 use Rattle.wb_terms.specs.Environment.{as_value}
-use Rattle.term_evaluation.specs.Slots.{AreSlotsOf, values_in}
+use Rattle.term_evaluation.specs.Slots.{values_in}
 use Rattle.term_evaluation.proofs.SlotLemmas.{on_err, slots_kept, slots-push, values-push}
 use Rattle.term_evaluation.proofs.shared.SharedValues.push.Goals as goal
 

@@ -1,4 +1,4 @@
-use Rattle.std.proofs.Common.{◌≡◌, ◌∙◌, ◌<◌, List, length, get_or, set, refl, sym, ap, subst, arith}
+use Rattle.std.proofs.Common.{◌∙◌, List, length, get_or, set, refl, sym, ap, arith}
 use Rattle.wb_values.specs.Value as meaning
 use Rattle.wb_values.specs.Value.{number}
 use Rattle.term_evaluation.specs.Slots.{with_number}
