@@ -1,3 +1,4 @@
 pub mod SlotLemmas
 pub mod LinkLemmas
+pub mod PendingLemmas
 pub mod PointLemmas

@@ -1,10 +1,9 @@
 -- Lemmas on what is kept of terms: words, and memories of a pool.
-use Rattle.std.proofs.Common.{◌≡◌, ◌∙◌, ℕ, zero, suc, ◌+◌, ◌<◌, ◌≤◌, ◌^◌, Bool, true, false, cond, ◌&&◌, nat_le, nat_lt, List, [], ◌∷◌, length, get_or, set, Option, Some, None, IsTrue, IsSome, inl, inr, refl, sym, ap, subst, arith}
+use Rattle.std.proofs.Common.{◌≡◌, ◌∙◌, ℕ, zero, suc, ◌+◌, ◌<◌, ◌≤◌, ◌^◌, Bool, true, false, cond, ◌&&◌, nat_le, nat_lt, List, [], ◌∷◌, length, get_or, set, Option, Some, None, IsTrue, IsSome, refl, sym, ap, subst, arith}
 use Rattle.std.specs.Prelude.{◌==◌, if◌then◌else◌, ⊤}
-use Rattle.std.proofs.lemmas.Bool.{cases_eq, false≢true}
+use Rattle.std.proofs.lemmas.Bool.{false≢true}
 use Rattle.std.proofs.lemmas.Bool.Decides.{nat_tests}
 use Rattle.std.proofs.lemmas.Nat.{pow_pos}
-use Rattle.std.proofs.lemmas.List.{get_or-set_same, get_or-set_other}
 use Rattle.sparse_memories.specs.declared.pool.Memory.{Memory}
 use Rattle.sparse_memories.specs.Nodes.{Content}
 use Rattle.sparse_memories.specs.Memories.{IsMemory, words_of, Keeps}
@@ -25,10 +24,9 @@ use Rattle.wb_terms.specs.Environment.{AreOfSorts}
 use Rattle.wb_terms.specs.Held.{IsHeldBy}
 use Rattle.wb_terms.specs.Walk.{word_width}
 use Rattle.term_evaluation.specs.Slots.{value_in, values_in}
-use Rattle.term_evaluation.specs.Links.{valuation_at, value_at, link_at, IsLinkTo, IsLinkOf, IsTreeOf, IsMemoryOf, words_at_link, AreWordsHeld, AreLinksHeld}
+use Rattle.term_evaluation.specs.Links.{valuation_at, value_at, link_at, IsLinkTo, IsLinkOf, IsTreeOf, IsMemoryOf, words_at_link, IsWordHeld, IsLinkHeld}
 use Rattle.wb_terms.proofs.EnvironmentLemmas.{sort_at, value_at as named_value, length-AreOfSorts, length-memory}
-use Rattle.wb_terms.proofs.HeldLemmas.{both, below, held_word, held_memory, load_sorts, store_sorts}
-use Rattle.wb_terms.proofs.ValueSorts.{same_from_sorts}
+use Rattle.wb_terms.proofs.HeldLemmas.{both, same_number, below, held_word, held_memory, load_sorts, store_sorts}
 use Rattle.term_evaluation.proofs.SlotLemmas.{length-words_of, same_power, values-read, length-values}
 
 -- A pool that keeps another one's memories keeps links to values.
@@ -118,6 +116,14 @@ link_stored p q om oi ox vm vi vx wi ni wx nx s m r e l hi hx t w =
     let all : words_of q a r ≡ set x.0 i.0 y.0 =
     here ∙ ap (λ (ws : List ℕ). set ws ni nx) x.4 ∙ ap (λ (k : ℕ). set x.0 k nx) i.2 ∙ ap (λ (k : ℕ). set x.0 i.0 k) y.2 in
     rw (z.5, x.1, i.1, y.1) (there.0, there.1, all)
+
+same_from_sorts : (s t : Sort) → IsTrue (same_sort s t) → t ≡ s
+same_from_sorts truth truth h = refl
+same_from_sorts (word w) (word u) h = ap (λ (k : ℕ). word k) (sym (same_number w u h))
+same_from_sorts (memory a d) (memory b e) h =
+    let t = both (a == b) (d == e) h in
+    ap (λ (k : ℕ). memory k e) (sym (same_number a b t.0)) ∙ ap (λ (k : ℕ). memory a k) (sym (same_number d e t.1))
+same_from_sorts _ _ h = absurd (false≢true h)
 
 -- a memory that is chosen
 picked : (p : Content) (o : Option Sort) (b : Bool) (n : ℕ) (vx vy : meaning.Value) (lx ly r : Memory) → n ≡ cond b 1 0 → IsLinkTo p o vx lx → IsLinkTo p o vy ly → r ≡ (if n == 1 then lx else ly) → IsLinkTo p o (cond b vx vy) r
@@ -282,28 +288,28 @@ plain_node : (g : Graph) (n : Node) → ((m : NameId) → n ≡ NameNode m → �
 plain_node g (NameNode m) f c s = absurd (f m refl)
 plain_node g (Truth b) f c s = tt
 plain_node g (Const w x) f c s = plain_word _ w
-plain_node g (Not x) f c s = plain_bits _
-plain_node g (And x y) f c s = plain_same_bits _ _
-plain_node g (Or x y) f c s = plain_same_bits _ _
-plain_node g (Xor x y) f c s = plain_same_bits _ _
-plain_node g (Neg x) f c s = plain_word_sort _
-plain_node g (Add x y) f c s = plain_same_word _ _
-plain_node g (Sub x y) f c s = plain_same_word _ _
-plain_node g (Mul x y) f c s = plain_same_word _ _
-plain_node g (Shl x y) f c s = plain_same_word _ _
-plain_node g (Lshr x y) f c s = plain_same_word _ _
-plain_node g (Ashr x y) f c s = plain_same_word _ _
+plain_node g (Not x) f c s = plain_bits (sort_of (tree g x.0))
+plain_node g (And x y) f c s = plain_same_bits (sort_of (tree g x.0)) (sort_of (tree g y.0))
+plain_node g (Or x y) f c s = plain_same_bits (sort_of (tree g x.0)) (sort_of (tree g y.0))
+plain_node g (Xor x y) f c s = plain_same_bits (sort_of (tree g x.0)) (sort_of (tree g y.0))
+plain_node g (Neg x) f c s = plain_word_sort (sort_of (tree g x.0))
+plain_node g (Add x y) f c s = plain_same_word (sort_of (tree g x.0)) (sort_of (tree g y.0))
+plain_node g (Sub x y) f c s = plain_same_word (sort_of (tree g x.0)) (sort_of (tree g y.0))
+plain_node g (Mul x y) f c s = plain_same_word (sort_of (tree g x.0)) (sort_of (tree g y.0))
+plain_node g (Shl x y) f c s = plain_same_word (sort_of (tree g x.0)) (sort_of (tree g y.0))
+plain_node g (Lshr x y) f c s = plain_same_word (sort_of (tree g x.0)) (sort_of (tree g y.0))
+plain_node g (Ashr x y) f c s = plain_same_word (sort_of (tree g x.0)) (sort_of (tree g y.0))
 plain_node g (Eq x y) f c s = plain_compared _
 plain_node g (Ult x y) f c s = plain_compared _
 plain_node g (Ule x y) f c s = plain_compared _
 plain_node g (Slt x y) f c s = plain_compared _
 plain_node g (Sle x y) f c s = plain_compared _
-plain_node g (Concat x y) f c s = plain_concat _ _
+plain_node g (Concat x y) f c s = plain_concat (sort_of (tree g x.0)) (sort_of (tree g y.0))
 plain_node g (Extract i j x) f c s = plain_extract i j _
 plain_node g (Zext w x) f c s = plain_extended w _
 plain_node g (Sext w x) f c s = plain_extended w _
 plain_node g (Ite b x y) f c s = absurd (c b x y refl)
-plain_node g (Load m i) f c s = plain_load _ _
+plain_node g (Load m i) f c s = plain_load (sort_of (tree g m.0)) (sort_of (tree g i.0))
 plain_node g (Store m i x) f c s = absurd (s m i x refl)
 
 plain_link : (p : Content) (o : Option Sort) (v : meaning.Value) (m : Memory) → IsPlain o → IsLinkTo p o v m
@@ -316,39 +322,9 @@ pub other_link : (g : Graph) (p : Content) (id : ℕ) (n : Node) (v : meaning.Va
     → ((m i x : TermId) → n ≡ Store m i x → ⊥) → IsLinkTo p (sort_of (tree g id)) v m
 other_link g p id n v m t f c s = plain_link p (sort_of (tree g id)) v m (subst (λ (x : Term). IsPlain (sort_of x)) (sym t) (plain_node g n f c s))
 
--- what is kept of a term
-pub word_read : (g : Graph) (xs : List meaning.Value) (ws : List Word) (n k : ℕ) (w : Word) → AreWordsHeld g xs ws n → k < n → w ≡ get_or ws k w → IsHeldBy (sort_of (tree g k)) (value_at g xs k) w.width w.value
-word_read g xs ws n k w h b e = subst (λ (x : Word). IsHeldBy (sort_of (tree g k)) (value_at g xs k) x.width x.value) (sym e) (h k w b)
+-- what is kept of a term, as it is read
+pub word_read : (g : Graph) (xs : List meaning.Value) (ws : List Word) (k : ℕ) (w : Word) → IsWordHeld g xs ws k → w ≡ get_or ws k w → IsHeldBy (sort_of (tree g k)) (value_at g xs k) w.width w.value
+word_read g xs ws k w h e = subst (λ (x : Word). IsHeldBy (sort_of (tree g k)) (value_at g xs k) x.width x.value) (sym e) (h w)
 
-pub link_read : (g : Graph) (xs : List meaning.Value) (p : Content) (ls : List Memory) (n k : ℕ) (m : Memory) → AreLinksHeld g xs p ls n → k < n → m ≡ link_at ls k → IsLinkTo p (sort_of (tree g k)) (value_at g xs k) m
-link_read g xs p ls n k m h b e = subst (λ (x : Memory). IsLinkTo p (sort_of (tree g k)) (value_at g xs k) x) (sym e) (h k b)
-
--- one term more
-pub words_more : (g : Graph) (xs : List meaning.Value) (ws : List Word) (k : ℕ) (w : Word) → k < length ws → IsHeldBy (sort_of (tree g k)) (value_at g xs k) w.width w.value → AreWordsHeld g xs ws k → AreWordsHeld g xs (set ws k w) (k + 1)
-words_more g xs ws k w b h old j d l = elim (cases_eq k j) [
-  | inl q ↦ subst (λ (i : ℕ). IsHeldBy (sort_of (tree g i)) (value_at g xs i) (get_or (set ws k w) i d).width (get_or (set ws k w) i d).value) q
-      (subst (λ (x : Word). IsHeldBy (sort_of (tree g k)) (value_at g xs k) x.width x.value) (sym (get_or-set_same ws k w d b)) h)
-  | inr ne ↦ subst (λ (x : Word). IsHeldBy (sort_of (tree g j)) (value_at g xs j) x.width x.value) (sym (get_or-set_other ws k j w d (λ e. ne (sym e)))) (old j d (omega (arith, l, ne)))
-]
-
-pub links_more : (g : Graph) (xs : List meaning.Value) (p q : Content) (ls : List Memory) (k : ℕ) (m : Memory) → Keeps p q → k < length ls → IsLinkTo q (sort_of (tree g k)) (value_at g xs k) m → AreLinksHeld g xs p ls k
-    → AreLinksHeld g xs q (set ls k m) (k + 1)
-links_more g xs p q ls k m f b h old j l = elim (cases_eq k j) [
-  | inl e ↦ subst (λ (i : ℕ). IsLinkTo q (sort_of (tree g i)) (value_at g xs i) (link_at (set ls k m) i)) e
-      (subst (λ (x : Memory). IsLinkTo q (sort_of (tree g k)) (value_at g xs k) x) (sym (get_or-set_same ls k m (record { 0 = 0 }) b)) h)
-  | inr ne ↦ subst (λ (x : Memory). IsLinkTo q (sort_of (tree g j)) (value_at g xs j) x) (sym (get_or-set_other ls k j m (record { 0 = 0 }) (λ e. ne (sym e))))
-      (link_kept p q (sort_of (tree g j)) (value_at g xs j) (link_at ls j) f (old j (omega (arith, l, ne))))
-]
-
--- the same at values that are equal
-pub word_at_values : (g : Graph) (xs ys : List meaning.Value) (k w n : ℕ) → xs ≡ ys → IsHeldBy (sort_of (tree g k)) (value_at g xs k) w n → IsHeldBy (sort_of (tree g k)) (value_at g ys k) w n
-word_at_values g xs ys k w n e h = subst (λ (zs : List meaning.Value). IsHeldBy (sort_of (tree g k)) (value_at g zs k) w n) e h
-
-pub link_at_values : (g : Graph) (xs ys : List meaning.Value) (p : Content) (k : ℕ) (m : Memory) → xs ≡ ys → IsLinkTo p (sort_of (tree g k)) (value_at g xs k) m → IsLinkTo p (sort_of (tree g k)) (value_at g ys k) m
-link_at_values g xs ys p k m e h = subst (λ (zs : List meaning.Value). IsLinkTo p (sort_of (tree g k)) (value_at g zs k) m) e h
-
-pub words_at_values : (g : Graph) (xs ys : List meaning.Value) (ws : List Word) (n : ℕ) → xs ≡ ys → AreWordsHeld g xs ws n → AreWordsHeld g ys ws n
-words_at_values g xs ys ws n e h = subst (λ (zs : List meaning.Value). AreWordsHeld g zs ws n) e h
-
-pub links_at_values : (g : Graph) (xs ys : List meaning.Value) (p : Content) (ls : List Memory) (n : ℕ) → xs ≡ ys → AreLinksHeld g xs p ls n → AreLinksHeld g ys p ls n
-links_at_values g xs ys p ls n e h = subst (λ (zs : List meaning.Value). AreLinksHeld g zs p ls n) e h
+pub link_read : (g : Graph) (xs : List meaning.Value) (p : Content) (ls : List Memory) (k : ℕ) (m : Memory) → IsLinkHeld g xs p ls k → m ≡ link_at ls k → IsLinkTo p (sort_of (tree g k)) (value_at g xs k) m
+link_read g xs p ls k m h e = subst (λ (x : Memory). IsLinkTo p (sort_of (tree g k)) (value_at g xs k) x) (sym e) h

@@ -1,17 +1,35 @@
 -- Lemmas on slots of a pool: what a larger pool makes of them, and what they stand for at a place.
-use Rattle.std.proofs.Common.{◌≡◌, ◌∙◌, ℕ, zero, suc, ◌+◌, ◌<◌, ◌≤◌, ◌^◌, Bool, true, false, nat_lt, List, [], ◌∷◌, ◌++◌, map, length, get_or, set, take, ◌⊎◌, inl, inr, refl, sym, ap, subst, arith}
+use Rattle.std.proofs.Common.{◌≡◌, ◌∙◌, ℕ, zero, suc, ◌+◌, ◌<◌, ◌≤◌, ◌^◌, Bool, ◌&&◌, nat_le, List, [], ◌∷◌, ◌++◌, length, get_or, set, take, ◌⊎◌, inl, inr, IsTrue, refl, sym, ap, subst, arith}
+use Rattle.std.specs.Prelude.{Result, Ok, Err, OnErr}
 use Rattle.std.proofs.lemmas.List.{length-map, get_or-map, map-set, map-append, take_more, take_all, get_or_past}
 use Rattle.std.proofs.Math.Pow.{pow-lt}
+use Rattle.std.proofs.lemmas.Bool.Decides.{nat_tests}
 use Rattle.sparse_memories.specs.declared.pool.Memory.{Memory}
 use Rattle.sparse_memories.specs.Nodes.{Nodes, Content, IsTree, words_at, KeepsTrees}
 use Rattle.sparse_memories.specs.Memories.{IsMemory, words_of, Keeps}
 use Rattle.sparse_memories.proofs.Trees.{length-words}
 use Rattle.wb_values.specs.Value as meaning
-use Rattle.wb_values.specs.Value.{truth_value, number, words, as_words, as_truth, as_number}
+use Rattle.wb_values.specs.Value.{memory, truth_value, number, words, as_words, as_truth, as_number}
+use Rattle.model_meaning.specs.Term.{is_sort, is_width}
+use Rattle.wb_terms.proofs.HeldLemmas.{both}
 use Rattle.term_evaluation.specs.declared.slots.Slot.{Slot}
 use Rattle.term_evaluation.specs.declared.slots.Slot.TheVariants.{Truth, Number, Memory as MemorySlot}
 use Rattle.term_evaluation.specs.Slots.{value_in, values_in, IsSlotOf, AreSlotsOf}
 use Rattle.term_evaluation.specs.Links.{IsLinkOf}
+
+-- what holds anyway holds where there is an error
+pub on_err : {T E : Type 0} (r : Result T E) (P : Type 0) → P → OnErr r P
+on_err (Ok x) P h = tt
+on_err (Err e) P h = h
+
+-- addresses have 16 bits at most
+sixteen_from : (a : ℕ) → IsTrue (nat_le a 16) → a ≤ 16
+sixteen_from a h = grind (arith, nat_tests)
+
+pub sixteen : (a d : ℕ) → IsTrue (is_sort (memory a d)) → a ≤ 16
+sixteen a d h =
+    let l = (both (nat_le 1 a && nat_le a 16) (is_width d) h).0 in
+    sixteen_from a (both (nat_le 1 a) (nat_le a 16) l).1
 
 -- pools that keep their memories
 pub keeps_self : (p : Content) → Keeps p p

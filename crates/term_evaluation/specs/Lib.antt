@@ -1,3 +1,4 @@
 pub mod Slots
 pub mod Links
+pub mod Pending
 pub mod Points

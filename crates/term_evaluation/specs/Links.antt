@@ -1,5 +1,5 @@
 -- What is kept of terms: words, and memories of a pool.
-use Rattle.std.specs.Prelude.{ℕ, ◌<◌, ◌≤◌, ◌≡◌, List, [], ⊤, Option, Some, None, IsTrue, slice_index_or}
+use Rattle.std.specs.Prelude.{ℕ, ◌≤◌, ◌≡◌, List, [], ◌∷◌, ⊤, Option, Some, None, IsTrue, slice_index_or}
 use Rattle.sparse_memories.specs.Nodes.{Content}
 use Rattle.sparse_memories.specs.Memories.{IsMemory, words_of}
 use Rattle.sparse_memories.specs.declared.pool.Memory.{Memory}
@@ -51,13 +51,22 @@ words_at_link p truth m = []
 words_at_link p (word w) m = []
 words_at_link p (memory a d) m = words_of p a m
 
--- The word of each of the first so many terms stands for its value where the names have these values.
-abbrev pub AreWordsHeld : Graph → List meaning.Value → List Word → ℕ → Type 0
-AreWordsHeld g xs ws n = (k : ℕ) (d : Word) → k < n → IsHeldBy (sort_of (tree g k)) (value_at g xs k) (slice_index_or ws k d).width (slice_index_or ws k d).value
-
 abbrev pub link_at : List Memory → ℕ → Memory
 link_at ls k = slice_index_or ls k (record { 0 = 0 })
 
--- So does its memory.
-abbrev pub AreLinksHeld : Graph → List meaning.Value → Content → List Memory → ℕ → Type 0
-AreLinksHeld g xs p ls n = (k : ℕ) → k < n → IsLinkTo p (sort_of (tree g k)) (value_at g xs k) (link_at ls k)
+-- What is kept of a term stands for its value where the names have these values: its word,
+abbrev pub IsWordHeld : Graph → List meaning.Value → List Word → ℕ → Type 0
+IsWordHeld g xs ws k = (d : Word) → IsHeldBy (sort_of (tree g k)) (value_at g xs k) (slice_index_or ws k d).width (slice_index_or ws k d).value
+
+-- and its memory.
+abbrev pub IsLinkHeld : Graph → List meaning.Value → Content → List Memory → ℕ → Type 0
+IsLinkHeld g xs p ls k = IsLinkTo p (sort_of (tree g k)) (value_at g xs k) (link_at ls k)
+
+-- So does what is kept of each of these terms.
+abbrev pub AreWordsHeld : Graph → List meaning.Value → List Word → List ℕ → Type 0
+AreWordsHeld g xs ws [] = ⊤
+AreWordsHeld g xs ws (k ∷ ks) = IsWordHeld g xs ws k × AreWordsHeld g xs ws ks
+
+abbrev pub AreLinksHeld : Graph → List meaning.Value → Content → List Memory → List ℕ → Type 0
+AreLinksHeld g xs p ls [] = ⊤
+AreLinksHeld g xs p ls (k ∷ ks) = IsLinkHeld g xs p ls k × AreLinksHeld g xs p ls ks

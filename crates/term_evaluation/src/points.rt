@@ -8,9 +8,10 @@ ghost use Rattle.wb_terms.specs.Sort.{as_sort};
 ghost use Rattle.wb_terms.specs.Graph.{Graph, tree};
 ghost use Rattle.wb_terms.specs.Environment.{AreOfSorts, HasSortOf, as_value};
 ghost use Rattle.wb_terms.specs.Held.{IsHeldBy};
-ghost use Rattle.term_evaluation.specs.Slots.{IsShownAs, IsSlotOf, value_in};
+ghost use Rattle.term_evaluation.specs.Slots.{AreSlotsOf, IsShownAs, IsSlotOf, value_in, values_in};
 ghost use Rattle.term_evaluation.specs.Links.{value_at, IsLinkTo};
-ghost use Rattle.term_evaluation.specs.Points.{IsPointOf, IsHeldAt, AreNotAfter, stamp_at};
+ghost use Rattle.term_evaluation.specs.Pending.{AreNotAfter, stamp_at};
+ghost use Rattle.term_evaluation.specs.Points.{IsPointOf, IsHeldAt};
 
 use crate::NoMemory;
 use crate::evaluating::fill_term;
@@ -43,7 +44,8 @@ pub struct Point {
 
 impl Model for Point {
     ghost use Rattle.term_evaluation.specs.Slots.{values_in, AreSlotsOf};
-    ghost use Rattle.term_evaluation.specs.Points.{PointView, AreNotAfter};
+    ghost use Rattle.term_evaluation.specs.Pending.{AreNotAfter};
+    ghost use Rattle.term_evaluation.specs.Points.{PointView};
 
     ghost Value = { PointView };
 
@@ -110,7 +112,7 @@ impl Point {
         requires { place < length self.now.values }
         ensures { IfOk result (IsShownAs (slice_index_or self.now.values place (number 0))) }
     {
-        let slot = self.names[place];
+        let slot = self.slot_of_name(place);
         let shown = shown_slot(alloc, &self.pool, slot)?;
         Ok(shown)
     }
@@ -124,16 +126,39 @@ impl Point {
         if self.pool.branch_count() <= self.limit {
             return Ok(());
         }
+        self.copy_used(alloc)
+    }
+
+    /// Copies the memories that are used into a pool of their own.
+    fn copy_used(&mut self, alloc: Global) -> Result<(), NoMemory>
+        ensures values { self.new.values ≡ self.old.values }
+        ensures aside { self.new.aside ≡ self.old.aside }
+        ensures point { (g : Graph) → IsPointOf g self.old → IsPointOf g self.new }
+    {
         let mut pool = Pool::new(alloc)?;
         let mut copies = Copies::new(alloc, &self.pool)?;
         let names = copy_slots(alloc, &mut pool, &self.pool, &mut copies, &self.names)?;
         let aside = copy_slots(alloc, &mut pool, &self.pool, &mut copies, &self.aside)?;
+        self.take_parts(names, aside, pool);
+        Ok(())
+    }
+
+    /// Keeps the same values in another pool. No term counts as evaluated then.
+    fn take_parts(&mut self, names: Vec<Slot>, aside: Vec<Slot>, pool: Pool)
+        requires names { AreSlotsOf pool names.items }
+        requires aside { AreSlotsOf pool aside.items }
+        requires values { values_in pool names.items ≡ self.old.values }
+        requires kept { values_in pool aside.items ≡ self.old.aside }
+        ensures values { self.new.values ≡ self.old.values }
+        ensures aside { self.new.aside ≡ self.old.aside }
+        ensures point { (g : Graph) → IsPointOf g self.old → IsPointOf g self.new }
+    {
         self.limit = limit_for(pool.branch_count(), names.len());
         self.names = names;
         self.aside = aside;
         self.pool = pool;
-        self.time = later(&mut self.stamps, self.time);
-        Ok(())
+        let time = later(&mut self.stamps, self.time);
+        self.time = time;
     }
 
     /// Evaluates a term, and those that it stands on, as far as they were not evaluated since the last change.
@@ -156,8 +181,7 @@ impl Point {
             &mut self.pending,
             &mut self.pool,
             id,
-        )?;
-        Ok(())
+        )
     }
 
     /// The value of a truth value, as 0 or 1, or of a word. A memory has no number: it gives 0.
@@ -172,12 +196,25 @@ impl Point {
         ensures point { IsPointOf terms.now self.new }
     {
         self.demand(terms, id)?;
-        let word = self.words[id.0];
-        Ok(word.value)
+        let number = self.held_number(terms, id);
+        Ok(number)
     }
 
-    /// The value of a term that was evaluated.
-    fn slot(&self, terms: &Terms, id: TermId) -> Slot
+    /// The number of a term that was evaluated.
+    fn held_number(&self, terms: &Terms, id: TermId) -> u128
+        requires id { id.0 < length terms.now.nodes }
+        requires point { IsPointOf terms.now self.now }
+        requires held { IsHeldAt terms.now self.now id.0 }
+        ensures number { result ≡ numeral_of (value_at terms.now self.now.values id.0) }
+        ensures sorted { HasSortOf (value_at terms.now self.now.values id.0) (sort_of (tree terms.now id.0)) }
+    {
+        let _ = terms;
+        let word = self.words[id.0];
+        word.value
+    }
+
+    /// The slot of a term that was evaluated.
+    fn held_slot(&self, terms: &Terms, id: TermId) -> Slot
         requires id { id.0 < length terms.now.nodes }
         requires point { IsPointOf terms.now self.now }
         requires held { IsHeldAt terms.now self.now id.0 }
@@ -188,6 +225,62 @@ impl Point {
         let word = self.words[id.0];
         let link = self.links[id.0];
         slot_of_term(&self.pool, terms.sort(id), word, link)
+    }
+
+    /// The slot of a name.
+    fn slot_of_name(&self, place: usize) -> Slot
+        requires { place < length self.now.values }
+        ensures slot { IsSlotOf self.now.pool result }
+        ensures value { value_in self.now.pool result ≡ slice_index_or self.now.values place (number 0) }
+    {
+        let slot = self.names[place];
+        slot
+    }
+
+    /// The slot of a value that was put aside.
+    fn slot_aside(&self, from: usize) -> Slot
+        requires { from < length self.now.aside }
+        ensures slot { IsSlotOf self.now.pool result }
+        ensures value { value_in self.now.pool result ≡ slice_index_or self.now.aside from (number 0) }
+    {
+        let slot = self.aside[from];
+        slot
+    }
+
+    /// Puts the value of a slot aside.
+    fn add_aside(&mut self, slot: Slot) -> Result<(), NoMemory>
+        requires { IsSlotOf self.old.pool slot }
+        ensures ok { OnOk result (self.new ≡ record self.old { aside = self.old.aside ++ value_in self.old.pool slot ∷ [] }) }
+        ensures err { OnErr result (self.new ≡ self.old) }
+    {
+        self.aside.push(slot)?;
+        Ok(())
+    }
+
+    /// Gives a name the value of a slot. No term counts as evaluated then.
+    fn set_name(&mut self, place: usize, slot: Slot)
+        requires place { place < length self.old.values }
+        requires slot { IsSlotOf self.old.pool slot }
+        ensures values { self.new.values ≡ slice_set self.old.values place (value_in self.old.pool slot) }
+        ensures aside { self.new.aside ≡ self.old.aside }
+        ensures point { (g : Graph) → IsPointOf g self.old → IsPointOf g self.new }
+    {
+        self.names[place] = slot;
+        let time = later(&mut self.stamps, self.time);
+        self.time = time;
+    }
+
+    /// The slot of a value of a sort.
+    fn add_value(&mut self, value: &Value, sort: Sort) -> Result<Slot, NoMemory>
+        requires in_range { IsTrue (is_sort (as_sort sort)) }
+        requires sort { HasSort (as_value value.now) (as_sort sort) }
+        ensures slot { IfOk result (IsSlotOf self.new.pool) }
+        ensures value { IfOk result (λ s. value_in self.new.pool s ≡ as_value value.now) }
+        ensures values { self.new.values ≡ self.old.values }
+        ensures aside { self.new.aside ≡ self.old.aside }
+        ensures point { (g : Graph) → IsPointOf g self.old → IsPointOf g self.new }
+    {
+        slot_of(&mut self.pool, value, sort)
     }
 
     /// Puts the value of a term aside.
@@ -201,8 +294,8 @@ impl Point {
         ensures point { IsPointOf terms.now self.new }
     {
         self.demand(terms, id)?;
-        let slot = self.slot(terms, id);
-        self.aside.push(slot)?;
+        let slot = self.held_slot(terms, id);
+        self.add_aside(slot)?;
         Ok(())
     }
 
@@ -213,8 +306,8 @@ impl Point {
         ensures values { self.new.values ≡ self.old.values }
         ensures point { (g : Graph) → IsPointOf g self.old → IsPointOf g self.new }
     {
-        let slot = self.names[place];
-        self.aside.push(slot)?;
+        let slot = self.slot_of_name(place);
+        self.add_aside(slot)?;
         Ok(())
     }
 
@@ -233,9 +326,8 @@ impl Point {
         ensures aside { self.new.aside ≡ self.old.aside }
         ensures point { (g : Graph) → IsPointOf g self.old → IsPointOf g self.new }
     {
-        let slot = self.aside[from];
-        self.names[place] = slot;
-        self.time = later(&mut self.stamps, self.time);
+        let slot = self.slot_aside(from);
+        self.set_name(place, slot);
     }
 
     /// Forgets the values that were put aside, but for the first ones.
@@ -257,26 +349,34 @@ impl Point {
         ensures point { (g : Graph) → IsPointOf g self.old → IsPointOf g self.new }
         ensures err { OnErr result (self.new.values ≡ self.old.values) }
     {
-        let slot = slot_of(&mut self.pool, value, sort)?;
-        self.names[place] = slot;
-        self.time = later(&mut self.stamps, self.time);
+        let slot = self.add_value(value, sort)?;
+        self.set_name(place, slot);
         Ok(())
     }
 }
 
-/// A time after those of all stamps, and after this one. Where there is none, the stamps are set to 0 and times begin again.
-fn later(stamps: &mut [u64], time: u64) -> u64
-    requires { AreNotAfter time stamps.old }
-    ensures stamps { (k : ℕ) → stamp_at stamps.new k < result }
+/// A time after those of all stamps. Where there is none, the stamps are set to 0 and times begin again.
+fn later(stamps: &mut Vec<u64>, time: u64) -> u64
+    requires { AreNotAfter time stamps.old.items }
+    ensures stamps { (k : ℕ) → stamp_at stamps.new.items k < result }
+    ensures length { length stamps.new.items ≡ length stamps.old.items }
 {
     match time.checked_add(1) {
         Some(next) => next,
         None => {
-            for k in 0..stamps.len() {
-                stamps[k] = 0;
-            }
+            set_to_0(stamps);
             1
         }
+    }
+}
+
+/// Sets all stamps to 0.
+fn set_to_0(stamps: &mut Vec<u64>)
+    ensures stamps { (k : ℕ) → stamp_at stamps.new.items k ≡ 0 }
+    ensures length { length stamps.new.items ≡ length stamps.old.items }
+{
+    for k in 0..stamps.len() {
+        stamps[k] = 0;
     }
 }
 

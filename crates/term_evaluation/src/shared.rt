@@ -96,13 +96,13 @@ impl SharedValues {
     }
 
     /// Sets a word of a memory, or all of another value.
-    pub fn set_word(&mut self, place: usize, word: u64, number: u128) -> Result<(), NoMemory>
+    pub fn set_word(&mut self, place: usize, word: u64, value: u128) -> Result<(), NoMemory>
         requires { place < length self.old }
-        ensures ok { OnOk result (self.new ≡ slice_set self.old place (with_number (slice_index_or self.old place (number 0)) word number)) }
+        ensures ok { OnOk result (self.new ≡ slice_set self.old place (with_number (slice_index_or self.old place (number 0)) word value)) }
         ensures err { OnErr result (self.new ≡ self.old) }
     {
         let slot = self.slots[place];
-        let changed = with_word(&mut self.pool, slot, word, number)?;
+        let changed = with_word(&mut self.pool, slot, word, value)?;
         self.slots[place] = changed;
         Ok(())
     }

@@ -1,6 +1,6 @@
 //! Values kept with their memories as links into a pool.
 
-ghost use Rattle.std.specs.Prelude.{◌≡◌, ◌≤◌, ◌↔◌, IfOk, IsTrue, slice_index, slice_set};
+ghost use Rattle.std.specs.Prelude.{◌≡◌, ◌≤◌, ◌↔◌, ◌^◌, IfOk, IsTrue, slice_index, slice_set};
 ghost use Rattle.sparse_memories.specs.Memories.{IsMemory, words_of, Keeps};
 ghost use Rattle.sparse_memories.specs.Copying.{AreCopies};
 ghost use Rattle.wb_values.specs.Value.{HasSort};

@@ -1,5 +1,5 @@
-use Rattle.std.proofs.Common.{◌≡◌, ◌∙◌, Some, sym, ap, arith}
-use Rattle.model_meaning.specs.Term.{store_sort, sort_of}
+use Rattle.std.proofs.Common.{◌≡◌, ◌∙◌, Some, sym, ap}
+use Rattle.model_meaning.specs.Term.{sort_of}
 use Rattle.wb_terms.specs.Graph.{tree, tree_of_node}
 use Rattle.wb_terms.specs.Sort.{as_sort}
 use Rattle.term_evaluation.specs.Links.{value_at}
@@ -10,18 +10,18 @@ use Rattle.term_evaluation.proofs.evaluating.link_of.Goals as goal
 
 pub slot_of_name-slot-requires : goal.slot_of_name-slot-requires
 slot_of_name-slot-requires c =
-    name_below c.args.terms.now c.args.pool.now c.args.names.now c.in-Name.name.0 c.requires.fits (rw c.in-Name.is at c.node.ensures.over.names).0
+    name_below c.args.terms.now c.args.pool.now c.args.names.now c.in-Name.name.0 c.requires.fits (rw c.in-Name.is at c.requires.over.names).0
 
 pub link_of_slot-requires : goal.link_of_slot-requires
 link_of_slot-requires c =
-    let declared = rw c.in-Name.is at c.node.ensures.over.names in
+    let declared = rw c.in-Name.is at c.requires.over.names in
     slots-read c.args.pool.now c.args.names.now c.in-Name.name.0 c.slot_of_name-slot.result c.requires.slots (name_below c.args.terms.now c.args.pool.now c.args.names.now c.in-Name.name.0 c.requires.fits declared.0) c.slot_of_name-slot.ensures
 
 pub returns-in-Name-clause-link : goal.returns-in-Name-clause-link
 returns-in-Name-clause-link c =
     let p = c.args.pool.now in
-    let declared = rw c.in-Name.is at c.node.ensures.over.names in
-    let l = leaf_of c.args.terms.now p c.args.names.now c.args.id.0 _ c.in-Name.name c.slot_of_name-slot.result c.name_sort-sort.result c.node.ensures.tree c.in-Name.is c.name_sort-sort.ensures.distinct c.requires.fits declared.0
+    let declared = rw c.in-Name.is at c.requires.over.names in
+    let l = leaf_of c.args.terms.now p c.args.names.now c.args.id.0 _ c.in-Name.name c.slot_of_name-slot.result c.name_sort-sort.result c.requires.tree c.in-Name.is c.name_sort-sort.ensures.distinct c.requires.fits declared.0
     c.slot_of_name-slot.ensures c.name_sort-sort.ensures.sort c.name_sort-sort.ensures.in_range in
     rw (l.sort, l.value) (link_from p (as_sort c.name_sort-sort.result) (value_in p c.slot_of_name-slot.result) c.link_of_slot.result c.link_of_slot.ensures l.sorted)
 
@@ -34,11 +34,12 @@ returns-in-Ite-clause-link c =
     let p = c.args.pool.now in
     let xs = values_in p c.args.names.now in
     let arm = c.in-Ite in
-    let operands = rw arm.is at c.node.ensures.over.operands in
-    let truth = word_read g xs c.args.words.now c.args.id.0 arm.condition.0 c.kept_word-truth.result c.requires.earlier operands.0 c.kept_word-truth.ensures in
-    let first = link_read g xs p c.args.links.now c.args.id.0 arm.x.0 c.kept_link-first.result c.requires.memories operands.1.0 c.kept_link-first.ensures in
-    let second = link_read g xs p c.args.links.now c.args.id.0 arm.y.0 c.kept_link-second.result c.requires.memories operands.1.1.0 c.kept_link-second.ensures in
-    rw (c.node.ensures.tree, arm.is)
+    let held = rw arm.is at c.requires.words in
+    let links = rw arm.is at c.requires.memories in
+    let truth = word_read g xs c.args.words.now arm.condition.0 c.kept_word-truth.result held.0 c.kept_word-truth.ensures in
+    let first = link_read g xs p c.args.links.now arm.x.0 c.kept_link-first.result links.1.0 c.kept_link-first.ensures in
+    let second = link_read g xs p c.args.links.now arm.y.0 c.kept_link-second.result links.1.1.0 c.kept_link-second.ensures in
+    rw (c.requires.tree, arm.is)
     (link_chosen p (sort_of (tree g arm.condition.0)) (sort_of (tree g arm.x.0)) (sort_of (tree g arm.y.0)) (value_at g xs arm.condition.0) (value_at g xs arm.x.0) (value_at g xs arm.y.0)
     c.kept_word-truth.result.width c.kept_word-truth.result.value c.kept_link-first.result c.kept_link-second.result c.chosen.result truth first second c.chosen.ensures)
 
@@ -51,10 +52,13 @@ store_to-requires c =
     let p = c.args.pool.now in
     let xs = values_in p c.args.names.now in
     let arm = c.in-Store in
-    let operands = rw arm.is at c.node.ensures.over.operands in
-    let old = link_read g xs p c.args.links.now c.args.id.0 arm.memory.0 c.kept_link-old.result c.requires.memories operands.0 c.kept_link-old.ensures in
-    let sort : sort_of (tree_of_node g c.node.result.now) ≡ Some (as_sort c.sort.result) = sym (ap sort_of c.node.ensures.tree) ∙ c.sort.ensures.sort in
-    stored_tree p (sort_of (tree g arm.memory.0)) (sort_of (tree g arm.address.0)) (sort_of (tree g arm.x.0)) c.sort.result (value_at g xs arm.memory.0) c.kept_link-old.result (rw arm.is at sort) old
+    let held = rw arm.is at c.requires.words in
+    let links = rw arm.is at c.requires.memories in
+    let old = link_read g xs p c.args.links.now arm.memory.0 c.kept_link-old.result links.0 c.kept_link-old.ensures in
+    let sort : sort_of (tree_of_node g c.args.node) ≡ Some (as_sort c.sort.result) = sym (ap sort_of c.requires.tree) ∙ c.sort.ensures.sort in
+    record {
+      memory = stored_tree p (sort_of (tree g arm.memory.0)) (sort_of (tree g arm.address.0)) (sort_of (tree g arm.x.0)) c.sort.result (value_at g xs arm.memory.0) c.kept_link-old.result (rw arm.is at sort) old;
+    }
 
 pub returns-in_ok-stored-in-Store-clause-link : goal.returns-in_ok-stored-in-Store-clause-link
 returns-in_ok-stored-in-Store-clause-link c =
@@ -62,12 +66,13 @@ returns-in_ok-stored-in-Store-clause-link c =
     let p = c.args.pool.now in
     let xs = values_in p c.args.names.now in
     let arm = c.in-Store in
-    let operands = rw arm.is at c.node.ensures.over.operands in
-    let old = link_read g xs p c.args.links.now c.args.id.0 arm.memory.0 c.kept_link-old.result c.requires.memories operands.0 c.kept_link-old.ensures in
-    let place = word_read g xs c.args.words.now c.args.id.0 arm.address.0 c.kept_word-place.result c.requires.earlier operands.1.0 c.kept_word-place.ensures in
-    let word = word_read g xs c.args.words.now c.args.id.0 arm.x.0 c.kept_word-word.result c.requires.earlier operands.1.1.0 c.kept_word-word.ensures in
-    let sort : sort_of (tree_of_node g c.node.result.now) ≡ Some (as_sort c.sort.result) = sym (ap sort_of c.node.ensures.tree) ∙ c.sort.ensures.sort in
-    rw (c.node.ensures.tree, arm.is)
+    let held = rw arm.is at c.requires.words in
+    let links = rw arm.is at c.requires.memories in
+    let old = link_read g xs p c.args.links.now arm.memory.0 c.kept_link-old.result links.0 c.kept_link-old.ensures in
+    let place = word_read g xs c.args.words.now arm.address.0 c.kept_word-place.result held.1.0 c.kept_word-place.ensures in
+    let word = word_read g xs c.args.words.now arm.x.0 c.kept_word-word.result held.1.1.0 c.kept_word-word.ensures in
+    let sort : sort_of (tree_of_node g c.args.node) ≡ Some (as_sort c.sort.result) = sym (ap sort_of c.requires.tree) ∙ c.sort.ensures.sort in
+    rw (c.requires.tree, arm.is)
     (link_stored p c.store_to.new.pool (sort_of (tree g arm.memory.0)) (sort_of (tree g arm.address.0)) (sort_of (tree g arm.x.0)) (value_at g xs arm.memory.0) (value_at g xs arm.address.0) (value_at g xs arm.x.0)
     c.kept_word-place.result.width c.kept_word-place.result.value c.kept_word-word.result.width c.kept_word-word.result.value c.sort.result c.kept_link-old.result c.in_ok-stored-in-Store.stored (rw arm.is at sort) old place word
     c.in_ok-stored-in-Store.ensures.memory c.in_ok-stored-in-Store.ensures.words)
@@ -75,7 +80,7 @@ returns-in_ok-stored-in-Store-clause-link c =
 pub returns-in_default-clause-link : goal.returns-in_default-clause-link
 returns-in_default-clause-link c =
     let g = c.args.terms.now in
-    other_link g c.args.pool.now c.args.id.0 c.node.result.now (value_at g (values_in c.args.pool.now c.args.names.now) c.args.id.0) c.zeros.result c.node.ensures.tree c.in_default.not-Name c.in_default.not-Ite c.in_default.not-Store
+    other_link g c.args.pool.now c.args.id.0 c.args.node (value_at g (values_in c.args.pool.now c.args.names.now) c.args.id.0) c.zeros.result c.requires.tree c.in_default.not-Name c.in_default.not-Ite c.in_default.not-Store
 
 pub returns-in_default-clause-keeps : goal.returns-in_default-clause-keeps
 returns-in_default-clause-keeps c = keeps_self c.args.pool.now

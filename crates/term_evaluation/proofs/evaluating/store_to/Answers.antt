@@ -1,13 +1,13 @@
 use Rattle.term_evaluation.proofs.evaluating.store_to.Goals as goal
 
 pub store_in-requires-clause-depth : goal.store_in-requires-clause-depth
-store_in-requires-clause-depth c = (rw c.in-Memory.is at c.requires).0
+store_in-requires-clause-depth c = (rw c.in-Memory.is at c.requires.memory).0
 
 pub store_in-requires-clause-memory : goal.store_in-requires-clause-memory
-store_in-requires-clause-memory c = (rw c.in-Memory.is at c.requires).1
+store_in-requires-clause-memory c = (rw c.in-Memory.is at c.requires.memory).1
 
-pub returns-in_ok-stored-in-Memory-clause-memory : goal.returns-in_ok-stored-in-Memory-clause-memory
-returns-in_ok-stored-in-Memory-clause-memory c = rw c.in-Memory.is ((rw c.in-Memory.is at c.requires).0, c.in_ok-stored-in-Memory.ensures.memory)
+pub returns-clause-memory : goal.returns-clause-memory
+returns-clause-memory c = rw c.in-Memory.is ((rw c.in-Memory.is at c.requires.memory).0, c.in_ok-stored-in-Memory.ensures.memory)
 
-pub returns-in_ok-stored-in-Memory-clause-words : goal.returns-in_ok-stored-in-Memory-clause-words
-returns-in_ok-stored-in-Memory-clause-words c = rw c.in-Memory.is c.in_ok-stored-in-Memory.ensures.words
+pub returns-clause-words : goal.returns-clause-words
+returns-clause-words c = rw c.in-Memory.is c.in_ok-stored-in-Memory.ensures.words

@@ -1,5 +1,5 @@
 use Rattle.std.proofs.Common.{◌∙◌, ap, length, arith}
-use Rattle.wb_terms.proofs.HeldLemmas.{sixteen}
+use Rattle.term_evaluation.proofs.SlotLemmas.{sixteen}
 use Rattle.wb_terms.proofs.EnvironmentLemmas.{length-memory}
 use Rattle.term_evaluation.proofs.slots.slot_of.Goals as goal
 

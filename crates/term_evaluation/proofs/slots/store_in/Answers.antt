@@ -2,8 +2,8 @@ use Rattle.std.proofs.Common.{arith}
 use Rattle.term_evaluation.proofs.SlotLemmas.{keeps_same, keeps_then, memory_over, stored_past, stored_over}
 use Rattle.term_evaluation.proofs.slots.store_in.Goals as goal
 
-pub returns-then-from-le-address-clause-words : goal.returns-then-from-le-address-clause-words
-returns-then-from-le-address-clause-words c =
+pub returns-then-from-address-clause-words : goal.returns-then-from-address-clause-words
+returns-then-from-address-clause-words c =
     stored_past c.args.pool.now c.args.depth c.args.memory c.word_count.result c.args.address c.args.word c.word_count.ensures (omega arith)
 
 pub returns-in_err-reserve-clause-keeps : goal.returns-in_err-reserve-clause-keeps

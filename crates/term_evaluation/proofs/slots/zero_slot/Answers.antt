@@ -1,6 +1,6 @@
 use Rattle.std.proofs.Common.{ap, arith}
 use Rattle.wb_values.specs.Value.{words}
-use Rattle.wb_terms.proofs.HeldLemmas.{sixteen}
+use Rattle.term_evaluation.proofs.SlotLemmas.{sixteen}
 use Rattle.term_evaluation.proofs.slots.zero_slot.Goals as goal
 
 pub returns-in-Memory-clause-slot : goal.returns-in-Memory-clause-slot

@@ -1,4 +1,4 @@
-use Rattle.std.proofs.Common.{◌≡◌, ◌∙◌, ◌<◌, ◌↔◌, IsTrue, List, length, get_or, sym, ap, subst, arith}
+use Rattle.std.proofs.Common.{◌≡◌, ◌∙◌, ◌↔◌, IsTrue, List, length, get_or, sym, ap, subst, arith}
 use Rattle.wb_values.specs.Value as meaning
 use Rattle.wb_values.specs.Value.{number}
 use Rattle.term_evaluation.specs.Slots.{value_in}

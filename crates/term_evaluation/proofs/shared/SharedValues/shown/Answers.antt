@@ -1,4 +1,4 @@
-use Rattle.std.proofs.Common.{◌≡◌, ◌∙◌, ◌<◌, List, length, get_or, sym, ap, subst, arith}
+use Rattle.std.proofs.Common.{◌∙◌, List, length, get_or, sym, ap, subst, arith}
 use Rattle.wb_values.specs.Value as meaning
 use Rattle.wb_values.specs.Value.{number}
 use Rattle.term_evaluation.specs.Slots.{IsShownAs}
@@ -14,8 +14,8 @@ shown_slot-requires c =
     let xs = c.self.inside.slots.items in
     slots-read p xs c.args.place c.index-slot.result.now c.self.invariant (omega (arith, c.requires, ap (λ (vs : List meaning.Value). length vs) c.self.view_is, length-values p xs)) c.index-slot.ensures
 
-pub returns-in_ok-shown : goal.returns-in_ok-shown
-returns-in_ok-shown c =
+pub returns : goal.returns
+returns c =
     let p = c.self.inside.pool in
     let xs = c.self.inside.slots.items in
     let k = c.args.place in
