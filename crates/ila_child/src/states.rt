@@ -1,7 +1,7 @@
 //! States of a model and its inputs: a value for each state, and one for each input.
 
 ghost use Rattle.std.specs.Prelude.{◌≡◌, ◌≤◌, ◌<◌, ◌+◌, ◌++◌, ◌↔◌, IfOk, IfSome, OnOk, OnErr, IsTrue, is_some, map, length, take, drop, slice_index_or, slice_set};
-ghost use Rattle.wb_values.specs.Value.{number};
+ghost use Rattle.wb_values.specs.Value as meaning;
 ghost use Rattle.model_meaning.specs.Model.{states_of};
 ghost use Rattle.wb_terms.specs.Environment.{AreOfSorts, as_value};
 ghost use Rattle.term_evaluation.specs.Slots.{with_number};
@@ -88,7 +88,7 @@ impl State {
 
     /// Sets a word of a memory, or all of another value. Where there is no such state it does nothing.
     pub fn set_word(&mut self, place: usize, word: u64, number: u128) -> Result<(), NoMemory>
-        ensures { OnOk result (self.new ≡ slice_set self.old place (with_number (slice_index_or self.old place (number 0)) word number)) }
+        ensures { OnOk result (self.new ≡ slice_set self.old place (with_number (slice_index_or self.old place (meaning.number 0)) word number)) }
     {
         if place < self.values.len() {
             self.values.set_word(place, word, number)?;
