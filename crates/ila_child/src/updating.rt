@@ -58,6 +58,7 @@ fn put_updates(terms: &Terms, point: &mut Point, first: usize, updates: &[Update
     ensures point { (g : Graph) → IsPointOf g point.old → IsPointOf g point.new }
 {
     let _ = terms;
+    let _kept = point.kept();
     for k in 0..updates.len() {
         point.put(updates[k].state.0, first + k);
     }

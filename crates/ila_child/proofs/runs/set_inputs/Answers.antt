@@ -7,7 +7,7 @@ use Rattle.wb_terms.specs.Environment.{AreOfSorts, as_value}
 use Rattle.ila_model.specs.Sorted.{sort_at}
 use Rattle.ila_model.proofs.Declarations.{sorted}
 use Rattle.ila_child.specs.Runs.{with_values}
-use Rattle.ila_child.proofs.Updates.{AreOfSorts-length, AreOfSorts-set, room_kept}
+use Rattle.ila_child.proofs.Updates.{AreOfSorts-length, AreOfSorts-set}
 use Rattle.ila_child.proofs.Starts.{inputs_table}
 use Rattle.ila_child.proofs.Movement.{AreOfSorts-short, input_sort, values_left, with_values-turn}
 use Rattle.ila_child.proofs.runs.set_inputs.Goals as goal
@@ -17,7 +17,7 @@ loop-k-init c = record {
   values = ap (λ j. with_values j (map as_value c.args.values.now) c.args.point.now.values) (omega arith);
   fits = c.requires.fits;
   aside = refl;
-  room = c.requires.room;
+  point = c.requires.point;
 }
 
 pub set-requires-clause-place : goal.set-requires-clause-place
@@ -65,8 +65,8 @@ loop-k-preserved c =
     record {
       values = ap (with_values (first + (k + 1)) (drop (k + 1) w)) made ∙ with_values-turn first k w xs (number 0) low ∙ c.loop-k.invariant.values;
       fits = subst (AreOfSorts ns) (sym made) (AreOfSorts-set ns xs (first + k) (get_or w k (number 0)) c.loop-k.invariant.fits there);
-      aside = c.in_ok-set.ensures.aside ∙ c.loop-k.invariant.aside;
-      room = room_kept p.terms c.loop-k.point c.set.new.self c.in_ok-set.ensures.words c.in_ok-set.ensures.links c.loop-k.invariant.room;
+      aside = c.set.ensures.aside ∙ c.loop-k.invariant.aside;
+      point = c.set.ensures.point p.terms c.loop-k.invariant.point;
     }
 
 pub returns-clause-values : goal.returns-clause-values
