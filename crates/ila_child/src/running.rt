@@ -53,10 +53,12 @@ fn take(
 {
     let terms = &model.parts.terms;
     point.let_go(alloc)?;
-    if !holds_at(terms, point, valid)? {
+    let is_valid = holds_at(terms, point, valid)?;
+    if !is_valid {
         return Ok(Taken::NotValid);
     }
-    match find_decoded(terms, point, instructions)? {
+    let decoded = find_decoded(terms, point, instructions)?;
+    match decoded {
         Decoded::One(place) => {
             let instruction = &instructions[place];
             update(terms, point, &instruction.updates)?;
@@ -112,7 +114,8 @@ pub(crate) fn run_program(
             }
         }
     }
-    if holds_at(terms, point, child.valid)? {
+    let is_valid = holds_at(terms, point, child.valid)?;
+    if is_valid {
         Ok(Some(Trouble::TooLong(depth + 1)))
     } else {
         Ok(None)

@@ -76,10 +76,12 @@ impl Runner {
         let terms = &model.parts.terms;
         set_inputs(alloc, model, &mut self.point, inputs.values())?;
         self.point.let_go(alloc)?;
-        if !holds_at(terms, &mut self.point, model.parts.valid)? {
+        let is_valid = holds_at(terms, &mut self.point, model.parts.valid)?;
+        if !is_valid {
             return Ok(Moved::NotValid);
         }
-        match find_decoded(terms, &mut self.point, &model.parts.instructions)? {
+        let decoded = find_decoded(terms, &mut self.point, &model.parts.instructions)?;
+        match decoded {
             Decoded::Nothing => Ok(Moved::NoInstruction),
             Decoded::Several(first, second) => Ok(Moved::Several(first, second)),
             Decoded::One(place) => {
