@@ -146,7 +146,8 @@ pub(crate) fn first_point(alloc: Global, model: &IlaModel, state: &State) -> Res
 {
     let mut values = state.values().copy(alloc)?;
     push_zeros(&model.parts.terms, &mut values)?;
-    Point::new(alloc, &model.parts.terms, values)
+    let point = Point::new(alloc, &model.parts.terms, values)?;
+    Ok(point)
 }
 
 /// Appends the zeros of the names after those that have values.

@@ -73,4 +73,4 @@ pub returns-clause-values : goal.returns-clause-values
 returns-clause-values c =
     let w = map as_value c.args.values.now in
     values_left (c.state_count-first.result + c.loop-k.k) c.loop-k.k w c.loop-k.point.values (omega (arith, c.loop-k-test.false, length-map c.args.values.now as_value))
-    ∙ c.loop-k.invariant.values ∙ ap (λ j. with_values j w c.args.point.now.values) c.state_count-first.ensures
+    ∙ c.loop-k.invariant.values ∙ ap (λ j. with_values j w c.args.point.now.values) c.state_count-first.ensures.place
