@@ -20,6 +20,17 @@ loop-k-init c = record {
   point = c.requires.point;
 }
 
+pub name_sort-requires : goal.name_sort-requires
+name_sort-requires c =
+    let p = c.args.model.now.parts in
+    let ns = p.terms.names in
+    let within = (sorted p c.args.model.now.well_sorted).declared.within in
+    let n = length p.initial_values.items in
+    let w = map as_value c.args.values.now in
+    let inputs = subst (λ t. AreOfSorts t w) (inputs_table p.inputs (drop n ns)) c.requires.inputs in
+    let many : length w ≤ p.inputs = AreOfSorts-short ns n p.inputs w inputs in
+    omega (arith, c.loop-k-test.true, many, length-map c.args.values.now as_value, within, c.state_count-first.ensures.place)
+
 pub set-requires-clause-place : goal.set-requires-clause-place
 set-requires-clause-place c =
     let p = c.args.model.now.parts in
