@@ -1,22 +1,16 @@
-use Rattle.std.proofs.Common.{◌≡◌, ◌∙◌, ◌+◌, ◌-◌, ◌<◌, ◌≤◌, suc, length, map, drop, Some, None, true, inl, inr, refl, sym, ap, subst, arith}
+use Rattle.std.proofs.Common.{◌≡◌, ◌∙◌, ◌+◌, ◌-◌, ◌<◌, ◌≤◌, suc, length, drop, Some, true, sym, ap, subst, arith}
 use Rattle.std.proofs.Math.Numerals.{add-one}
 use Rattle.std.proofs.lemmas.Bool.{and_parts}
 use Rattle.model_meaning.specs.Model.{entered}
 use Rattle.model_meaning.specs.Instruction as instruction
 use Rattle.model_meaning.specs.Instruction.{Reaches, DoesChild, DoesOne, ChildTrouble, OneTrouble}
 use Rattle.wb_terms.specs.Environment.{AreOfSorts}
-use Rattle.term_evaluation.specs.Links.{valuation_at}
-use Rattle.wb_terms.specs.Graph.{tree}
-use Rattle.ila_model.specs.declared.parts.ChildId.{ChildId}
-use Rattle.ila_model.specs.declared.parts.Child.{Child}
-use Rattle.ila_model.specs.Scope.{around}
 use Rattle.wb_values.specs.Value.{truth}
 use Rattle.ila_model.specs.Sorted.{are_states, is_machine, is_condition, is_term_of}
 use Rattle.ila_child.specs.Updating.{with_initial}
 use Rattle.ila_model.specs.Meaning.{privates_of, instructions_of}
 use Rattle.ila_model.proofs.Declarations.{sorted}
-use Rattle.ila_child.specs.declared.running.Taken.TheVariants.{NotValid, Stuck, One}
-use Rattle.ila_child.specs.Running.{seen, point_at, HasDepth, IsDeep, IsLinked, IsTaken, IsOneTaken, IsRun, program_in, trouble_of}
+use Rattle.ila_child.specs.Running.{seen, point_at, HasDepth, IsLinked, IsTaken, IsRun, program_in, trouble_of}
 use Rattle.ila_child.proofs.Updates.{AreOfSorts-length}
 use Rattle.ila_child.proofs.Points.{entered_point}
 use Rattle.ila_child.proofs.Machines.{holds_same}

@@ -6,7 +6,7 @@ use Rattle.wb_terms.specs.Graph.{tree}
 use Rattle.wb_terms.specs.Environment.{AreOfSorts}
 use Rattle.term_evaluation.specs.Links.{valuation_at}
 use Rattle.ila_model.specs.declared.parts.Instruction.{Instruction}
-use Rattle.ila_model.specs.Sorted.{is_condition, are_instructions}
+use Rattle.ila_model.specs.Sorted.{is_condition}
 use Rattle.ila_model.proofs.Declarations.{sorted}
 use Rattle.ila_child.specs.declared.decoding.Decoded.TheVariants.{Nothing, Several}
 use Rattle.ila_child.specs.declared.decoding.Decoded.TheVariants.{One as OneDecodes}
@@ -80,7 +80,7 @@ returns-in_ok-update-in-One-clause-taken c =
     let found = subst (λ t. IsOnlyFound t (length is) j) (decodes_same p c.args.at d.depth xs is d.has low m.1) here in
     let zs = c.find_decoded.new.point.values in
     let made = c.in_ok-update-in-One.ensures.values ∙ ap (λ vs. with_updates g (valuation_at g zs) vs zs) c.deref.ensures.value
-        ∙ ap (λ (ys : List meaning.Value). with_updates g (valuation_at g ys) us ys) (c.find_decoded.ensures.values ∙ c.holds_at.ensures.values) in
+    ∙ ap (λ (ys : List meaning.Value). with_updates g (valuation_at g ys) us ys) (c.find_decoded.ensures.values ∙ c.holds_at.ensures.values) in
     subst (λ ys. IsTaken p c.args.at c.args.valid.0 is ys c.update.new.point.values (One i.child)) c.let_go.ensures.values (
       sym (holds_same p c.args.at d.depth xs c.args.valid.0 d.has low m.0) ∙ sym c.in_ok-is_valid.ensures.holds ∙ c.if-not-is_valid.false,
       one_taken p (sorted p c.args.model.now.well_sorted) c.args.at d.depth is j i xs c.update.new.point.values d.has low m.1 c.index-instructions-place.is found fits made,

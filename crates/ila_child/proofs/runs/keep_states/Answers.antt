@@ -1,4 +1,4 @@
-use Rattle.std.proofs.Common.{◌≡◌, ◌∙◌, ◌+◌, ◌<◌, ◌++◌, [], ◌∷◌, List, length, get_or, take, refl, sym, ap, subst, arith, append_assoc}
+use Rattle.std.proofs.Common.{◌∙◌, ◌<◌, ◌++◌, [], ◌∷◌, List, length, get_or, take, refl, sym, ap, arith, append_assoc}
 use Rattle.std.proofs.lemmas.List.{take_more}
 use Rattle.wb_values.specs.Value as meaning
 use Rattle.wb_values.specs.Value.{number}

@@ -1,5 +1,4 @@
-use Rattle.std.proofs.Common.{◌≡◌, ◌∙◌, ◌++◌, drop, length, sym, ap, arith}
-use Rattle.ila_child.specs.Start.{zeros_of}
+use Rattle.std.proofs.Common.{◌∙◌, sym, arith}
 use Rattle.wb_terms.specs.Sort.{as_sort}
 use Rattle.ila_child.proofs.Movement.{zeros-turn, zeros_left}
 use Rattle.ila_child.proofs.runs.push_zeros.Goals as goal

@@ -1,4 +1,4 @@
-use Rattle.std.proofs.Common.{◌≡◌, ◌∙◌, ◌≤◌, ◌++◌, List, Some, None, length, take, drop, refl, sym, ap, subst, arith}
+use Rattle.std.proofs.Common.{◌∙◌, ◌≤◌, ◌++◌, List, None, length, take, drop, refl, sym, ap, subst, arith}
 use Rattle.std.proofs.lemmas.List.{length-take}
 use Rattle.wb_values.specs.Value as meaning
 use Rattle.wb_terms.specs.Environment.{AreOfSorts}
@@ -65,7 +65,7 @@ returns-in-Some-clause-stays c =
     let ys = c.forget.new.self.values in
     let zs = c.start.new.point.values in
     let kept = c.in_ok-trouble.ensures.aside ∙ c.in_ok-keep_states.ensures.aside ∙ ap (λ (vs : List meaning.Value). vs ++ take m ys) c.forget.ensures.aside ∙ ap (λ (vs : List meaning.Value). take m vs) c.forget.ensures.values
-        ∙ ap (λ j. take j xs) e in
+    ∙ ap (λ j. take j xs) e in
     let put = c.put_back.ensures.values ∙ ap (λ j. take j c.start.new.point.aside ++ drop j zs) e in
     let within : n ≤ length xs = omega (arith, e, c.state_count-count.ensures.within, AreOfSorts-length p.terms.names xs c.requires.fits) in
     let same = put_back_state n xs c.start.new.point.aside zs c.put_back.new.point.values within kept put in

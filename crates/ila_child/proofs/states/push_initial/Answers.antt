@@ -1,4 +1,4 @@
-use Rattle.std.proofs.Common.{◌≡◌, ◌∙◌, List, ◌++◌, [], ◌∷◌, sym, ap, subst}
+use Rattle.std.proofs.Common.{◌≡◌, ◌∙◌, ◌++◌, [], ◌∷◌, sym, ap, subst}
 use Rattle.std.specs.Prelude.{OnOk}
 use Rattle.wb_values.specs.Value as meaning
 use Rattle.wb_terms.specs.Sort.{as_sort}

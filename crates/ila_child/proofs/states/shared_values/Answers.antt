@@ -1,4 +1,4 @@
-use Rattle.std.proofs.Common.{◌≡◌, ◌∙◌, ◌<◌, ◌+◌, List, [], ◌∷◌, ◌++◌, map, length, get_or, take, drop, sym, ap, subst, arith}
+use Rattle.std.proofs.Common.{◌≡◌, ◌∙◌, ◌<◌, List, [], ◌∷◌, ◌++◌, map, length, get_or, take, sym, ap, subst, arith}
 use Rattle.std.proofs.lemmas.List.{length-map, length-take, get_or-map, get_or-take, take_more, take_all}
 use Rattle.wb_values.specs.Value as meaning
 use Rattle.wb_values.specs.Value.{HasSort, number, truth, Name, Sort}

@@ -1,6 +1,5 @@
-use Rattle.std.proofs.Common.{◌≡◌, ◌+◌, ◌<◌, ◌∙◌, set, length, drop, get_or, sym, ap, subst, arith, true}
+use Rattle.std.proofs.Common.{◌≡◌, ◌+◌, ◌∙◌, set, drop, get_or, sym, ap, subst, arith}
 use Rattle.wb_values.specs.Value.{HasSort}
-use Rattle.wb_terms.specs.Sort.{as_sort}
 use Rattle.wb_terms.specs.Environment.{as_value, AreOfSorts}
 use Rattle.ila_model.specs.Sorted.{sort_at}
 use Rattle.ila_child.specs.Values.{beginning}

@@ -1,4 +1,4 @@
-use Rattle.std.proofs.Common.{◌≡◌, ◌∙◌, ◌+◌, ◌<◌, ◌++◌, [], ◌∷◌, List, length, get_or, take, refl, sym, ap, subst, arith}
+use Rattle.std.proofs.Common.{◌∙◌, ◌++◌, [], ◌∷◌, List, get_or, take, refl, sym, ap, subst, arith}
 use Rattle.std.proofs.lemmas.List.{get_or_default, take_more, take_all}
 use Rattle.wb_values.specs.Value as meaning
 use Rattle.model_meaning.specs.Term.{sort_of}

@@ -1,4 +1,4 @@
-use Rattle.std.proofs.Common.{◌≡◌, ◌∙◌, length, take, drop, sym, ap, subst, arith}
+use Rattle.std.proofs.Common.{◌∙◌, length, take, sym, ap, subst, arith}
 use Rattle.std.proofs.lemmas.List.{take_at, length-take}
 use Rattle.wb_terms.specs.Environment.{AreOfSorts}
 use Rattle.ila_model.proofs.Declarations.{sorted}

@@ -1,15 +1,14 @@
-use Rattle.std.proofs.Common.{◌≡◌, ◌∙◌, ◌<◌, List, None, true, length, take, sym, ap, subst, string_bytes}
+use Rattle.std.proofs.Common.{◌≡◌, ◌∙◌, List, None, true, length, take, sym, ap, subst, string_bytes}
 use Rattle.std.proofs.lemmas.Bool.{and_parts}
 use Rattle.wb_values.specs.Value as meaning
 use Rattle.wb_values.specs.Value.{truth}
 use Rattle.wb_terms.specs.Environment.{AreOfSorts}
 use Rattle.term_evaluation.specs.Links.{valuation_at}
-use Rattle.ila_model.specs.declared.parts.Instruction.{Instruction}
 use Rattle.ila_model.specs.Sorted.{is_condition, is_term_of}
 use Rattle.ila_model.specs.Meaning.{model_from}
 use Rattle.ila_model.proofs.Declarations.{sorted}
 use Rattle.ila_child.specs.declared.decoding.Decoded.TheVariants.{Nothing, One, Several}
-use Rattle.ila_child.specs.Decoding.{are_conditions, decodes, IsFound, IsOnlyFound, AreDecoded}
+use Rattle.ila_child.specs.Decoding.{are_conditions, decodes, AreDecoded}
 use Rattle.ila_child.specs.State.{AreInputsOf}
 use Rattle.ila_child.specs.Running.{seen}
 use Rattle.ila_child.specs.Start.{IsStart}

@@ -1,7 +1,6 @@
-use Rattle.std.proofs.Common.{◌≡◌, ◌∙◌, List, length, map, take, drop, refl, sym, subst, string_bytes}
+use Rattle.std.proofs.Common.{◌∙◌, map, take, drop, refl, sym, subst, string_bytes}
 use Rattle.std.proofs.lemmas.Bool.{false≢true}
 use Rattle.std.proofs.lemmas.List.{length-map}
-use Rattle.wb_values.specs.Value.{Sort, Entries}
 use Rattle.wb_terms.specs.Environment.{as_value, AreOfSorts}
 use Rattle.ila_child.proofs.Checked.{states_checked, of_sorts-from, of_sorts-taken}
 use Rattle.ila_child.proofs.states.State.checked.Goals as goal
