@@ -1,5 +1,5 @@
 -- Lemmas on the test whether there is one value for each name, of its sort.
-use Rattle.std.proofs.Common.{◌≡◌, ℕ, zero, suc, ◌+◌, ◌-◌, ◌<◌, ◌≤◌, Bool, true, false, ◌&&◌, List, [], ◌∷◌, map, length, get_or, take, drop, refl, sym, ap, ◌∙◌, subst, arith}
+use Rattle.std.proofs.Common.{◌≡◌, ℕ, zero, suc, ◌+◌, ◌-◌, ◌<◌, Bool, true, false, ◌&&◌, List, [], ◌∷◌, map, length, get_or, take, drop, refl, sym, ap, ◌∙◌, subst, arith}
 use Rattle.std.proofs.lemmas.Bool.{and_from, and_right, and_parts, false≢true}
 use Rattle.std.proofs.lemmas.List.{drop_more}
 use Rattle.wb_values.specs.Value as meaning
@@ -40,6 +40,15 @@ of_sorts-turn ns xs first count k d h c b =
     ∙ ap (λ r. are_of_sorts (take (suc m) r) (map as_value (drop k xs))) (drop_more ns (first + k) ([], truth) b)
     ∙ ap (λ ys. are_of_sorts (take (suc m) (get_or ns (first + k) ([], truth) ∷ drop (first + k + 1) ns)) (map as_value ys)) (drop_more xs k d h)
     ∙ ap (λ j. is_of_sort (sort_at ns (first + k)) (as_value (get_or xs k d)) && are_of_sorts (take m (drop j ns)) (map as_value (drop (k + 1) xs))) f
+
+-- as many names as there are values
+pub of_sorts-taken : (ns : Entries Sort) (n : ℕ) (xs : List meaning.Value) → AreOfSorts (take n ns) xs → AreOfSorts (take (length xs) ns) xs
+of_sorts-taken ns zero [] h = tt
+of_sorts-taken ns zero (x ∷ xs) h = absurd h
+of_sorts-taken [] (suc n) [] h = tt
+of_sorts-taken [] (suc n) (x ∷ xs) h = absurd h
+of_sorts-taken (m ∷ ns) (suc n) [] h = absurd h
+of_sorts-taken (m ∷ ns) (suc n) (x ∷ xs) h = (h.0, of_sorts-taken ns n xs h.1)
 
 pub states_checked : (p : Parts) (name : Name) (xs : List meaning.Value) (n : ℕ) (b : Bool) → n ≡ length p.initial_values.items → b ≡ are_of_sorts (take n (drop 0 p.terms.names)) xs → (b ≡ true → IsStateOf (model_from name p) xs) × (IsStateOf (model_from name p) xs → b ≡ true)
 states_checked p name xs n b e t =

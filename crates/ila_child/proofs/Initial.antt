@@ -4,30 +4,38 @@ use Rattle.std.proofs.lemmas.Bool.{and_from, and_parts, eq-eqb, lt-ltb, false≢
 use Rattle.std.proofs.lemmas.List.{length-replicate, get_or-drop}
 use Rattle.std.proofs.lemmas.Nat.{pow_pos}
 use Rattle.wb_values.specs.Value as meaning
-use Rattle.wb_values.specs.Value.{Sort, truth, word, memory, Entries, all_below, is_of_sort}
+use Rattle.wb_values.specs.Value.{Sort, truth, word, memory, Entries, HasSort, all_below, is_of_sort}
 use Rattle.model_meaning.specs.Model.{StateDeclaration, value_or}
 use Rattle.wb_terms.specs.declared.values.Value.{Value}
 use Rattle.wb_terms.specs.Environment.{as_value, AreOfSorts}
+use Rattle.term_evaluation.specs.Slots.{zero_of as zero_in}
 use Rattle.ila_model.specs.Sorted.{are_states, is_initial, is_top_initial, is_private_initial, sort_at}
 use Rattle.ila_model.specs.Meaning.{declared_states, zero_of}
 use Rattle.ila_child.specs.Values.{beginning}
 use Rattle.ila_child.specs.State.{sorts_of_states, initial_values}
 
--- the value with which a state begins that states one
-pub initial-stated : (ss : List StateDeclaration) (k : ℕ) (x d : meaning.Value) → option_map (λ (s : StateDeclaration). s.init) (slice_get ss k) ≡ Some (Some x) → get_or (initial_values ss) k d ≡ x
-initial-stated [] k x d e = absurd (cc)
-initial-stated (s ∷ ss) zero x d e =
-    let stated : s.init ≡ Some x = cc in
-    ap (λ o. value_or o (zero_of s.sort)) stated
-initial-stated (s ∷ ss) (suc k) x d e = initial-stated ss k x d e
-
-pub initial-zero : (ss : List StateDeclaration) (k : ℕ) (sort : Sort) (d : meaning.Value) → option_map (λ (s : StateDeclaration). s.init) (slice_get ss k) ≡ Some None → option_map (λ (s : StateDeclaration). s.sort) (slice_get ss k) ≡ Some sort → get_or (initial_values ss) k d ≡ zero_of sort
-initial-zero [] k sort d e f = absurd (cc)
-initial-zero (s ∷ ss) zero sort d e f =
-    let none : s.init ≡ None = cc in
+-- the value with which a state begins
+pub initial-at : (ss : List StateDeclaration) (k : ℕ) (i : Option meaning.Value) (sort : Sort) (d : meaning.Value) → option_map (λ (s : StateDeclaration). s.init) (slice_get ss k) ≡ Some i → option_map (λ (s : StateDeclaration). s.sort) (slice_get ss k) ≡ Some sort → get_or (initial_values ss) k d ≡ value_or i (zero_of sort)
+initial-at [] k i sort d e f = absurd (cc)
+initial-at (s ∷ ss) zero i sort d e f =
+    let stated : s.init ≡ i = cc in
     let same : s.sort ≡ sort = cc in
-    ap (λ o. value_or o (zero_of s.sort)) none ∙ ap zero_of same
-initial-zero (s ∷ ss) (suc k) sort d e f = initial-zero ss k sort d e f
+    ap (λ o. value_or o (zero_of s.sort)) stated ∙ ap (λ t. value_or i (zero_of t)) same
+initial-at (s ∷ ss) (suc k) i sort d e f = initial-at ss k i sort d e f
+
+pub initial_sort-at : (ss : List StateDeclaration) (k : ℕ) (i : Option meaning.Value) (sort : Sort) → AreOfSorts (sorts_of_states ss) (initial_values ss) → option_map (λ (s : StateDeclaration). s.init) (slice_get ss k) ≡ Some i → option_map (λ (s : StateDeclaration). s.sort) (slice_get ss k) ≡ Some sort → HasSort (value_or i (zero_of sort)) sort
+initial_sort-at [] k i sort a e f = absurd (cc)
+initial_sort-at (s ∷ ss) zero i sort a e f =
+    let stated : s.init ≡ i = cc in
+    let same : s.sort ≡ sort = cc in
+    subst (λ t. HasSort (value_or i (zero_of t)) t) same (subst (λ o. HasSort (value_or o (zero_of s.sort)) s.sort) stated a.0)
+initial_sort-at (s ∷ ss) (suc k) i sort a e f = initial_sort-at ss k i sort a.1 e f
+
+-- the zeros of shared values are those of models
+pub same_zero : (s : Sort) → zero_in s ≡ zero_of s
+same_zero truth = refl
+same_zero (word w) = refl
+same_zero (memory a d) = refl
 
 zeros_below : (d n : ℕ) → all_below d (replicate n 0) ≡ true
 zeros_below d zero = refl

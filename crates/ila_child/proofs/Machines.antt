@@ -1,6 +1,6 @@
 -- Lemmas on the steps of a machine: which instruction decodes, and what it does.
-use Rattle.std.proofs.Common.{◌≡◌, ◌≢◌, ℕ, zero, suc, ◌+◌, ◌<◌, ◌≤◌, Bool, true, false, List, [], ◌∷◌, map, length, get_or, Option, Some, None, inl, inr, refl, sym, ap, ◌∙◌, subst, arith}
-use Rattle.std.specs.Prelude.{◌==◌, nat_le, nat_lt}
+use Rattle.std.proofs.Common.{◌≡◌, ℕ, zero, suc, ◌<◌, ◌≤◌, true, false, List, [], ◌∷◌, length, get_or, Option, Some, None, inl, inr, refl, sym, ap, ◌∙◌, subst, arith}
+use Rattle.std.specs.Prelude.{nat_le, nat_lt}
 use mathlib.Core.Path.{fun_ext}
 use Rattle.std.proofs.lemmas.Bool.{and_parts, and_from, ltb-true, eqb-true, false≢true}
 use Rattle.wb_values.specs.Value as meaning
@@ -17,8 +17,8 @@ use Rattle.ila_model.specs.declared.parts.Child.{Child}
 use Rattle.ila_model.specs.declared.parts.Instruction.{Instruction}
 use Rattle.ila_model.specs.declared.parts.Parts.{Parts}
 use Rattle.ila_model.specs.Scope.{nesting, around}
-use Rattle.ila_model.specs.Sorted.{is_term_of, is_read_at, is_condition, are_updates, is_instruction, same_place, is_link, child_after, are_instructions, is_machine}
-use Rattle.ila_model.specs.Meaning.{update_of, instruction_of, instructions_of}
+use Rattle.ila_model.specs.Sorted.{is_term_of, is_condition, are_updates, is_instruction, same_place, is_link, child_after, are_instructions}
+use Rattle.ila_model.specs.Meaning.{instruction_of, instructions_of}
 use Rattle.ila_model.proofs.Declarations.{AreSorted}
 use Rattle.ila_child.specs.declared.decoding.Decoded.TheVariants.{Several}
 use Rattle.ila_child.specs.Decoding.{decodes, are_conditions, IsFound, IsOnlyFound, AreDecoded}

@@ -1,5 +1,5 @@
 -- Lemmas on a model that takes one step after another: the values of its names before a step, and after it.
-use Rattle.std.proofs.Common.{◌≡◌, ℕ, zero, suc, ◌+◌, ◌-◌, ◌<◌, ◌≤◌, List, [], ◌∷◌, ◌++◌, length, get_or, set, take, drop, Option, Some, None, slice_get, refl, sym, ap, ◌∙◌, subst, arith}
+use Rattle.std.proofs.Common.{◌≡◌, ℕ, zero, suc, ◌+◌, ◌-◌, ◌<◌, ◌≤◌, List, [], ◌∷◌, ◌++◌, length, get_or, set, take, drop, Option, Some, None, refl, sym, ap, ◌∙◌, subst, arith, append_assoc}
 use Rattle.std.proofs.lemmas.Bool.{and_parts}
 use Rattle.std.proofs.lemmas.List.{get_or-take, get_or-drop, get_or-set_same, drop_more, length-set, length-take, take_at}
 use Rattle.wb_values.specs.Value as meaning
@@ -11,7 +11,8 @@ use Rattle.ila_model.specs.declared.parts.Instruction.{Instruction}
 use Rattle.ila_model.specs.declared.parts.Parts.{Parts}
 use Rattle.ila_model.specs.Scope.{nesting}
 use Rattle.ila_model.specs.Sorted.{sort_at, is_condition}
-use Rattle.ila_model.specs.Meaning.{program_of}
+use Rattle.term_evaluation.specs.Slots.{zero_of as zero_in}
+use Rattle.ila_model.specs.Meaning.{zero_of, program_of}
 use Rattle.ila_model.proofs.Declarations.{AreSorted}
 use Rattle.ila_child.specs.declared.running.Trouble.{Trouble}
 use Rattle.ila_child.specs.declared.running.Trouble.TheVariants.{Stuck, TooLong}
@@ -22,8 +23,13 @@ use Rattle.ila_child.specs.Runs.{stepped_of, Stays, with_values}
 use Rattle.ila_child.proofs.Updates.{AreOfSorts-length, AreOfSorts-at, AreOfSorts-set}
 use Rattle.ila_child.proofs.Points.{updated_point}
 use Rattle.ila_child.proofs.Machines.{IsSorted, sorted_at}
+use Rattle.ila_child.proofs.Initial.{same_zero}
 use Rattle.ila_child.proofs.Effects.{found_at}
 use Rattle.ila_child.proofs.Starts.{AreOfSorts-append, zeros_sorted, whole, first_values}
+
+append_nothing : (vs : List meaning.Value) → vs ++ [] ≡ vs
+append_nothing [] = refl
+append_nothing (v ∷ vs) = ap (λ (ws : List meaning.Value). v ∷ ws) (append_nothing vs)
 
 take_set : (xs : List meaning.Value) (n k : ℕ) (w : meaning.Value) → n ≤ k → take n (set xs k w) ≡ take n xs
 take_set xs zero k w h = refl
@@ -122,7 +128,9 @@ put_back-turn [] xs k a b = absurd (omega arith)
 put_back-turn (v ∷ kept) [] k a b = absurd (omega arith)
 put_back-turn (v ∷ kept) (x ∷ xs) zero a b = refl
 put_back-turn (v ∷ kept) (x ∷ xs) (suc k) a b =
+    let e : suc (k + 1) ≡ suc k + 1 = omega arith in
     ap (λ (ys : List meaning.Value). v ∷ ys) (put_back-turn kept xs k (omega arith) (omega arith))
+    ∙ ap (λ (j : ℕ). take j (v ∷ kept) ++ drop j (x ∷ xs)) e
 
 -- what the program of an instruction does after its updates is what the instruction does
 pub gone_on : (p : Parts) (s : AreSorted p) (k : ℕ) (x : Instruction) (e f h : List meaning.Value) (o : Option Trouble) → k < length p.instructions.items → x ≡ get_or p.instructions.items k x
@@ -170,12 +178,30 @@ point_set p s w xs ys a b l e =
     }
 
 -- the first values that were put aside are those of the state
-pub put_back_state : (n : ℕ) (xs aside ys zs : List meaning.Value) → n ≤ length xs → aside ≡ take n xs → zs ≡ take n aside ++ drop n ys → take n zs ≡ take n xs
-put_back_state n xs aside ys zs h e f =
-    let same : take n aside ≡ take n xs = ap (take n) e ∙ take_take n xs in
-    ap (take n) (f ∙ ap (λ (vs : List meaning.Value). vs ++ drop n ys) same) ∙ take_at (take n xs) (drop n ys) n (omega (arith, h, length-take n xs))
+pub put_back_values : (n : ℕ) (xs aside ys zs : List meaning.Value) → aside ≡ take n xs → zs ≡ take n aside ++ drop n ys → zs ≡ take n xs ++ drop n ys
+put_back_values n xs aside ys zs e f = f ∙ ap (λ (vs : List meaning.Value). vs ++ drop n ys) (ap (take n) e ∙ take_take n xs)
   where
     take_take : (m : ℕ) (vs : List meaning.Value) → take m (take m vs) ≡ take m vs
     take_take zero vs = refl
     take_take (suc m) [] = refl
     take_take (suc m) (v ∷ vs) = ap (λ (ws : List meaning.Value). v ∷ ws) (take_take m vs)
+
+pub put_back_state : (n : ℕ) (xs aside ys zs : List meaning.Value) → n ≤ length xs → aside ≡ take n xs → zs ≡ take n aside ++ drop n ys → take n zs ≡ take n xs
+put_back_state n xs aside ys zs h e f =
+    ap (take n) (put_back_values n xs aside ys zs e f) ∙ take_at (take n xs) (drop n ys) n (omega (arith, h, length-take n xs))
+
+-- the zero of one name more
+pub zeros-turn : (ns : Entries Sort) (xs ys : List meaning.Value) (k : ℕ) (s : Sort) → k < length ns → s ≡ sort_at ns k → ys ≡ xs ++ zero_in s ∷ [] → ys ++ zeros_of (drop (k + 1) ns) ≡ xs ++ zeros_of (drop k ns)
+zeros-turn ns xs ys k s h e f =
+    let v : zero_in s ≡ zero_of (sort_at ns k) = same_zero s ∙ ap zero_of e in
+    ap (λ (vs : List meaning.Value). vs ++ zeros_of (drop (k + 1) ns)) f
+    ∙ append_assoc xs (zero_in s ∷ []) (zeros_of (drop (k + 1) ns))
+    ∙ ap (λ (x : meaning.Value). xs ++ (x ∷ zeros_of (drop (k + 1) ns))) v
+    ∙ sym (ap (λ (ms : Entries Sort). xs ++ zeros_of ms) (drop_more ns k ([], truth) h))
+
+-- no name is left
+pub zeros_left : (ns : Entries Sort) (xs : List meaning.Value) (k : ℕ) → length ns ≤ k → xs ++ zeros_of (drop k ns) ≡ xs
+zeros_left [] xs zero h = append_nothing xs
+zeros_left [] xs (suc k) h = append_nothing xs
+zeros_left (n ∷ ns) xs zero h = absurd (omega arith)
+zeros_left (n ∷ ns) xs (suc k) h = zeros_left ns xs k (omega arith)

@@ -1,12 +1,11 @@
 -- Lemmas on the point at which a step begins, and on the state that it leads to.
-use Rattle.std.proofs.Common.{◌≡◌, ◌≢◌, ℕ, zero, suc, ◌+◌, ◌-◌, ◌<◌, ◌≤◌, Bool, true, false, cond, List, [], ◌∷◌, ◌++◌, map, length, get_or, take, drop, Option, Some, None, is_some, slice_get, inl, inr, refl, sym, ap, ◌∙◌, subst, arith}
+use Rattle.std.proofs.Common.{◌≡◌, ℕ, zero, suc, ◌+◌, ◌-◌, ◌<◌, ◌≤◌, true, false, cond, List, [], ◌∷◌, ◌++◌, length, get_or, take, drop, Option, None, is_some, inl, inr, refl, sym, ap, ◌∙◌, subst, arith}
 use Rattle.std.specs.Prelude.{◌==◌}
 use Rattle.std.proofs.lemmas.Bool.{and_parts, eqb-true}
-use Rattle.std.proofs.lemmas.List.{get_or-take, get_or-drop, length-append, length-take, length-drop}
+use Rattle.std.proofs.lemmas.List.{get_or-take, get_or-drop, length-take, length-drop}
 use Rattle.wb_values.specs.Value as meaning
 use Rattle.wb_values.specs.Value.{Name, Sort, truth, number, Entries, entry_of, Valuation, valuation_of, HasSort}
-use Rattle.model_meaning.specs.Model as pure
-use Rattle.model_meaning.specs.Model.{StateDeclaration, InputDeclaration, is_input_name, state_named, point_of, states_of}
+use Rattle.model_meaning.specs.Model.{StateDeclaration, state_named, point_of}
 use Rattle.model_meaning.specs.Instruction.{own_states}
 use Rattle.wb_terms.specs.declared.values.Value.{Value}
 use Rattle.wb_terms.specs.Environment.{AreOfSorts, values_by_name}
@@ -16,7 +15,7 @@ use Rattle.ila_model.specs.declared.scopes.Scope.{Scope}
 use Rattle.ila_model.specs.declared.scopes.Scope.TheVariants.{Anywhere, Within}
 use Rattle.ila_model.specs.Scope.{nesting, is_around, may_read, home, private_scopes, name_scopes, tops}
 use Rattle.ila_model.specs.Sorted.{are_distinct, are_placed, sort_at, name_at}
-use Rattle.ila_model.specs.Meaning.{zero_of, declared_states, declared_inputs, model_from}
+use Rattle.ila_model.specs.Meaning.{declared_states, declared_inputs, model_from}
 use Rattle.ila_model.proofs.Declarations.{AreSorted}
 use Rattle.ila_child.specs.State.{sorts_of_states, sorts_of_inputs, IsStateOf, AreInputsOf, state_valuation, input_valuation}
 use Rattle.ila_child.specs.Updating.{value_at}

@@ -1,5 +1,5 @@
 -- Lemmas on one step of a model whose names have values: what each answer says of its state and inputs.
-use Rattle.std.proofs.Common.{◌≡◌, ◌∙◌, ℕ, ◌<◌, ◌≤◌, Bool, true, false, List, length, take, Option, Some, None, refl, sym, ap, subst, arith}
+use Rattle.std.proofs.Common.{◌≡◌, ◌∙◌, ℕ, ◌≤◌, Bool, true, false, List, length, take, None, sym, ap, subst, arith}
 use Rattle.std.proofs.lemmas.Bool.{and_parts, false≢true}
 use Rattle.wb_values.specs.Value as meaning
 use Rattle.wb_values.specs.Value.{Name, Valuation}
@@ -7,14 +7,12 @@ use Rattle.model_meaning.specs.Model.{holds, point_of}
 use Rattle.wb_terms.specs.Graph.{tree}
 use Rattle.wb_terms.specs.Environment.{AreOfSorts}
 use Rattle.term_evaluation.specs.Links.{valuation_at}
-use Rattle.ila_model.specs.declared.parts.Instruction.{Instruction}
 use Rattle.ila_model.specs.declared.parts.Parts.{Parts}
 use Rattle.ila_model.specs.Scope.{nesting}
 use Rattle.ila_model.specs.Sorted.{is_condition}
 use Rattle.ila_model.specs.Meaning.{model_from}
 use Rattle.ila_model.proofs.Declarations.{AreSorted}
 use Rattle.ila_child.specs.declared.decoding.Decoded.TheVariants.{Several}
-use Rattle.ila_child.specs.declared.runs.Moved.{Moved}
 use Rattle.ila_child.specs.declared.stepping.Stepped.{Stepped}
 use Rattle.ila_child.specs.declared.stepping.Stepped.TheVariants.{NotValid, NoInstruction}
 use Rattle.ila_child.specs.declared.stepping.Stepped.TheVariants.{Several as SeveralDecode}
@@ -23,7 +21,7 @@ use Rattle.ila_child.specs.State.{IsStateOf, AreInputsOf, state_valuation, input
 use Rattle.ila_child.specs.Step.{IsStepped}
 use Rattle.ila_child.specs.Running.{seen, point_at}
 use Rattle.ila_child.specs.Start.{IsStart}
-use Rattle.ila_child.specs.Runs.{stepped_of, with_values}
+use Rattle.ila_child.specs.Runs.{with_values}
 use Rattle.ila_child.proofs.Machines.{holds_same, decodes_same}
 use Rattle.ila_child.proofs.Starts.{given, start_point, first_values, state_sorted}
 use Rattle.ila_child.proofs.Movement.{point_set, with_values-front}

@@ -1,6 +1,6 @@
 -- Lemmas on updates by the places of names.
 use Rattle.std.proofs.Common.{◌≡◌, ℕ, zero, suc, ◌+◌, ◌<◌, ◌≤◌, true, cond, nat_le, nat_lt, nat_eq, List, [], ◌∷◌, ◌++◌, map, length, get_or, set, drop, take, Option, Some, None, inl, inr, refl, sym, ap, ◌∙◌, subst, arith, append_assoc}
-use Rattle.std.proofs.lemmas.Bool.{cases_eq, and_parts, and_from, leb-true, le-leb, ltb-true, lt-ltb, eq-eqb, eqb-true, ne_eqb, false≢true}
+use Rattle.std.proofs.lemmas.Bool.{cases_eq, and_parts, and_from, leb-true, le-leb, ltb-true, eq-eqb, eqb-true, ne_eqb, false≢true}
 use Rattle.std.proofs.lemmas.List.{get_or-set_same, get_or-set_other, drop_more, drop_at, take_more, map-append}
 use Rattle.std.proofs.Math.ListN.{length-set}
 use Rattle.wb_values.specs.Value as meaning
@@ -9,9 +9,6 @@ use Rattle.model_meaning.specs.Term.{same_sort, sort_of, val}
 use Rattle.model_meaning.specs.Model.{updated_value}
 use Rattle.wb_terms.specs.declared.values.Value.{Value}
 use Rattle.wb_terms.specs.Graph.{Graph, tree}
-use Rattle.term_evaluation.specs.Points.{PointView, HasRoom}
-use Rattle.wb_bits.specs.declared.Word.{Word}
-use Rattle.sparse_memories.specs.declared.pool.Memory.{Memory}
 use Rattle.wb_terms.specs.Environment.{HasSortOf, AreOfSorts}
 use Rattle.ila_model.specs.declared.parts.Update.{Update}
 use Rattle.ila_model.specs.declared.parts.Parts.{Parts}
@@ -184,12 +181,9 @@ length-values_of_updates g p [] = refl
 length-values_of_updates g p (u ∷ us) = ap suc (length-values_of_updates g p us)
 
 -- nothing was put aside yet
-pub kept_none : (x : PointView) → x ≡ record x { aside = x.aside ++ [] }
-kept_none x = ap (λ (vs : List meaning.Value). record x { aside = vs }) (sym (append_nothing x.aside))
-  where
-    append_nothing : (vs : List meaning.Value) → vs ++ [] ≡ vs
-    append_nothing [] = refl
-    append_nothing (v ∷ vs) = ap (λ (ws : List meaning.Value). v ∷ ws) (append_nothing vs)
+pub kept_none : (vs : List meaning.Value) → vs ≡ vs ++ []
+kept_none [] = refl
+kept_none (v ∷ vs) = ap (λ (ws : List meaning.Value). v ∷ ws) (kept_none vs)
 
 -- the updates of a machine, as far as its evaluation needs
 pub are_updates-of : (p : Parts) (at : Option ℕ) (from : ℕ) (us : List Update) → are_updates p at from us ≡ true → are_updates_of p.terms from us ≡ true
@@ -201,11 +195,6 @@ are_updates-of p at from (u ∷ us) h =
     let d = and_parts (nat_lt u.state.0 (length p.terms.names)) _ b.0 in
     let e = and_parts (is_term_of p.terms (sort_at p.terms.names u.state.0) u.term.0) _ c.0 in
     and_from _ _ a.0 (and_from _ _ d.0 (and_from _ _ e.0 (are_updates-of p at (suc u.state.0) us c.1)))
-
--- a point with as many words and links has the same room
-pub room_kept : (g : Graph) (x y : PointView) → y.words ≡ x.words → y.links ≡ x.links → HasRoom g x → HasRoom g y
-room_kept g x y e f r =
-    (subst (λ (ws : List Word). length g.nodes ≤ length ws) (sym e) r.0, subst (λ (ls : List Memory). length g.nodes ≤ length ls) (sym f) r.1)
 
 -- one private state begins
 pub with_initial-turn : (ns : Entries Sort) (from : ℕ) (is : List (Option Value)) (k : ℕ) (d : Option Value) (xs : List meaning.Value) → k < length is → with_initial ns (from + (k + 1)) (drop (k + 1) is) (set xs (from + k) (beginning (sort_at ns (from + k)) (get_or is k d))) ≡ with_initial ns (from + k) (drop k is) xs

@@ -1,5 +1,5 @@
 -- A machine's steps and programs at the values of all names.
-use Rattle.std.specs.Prelude.{ℕ, zero, suc, ◌-◌, ◌<◌, ◌≤◌, ◌≡◌, Bool, true, cond, List, length, ⊤, Option, Some, None, IsTrue, IsFalse}
+use Rattle.std.specs.Prelude.{ℕ, zero, suc, ◌-◌, ◌<◌, ◌≤◌, ◌≡◌, cond, List, length, ⊤, Option, Some, None, IsTrue, IsFalse}
 use Rattle.wb_values.specs.Value as meaning
 use Rattle.wb_values.specs.Value.{number, Valuation, valuation_of}
 use Rattle.model_meaning.specs.Model as pure

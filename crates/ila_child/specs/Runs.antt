@@ -2,7 +2,7 @@
 use Rattle.std.specs.Prelude.{ℕ, suc, ◌≡◌, List, [], ◌∷◌, length, take, ⊤, slice_set}
 use Rattle.wb_values.specs.Value as meaning
 use Rattle.wb_terms.specs.Environment.{AreOfSorts}
-use Rattle.term_evaluation.specs.Points.{HasRoom}
+use Rattle.term_evaluation.specs.Points.{IsPointOf}
 use Rattle.ila_model.specs.declared.parts.Parts.{Parts}
 use Rattle.ila_child.specs.declared.runs.Runner.{Runner}
 use Rattle.ila_child.specs.declared.runs.Moved.{Moved}
@@ -10,10 +10,10 @@ use Rattle.ila_child.specs.declared.runs.Moved.TheVariants.{Next, NotValid, NoIn
 use Rattle.ila_child.specs.declared.stepping.Stepped.{Stepped}
 use Rattle.ila_child.specs.declared.stepping.Stepped.TheVariants.{Next as NextState, NotValid as NotValidThere, NoInstruction as NoInstructionThere, Several as SeveralThere, ChildStuck as ChildStuckThere, ChildTooLong as ChildTooLongThere}
 
--- Its names have values of their sorts, and there is room for all terms.
+-- Its names have values of their sorts, and its point is one of the model's terms.
 pub record IsRunnerOf (p : Parts) (r : Runner) : Type 0 where
   pub fits : AreOfSorts p.terms.names r.point.values
-  pub room : HasRoom p.terms r.point
+  pub point : IsPointOf p.terms r.point
 
 -- its state
 abbrev pub state_in : Parts → Runner → List meaning.Value

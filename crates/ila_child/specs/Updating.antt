@@ -1,5 +1,5 @@
 -- The values of the names after updates, and after private states have begun.
-use Rattle.std.specs.Prelude.{ℕ, suc, ◌<◌, ◌≡◌, Bool, true, ◌&&◌, nat_le, nat_lt, cond, ◌==◌, List, [], ◌∷◌, map, length, ⊤, Option, Some, None, slice_index_or, slice_set}
+use Rattle.std.specs.Prelude.{ℕ, suc, Bool, true, ◌&&◌, nat_le, nat_lt, cond, ◌==◌, List, [], ◌∷◌, map, length, ⊤, Option, Some, None, slice_index_or, slice_set}
 use Rattle.wb_values.specs.Value as meaning
 use Rattle.wb_values.specs.Value.{Sort, Entries, number, Valuation, HasSort}
 use Rattle.model_meaning.specs.Term.{Term, val}

@@ -39,9 +39,9 @@ pub fn apply(
     let mut point = first_point(alloc, model, state)?;
     let terms = &model.parts.terms;
     set_inputs(alloc, model, &mut point, inputs.values())?;
-    point.evaluate(alloc, terms)?;
+    point.let_go(alloc)?;
     let instruction = &model.parts.instructions[place];
-    let decodes = holds_at(terms, &point, instruction.decode);
+    let decodes = holds_at(terms, &mut point, instruction.decode)?;
     let moved = start_or_stay(alloc, model, place, &mut point)?;
     let runner = Runner { point };
     Ok(Applied {

@@ -1,14 +1,14 @@
-//! Values of terms: of a model's at a point that holds them, and of others by one pass over their store under an environment.
+//! Values of terms: of a model's at a point, and of others by one pass over their store under an environment.
 
 ghost use Rattle.std.specs.Prelude.{◌≡◌, ◌<◌, true, length, IfOk};
 ghost use Rattle.wb_values.specs.Value.{truth, as_words};
 ghost use Rattle.model_meaning.specs.Term.{sort_of};
 ghost use Rattle.model_meaning.specs.Model.{holds};
 ghost use Rattle.wb_terms.specs.Graph.{tree};
-ghost use Rattle.wb_terms.specs.Environment.{Fits, HasSortOf, valuation, value_of, as_value};
+ghost use Rattle.wb_terms.specs.Environment.{AreOfSorts, Fits, HasSortOf, valuation, value_of, as_value};
 ghost use Rattle.wb_terms.specs.Held.{Holds};
 ghost use Rattle.term_evaluation.specs.Links.{valuation_at};
-ghost use Rattle.term_evaluation.specs.Points.{AreHeldAt, HasRoom};
+ghost use Rattle.term_evaluation.specs.Points.{IsPointOf};
 ghost use Rattle.ila_model.specs.Sorted.{is_term_of};
 ghost use Rattle.ila_child.specs.Values.{IsMemoryOf};
 
@@ -17,13 +17,17 @@ use term_evaluation::Point;
 use wb_terms::{Env, Evaluated, NoMemory, Sort, TermId, Terms, Value};
 
 /// Whether a condition holds at a point.
-pub(crate) fn holds_at(terms: &Terms, point: &Point, id: TermId) -> bool
+pub(crate) fn holds_at(terms: &Terms, point: &mut Point, id: TermId) -> Result<bool, NoMemory>
     requires condition { is_term_of terms.now truth id.0 ≡ true }
-    requires room { HasRoom terms.now point.now }
-    requires held { AreHeldAt terms.now point.now }
-    ensures { result ≡ holds (tree terms.now id.0) (valuation_at terms.now point.now.values) }
+    requires point { IsPointOf terms.now point.old }
+    requires fits { AreOfSorts terms.now.names point.old.values }
+    ensures holds { IfOk result (λ b. b ≡ holds (tree terms.now id.0) (valuation_at terms.now point.old.values)) }
+    ensures values { point.new.values ≡ point.old.values }
+    ensures aside { point.new.aside ≡ point.old.aside }
+    ensures point { IsPointOf terms.now point.new }
 {
-    point.number(terms, id) == 1
+    let number = point.number(terms, id)?;
+    Ok(number == 1)
 }
 
 /// Whether a condition holds.

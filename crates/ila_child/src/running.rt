@@ -2,7 +2,7 @@
 
 ghost use Rattle.std.specs.Prelude.{◌≡◌, true, IfOk, OnOk};
 ghost use Rattle.wb_terms.specs.Environment.{AreOfSorts};
-ghost use Rattle.term_evaluation.specs.Points.{HasRoom};
+ghost use Rattle.term_evaluation.specs.Points.{IsPointOf};
 ghost use Rattle.ila_model.specs.Sorted.{is_machine};
 ghost use Rattle.ila_child.specs.Running.{HasDepth, IsDeep, IsLinked, IsTaken, IsRun};
 
@@ -44,19 +44,21 @@ fn take(
 ) -> Result<Taken, NoMemory>
     requires deep { IsDeep model.now.parts.children.items at }
     requires machine { is_machine model.now.parts at valid.0 instructions.now ≡ true }
-    requires room { HasRoom model.now.parts.terms point.old }
+    requires point { IsPointOf model.now.parts.terms point.old }
     requires fits { AreOfSorts model.now.parts.terms.names point.old.values }
     ensures taken { IfOk result (IsTaken model.now.parts at valid.0 instructions.now point.old.values point.new.values) }
     ensures aside { OnOk result (point.new.aside ≡ point.old.aside) }
     ensures fits { OnOk result (AreOfSorts model.now.parts.terms.names point.new.values) }
-    ensures room { OnOk result (HasRoom model.now.parts.terms point.new) }
+    ensures point { OnOk result (IsPointOf model.now.parts.terms point.new) }
 {
     let terms = &model.parts.terms;
-    point.evaluate(alloc, terms)?;
-    if !holds_at(terms, point, valid) {
+    point.let_go(alloc)?;
+    let is_valid = holds_at(terms, point, valid)?;
+    if !is_valid {
         return Ok(Taken::NotValid);
     }
-    match find_decoded(terms, point, instructions) {
+    let decoded = find_decoded(terms, point, instructions)?;
+    match decoded {
         Decoded::One(place) => {
             let instruction = &instructions[place];
             update(terms, point, &instruction.updates)?;
@@ -79,12 +81,12 @@ pub(crate) fn run_program(
 ) -> Result<Option<Trouble>, NoMemory>
     requires depth { HasDepth model.now.parts.children.items depth at }
     requires linked { IsLinked model.now.parts.children.items at program }
-    requires room { HasRoom model.now.parts.terms point.old }
+    requires point { IsPointOf model.now.parts.terms point.old }
     requires fits { AreOfSorts model.now.parts.terms.names point.old.values }
     ensures run { IfOk result (IsRun model.now.parts at depth program point.old.values point.new.values) }
     ensures aside { OnOk result (point.new.aside ≡ point.old.aside) }
     ensures fits { OnOk result (AreOfSorts model.now.parts.terms.names point.new.values) }
-    ensures room { OnOk result (HasRoom model.now.parts.terms point.new) }
+    ensures point { OnOk result (IsPointOf model.now.parts.terms point.new) }
 {
     let Some(id) = program else {
         return Ok(None);
@@ -112,8 +114,8 @@ pub(crate) fn run_program(
             }
         }
     }
-    point.evaluate(alloc, terms)?;
-    if holds_at(terms, point, child.valid) {
+    let is_valid = holds_at(terms, point, child.valid)?;
+    if is_valid {
         Ok(Some(Trouble::TooLong(depth + 1)))
     } else {
         Ok(None)

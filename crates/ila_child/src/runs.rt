@@ -1,9 +1,10 @@
 //! A model that takes one step after another, with its state kept in place.
 
 ghost use Rattle.std.specs.Prelude.{◌≡◌, ◌<◌, ◌≤◌, ◌++◌, None, IfOk, OnOk, length, map, take, drop, slice_index_or};
+ghost use Rattle.wb_terms.specs.Graph.{Graph};
 ghost use Rattle.wb_terms.specs.Environment.{AreOfSorts, as_value};
 ghost use Rattle.wb_values.specs.Value.{number};
-ghost use Rattle.term_evaluation.specs.Points.{AreHeldAt, HasRoom};
+ghost use Rattle.term_evaluation.specs.Points.{IsPointOf};
 ghost use Rattle.term_evaluation.specs.Slots.{IsShownAs};
 ghost use Rattle.ila_model.specs.Model.{model_of};
 ghost use Rattle.ila_child.specs.State.{IsStateOf, AreInputsOf};
@@ -74,11 +75,13 @@ impl Runner {
     {
         let terms = &model.parts.terms;
         set_inputs(alloc, model, &mut self.point, inputs.values())?;
-        self.point.evaluate(alloc, terms)?;
-        if !holds_at(terms, &self.point, model.parts.valid) {
+        self.point.let_go(alloc)?;
+        let is_valid = holds_at(terms, &mut self.point, model.parts.valid)?;
+        if !is_valid {
             return Ok(Moved::NotValid);
         }
-        match find_decoded(terms, &self.point, &model.parts.instructions) {
+        let decoded = find_decoded(terms, &mut self.point, &model.parts.instructions)?;
+        match decoded {
             Decoded::Nothing => Ok(Moved::NoInstruction),
             Decoded::Several(first, second) => Ok(Moved::Several(first, second)),
             Decoded::One(place) => {
@@ -139,11 +142,12 @@ impl Runner {
 pub(crate) fn first_point(alloc: Global, model: &IlaModel, state: &State) -> Result<Point, NoMemory>
     requires { IsStateOf (model_of model.now) state.now }
     ensures values { IfOk result (λ x. x.values ≡ state.now ++ zeros_of (drop (length state.now) model.now.parts.terms.names)) }
-    ensures room { IfOk result (HasRoom model.now.parts.terms) }
+    ensures point { IfOk result (IsPointOf model.now.parts.terms) }
 {
     let mut values = state.values().copy(alloc)?;
     push_zeros(&model.parts.terms, &mut values)?;
-    Point::new(alloc, &model.parts.terms, values)
+    let point = Point::new(alloc, &model.parts.terms, values)?;
+    Ok(point)
 }
 
 /// Appends the zeros of the names after those that have values.
@@ -165,11 +169,11 @@ pub(crate) fn set_inputs(
 ) -> Result<(), NoMemory>
     requires inputs { AreInputsOf (model_of model.now) (map as_value values.now) }
     requires fits { AreOfSorts model.now.parts.terms.names point.old.values }
-    requires room { HasRoom model.now.parts.terms point.old }
+    requires point { IsPointOf model.now.parts.terms point.old }
     ensures values { OnOk result (point.new.values ≡ with_values (length model.now.parts.initial_values.items) (map as_value values.now) point.old.values) }
     ensures fits { OnOk result (AreOfSorts model.now.parts.terms.names point.new.values) }
     ensures aside { point.new.aside ≡ point.old.aside }
-    ensures room { OnOk result (HasRoom model.now.parts.terms point.new) }
+    ensures point { OnOk result (IsPointOf model.now.parts.terms point.new) }
 {
     let terms = &model.parts.terms;
     let _names = terms.name_count();
@@ -189,12 +193,11 @@ pub(crate) fn start_or_stay(
     point: &mut Point,
 ) -> Result<Moved, NoMemory>
     requires place { place < length model.now.parts.instructions.items }
-    requires room { HasRoom model.now.parts.terms point.old }
-    requires held { AreHeldAt model.now.parts.terms point.old }
+    requires point { IsPointOf model.now.parts.terms point.old }
     requires fits { AreOfSorts model.now.parts.terms.names point.old.values }
     ensures started { IfOk result (λ a. IsStart model.now.parts (seen model.now.parts None point.old.values) place (stepped_of a (take (length model.now.parts.initial_values.items) point.new.values))) }
     ensures stays { IfOk result (λ a. Stays a (take (length model.now.parts.initial_values.items) point.old.values) (take (length model.now.parts.initial_values.items) point.new.values)) }
-    ensures room { OnOk result (HasRoom model.now.parts.terms point.new) }
+    ensures point { OnOk result (IsPointOf model.now.parts.terms point.new) }
     ensures fits { OnOk result (AreOfSorts model.now.parts.terms.names point.new.values) }
 {
     point.forget(0);
@@ -218,12 +221,11 @@ fn start(
     point: &mut Point,
 ) -> Result<Option<Trouble>, NoMemory>
     requires place { place < length model.now.parts.instructions.items }
-    requires room { HasRoom model.now.parts.terms point.old }
-    requires held { AreHeldAt model.now.parts.terms point.old }
+    requires point { IsPointOf model.now.parts.terms point.old }
     requires fits { AreOfSorts model.now.parts.terms.names point.old.values }
     ensures started { IfOk result (IsGoingOn model.now.parts (seen model.now.parts None point.old.values) place point.new.values) }
     ensures aside { OnOk result (point.new.aside ≡ point.old.aside) }
-    ensures room { OnOk result (HasRoom model.now.parts.terms point.new) }
+    ensures point { OnOk result (IsPointOf model.now.parts.terms point.new) }
     ensures fits { OnOk result (AreOfSorts model.now.parts.terms.names point.new.values) }
 {
     let instruction = &model.parts.instructions[place];
@@ -235,7 +237,9 @@ fn start(
 /// Puts the values of the first names aside.
 fn keep_states(point: &mut Point, count: usize) -> Result<(), NoMemory>
     requires { count ≤ length point.old.values }
-    ensures { OnOk result (point.new ≡ record point.old { aside = point.old.aside ++ take count point.old.values }) }
+    ensures aside { OnOk result (point.new.aside ≡ point.old.aside ++ take count point.old.values) }
+    ensures values { point.new.values ≡ point.old.values }
+    ensures point { (g : Graph) → IsPointOf g point.old → IsPointOf g point.new }
 {
     for k in 0..count {
         point.keep_name(k)?;
@@ -247,7 +251,9 @@ fn keep_states(point: &mut Point, count: usize) -> Result<(), NoMemory>
 fn put_back(point: &mut Point, count: usize)
     requires values { count ≤ length point.old.values }
     requires kept { count ≤ length point.old.aside }
-    ensures { point.new ≡ record point.old { values = take count point.old.aside ++ drop count point.old.values } }
+    ensures values { point.new.values ≡ take count point.old.aside ++ drop count point.old.values }
+    ensures aside { point.new.aside ≡ point.old.aside }
+    ensures point { (g : Graph) → IsPointOf g point.old → IsPointOf g point.new }
 {
     for k in 0..count {
         point.put(k, k);

@@ -1,11 +1,15 @@
 //! States of a model and its inputs: a value for each state, and one for each input.
 
-ghost use Rattle.std.specs.Prelude.{◌≡◌, ◌≤◌, ◌<◌, ◌+◌, ◌++◌, ◌↔◌, IfOk, IfSome, OnOk, OnErr, IsTrue, is_some, map, length, take, drop, slice_index_or, slice_set};
-ghost use Rattle.wb_values.specs.Value.{number};
+ghost use Rattle.std.specs.Prelude.{◌≡◌, ◌≤◌, ◌<◌, ◌+◌, ◌++◌, ◌∷◌, [], ◌↔◌, IfOk, IfSome, OnOk, OnErr, IsTrue, is_some, map, length, take, drop, slice_index_or, slice_set};
+ghost use Rattle.wb_values.specs.Value as meaning;
+ghost use Rattle.wb_values.specs.Value.{HasSort};
+ghost use Rattle.model_meaning.specs.Term.{is_sort};
 ghost use Rattle.model_meaning.specs.Model.{states_of};
+ghost use Rattle.wb_terms.specs.Sort.{as_sort};
 ghost use Rattle.wb_terms.specs.Environment.{AreOfSorts, as_value};
 ghost use Rattle.term_evaluation.specs.Slots.{with_number};
 ghost use Rattle.ila_model.specs.Model.{model_of};
+ghost use Rattle.ila_child.specs.Values.{beginning};
 ghost use Rattle.ila_child.specs.State.{IsStateOf, AreInputsOf, initial_values};
 
 use crate::values::are_of_sorts;
@@ -13,7 +17,7 @@ use ila_model::IlaModel;
 use std::alloc::Global;
 use std::marker::Model;
 use term_evaluation::SharedValues;
-use wb_terms::{NameId, NoMemory, Terms, Value};
+use wb_terms::{NameId, NoMemory, Sort, Terms, Value};
 
 /// A state: a value for each state of a model, in the model's order. Contracts see the list of the values.
 #[derive(Drop)]
@@ -88,7 +92,7 @@ impl State {
 
     /// Sets a word of a memory, or all of another value. Where there is no such state it does nothing.
     pub fn set_word(&mut self, place: usize, word: u64, number: u128) -> Result<(), NoMemory>
-        ensures { OnOk result (self.new ≡ slice_set self.old place (with_number (slice_index_or self.old place (number 0)) word number)) }
+        ensures { OnOk result (self.new ≡ slice_set self.old place (with_number (slice_index_or self.old place (meaning.number 0)) word number)) }
     {
         if place < self.values.len() {
             self.values.set_word(place, word, number)?;
@@ -151,10 +155,23 @@ pub fn initial_state(alloc: Global, model: &IlaModel) -> Result<State, NoMemory>
     let mut values = SharedValues::new(alloc)?;
     for place in 0..model.state_count() {
         let sort = model.state_sort(place);
-        match model.initial_value(place) {
-            Some(value) => values.push(value, sort)?,
-            None => values.push_zero(sort)?,
-        }
+        push_initial(&mut values, sort, model.initial_value(place))?;
     }
     Ok(State { values })
+}
+
+/// Adds the value with which a state of this sort begins: the stated one, if any, else the zero of the sort.
+fn push_initial(
+    values: &mut SharedValues,
+    sort: Sort,
+    initial: &Option<Value>,
+) -> Result<(), NoMemory>
+    requires in_range { IsTrue (is_sort (as_sort sort)) }
+    requires sort { HasSort (beginning (as_sort sort) initial.now) (as_sort sort) }
+    ensures { OnOk result (values.new ≡ values.old ++ beginning (as_sort sort) initial.now ∷ []) }
+{
+    match initial {
+        Some(value) => values.push(value, sort),
+        None => values.push_zero(sort),
+    }
 }

@@ -1,6 +1,6 @@
 //! Values by themselves: copies of them, and the zero of a sort.
 
-ghost use Rattle.std.specs.Prelude.{◌≡◌, ◌≤◌, ◌+◌, ◌++◌, IfOk, OnOk, IsTrue, map, length, take, drop};
+ghost use Rattle.std.specs.Prelude.{◌≡◌, ◌≤◌, ◌+◌, IfOk, IsTrue, map, length, take, drop};
 ghost use Rattle.wb_values.specs.Value.{is_of_sort, all_below};
 ghost use Rattle.model_meaning.specs.Term.{is_sort};
 ghost use Rattle.wb_terms.specs.Sort.{as_sort};
@@ -21,16 +21,6 @@ pub(crate) fn copy_of(value: &Value) -> Result<Value, NoMemory>
         Value::Number(number) => Ok(Value::Number(*number)),
         Value::Words(words) => Ok(Value::Words(words.clone()?)),
     }
-}
-
-/// Appends copies of values.
-pub(crate) fn push_copies(values: &mut Vec<Value>, further: &[Value]) -> Result<(), NoMemory>
-    ensures { OnOk result (map as_value values.new.items ≡ map as_value values.old.items ++ map as_value further.now) }
-{
-    for value in further {
-        values.push(copy_of(value)?)?;
-    }
-    Ok(())
 }
 
 /// False, the number 0, or a memory whose words are 0.

@@ -1,6 +1,6 @@
 -- Lemmas on the text of states and on texts put together.
 use Rattle.std.proofs.Common.{◌≡◌, ℕ, zero, suc, ◌+◌, ◌<◌, true, List, [], ◌∷◌, ◌++◌, length, get_or, drop, Some, option_map, slice_get, refl, sym, ap, ◌∙◌, subst, arith, append_assoc, add-one, ◌≤◌}
-use Rattle.std.proofs.lemmas.List.{drop_all}
+use Rattle.std.proofs.lemmas.List.{drop_all, drop_more}
 use Rattle.std.specs.Prelude.{Bool, false, cond, ◌==◌, Vec}
 use Rattle.std.specs.Global.{Global}
 use Rattle.sparse_memories.specs.declared.listing.SetWord.{SetWord}
@@ -73,6 +73,15 @@ shown_or_not false n a w rest told e = ap (λ (t : List ℕ). address_text n a w
 pub words_shown : (n : Name) (a : ℕ) (ws : List ℕ) → set_words_text n (set_words_from a ws) ≡ words_text n a ws
 words_shown n a [] = refl
 words_shown n a (w ∷ ws) = shown_or_not (w == 0) n a w (set_words_from (suc a) ws) (words_text n (suc a) ws) (words_shown n (suc a) ws)
+
+-- one word more is told
+pub words_turn : (n : Name) (ws : List SetWord) (k : ℕ) (d : SetWord) (out more : List ℕ) → k < length ws → more ≡ out ++ address_text n (get_or ws k d).address (get_or ws k d).word
+    → more ++ set_words_text n (drop (k + 1) ws) ≡ out ++ set_words_text n (drop k ws)
+words_turn n ws k d out more h e =
+    let w = get_or ws k d in
+    ap (λ (t : List ℕ). t ++ set_words_text n (drop (k + 1) ws)) e
+    ∙ append_assoc out (address_text n w.address w.word) (set_words_text n (drop (k + 1) ws))
+    ∙ sym (ap (λ (vs : List SetWord). out ++ set_words_text n vs) (drop_more ws k d h))
 
 pub truth_told : (n : Name) (v : Value) (b : Bool) → IsShownAs v (TruthShown b) → number_text n (cond b 1 0) ≡ state_text n v
 truth_told n (truth_value c) b h = ap (λ (t : Bool). number_text n (cond t 1 0)) h

@@ -1,5 +1,5 @@
 -- Pieces of the text that tells what a model did.
-use Rattle.std.specs.Prelude.{ℕ, List, [], ◌∷◌, ◌++◌, codes, decimal}
+use Rattle.std.specs.Prelude.{ℕ, ◌==◌, cond, List, [], ◌∷◌, ◌++◌, codes, decimal}
 use Rattle.sparse_memories.specs.declared.listing.SetWord.{SetWord}
 use Rattle.wb_values.specs.Value.{Name, Value}
 use Rattle.model_meaning.specs.Model.{Model, states_of}
@@ -15,7 +15,11 @@ number_text n x = spaced (n ++ (61 ∷ decimal x))
 abbrev pub address_text : Name → (address number : ℕ) → List ℕ
 address_text n k x = spaced (n ++ (91 ∷ (decimal k ++ (codes "]=" ++ decimal x))))
 
--- the same of each of the words
+-- the same of a word that is not 0
+abbrev pub word_text : Name → (address number : ℕ) → List ℕ
+word_text n k x = cond (x == 0) [] (address_text n k x)
+
+-- ` m[5]=7` of each of the words
 abbrev pub set_words_text : Name → List SetWord → List ℕ
 set_words_text n [] = []
 set_words_text n (w ∷ ws) = address_text n w.address w.word ++ set_words_text n ws

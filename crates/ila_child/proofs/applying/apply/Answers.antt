@@ -1,7 +1,8 @@
-use Rattle.std.proofs.Common.{◌≡◌, ◌∙◌, ◌≤◌, ℕ, length, take, slice_get, Some, None, sym, ap, subst, arith, string_bytes}
+use Rattle.std.proofs.Common.{◌≡◌, ◌∙◌, ◌≤◌, ℕ, List, length, take, slice_get, Some, None, sym, ap, subst, arith, string_bytes}
 use Rattle.std.proofs.lemmas.Bool.{and_parts}
 use Rattle.std.proofs.lemmas.List.{take_at}
 use Rattle.model_meaning.specs.Model.{holds, point_of}
+use Rattle.wb_values.specs.Value as meaning
 use Rattle.wb_terms.specs.Graph.{tree}
 use Rattle.wb_terms.specs.Environment.{AreOfSorts}
 use Rattle.term_evaluation.specs.Links.{valuation_at}
@@ -33,19 +34,22 @@ set_inputs-requires-clause-fits c =
     let g = given p s (string_bytes m.name) c.args.state.now c.args.inputs.now c.requires.state c.requires.inputs in
     subst (AreOfSorts p.terms.names) (sym c.in_ok-point.ensures.values) (first_fits p.terms.names (length p.initial_values.items) c.args.state.now s.declared.states_within g.states)
 
-pub holds_at-decodes-requires-clause-condition : goal.holds_at-decodes-requires-clause-condition
-holds_at-decodes-requires-clause-condition c =
+pub holds_at-requires-clause-condition : goal.holds_at-requires-clause-condition
+holds_at-requires-clause-condition c =
     let p = c.args.model.now.parts in
     let is = p.instructions.items in
     let x = c.index-instruction.result.now in
     let top = and_parts (is_condition p None p.valid.0) _ (sorted p c.args.model.now.well_sorted).top in
     condition_here p.terms is c.args.place x (are_conditions-from p None 0 is top.1) (found_at is c.args.place x c.requires.place c.index-instruction.ensures)
 
+pub holds_at-requires-clause-fits : goal.holds_at-requires-clause-fits
+holds_at-requires-clause-fits c = subst (AreOfSorts c.args.model.now.parts.terms.names) (sym c.let_go.ensures.values) c.in_ok-set_inputs.ensures.fits
+
 pub start_or_stay-requires-clause-fits : goal.start_or_stay-requires-clause-fits
-start_or_stay-requires-clause-fits c = subst (AreOfSorts c.args.model.now.parts.terms.names) (sym c.in_ok-evaluate.ensures.values) c.in_ok-set_inputs.ensures.fits
+start_or_stay-requires-clause-fits c = subst (AreOfSorts c.args.model.now.parts.terms.names) (sym (c.holds_at.ensures.values ∙ c.let_go.ensures.values)) c.in_ok-set_inputs.ensures.fits
 
 pub next_state-requires : goal.next_state-requires
-next_state-requires c = record { fits = c.in_ok-moved.ensures.fits; room = c.in_ok-moved.ensures.room }
+next_state-requires c = record { fits = c.in_ok-moved.ensures.fits; point = c.in_ok-moved.ensures.point }
 
 pub returns : goal.returns
 returns c =
@@ -58,10 +62,10 @@ returns c =
     let n = length p.initial_values.items in
     let g = given p s name q w c.requires.state c.requires.inputs in
     let xs = c.in_ok-point.point.values in
-    let ys = c.evaluate.new.self.values in
+    let ys = c.let_go.new.self.values in
     let fits = subst (AreOfSorts p.terms.names) (sym c.in_ok-point.ensures.values) (first_fits p.terms.names n q s.declared.states_within g.states) in
     let made = c.in_ok-set_inputs.ensures.values ∙ ap (λ vs. with_values n vs xs) c.values.ensures in
-    let there = seen_there p s name w xs c.set_inputs.new.point.values ys fits c.in_ok-set_inputs.ensures.fits c.requires.inputs made c.in_ok-evaluate.ensures.values in
+    let there = seen_there p s name w xs c.set_inputs.new.point.values ys fits c.in_ok-set_inputs.ensures.fits c.requires.inputs made c.let_go.ensures.values in
     let front : take n xs ≡ q = ap (take n) c.in_ok-point.ensures.values ∙ take_at q _ n (omega (arith, g.states_count)) in
     let at = subst (λ r. seen p None ys ≡ point_of (model_from name p) (state_valuation (model_from name p) r) (input_valuation (model_from name p) w)) front there in
     let top = and_parts (is_condition p None p.valid.0) _ s.top in
@@ -72,12 +76,13 @@ returns c =
     let found : slice_get is k ≡ Some x = found_at is k x c.requires.place c.index-instruction.ensures in
     let same = ap (λ (t : ℕ → _). t k) (decodes_same p None 0 ys is tt low top.1) in
     let stepped = stepped_of c.in_ok-moved.moved (take n c.start_or_stay.new.point.values) in
-    let began = subst (λ v. IsStart p v k stepped) at c.in_ok-moved.ensures.started in
+    let begun = subst (λ (zs : List meaning.Value). IsStart p (seen p None zs) k stepped) c.holds_at.ensures.values c.in_ok-moved.ensures.started in
+    let began = subst (λ v. IsStart p v k stepped) at begun in
     record {
       i = started p x;
       is_j = is_number name p k x found;
       decodes =
-          c.holds_at-decodes.ensures ∙ sym (decode_here p.terms (valuation_at p.terms ys) is k x found) ∙ same ∙ decode_here p.terms (seen p None ys) is k x found
+          c.in_ok-decodes.ensures.holds ∙ sym (decode_here p.terms (valuation_at p.terms ys) is k x found) ∙ same ∙ decode_here p.terms (seen p None ys) is k x found
           ∙ ap (λ v. holds (tree p.terms x.decode.0) v) at;
       leads = subst (LeadsTo (model_from name p) (started p x) q w) (sym c.next_state.ensures) (leads name p s q w k x stepped found began);
     }

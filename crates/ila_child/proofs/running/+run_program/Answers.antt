@@ -1,21 +1,16 @@
-use Rattle.std.proofs.Common.{◌≡◌, ◌∙◌, ◌+◌, ◌-◌, ◌<◌, ◌≤◌, suc, length, map, drop, Some, None, true, inl, inr, refl, sym, ap, subst, arith}
+use Rattle.std.proofs.Common.{◌≡◌, ◌∙◌, ◌+◌, ◌-◌, ◌<◌, ◌≤◌, suc, length, drop, Some, true, sym, ap, subst, arith}
 use Rattle.std.proofs.Math.Numerals.{add-one}
 use Rattle.std.proofs.lemmas.Bool.{and_parts}
 use Rattle.model_meaning.specs.Model.{entered}
 use Rattle.model_meaning.specs.Instruction as instruction
 use Rattle.model_meaning.specs.Instruction.{Reaches, DoesChild, DoesOne, ChildTrouble, OneTrouble}
-use Rattle.term_evaluation.specs.Links.{valuation_at}
-use Rattle.wb_terms.specs.Graph.{tree}
-use Rattle.ila_model.specs.declared.parts.ChildId.{ChildId}
-use Rattle.ila_model.specs.declared.parts.Child.{Child}
-use Rattle.ila_model.specs.Scope.{around}
+use Rattle.wb_terms.specs.Environment.{AreOfSorts}
 use Rattle.wb_values.specs.Value.{truth}
 use Rattle.ila_model.specs.Sorted.{are_states, is_machine, is_condition, is_term_of}
 use Rattle.ila_child.specs.Updating.{with_initial}
 use Rattle.ila_model.specs.Meaning.{privates_of, instructions_of}
 use Rattle.ila_model.proofs.Declarations.{sorted}
-use Rattle.ila_child.specs.declared.running.Taken.TheVariants.{NotValid, Stuck, One}
-use Rattle.ila_child.specs.Running.{seen, point_at, HasDepth, IsDeep, IsLinked, IsTaken, IsOneTaken, IsRun, program_in, trouble_of}
+use Rattle.ila_child.specs.Running.{seen, point_at, HasDepth, IsLinked, IsTaken, IsRun, program_in, trouble_of}
 use Rattle.ila_child.proofs.Updates.{AreOfSorts-length}
 use Rattle.ila_child.proofs.Points.{entered_point}
 use Rattle.ila_child.proofs.Machines.{holds_same}
@@ -65,7 +60,7 @@ loop-step-init t c =
     record {
       reaches = subst (λ a. entered (privates_of g x) (point_at p a xs) ≡ point_at p (Some i.0) (with_initial g.names x.first.0 x.initial_values.items xs)) linked.1 there ∙ ap (point_at p (Some i.0)) (sym begun);
       fits = c.in_ok-begin.ensures.fits;
-      room = c.in_ok-begin.ensures.room;
+      point = c.in_ok-begin.ensures.point;
       aside = c.in_ok-begin.ensures.aside;
     }
 
@@ -144,8 +139,8 @@ overflow_add-depth t c =
     let low = sc.low in
     omega arith
 
-pub overflow_add-result-then-holds_at : goal.overflow_add-result-then-holds_at
-overflow_add-result-then-holds_at t c =
+pub overflow_add-result-then-is_valid : goal.overflow_add-result-then-is_valid
+overflow_add-result-then-is_valid t c =
     let p = c.args.model.now.parts in
     let g = p.terms in
     let s = sorted p c.args.model.now.well_sorted in
@@ -201,7 +196,7 @@ run_program-requires t c =
     let started = taken.1 in
     let low = sc.low in
     let smaller : 4 - (d + 1) < t = omega (arith, c.decreases) in
-    (smaller, (subst (λ k. HasDepth p.children.items k (Some i.0)) (sym (add-one d)) sc.inside.deep, (started.linked, (c.in_ok-take.ensures.room, c.in_ok-take.ensures.fits))))
+    (smaller, (subst (λ k. HasDepth p.children.items k (Some i.0)) (sym (add-one d)) sc.inside.deep, (started.linked, (c.in_ok-take.ensures.point, c.in_ok-take.ensures.fits))))
 
 pub returns-in-Some-2-clause-run : goal.returns-in-Some-2-clause-run
 returns-in-Some-2-clause-run t c =
@@ -260,7 +255,7 @@ loop-step-preserved t c =
     record {
       reaches = subst (λ k. Reaches (steps_of p d x) k begins (seen p (Some i.0) h)) (sym (add-one n)) more;
       fits = c.in_ok-run_program-in-One.ensures.fits;
-      room = c.in_ok-run_program-in-One.ensures.room;
+      point = c.in_ok-run_program-in-One.ensures.point;
       aside = c.in_ok-run_program-in-One.ensures.aside ∙ c.in_ok-take.ensures.aside ∙ c.loop-step.invariant.aside;
     }
 
@@ -278,8 +273,8 @@ holds_at-requires-clause-condition t c =
     let m = and_parts (is_condition p (Some i.0) x.valid.0) _ sc.machine in
     (and_parts (is_term_of g truth x.valid.0) _ m.0).0
 
-pub returns-then-holds_at-clause-run : goal.returns-then-holds_at-clause-run
-returns-then-holds_at-clause-run t c =
+pub returns-then-is_valid-clause-run : goal.returns-then-is_valid-clause-run
+returns-then-is_valid-clause-run t c =
     let p = c.args.model.now.parts in
     let g = p.terms in
     let s = sorted p c.args.model.now.well_sorted in
@@ -293,14 +288,14 @@ returns-then-holds_at-clause-run t c =
     let n = c.loop-step.step in
     let v = seen p at c.args.point.now.values in
     let m = and_parts (is_condition p (Some i.0) x.valid.0) _ sc.machine in
-    let same = sym (holds_same p (Some i.0) (suc d) e x.valid.0 sc.inside.deep (low_enough (suc d) sc.low) m.0) ∙ sym c.holds_at.ensures in
+    let same = sym (holds_same p (Some i.0) (suc d) e x.valid.0 sc.inside.deep (low_enough (suc d) sc.low) m.0) ∙ sym c.in_ok-is_valid.ensures.holds in
     let steps : n ≡ x.steps = omega arith in
-    let end = too_long_at p i d n x v (seen p (Some i.0) e) sc steps c.loop-step.invariant.reaches (same ∙ c.if-holds_at.true) in
+    let end = too_long_at p i d n x v (seen p (Some i.0) e) sc steps c.loop-step.invariant.reaches (same ∙ c.if-is_valid.true) in
     subst (λ o. ChildTrouble (program_in p d o) v (suc d) (instruction.too_long (d + 1))) (sym c.in-Some.is)
     (subst (λ m. ChildTrouble (program_in p d (Some i)) v (suc d) (instruction.too_long m)) (sym (add-one d)) end)
 
-pub returns-else-holds_at-clause-run : goal.returns-else-holds_at-clause-run
-returns-else-holds_at-clause-run t c =
+pub returns-else-is_valid-clause-run : goal.returns-else-is_valid-clause-run
+returns-else-is_valid-clause-run t c =
     let p = c.args.model.now.parts in
     let g = p.terms in
     let s = sorted p c.args.model.now.well_sorted in
@@ -314,8 +309,15 @@ returns-else-holds_at-clause-run t c =
     let n = c.loop-step.step in
     let v = seen p at c.args.point.now.values in
     let m = and_parts (is_condition p (Some i.0) x.valid.0) _ sc.machine in
-    let same = sym (holds_same p (Some i.0) (suc d) e x.valid.0 sc.inside.deep (low_enough (suc d) sc.low) m.0) ∙ sym c.holds_at.ensures in
+    let same = sym (holds_same p (Some i.0) (suc d) e x.valid.0 sc.inside.deep (low_enough (suc d) sc.low) m.0) ∙ sym c.in_ok-is_valid.ensures.holds in
     let steps : n ≡ x.steps = omega arith in
     let below : n ≤ x.steps = omega arith in
-    let end = ended p s at i d n x c.args.point.now.values e linked.1 sc (AreOfSorts-length g.names _ c.requires.fits) (AreOfSorts-length g.names _ c.loop-step.invariant.fits) below c.loop-step.invariant.reaches (same ∙ c.if-holds_at.false) in
-    subst (λ o. DoesChild (program_in p d o) v (seen p at e)) (sym c.in-Some.is) end
+    let end = ended p s at i d n x c.args.point.now.values e linked.1 sc (AreOfSorts-length g.names _ c.requires.fits) (AreOfSorts-length g.names _ c.loop-step.invariant.fits) below c.loop-step.invariant.reaches (same ∙ c.if-is_valid.false) in
+    subst (λ z. DoesChild (program_in p d c.args.program) v (seen p at z)) (sym c.holds_at.ensures.values)
+    (subst (λ o. DoesChild (program_in p d o) v (seen p at e)) (sym c.in-Some.is) end)
+
+pub returns-then-is_valid-clause-fits : goal.returns-then-is_valid-clause-fits
+returns-then-is_valid-clause-fits t c = subst (AreOfSorts c.args.model.now.parts.terms.names) (sym c.holds_at.ensures.values) c.loop-step.invariant.fits
+
+pub returns-else-is_valid-clause-fits : goal.returns-else-is_valid-clause-fits
+returns-else-is_valid-clause-fits t c = subst (AreOfSorts c.args.model.now.parts.terms.names) (sym c.holds_at.ensures.values) c.loop-step.invariant.fits

@@ -1,13 +1,11 @@
-use Rattle.std.proofs.Common.{◌≡◌, ◌∙◌, ◌+◌, ◌<◌, ◌≤◌, List, [], length, map, get_or, set, take, drop, refl, sym, ap, subst, arith}
+use Rattle.std.proofs.Common.{◌≡◌, ◌∙◌, ◌+◌, ◌<◌, ◌≤◌, length, map, get_or, set, drop, refl, sym, ap, subst, arith}
 use Rattle.std.proofs.lemmas.List.{length-map, get_or-map}
-use Rattle.wb_values.specs.Value as meaning
 use Rattle.wb_values.specs.Value.{HasSort, number}
-use Rattle.wb_terms.specs.Sort.{as_sort}
 use Rattle.wb_terms.specs.Environment.{AreOfSorts, as_value}
 use Rattle.ila_model.specs.Sorted.{sort_at}
 use Rattle.ila_model.proofs.Declarations.{sorted}
 use Rattle.ila_child.specs.Runs.{with_values}
-use Rattle.ila_child.proofs.Updates.{AreOfSorts-length, AreOfSorts-set, room_kept}
+use Rattle.ila_child.proofs.Updates.{AreOfSorts-length, AreOfSorts-set}
 use Rattle.ila_child.proofs.Starts.{inputs_table}
 use Rattle.ila_child.proofs.Movement.{AreOfSorts-short, input_sort, values_left, with_values-turn}
 use Rattle.ila_child.proofs.runs.set_inputs.Goals as goal
@@ -17,8 +15,19 @@ loop-k-init c = record {
   values = ap (λ j. with_values j (map as_value c.args.values.now) c.args.point.now.values) (omega arith);
   fits = c.requires.fits;
   aside = refl;
-  room = c.requires.room;
+  point = c.requires.point;
 }
+
+pub name_sort-requires : goal.name_sort-requires
+name_sort-requires c =
+    let p = c.args.model.now.parts in
+    let ns = p.terms.names in
+    let within = (sorted p c.args.model.now.well_sorted).declared.within in
+    let n = length p.initial_values.items in
+    let w = map as_value c.args.values.now in
+    let inputs = subst (λ t. AreOfSorts t w) (inputs_table p.inputs (drop n ns)) c.requires.inputs in
+    let many : length w ≤ p.inputs = AreOfSorts-short ns n p.inputs w inputs in
+    omega (arith, c.loop-k-test.true, many, length-map c.args.values.now as_value, within, c.state_count-first.ensures.place)
 
 pub set-requires-clause-place : goal.set-requires-clause-place
 set-requires-clause-place c =
@@ -65,12 +74,12 @@ loop-k-preserved c =
     record {
       values = ap (with_values (first + (k + 1)) (drop (k + 1) w)) made ∙ with_values-turn first k w xs (number 0) low ∙ c.loop-k.invariant.values;
       fits = subst (AreOfSorts ns) (sym made) (AreOfSorts-set ns xs (first + k) (get_or w k (number 0)) c.loop-k.invariant.fits there);
-      aside = c.in_ok-set.ensures.aside ∙ c.loop-k.invariant.aside;
-      room = room_kept p.terms c.loop-k.point c.set.new.self c.in_ok-set.ensures.words c.in_ok-set.ensures.links c.loop-k.invariant.room;
+      aside = c.set.ensures.aside ∙ c.loop-k.invariant.aside;
+      point = c.set.ensures.point p.terms c.loop-k.invariant.point;
     }
 
 pub returns-clause-values : goal.returns-clause-values
 returns-clause-values c =
     let w = map as_value c.args.values.now in
     values_left (c.state_count-first.result + c.loop-k.k) c.loop-k.k w c.loop-k.point.values (omega (arith, c.loop-k-test.false, length-map c.args.values.now as_value))
-    ∙ c.loop-k.invariant.values ∙ ap (λ j. with_values j w c.args.point.now.values) c.state_count-first.ensures
+    ∙ c.loop-k.invariant.values ∙ ap (λ j. with_values j w c.args.point.now.values) c.state_count-first.ensures.place

@@ -1,10 +1,8 @@
-use Rattle.std.proofs.Common.{◌≡◌, map, take}
+use Rattle.std.proofs.Common.{◌≡◌, take}
 use Rattle.model_meaning.specs.Model.{states_of}
-use Rattle.wb_terms.specs.Environment.{as_value}
 use Rattle.ila_model.specs.Model.{model_of}
 use Rattle.ila_child.specs.State.{initial_values}
 use Rattle.ila_child.proofs.states.initial_state.Given as goal
 
 abbrev pub invariant-loop-place : goal.invariant-loop-place
-invariant-loop-place l =
-    map as_value l.values.items ≡ take l.place (initial_values (states_of (model_of l.model).top))
+invariant-loop-place l = l.values ≡ take l.place (initial_values (states_of (model_of l.model).top))

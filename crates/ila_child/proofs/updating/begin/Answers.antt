@@ -1,13 +1,11 @@
-use Rattle.std.proofs.Common.{◌≡◌, ◌+◌, ◌<◌, ◌∙◌, set, length, drop, get_or, sym, ap, subst, arith, true}
+use Rattle.std.proofs.Common.{◌≡◌, ◌+◌, ◌∙◌, set, drop, get_or, sym, ap, subst, arith}
 use Rattle.wb_values.specs.Value.{HasSort}
-use Rattle.wb_terms.specs.Sort.{as_sort}
 use Rattle.wb_terms.specs.Environment.{as_value, AreOfSorts}
-use Rattle.term_evaluation.specs.Points.{HasRoom}
 use Rattle.ila_model.specs.Sorted.{sort_at}
 use Rattle.ila_child.specs.Values.{beginning}
 use Rattle.ila_child.specs.Updating.{with_initial}
 use Rattle.ila_child.proofs.Initial.{private_has_sort, private-at}
-use Rattle.ila_child.proofs.Updates.{with_initial-turn, AreOfSorts-length, AreOfSorts-set, room_kept}
+use Rattle.ila_child.proofs.Updates.{with_initial-turn, AreOfSorts-length, AreOfSorts-set}
 use Rattle.ila_child.proofs.updating.begin.Goals as goal
 
 pub set-requires-clause-place : goal.set-requires-clause-place
@@ -46,6 +44,6 @@ loop-k-preserved c =
           ∙ with_initial-turn ns first is k d xs c.loop-k-test.true
           ∙ c.loop-k.invariant.values;
       fits = subst (AreOfSorts ns) (sym made) (AreOfSorts-set ns xs (first + k) (beginning (sort_at ns (first + k)) (get_or is k d)) c.loop-k.invariant.fits sorted);
-      aside = c.in_ok-set.ensures.aside ∙ c.loop-k.invariant.aside;
-      room = room_kept c.args.terms.now c.loop-k.point c.set.new.self c.in_ok-set.ensures.words c.in_ok-set.ensures.links c.loop-k.invariant.room;
+      aside = c.set.ensures.aside ∙ c.loop-k.invariant.aside;
+      point = c.set.ensures.point c.args.terms.now c.loop-k.invariant.point;
     }

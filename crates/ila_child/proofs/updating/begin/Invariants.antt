@@ -1,6 +1,6 @@
 use Rattle.std.proofs.Common.{◌≡◌, ◌+◌, drop}
 use Rattle.wb_terms.specs.Environment.{AreOfSorts}
-use Rattle.term_evaluation.specs.Points.{HasRoom}
+use Rattle.term_evaluation.specs.Points.{IsPointOf}
 use Rattle.ila_child.specs.Updating.{with_initial}
 use Rattle.ila_child.proofs.updating.begin.Given as goal
 
@@ -9,5 +9,5 @@ invariant-loop-k l = record {
   values : with_initial l.terms.names (l.first + l.k) (drop l.k l.initial_values) l.point.values ≡ with_initial l.terms.names l.first l.initial_values l.initial.point.values;
   fits : AreOfSorts l.terms.names l.point.values;
   aside : l.point.aside ≡ l.initial.point.aside;
-  room : HasRoom l.terms l.point;
+  point : IsPointOf l.terms l.point;
 }

@@ -1,11 +1,10 @@
-use Rattle.std.proofs.Common.{◌≡◌, ◌∙◌, ◌+◌, ◌<◌, ◌++◌, [], ◌∷◌, List, length, get_or, take, take_all, refl, sym, ap, subst, arith}
-use Rattle.std.proofs.lemmas.List.{get_or_default, take_more}
+use Rattle.std.proofs.Common.{◌∙◌, ◌++◌, [], ◌∷◌, List, get_or, take, refl, sym, ap, subst, arith}
+use Rattle.std.proofs.lemmas.List.{get_or_default, take_more, take_all}
 use Rattle.wb_values.specs.Value as meaning
 use Rattle.model_meaning.specs.Term.{sort_of}
 use Rattle.wb_terms.specs.Graph.{tree}
-use Rattle.wb_terms.specs.Environment.{HasSortOf}
+use Rattle.wb_terms.specs.Environment.{HasSortOf, AreOfSorts}
 use Rattle.term_evaluation.specs.Links.{valuation_at, value_at}
-use Rattle.term_evaluation.specs.Points.{PointView, AreHeldAt, HasRoom}
 use Rattle.ila_model.specs.declared.parts.Update.{Update}
 use Rattle.ila_model.specs.Sorted.{sort_at}
 use Rattle.ila_child.specs.Updating.{values_of_updates, AreUpdatesSorted}
@@ -13,16 +12,13 @@ use Rattle.ila_child.proofs.Updates.{no_update, update_now, values_kept, updates
 use Rattle.ila_child.proofs.updating.keep_updates.Goals as goal
 
 pub loop-k-init : goal.loop-k-init
-loop-k-init c = record { kept = kept_none c.args.point.now; sorted = tt }
+loop-k-init c = record { aside = kept_none c.args.point.now.aside; values = refl; sorted = tt; point = c.requires.point }
 
 pub keep-requires-clause-id : goal.keep-requires-clause-id
 keep-requires-clause-id c = (update_now c.args.terms.now c.args.updates.now c.loop-k.k no_update c.requires.updates c.loop-k-test.true).term
 
-pub keep-requires-clause-room : goal.keep-requires-clause-room
-keep-requires-clause-room c = subst (HasRoom c.args.terms.now) (sym c.loop-k.invariant.kept) c.requires.room
-
-pub keep-requires-clause-held : goal.keep-requires-clause-held
-keep-requires-clause-held c = subst (AreHeldAt c.args.terms.now) (sym c.loop-k.invariant.kept) c.requires.held
+pub keep-requires-clause-fits : goal.keep-requires-clause-fits
+keep-requires-clause-fits c = subst (AreOfSorts c.args.terms.now.names) (sym c.loop-k.invariant.values) c.requires.fits
 
 pub loop-k-preserved : goal.loop-k-preserved
 loop-k-preserved c =
@@ -30,25 +26,27 @@ loop-k-preserved c =
     let us = c.args.updates.now in
     let k = c.loop-k.k in
     let x = c.args.point.now in
+    let y = c.loop-k.point in
     let p = valuation_at g x.values in
     let u = get_or us k no_update in
     let f = update_now g us k no_update c.requires.updates c.loop-k-test.true in
-    let sorted = subst (λ (y : PointView). HasSortOf (value_at g y.values u.term.0) (sort_of (tree g u.term.0))) c.loop-k.invariant.kept c.in_ok-keep.ensures.sorted in
+    let sorted = subst (λ (vs : List meaning.Value). HasSortOf (value_at g vs u.term.0) (sort_of (tree g u.term.0))) c.loop-k.invariant.values c.in_ok-keep.ensures.sorted in
     record {
-      kept = c.in_ok-keep.ensures.ok
-          ∙ ap (λ (y : PointView). record y { aside = y.aside ++ value_at g y.values u.term.0 ∷ [] }) c.loop-k.invariant.kept
-          ∙ ap (λ (vs : List meaning.Value). record x { aside = vs })
-          (values_kept g p us x.aside (x.aside ++ values_of_updates g p (take k us)) k u (value_at g x.values u.term.0) c.loop-k-test.true (get_or_default us k no_update u c.loop-k-test.true) refl refl);
+      aside = c.in_ok-keep.ensures.aside
+          ∙ ap (λ (vs : List meaning.Value). y.aside ++ value_at g vs u.term.0 ∷ []) c.loop-k.invariant.values
+          ∙ values_kept g p us x.aside y.aside k u (value_at g x.values u.term.0) c.loop-k-test.true (get_or_default us k no_update u c.loop-k-test.true) refl c.loop-k.invariant.aside;
+      values = c.keep.ensures.values ∙ c.loop-k.invariant.values;
       sorted = subst (AreUpdatesSorted g p) (sym (take_more us k no_update c.loop-k-test.true))
           (updates_sorted-push g p (take k us) u c.loop-k.invariant.sorted (HasSort-from (sort_of (tree g u.term.0)) (sort_at g.names u.state.0) (value_at g x.values u.term.0) f.sort sorted));
+      point = c.keep.ensures.point;
     }
 
-pub returns-clause-kept : goal.returns-clause-kept
-returns-clause-kept c =
+pub returns-clause-aside : goal.returns-clause-aside
+returns-clause-aside c =
     let g = c.args.terms.now in
     let us = c.args.updates.now in
     let x = c.args.point.now in
-    c.loop-k.invariant.kept ∙ ap (λ (vs : List Update). record x { aside = x.aside ++ values_of_updates g (valuation_at g x.values) vs }) (take_all c.loop-k.k us (omega (arith, c.loop-k-test.false)))
+    c.loop-k.invariant.aside ∙ ap (λ (vs : List Update). x.aside ++ values_of_updates g (valuation_at g x.values) vs) (take_all c.loop-k.k us (omega (arith, c.loop-k-test.false)))
 
 pub returns-clause-sorted : goal.returns-clause-sorted
 returns-clause-sorted c =

@@ -1,9 +1,8 @@
-use Rattle.std.proofs.Common.{◌≡◌, ◌∙◌, ◌+◌, ◌<◌, List, length, get_or, set, drop, refl, sym, ap, subst, arith}
+use Rattle.std.proofs.Common.{◌∙◌, ◌+◌, List, length, get_or, set, drop, refl, sym, ap, arith}
 use Rattle.std.proofs.Math.ListN.{length-set}
 use Rattle.std.proofs.lemmas.List.{get_or_default}
 use Rattle.wb_values.specs.Value as meaning
 use Rattle.wb_values.specs.Value.{number}
-use Rattle.term_evaluation.specs.Points.{PointView}
 use Rattle.ila_model.specs.declared.parts.Update.{Update}
 use Rattle.ila_child.specs.Updating.{with_kept}
 use Rattle.ila_child.proofs.Updates.{no_update, update_now, AreOfSorts-length, with_kept-turn, none_left}
@@ -11,9 +10,10 @@ use Rattle.ila_child.proofs.updating.put_updates.Goals as goal
 
 pub loop-k-init : goal.loop-k-init
 loop-k-init c = record {
-  same = refl;
   values = ap (λ j. with_kept c.args.updates.now (drop j c.args.point.now.aside) c.args.point.now.values) (omega arith);
   count = refl;
+  aside = refl;
+  point = λ g h. h;
 }
 
 pub put-requires-clause-place : goal.put-requires-clause-place
@@ -24,7 +24,7 @@ put-requires-clause-place c =
 
 pub put-requires-clause-from : goal.put-requires-clause-from
 put-requires-clause-from c =
-    omega (arith, c.requires.kept, c.loop-k-test.true, ap (λ (y : PointView). length y.aside) c.loop-k.invariant.same)
+    omega (arith, c.requires.kept, c.loop-k-test.true, ap (λ (vs : List meaning.Value). length vs) c.loop-k.invariant.aside)
 
 pub loop-k-preserved : goal.loop-k-preserved
 loop-k-preserved c =
@@ -34,24 +34,20 @@ loop-k-preserved c =
     let x = c.args.point.now in
     let y = c.loop-k.point in
     let u = get_or us k no_update in
-    let e = c.put.ensures in
-    let vs = set y.values u.state.0 (get_or y.aside (first + k) (number 0)) in
-    let now = ap (λ (z : PointView). z.values) e in
-    let put = now ∙ ap (λ (z : PointView). set y.values u.state.0 (get_or z.aside (first + k) (number 0))) c.loop-k.invariant.same in
+    let put = c.put.ensures.values ∙ ap (λ (vs : List meaning.Value). set y.values u.state.0 (get_or vs (first + k) (number 0))) c.loop-k.invariant.aside in
     record {
-      same = e ∙ ap (λ (z : PointView). record z { values = vs }) c.loop-k.invariant.same ∙ ap (λ (zs : List meaning.Value). record x { values = zs }) (sym now);
       values = ap (λ (zs : List meaning.Value). with_kept (drop (k + 1) us) (drop (first + (k + 1)) x.aside) zs) put
           ∙ with_kept-turn us x.aside y.values first k u c.loop-k-test.true (omega (arith, c.requires.kept, c.loop-k-test.true)) (get_or_default us k no_update u c.loop-k-test.true)
           ∙ c.loop-k.invariant.values;
       count = ap (λ (zs : List meaning.Value). length zs) put ∙ length-set y.values u.state.0 _ ∙ c.loop-k.invariant.count;
+      aside = c.put.ensures.aside ∙ c.loop-k.invariant.aside;
+      point = λ g h. c.put.ensures.point g (c.loop-k.invariant.point g h);
     }
 
-pub returns : goal.returns
-returns c =
+pub returns-clause-values : goal.returns-clause-values
+returns-clause-values c =
     let us = c.args.updates.now in
     let x = c.args.point.now in
     let y = c.loop-k.point in
     let none = none_left us c.loop-k.k (omega (arith, c.loop-k-test.false)) in
-    c.loop-k.invariant.same
-    ∙ ap (λ (zs : List meaning.Value). record x { values = zs })
-    (sym (ap (λ (vs : List Update). with_kept vs (drop (c.args.first + c.loop-k.k) x.aside) y.values) none) ∙ c.loop-k.invariant.values)
+    sym (ap (λ (vs : List Update). with_kept vs (drop (c.args.first + c.loop-k.k) x.aside) y.values) none) ∙ c.loop-k.invariant.values

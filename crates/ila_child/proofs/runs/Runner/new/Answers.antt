@@ -1,4 +1,4 @@
-use Rattle.std.proofs.Common.{◌≡◌, ◌∙◌, length, take, drop, sym, ap, subst, arith}
+use Rattle.std.proofs.Common.{◌∙◌, length, take, sym, ap, subst, arith}
 use Rattle.std.proofs.lemmas.List.{take_at, length-take}
 use Rattle.wb_terms.specs.Environment.{AreOfSorts}
 use Rattle.ila_model.proofs.Declarations.{sorted}
@@ -16,7 +16,7 @@ returns-clause-made c =
     let front = subst (λ t. AreOfSorts t q) (states_table p.terms.names p.initial_values.items) c.requires in
     record {
       fits = subst (AreOfSorts p.terms.names) (sym c.in_ok-point.ensures.values) (first_fits p.terms.names n q s.declared.states_within front);
-      room = c.in_ok-point.ensures.room;
+      point = c.in_ok-point.ensures.point;
     }
 
 pub returns-clause-state : goal.returns-clause-state
