@@ -2,6 +2,7 @@
 #![tactic(auto)]
 
 pub mod laws;
+mod list;
 mod node;
 mod part;
 pub mod statement;

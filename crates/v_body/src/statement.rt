@@ -11,6 +11,7 @@ ghost use Rattle.v_body.specs.View.{arm_of, item_of};
 ghost use Rattle.v_expr.specs.Flat.{Each};
 ghost use Rattle.v_body.specs.Flat.{IsNoIf, IsFlatStatement, IsFlatArm, IsFlatCaseItem};
 
+use crate::list::append;
 use crate::node::{alone, block_of, case_of, with_else};
 use crate::part::{
     Refusal, are_items_of_case, assigning, behind_perhaps_colon, block_name, condition, no_refusal,
@@ -108,14 +109,13 @@ fn items<'s, 't>(
 {
     let mut rest = from_here(tokens)?;
     let mut refusal = no_refusal(tokens);
-    // Most have one item.
-    let mut items = Vec::with_capacity(alloc, 1)?;
+    let mut items = Vec::new(alloc);
     loop {
         match behind_word(rest, "endcase") {
             Some(after) => return Ok((items, refusal, after)),
             None => {
                 let (item, after) = item(alloc, levels, rest)?;
-                items.push(item)?;
+                append(&mut items, item)?;
                 refusal = with_item(refusal, rest);
                 rest = after;
             }
@@ -155,14 +155,13 @@ fn statements<'s, 't>(
     ensures flat { IfOk result (λ x. Each IsFlatStatement x.0.items) }
 {
     let mut rest = from_here(tokens)?;
-    // Blocks that stand in one another have one statement each.
-    let mut statements = Vec::with_capacity(alloc, 1)?;
+    let mut statements = Vec::new(alloc);
     loop {
         match behind_word(rest, "end") {
             Some(after) => return Ok((statements, after)),
             None => {
                 let (statement, after) = nested(alloc, levels, rest)?;
-                statements.push(statement)?;
+                append(&mut statements, statement)?;
                 rest = after;
             }
         }

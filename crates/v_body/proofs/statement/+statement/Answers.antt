@@ -37,9 +37,9 @@ block-returns-clause-read t c =
 
 pub statements-loop-after-init : goal.statements-loop-after-init
 statements-loop-after-init t c = (
-  (starts (after_word (codes "end")) (statement_in c.args.levels) (map statement_of c.in_ok-statements.statements.items) (tokens_of c.in_ok-rest.rest.now) (tokens_of c.args.tokens.now)
-      (ap (map statement_of) c.in_ok-statements.ensures.items) (ap tokens_of c.in_ok-rest.ensures.same)),
-  each-none IsFlatStatement c.in_ok-statements.statements.items c.in_ok-statements.ensures.items,
+  (starts (after_word (codes "end")) (statement_in c.args.levels) (map statement_of c.new-statements.result.items) (tokens_of c.in_ok-rest.rest.now) (tokens_of c.args.tokens.now)
+      (ap (map statement_of) c.new-statements.ensures.items) (ap tokens_of c.in_ok-rest.ensures.same)),
+  each-none IsFlatStatement c.new-statements.result.items c.new-statements.ensures.items,
 )
 
 pub statements-returns-in-Some-clause-read : goal.statements-returns-in-Some-clause-read
@@ -60,20 +60,20 @@ statements-loop-after-smaller t c =
 
 pub statements-loop-after-preserved : goal.statements-loop-after-preserved
 statements-loop-after-preserved t c =
-    let e : map statement_of c.push.new.self.items ≡ map statement_of c.loop-after.statements.items ++ statement_of c.in_ok-statement-in-None.statement ∷ [] =
-    rw c.in_ok-push-in-None.ensures.items (map_push _ c.loop-after.statements.items c.in_ok-statement-in-None.statement) in (
+    let e : map statement_of c.append.new.list.items ≡ map statement_of c.loop-after.statements.items ++ statement_of c.in_ok-statement-in-None.statement ∷ [] =
+    rw c.in_ok-append-in-None.ensures (map_push _ c.loop-after.statements.items c.in_ok-statement-in-None.statement) in (
       (rw e
           (goes_on (after_word (codes "end")) (statement_in c.args.levels) (statement_in_shrinks c.args.levels) (map statement_of c.loop-after.statements.items) (tokens_of c.loop-after.rest.now)
           (statement_of c.in_ok-statement-in-None.statement) (tokens_of c.in_ok-statement-in-None.after.now) (repeated (after_word (codes "end")) (statement_in c.args.levels) (tokens_of c.args.tokens.now))
           (sym c.in-None.ensures) c.in_ok-statement-in-None.ensures.read c.loop-after.invariant.0)),
-      each-pushed IsFlatStatement c.loop-after.statements.items c.in_ok-statement-in-None.statement c.push.new.self.items c.in_ok-push-in-None.ensures.items c.loop-after.invariant.1 c.in_ok-statement-in-None.ensures.flat,
+      each-pushed IsFlatStatement c.loop-after.statements.items c.in_ok-statement-in-None.statement c.append.new.list.items c.in_ok-append-in-None.ensures c.loop-after.invariant.1 c.in_ok-statement-in-None.ensures.flat,
     )
 
 pub items-loop-after-init : goal.items-loop-after-init
 items-loop-after-init t c = (
-  (items_start (statement_in c.args.levels) (map item_of c.in_ok-items.items.items) (tokens_of c.in_ok-rest.rest.now) (tokens_of c.args.tokens.now)
-      (ap (map item_of) c.in_ok-items.ensures.items) (ap tokens_of c.in_ok-rest.ensures.same)),
-  each-none IsFlatCaseItem c.in_ok-items.items.items c.in_ok-items.ensures.items,
+  (items_start (statement_in c.args.levels) (map item_of c.new-items.result.items) (tokens_of c.in_ok-rest.rest.now) (tokens_of c.args.tokens.now)
+      (ap (map item_of) c.new-items.ensures.items) (ap tokens_of c.in_ok-rest.ensures.same)),
+  each-none IsFlatCaseItem c.new-items.result.items c.new-items.ensures.items,
 )
 
 pub items-returns-in-Some-clause-read : goal.items-returns-in-Some-clause-read
@@ -94,13 +94,13 @@ items-loop-after-smaller t c =
 
 pub items-loop-after-preserved : goal.items-loop-after-preserved
 items-loop-after-preserved t c =
-    let e : map item_of c.push.new.self.items ≡ map item_of c.loop-after.items.items ++ item_of c.in_ok-item-in-None.item ∷ [] =
-    rw c.in_ok-push-in-None.ensures.items (map_push _ c.loop-after.items.items c.in_ok-item-in-None.item) in (
+    let e : map item_of c.append.new.list.items ≡ map item_of c.loop-after.items.items ++ item_of c.in_ok-item-in-None.item ∷ [] =
+    rw c.in_ok-append-in-None.ensures (map_push _ c.loop-after.items.items c.in_ok-item-in-None.item) in (
       (rw e
           (goes_on (after_word (codes "endcase")) (item_at (statement_in c.args.levels)) (item_shrinks c.args.levels) (map item_of c.loop-after.items.items) (tokens_of c.loop-after.rest.now)
           (item_of c.in_ok-item-in-None.item) (tokens_of c.in_ok-item-in-None.after.now) (items_at (statement_in c.args.levels) (tokens_of c.args.tokens.now))
           (sym c.in-None.ensures) c.in_ok-item-in-None.ensures.read c.loop-after.invariant.0)),
-      each-pushed IsFlatCaseItem c.loop-after.items.items c.in_ok-item-in-None.item c.push.new.self.items c.in_ok-push-in-None.ensures.items c.loop-after.invariant.1 c.in_ok-item-in-None.ensures.flat,
+      each-pushed IsFlatCaseItem c.loop-after.items.items c.in_ok-item-in-None.item c.append.new.list.items c.in_ok-append-in-None.ensures c.loop-after.invariant.1 c.in_ok-item-in-None.ensures.flat,
     )
 
 pub case-returns-clause-read : goal.case-returns-clause-read
