@@ -9,7 +9,7 @@ use Rattle.verilog_meaning.specs.Hierarchy.{module_named}
 use Rattle.v_syntax.specs.declared.module.Module.{Module as CodeModule}
 use Rattle.v_syntax.specs.declared.module.Item.{Item as CodeItem}
 use Rattle.v_syntax.specs.Source.{item_of, module_of}
-use Rattle.v_standing.specs.Standing.{modules_of, IsAmong, IsBelow, IsBelowOne, AreLeft, AreAdded}
+use Rattle.v_standing.specs.Standing.{modules_of, numbered, module_at, IsAmong, IsBelow, IsBelowOne, AreLeft, AreAdded}
 
 -- ---- elements of lists
 
@@ -141,9 +141,16 @@ said_so source A B l r ms ns f g x =
 
 -- ---- the code's lists
 
-pub behind_one : (ms : List (Bor CodeModule)) (m : Bor CodeModule) → modules_of (ms ++ m ∷ []) ≡ modules_of ms ++ module_of m.now ∷ []
-behind_one [] m = refl
-behind_one (x ∷ ms) m = ap (λ z. module_of x.now ∷ z) (behind_one ms m)
+pub behind_one : (source : Source) (ks : List ℕ) (k : ℕ) → numbered source (ks ++ k ∷ []) ≡ numbered source ks ++ module_at source k ∷ []
+behind_one source [] k = refl
+behind_one source (j ∷ ks) k = ap (λ z. module_at source j ∷ z) (behind_one source ks k)
+
+pub module_behind : (ms : List (Bor CodeModule)) (m : Bor CodeModule) → modules_of (ms ++ m ∷ []) ≡ modules_of ms ++ module_of m.now ∷ []
+module_behind [] m = refl
+module_behind (x ∷ ms) m = ap (λ z. module_of x.now ∷ z) (module_behind ms m)
+
+pub none_behind : (ms : List Module) → ms ≡ ms ++ []
+none_behind ms = sym (append-nil ms)
 
 items_drop : (items : List CodeItem) (i : ℕ) (d : CodeItem) → i < length items → map item_of (drop i items) ≡ item_of (get_or items i d) ∷ map item_of (drop (i + 1) items)
 items_drop items i d h = rw (add-one, drop-cons items i d h) refl

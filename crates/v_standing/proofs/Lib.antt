@@ -1,3 +1,4 @@
 mod Tables
 mod Adding
 mod Whole
+mod Numbered

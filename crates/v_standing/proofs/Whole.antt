@@ -1,13 +1,11 @@
 -- When all modules of the list were gone through, they are those that stand in the design.
-use Rattle.std.proofs.Common.{◌≡◌, ◌∙◌, refl, ap, sym, subst, ℕ, zero, suc, ◌+◌, ◌<◌, ◌≤◌, List, [], ◌∷◌, ◌++◌, ◌⊎◌, inl, inr, Contains, add-one, Bor, length, get_or, Option, Some, None, arith}
+use Rattle.std.proofs.Common.{◌≡◌, ◌∙◌, refl, ap, sym, subst, ℕ, zero, suc, ◌+◌, ◌<◌, ◌≤◌, List, [], ◌∷◌, ◌++◌, ◌⊎◌, inl, inr, Contains, add-one, length, get_or, Option, Some, None, arith}
 use Rattle.wb_values.specs.Value.{Name}
 use Rattle.verilog_trees.specs.Syntax.{Connections, Item, instances, Module, Source}
 use Rattle.verilog_meaning.specs.Hierarchy.{module_named}
 use Rattle.verilog_meaning.specs.Settled.{Design}
 use Rattle.verilog_designs.specs.Accepted.{StandsIn, at_top, below as stands_below}
-use Rattle.v_syntax.specs.declared.module.Module.{Module as CodeModule}
-use Rattle.v_syntax.specs.Source.{module_of}
-use Rattle.v_standing.specs.Standing.{modules_of, AreStanding, IsAmong, IsBelow, IsBelowOne, AreLeft, AreAdded}
+use Rattle.v_standing.specs.Standing.{numbered, module_at, AreStanding, IsAmong, IsBelow, IsBelowOne, AreLeft, AreAdded}
 use Rattle.v_standing.proofs.Adding.{among_left, among_either}
 
 -- the first elements of a list
@@ -16,17 +14,17 @@ front zero xs = []
 front (suc k) [] = []
 front (suc k) (x ∷ xs) = x ∷ front k xs
 
-front_more : (ms : List (Bor CodeModule)) (ys : List Module) (k : ℕ) (d : Bor CodeModule) → k < length ms
-    → front (suc k) (modules_of ms ++ ys) ≡ front k (modules_of ms) ++ module_of (get_or ms k d).now ∷ []
-front_more [] ys k d h = absurd (omega (arith, h))
-front_more (x ∷ ms) ys zero d h = refl
-front_more (x ∷ ms) ys (suc k) d h = ap (λ z. module_of x.now ∷ z) (front_more ms ys k d (omega (arith, h)))
+front_more : (source : Source) (ns : List ℕ) (ys : List Module) (k d : ℕ) → k < length ns
+    → front (suc k) (numbered source ns ++ ys) ≡ front k (numbered source ns) ++ module_at source (get_or ns k d) ∷ []
+front_more source [] ys k d h = absurd (omega (arith, h))
+front_more source (n ∷ ns) ys zero d h = refl
+front_more source (n ∷ ns) ys (suc k) d h = ap (λ z. module_at source n ∷ z) (front_more source ns ys k d (omega (arith, h)))
 
-front_all : (ms : List (Bor CodeModule)) (k : ℕ) → length ms ≤ k → front k (modules_of ms) ≡ modules_of ms
-front_all [] zero h = refl
-front_all [] (suc k) h = refl
-front_all (x ∷ ms) zero h = absurd (omega (arith, h))
-front_all (x ∷ ms) (suc k) h = ap (λ z. module_of x.now ∷ z) (front_all ms k (omega (arith, h)))
+front_all : (source : Source) (ns : List ℕ) (k : ℕ) → length ns ≤ k → front k (numbered source ns) ≡ numbered source ns
+front_all source [] zero h = refl
+front_all source [] (suc k) h = refl
+front_all source (n ∷ ns) zero h = absurd (omega (arith, h))
+front_all source (n ∷ ns) (suc k) h = ap (λ z. module_at source n ∷ z) (front_all source ns k (omega (arith, h)))
 
 -- The modules of the list stand in the design, its top is among them, and so is what stands directly below the first k of them.
 pub record AreReached (d : Design) (left : Name → Option Module) (ms : List Module) (k : ℕ) : Type 0 where
@@ -70,36 +68,36 @@ by_item d m n (i ∷ items) s f (inl h) = one i (f i (0, omega arith, refl)) h
 by_item d m n (i ∷ items) s f (inr h) = by_item d m n items s (λ j c. f j (suc c.0, omega (arith, c.1), c.2)) h
 
 -- The next module was gone through.
-pub stepped : (d : Design) (ms ns : List (Bor CodeModule)) (k : ℕ) (e : Bor CodeModule) (l r : Name → Option Module) → k < length ms
-    → AreReached d l (modules_of ms) k → AreAdded d.source (IsBelowOne d.source (module_of (get_or ms k e).now).items) l (modules_of ms) r (modules_of ns)
-    → AreReached d r (modules_of ns) (k + 1)
+pub stepped : (d : Design) (ms ns : List ℕ) (k e : ℕ) (l r : Name → Option Module) → k < length ms
+    → AreReached d l (numbered d.source ms) k → AreAdded d.source (IsBelowOne d.source (module_at d.source (get_or ms k e)).items) l (numbered d.source ms) r (numbered d.source ns)
+    → AreReached d r (numbered d.source ns) (k + 1)
 stepped d ms ns k e l r h a x =
     record {
       is_left = x.keeps a.is_left;
-      stand = λ m g. stands m (among_either (modules_of ms) x.added m (subst (λ z. IsAmong z m) x.behind g));
+      stand = λ m g. stands m (among_either (numbered d.source ms) x.added m (subst (λ z. IsAmong z m) x.behind g));
       top = λ m g. old m (a.top m g);
-      below = λ m n g b. below m n (among_either (front k (modules_of ms)) (this ∷ []) m (subst (λ z. IsAmong z m) fronts g)) b;
+      below = λ m n g b. below m n (among_either (front k (numbered d.source ms)) (this ∷ []) m (subst (λ z. IsAmong z m) fronts g)) b;
     }
   where
     this : Module
-    this = module_of (get_or ms k e).now
+    this = module_at d.source (get_or ms k e)
 
-    old : (m : Module) → IsAmong (modules_of ms) m → IsAmong (modules_of ns) m
-    old m g = subst (λ z. IsAmong z m) (sym x.behind) (among_left (modules_of ms) x.added m g)
+    old : (m : Module) → IsAmong (numbered d.source ms) m → IsAmong (numbered d.source ns) m
+    old m g = subst (λ z. IsAmong z m) (sym x.behind) (among_left (numbered d.source ms) x.added m g)
 
-    this_among : (xs : List (Bor CodeModule)) (j : ℕ) → j < length xs → IsAmong (modules_of xs) (module_of (get_or xs j e).now)
+    this_among : (xs : List ℕ) (j : ℕ) → j < length xs → IsAmong (numbered d.source xs) (module_at d.source (get_or xs j e))
     this_among [] j i = absurd (omega (arith, i))
     this_among (y ∷ xs) zero i = inl refl
     this_among (y ∷ xs) (suc j) i = inr (this_among xs j (omega (arith, i)))
 
-    stands : (m : Module) → IsAmong (modules_of ms) m ⊎ IsAmong x.added m → StandsIn d m
+    stands : (m : Module) → IsAmong (numbered d.source ms) m ⊎ IsAmong x.added m → StandsIn d m
     stands m (inl g) = a.stand m g
     stands m (inr g) = by_item d this m this.items (a.stand this (this_among ms k h)) (λ i c. c) (x.are_so a.is_left m g)
 
-    fronts : front (k + 1) (modules_of ns) ≡ front k (modules_of ms) ++ this ∷ []
-    fronts = ap (λ j. front j (modules_of ns)) (add-one k) ∙ (ap (front (suc k)) x.behind ∙ front_more ms x.added k e h)
+    fronts : front (k + 1) (numbered d.source ns) ≡ front k (numbered d.source ms) ++ this ∷ []
+    fronts = ap (λ j. front j (numbered d.source ns)) (add-one k) ∙ (ap (front (suc k)) x.behind ∙ front_more d.source ms x.added k e h)
 
-    below : (m n : Module) → IsAmong (front k (modules_of ms)) m ⊎ IsAmong (this ∷ []) m → IsBelowOne d.source m.items n → IsAmong (modules_of ns) n
+    below : (m n : Module) → IsAmong (front k (numbered d.source ms)) m ⊎ IsAmong (this ∷ []) m → IsBelowOne d.source m.items n → IsAmong (numbered d.source ns) n
     below m n (inl g) b = old n (a.below m n g b)
     below m n (inr (inl p)) b = x.all a.is_left n (subst (λ y. IsBelowOne d.source y.items n) (sym p) b)
     below m n (inr (inr g)) b = absurd g
@@ -127,10 +125,10 @@ by_contained source (i ∷ items) n k given is c h = at (λ z. by_contained sour
     at f zero l e = inl (subst (λ x. IsBelow source x n) (sym e) h)
     at f (suc j) l e = inr (f (j, omega (arith, l), e))
 
-pub finished : (d : Design) (left : Name → Option Module) (ms : List (Bor CodeModule)) (k : ℕ) → length ms ≤ k → AreReached d left (modules_of ms) k → AreStanding d (modules_of ms)
-finished d left ms k h a = record { standing = λ m c. a.stand m (among (modules_of ms) m c); all = λ m s. contained (modules_of ms) m (each m s) }
+pub finished : (d : Design) (left : Name → Option Module) (ns : List ℕ) (k : ℕ) → length ns ≤ k → AreReached d left (numbered d.source ns) k → AreStanding d (numbered d.source ns)
+finished d left ns k h a = record { standing = λ m c. a.stand m (among (numbered d.source ns) m c); all = λ m s. contained (numbered d.source ns) m (each m s) }
   where
-    each : (m : Module) → StandsIn d m → IsAmong (modules_of ms) m
+    each : (m : Module) → StandsIn d m → IsAmong (numbered d.source ns) m
     each m (at_top _ e) = a.top m e
     each m (stands_below o _ q given is s c e) =
-        a.below o m (subst (λ z. IsAmong z o) (sym (front_all ms k h)) (each o s)) (by_contained d.source o.items m q given is c e)
+        a.below o m (subst (λ z. IsAmong z o) (sym (front_all d.source ns k h)) (each o s)) (by_contained d.source o.items m q given is c e)

@@ -1,9 +1,9 @@
 -- Lists of the modules that stand in a design, and how they grow.
-use Rattle.std.specs.Prelude.{◌≡◌, ◌⊎◌, ℕ, List, [], ◌∷◌, ◌++◌, map, Contains, Option, Some, None, option_map}
+use Rattle.std.specs.Prelude.{◌≡◌, ◌<◌, ◌⊎◌, ℕ, suc, List, [], ◌∷◌, ◌++◌, map, get_or, cond, Contains, Option, Some, None, option_map}
 use Rattle.std.specs.Borrow.{Bor}
 use Rattle.std.specs.BTreeMap.{BTreeMap}
-use Rattle.wb_values.specs.Value.{Name}
-use Rattle.verilog_trees.specs.Syntax.{Item, port, parameter, wires, variables, assign, always, instances, Module, Source}
+use Rattle.wb_values.specs.Value.{Name, same_name}
+use Rattle.verilog_trees.specs.Syntax.{Item, port, parameter, wires, variables, assign, always, instances, no_ports, Module, Source}
 use Rattle.verilog_meaning.specs.Hierarchy.{module_named}
 use Rattle.verilog_meaning.specs.Settled.{Design}
 use Rattle.verilog_designs.specs.Accepted.{StandsIn}
@@ -15,9 +15,39 @@ use Rattle.v_hier.specs.Tables.{under_name}
 abbrev pub modules_of : List (Bor CodeModule) → List Module
 modules_of ms = map (λ m. module_of m.now) ms
 
--- the module of a name by a table
-abbrev pub module_at : BTreeMap (Bor (List ℕ)) (Bor CodeModule) → Name → Option Module
-module_at t n = option_map (λ m. module_of m.now) (under_name t n)
+-- the number of the first module of a name, where the first of these has this number
+abbrev pub number_named : ℕ → Source → Name → Option ℕ
+number_named k [] n = None
+number_named k (m ∷ ms) n = cond (same_name m.module_name n) (Some k) (number_named (suc k) ms n)
+
+-- the module with a number, and one without items past the end
+abbrev pub module_at : Source → ℕ → Module
+module_at source k = get_or source k (record { module_name = []; parameters = []; ports = no_ports; items = [] })
+
+abbrev pub numbered : Source → List ℕ → List Module
+numbered source ks = map (module_at source) ks
+
+-- the module of a name by a table of numbers
+abbrev pub left_in : Source → BTreeMap (Bor (List ℕ)) ℕ → Name → Option Module
+left_in source t n = option_map (module_at source) (under_name t n)
+
+abbrev pub items_of : Option Module → List Item
+items_of None = []
+items_of (Some m) = m.items
+
+abbrev pub one_if_any : Option Module → List Module
+one_if_any None = []
+one_if_any (Some m) = m ∷ []
+
+-- all numbers are below n
+abbrev pub AreBelow : ℕ → List ℕ → Type 0
+AreBelow n [] = Unit {0}
+AreBelow n (k ∷ ks) = (k < n) × AreBelow n ks
+
+-- those of a table and of a list
+pub record AreWithin (n : ℕ) (t : BTreeMap (Bor (List ℕ)) ℕ) (ks : List ℕ) : Type 0 where
+  pub left : (q : Name) (k : ℕ) → under_name t q ≡ Some k → k < n
+  pub found : AreBelow n ks
 
 -- The modules of the list are those that stand in the design.
 pub record AreStanding (d : Design) (ms : List Module) : Type 0 where

@@ -3,6 +3,7 @@
 
 mod below;
 mod design;
+mod listed;
 mod named;
 
 pub use design::standing;
