@@ -1,4 +1,4 @@
-use Rattle.std.proofs.Common.{ap, sym, subst, ◌∙◌, option_map, Bor, Option}
+use Rattle.std.proofs.Common.{ap, sym, subst, ◌∙◌, option_map, Bor}
 use Rattle.verilog_trees.specs.Syntax.{instances}
 use Rattle.v_syntax.specs.declared.module.Module.{Module}
 use Rattle.v_syntax.specs.Source.{connections_of, item_of, module_of}

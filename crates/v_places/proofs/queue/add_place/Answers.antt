@@ -1,6 +1,5 @@
 use Rattle.std.proofs.Common.{ap}
 use Rattle.v_syntax.specs.Source.{module_of}
-use Rattle.v_places.specs.Below.{Spot}
 use Rattle.v_places.specs.Views.{name_of, connected_to}
 use Rattle.v_places.proofs.Rooms.{place_added}
 use Rattle.v_places.proofs.queue.add_place.Goals as goal
