@@ -14,7 +14,7 @@ use Rattle.ila_sim.specs.Outcomes.{inputs_from, IsToldFrom}
 use Rattle.ila_sim.specs.Scripts.{script_view}
 use Rattle.ila_sim.specs.Sets.{are_right}
 use Rattle.ila_sim.specs.Texts.{outcome_line}
-use Rattle.ila_sim.proofs.Steps.{after_well, one_told, lines_next, rest_right, ended, start_told}
+use Rattle.ila_sim.proofs.Steps.{after_well, one_told, lines_next, rest_right, ended, start_told, first_right}
 use Rattle.ila_sim.proofs.running.simulated_text.Goals as goal
 
 pub loop-place-init : goal.loop-place-init
@@ -27,6 +27,16 @@ loop-place-init c =
       right = subst (λ ls. list_all (λ (l : Vec Set Global). are_right (settables_of m).inputs l.items) ls ≡ true) (sym c.deref-sets-items.ensures.value) c.requires.1;
       runs = start_told m (state_valuation m (state_in c.args.model.now.parts c.in_ok-runner.runner)) (first_state m script) c.deref-sets-items.result.now c.args.script.now.inputs.items c.new-text.result.items begun c.deref-sets-items.ensures.value c.new-text.ensures.items;
     }
+
+pub answer-requires-clause-sets : goal.answer-requires-clause-sets
+answer-requires-clause-sets c =
+    let m = model_of c.args.model.now in
+    let items = c.deref-sets-items.result.now in
+    let k = c.loop-place.place in
+    let line = c.sets-item.result in
+    let cut = lines_next items k line (omega arith) c.sets-item.is in
+    let first = first_right (λ (l : Vec Set Global). are_right (settables_of m).inputs l.items) (drop k items) (drop (k + 1) items) line cut c.loop-place.invariant.right in
+    subst (λ (ss : List Set). are_right (settables_of m).inputs ss ≡ true) (sym c.deref-in-loop-place.ensures.value) first
 
 pub loop-place-preserved : goal.loop-place-preserved
 loop-place-preserved c =
