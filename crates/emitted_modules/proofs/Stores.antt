@@ -14,7 +14,7 @@ use Rattle.emitted_designs.proofs.Named.{same_of}
 use Rattle.emitted_modules.specs.Rtl.{Stored}
 use Rattle.emitted_modules.proofs.Names.{Among}
 use Rattle.emitted_modules.proofs.Words.{IsMemoryOf}
-use Rattle.emitted_modules.proofs.Running.{store_update, all_true, stores_by}
+use Rattle.emitted_modules.proofs.Running.{store_update, meets, stores_by}
 
 module _ (s : Scope) (v : Valuation) where
   abbrev word_place : Stored → ℕ → Place
@@ -79,7 +79,7 @@ module _ (s : Scope) (v : Valuation) where
   pub stores_leave : (z : Valuation) (ws : List Stored) (n : Name) → ((w : Stored) → Among w ws → same_name w.memory_name n ≡ false)
       → with_updates s z (stores_by s v ws) n ≡ z n
   stores_leave z [] n h = refl
-  stores_leave z (w ∷ ws) n h = by_test (all_true s v w.conditions) (λ y. stores_leave y ws n (λ x at. h x (inr at)))
+  stores_leave z (w ∷ ws) n h = by_test (meets s v w.condition) (λ y. stores_leave y ws n (λ x at. h x (inr at)))
     where
       by_test : (b : Bool) → ((y : Valuation) → with_updates s y (stores_by s v ws) n ≡ y n)
           → with_updates s z (cond b (store_update s v w ∷ []) [] ++ stores_by s v ws) n ≡ z n

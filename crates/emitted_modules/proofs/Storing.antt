@@ -4,42 +4,37 @@ use Rattle.std.proofs.lemmas.Bool.{and_parts}
 use Rattle.wb_values.specs.Value.{Name, Sort, truth, word, memory, Valuation}
 use Rattle.wb_values.specs.Choice.{some_if}
 use Rattle.model_meaning.specs.Term.{store_sort, ite_sort}
-use Rattle.verilog_trees.specs.Syntax.{Expression, unary, complement}
-use Rattle.verilog_meaning.specs.Expression.{Scope, is_true}
+use Rattle.verilog_meaning.specs.Expression.{Scope}
 use Rattle.verilog_meaning.specs.Statement.{with_updates}
 use Rattle.wb_terms.specs.declared.nodes.Node.{Node}
-use Rattle.wb_terms.specs.declared.nodes.Node.TheVariants.{Ite, Store}
+use Rattle.wb_terms.specs.declared.nodes.Node.TheVariants.{Store}
 use Rattle.wb_terms.specs.Graph.{Graph}
 use Rattle.emitted_modules.specs.Rtl.{Stored}
-use Rattle.emitted_modules.specs.Nodes.{node_at, operand, stores_of_node, stores_for}
+use Rattle.emitted_modules.specs.Nodes.{node_at, has_part}
+use Rattle.emitted_modules.specs.Stores.{MemoryUpdate, stores_at, stores_of}
 use Rattle.emitted_modules.proofs.Names.{Among, among_either}
 use Rattle.emitted_modules.proofs.Edge.{updates_joined}
-use Rattle.emitted_modules.proofs.Running.{store_update, all_true, stores_by}
+use Rattle.emitted_modules.proofs.Running.{store_update, meets, stores_by}
 use Rattle.emitted_modules.proofs.Computed.{same_number}
 
 -- ---- the names of stores
 
-pub named_by_node : (g : Graph) (m : Name) (inner : List Expression → ℕ → List Stored)
-    → ((cs : List Expression) (k : ℕ) (w : Stored) → Among w (inner cs k) → w.memory_name ≡ m) → (cs : List Expression) (n : Node) (w : Stored)
-    → Among w (stores_of_node g m inner cs n) → w.memory_name ≡ m
-named_by_node g m inner h cs (Store x i y) w at = by_place (among_either w (inner cs x.0) _ at)
-  where
-    by_place : Among w (inner cs x.0) ⊎ Among w (record { conditions = cs; memory_name = m; address = operand g i.0; value = operand g y.0 } ∷ []) → w.memory_name ≡ m
-    by_place (inl k) = h cs x.0 w k
-    by_place (inr (inl e)) = ap (λ (z : Stored). z.memory_name) (sym e)
-    by_place (inr (inr k)) = absurd k
-named_by_node g m inner h cs (Ite c x y) w at =
-    by_place (among_either w (inner (operand g c.0 ∷ cs) x.0) (inner (unary complement (operand g c.0) ∷ cs) y.0) at)
-  where
-    by_place : Among w (inner (operand g c.0 ∷ cs) x.0) ⊎ Among w (inner (unary complement (operand g c.0) ∷ cs) y.0) → w.memory_name ≡ m
-    by_place (inl k) = h (operand g c.0 ∷ cs) x.0 w k
-    by_place (inr k) = h (unary complement (operand g c.0) ∷ cs) y.0 w k
-named_by_node g m inner h cs _ w at = absurd at
+named_at : (g : Graph) (u : MemoryUpdate) (k : ℕ) (n : Node) (w : Stored) → Among w (stores_at g u k n) → w.memory_name ≡ u.memory_name
+named_at g u k (Store m i x) w (inl e) = ap (λ (z : Stored). z.memory_name) (sym e)
+named_at g u k (Store m i x) w (inr h) = absurd h
+named_at g u k _ w h = absurd h
 
-pub stores_named : (g : Graph) (m : Name) (l : ℕ) (cs : List Expression) (k : ℕ) (w : Stored) → Among w (stores_for g m l cs k) → w.memory_name ≡ m
-stores_named g m zero cs k w at = absurd at
-stores_named g m (suc l) cs k w at =
-    named_by_node g m (λ ds j. stores_for g m l ds j) (λ ds j x h. stores_named g m l ds j x h) cs (node_at g k) w at
+pub stores_named : (g : Graph) (u : MemoryUpdate) (n : ℕ) (w : Stored) → Among w (stores_of g u n) → w.memory_name ≡ u.memory_name
+stores_named g u zero w h = absurd h
+stores_named g u (suc k) w h =
+    by_place (has_part g u.term k) (stores_named g u k w)
+    (among_either w (stores_of g u k) (cond (has_part g u.term k) (stores_at g u k (node_at g k)) []) h)
+  where
+    by_place : (b : Bool) → (Among w (stores_of g u k) → w.memory_name ≡ u.memory_name)
+        → Among w (stores_of g u k) ⊎ Among w (cond b (stores_at g u k (node_at g k)) []) → w.memory_name ≡ u.memory_name
+    by_place b more (inl at) = more at
+    by_place true more (inr at) = named_at g u k (node_at g k) w at
+    by_place false more (inr at) = absurd at
 
 -- ---- sorts
 
@@ -93,34 +88,10 @@ ite_sorts _ _ _ a d e = cc
 pub stores_joined : (s : Scope) (v : Valuation) (xs ys : List Stored) → stores_by s v (xs ++ ys) ≡ stores_by s v xs ++ stores_by s v ys
 stores_joined s v [] ys = refl
 stores_joined s v (x ∷ xs) ys =
-    ap (λ us. cond (all_true s v x.conditions) (store_update s v x ∷ []) [] ++ us) (stores_joined s v xs ys)
-    ∙ sym (append_assoc (cond (all_true s v x.conditions) (store_update s v x ∷ []) []) (stores_by s v xs) (stores_by s v ys))
+    ap (λ us. cond (meets s v x.condition) (store_update s v x ∷ []) [] ++ us) (stores_joined s v xs ys)
+    ∙ sym (append_assoc (cond (meets s v x.condition) (store_update s v x ∷ []) []) (stores_by s v xs) (stores_by s v ys))
 
 pub after_both : (s : Scope) (v z : Valuation) (xs ys : List Stored) (n : Name)
     → with_updates s z (stores_by s v (xs ++ ys)) n ≡ with_updates s (with_updates s z (stores_by s v xs)) (stores_by s v ys) n
 after_both s v z xs ys n =
     ap (λ us. with_updates s z us n) (stores_joined s v xs ys) ∙ ap (λ (u : Valuation). u n) (updates_joined s z (stores_by s v xs) (stores_by s v ys))
-
--- where a condition fails there are none
-pub skipped_node : (s : Scope) (v : Valuation) (g : Graph) (m : Name) (inner : List Expression → ℕ → List Stored)
-    → ((cs : List Expression) (k : ℕ) → all_true s v cs ≡ false → stores_by s v (inner cs k) ≡ []) → (cs : List Expression) (n : Node)
-    → all_true s v cs ≡ false → stores_by s v (stores_of_node g m inner cs n) ≡ []
-skipped_node s v g m inner h cs (Store x i y) fails =
-    stores_joined s v (inner cs x.0) _
-    ∙ (ap (λ us. us ++ stores_by s v (record { conditions = cs; memory_name = m; address = operand g i.0; value = operand g y.0 } ∷ [])) (h cs x.0 fails)
-    ∙ ap (λ b. cond b (store_update s v (record { conditions = cs; memory_name = m; address = operand g i.0; value = operand g y.0 }) ∷ []) [] ++ []) fails)
-skipped_node s v g m inner h cs (Ite c x y) fails =
-    stores_joined s v (inner (operand g c.0 ∷ cs) x.0) _
-    ∙ (ap (λ us. us ++ stores_by s v (inner (unary complement (operand g c.0) ∷ cs) y.0)) (h (operand g c.0 ∷ cs) x.0 (both_fail (is_true s v (operand g c.0)) fails))
-    ∙ h (unary complement (operand g c.0) ∷ cs) y.0 (both_fail (is_true s v (unary complement (operand g c.0))) fails))
-  where
-    both_fail : (b : Bool) → all_true s v cs ≡ false → (b && all_true s v cs) ≡ false
-    both_fail true e = e
-    both_fail false e = refl
-skipped_node s v g m inner h cs _ fails = refl
-
-pub stores_skipped : (s : Scope) (v : Valuation) (g : Graph) (m : Name) (l : ℕ) (cs : List Expression) (k : ℕ) → all_true s v cs ≡ false
-    → stores_by s v (stores_for g m l cs k) ≡ []
-stores_skipped s v g m zero cs k fails = refl
-stores_skipped s v g m (suc l) cs k fails =
-    skipped_node s v g m (λ ds j. stores_for g m l ds j) (λ ds j f. stores_skipped s v g m l ds j f) cs (node_at g k) fails
