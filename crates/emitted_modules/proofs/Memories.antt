@@ -1,5 +1,6 @@
 -- The updates of memories by the instructions of well sorted parts.
-use Rattle.std.proofs.Common.{◌≡◌, ℕ, zero, suc, ◌+◌, ◌<◌, ◌≤◌, Bool, true, false, cond, ◌⊎◌, inl, inr, List, [], ◌∷◌, ◌++◌, length, None, refl, sym, ◌∙◌, ap, subst, arith}
+use Rattle.std.proofs.Common.{◌≡◌, ℕ, zero, suc, ◌+◌, ◌<◌, ◌≤◌, Bool, true, false, cond, ◌⊎◌, inl, inr, List, [], ◌∷◌, ◌++◌, length, Some, None, refl, sym, ◌∙◌, ap, subst, arith}
+use Rattle.std.specs.Prelude.{slice_get}
 use Rattle.std.proofs.lemmas.Bool.{false≢true, and_parts}
 use Rattle.verilog_trees.specs.Syntax.{Expression}
 use Rattle.wb_terms.specs.Graph.{Graph}
@@ -8,11 +9,11 @@ use Rattle.ila_model.specs.declared.parts.Instruction.{Instruction}
 use Rattle.ila_model.specs.declared.parts.Parts.{Parts}
 use Rattle.ila_model.specs.Sorted.{are_distinct, name_at, sort_at, is_condition, are_updates, is_instruction, is_link, child_after, are_instructions}
 use Rattle.emitted_designs.proofs.Named.{same_of}
-use Rattle.emitted_modules.specs.Rtl.{Stored}
+use Rattle.emitted_modules.specs.Rtl.{Stored, Guarded}
 use Rattle.emitted_modules.specs.Nodes.{operand}
 use Rattle.emitted_modules.specs.Stores.{MemoryUpdate, stores_of}
-use Rattle.emitted_modules.specs.Module.{is_of_memory, memory_update, memory_updates, all_stores, memories_for, memories_from}
-use Rattle.emitted_modules.proofs.Names.{Among, AreDistinct, among_either, among_map, differs_in}
+use Rattle.emitted_modules.specs.Module.{is_of_memory, memory_update, memory_updates, all_stores, memories_for, memories_from, guarded_for, guarded_from}
+use Rattle.emitted_modules.proofs.Names.{Among, AreDistinct, among_left, among_right, among_either, among_map, differs_in}
 use Rattle.emitted_modules.proofs.WireNames.{AreOther, AreAllOther}
 use Rattle.emitted_modules.proofs.Storing.{stores_named}
 use Rattle.emitted_modules.proofs.Sorts.{term_of, update_sorted, update_names, updates_distinct}
@@ -85,6 +86,52 @@ store_from p j d us w at =
         by_place (inr k) more = let z = more k in (z.0, inr z.1, z.2)
 
 -- ---- of all instructions
+
+-- what an instruction becomes
+pub guarded_got : (g : Graph) (from : ℕ) (is : List Instruction) (k : ℕ) (c : Instruction) → slice_get is k ≡ Some c
+    → slice_get (guarded_from g from is) k ≡ Some (guarded_for g (from + k) c)
+guarded_got g from [] k c e = cc
+guarded_got g from (i ∷ is) zero c e =
+    let same : i ≡ c = cc in ap (λ (x : Instruction). Some (guarded_for g from x)) same ∙ ap (λ n. Some (guarded_for g n c)) (none_more from)
+  where
+    none_more : (n : ℕ) → n ≡ n + 0
+    none_more n = omega arith
+guarded_got g from (i ∷ is) (suc k) c e = guarded_got g (suc from) is k c e ∙ ap (λ n. Some (guarded_for g n c)) (one_more from k)
+  where
+    one_more : (n m : ℕ) → suc n + m ≡ n + suc m
+    one_more n m = omega arith
+
+pub got_guarded : (g : Graph) (from : ℕ) (is : List Instruction) (k : ℕ) (z : Guarded) → slice_get (guarded_from g from is) k ≡ Some z
+    → (c : Instruction) × (slice_get is k ≡ Some c) × (guarded_for g (from + k) c ≡ z)
+got_guarded g from [] k z e = cc
+got_guarded g from (i ∷ is) zero z e =
+    let same : guarded_for g from i ≡ z = cc in (i, refl, ap (λ n. guarded_for g n i) (none_more from) ∙ same)
+  where
+    none_more : (n : ℕ) → n + 0 ≡ n
+    none_more n = omega arith
+got_guarded g from (i ∷ is) (suc k) z e =
+    let x = got_guarded g (suc from) is k z e in (x.0, x.1, ap (λ n. guarded_for g n x.0) (one_more from k) ∙ x.2)
+  where
+    one_more : (n m : ℕ) → n + suc m ≡ suc n + m
+    one_more n m = omega arith
+
+-- the updates of one instruction are among those of all
+pub memories_there : (g : Graph) (from : ℕ) (is : List Instruction) (k : ℕ) (c : Instruction) → slice_get is k ≡ Some c → (m : MemoryUpdate)
+    → Among m (memories_for g (from + k) c) → Among m (memories_from g from is)
+memories_there g from [] k c e m at = cc
+memories_there g from (i ∷ is) zero c e m at =
+    let same : i ≡ c = cc in
+    among_left m (memories_for g from i) (memories_from g (suc from) is)
+    (subst (λ (x : Instruction). Among m (memories_for g from x)) (sym same) (subst (λ n. Among m (memories_for g n c)) (none_more from) at))
+  where
+    none_more : (n : ℕ) → n + 0 ≡ n
+    none_more n = omega arith
+memories_there g from (i ∷ is) (suc k) c e m at =
+    among_right m (memories_for g from i) (memories_from g (suc from) is)
+    (memories_there g (suc from) is k c e m (subst (λ n. Among m (memories_for g n c)) (one_more from k) at))
+  where
+    one_more : (n m : ℕ) → n + suc m ≡ suc n + m
+    one_more n m = omega arith
 
 -- the updates of an instruction are sorted, and the rest is
 first_sorted : (p : Parts) (from : ℕ) (i : Instruction) (is : List Instruction) → are_instructions p None from (i ∷ is) ≡ true

@@ -409,7 +409,7 @@ module _ (s : Scope) (v : Valuation) (g : Graph) (point : Valuation) (keep : ℕ
             ∙ (ap (λ i. b && i) (eq-eqb u.term k (sym same)) ∙ and_all b)))
             decoded
         by_test false e ways =
-            let all = collected k h q ways (suc u.term) 0 (omega (arith, q)) refl in
+            let all = collected k h q ways (suc u.term) 0 (omega (arith, q)) (omega arith) in
             any_worth s v (ways_to g u (suc u.term) k) (comes_by h k)
             (subst (HasAny s v (ways_to g u (suc u.term) k))
             (sym

@@ -77,7 +77,7 @@ module _ (s : Scope) (v : Valuation) (g : Graph) (point : Valuation) (keep : ℕ
       by_test false part = refl
 
   pub none_stored : b ≡ false → stores_by s v (stores_of g u (suc top)) ≡ []
-  none_stored off = none_below off (suc top) 0 refl
+  none_stored off = none_below off (suc top) 0 (omega arith)
 
   -- ---- where it does
 
@@ -248,4 +248,4 @@ module _ (s : Scope) (v : Valuation) (g : Graph) (point : Valuation) (keep : ℕ
 
     -- From the memory as it was the stores for a term make it what the term is.
     pub made : (z : Valuation) → z m ≡ words ws → with_updates s z (stores_by s v (stores_of g u (suc top))) m ≡ val (tree g top) point
-    made z now = made_below (suc top) 0 z refl now
+    made z now = made_below (suc top) 0 z (omega arith) now
