@@ -24,7 +24,7 @@ use Rattle.refinement.specs.Run.{Run, IsRun, IsResetAt}
 use Rattle.emitted_designs.specs.Map.{setting_of}
 use Rattle.emitted_designs.specs.Cycles.{held_point}
 use Rattle.emitted_designs.proofs.Named.{same_if}
-use Rattle.emitted_modules.specs.Rtl.{Wire, Stored, Rtl, Guarded, bits_of_sort, clocked_statement}
+use Rattle.emitted_modules.specs.Rtl.{Stored, Rtl, Guarded, bits_of_sort, clocked_statement}
 use Rattle.emitted_modules.specs.Nodes.{operand, node_wires}
 use Rattle.emitted_modules.specs.Stores.{MemoryUpdate, via_wires, stores_of}
 use Rattle.emitted_modules.specs.Kept.{IsKept}

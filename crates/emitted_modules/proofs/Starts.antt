@@ -1,5 +1,5 @@
 -- When an instruction of an emitted module starts.
-use Rattle.std.proofs.Common.{◌≡◌, ℕ, ◌<◌, ◌≤◌, ◌^◌, Bool, true, false, ◌&&◌, inl, inr, List, [], ◌∷◌, ◌++◌, map, length, Some, None, refl, sym, ◌∙◌, ap, subst, arith}
+use Rattle.std.proofs.Common.{◌≡◌, ℕ, ◌<◌, ◌≤◌, Bool, true, false, ◌&&◌, inl, inr, List, [], ◌∷◌, ◌++◌, map, length, Some, None, refl, sym, ◌∙◌, ap, subst, arith}
 use Rattle.std.specs.List.{list_all}
 use Rattle.std.proofs.lemmas.Bool.{and_parts}
 use Rattle.std.proofs.lemmas.List.{length-map}
@@ -11,10 +11,10 @@ use Rattle.model_meaning.specs.Model.{holds}
 use Rattle.verilog_trees.specs.Syntax.{Expression, binary, bitwise_and}
 use Rattle.verilog_meaning.specs.Expression.{bit, is_nonzero, is_true}
 use Rattle.verilog_meaning.specs.Settled.{whole_name, IsDeclared}
-use Rattle.term_expressions.specs.Expressions.{IsWorth, IsAssigned}
+use Rattle.term_expressions.specs.Expressions.{IsWorth}
 use Rattle.term_expressions.proofs.Names.{name_is_its_value}
 use Rattle.term_expressions.proofs.Forms.{bitwise_and_is_and}
-use Rattle.term_expressions.proofs.Shifts.{by_itself, standing_is_assigned}
+use Rattle.term_expressions.proofs.Shifts.{by_itself}
 use Rattle.wb_terms.specs.Graph.{tree}
 use Rattle.ila_model.specs.declared.parts.Instruction.{Instruction}
 use Rattle.ila_model.specs.declared.parts.Parts.{Parts}
@@ -29,11 +29,10 @@ use Rattle.emitted_modules.specs.Nodes.{operand, node_wires}
 use Rattle.emitted_modules.specs.Kept.{AreRead, IsKept}
 use Rattle.emitted_modules.specs.Module.{one_name, decodes_of, decode_wires, all_ways, memories_from, ready_of, emitted_module}
 use Rattle.emitted_modules.specs.Laws.{IsFlatModel}
-use Rattle.emitted_modules.proofs.Names.{Among, among_left, among_right}
+use Rattle.emitted_modules.proofs.Names.{among_left, among_right}
 use Rattle.emitted_modules.proofs.Declared.{scope_in, input_net}
-use Rattle.emitted_modules.proofs.Nets.{IsPlain, plain_net, wire_plain, reset_plain, go_plain, start_plain, commit_plain, is_declared}
-use Rattle.emitted_modules.proofs.NetWidths.{IsBitsSort}
-use Rattle.emitted_modules.proofs.Settled.{HasNumber, net_number, wire_has, start_has, commit_has}
+use Rattle.emitted_modules.proofs.Nets.{IsPlain, plain_net, reset_plain, go_plain, start_plain, commit_plain, is_declared}
+use Rattle.emitted_modules.proofs.Settled.{HasNumber, net_number, start_has, commit_has}
 use Rattle.emitted_modules.proofs.Computed.{Worth}
 use Rattle.emitted_modules.proofs.Decoding.{one_of, AreWorth, BitsAreRead, counted_by_wires}
 use Rattle.emitted_modules.proofs.Reading.{read_number}

@@ -3,7 +3,7 @@ use Rattle.std.proofs.Common.{◌≡◌, ℕ, zero, suc, ◌+◌, ◌<◌, ◌�
 use Rattle.std.specs.Prelude.{IsTrue}
 use Rattle.std.specs.List.{list_any}
 use Rattle.std.proofs.lemmas.Bool.{false≢true, and_parts, and_cases, or_cases, cases_eq, eq-eqb, ne_eqb, eqb-true}
-use Rattle.wb_values.specs.Value.{truth, word, memory, as_truth, Valuation}
+use Rattle.wb_values.specs.Value.{truth, memory, as_truth, Valuation}
 use Rattle.wb_values.specs.Number.{word_not, word_and, word_or}
 use Rattle.model_meaning.specs.Term.{sort_of, val}
 use Rattle.verilog_trees.specs.Syntax.{Expression, unary, complement, binary, bitwise_and, bitwise_or}
@@ -15,7 +15,7 @@ use Rattle.wb_terms.specs.declared.nodes.Node.{Node}
 use Rattle.wb_terms.specs.declared.nodes.Node.TheVariants.{Ite, Store}
 use Rattle.wb_terms.specs.Graph.{Graph, tree, tree_of_node, operands_of, AllBelow}
 use Rattle.emitted_modules.specs.Nodes.{node_at, operand, is_changed, memories_of, is_part, has_part}
-use Rattle.emitted_modules.specs.Stores.{MemoryUpdate, via, or_more, any_of, if_so, ways_from, ways_to, via_expression, via_wire, via_wires}
+use Rattle.emitted_modules.specs.Stores.{MemoryUpdate, via, or_more, any_of, if_so, ways_from, ways_to, via_wire, via_wires}
 use Rattle.emitted_modules.specs.Kept.{IsOrdered, AreKept}
 use Rattle.emitted_modules.proofs.Names.{Among}
 use Rattle.emitted_modules.proofs.Computed.{Worth}
