@@ -1,4 +1,6 @@
--- The stores of an instruction's update of a memory, over one-bit wires: by way of which nodes the memory takes its value.
+-- The stores of an instruction's update of a memory. The memory takes its value by one way down the graph of terms: from the update's term, at a
+-- store on to the memory that is stored to, at one of two memories on to the one that is chosen, down to its name. A wire of one bit for each
+-- node says whether the way goes through it. The stores that it goes through are made, the inner ones first.
 use Rattle.std.specs.Prelude.{ℕ, zero, suc, Bool, cond, ◌==◌, List, [], ◌∷◌, ◌++◌, Some, codes, decimal}
 use Rattle.wb_values.specs.Value.{Name, truth}
 use Rattle.verilog_trees.specs.Syntax.{Expression, unary, complement, binary, bitwise_and, bitwise_or}
@@ -16,10 +18,10 @@ pub record MemoryUpdate : Type 0 where
   pub instruction : ℕ
   pub decode : Expression
   pub memory_name : Name
-  -- the node that the memory becomes
+  -- the node that says what the memory becomes
   pub term : ℕ
 
--- The wire that says that the memory takes its value by way of node k.
+-- the wire for node k: the instruction decodes, and the way goes through the node
 abbrev pub via_name : MemoryUpdate → ℕ → Name
 via_name u k = codes "wb_via_" ++ decimal u.instruction ++ 95 ∷ (decimal k ++ 95 ∷ u.memory_name)
 
@@ -38,7 +40,7 @@ any_of (e ∷ es) = or_more e es
 abbrev pub if_so : Bool → Expression → List Expression
 if_so b e = cond b (e ∷ []) []
 
--- when it goes from node p on to node k: always, where p is a store to k; by the condition, where p is one of two memories
+-- That the way goes from node p on to node k: from a store always, from one of two memories by the condition, or by its complement.
 abbrev pub ways_from : Graph → MemoryUpdate → (p k : ℕ) → Node → List Expression
 ways_from g u p k (Store m i x) = if_so (m.0 == k) (via u p)
 ways_from g u p k (Ite c x y) =
@@ -46,15 +48,16 @@ ways_from g u p k (Ite c x y) =
     ++ if_so (y.0 == k) (binary bitwise_and (via u p) (unary complement (operand g c.0)))
 ways_from g u p k n = []
 
--- from the first n nodes
+-- that it goes there from one of the first n nodes
 abbrev pub ways_to : Graph → MemoryUpdate → (n k : ℕ) → List Expression
 ways_to g u zero k = []
 ways_to g u (suc p) k = cond (has_part g u.term p) (ways_from g u p k (node_at g p)) [] ++ ways_to g u p k
 
--- It goes to the term itself where the instruction decodes.
+-- It goes through the update's term where the instruction decodes.
 abbrev pub via_expression : Graph → MemoryUpdate → ℕ → Expression
 via_expression g u k = cond (k == u.term) u.decode (any_of (ways_to g u (suc u.term) k))
 
+-- wire wb_via_j_k_m = ..;
 abbrev pub via_wire : Graph → MemoryUpdate → ℕ → Wire
 via_wire g u k = record { wire_name = via_name u k; sort = truth; expression = via_expression g u k }
 
@@ -63,7 +66,7 @@ abbrev pub via_wires : Graph → MemoryUpdate → (n : ℕ) → List Wire
 via_wires g u zero = []
 via_wires g u (suc k) = cond (has_part g u.term k) (via_wire g u k ∷ []) [] ++ via_wires g u k
 
--- if (wb_via_..) m[i] <= x
+-- if (wb_via_j_k_m) m[i] <= x;
 abbrev pub stores_at : Graph → MemoryUpdate → ℕ → Node → List Stored
 stores_at g u k (Store m i x) =
     record { condition = Some (via u k); memory_name = u.memory_name; address = operand g i.0; value = operand g x.0 } ∷ []
