@@ -32,11 +32,10 @@ use Rattle.emitted_modules.specs.Module.{decodes_of, decode_wires, is_of_memory,
 use Rattle.emitted_modules.specs.Laws.{IsFlatModel}
 use Rattle.emitted_modules.proofs.Names.{Among, AreDistinct, among_right, among_map, differs_in}
 use Rattle.emitted_modules.proofs.Words.{IsMemoryOf}
-use Rattle.emitted_modules.proofs.Stores.{stores_leave}
-use Rattle.emitted_modules.proofs.WireLists.{way_there}
+use Rattle.emitted_modules.proofs.Stores.{stores_leave, stores_named, stores_joined, after_both}
+use Rattle.emitted_modules.proofs.WireNames.{way_there}
 use Rattle.emitted_modules.proofs.Ways.{IsHeld}
 use Rattle.emitted_modules.proofs.Written.{none_stored, made}
-use Rattle.emitted_modules.proofs.Storing.{stores_named, stores_joined, after_both}
 use Rattle.emitted_modules.proofs.Formed.{IsDone}
 use Rattle.emitted_modules.proofs.Memories.{memory_from, memory_there, store_from, guarded_got, got_guarded, memories_there}
 use Rattle.emitted_modules.proofs.Declared.{scope_in}

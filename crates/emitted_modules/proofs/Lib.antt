@@ -13,14 +13,12 @@ mod WordReads
 mod Trees
 mod Formed
 mod Parts
-mod Storing
 mod Loaded
 mod Nodes
 mod Assigned
 mod Next
 mod Decoding
 mod WireNames
-mod WireLists
 mod Ways
 mod Written
 mod OwnNames
@@ -29,7 +27,6 @@ mod Model
 mod PortLists
 mod Ports
 mod Points
-mod TableNames
 mod Sorts
 mod Memories
 mod Facts

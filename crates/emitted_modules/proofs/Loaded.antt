@@ -18,7 +18,7 @@ use Rattle.emitted_modules.proofs.Names.{Among}
 use Rattle.emitted_modules.proofs.Trees.{tree_is}
 use Rattle.emitted_modules.proofs.Computed.{Worth}
 use Rattle.emitted_modules.proofs.WordReads.{ReadBy, store_word, choice_word, IsNoMemory, never_memory, word_if, of_bits, of_word_sort, of_same_words, of_same_bits, of_compared, of_concat_sort, of_extract_sort, of_extended_sort, of_load_sort}
-use Rattle.emitted_modules.proofs.Storing.{store_sorts, ite_sorts}
+use Rattle.emitted_modules.proofs.Stores.{store_sorts, ite_sorts}
 use Rattle.emitted_modules.proofs.Formed.{IsDone}
 use Rattle.emitted_modules.proofs.Parts.{memory_below, part_of_part}
 

@@ -15,7 +15,7 @@ use Rattle.emitted_modules.specs.Stores.{MemoryUpdate, stores_of}
 use Rattle.emitted_modules.specs.Module.{is_of_memory, memory_update, memory_updates, all_stores, memories_for, memories_from, guarded_for, guarded_from}
 use Rattle.emitted_modules.proofs.Names.{Among, AreDistinct, among_left, among_right, among_either, among_map, differs_in}
 use Rattle.emitted_modules.proofs.WireNames.{AreOther, AreAllOther}
-use Rattle.emitted_modules.proofs.Storing.{stores_named}
+use Rattle.emitted_modules.proofs.Stores.{stores_named}
 use Rattle.emitted_modules.proofs.Sorts.{term_of, update_sorted, update_names, updates_distinct}
 
 -- ---- of one instruction

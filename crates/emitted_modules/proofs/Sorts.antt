@@ -10,9 +10,8 @@ use Rattle.ila_model.specs.declared.parts.Instruction.{Instruction}
 use Rattle.ila_model.specs.declared.parts.Parts.{Parts}
 use Rattle.ila_model.specs.Sorted.{are_distinct, has_sort, is_term_of, is_read_at, sort_at, name_at, is_state_at, are_updates, is_instruction, is_link, child_after, are_instructions}
 use Rattle.emitted_modules.specs.Module.{update_for, is_of_memory, updates_for}
-use Rattle.emitted_modules.proofs.Names.{Among, AreDistinct, among_map, mapped_from, none_in, differs_in}
+use Rattle.emitted_modules.proofs.Names.{Among, AreDistinct, among_map, mapped_from, none_in, differs_in, names_apart}
 use Rattle.emitted_modules.proofs.Edge.{names_in}
-use Rattle.emitted_modules.proofs.TableNames.{names_apart}
 
 less_by : (k n : ℕ) → nat_lt k n ≡ true → k < n
 less_by k n e = grind (arith, nat_tests, e)

@@ -43,7 +43,7 @@ use Rattle.emitted_modules.proofs.Formed.{IsDone}
 use Rattle.emitted_modules.proofs.Trees.{tree_is}
 use Rattle.emitted_modules.proofs.Loaded.{WordsAreRead}
 use Rattle.emitted_modules.proofs.Nodes.{NamesAreRead, WiresAreRead, done}
-use Rattle.emitted_modules.proofs.WireLists.{wires_of, wire_kept, word_wire_there}
+use Rattle.emitted_modules.proofs.WireNames.{wires_of, wire_kept, word_wire_there}
 use Rattle.emitted_modules.proofs.Reading.{sort_value, settled_at, read_value, state_read, input_read, state_is_named, sort_is}
 use Rattle.emitted_modules.proofs.Points.{IsHeldAs, IsMemoryHeld, IsNameHeld, net_worth, net_sliced, net_read}
 use Rattle.emitted_modules.proofs.Next.{some_address}

@@ -20,11 +20,11 @@ use Rattle.emitted_modules.specs.Kept.{IsOrdered, AreKept}
 use Rattle.emitted_modules.proofs.Names.{Among}
 use Rattle.emitted_modules.proofs.Computed.{Worth}
 use Rattle.emitted_modules.proofs.Trees.{tree_is}
-use Rattle.emitted_modules.proofs.Storing.{store_sorts, ite_sorts}
+use Rattle.emitted_modules.proofs.Stores.{store_sorts, ite_sorts}
 use Rattle.emitted_modules.proofs.Formed.{IsDone}
 use Rattle.emitted_modules.proofs.Parts.{any_found, memory_below, its_own_part, part_of_part}
 use Rattle.emitted_modules.proofs.Decoding.{BitsAreRead}
-use Rattle.emitted_modules.proofs.WireLists.{via_wire_there}
+use Rattle.emitted_modules.proofs.WireNames.{via_wire_there}
 
 -- ---- truth values
 

@@ -19,12 +19,11 @@ use Rattle.emitted_modules.specs.Nodes.{node_at, called_at, operand, is_changed,
 use Rattle.emitted_modules.specs.Stores.{MemoryUpdate, via, via_wires, stores_at, stores_of}
 use Rattle.emitted_modules.specs.Kept.{IsOrdered, AreKept}
 use Rattle.emitted_modules.proofs.Running.{store_update, stores_by}
-use Rattle.emitted_modules.proofs.Stores.{store_made}
+use Rattle.emitted_modules.proofs.Stores.{store_made, store_sorts, stores_joined, after_both}
 use Rattle.emitted_modules.proofs.Computed.{Worth}
 use Rattle.emitted_modules.proofs.Trees.{tree_is}
 use Rattle.emitted_modules.proofs.Formed.{IsDone}
 use Rattle.emitted_modules.proofs.Parts.{memory_below}
-use Rattle.emitted_modules.proofs.Storing.{store_sorts, stores_joined, after_both}
 use Rattle.emitted_modules.proofs.Decoding.{BitsAreRead}
 use Rattle.emitted_modules.proofs.Loaded.{IsMemoryNode, memory_node}
 use Rattle.emitted_modules.proofs.Ways.{and_none, next_of, next_among, next_itself, step_at, step_elsewhere, walk_part, IsHeld, has_held, part_held, walked, comes_by, way_is}
