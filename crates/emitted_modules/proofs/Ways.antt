@@ -211,15 +211,24 @@ module _ (s : Scope) (v : Valuation) (g : Graph) (point : Valuation) (keep : ℕ
 
       by_node : (n : Node) → sort_of (tree_of_node g n) ≡ Some (memory a d) → AreKept keep (operands_of n) → Among i (memories_of n) → IsHeld i
       by_node (Store m j x) e all (inl q) =
-          record { known = below; kept = subst (λ y. keep y ≡ true) q all.0;
-          sorted = subst (λ y. sort_of (tree g y) ≡ Some (memory a d)) q (store_sorts (sort_of (tree g m.0)) (sort_of (tree g j.0)) (sort_of (tree g x.0)) a d e).0 }
+          record {
+            known = below;
+            kept = subst (λ y. keep y ≡ true) q all.0;
+            sorted = subst (λ y. sort_of (tree g y) ≡ Some (memory a d)) q (store_sorts (sort_of (tree g m.0)) (sort_of (tree g j.0)) (sort_of (tree g x.0)) a d e).0;
+          }
       by_node (Store m j x) e all (inr z) = absurd z
       by_node (Ite c x y) e all (inl q) =
-          record { known = below; kept = subst (λ z. keep z ≡ true) q all.1.0;
-          sorted = subst (λ z. sort_of (tree g z) ≡ Some (memory a d)) q (ite_sorts (sort_of (tree g c.0)) (sort_of (tree g x.0)) (sort_of (tree g y.0)) a d e).1 }
+          record {
+            known = below;
+            kept = subst (λ z. keep z ≡ true) q all.1.0;
+            sorted = subst (λ z. sort_of (tree g z) ≡ Some (memory a d)) q (ite_sorts (sort_of (tree g c.0)) (sort_of (tree g x.0)) (sort_of (tree g y.0)) a d e).1;
+          }
       by_node (Ite c x y) e all (inr (inl q)) =
-          record { known = below; kept = subst (λ z. keep z ≡ true) q all.1.1.0;
-          sorted = subst (λ z. sort_of (tree g z) ≡ Some (memory a d)) q (ite_sorts (sort_of (tree g c.0)) (sort_of (tree g x.0)) (sort_of (tree g y.0)) a d e).2 }
+          record {
+            known = below;
+            kept = subst (λ z. keep z ≡ true) q all.1.1.0;
+            sorted = subst (λ z. sort_of (tree g z) ≡ Some (memory a d)) q (ite_sorts (sort_of (tree g c.0)) (sort_of (tree g x.0)) (sort_of (tree g y.0)) a d e).2;
+          }
       by_node (Ite c x y) e all (inr (inr z)) = absurd z
       by_node _ e all z = absurd z
 
