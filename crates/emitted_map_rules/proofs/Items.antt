@@ -106,22 +106,27 @@ one_own : (x : Wire) → IsOwn x.wire_name → AreOwn (x ∷ [])
 one_own x own w (inl e) = subst (λ (y : Wire). IsOwn y.wire_name) e own
 one_own x own w (inr h) = absurd h
 
+two_own : (x y : Wire) → IsOwn x.wire_name → IsOwn y.wire_name → AreOwn (x ∷ y ∷ [])
+two_own x y first second w (inl e) = subst (λ (z : Wire). IsOwn z.wire_name) e first
+two_own x y first second w (inr (inl e)) = subst (λ (z : Wire). IsOwn z.wire_name) e second
+two_own x y first second w (inr (inr h)) = absurd h
+
 if_own : (b : Bool) (xs : List Wire) → AreOwn xs → AreOwn (cond b xs [])
 if_own true xs own = own
-if_own false xs own w h = absurd h
+if_own false xs own = λ w h. absurd h
 
 word_wires_own : (g : Graph) (l : ℕ) (e : Expression) (m n : ℕ) → AreOwn (word_wires g l e m n)
-word_wires_own g l e m zero w h = absurd h
+word_wires_own g l e m zero = λ w h. absurd h
 word_wires_own g l e m (suc k) =
     joined_own (word_wires g l e m k) (cond (has_part g m k) (word_wire g l e k ∷ []) []) (word_wires_own g l e m k)
     (if_own (has_part g m k) (word_wire g l e k ∷ []) (one_own (word_wire g l e k) refl))
 
 words_own : (g : Graph) (k : ℕ) (n : Node) → AreOwn (words_for g k n)
 words_own g k (Load m i) = word_wires_own g k (operand g i.0) m.0 k
-words_own g k _ w h = absurd h
+words_own g k _ = λ w h. absurd h
 
 node_wires_own : (g : Graph) (keep : ℕ → Bool) (k : ℕ) (ns : List Node) → AreOwn (node_wires g keep k ns)
-node_wires_own g keep k [] w h = absurd h
+node_wires_own g keep k [] = λ w h. absurd h
 node_wires_own g keep k (n ∷ ns) =
     joined_own (cond (keep k && has_wire g k n) (words_for g k n ++ wire_for g k n ∷ []) []) (node_wires g keep (suc k) ns)
     (if_own (keep k && has_wire g k n) (words_for g k n ++ wire_for g k n ∷ [])
@@ -129,22 +134,20 @@ node_wires_own g keep k (n ∷ ns) =
     (node_wires_own g keep (suc k) ns)
 
 via_wires_own : (g : Graph) (u : MemoryUpdate) (n : ℕ) → AreOwn (via_wires g u n)
-via_wires_own g u zero w h = absurd h
+via_wires_own g u zero = λ w h. absurd h
 via_wires_own g u (suc k) =
     joined_own (cond (has_part g u.term k) (via_wire g u k ∷ []) []) (via_wires g u k)
     (if_own (has_part g u.term k) (via_wire g u k ∷ []) (one_own (via_wire g u k) refl)) (via_wires_own g u k)
 
 all_ways_own : (g : Graph) (us : List MemoryUpdate) → AreOwn (all_ways g us)
-all_ways_own g [] w h = absurd h
+all_ways_own g [] = λ w h. absurd h
 all_ways_own g (u ∷ us) = joined_own (via_wires g u (suc u.term)) (all_ways g us) (via_wires_own g u (suc u.term)) (all_ways_own g us)
 
 decode_wires_own : (ds : List Expression) → AreOwn (decode_wires ds)
-decode_wires_own [] w (inl e) = ap (λ (y : Wire). begins_with_wb y.wire_name) (sym e)
-decode_wires_own [] w (inr (inl e)) = ap (λ (y : Wire). begins_with_wb y.wire_name) (sym e)
-decode_wires_own [] w (inr (inr h)) = absurd h
+decode_wires_own [] = two_own _ _ refl refl
 decode_wires_own (d ∷ ds) =
     joined_own (decode_wires ds) (none_wire d (length ds) ∷ one_wire d (length ds) ∷ []) (decode_wires_own ds)
-    (joined_own (none_wire d (length ds) ∷ []) (one_wire d (length ds) ∷ []) (one_own (none_wire d (length ds)) refl) (one_own (one_wire d (length ds)) refl))
+    (two_own (none_wire d (length ds)) (one_wire d (length ds)) refl refl)
 
 pub wires_own : (name : Name) (p : Parts) (keep : ℕ → Bool) → AreOwn (rtl_of name p keep).wires
 wires_own name p keep =
