@@ -3,7 +3,7 @@ use Rattle.std.proofs.Common.{◌≡◌, ℕ, zero, suc, Bool, true, false, cond
 use Rattle.wb_values.specs.Value.{Name, same_name, truth, Entries, entry_of}
 use Rattle.wb_values.specs.Names.{begins_with_wb}
 use Rattle.model_meaning.specs.Model.{StateDeclaration, InputDeclaration}
-use Rattle.verilog_trees.specs.Syntax.{Direction, Expression, Target, input, output, Item}
+use Rattle.verilog_trees.specs.Syntax.{Direction, Expression, Target, output, Item}
 use Rattle.verilog_meaning.specs.Register.{combinational_blocks}
 use Rattle.verilog_meaning.specs.Settled.{HasPort, declared_ports, item_ports, names_of, assignments, whole_of, whole_name, port_connections}
 use Rattle.wb_terms.specs.declared.nodes.Node.{Node}
