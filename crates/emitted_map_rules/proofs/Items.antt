@@ -1,12 +1,13 @@
 -- The items of an emitted module: its assignments are to names that begin with wb_, and its input ports are those of the model and wb_ ones.
-use Rattle.std.proofs.Common.{◌≡◌, ℕ, suc, Bool, true, false, cond, ◌&&◌, List, [], ◌∷◌, ◌++◌, map, length, ◌⊎◌, inl, inr, refl, sym, ◌∙◌, ap, subst, Some}
+use Rattle.std.proofs.Common.{◌≡◌, ℕ, zero, suc, Bool, true, false, cond, ◌&&◌, List, [], ◌∷◌, ◌++◌, map, length, ◌⊎◌, inl, inr, refl, sym, ◌∙◌, ap, subst, Some}
 use Rattle.wb_values.specs.Value.{Name, same_name, truth, Entries, entry_of}
 use Rattle.wb_values.specs.Names.{begins_with_wb}
 use Rattle.model_meaning.specs.Model.{StateDeclaration, InputDeclaration}
-use Rattle.verilog_trees.specs.Syntax.{Direction, Expression, Target, input, output, Item}
+use Rattle.verilog_trees.specs.Syntax.{Direction, Expression, Target, output, Item}
 use Rattle.verilog_meaning.specs.Register.{combinational_blocks}
 use Rattle.verilog_meaning.specs.Settled.{HasPort, declared_ports, item_ports, names_of, assignments, whole_of, whole_name, port_connections}
 use Rattle.wb_terms.specs.declared.nodes.Node.{Node}
+use Rattle.wb_terms.specs.declared.nodes.Node.TheVariants.{Load}
 use Rattle.wb_terms.specs.Graph.{Graph}
 use Rattle.ila_model.specs.declared.parts.Parts.{Parts}
 use Rattle.verilog_unique.proofs.Options.{same_is}
@@ -14,8 +15,9 @@ use Rattle.verilog_unique.proofs.Descent.{IsAmong, among_either}
 use Rattle.emitted_designs.specs.Names.{start_name, commit_name}
 use Rattle.emitted_designs.specs.Module.{control_outputs}
 use Rattle.emitted_modules.specs.Rtl.{Wire, Rtl, port_of, input_port, port_list, register_item, wire_item, module_items, module_of}
-use Rattle.emitted_modules.specs.Nodes.{wire_for, has_wire, node_wires}
-use Rattle.emitted_modules.specs.Module.{none_wire, one_wire, decode_wires, decodes_of, rtl_of}
+use Rattle.emitted_modules.specs.Nodes.{operand, has_part, wire_for, has_wire, word_wire, word_wires, words_for, node_wires}
+use Rattle.emitted_modules.specs.Stores.{MemoryUpdate, via_wire, via_wires}
+use Rattle.emitted_modules.specs.Module.{none_wire, one_wire, decode_wires, decodes_of, all_ways, memories_from, rtl_of}
 use Rattle.emitted_map_rules.proofs.Lists.{mapped_from}
 use Rattle.emitted_map_rules.proofs.Registers.{AssignsOnly}
 
@@ -93,38 +95,67 @@ assigns_only r own = record {
 
 -- ---- wires have names of their own
 
-node_wires_own : (g : Graph) (keep : ℕ → Bool) (k : ℕ) (ns : List Node) → AreOwn (node_wires g keep k ns)
-node_wires_own g keep k [] w h = absurd h
-node_wires_own g keep k (n ∷ ns) w h = by_test (keep k && has_wire g k n) h (node_wires_own g keep (suc k) ns w)
+joined_own : (xs ys : List Wire) → AreOwn xs → AreOwn ys → AreOwn (xs ++ ys)
+joined_own xs ys first second w h = by_place (among_either xs ys w h)
   where
-    by_test : (b : Bool) → IsAmong (cond b (wire_for g k n ∷ node_wires g keep (suc k) ns) (node_wires g keep (suc k) ns)) w
-        → (IsAmong (node_wires g keep (suc k) ns) w → IsOwn w.wire_name) → IsOwn w.wire_name
-    by_test true (inl e) more = ap (λ (y : Wire). begins_with_wb y.wire_name) (sym e)
-    by_test true (inr f) more = more f
-    by_test false f more = more f
+    by_place : IsAmong xs w ⊎ IsAmong ys w → IsOwn w.wire_name
+    by_place (inl f) = first w f
+    by_place (inr f) = second w f
+
+one_own : (x : Wire) → IsOwn x.wire_name → AreOwn (x ∷ [])
+one_own x own w (inl e) = subst (λ (y : Wire). IsOwn y.wire_name) e own
+one_own x own w (inr h) = absurd h
+
+two_own : (x y : Wire) → IsOwn x.wire_name → IsOwn y.wire_name → AreOwn (x ∷ y ∷ [])
+two_own x y first second w (inl e) = subst (λ (z : Wire). IsOwn z.wire_name) e first
+two_own x y first second w (inr (inl e)) = subst (λ (z : Wire). IsOwn z.wire_name) e second
+two_own x y first second w (inr (inr h)) = absurd h
+
+if_own : (b : Bool) (xs : List Wire) → AreOwn xs → AreOwn (cond b xs [])
+if_own true xs own = own
+if_own false xs own = λ w h. absurd h
+
+word_wires_own : (g : Graph) (l : ℕ) (e : Expression) (m n : ℕ) → AreOwn (word_wires g l e m n)
+word_wires_own g l e m zero = λ w h. absurd h
+word_wires_own g l e m (suc k) =
+    joined_own (word_wires g l e m k) (cond (has_part g m k) (word_wire g l e k ∷ []) []) (word_wires_own g l e m k)
+    (if_own (has_part g m k) (word_wire g l e k ∷ []) (one_own (word_wire g l e k) refl))
+
+words_own : (g : Graph) (k : ℕ) (n : Node) → AreOwn (words_for g k n)
+words_own g k (Load m i) = word_wires_own g k (operand g i.0) m.0 k
+words_own g k _ = λ w h. absurd h
+
+node_wires_own : (g : Graph) (keep : ℕ → Bool) (k : ℕ) (ns : List Node) → AreOwn (node_wires g keep k ns)
+node_wires_own g keep k [] = λ w h. absurd h
+node_wires_own g keep k (n ∷ ns) =
+    joined_own (cond (keep k && has_wire g k n) (words_for g k n ++ wire_for g k n ∷ []) []) (node_wires g keep (suc k) ns)
+    (if_own (keep k && has_wire g k n) (words_for g k n ++ wire_for g k n ∷ [])
+    (joined_own (words_for g k n) (wire_for g k n ∷ []) (words_own g k n) (one_own (wire_for g k n) refl)))
+    (node_wires_own g keep (suc k) ns)
+
+via_wires_own : (g : Graph) (u : MemoryUpdate) (n : ℕ) → AreOwn (via_wires g u n)
+via_wires_own g u zero = λ w h. absurd h
+via_wires_own g u (suc k) =
+    joined_own (cond (has_part g u.term k) (via_wire g u k ∷ []) []) (via_wires g u k)
+    (if_own (has_part g u.term k) (via_wire g u k ∷ []) (one_own (via_wire g u k) refl)) (via_wires_own g u k)
+
+all_ways_own : (g : Graph) (us : List MemoryUpdate) → AreOwn (all_ways g us)
+all_ways_own g [] = λ w h. absurd h
+all_ways_own g (u ∷ us) = joined_own (via_wires g u (suc u.term)) (all_ways g us) (via_wires_own g u (suc u.term)) (all_ways_own g us)
 
 decode_wires_own : (ds : List Expression) → AreOwn (decode_wires ds)
-decode_wires_own [] w (inl e) = ap (λ (y : Wire). begins_with_wb y.wire_name) (sym e)
-decode_wires_own [] w (inr (inl e)) = ap (λ (y : Wire). begins_with_wb y.wire_name) (sym e)
-decode_wires_own [] w (inr (inr h)) = absurd h
-decode_wires_own (d ∷ ds) w h =
-    by_place (among_either (decode_wires ds) (none_wire d (length ds) ∷ one_wire d (length ds) ∷ []) w h) (decode_wires_own ds w)
-  where
-    by_place : IsAmong (decode_wires ds) w ⊎ IsAmong (none_wire d (length ds) ∷ one_wire d (length ds) ∷ []) w → (IsAmong (decode_wires ds) w → IsOwn w.wire_name)
-        → IsOwn w.wire_name
-    by_place (inl f) more = more f
-    by_place (inr (inl e)) more = ap (λ (y : Wire). begins_with_wb y.wire_name) (sym e)
-    by_place (inr (inr (inl e))) more = ap (λ (y : Wire). begins_with_wb y.wire_name) (sym e)
-    by_place (inr (inr (inr f))) more = absurd f
+decode_wires_own [] = two_own _ _ refl refl
+decode_wires_own (d ∷ ds) =
+    joined_own (decode_wires ds) (none_wire d (length ds) ∷ one_wire d (length ds) ∷ []) (decode_wires_own ds)
+    (two_own (none_wire d (length ds)) (one_wire d (length ds)) refl refl)
 
 pub wires_own : (name : Name) (p : Parts) (keep : ℕ → Bool) → AreOwn (rtl_of name p keep).wires
-wires_own name p keep w h =
-    by_place (among_either (node_wires p.terms keep 0 p.terms.nodes) (decode_wires (decodes_of p.terms p.instructions.items)) w h)
-  where
-    by_place : IsAmong (node_wires p.terms keep 0 p.terms.nodes) w ⊎ IsAmong (decode_wires (decodes_of p.terms p.instructions.items)) w
-        → IsOwn w.wire_name
-    by_place (inl f) = node_wires_own p.terms keep 0 p.terms.nodes w f
-    by_place (inr f) = decode_wires_own (decodes_of p.terms p.instructions.items) w f
+wires_own name p keep =
+    joined_own (node_wires p.terms keep 0 p.terms.nodes)
+    (decode_wires (decodes_of p.terms p.instructions.items) ++ all_ways p.terms (memories_from p.terms 0 p.instructions.items))
+    (node_wires_own p.terms keep 0 p.terms.nodes)
+    (joined_own (decode_wires (decodes_of p.terms p.instructions.items)) (all_ways p.terms (memories_from p.terms 0 p.instructions.items))
+    (decode_wires_own (decodes_of p.terms p.instructions.items)) (all_ways_own p.terms (memories_from p.terms 0 p.instructions.items)))
 
 -- ---- ports
 

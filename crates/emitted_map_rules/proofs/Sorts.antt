@@ -1,5 +1,5 @@
 -- The sorts of a model that stands for well sorted parts are in range.
-use Rattle.std.proofs.Common.{◌≡◌, ℕ, zero, suc, ◌+◌, ◌<◌, true, false, not, ◌&&◌, List, [], ◌∷◌, length, drop, inl, inr, refl, ◌∙◌, ap, subst, Option, arith}
+use Rattle.std.proofs.Common.{◌≡◌, ℕ, zero, suc, ◌+◌, ◌<◌, true, not, ◌&&◌, List, [], ◌∷◌, length, drop, inl, inr, refl, ◌∙◌, ap, subst, Option, arith}
 use Rattle.std.proofs.lemmas.Bool.{false≢true, and_parts, and_from}
 use Rattle.std.proofs.lemmas.List.{length-drop, get_or-drop}
 use Rattle.wb_values.specs.Value.{Name, Sort, truth, word, memory, Entries}

@@ -1,5 +1,6 @@
 -- An instruction that starts is applied: each register takes the value of its update, or keeps what it has.
-use Rattle.std.proofs.Common.{◌≡◌, ℕ, suc, ◌<◌, ◌≤◌, ◌^◌, Bool, true, false, cond, not, ◌||◌, inl, inr, List, [], ◌∷◌, ◌++◌, map, length, Option, Some, None, refl, sym, ◌∙◌, ap, subst}
+use Rattle.std.proofs.Common.{◌≡◌, ℕ, suc, ◌+◌, ◌<◌, ◌≤◌, ◌^◌, Bool, true, false, cond, not, ◌||◌, inl, inr, List, [], ◌∷◌, ◌++◌, map, length, Option, Some, None, refl, sym, ◌∙◌, ap, subst, arith}
+use Rattle.std.specs.Prelude.{slice_get}
 use Rattle.std.specs.List.{list_all}
 use Rattle.std.proofs.lemmas.Bool.{false≢true, and_parts}
 use Rattle.wb_values.specs.Value.{Name, same_name, Sort, truth, word, memory, Value, truth_value, number, words, Valuation, Entries, entry_of}
@@ -11,6 +12,7 @@ use Rattle.verilog_trees.specs.Syntax.{Expression}
 use Rattle.verilog_meaning.specs.Expression.{bit, is_true}
 use Rattle.verilog_meaning.specs.Statement.{Update as StatementUpdate, run as run_of, with_updates}
 use Rattle.term_expressions.specs.Expressions.{IsWorth}
+use Rattle.term_expressions.specs.Laws.{IsMemory}
 use Rattle.term_expressions.proofs.Shifts.{standing_is_assigned}
 use Rattle.wb_terms.specs.Graph.{tree}
 use Rattle.ila_model.specs.declared.parts.Update.{Update}
@@ -23,32 +25,36 @@ use Rattle.emitted_designs.specs.Map.{setting_of}
 use Rattle.emitted_designs.specs.Cycles.{held_point}
 use Rattle.emitted_designs.proofs.Named.{same_if}
 use Rattle.emitted_modules.specs.Rtl.{Stored, Rtl, Guarded, bits_of_sort, clocked_statement}
-use Rattle.emitted_modules.specs.Nodes.{operand, stores_for}
+use Rattle.emitted_modules.specs.Nodes.{operand, node_wires}
+use Rattle.emitted_modules.specs.Stores.{MemoryUpdate, via_wires, stores_of}
 use Rattle.emitted_modules.specs.Kept.{IsKept}
-use Rattle.emitted_modules.specs.Module.{is_of_memory, updates_for, all_stores, guarded_for, emitted_module}
+use Rattle.emitted_modules.specs.Module.{decodes_of, decode_wires, is_of_memory, updates_for, memory_update, memory_updates, all_stores, all_ways, memories_for, memories_from, guarded_for, guarded_from, emitted_module}
 use Rattle.emitted_modules.specs.Laws.{IsFlatModel}
-use Rattle.emitted_modules.proofs.Names.{Among, AreDistinct, among_map, differs_in}
+use Rattle.emitted_modules.proofs.Names.{Among, AreDistinct, among_right, among_map, differs_in}
 use Rattle.emitted_modules.proofs.Words.{IsMemoryOf}
-use Rattle.emitted_modules.proofs.Stores.{stores_leave}
-use Rattle.emitted_modules.proofs.Written.{made}
-use Rattle.emitted_modules.proofs.Storing.{stores_named, after_both}
+use Rattle.emitted_modules.proofs.Stores.{stores_leave, stores_named, stores_joined, after_both}
+use Rattle.emitted_modules.proofs.WireNames.{way_there}
+use Rattle.emitted_modules.proofs.Ways.{IsHeld}
+use Rattle.emitted_modules.proofs.Written.{none_stored, made}
+use Rattle.emitted_modules.proofs.Formed.{IsDone}
+use Rattle.emitted_modules.proofs.Memories.{memory_from, memory_there, store_from, guarded_got, got_guarded, memories_there}
 use Rattle.emitted_modules.proofs.Declared.{scope_in}
 use Rattle.emitted_modules.proofs.NetWidths.{IsBitsSort}
 use Rattle.emitted_modules.proofs.Computed.{Worth}
-use Rattle.emitted_modules.proofs.Decoding.{IsOnly}
+use Rattle.emitted_modules.proofs.Decoding.{BitsAreRead, IsOnly}
 use Rattle.emitted_modules.proofs.Edge.{names_in, apart_from, takes_its_own, left_alone, updates_joined}
-use Rattle.emitted_modules.proofs.Running.{updates_by, stores_by, chosen, one_chosen}
+use Rattle.emitted_modules.proofs.Running.{updates_by, stores_by, IsIdle, chosen, one_chosen}
 use Rattle.emitted_modules.proofs.Next.{begins}
 use Rattle.emitted_modules.proofs.Reading.{sort_value, state_is_named}
 use Rattle.emitted_modules.proofs.Points.{IsHeldAs, IsMemoryHeld}
 use Rattle.emitted_modules.proofs.Model.{among_got, all_of}
 use Rattle.emitted_modules.proofs.Facts.{model, sorted_parts, state_bits, states_distinct}
 use Rattle.emitted_modules.proofs.Values.{no_memory, nonzero_bit, setting, point, state_held, memory_held, node_done}
-use Rattle.emitted_modules.proofs.Sorts.{term_of, instruction_sorted, update_sorted, update_names, updates_distinct, words_distinct, update_from, update_in, store_from}
-use Rattle.emitted_modules.proofs.Starts.{starts, start_in_block, reset_in_block, condition_worth, worth_is_true}
+use Rattle.emitted_modules.proofs.Sorts.{term_of, instruction_sorted, update_sorted, update_names, updates_distinct, words_distinct, update_from, update_in}
+use Rattle.emitted_modules.proofs.Starts.{starts, bits_read, start_in_block, reset_in_block, condition_worth, worth_is_true}
 use Rattle.emitted_modules.proofs.Commands.{decodes, got_code}
 use Rattle.emitted_modules.proofs.Edges.{s, now, register_then, memory_then, held_then, memory_held_then, no_reset_is}
-use Rattle.emitted_modules.proofs.Updated.{got_mapped, mapped_got, read_at, kept_term, IsUpdated, update_there, sort_there}
+use Rattle.emitted_modules.proofs.Updated.{read_at, kept_term, IsUpdated, update_there, sort_there}
 
 module _ (name : Name) (p : Parts) (keep : ℕ → Bool) (h : IsFlatModel name p) (kept : IsKept p keep)
     (run : Run) (cycles : ℕ) (is_run : IsRun (setting_of (model name p keep h) (emitted_module name p keep)) run cycles)
@@ -82,16 +88,104 @@ module _ (name : Name) (p : Parts) (keep : ℕ → Bool) (h : IsFlatModel name p
       (and_parts (is_condition p None c.decode.0) (are_updates p None 0 c.updates.items) (instruction_sorted p 0 p.instructions.items c is_sorted at)).0
       (read_at keep p.instructions.items c kept.instructions at).0)
 
+  -- ---- stores, of any instruction
+
+  abbrev memories : List MemoryUpdate
+  memories = memories_from p.terms 0 p.instructions.items
+
+  term_done : (k : ℕ) → k < length p.terms.nodes → keep k ≡ true → IsDone (scope_in here) before p.terms at_start k
+  term_done = node_done name p keep h kept run cycles is_run t le
+
+  decode_worth : (c : Instruction) → Among c p.instructions.items
+      → IsWorth (scope_in here) before (operand p.terms c.decode.0) 1 (bit (decodes name p keep h kept run cycles is_run t le c))
+  decode_worth c at =
+      condition_worth name p keep h kept run cycles is_run t le c.decode.0
+      (and_parts (is_condition p None c.decode.0) (are_updates p None 0 c.updates.items) (instruction_sorted p 0 p.instructions.items c is_sorted at)).0
+      (read_at keep p.instructions.items c kept.instructions at).0
+
+  -- the wires of an update are read
+  ways_read : (k : ℕ) (c : Instruction) → slice_get p.instructions.items k ≡ Some c → (m : MemoryUpdate) → Among m (memories_for p.terms k c)
+      → BitsAreRead (scope_in here) before (via_wires p.terms m (suc m.term))
+  ways_read k c there m at w b in_ways same worth =
+      bits_read name p keep h kept run cycles is_run t le w b
+      (among_right w (node_wires p.terms keep 0 p.terms.nodes) (decode_wires (decodes_of p.terms p.instructions.items) ++ all_ways p.terms memories)
+      (among_right w (decode_wires (decodes_of p.terms p.instructions.items)) (all_ways p.terms memories)
+      (way_there p.terms memories m w
+      (memories_there p.terms 0 p.instructions.items k c there m (subst (λ n. Among m (memories_for p.terms n c)) (from_start k) at)) in_ways)))
+      same worth
+    where
+      from_start : (n : ℕ) → n ≡ 0 + n
+      from_start n = omega arith
+
+  abbrev IsHeldTerm : (a d k : ℕ) → Type 0
+  IsHeldTerm a d k = IsHeld (scope_in here) before p.terms at_start keep h.stored.ordered term_done kept.operands a d k
+
+  -- the updates of an instruction are sorted
+  sorted_updates : (c : Instruction) → Among c p.instructions.items → are_updates p None 0 c.updates.items ≡ true
+  sorted_updates c at =
+      (and_parts (is_condition p None c.decode.0) (are_updates p None 0 c.updates.items) (instruction_sorted p 0 p.instructions.items c is_sorted at)).1
+
+  term_held : (c : Instruction) → Among c p.instructions.items → (u : Update) (a d : ℕ) → Among u c.updates.items
+      → sort_at p.terms.names u.state.0 ≡ memory a d → IsHeldTerm a d u.term.0
+  term_held c at u a d among e =
+      let term = term_of p (sort_at p.terms.names u.state.0) u.term.0 (update_sorted p 0 c.updates.items u (sorted_updates c at) among).read in
+      record {
+        known = term.0;
+        kept = kept_term keep c.updates.items u (read_at keep p.instructions.items c kept.instructions at).1 among;
+        sorted = term.1 ∙ ap (λ z. Some z) e;
+      }
+
+  -- where the instruction does not decode, none of its stores is made
+  idle_memory : (k : ℕ) (c : Instruction) → slice_get p.instructions.items k ≡ Some c → decodes name p keep h kept run cycles is_run t le c ≡ false
+      → (m : MemoryUpdate) → Among m (memories_for p.terms k c) → stores_by (scope_in here) before (stores_of p.terms m (suc m.term)) ≡ []
+  idle_memory k c there off m at = by_update (memory_from p.terms k (operand p.terms c.decode.0) c.updates.items m at)
+    where
+      c_in : Among c p.instructions.items
+      c_in = among_got p.instructions.items k c there
+
+      by_sort : (u : Update) → Among u c.updates.items → memory_update p.terms k (operand p.terms c.decode.0) u ≡ m → (z : Sort)
+          → sort_at p.terms.names u.state.0 ≡ z → is_memory_sort z ≡ true → stores_by (scope_in here) before (stores_of p.terms m (suc m.term)) ≡ []
+      by_sort u among same (memory a d) e is_mem =
+          none_stored (scope_in here) before p.terms at_start keep h.stored.ordered term_done kept.operands a d m
+          (subst (λ i. IsHeldTerm a d i) (ap (λ (y : MemoryUpdate). y.term) same) (term_held c c_in u a d among e))
+          (decodes name p keep h kept run cycles is_run t le c)
+          (subst (λ i. IsWorth (scope_in here) before i 1 (bit (decodes name p keep h kept run cycles is_run t le c)))
+          (ap (λ (y : MemoryUpdate). y.decode) same) (decode_worth c c_in))
+          (ways_read k c there m at) off
+      by_sort u among same truth e is_mem = absurd (false≢true is_mem)
+      by_sort u among same (word w) e is_mem = absurd (false≢true is_mem)
+
+      by_update : (u : Update) × Among u c.updates.items × (is_of_memory p.terms u ≡ true) × (memory_update p.terms k (operand p.terms c.decode.0) u ≡ m)
+          → stores_by (scope_in here) before (stores_of p.terms m (suc m.term)) ≡ []
+      by_update (u, among, of_memory, same) = by_sort u among same (sort_at p.terms.names u.state.0) refl of_memory
+
+  idle_stores : (ms : List MemoryUpdate) → ((m : MemoryUpdate) → Among m ms → stores_by (scope_in here) before (stores_of p.terms m (suc m.term)) ≡ [])
+      → stores_by (scope_in here) before (all_stores p.terms ms) ≡ []
+  idle_stores [] none = refl
+  idle_stores (m ∷ ms) none =
+      stores_joined (scope_in here) before (stores_of p.terms m (suc m.term)) (all_stores p.terms ms)
+      ∙ (ap (λ xs. xs ++ stores_by (scope_in here) before (all_stores p.terms ms)) (none m (inl refl)) ∙ idle_stores ms (λ x at. none x (inr at)))
+
+  is_idle : (k : ℕ) (c : Instruction) → slice_get p.instructions.items k ≡ Some c → decodes name p keep h kept run cycles is_run t le c ≡ false
+      → IsIdle (scope_in here) before (guarded_for p.terms k c)
+  is_idle k c there off = (
+    guard_is c (among_got p.instructions.items k c there) ∙ off,
+    idle_stores (memories_for p.terms k c) (idle_memory k c there off),
+  )
+
   module _ (j : ℕ) (c : Instruction) (only : IsOnly (decodes name p keep h kept run cycles is_run t le) p.instructions.items j c)
       (quiet : ¬ IsResetAt (setting name p keep h kept run cycles is_run t le) run t) (starting : starts name p keep h kept run cycles is_run t le ≡ true) where
     abbrev us : List Update
     us = c.updates.items
 
+    abbrev decode : Expression
+    decode = operand p.terms c.decode.0
+
     abbrev taken : Entries Expression
     taken = updates_for p.terms us
 
     abbrev stored : List Stored
-    stored = all_stores p.terms us
+    stored = all_stores p.terms (memories_for p.terms j c)
 
     -- what is waiting
     abbrev waiting : List StatementUpdate
@@ -104,14 +198,18 @@ module _ (name : Name) (p : Parts) (keep : ℕ → Bool) (h : IsFlatModel name p
     c_there : Among c p.instructions.items
     c_there = among_got p.instructions.items j c only.is_there
 
+    from_start : (n : ℕ) → 0 + n ≡ n
+    from_start n = omega arith
+
     chosen_is : chosen (scope_in here) before here.guarded ≡ waiting
     chosen_is =
-        one_chosen (scope_in here) before (map (guarded_for p.terms) p.instructions.items) j (guarded_for p.terms c)
-        (got_mapped (guarded_for p.terms) p.instructions.items j c only.is_there) (guard_is c c_there ∙ only.holds)
+        one_chosen (scope_in here) before (guarded_from p.terms 0 p.instructions.items) j (guarded_for p.terms j c)
+        (guarded_got p.terms 0 p.instructions.items j c only.is_there ∙ ap (λ n. Some (guarded_for p.terms n c)) (from_start j))
+        (guard_is c c_there ∙ only.holds)
         (λ k g e apart.
-        let x = mapped_got (guarded_for p.terms) p.instructions.items k g e in
-        subst (λ (y : Guarded). is_true (scope_in here) before y.guard ≡ false) x.2
-        (guard_is x.0 (among_got p.instructions.items k x.0 x.1) ∙ only.no_other k x.0 x.1 apart))
+        let x = got_guarded p.terms 0 p.instructions.items k g e in
+        subst (λ (y : Guarded). IsIdle (scope_in here) before y) (ap (λ n. guarded_for p.terms n x.0) (sym (from_start k)) ∙ x.2)
+        (is_idle k x.0 x.1 (only.no_other k x.0 x.1 apart)))
 
     runs_so : run_of (scope_in here) (clocked_statement here) before ≡ record { valuation = before; updates = waiting }
     runs_so =
@@ -126,8 +224,7 @@ module _ (name : Name) (p : Parts) (keep : ℕ → Bool) (h : IsFlatModel name p
         (updates_joined (scope_in here) before (updates_by (scope_in here) before taken) (stores_by (scope_in here) before stored))
 
     updates_sorted : are_updates p None 0 us ≡ true
-    updates_sorted =
-        (and_parts (is_condition p None c.decode.0) (are_updates p None 0 us) (instruction_sorted p 0 p.instructions.items c is_sorted c_there)).1
+    updates_sorted = sorted_updates c c_there
 
     all_distinct : AreDistinct (update_names p us)
     all_distinct = updates_distinct p 0 us (sorted_parts name p keep h).distinct updates_sorted
@@ -156,7 +253,7 @@ module _ (name : Name) (p : Parts) (keep : ℕ → Bool) (h : IsFlatModel name p
     stores_elsewhere : (d : StateDeclaration) → Among d here.registers → IsBitsSort d.sort → (w : Stored) → Among w stored
         → same_name w.memory_name d.state_name ≡ false
     stores_elsewhere d at bits w there =
-        let x = store_from p us w there in
+        let x = store_from p j (operand p.terms c.decode.0) us w there in
         ap (λ n. same_name n d.state_name) x.3
         ∙ other_kind d x.0 at x.1 (not_both (is_of_memory p.terms x.0) (is_memory_sort d.sort) x.2 (no_memory d.sort bits))
 
@@ -257,46 +354,39 @@ module _ (name : Name) (p : Parts) (keep : ℕ → Bool) (h : IsFlatModel name p
 
       -- stores of updates of other names
       stores_of_others : (xs : List Update) → ((k : Name) → Among k (update_names p xs) → same_name k d.state_name ≡ false) → (x : Stored)
-          → Among x (all_stores p.terms xs) → same_name x.memory_name d.state_name ≡ false
+          → Among x (all_stores p.terms (memory_updates p.terms j decode xs)) → same_name x.memory_name d.state_name ≡ false
       stores_of_others xs none x there =
-          let y = store_from p xs x there in
+          let y = store_from p j decode xs x there in
           ap (λ n. same_name n d.state_name) y.3
           ∙ none (name_at p.terms.names y.0.state.0) (among_map (λ (z : Update). name_at p.terms.names z.state.0) y.0 xs y.1)
 
-      -- the stores of the updates make the memory what its update's term is
+      -- what the stores of these updates leave of the memory
+      abbrev left_by : Valuation → List MemoryUpdate → Value
+      left_by z ms = with_updates (scope_in here) z (stores_by (scope_in here) before (all_stores p.terms ms)) d.state_name
+
+      -- The stores of the updates make the memory what its update's term is.
       stores_made : (xs : List Update) (u : Update) → AreDistinct (update_names p xs) → Among u xs → name_at p.terms.names u.state.0 ≡ d.state_name
           → is_of_memory p.terms u ≡ true
           → ((z : Valuation) → z d.state_name ≡ words old.held
-          → with_updates (scope_in here) z (stores_by (scope_in here) before (stores_for p.terms d.state_name (suc u.term.0) [] u.term.0)) d.state_name
+          → with_updates (scope_in here) z (stores_by (scope_in here) before (stores_of p.terms (memory_update p.terms j decode u) (suc u.term.0))) d.state_name
           ≡ val (tree p.terms u.term.0) at_start)
-          → (z : Valuation) → z d.state_name ≡ words old.held
-          → with_updates (scope_in here) z (stores_by (scope_in here) before (all_stores p.terms xs)) d.state_name ≡ val (tree p.terms u.term.0) at_start
+          → (z : Valuation) → z d.state_name ≡ words old.held → left_by z (memory_updates p.terms j decode xs) ≡ val (tree p.terms u.term.0) at_start
       stores_made [] u apart among named of_memory makes z same = absurd among
       stores_made (x ∷ xs) u apart (inl f) named of_memory makes z same =
-          let first : List Stored = stores_for p.terms d.state_name (suc u.term.0) [] u.term.0 in
+          let first : List Stored = stores_of p.terms (memory_update p.terms j decode u) (suc u.term.0) in
+          let rest : List Stored = all_stores p.terms (memory_updates p.terms j decode xs) in
           subst
-          (λ (y : Update). with_updates (scope_in here) z
-          (stores_by (scope_in here) before
-          (cond (is_of_memory p.terms y) (stores_for p.terms (name_at p.terms.names y.state.0) (suc y.term.0) [] y.term.0 ++ all_stores p.terms xs) (all_stores p.terms xs)))
-          d.state_name ≡ val (tree p.terms u.term.0) at_start)
+          (λ (y : Update). left_by z (cond (is_of_memory p.terms y) (memory_update p.terms j decode y ∷ []) [] ++ memory_updates p.terms j decode xs)
+          ≡ val (tree p.terms u.term.0) at_start)
           (sym f)
-          (ap
-          (λ b. with_updates (scope_in here) z
-          (stores_by (scope_in here) before
-          (cond b (stores_for p.terms (name_at p.terms.names u.state.0) (suc u.term.0) [] u.term.0 ++ all_stores p.terms xs) (all_stores p.terms xs)))
-          d.state_name)
-          of_memory
-          ∙ (ap
-          (λ n. with_updates (scope_in here) z
-          (stores_by (scope_in here) before (stores_for p.terms n (suc u.term.0) [] u.term.0 ++ all_stores p.terms xs)) d.state_name)
-          named
-          ∙ (after_both (scope_in here) before z first (all_stores p.terms xs) d.state_name
-          ∙ (stores_leave (scope_in here) before (with_updates (scope_in here) z (stores_by (scope_in here) before first)) (all_stores p.terms xs) d.state_name
+          (ap (λ b. left_by z (cond b (memory_update p.terms j decode u ∷ []) [] ++ memory_updates p.terms j decode xs)) of_memory
+          ∙ (after_both (scope_in here) before z first rest d.state_name
+          ∙ (stores_leave (scope_in here) before (with_updates (scope_in here) z (stores_by (scope_in here) before first)) rest d.state_name
           (stores_of_others xs
           (λ k there. apart_from d.state_name k
           (subst (λ n. same_name n k ≡ false) (ap (λ (y : Update). name_at p.terms.names y.state.0) f ∙ named)
           (differs_in (name_at p.terms.names x.state.0) k (update_names p xs) apart.0 there))))
-          ∙ makes z same))))
+          ∙ makes z same)))
       stores_made (x ∷ xs) u apart (inr among) named of_memory makes z same =
           by_test (is_of_memory p.terms x) (λ y g. stores_made xs u apart.1 among named of_memory makes y g)
         where
@@ -306,43 +396,46 @@ module _ (name : Name) (p : Parts) (keep : ℕ → Bool) (h : IsFlatModel name p
               (differs_in (name_at p.terms.names x.state.0) (name_at p.terms.names u.state.0) (update_names p xs) apart.0
               (among_map (λ (y : Update). name_at p.terms.names y.state.0) u xs among))
 
+          m : MemoryUpdate
+          m = memory_update p.terms j decode x
+
           by_test : (b : Bool)
-              → ((y : Valuation) → y d.state_name ≡ words old.held
-              → with_updates (scope_in here) y (stores_by (scope_in here) before (all_stores p.terms xs)) d.state_name ≡ val (tree p.terms u.term.0) at_start)
-              → with_updates (scope_in here) z
-              (stores_by (scope_in here) before
-              (cond b (stores_for p.terms (name_at p.terms.names x.state.0) (suc x.term.0) [] x.term.0 ++ all_stores p.terms xs) (all_stores p.terms xs)))
-              d.state_name
-              ≡ val (tree p.terms u.term.0) at_start
+              → ((y : Valuation) → y d.state_name ≡ words old.held → left_by y (memory_updates p.terms j decode xs) ≡ val (tree p.terms u.term.0) at_start)
+              → left_by z (cond b (m ∷ []) [] ++ memory_updates p.terms j decode xs) ≡ val (tree p.terms u.term.0) at_start
           by_test false more = more z same
           by_test true more =
-              after_both (scope_in here) before z (stores_for p.terms (name_at p.terms.names x.state.0) (suc x.term.0) [] x.term.0) (all_stores p.terms xs) d.state_name
-              ∙ more
-              (with_updates (scope_in here) z
-              (stores_by (scope_in here) before (stores_for p.terms (name_at p.terms.names x.state.0) (suc x.term.0) [] x.term.0)))
-              (stores_leave (scope_in here) before z (stores_for p.terms (name_at p.terms.names x.state.0) (suc x.term.0) [] x.term.0) d.state_name
-              (λ y there.
-              ap (λ n. same_name n d.state_name)
-              (stores_named p.terms (name_at p.terms.names x.state.0) (suc x.term.0) [] x.term.0 y there)
-              ∙ other)
+              after_both (scope_in here) before z (stores_of p.terms m (suc m.term)) (all_stores p.terms (memory_updates p.terms j decode xs)) d.state_name
+              ∙ more (with_updates (scope_in here) z (stores_by (scope_in here) before (stores_of p.terms m (suc m.term))))
+              (stores_leave (scope_in here) before z (stores_of p.terms m (suc m.term)) d.state_name
+              (λ y there. ap (λ n. same_name n d.state_name) (stores_named p.terms m (suc m.term) y there) ∙ other)
               ∙ same)
 
-      memory_update : (o : Option Term) → IsUpdated p us d.state_name o
+      -- those of the memory's own update
+      own_stores_made : (u : Update) → Among u us → name_at p.terms.names u.state.0 ≡ d.state_name → (z : Valuation) → z d.state_name ≡ words old.held
+          → with_updates (scope_in here) z (stores_by (scope_in here) before (stores_of p.terms (memory_update p.terms j decode u) (suc u.term.0))) d.state_name
+          ≡ val (tree p.terms u.term.0) at_start
+      own_stores_made u among f z same =
+          let sorted : sort_at p.terms.names u.state.0 ≡ memory a w = sort_of_update d u at among f ∙ e in
+          ap (λ n. with_updates (scope_in here) z (stores_by (scope_in here) before (stores_of p.terms (memory_update p.terms j decode u) (suc u.term.0))) n) (sym f)
+          ∙ made (scope_in here) before p.terms at_start keep h.stored.ordered term_done kept.operands a w (memory_update p.terms j decode u)
+          (term_held c c_there u a w among sorted) (decodes name p keep h kept run cycles is_run t le c) (decode_worth c c_there)
+          (ways_read j c only.is_there (memory_update p.terms j decode u)
+          (memory_there p.terms j decode us u among (ap is_memory_sort sorted)))
+          (subst (λ n. IsMemory (scope_in here) n a w) (sym f) old.is_memory) old.held (ap at_start f ∙ old.means)
+          (ap (λ n. is_memory_with_stores n (tree p.terms u.term.0)) f ∙ keeps_rule d u at (ap is_memory_sort e) among f) only.holds z (ap z f ∙ same)
+
+      memory_updated : (o : Option Term) → IsUpdated p us d.state_name o
           → held_point (setting name p keep h kept run cycles is_run t le) run (suc t) d.state_name ≡ updated_value o at_start (at_start d.state_name)
-      memory_update None (IsUpdated.by_none none) =
+      memory_updated None (IsUpdated.by_none none) =
           memory_has old.held
           (stores_leave (scope_in here) before between stored d.state_name (stores_of_others us none) ∙ between_same) old.fits
           ∙ sym old.means
-      memory_update (Some _) (IsUpdated.by_one u among f) =
+      memory_updated (Some _) (IsUpdated.by_one u among f) =
           let term = update_term d u at among f in
           let worth : worth_of (operand p.terms u.term.0) (Some (memory a w)) (val (tree p.terms u.term.0) at_start) =
           subst (λ z. worth_of (operand p.terms u.term.0) (Some z) (val (tree p.terms u.term.0) at_start)) e (term_worth d u at among f) in
           memory_has worth.0
-          (stores_made us u all_distinct among f (ap is_memory_sort (sort_of_update d u at among f) ∙ ap is_memory_sort e)
-          (λ z same.
-          made (scope_in here) before p.terms at_start keep h.stored.ordered (node_done name p keep h kept run cycles is_run t le) kept.operands d.state_name a w
-          old.is_memory old.held old.means u.term.0 z
-          (term.0, term.2, term.1 ∙ ap (λ z2. Some z2) e, keeps_rule d u at (ap is_memory_sort e) among f) same)
+          (stores_made us u all_distinct among f (ap is_memory_sort (sort_of_update d u at among f) ∙ ap is_memory_sort e) (own_stores_made u among f)
           between between_same
           ∙ worth.1)
           worth.2
@@ -363,4 +456,4 @@ module _ (name : Name) (p : Parts) (keep : ℕ → Bool) (h : IsFlatModel name p
             bits_update d (entry_of (map (update_of p.terms) us) d.state_name) at (state_bits name p keep h d at (ap is_memory_sort e))
             (update_there p us d.state_name)
         by_sort (memory a w) e =
-            memory_update d a w at e (entry_of (map (update_of p.terms) us) d.state_name) (update_there p us d.state_name)
+            memory_updated d a w at e (entry_of (map (update_of p.terms) us) d.state_name) (update_there p us d.state_name)

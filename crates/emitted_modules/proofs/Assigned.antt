@@ -86,7 +86,7 @@ bits_taken_first (s ∷ ss) d (inr h) bits =
 
 -- what is written to a memory at reset
 abbrev pub kept_store : Name → Stored
-kept_store n = record { conditions = []; memory_name = n; address = whole_name reset_name; value = word_at n (whole_name reset_name) }
+kept_store n = record { condition = None; memory_name = n; address = whole_name reset_name; value = word_at n (whole_name reset_name) }
 
 pub memory_kept : (ss : List StateDeclaration) (d : StateDeclaration) → Among d ss → is_memory_sort d.sort ≡ true → Among (kept_store d.state_name) (kept_words ss)
 memory_kept [] d h e = absurd h

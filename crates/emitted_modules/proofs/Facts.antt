@@ -1,38 +1,29 @@
 -- What is known of the emitted module of a model without child programs and memories.
-use Rattle.std.proofs.Common.{◌≡◌, ◌≢◌, ℕ, zero, suc, ◌<◌, ◌^◌, Bool, true, false, List, [], ◌∷◌, ◌++◌, length, refl, sym, ◌∙◌, ap, subst, arith}
+use Rattle.std.proofs.Common.{◌≡◌, ℕ, ◌<◌, ◌^◌, Bool, true, false, List, ◌++◌, length, None, sym, ◌∙◌, ap, subst, arith}
 use Rattle.std.specs.List.{list_all}
+use Rattle.std.proofs.lemmas.Bool.{and_parts}
 use Rattle.std.proofs.lemmas.List.{length-map}
-use Rattle.wb_values.specs.Value.{Name, same_name, Sort, Entries}
+use Rattle.wb_values.specs.Value.{Name}
 use Rattle.wb_values.specs.Names.{begins_with_wb, is_name_byte, is_model_name}
 use Rattle.model_meaning.specs.Term.{is_memory_sort}
 use Rattle.model_meaning.specs.Model.{Model, StateDeclaration, InputDeclaration}
 use Rattle.model_meaning.specs.Invariant.{valued_names}
 use Rattle.ila_model.specs.declared.parts.Parts.{Parts}
-use Rattle.ila_model.specs.Sorted.{are_distinct, name_at}
+use Rattle.ila_model.specs.Sorted.{is_condition, are_instructions}
 use Rattle.ila_model.specs.Meaning.{model_from}
-use Rattle.ila_model.proofs.Names.{same-sym, none_at, first_is_apart, others_apart}
 use Rattle.ila_model.proofs.Declarations.{AreSorted, sorted}
 use Rattle.emitted_modules.specs.Rtl.{Rtl}
-use Rattle.emitted_modules.specs.Module.{decodes_of, rtl_of}
+use Rattle.emitted_modules.specs.Stores.{MemoryUpdate}
+use Rattle.emitted_modules.specs.Module.{decodes_of, memories_from, rtl_of}
 use Rattle.emitted_modules.specs.Laws.{IsFlatModel}
 use Rattle.emitted_modules.proofs.Names.{Among, among_left, among_right, among_map, AreDistinct, distinct_from, distinct_parts, distinct_joined, apart_in, first_not}
 use Rattle.emitted_modules.proofs.Declared.{HasOwnNames}
 use Rattle.emitted_modules.proofs.NetWidths.{IsBitsSort}
 use Rattle.emitted_modules.proofs.Assigned.{AreSorts}
-use Rattle.emitted_modules.proofs.WireNames.{wire_names}
+use Rattle.emitted_modules.proofs.WireNames.{wire_names, AreAllOther, AreLow}
+use Rattle.emitted_modules.proofs.Memories.{all_memories_other, memories_low}
 use Rattle.emitted_modules.proofs.OwnNames.{input_names, names_of_states, valued_by, each_legal, not_own, name_bytes, has_own_names, distinct_wires, wires_own, wires_no_controls}
 use Rattle.emitted_modules.proofs.Model.{AllInRange, bits_by, state_sort, inputs_are_bits}
-
--- names at two places of a table of names that are all different
-pub names_apart : (ns : Entries Sort) (i k : ℕ) → are_distinct ns ≡ true → i < length ns → k < length ns → i ≢ k
-    → same_name (name_at ns i) (name_at ns k) ≡ false
-names_apart [] i k d low high apart = absurd (omega (arith, low))
-names_apart (m ∷ ns) zero zero d low high apart = absurd (apart refl)
-names_apart (m ∷ ns) zero (suc k) d low high apart =
-    same-sym m.0 (name_at ns k) ∙ none_at ns m.0 k (first_is_apart m ns d) (omega (arith, high))
-names_apart (m ∷ ns) (suc i) zero d low high apart = none_at ns m.0 i (first_is_apart m ns d) (omega (arith, low))
-names_apart (m ∷ ns) (suc i) (suc k) d low high apart =
-    names_apart ns i k (others_apart m ns d) (omega (arith, low)) (omega (arith, high)) (λ q. apart (ap suc q))
 
 module _ (name : Name) (p : Parts) (keep : ℕ → Bool) (h : IsFlatModel name p) where
   abbrev pub model : Model
@@ -96,8 +87,21 @@ module _ (name : Name) (p : Parts) (keep : ℕ → Bool) (h : IsFlatModel name p
   few_decodes : length (decodes_of p.terms p.instructions.items) < 2 ^ 64
   few_decodes = subst (λ n. n < 2 ^ 64) (sym (length-map p.instructions.items _)) h.few
 
+  abbrev memories : List MemoryUpdate
+  memories = memories_from p.terms 0 p.instructions.items
+
+  are_sorted : are_instructions p None 0 p.instructions.items ≡ true
+  are_sorted = (and_parts (is_condition p None p.valid.0) _ sorted_parts.top).1
+
+  others_named : AreAllOther memories
+  others_named = all_memories_other p 0 0 p.instructions.items sorted_parts.distinct are_sorted
+
+  low_memories : AreLow memories
+  low_memories u at =
+      let x = memories_low p 0 0 p.instructions.items are_sorted u at in (omega (arith, x.0, h.few), omega (arith, x.1, h.stored.few))
+
   pub wires_begin : (n : Name) → Among n (wire_names rtl.wires) → begins_with_wb n ≡ true
-  wires_begin = wires_own p.terms keep (decodes_of p.terms p.instructions.items) h.stored.few few_decodes
+  wires_begin = wires_own p.terms keep (decodes_of p.terms p.instructions.items) memories h.stored.few few_decodes others_named low_memories
 
   pub own : HasOwnNames rtl
   own =
@@ -109,7 +113,7 @@ module _ (name : Name) (p : Parts) (keep : ℕ → Bool) (h : IsFlatModel name p
             (apart_in (input_names rtl.inputs) (names_of_states rtl.registers ++ others) n all_distinct at)).0);
         own_inputs = λ n at. not_own n (legal_input n at);
         own_states = λ n at. not_own n (legal_state n at);
-        wires = distinct_wires p.terms keep (decodes_of p.terms p.instructions.items) h.stored.few few_decodes;
+        wires = distinct_wires p.terms keep (decodes_of p.terms p.instructions.items) memories h.stored.few few_decodes others_named low_memories;
         own_wires = wires_begin;
-        no_controls = wires_no_controls p.terms keep (decodes_of p.terms p.instructions.items) h.stored.few few_decodes;
+        no_controls = wires_no_controls p.terms keep (decodes_of p.terms p.instructions.items) memories h.stored.few few_decodes others_named low_memories;
       })

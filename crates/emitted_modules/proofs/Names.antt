@@ -1,10 +1,12 @@
 -- Lists of names, no two of which are equal.
-use Rattle.std.proofs.Common.{◌≡◌, Bool, true, false, cond, ◌||◌, ◌⊎◌, inl, inr, List, [], ◌∷◌, ◌++◌, map, Some, None, refl, sym, ◌∙◌, ap, subst}
+use Rattle.std.proofs.Common.{◌≡◌, Bool, true, false, cond, ◌||◌, ◌⊎◌, inl, inr, List, [], ◌∷◌, ◌++◌, map, Some, None, refl, sym, ◌∙◌, ap, subst, ◌≢◌, ℕ, zero, suc, ◌<◌, length, arith}
 use Rattle.std.proofs.lemmas.Bool.{or_parts}
 use Rattle.std.specs.Prelude.{⊤}
-use Rattle.wb_values.specs.Value.{Name, same_name, Entries, entry_of}
+use Rattle.wb_values.specs.Value.{Name, same_name, Entries, entry_of, Sort}
 use Rattle.model_meaning.specs.Among.{is_name_in, has_twice}
 use Rattle.emitted_designs.proofs.Named.{same_of}
+use Rattle.ila_model.specs.Sorted.{are_distinct, name_at}
+use Rattle.ila_model.proofs.Names.{same-sym, none_at, first_is_apart, others_apart}
 
 -- ---- elements of lists
 
@@ -114,3 +116,14 @@ entry_is {A} (x ∷ es) e d (inr h) =
 pub no_entry : {A : Type 0} (es : Entries A) (n : Name) → ((k : Name) → Among k (map (λ x. x.0) es) → same_name k n ≡ false) → entry_of es n ≡ None
 no_entry [] n h = refl
 no_entry (x ∷ es) n h = ap (λ b. cond b (Some x.1) (entry_of es n)) (h x.0 (inl refl)) ∙ no_entry es n (λ k g. h k (inr g))
+
+-- names at two places of a table of names that are all different
+pub names_apart : (ns : Entries Sort) (i k : ℕ) → are_distinct ns ≡ true → i < length ns → k < length ns → i ≢ k
+    → same_name (name_at ns i) (name_at ns k) ≡ false
+names_apart [] i k d low high apart = absurd (omega (arith, low))
+names_apart (m ∷ ns) zero zero d low high apart = absurd (apart refl)
+names_apart (m ∷ ns) zero (suc k) d low high apart =
+    same-sym m.0 (name_at ns k) ∙ none_at ns m.0 k (first_is_apart m ns d) (omega (arith, high))
+names_apart (m ∷ ns) (suc i) zero d low high apart = none_at ns m.0 i (first_is_apart m ns d) (omega (arith, low))
+names_apart (m ∷ ns) (suc i) (suc k) d low high apart =
+    names_apart ns i k (others_apart m ns d) (omega (arith, low)) (omega (arith, high)) (λ q. apart (ap suc q))

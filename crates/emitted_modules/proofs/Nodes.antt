@@ -1,5 +1,5 @@
 -- Each node that is kept is computed: by induction over the nodes.
-use Rattle.std.proofs.Common.{◌≡◌, ℕ, zero, suc, ◌+◌, ◌-◌, ◌/◌, ◌<◌, ◌≤◌, ◌^◌, Bool, true, false, ◌&&◌, nat_lt, List, [], ◌∷◌, length, Some, refl, sym, ◌∙◌, ap, subst, arith}
+use Rattle.std.proofs.Common.{◌≡◌, ℕ, zero, suc, ◌+◌, ◌-◌, ◌/◌, ◌<◌, ◌^◌, Bool, true, false, ◌&&◌, nat_lt, List, [], ◌∷◌, length, Some, refl, sym, ◌∙◌, ap, subst, arith}
 use Rattle.std.specs.Prelude.{IsTrue}
 use Rattle.std.proofs.lemmas.Bool.{false≢true}
 use Rattle.std.proofs.Math.Nat.{mod-lt}
@@ -7,7 +7,7 @@ use Rattle.std.proofs.Math.Pow.{pow_pos}
 use Rattle.wb_values.specs.Value.{Valuation, Value, number, Sort, word, Entries}
 use Rattle.wb_values.specs.Choice.{some_if}
 use Rattle.wb_values.specs.Number.{word_extract}
-use Rattle.model_meaning.specs.Term.{Term, sort_of, val, is_width}
+use Rattle.model_meaning.specs.Term.{sort_of, val, is_width}
 use Rattle.verilog_trees.specs.Syntax.{Expression}
 use Rattle.verilog_meaning.specs.Expression.{Scope}
 use Rattle.verilog_meaning.specs.Settled.{whole_name}
@@ -17,13 +17,15 @@ use Rattle.wb_terms.specs.declared.nodes.NameId.{NameId}
 use Rattle.wb_terms.specs.declared.nodes.Node.{Node}
 use Rattle.wb_terms.specs.declared.nodes.Node.TheVariants.{Name as Named, Truth, Const}
 use Rattle.wb_terms.specs.Graph.{Graph, tree, tree_of_node, leaf_at, operands_of, AllBelow}
-use Rattle.emitted_modules.specs.Nodes.{node_at, called_at, leaf_or_wire, operand, bits_of_leaf_or_wire, bits_of_operand, word_of_node, word_read, expression_of, is_leaf, wire_name_of}
+use Rattle.emitted_modules.specs.Nodes.{node_at, called_at, leaf_or_wire, operand, bits_of_leaf_or_wire, bits_of_operand, expression_of, is_leaf, wire_name_of}
 use Rattle.emitted_modules.specs.Kept.{IsOrdered, AreKept}
 use Rattle.emitted_modules.proofs.Trees.{tree_is}
 use Rattle.emitted_modules.proofs.Computed.{Worth}
 use Rattle.emitted_modules.proofs.Joined.{Given, SlicedBy, of_truth, of_const}
-use Rattle.emitted_modules.proofs.WordReads.{ReadBy, unread, word_if}
-use Rattle.emitted_modules.proofs.Formed.{IsDone, AreDone, formed, ReadOf, node_read}
+use Rattle.emitted_modules.proofs.WordReads.{ReadBy}
+use Rattle.emitted_modules.proofs.Formed.{IsDone, AreDone, IsLoaded, formed}
+use Rattle.emitted_modules.proofs.Parts.{its_own_part}
+use Rattle.emitted_modules.proofs.Loaded.{WordsAreRead, words_done}
 
 wire_operand : (ns : Entries Sort) (k : ℕ) (n : Node) → is_leaf n ≡ false → leaf_or_wire ns k n ≡ whole_name (wire_name_of k)
 wire_operand ns k (Named i) h = absurd (false≢true (sym h))
@@ -78,13 +80,12 @@ module _ (s : Scope) (v : Valuation) (g : Graph) (point : Valuation) (keep : ℕ
   leaf_done named k _ low kept e h = absurd (false≢true h)
 
   wire_done : IsOrdered g → WiresAreRead → (k : ℕ) (n : Node) → k < length g.nodes → IsTrue (keep k) → node_at g k ≡ n → is_leaf n ≡ false
-      → AreDone s v g point (operands_of n)
-      → NodeIsDone k n
-  wire_done ordered wired k n low kept e h d =
+      → IsLoaded s v g point k n → AreDone s v g point (operands_of n) → NodeIsDone k n
+  wire_done ordered wired k n low kept e h loaded d =
       let same : tree g k ≡ tree_of_node g n = tree_is g k ordered low ∙ ap (tree_of_node g) e in
       let given : Given s v (expression_of g k (node_at g k)) (sort_of (tree g k)) (val (tree_of_node g n) point) =
       subst (λ t. Given s v (expression_of g k (node_at g k)) (sort_of t) (val (tree_of_node g n) point)) (sym same)
-      (subst (λ m. Given s v (expression_of g k m) (sort_of (tree_of_node g n)) (val (tree_of_node g n) point)) (sym e) (formed s v g point k n h d)) in
+      (subst (λ m. Given s v (expression_of g k m) (sort_of (tree_of_node g n)) (val (tree_of_node g n) point)) (sym e) (formed s v g point k n h loaded d)) in
       let read = wired k (val (tree_of_node g n) point) low kept (ap is_leaf e ∙ h) given in (
         subst (λ x. Worth s v x (sort_of (tree_of_node g n)) (val (tree_of_node g n) point)) (sym (wire_operand g.names k n h))
             (subst (λ t. Worth s v (whole_name (wire_name_of k)) (sort_of t) (val (tree_of_node g n) point)) same read.0),
@@ -93,57 +94,47 @@ module _ (s : Scope) (v : Valuation) (g : Graph) (point : Valuation) (keep : ℕ
       )
 
   node_done : IsOrdered g → NamesAreRead → WiresAreRead → (k : ℕ) (n : Node) → k < length g.nodes → IsTrue (keep k) → node_at g k ≡ n
-      → AreDone s v g point (operands_of n)
-      → NodeIsDone k n
-  node_done ordered named wired k n low kept e d = by_test (is_leaf n) refl
+      → IsLoaded s v g point k n → AreDone s v g point (operands_of n) → NodeIsDone k n
+  node_done ordered named wired k n low kept e loaded d = by_test (is_leaf n) refl
     where
       by_test : (b : Bool) → is_leaf n ≡ b → NodeIsDone k n
       by_test true h = leaf_done named k n low kept e h
-      by_test false h = wire_done ordered wired k n low kept e h d
-
-  leaf_read : NamesAreRead → (k l : ℕ) (n : Node) → k < length g.nodes → IsTrue (keep k) → node_at g k ≡ n → is_leaf n ≡ true → ReadOf s v g point l n
-  leaf_read named k l (Named i) low kept e h = (named k i low kept e).2
-  leaf_read named k l (Truth b) low kept e h = tt
-  leaf_read named k l (Const w x) low kept e h =
-      unread s v (λ e. word_of_node g (λ j. word_read g l e j) e (Const w x)) (some_if (is_width w && nat_lt x (2 ^ w)) (word w)) (number x)
-      (word_if (is_width w && nat_lt x (2 ^ w)) w)
-  leaf_read named k l _ low kept e h = absurd (false≢true h)
-
-  read_done : NamesAreRead → (k l : ℕ) (n : Node) → k ≤ l → k < length g.nodes → IsTrue (keep k) → node_at g k ≡ n → AllBelow k (operands_of n)
-      → AreDone s v g point (operands_of n) → ReadOf s v g point l n
-  read_done named k l n le low kept e below d = by_test (is_leaf n) refl
-    where
-      by_test : (b : Bool) → is_leaf n ≡ b → ReadOf s v g point l n
-      by_test true h = leaf_read named k l n low kept e h
-      by_test false h = node_read s v g point k l n le h below d
-
-  -- all that is to be shown of a node, where its tree is given
-  abbrev IsDoneBy : ℕ → Term → Type 0
-  IsDoneBy k t =
-      Worth s v (operand g k) (sort_of t) (val t point) × SlicedBy s v (bits_of_operand g k) (sort_of t) (val t point)
-      × ((l : ℕ) → k < l → ReadBy s v (λ e. word_read g l e k) (sort_of t) (val t point))
-
-  all_done : NamesAreRead → (k : ℕ) → k < length g.nodes → IsTrue (keep k) → AllBelow k (operands_of (node_at g k))
-      → AreDone s v g point (operands_of (node_at g k)) → NodeIsDone k (node_at g k) → IsDoneBy k (tree_of_node g (node_at g k))
-  all_done named k low kept below d node = (node.0, node.1, reads)
-    where
-      reads : (l : ℕ) → k < l → ReadBy s v (λ e. word_read g l e k) (sort_of (tree_of_node g (node_at g k))) (val (tree_of_node g (node_at g k)) point)
-      reads zero less = absurd (omega (arith, less))
-      reads (suc l) less = read_done named k l (node_at g k) (omega (arith, less)) low kept refl below d
+      by_test false h = wire_done ordered wired k n low kept e h loaded d
 
   each_done : (k : ℕ) (js : List ℕ) → ((j : ℕ) → j < k → IsTrue (keep j) → IsDone s v g point j) → AllBelow k js → AreKept keep js → AreDone s v g point js
   each_done k [] h below kept = tt
   each_done k (j ∷ js) h below kept = (h j below.0 kept.0, each_done k js h below.1 kept.1)
 
-  done_below : IsOrdered g → NamesAreRead → WiresAreRead → OperandsAreKept → (b k : ℕ) → k < b → k < length g.nodes → IsTrue (keep k)
-      → IsDone s v g point k
-  done_below ordered named wired closed zero k less low kept = absurd (omega (arith, less))
-  done_below ordered named wired closed (suc b) k less low kept =
-      let d : AreDone s v g point (operands_of (node_at g k)) =
-      each_done k (operands_of (node_at g k))
-      (λ j l q. done_below ordered named wired closed b j (omega (arith, l, less)) (omega (arith, l, low)) q) (ordered k low) (closed k low kept) in
-      subst (IsDoneBy k) (sym (tree_is g k ordered low))
-      (all_done named k low kept (ordered k low) d (node_done ordered named wired k (node_at g k) low kept refl d))
+  -- what is given of names and wires, and which nodes are kept
+  pub record AreGiven : Type 0 where
+    pub ordered : IsOrdered g
+    pub named : NamesAreRead
+    pub wired : WiresAreRead
+    pub words : WordsAreRead s v g point keep
+    pub closed : OperandsAreKept
 
-  pub done : IsOrdered g → NamesAreRead → WiresAreRead → OperandsAreKept → (k : ℕ) → k < length g.nodes → IsTrue (keep k) → IsDone s v g point k
-  done ordered named wired closed k low kept = done_below ordered named wired closed (suc k) k (omega arith) low kept
+  load_done : AreGiven → (k : ℕ) → k < length g.nodes → IsTrue (keep k) → ((j : ℕ) → j < k → IsTrue (keep j) → IsDone s v g point j)
+      → IsLoaded s v g point k (node_at g k)
+  load_done h k low kept done m i e a d x of_memory of_address there =
+      let below : AllBelow k (m.0 ∷ i.0 ∷ []) = subst (λ n. AllBelow k (operands_of n)) e (h.ordered k low) in
+      let also_kept : AreKept keep (m.0 ∷ i.0 ∷ []) = subst (λ n. AreKept keep (operands_of n)) e (h.closed k low kept) in
+      let before : m.0 < length g.nodes = omega (arith, below.0, low) in
+      words_done s v g point keep h.ordered (λ j n l q f. (h.named j n l q f).2) h.words k m i a d x low kept e of_memory of_address before there h.closed
+      done (suc m.0) m.0 (next m.0)
+      (record { known = before; within = below.0; kept = also_kept.0; sorted = of_memory; part = its_own_part g (suc m.0) m.0 (next m.0) })
+    where
+      next : (n : ℕ) → n < suc n
+      next n = omega arith
+
+  done_below : AreGiven → (b k : ℕ) → k < b → k < length g.nodes → IsTrue (keep k) → IsDone s v g point k
+  done_below h zero k less low kept = absurd (omega (arith, less))
+  done_below h (suc b) k less low kept =
+      let before : (j : ℕ) → j < k → IsTrue (keep j) → IsDone s v g point j =
+      λ j l q. done_below h b j (omega (arith, l, less)) (omega (arith, l, low)) q in
+      subst (λ t. Worth s v (operand g k) (sort_of t) (val t point) × SlicedBy s v (bits_of_operand g k) (sort_of t) (val t point))
+      (sym (tree_is g k h.ordered low))
+      (node_done h.ordered h.named h.wired k (node_at g k) low kept refl (load_done h k low kept before)
+      (each_done k (operands_of (node_at g k)) before (h.ordered k low) (h.closed k low kept)))
+
+  pub done : AreGiven → (k : ℕ) → k < length g.nodes → IsTrue (keep k) → IsDone s v g point k
+  done h k low kept = done_below h (suc k) k (omega arith) low kept

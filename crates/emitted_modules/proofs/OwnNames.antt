@@ -15,11 +15,12 @@ use Rattle.emitted_designs.specs.Names.{clock_name, reset_name, go_name, start_n
 use Rattle.emitted_designs.specs.Module.{all_state_names}
 use Rattle.emitted_designs.proofs.Named.{same_if}
 use Rattle.emitted_modules.specs.Rtl.{Wire, Rtl}
-use Rattle.emitted_modules.specs.Nodes.{wire_name_of, node_wires}
-use Rattle.emitted_modules.specs.Module.{none_name, one_name, decode_wires}
+use Rattle.emitted_modules.specs.Nodes.{wire_name_of, word_name, node_wires}
+use Rattle.emitted_modules.specs.Stores.{MemoryUpdate, via_name}
+use Rattle.emitted_modules.specs.Module.{none_name, one_name, decode_wires, all_ways}
 use Rattle.emitted_modules.proofs.Names.{Among, among_either, AreDistinct, distinct_parts, distinct_joined, apart_in, none_in, not_in_both}
 use Rattle.emitted_modules.proofs.Declared.{output_net, given_net, register_net, wire_net, nets, HasOwnNames}
-use Rattle.emitted_modules.proofs.WireNames.{wire_names, IsNodeName, node_names, distinct_nodes, IsDecodeName, decode_names, distinct_decodes, node_apart}
+use Rattle.emitted_modules.proofs.WireNames.{wire_names, name_either, wires_joined, IsNodeName, node_names, distinct_nodes, IsDecodeName, decode_names, distinct_decodes, AreAllOther, AreLow, IsWayName, all_way_names, distinct_ways, node_not_decode, node_not_way, decode_not_way}
 
 -- ---- names of models
 
@@ -167,41 +168,50 @@ module _ (r : Rtl) (h : AreApart r) where
 
 -- ---- the wires of an emitted module
 
-module _ (g : Graph) (keep : ℕ → Bool) (ds : List Expression) (few : length g.nodes < 2 ^ 64) (few_decodes : length ds < 2 ^ 64) where
-  abbrev emitted_wires : List Wire
-  emitted_wires = node_wires g keep 0 g.nodes ++ decode_wires ds
-
-  wires_apart : wire_names emitted_wires ≡ wire_names (node_wires g keep 0 g.nodes) ++ wire_names (decode_wires ds)
-  wires_apart = map-append (λ w. w.wire_name) (node_wires g keep 0 g.nodes) (decode_wires ds)
+module _ (g : Graph) (keep : ℕ → Bool) (ds : List Expression) (us : List MemoryUpdate) (few : length g.nodes < 2 ^ 64) (few_decodes : length ds < 2 ^ 64)
+    (other : AreAllOther us) (low : AreLow us) where
+  abbrev pub emitted_wires : List Wire
+  emitted_wires = node_wires g keep 0 g.nodes ++ (decode_wires ds ++ all_ways g us)
 
   pub distinct_wires : AreDistinct (wire_names emitted_wires)
   distinct_wires =
-      subst AreDistinct (sym wires_apart)
-      (distinct_joined (wire_names (node_wires g keep 0 g.nodes)) (wire_names (decode_wires ds)) (distinct_nodes g keep 0 g.nodes (omega (arith, few)))
-      (distinct_decodes ds few_decodes) (λ n k. by_name n (node_names g keep 0 g.nodes n k)))
+      wires_joined (node_wires g keep 0 g.nodes) (decode_wires ds ++ all_ways g us) (distinct_nodes g keep 0 g.nodes (omega (arith, few)))
+      (wires_joined (decode_wires ds) (all_ways g us) (distinct_decodes ds few_decodes) (distinct_ways g us other low)
+      (λ n k at there. decode_not_way us (length ds) n k (decode_names ds n at) (all_way_names g us k there)))
+      (λ n k at there. by_place n k (node_names g keep 0 g.nodes n at) (name_either k (decode_wires ds) (all_ways g us) there))
     where
-      by_name : (n : Name) → IsNodeName 0 (0 + length g.nodes) n → is_name_in n (wire_names (decode_wires ds)) ≡ false
-      by_name n (j, low, high, e) = subst (λ m. is_name_in m (wire_names (decode_wires ds)) ≡ false) e (node_apart j ds)
+      by_place : (n k : Name) → IsNodeName 0 (0 + length g.nodes) n → Among k (wire_names (decode_wires ds)) ⊎ Among k (wire_names (all_ways g us))
+          → same_name n k ≡ false
+      by_place n k (j, above, below, e) (inl at) = node_not_decode j (length ds) n k e (decode_names ds k at)
+      by_place n k (j, above, below, e) (inr at) = node_not_way us j n k e (all_way_names g us k at)
 
   -- what is so of each name of a wire
-  each_wire : (P : Name → Type 0) → ((j : ℕ) → P (wire_name_of j)) → ((j : ℕ) → P (none_name j)) → ((j : ℕ) → P (one_name j))
-      → (n : Name) → Among n (wire_names emitted_wires) → P n
-  each_wire P nodes nones ones n at =
-      by_place (among_either n (wire_names (node_wires g keep 0 g.nodes)) (wire_names (decode_wires ds)) (subst (Among n) wires_apart at))
+  each_wire : (P : Name → Type 0) → ((j : ℕ) → P (wire_name_of j)) → ((l k : ℕ) → P (word_name l k)) → ((j : ℕ) → P (none_name j)) → ((j : ℕ) → P (one_name j))
+      → ((u : MemoryUpdate) (k : ℕ) → P (via_name u k)) → (n : Name) → Among n (wire_names emitted_wires) → P n
+  each_wire P nodes words nones ones ways n at = by_place (name_either n (node_wires g keep 0 g.nodes) (decode_wires ds ++ all_ways g us) at)
     where
       by_node : IsNodeName 0 (0 + length g.nodes) n → P n
-      by_node (j, low, high, e) = subst P e (nodes j)
+      by_node (j, above, below, inl e) = subst P e (nodes j)
+      by_node (j, above, below, inr (k, less, e)) = subst P e (words j k)
 
       by_decode : IsDecodeName (length ds) n → P n
       by_decode (j, le, inl e) = subst P e (nones j)
       by_decode (j, le, inr e) = subst P e (ones j)
 
-      by_place : Among n (wire_names (node_wires g keep 0 g.nodes)) ⊎ Among n (wire_names (decode_wires ds)) → P n
+      by_way : IsWayName us n → P n
+      by_way (u, there, (k, less, e)) = subst P e (ways u k)
+
+      by_rest : Among n (wire_names (decode_wires ds)) ⊎ Among n (wire_names (all_ways g us)) → P n
+      by_rest (inl k) = by_decode (decode_names ds n k)
+      by_rest (inr k) = by_way (all_way_names g us n k)
+
+      by_place : Among n (wire_names (node_wires g keep 0 g.nodes)) ⊎ Among n (wire_names (decode_wires ds ++ all_ways g us)) → P n
       by_place (inl k) = by_node (node_names g keep 0 g.nodes n k)
-      by_place (inr k) = by_decode (decode_names ds n k)
+      by_place (inr k) = by_rest (name_either n (decode_wires ds) (all_ways g us) k)
 
   pub wires_own : (n : Name) → Among n (wire_names emitted_wires) → begins_with_wb n ≡ true
-  wires_own = each_wire (λ n. begins_with_wb n ≡ true) (λ j. refl) (λ j. refl) (λ j. refl)
+  wires_own = each_wire (λ n. begins_with_wb n ≡ true) (λ j. refl) (λ l k. refl) (λ j. refl) (λ j. refl) (λ u k. refl)
 
   pub wires_no_controls : (n : Name) → Among n (wire_names emitted_wires) → is_name_in n (clock_name ∷ reset_name ∷ go_name ∷ Controls) ≡ false
-  wires_no_controls = each_wire (λ n. is_name_in n (clock_name ∷ reset_name ∷ go_name ∷ Controls) ≡ false) (λ j. refl) (λ j. refl) (λ j. refl)
+  wires_no_controls =
+      each_wire (λ n. is_name_in n (clock_name ∷ reset_name ∷ go_name ∷ Controls) ≡ false) (λ j. refl) (λ l k. refl) (λ j. refl) (λ j. refl) (λ u k. refl)

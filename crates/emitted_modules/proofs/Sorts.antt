@@ -1,5 +1,5 @@
 -- The conditions and updates of well sorted parts.
-use Rattle.std.proofs.Common.{◌≡◌, ℕ, suc, ◌<◌, ◌≤◌, Bool, true, false, cond, ◌==◌, nat_le, nat_lt, ◌⊎◌, inl, inr, List, [], ◌∷◌, ◌++◌, map, length, Option, Some, None, refl, sym, ◌∙◌, ap, subst, arith}
+use Rattle.std.proofs.Common.{◌≡◌, ℕ, suc, ◌<◌, ◌≤◌, Bool, true, false, cond, ◌==◌, nat_le, nat_lt, inl, inr, List, [], ◌∷◌, map, length, Option, Some, None, refl, sym, ◌∙◌, ap, subst, arith}
 use Rattle.std.proofs.lemmas.Bool.{false≢true, and_parts}
 use Rattle.std.proofs.lemmas.Bool.Decides.{nat_tests}
 use Rattle.wb_values.specs.Value.{Name, same_name, Sort, truth, word, memory}
@@ -9,13 +9,9 @@ use Rattle.ila_model.specs.declared.parts.Update.{Update}
 use Rattle.ila_model.specs.declared.parts.Instruction.{Instruction}
 use Rattle.ila_model.specs.declared.parts.Parts.{Parts}
 use Rattle.ila_model.specs.Sorted.{are_distinct, has_sort, is_term_of, is_read_at, sort_at, name_at, is_state_at, are_updates, is_instruction, is_link, child_after, are_instructions}
-use Rattle.emitted_modules.specs.Rtl.{Stored}
-use Rattle.emitted_modules.specs.Nodes.{stores_for}
-use Rattle.emitted_modules.specs.Module.{update_for, is_of_memory, updates_for, all_stores}
-use Rattle.emitted_modules.proofs.Names.{Among, AreDistinct, among_map, among_either, mapped_from, none_in, differs_in}
+use Rattle.emitted_modules.specs.Module.{update_for, is_of_memory, updates_for}
+use Rattle.emitted_modules.proofs.Names.{Among, AreDistinct, among_map, mapped_from, none_in, differs_in, names_apart}
 use Rattle.emitted_modules.proofs.Edge.{names_in}
-use Rattle.emitted_modules.proofs.Storing.{stores_named}
-use Rattle.emitted_modules.proofs.Facts.{names_apart}
 
 less_by : (k n : ℕ) → nat_lt k n ≡ true → k < n
 less_by k n e = grind (arith, nat_tests, e)
@@ -111,7 +107,7 @@ updates_distinct p from (u ∷ us) d e =
         let x = mapped_from (λ (y : Update). name_at p.terms.names y.state.0) k xs at in
         subst (λ n. same_name (name_at p.terms.names u.state.0) n ≡ false) x.2 (differs x.0 low (update_sorted p (suc u.state.0) xs x.0 g x.1))
 
--- ---- updates of truth values and words, and stores
+-- ---- updates of truth values and words
 
 pub update_from : (p : Parts) (us : List Update) (n : Name) → Among n (names_in (updates_for p.terms us))
     → (u : Update) × Among u us × (is_of_memory p.terms u ≡ false) × (name_at p.terms.names u.state.0 ≡ n)
@@ -152,26 +148,3 @@ update_in p (x ∷ us) u (inr at) e = by_test (is_of_memory p.terms x) (update_i
         → Among (update_for p.terms u) (cond b (updates_for p.terms us) (update_for p.terms x ∷ updates_for p.terms us))
     by_test true k = k
     by_test false k = inr k
-
--- a store is of an update of its memory
-pub store_from : (p : Parts) (us : List Update) (w : Stored) → Among w (all_stores p.terms us)
-    → (u : Update) × Among u us × (is_of_memory p.terms u ≡ true) × (w.memory_name ≡ name_at p.terms.names u.state.0)
-store_from p [] w at = absurd at
-store_from p (u ∷ us) w at = by_test (is_of_memory p.terms u) refl at (λ k. store_from p us w k)
-  where
-    by_place : is_of_memory p.terms u ≡ true
-        → Among w (stores_for p.terms (name_at p.terms.names u.state.0) (suc u.term.0) [] u.term.0) ⊎ Among w (all_stores p.terms us)
-        → (Among w (all_stores p.terms us) → (x : Update) × Among x us × (is_of_memory p.terms x ≡ true) × (w.memory_name ≡ name_at p.terms.names x.state.0))
-        → (x : Update) × Among x (u ∷ us) × (is_of_memory p.terms x ≡ true) × (w.memory_name ≡ name_at p.terms.names x.state.0)
-    by_place e (inl k) more =
-        (u, inl refl, e, stores_named p.terms (name_at p.terms.names u.state.0) (suc u.term.0) [] u.term.0 w k)
-    by_place e (inr k) more = let x = more k in (x.0, inr x.1, x.2, x.3)
-
-    by_test : (b : Bool) → is_of_memory p.terms u ≡ b
-        → Among w
-        (cond b (stores_for p.terms (name_at p.terms.names u.state.0) (suc u.term.0) [] u.term.0 ++ all_stores p.terms us) (all_stores p.terms us))
-        → (Among w (all_stores p.terms us) → (x : Update) × Among x us × (is_of_memory p.terms x ≡ true) × (w.memory_name ≡ name_at p.terms.names x.state.0))
-        → (x : Update) × Among x (u ∷ us) × (is_of_memory p.terms x ≡ true) × (w.memory_name ≡ name_at p.terms.names x.state.0)
-    by_test true e k more =
-        by_place e (among_either w (stores_for p.terms (name_at p.terms.names u.state.0) (suc u.term.0) [] u.term.0) (all_stores p.terms us) k) more
-    by_test false e k more = let x = more k in (x.0, inr x.1, x.2, x.3)

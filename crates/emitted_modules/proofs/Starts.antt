@@ -1,5 +1,5 @@
 -- When an instruction of an emitted module starts.
-use Rattle.std.proofs.Common.{◌≡◌, ℕ, ◌<◌, ◌≤◌, ◌^◌, Bool, true, false, ◌&&◌, inl, inr, List, [], ◌∷◌, map, length, Some, None, refl, sym, ◌∙◌, ap, subst, arith}
+use Rattle.std.proofs.Common.{◌≡◌, ℕ, ◌<◌, ◌≤◌, Bool, true, false, ◌&&◌, inl, inr, List, [], ◌∷◌, ◌++◌, map, length, Some, None, refl, sym, ◌∙◌, ap, subst, arith}
 use Rattle.std.specs.List.{list_all}
 use Rattle.std.proofs.lemmas.Bool.{and_parts}
 use Rattle.std.proofs.lemmas.List.{length-map}
@@ -11,10 +11,10 @@ use Rattle.model_meaning.specs.Model.{holds}
 use Rattle.verilog_trees.specs.Syntax.{Expression, binary, bitwise_and}
 use Rattle.verilog_meaning.specs.Expression.{bit, is_nonzero, is_true}
 use Rattle.verilog_meaning.specs.Settled.{whole_name, IsDeclared}
-use Rattle.term_expressions.specs.Expressions.{IsWorth, IsAssigned}
+use Rattle.term_expressions.specs.Expressions.{IsWorth}
 use Rattle.term_expressions.proofs.Names.{name_is_its_value}
 use Rattle.term_expressions.proofs.Forms.{bitwise_and_is_and}
-use Rattle.term_expressions.proofs.Shifts.{by_itself, standing_is_assigned}
+use Rattle.term_expressions.proofs.Shifts.{by_itself}
 use Rattle.wb_terms.specs.Graph.{tree}
 use Rattle.ila_model.specs.declared.parts.Instruction.{Instruction}
 use Rattle.ila_model.specs.declared.parts.Parts.{Parts}
@@ -24,22 +24,21 @@ use Rattle.refinement.specs.Run.{Run, IsRun}
 use Rattle.emitted_designs.specs.Names.{reset_name, go_name, start_name, commit_name}
 use Rattle.emitted_designs.specs.Map.{setting_of}
 use Rattle.emitted_designs.specs.Module.{top_of}
-use Rattle.emitted_modules.specs.Rtl.{Rtl, bits_of_sort, module_of}
+use Rattle.emitted_modules.specs.Rtl.{Wire, Rtl, module_of}
 use Rattle.emitted_modules.specs.Nodes.{operand, node_wires}
 use Rattle.emitted_modules.specs.Kept.{AreRead, IsKept}
-use Rattle.emitted_modules.specs.Module.{one_name, decodes_of, decode_wires, ready_of, emitted_module}
+use Rattle.emitted_modules.specs.Module.{one_name, decodes_of, decode_wires, all_ways, memories_from, ready_of, emitted_module}
 use Rattle.emitted_modules.specs.Laws.{IsFlatModel}
-use Rattle.emitted_modules.proofs.Names.{Among, among_right}
+use Rattle.emitted_modules.proofs.Names.{among_left, among_right}
 use Rattle.emitted_modules.proofs.Declared.{scope_in, input_net}
-use Rattle.emitted_modules.proofs.Nets.{IsPlain, plain_net, wire_plain, reset_plain, go_plain, start_plain, commit_plain, is_declared}
-use Rattle.emitted_modules.proofs.NetWidths.{IsBitsSort}
-use Rattle.emitted_modules.proofs.Settled.{HasNumber, net_number, wire_has, start_has, commit_has}
+use Rattle.emitted_modules.proofs.Nets.{IsPlain, plain_net, reset_plain, go_plain, start_plain, commit_plain, is_declared}
+use Rattle.emitted_modules.proofs.Settled.{HasNumber, net_number, start_has, commit_has}
 use Rattle.emitted_modules.proofs.Computed.{Worth}
 use Rattle.emitted_modules.proofs.Decoding.{one_of, AreWorth, BitsAreRead, counted_by_wires}
 use Rattle.emitted_modules.proofs.Reading.{read_number}
 use Rattle.emitted_modules.proofs.Points.{bit_of_nonzero}
 use Rattle.emitted_modules.proofs.Facts.{model, own, sorted_parts}
-use Rattle.emitted_modules.proofs.Values.{nonzero_bit, setting, r, v, point, settled, node_done}
+use Rattle.emitted_modules.proofs.Values.{nonzero_bit, setting, r, v, point, settled, wire_worth, node_done}
 use Rattle.emitted_modules.proofs.Sorts.{term_of}
 
 both_bits : (b c : Bool) → word_and (bit b) (bit c) ≡ bit (b && c)
@@ -89,23 +88,21 @@ module _ (name : Name) (p : Parts) (keep : ℕ → Bool) (h : IsFlatModel name p
       let rest = and_parts (is_link p.children.items None from i.child) _ parts.1 in
       (condition_worth i.decode.0 own_parts.0 read.0, decodes_worth (child_after from i.child) is read.2 rest.1)
 
-  bits_read : BitsAreRead (scope_in here) now (decode_wires (decodes_of p.terms p.instructions.items))
-  bits_read w b at same worth =
-      let there : Among w here.wires =
-      among_right w (node_wires p.terms keep 0 p.terms.nodes) (decode_wires (decodes_of p.terms p.instructions.items)) at in
-      let bits : IsBitsSort w.sort = subst IsBitsSort (sym same) tt in
-      let plain : IsPlain here w.wire_name truth = subst (IsPlain here w.wire_name) same (wire_plain here (own name p keep h) w there bits) in
-      name_is_its_value (scope_in here) now w.wire_name 1 (bit b) (plain_net here w.wire_name truth plain)
-      (wire_has here (own name p keep h) now (settled name p keep h kept run cycles is_run t le) w (bit b) there bits
-      (subst (λ z. IsAssigned (scope_in here) now w.expression (bits_of_sort z) (bit b)) (sym same)
-      (standing_is_assigned (scope_in here) now w.expression 1 (bit b) worth))
-      (subst (λ z. bit b < 2 ^ bits_of_sort z) (sym same) worth.fits))
-      worth.fits
+  pub bits_read : BitsAreRead (scope_in here) now here.wires
+  bits_read w b at same worth = wire_worth name p keep h kept run cycles is_run t le w truth (bit b) at same tt worth
+
+  decodes_read : BitsAreRead (scope_in here) now (decode_wires (decodes_of p.terms p.instructions.items))
+  decodes_read w b at same worth =
+      let rest : List Wire = all_ways p.terms (memories_from p.terms 0 p.instructions.items) in
+      bits_read w b
+      (among_right w (node_wires p.terms keep 0 p.terms.nodes) (decode_wires (decodes_of p.terms p.instructions.items) ++ rest)
+      (among_left w (decode_wires (decodes_of p.terms p.instructions.items)) rest at))
+      same worth
 
   one_worth : IsWorth (scope_in here) now (whole_name (one_name (length p.instructions.items))) 1 (bit (one_of (decoded p.instructions.items)))
   one_worth =
       subst (λ n. IsWorth (scope_in here) now (whole_name (one_name n)) 1 (bit (one_of (decoded p.instructions.items)))) (length-map p.instructions.items _)
-      (counted_by_wires (scope_in here) now (decodes_of p.terms p.instructions.items) (decoded p.instructions.items) bits_read
+      (counted_by_wires (scope_in here) now (decodes_of p.terms p.instructions.items) (decoded p.instructions.items) decodes_read
       (decodes_worth 0 p.instructions.items kept.instructions
       (and_parts (is_condition p None p.valid.0) _ (sorted_parts name p keep h).top).1)).1
 

@@ -14,8 +14,7 @@ use Rattle.ila_model.specs.Sorted.{are_distinct, name_at, sort_at}
 use Rattle.ila_model.specs.Meaning.{update_of, declared_states}
 use Rattle.emitted_designs.proofs.Named.{same_if, same_of}
 use Rattle.emitted_modules.specs.Kept.{AreKept, AreRead, updated_terms}
-use Rattle.emitted_modules.proofs.Names.{Among}
-use Rattle.emitted_modules.proofs.Facts.{names_apart}
+use Rattle.emitted_modules.proofs.Names.{Among, names_apart}
 use Rattle.emitted_modules.proofs.Sorts.{update_names}
 
 -- ---- lists

@@ -1,16 +1,20 @@
 -- In a settled valuation each kept wire has the value of its term at the point where an instruction would start.
-use Rattle.std.proofs.Common.{◌≡◌, ℕ, zero, suc, ◌+◌, ◌-◌, ◌<◌, ◌≤◌, ◌^◌, Bool, true, false, cond, not, ◌&&◌, ◌⊎◌, inl, inr, List, [], ◌∷◌, ◌++◌, map, length, get_or, Option, Some, None, refl, sym, ◌∙◌, ap, subst, arith}
+use Rattle.std.proofs.Common.{◌≡◌, ℕ, ◌+◌, ◌-◌, ◌<◌, ◌≤◌, ◌^◌, Bool, true, false, cond, not, ◌&&◌, ◌==◌, ◌⊎◌, inl, inr, [], ◌∷◌, ◌++◌, map, length, Option, Some, None, refl, sym, ◌∙◌, ap, subst, arith}
 use Rattle.std.specs.Prelude.{IsTrue}
-use Rattle.std.proofs.lemmas.Bool.{cases_lt}
-use Rattle.wb_values.specs.Value.{Name, Sort, truth, word, memory, Value, truth_value, words, as_words, Valuation}
-use Rattle.model_meaning.specs.Term.{is_sort, is_memory_sort, sort_of}
+use Rattle.std.proofs.lemmas.Bool.{cases_lt, eq-eqb}
+use Rattle.wb_values.specs.Value.{Name, Sort, truth, word, memory, Value, truth_value, number, words, as_words, Valuation}
+use Rattle.wb_values.specs.Choice.{some_if}
+use Rattle.model_meaning.specs.Term.{is_sort, is_memory_sort, sort_of, load_sort}
 use Rattle.model_meaning.specs.Model.{StateDeclaration, InputDeclaration, state_named}
 use Rattle.verilog_meaning.specs.Expression.{bit, is_nonzero}
 use Rattle.verilog_meaning.specs.Settled.{whole_name, IsDeclared}
-use Rattle.term_expressions.specs.Expressions.{IsAssigned, bits_of}
+use Rattle.term_expressions.specs.Expressions.{IsWorth, IsAssigned, bits_of}
+use Rattle.term_expressions.proofs.Names.{name_is_its_value}
+use Rattle.term_expressions.proofs.Shifts.{standing_is_assigned}
+use Rattle.wb_terms.specs.declared.nodes.TermId.{TermId}
 use Rattle.wb_terms.specs.declared.nodes.Node.{Node}
-use Rattle.wb_terms.specs.declared.nodes.Node.TheVariants.{Truth}
-use Rattle.wb_terms.specs.Graph.{Graph, tree, names_of, AllBelow}
+use Rattle.wb_terms.specs.declared.nodes.Node.TheVariants.{Load}
+use Rattle.wb_terms.specs.Graph.{tree, tree_of_node, names_of, AllBelow}
 use Rattle.wb_terms.proofs.InRange.{is_sort-sort_of}
 use Rattle.ila_model.specs.declared.parts.Parts.{Parts}
 use Rattle.ila_model.specs.Scope.{tops}
@@ -24,19 +28,22 @@ use Rattle.emitted_designs.specs.Module.{top_of}
 use Rattle.emitted_designs.specs.Cycles.{start_point}
 use Rattle.emitted_designs.proofs.Named.{no_input}
 use Rattle.emitted_modules.specs.Rtl.{Wire, Rtl, bits_of_sort, module_of}
-use Rattle.emitted_modules.specs.Nodes.{node_at, expression_of, is_leaf, wire_name_of, sort_or_truth, wire_for, has_wire, node_wires}
+use Rattle.emitted_modules.specs.Nodes.{node_at, operand, expression_of, is_leaf, wire_name_of, sort_or_truth, wire_for, has_wire, word_wire, word_wires, words_for, node_wires}
 use Rattle.emitted_modules.specs.Kept.{IsKept}
-use Rattle.emitted_modules.specs.Module.{decodes_of, decode_wires, emitted_module}
+use Rattle.emitted_modules.specs.Module.{decodes_of, decode_wires, all_ways, memories_from, emitted_module}
 use Rattle.emitted_modules.specs.Laws.{IsFlatModel}
 use Rattle.emitted_modules.proofs.Names.{Among, among_left, among_right, among_map}
 use Rattle.emitted_modules.proofs.Declared.{scope_in, given_net, register_net, wire_net}
-use Rattle.emitted_modules.proofs.Nets.{IsPlain, input_plain, register_plain, register_memory, wire_plain, is_declared}
+use Rattle.emitted_modules.proofs.Nets.{IsPlain, plain_net, input_plain, register_plain, register_memory, wire_plain, is_declared}
 use Rattle.emitted_modules.proofs.NetWidths.{IsBitsSort}
 use Rattle.emitted_modules.proofs.Settled.{IsSettledFor, HasNumber, HasWords, net_number, net_words, wire_has}
 use Rattle.emitted_modules.proofs.Computed.{Worth}
 use Rattle.emitted_modules.proofs.Joined.{Given, SlicedBy}
 use Rattle.emitted_modules.proofs.Formed.{IsDone}
+use Rattle.emitted_modules.proofs.Trees.{tree_is}
+use Rattle.emitted_modules.proofs.Loaded.{WordsAreRead}
 use Rattle.emitted_modules.proofs.Nodes.{NamesAreRead, WiresAreRead, done}
+use Rattle.emitted_modules.proofs.WireNames.{wires_of, wire_kept, word_wire_there}
 use Rattle.emitted_modules.proofs.Reading.{sort_value, settled_at, read_value, state_read, input_read, state_is_named, sort_is}
 use Rattle.emitted_modules.proofs.Points.{IsHeldAs, IsMemoryHeld, IsNameHeld, net_worth, net_sliced, net_read}
 use Rattle.emitted_modules.proofs.Next.{some_address}
@@ -44,34 +51,6 @@ use Rattle.term_expressions.specs.Laws.{IsMemory}
 use Rattle.refinement.specs.Map.{mapped_value}
 use Rattle.emitted_modules.proofs.Model.{among_got}
 use Rattle.emitted_modules.proofs.Facts.{model, rtl, sorted_parts, state_sorts, state_bits, input_bits, inputs_distinct, states_distinct, state_bytes, input_bytes, own}
-
--- ---- wires of kept nodes
-
-pub wire_kept : (g : Graph) (keep : ℕ → Bool) (ns : List Node) (from k : ℕ) → k < length ns → keep (from + k) ≡ true
-    → has_wire g (from + k) (get_or ns k (Truth false)) ≡ true → Among (wire_for g (from + k) (get_or ns k (Truth false))) (node_wires g keep from ns)
-wire_kept g keep [] from k low kept wired = absurd (omega (arith, low))
-wire_kept g keep (n ∷ ns) from zero low kept wired =
-    subst (λ i. Among (wire_for g i n) (node_wires g keep from (n ∷ ns))) (sym (none_more from))
-    (subst (λ b. Among (wire_for g from n) (cond b (wire_for g from n ∷ node_wires g keep (suc from) ns) (node_wires g keep (suc from) ns)))
-    (sym
-    (ap (λ b. b && has_wire g from n) (subst (λ i. keep i ≡ true) (none_more from) kept) ∙ subst (λ i. has_wire g i n ≡ true) (none_more from) wired))
-    (inl refl))
-  where
-    none_more : (i : ℕ) → i + 0 ≡ i
-    none_more i = omega arith
-wire_kept g keep (n ∷ ns) from (suc k) low kept wired =
-    by_test (keep from && has_wire g from n)
-    (subst (λ i. Among (wire_for g i (get_or ns k (Truth false))) (node_wires g keep (suc from) ns)) (one_more from k)
-    (wire_kept g keep ns (suc from) k (omega (arith, low)) (subst (λ i. keep i ≡ true) (sym (one_more from k)) kept)
-    (subst (λ i. has_wire g i (get_or ns k (Truth false)) ≡ true) (sym (one_more from k)) wired)))
-  where
-    one_more : (i j : ℕ) → suc i + j ≡ i + suc j
-    one_more i j = omega arith
-
-    by_test : (b : Bool) → Among (wire_for g (from + suc k) (get_or ns k (Truth false))) (node_wires g keep (suc from) ns)
-        → Among (wire_for g (from + suc k) (get_or ns k (Truth false))) (cond b (wire_for g from n ∷ node_wires g keep (suc from) ns) (node_wires g keep (suc from) ns))
-    by_test true at = inr at
-    by_test false at = at
 
 pub no_memory : (u : Sort) → IsBitsSort u → is_memory_sort u ≡ false
 no_memory truth h = refl
@@ -221,40 +200,52 @@ module _ (name : Name) (p : Parts) (keep : ℕ → Bool) (h : IsFlatModel name p
   number_given k (word w) y bits (x, e, g) = (x, g.0, g.1, e)
   number_given k (memory a d) y bits g = absurd bits
 
-  abbrev node_wire : ℕ → Wire
-  node_wire k = wire_for p.terms k (node_at p.terms k)
+  -- a wire that is given a number of its sort has it
+  pub wire_number : (w : Wire) (u : Sort) (x : ℕ) → Among w r.wires → w.sort ≡ u → IsBitsSort u
+      → IsAssigned (scope_in r) v w.expression (bits_of_sort u) x → x < 2 ^ bits_of_sort u → IsPlain r w.wire_name u × (v w.wire_name ≡ number x)
+  wire_number w u x at same bits given low =
+      let wire_bits : IsBitsSort w.sort = subst IsBitsSort (sym same) bits in (
+        subst (IsPlain r w.wire_name) same (wire_plain r (own name p keep h) w at wire_bits),
+        wire_has r (own name p keep h) v settled w x at wire_bits
+            (subst (λ z. IsAssigned (scope_in r) v w.expression (bits_of_sort z) x) (sym same) given)
+            (subst (λ z. x < 2 ^ bits_of_sort z) (sym same) low),
+      )
 
-  wire_there : (k : ℕ) → k < length p.terms.nodes → keep k ≡ true → has_wire p.terms k (node_at p.terms k) ≡ true → Among (node_wire k) r.wires
-  wire_there k low is_kept wired =
-      among_left (node_wire k) (node_wires p.terms keep 0 p.terms.nodes) (decode_wires (decodes_of p.terms p.instructions.items))
-      (subst (λ i. Among (wire_for p.terms i (node_at p.terms k)) (node_wires p.terms keep 0 p.terms.nodes)) (from_start k)
-      (wire_kept p.terms keep p.terms.nodes 0 k low (subst (λ i. keep i ≡ true) (sym (from_start k)) is_kept)
-      (subst (λ i. has_wire p.terms i (node_at p.terms k) ≡ true) (sym (from_start k)) wired)))
+  pub wire_worth : (w : Wire) (u : Sort) (x : ℕ) → Among w r.wires → w.sort ≡ u → IsBitsSort u → IsWorth (scope_in r) v w.expression (bits_of_sort u) x
+      → IsWorth (scope_in r) v (whole_name w.wire_name) (bits_of_sort u) x
+  wire_worth w u x at same bits worth =
+      let z = wire_number w u x at same bits (standing_is_assigned (scope_in r) v w.expression (bits_of_sort u) x worth) worth.fits in
+      name_is_its_value (scope_in r) v w.wire_name (bits_of_sort u) x (plain_net r w.wire_name u z.0) z.1 worth.fits
+
+  -- the wires of a node that is kept
+  node_wire_there : (k : ℕ) (w : Wire) → k < length p.terms.nodes → keep k ≡ true → has_wire p.terms k (node_at p.terms k) ≡ true
+      → Among w (wires_of p.terms k (node_at p.terms k)) → Among w r.wires
+  node_wire_there k w low is_kept wired at =
+      among_left w (node_wires p.terms keep 0 p.terms.nodes)
+      (decode_wires (decodes_of p.terms p.instructions.items) ++ all_ways p.terms (memories_from p.terms 0 p.instructions.items))
+      (wire_kept p.terms keep p.terms.nodes 0 k w low (subst (λ i. keep i ≡ true) (sym (from_start k)) is_kept)
+      (subst (λ i. has_wire p.terms i (node_at p.terms k) ≡ true) (sym (from_start k)) wired)
+      (subst (λ i. Among w (wires_of p.terms i (node_at p.terms k))) (sym (from_start k)) at))
     where
       from_start : (i : ℕ) → 0 + i ≡ i
       from_start i = omega arith
 
+  bits_wired : (k : ℕ) (u : Sort) → is_leaf (node_at p.terms k) ≡ false → IsBitsSort u → sort_of (tree p.terms k) ≡ Some u
+      → has_wire p.terms k (node_at p.terms k) ≡ true
+  bits_wired k u no_leaf bits e =
+      ap (λ b. not b && not (is_memory_sort (sort_or_truth (sort_of (tree p.terms k))))) no_leaf
+      ∙ ap (λ o. not (is_memory_sort (sort_or_truth o))) e ∙ ap not (no_memory u bits)
+
   wire_held : (k : ℕ) (u : Sort) (y : Value) → k < length p.terms.nodes → keep k ≡ true → is_leaf (node_at p.terms k) ≡ false
       → IsBitsSort u → sort_of (tree p.terms k) ≡ Some u → Given (scope_in r) v (expression_of p.terms k (node_at p.terms k)) (Some u) y → IsHeldAs r v (wire_name_of k) u y
   wire_held k u y low is_kept no_leaf bits e g =
-      let same : (node_wire k).sort ≡ u = ap sort_or_truth e in
-      let wired : has_wire p.terms k (node_at p.terms k) ≡ true =
-      ap (λ b. not b && not (is_memory_sort (sort_or_truth (sort_of (tree p.terms k))))) no_leaf
-      ∙ ap (λ o. not (is_memory_sort (sort_or_truth o))) e ∙ ap not (no_memory u bits) in
-      let at : Among (node_wire k) r.wires = wire_there k low is_kept wired in
-      let wire_bits : IsBitsSort (node_wire k).sort = subst IsBitsSort (sym same) bits in
+      let w : Wire = wire_for p.terms k (node_at p.terms k) in
+      let at : Among w r.wires =
+      node_wire_there k w low is_kept (bits_wired k u no_leaf bits e)
+      (among_right w (words_for p.terms k (node_at p.terms k)) (w ∷ []) (inl refl)) in
       let x : HasGiven k u y = number_given k u y bits g in
-      record {
-        bits = bits;
-        plain = subst (IsPlain r (wire_name_of k)) same (wire_plain r (own name p keep h) (node_wire k) at wire_bits);
-        held = x.0;
-        has =
-            wire_has r (own name p keep h) v settled (node_wire k) x.0 at wire_bits
-            (subst (λ z. IsAssigned (scope_in r) v (expression_of p.terms k (node_at p.terms k)) (bits_of_sort z) x.0) (sym same) x.1)
-            (subst (λ z. x.0 < 2 ^ bits_of_sort z) (sym same) x.2);
-        fits = x.2;
-        means = x.3;
-      }
+      let z = wire_number w u x.0 at (ap sort_or_truth e) bits x.1 x.2 in
+      record { bits = bits; plain = z.0; held = x.0; has = z.1; fits = x.2; means = x.3 }
 
   wires_read : WiresAreRead (scope_in r) v p.terms point keep
   wires_read k y low is_kept no_leaf given = by_sort (sort_of (tree p.terms k)) refl given
@@ -271,5 +262,32 @@ module _ (name : Name) (p : Parts) (keep : ℕ → Bool) (h : IsFlatModel name p
           (net_worth r v (wire_name_of k) (word w) y held, net_sliced r v (wire_name_of k) (word w) y held)
       by_sort (Some (memory a d)) e g = (g, tt)
 
+  -- ---- words of memories
+
+  same_width : (n : ℕ) → (n == n) ≡ true
+  same_width n = eq-eqb n n refl
+
+  -- the sort of a load
+  load_sorted : (l : ℕ) (m i : TermId) (a d : ℕ) → l < length p.terms.nodes → node_at p.terms l ≡ Load m i → sort_of (tree p.terms m.0) ≡ Some (memory a d)
+      → sort_of (tree p.terms i.0) ≡ Some (word a) → sort_of (tree p.terms l) ≡ Some (word d)
+  load_sorted l m i a d low e of_memory of_address =
+      ap sort_of (tree_is p.terms l h.stored.ordered low ∙ ap (tree_of_node p.terms) e)
+      ∙ (ap (λ o. load_sort o (sort_of (tree p.terms i.0))) of_memory
+      ∙ (ap (λ o. load_sort (Some (memory a d)) o) of_address ∙ ap (λ b. some_if b (word d)) (same_width a)))
+
+  words_read : WordsAreRead (scope_in r) v p.terms point keep
+  words_read l m i a d k x low is_kept e of_memory of_address before part worth =
+      let sorted : sort_of (tree p.terms l) ≡ Some (word d) = load_sorted l m i a d low e of_memory of_address in
+      let bits : IsBitsSort (word d) = is_sort-sort_of (tree p.terms l) (word d) sorted in
+      let w : Wire = word_wire p.terms l (operand p.terms i.0) k in
+      let among : Among w (wires_of p.terms l (Load m i)) =
+      among_left w (word_wires p.terms l (operand p.terms i.0) m.0 l) (wire_for p.terms l (Load m i) ∷ [])
+      (word_wire_there p.terms l (operand p.terms i.0) m.0 l k before part) in
+      wire_worth w (word d) x
+      (node_wire_there l w low is_kept (bits_wired l (word d) (ap is_leaf e) bits sorted) (subst (λ n. Among w (wires_of p.terms l n)) (sym e) among))
+      (ap sort_or_truth sorted) bits worth
+
   pub node_done : (k : ℕ) → k < length p.terms.nodes → IsTrue (keep k) → IsDone (scope_in r) v p.terms point k
-  node_done = done (scope_in r) v p.terms point keep h.stored.ordered names_read wires_read kept.operands
+  node_done =
+      done (scope_in r) v p.terms point keep
+      (record { ordered = h.stored.ordered; named = names_read; wired = wires_read; words = words_read; closed = kept.operands })

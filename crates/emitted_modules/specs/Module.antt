@@ -13,7 +13,8 @@ use Rattle.ila_model.specs.Meaning.{declared_states, declared_inputs}
 use Rattle.ila_model.specs.Sorted.{sort_at}
 use Rattle.emitted_designs.specs.Names.{go_name}
 use Rattle.emitted_modules.specs.Rtl.{Wire, Stored, Guarded, Rtl, module_of}
-use Rattle.emitted_modules.specs.Nodes.{operand, called_at, stores_for, node_wires}
+use Rattle.emitted_modules.specs.Nodes.{operand, called_at, node_wires}
+use Rattle.emitted_modules.specs.Stores.{MemoryUpdate, via_wires, stores_of}
 
 -- ---- which instruction decodes
 
@@ -47,7 +48,7 @@ decodes_of g is = map (λ i. operand g i.decode.0) is
 abbrev pub update_for : Graph → Update → Name × Expression
 update_for g u = (called_at g.names u.state.0, operand g u.term.0)
 
--- the updates of truth values and words, and the stores to memories
+-- the updates of truth values and words, and those of memories
 abbrev pub is_of_memory : Graph → Update → Bool
 is_of_memory g u = is_memory_sort (sort_at g.names u.state.0)
 
@@ -55,13 +56,36 @@ abbrev pub updates_for : Graph → List Update → Entries Expression
 updates_for g [] = []
 updates_for g (u ∷ us) = cond (is_of_memory g u) (updates_for g us) (update_for g u ∷ updates_for g us)
 
-abbrev pub all_stores : Graph → List Update → List Stored
-all_stores g [] = []
-all_stores g (u ∷ us) =
-    cond (is_of_memory g u) (stores_for g (called_at g.names u.state.0) (suc u.term.0) [] u.term.0 ++ all_stores g us) (all_stores g us)
+-- of instruction j, with this decode condition
+abbrev pub memory_update : Graph → (j : ℕ) → Expression → Update → MemoryUpdate
+memory_update g j d u = record { instruction = j; decode = d; memory_name = called_at g.names u.state.0; term = u.term.0 }
 
-abbrev pub guarded_for : Graph → Instruction → Guarded
-guarded_for g i = record { guard = operand g i.decode.0; updates = updates_for g i.updates.items; stores = all_stores g i.updates.items }
+abbrev pub memory_updates : Graph → (j : ℕ) → Expression → List Update → List MemoryUpdate
+memory_updates g j d [] = []
+memory_updates g j d (u ∷ us) = cond (is_of_memory g u) (memory_update g j d u ∷ []) [] ++ memory_updates g j d us
+
+abbrev pub all_stores : Graph → List MemoryUpdate → List Stored
+all_stores g [] = []
+all_stores g (u ∷ us) = stores_of g u (suc u.term) ++ all_stores g us
+
+abbrev pub all_ways : Graph → List MemoryUpdate → List Wire
+all_ways g [] = []
+all_ways g (u ∷ us) = via_wires g u (suc u.term) ++ all_ways g us
+
+abbrev pub memories_for : Graph → (j : ℕ) → Instruction → List MemoryUpdate
+memories_for g j i = memory_updates g j (operand g i.decode.0) i.updates.items
+
+abbrev pub guarded_for : Graph → (j : ℕ) → Instruction → Guarded
+guarded_for g j i = record { guard = operand g i.decode.0; updates = updates_for g i.updates.items; stores = all_stores g (memories_for g j i) }
+
+-- the instructions from number j on
+abbrev pub guarded_from : Graph → (j : ℕ) → List Instruction → List Guarded
+guarded_from g j [] = []
+guarded_from g j (i ∷ is) = guarded_for g j i ∷ guarded_from g (suc j) is
+
+abbrev pub memories_from : Graph → (j : ℕ) → List Instruction → List MemoryUpdate
+memories_from g j [] = []
+memories_from g j (i ∷ is) = memories_for g j i ++ memories_from g (suc j) is
 
 -- wb_go, the valid condition, and exactly one decode condition
 abbrev pub ready_of : Parts → Expression
@@ -74,9 +98,11 @@ rtl_of name p keep = record {
   called = name;
   inputs = declared_inputs p.inputs (drop (length p.initial_values.items) p.terms.names);
   registers = declared_states p.terms.names p.initial_values.items;
-  wires = node_wires p.terms keep 0 p.terms.nodes ++ decode_wires (decodes_of p.terms p.instructions.items);
+  wires =
+      node_wires p.terms keep 0 p.terms.nodes
+      ++ (decode_wires (decodes_of p.terms p.instructions.items) ++ all_ways p.terms (memories_from p.terms 0 p.instructions.items));
   ready = ready_of p;
-  guarded = map (guarded_for p.terms) p.instructions.items;
+  guarded = guarded_from p.terms 0 p.instructions.items;
 }
 
 -- The emitted module, with a wire for each node that is kept.

@@ -1,5 +1,6 @@
 -- Wires for the terms of a model: one for each node of its graph of terms, over the wires of earlier nodes.
-use Rattle.std.specs.Prelude.{ℕ, zero, suc, ◌+◌, ◌-◌, Bool, true, false, cond, not, ◌&&◌, nat_lt, List, [], ◌∷◌, ◌++◌, Option, Some, None, codes, decimal, slice_index_or}
+use Rattle.std.specs.Prelude.{ℕ, zero, suc, ◌+◌, ◌-◌, Bool, true, false, cond, not, ◌&&◌, ◌||◌, ◌==◌, nat_lt, List, [], ◌∷◌, ◌++◌, Option, Some, None, codes, decimal, slice_index_or}
+use Rattle.std.specs.List.{list_any}
 use Rattle.wb_values.specs.Value.{Name, Sort, truth, Entries}
 use Rattle.wb_values.specs.Number.{word_extract}
 use Rattle.model_meaning.specs.Term.{is_memory_sort, sort_of, term_width}
@@ -10,7 +11,7 @@ use Rattle.term_expressions.specs.Expressions.{sized, arithmetic_shift, signed_c
 use Rattle.wb_terms.specs.declared.nodes.Node.{Node}
 use Rattle.wb_terms.specs.declared.nodes.Node.TheVariants.{Name as Named, Truth, Const, Not, And, Or, Xor, Neg, Add, Sub, Mul, Shl, Lshr, Ashr, Eq, Ult, Ule, Slt, Sle, Concat, Extract, Zext, Sext, Ite, Load, Store}
 use Rattle.wb_terms.specs.Graph.{Graph, tree}
-use Rattle.emitted_modules.specs.Rtl.{Stored, Wire}
+use Rattle.emitted_modules.specs.Rtl.{Wire}
 
 abbrev pub wire_name_of : ℕ → Name
 wire_name_of k = codes "wb_t" ++ decimal k
@@ -51,30 +52,48 @@ width_at g k = term_width (tree g k)
 abbrev pub filled_to : (n w : ℕ) → Expression → Expression
 filled_to n w e = cond (nat_lt w n) (filled n w e) e
 
--- ---- memories
+-- ---- the parts of memories
 
--- The word of a memory at an address: of the memory itself, of one with a word stored to it, of one of two by a condition.
-abbrev pub word_of_node : Graph → (inner : ℕ → Expression) → Expression → Node → Expression
-word_of_node g inner e (Named n) = word_at (called_at g.names n.0) e
-word_of_node g inner e (Store m i x) = conditional (comparison equal e (operand g i.0)) (operand g x.0) (inner m.0)
-word_of_node g inner e (Ite c x y) = conditional (operand g c.0) (inner x.0) (inner y.0)
-word_of_node g inner e n = sized 1 0
+-- a memory with a word stored to it, or one of two memories by a condition
+abbrev pub is_changed : Node → Bool
+is_changed (Store m i x) = true
+is_changed (Ite c x y) = true
+is_changed _ = false
 
--- so many levels down
-abbrev pub word_read : Graph → (levels : ℕ) → Expression → ℕ → Expression
-word_read g zero e k = sized 1 0
-word_read g (suc l) e k = word_of_node g (λ j. word_read g l e j) e (node_at g k)
+-- the memories that it is made of
+abbrev pub memories_of : Node → List ℕ
+memories_of (Store m i x) = m.0 ∷ []
+memories_of (Ite c x y) = x.0 ∷ y.0 ∷ []
+memories_of _ = []
 
--- The stores that make a memory what a term says, where these conditions hold.
-abbrev pub stores_of_node : Graph → Name → (inner : List Expression → ℕ → List Stored) → List Expression → Node → List Stored
-stores_of_node g n inner cs (Store m i x) =
-    inner cs m.0 ++ record { conditions = cs; memory_name = n; address = operand g i.0; value = operand g x.0 } ∷ []
-stores_of_node g n inner cs (Ite c x y) = inner (operand g c.0 ∷ cs) x.0 ++ inner (unary complement (operand g c.0) ∷ cs) y.0
-stores_of_node g n inner cs m = []
+-- Node k is node j, or a part of one of the memories that j is made of: so many levels down.
+abbrev pub is_part : Graph → (levels : ℕ) → (j k : ℕ) → Bool
+is_part g zero j k = false
+is_part g (suc l) j k = (j == k) || list_any (λ i. is_part g l i k) (memories_of (node_at g j))
 
-abbrev pub stores_for : Graph → Name → (levels : ℕ) → List Expression → ℕ → List Stored
-stores_for g n zero cs k = []
-stores_for g n (suc l) cs k = stores_of_node g n (λ ds j. stores_for g n l ds j) cs (node_at g k)
+-- Memory m has node k as a part that is no name.
+abbrev pub has_part : Graph → (m k : ℕ) → Bool
+has_part g m k = is_changed (node_at g k) && is_part g (suc m) m k
+
+-- ---- words of memories
+
+-- the wire for the word of memory k at the address of load l
+abbrev pub word_name : (l k : ℕ) → Name
+word_name l k = codes "wb_word_" ++ decimal l ++ 95 ∷ decimal k
+
+-- The word of memory k at the address of load l, which is e. Of a name it is the word there, else a wire.
+abbrev pub word_or_wire : Entries Sort → (l : ℕ) → Expression → ℕ → Node → Expression
+word_or_wire ns l e k (Named n) = word_at (called_at ns n.0) e
+word_or_wire ns l e k _ = whole_name (word_name l k)
+
+abbrev pub word_of : Graph → (l : ℕ) → Expression → ℕ → Expression
+word_of g l e k = word_or_wire g.names l e k (node_at g k)
+
+-- It is over the words of the memories that a memory is made of: i == a ? x : .., or c ? .. : ..
+abbrev pub word_of_node : Graph → (l : ℕ) → Expression → Node → Expression
+word_of_node g l e (Store m i x) = conditional (comparison equal e (operand g i.0)) (operand g x.0) (word_of g l e m.0)
+word_of_node g l e (Ite c x y) = conditional (operand g c.0) (word_of g l e x.0) (word_of g l e y.0)
+word_of_node g l e n = sized 1 0
 
 -- ---- wires
 
@@ -101,7 +120,7 @@ expression_of g k (Extract h l x) = bits_of_operand g x.0 h l
 expression_of g k (Zext n x) = filled_to n (width_at g x.0) (operand g x.0)
 expression_of g k (Sext n x) = as_signed (operand g x.0)
 expression_of g k (Ite c x y) = conditional (operand g c.0) (operand g x.0) (operand g y.0)
-expression_of g k (Load m i) = word_read g (suc m.0) (operand g i.0) m.0
+expression_of g k (Load m i) = word_of g k (operand g i.0) m.0
 expression_of g k n = leaf_or_wire g.names k n
 
 abbrev pub is_leaf : Node → Bool
@@ -122,7 +141,21 @@ wire_for g k n = record { wire_name = wire_name_of k; sort = sort_or_truth (sort
 abbrev pub has_wire : Graph → ℕ → Node → Bool
 has_wire g k n = not (is_leaf n) && not (is_memory_sort (sort_or_truth (sort_of (tree g k))))
 
+-- wire [w-1:0] wb_word_l_k = ..; for load l at address e
+abbrev pub word_wire : Graph → (l : ℕ) → Expression → ℕ → Wire
+word_wire g l e k = record { wire_name = word_name l k; sort = sort_or_truth (sort_of (tree g l)); expression = word_of_node g l e (node_at g k) }
+
+-- one for each of the first n nodes that is a part of memory m, from the lowest on
+abbrev pub word_wires : Graph → (l : ℕ) → Expression → (m n : ℕ) → List Wire
+word_wires g l e m zero = []
+word_wires g l e m (suc k) = word_wires g l e m k ++ cond (has_part g m k) (word_wire g l e k ∷ []) []
+
+-- those of a load: the parts of its memory stand before it
+abbrev pub words_for : Graph → ℕ → Node → List Wire
+words_for g k (Load m i) = word_wires g k (operand g i.0) m.0 k
+words_for g k n = []
+
 -- the wires of the nodes that are kept, from node k on
 abbrev pub node_wires : Graph → (keep : ℕ → Bool) → ℕ → List Node → List Wire
 node_wires g keep k [] = []
-node_wires g keep k (n ∷ ns) = cond (keep k && has_wire g k n) (wire_for g k n ∷ node_wires g keep (suc k) ns) (node_wires g keep (suc k) ns)
+node_wires g keep k (n ∷ ns) = cond (keep k && has_wire g k n) (words_for g k n ++ wire_for g k n ∷ []) [] ++ node_wires g keep (suc k) ns

@@ -15,14 +15,14 @@ pub record Wire : Type 0 where
   pub sort : Sort
   pub expression : Expression
 
--- a store to a word of a memory, where all of these conditions hold
+-- a store to a word of a memory, where the condition holds, if there is one
 pub record Stored : Type 0 where
-  pub conditions : List Expression
+  pub condition : Option Expression
   pub memory_name : Name
   pub address : Expression
   pub value : Expression
 
--- what registers take where a condition holds, and the stores, in their order
+-- what registers take where a condition holds; and stores, in their order, each under its own condition
 pub record Guarded : Type 0 where
   pub guard : Expression
   pub updates : Entries Expression
@@ -111,25 +111,25 @@ first_takes (d ∷ ds) = first_take d.state_name d.sort d.init ++ first_takes ds
 -- Of a memory, which states no initial value, a word is kept: n[wb_rst] <= n[wb_rst].
 abbrev pub kept_word : Name → Sort → List Stored
 kept_word n (memory a d) =
-    record { conditions = []; memory_name = n; address = whole_name reset_name; value = word_at n (whole_name reset_name) } ∷ []
+    record { condition = None; memory_name = n; address = whole_name reset_name; value = word_at n (whole_name reset_name) } ∷ []
 kept_word n t = []
 
 abbrev pub kept_words : List StateDeclaration → List Stored
 kept_words [] = []
 kept_words (d ∷ ds) = kept_word d.state_name d.sort ++ kept_words ds
 
--- if (c) if (..) x
-abbrev pub under : List Expression → Statement → Statement
-under [] x = x
-under (c ∷ cs) x = if_then c (under cs x)
+-- if (c) x
+abbrev pub under : Option Expression → Statement → Statement
+under None x = x
+under (Some c) x = if_then c x
 
--- n[i] <= e
+-- if (c) n[i] <= e
 abbrev pub writes : Stored → Statement
-writes w = under w.conditions (nonblocking (place w.memory_name (one (index w.address))) w.value)
+writes w = under w.condition (nonblocking (place w.memory_name (one (index w.address))) w.value)
 
 -- if (c) n <= e; (A statement for each update, without begin and end: so any number of them may follow one another.)
 abbrev pub guarded_statements : Guarded → List Statement
-guarded_statements g = map (λ u. if_then g.guard (takes u)) g.updates ++ map (λ w. if_then g.guard (writes w)) g.stores
+guarded_statements g = map (λ u. if_then g.guard (takes u)) g.updates ++ map writes g.stores
 
 abbrev pub all_guarded : List Guarded → List Statement
 all_guarded [] = []
