@@ -47,10 +47,10 @@ module _ (s : Scope) (x : Statement) where
   pub whole-Empty : x ≡ Empty → IsNarrowFlow s (statement_of x)
   whole-Empty i = subst (λ z. IsNarrowFlow s (statement_of z)) (sym i) tt
 
-  pub whole-Blocking : (t : Target) (e : Expression) → x ≡ Blocking t e → HasNarrowParts s (target_of t) × IsNarrow s (tree_of e) → IsNarrowFlow s (statement_of x)
+  pub whole-Blocking : (t : Box Target Global) (e : Expression) → x ≡ Blocking t e → HasNarrowParts s (target_of t.value) × IsNarrow s (tree_of e) → IsNarrowFlow s (statement_of x)
   whole-Blocking t e i h = subst (λ z. IsNarrowFlow s (statement_of z)) (sym i) h
 
-  pub whole-Nonblocking : (t : Target) (e : Expression) → x ≡ Nonblocking t e → HasNarrowParts s (target_of t) × IsNarrow s (tree_of e) → IsNarrowFlow s (statement_of x)
+  pub whole-Nonblocking : (t : Box Target Global) (e : Expression) → x ≡ Nonblocking t e → HasNarrowParts s (target_of t.value) × IsNarrow s (tree_of e) → IsNarrowFlow s (statement_of x)
   whole-Nonblocking t e i h = subst (λ z. IsNarrowFlow s (statement_of z)) (sym i) h
 
   whole-If : (v : Vec Arm Global) (l : Option (Box Statement Global)) → x ≡ If v l → (as_ : List Arm) → as_ ≡ v.items → AreNarrowLadder s as_

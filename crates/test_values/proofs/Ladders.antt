@@ -5,12 +5,14 @@ use Rattle.verilog_meaning.specs.Expression.{Scope}
 use Rattle.v_syntax.specs.declared.tree.Arm.{Arm}
 use Rattle.v_syntax.specs.declared.tree.Expression.{Expression}
 use Rattle.std.specs.Borrow.{Bor}
+use Rattle.std.specs.declared.boxed.Box.{Box}
+use Rattle.std.specs.declared.alloc.Global.{Global}
 use Rattle.v_syntax.specs.declared.tree.Selects.{Whole}
-use Rattle.v_syntax.specs.declared.tree.Target.{Place}
+use Rattle.v_syntax.specs.declared.tree.Target.{Target, Place}
 use Rattle.v_syntax.specs.declared.tree.Statement.{Blocking}
-use Rattle.v_syntax.specs.Tree.{tree_of, statement_of, arm_before, or_empty}
+use Rattle.v_syntax.specs.Tree.{tree_of, target_of, statement_of, arm_before, or_empty}
 use Rattle.v_value.specs.Narrow.{IsNarrow, HasNarrowObjects}
-use Rattle.v_statement.specs.Statements.{IsNarrowStatement, arm_list}
+use Rattle.v_statement.specs.Statements.{IsNarrowStatement, IsNarrowTarget, arm_list}
 use Rattle.test_values.specs.Small.{IsSmall, IsSmallStatement}
 
 -- What stands behind the arms may be anything small.
@@ -34,5 +36,5 @@ one_more_arm as_ a h i k = λ s y o n.
     (h s (Some (arm_before (tree_of a.condition) (statement_of a.statement) y)) o (narrow_arm s (tree_of a.condition) (statement_of a.statement) y (i s) (k s o) n))
 
 -- an assignment to a whole name
-pub small_assignment : (n : Bor (List ℕ)) (e : Expression) → IsSmall e → IsSmallStatement (Blocking (Place n Whole) e)
-small_assignment n e h = λ s o. ((tt, (o n.now).0), h s)
+pub small_assignment : (n : Bor (List ℕ)) (t : Box Target Global) (e : Expression) → t.value ≡ Place n Whole → IsSmall e → IsSmallStatement (Blocking t e)
+small_assignment n t e is h = λ s o. (subst (λ x. IsNarrowTarget s (target_of x)) (sym is) (tt, (o n.now).0), h s)

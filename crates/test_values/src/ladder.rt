@@ -26,10 +26,11 @@ fn number<'s>(value: u128) -> Expression<'s>
 }
 
 /// `name = 1;`
-fn assignment<'s>(name: &'s str) -> Statement<'s>
-    ensures { IsSmallStatement result }
+fn assignment<'s>(alloc: Global, name: &'s str) -> Result<Statement<'s>, AllocError>
+    ensures { IfOk result (λ x. IsSmallStatement x) }
 {
-    Statement::Blocking(Target::Place(name, Selects::Whole), number(1))
+    let target = Box::new(alloc, Target::Place(name, Selects::Whole))?;
+    Ok(Statement::Blocking(target, number(1)))
 }
 
 /// `if (0) ; else if (0) ; .. else if (1) q = 1;` with so many arms before the last one.
@@ -45,7 +46,7 @@ fn ladder(alloc: Global, before: usize) -> Result<Box<Statement<'static>>, Alloc
     }
     arms.push(Arm {
         condition: number(1),
-        statement: assignment("q"),
+        statement: assignment(alloc, "q")?,
     })?;
     let whole = Box::new(alloc, Statement::If(arms, None))?;
     Ok(whole)

@@ -73,9 +73,10 @@ fn assignment(
 {
     let selects = Selects::One(part(alloc, form, first, second)?);
     let mut statements = Vec::new(alloc);
-    let whole = Target::Place("q", Selects::Whole);
+    let whole = Box::new(alloc, Target::Place("q", Selects::Whole))?;
     statements.push(Statement::Blocking(whole, byte(0x55)))?;
-    statements.push(Statement::Blocking(Target::Place("q", selects), byte(number)))?;
+    let part = Box::new(alloc, Target::Place("q", selects))?;
+    statements.push(Statement::Blocking(part, byte(number)))?;
     let whole = Box::new(alloc, Statement::Block(None, statements))?;
     Ok(whole)
 }

@@ -31,8 +31,8 @@ HasArms (more_of-Arm _ _ _) = Unit {0}
 abbrev mutual
   pub IsFlatStatement : Statement → Type 0
   IsFlatStatement Empty = Unit {0}
-  IsFlatStatement (Blocking t e) = IsFlatTarget t × IsFlat e
-  IsFlatStatement (Nonblocking t e) = IsFlatTarget t × IsFlat e
+  IsFlatStatement (Blocking t e) = IsFlatTarget t.value × IsFlat e
+  IsFlatStatement (Nonblocking t e) = IsFlatTarget t.value × IsFlat e
   IsFlatStatement (If' _ arms y) = HasArms arms × AreFlatArms arms × IsFlatElse y
   IsFlatStatement (Case' _ e _ items) = IsFlat e × AreFlatItems items
   IsFlatStatement (Block' _ _ xs) = AreFlatStatements xs

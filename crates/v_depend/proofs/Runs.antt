@@ -146,8 +146,8 @@ module _ (w v : BitSet) (s : Scope) (x : Statement) where
   as-tree : (y : PureStatement) → statement_of x ≡ y → Rests w v s y → Rests w v s (statement_of x)
   as-tree y e h = subst (Rests w v s) (sym e) h
 
-  pub rests-Blocking : (t : Target) (e : Expression) → x ≡ Blocking t e → Rests w v s (blocking (target_of t) (tree_of e)) → Rests w v s (statement_of x)
-  rests-Blocking t e i h = as-tree (blocking (target_of t) (tree_of e)) (ap statement_of i) h
+  pub rests-Blocking : (t : Box Target Global) (e : Expression) → x ≡ Blocking t e → Rests w v s (blocking (target_of t.value) (tree_of e)) → Rests w v s (statement_of x)
+  rests-Blocking t e i h = as-tree (blocking (target_of t.value) (tree_of e)) (ap statement_of i) h
 
   pub rests-If : (arms : Vec Arm Global) (l : Option (Box Statement Global)) → x ≡ If arms l → Rests w v s (or_empty (arm_list arms.items (last_statement l))) → Rests w v s (statement_of x)
   rests-If arms l i h = as-tree (or_empty (arm_list arms.items (last_statement l))) (ap statement_of i ∙ statement_of-If arms l) h
@@ -175,11 +175,11 @@ module _ (w : BitSet) (s : Scope) (x : Statement) where
   pub rests-Empty : x ≡ Empty → Rests w w s (statement_of x)
   rests-Empty i = as-tree w w s x empty (ap statement_of i) (λ u t. ((λ h. h), (λ h. h)))
 
-  pub rests-Nonblocking : (t : Target) (e : Expression) → x ≡ Nonblocking t e → Rests w w s (statement_of x)
-  rests-Nonblocking t e i = as-tree w w s x (nonblocking (target_of t) (tree_of e)) (ap statement_of i) (λ u t. ((λ h. h), (λ h. h)))
+  pub rests-Nonblocking : (t : Box Target Global) (e : Expression) → x ≡ Nonblocking t e → Rests w w s (statement_of x)
+  rests-Nonblocking t e i = as-tree w w s x (nonblocking (target_of t.value) (tree_of e)) (ap statement_of i) (λ u t. ((λ h. h), (λ h. h)))
 
 module _ (s : Scope) (x : Statement) (f : IsFit s (statement_of x)) where
-  pub fit-Blocking : (t : Target) (e : Expression) → x ≡ Blocking t e → IsFit s (blocking (target_of t) (tree_of e))
+  pub fit-Blocking : (t : Box Target Global) (e : Expression) → x ≡ Blocking t e → IsFit s (blocking (target_of t.value) (tree_of e))
   fit-Blocking t e i = subst (IsFit s) (ap statement_of i) f
 
   pub fit-If : (arms : Vec Arm Global) (l : Option (Box Statement Global)) → x ≡ If arms l → (as_ : List Arm) → as_ ≡ arms.items → AreFitArms s as_

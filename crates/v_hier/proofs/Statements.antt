@@ -85,11 +85,11 @@ module _ (k : Name → Bool) (x : Statement) (r : Bool) where
   unfolding statement_known
   at-Empty i h = h ∙ sym (ap (λ y. statement_known k (statement_of y)) i)
 
-  pub at-Blocking : (t : Target) (e : Expression) → x ≡ Blocking t e → r ≡ all_known k (names_in_target (target_of t) ++ names_in (tree_of e)) → r ≡ statement_known k (statement_of x)
+  pub at-Blocking : (t : Box Target Global) (e : Expression) → x ≡ Blocking t e → r ≡ all_known k (names_in_target (target_of t.value) ++ names_in (tree_of e)) → r ≡ statement_known k (statement_of x)
   unfolding statement_known
   at-Blocking t e i h = h ∙ sym (ap (λ y. statement_known k (statement_of y)) i)
 
-  pub at-Nonblocking : (t : Target) (e : Expression) → x ≡ Nonblocking t e → r ≡ all_known k (names_in_target (target_of t) ++ names_in (tree_of e)) → r ≡ statement_known k (statement_of x)
+  pub at-Nonblocking : (t : Box Target Global) (e : Expression) → x ≡ Nonblocking t e → r ≡ all_known k (names_in_target (target_of t.value) ++ names_in (tree_of e)) → r ≡ statement_known k (statement_of x)
   unfolding statement_known
   at-Nonblocking t e i h = h ∙ sym (ap (λ y. statement_known k (statement_of y)) i)
 

@@ -70,13 +70,13 @@ same_statement c s t is r = ap (λ (y : Statement). bare_statement c (statement_
 pub empty_arm : (c : Bool) (s : Statement) → s ≡ Empty → (r : List Token) → mark semicolon ∷ r ≡ printed_statement c (statement_of s) r
 empty_arm c s is r = same_statement c s Empty is r
 
-pub blocking_arm : (c : Bool) (s : Statement) (t : Target) (e : Expression) → s ≡ Blocking t e → (r : List Token)
-    → printed_assignment equals (target_of t) (tree_of e) (mark semicolon ∷ r) ≡ printed_statement c (statement_of s) r
+pub blocking_arm : (c : Bool) (s : Statement) (t : Box Target Global) (e : Expression) → s ≡ Blocking t e → (r : List Token)
+    → printed_assignment equals (target_of t.value) (tree_of e) (mark semicolon ∷ r) ≡ printed_statement c (statement_of s) r
 unfolding printed_assignment
 blocking_arm c s t e is r = same_statement c s (Blocking t e) is r
 
-pub nonblocking_arm : (c : Bool) (s : Statement) (t : Target) (e : Expression) → s ≡ Nonblocking t e → (r : List Token)
-    → printed_assignment less_equals (target_of t) (tree_of e) (mark semicolon ∷ r) ≡ printed_statement c (statement_of s) r
+pub nonblocking_arm : (c : Bool) (s : Statement) (t : Box Target Global) (e : Expression) → s ≡ Nonblocking t e → (r : List Token)
+    → printed_assignment less_equals (target_of t.value) (tree_of e) (mark semicolon ∷ r) ≡ printed_statement c (statement_of s) r
 unfolding printed_assignment
 nonblocking_arm c s t e is r = same_statement c s (Nonblocking t e) is r
 

@@ -22,12 +22,14 @@ fn copy_statement<'a, 's: 'a>(
     match tree {
         Statement::Empty => Ok(Statement::Empty),
         Statement::Blocking(target, value) => {
-            let target = copy_target(alloc, target, names)?;
+            let copied = copy_target(alloc, target, names)?;
+            let target = Box::new(alloc, copied)?;
             let value = copy(alloc, value, names)?;
             Ok(Statement::Blocking(target, value))
         }
         Statement::Nonblocking(target, value) => {
-            let target = copy_target(alloc, target, names)?;
+            let copied = copy_target(alloc, target, names)?;
+            let target = Box::new(alloc, copied)?;
             let value = copy(alloc, value, names)?;
             Ok(Statement::Nonblocking(target, value))
         }

@@ -1,6 +1,8 @@
 -- Statements of tests that fit words.
 use Rattle.std.proofs.Common.{◌≡◌, ◌≤◌, ◌<◌, ◌++◌, ◌∙◌, ℕ, ap, sym, subst, Bool, true, false, cond, List, [], ◌∷◌, arith}
 use Rattle.std.specs.Borrow.{Bor}
+use Rattle.std.specs.declared.boxed.Box.{Box}
+use Rattle.std.specs.declared.alloc.Global.{Global}
 use Rattle.wb_values.specs.Value.{Name}
 use Rattle.verilog_trees.specs.Syntax as pure
 use Rattle.verilog_trees.specs.Syntax.{number, one, place}
@@ -8,9 +10,9 @@ use Rattle.verilog_meaning.specs.Expression.{Scope, Object, no_values, select_bi
 use Rattle.v_syntax.specs.declared.tree.Expression.{Expression}
 use Rattle.v_syntax.specs.declared.tree.Select.{Select}
 use Rattle.v_syntax.specs.declared.tree.Selects.{Whole, One}
-use Rattle.v_syntax.specs.declared.tree.Target.{Place}
+use Rattle.v_syntax.specs.declared.tree.Target.{Target, Place}
 use Rattle.v_syntax.specs.declared.tree.Statement.{Statement, Blocking}
-use Rattle.v_syntax.specs.Tree.{tree_of, select_of}
+use Rattle.v_syntax.specs.Tree.{tree_of, select_of, target_of}
 use Rattle.v_value.specs.Narrow.{IsNarrow, HasNarrowObjects}
 use Rattle.v_statement.specs.Statements.{IsNarrowSelect, IsNarrowTarget, AreNarrowStatements, statement_list}
 
@@ -31,13 +33,16 @@ select_fits s n x o h = ((h s).0, either (is_memory (s n)))
     either true = (o n).0
     either false = (h s).1 (s n)
 
+fits : (s : Scope) (p q : Target) → p ≡ q → IsNarrowTarget s (target_of q) → IsNarrowTarget s (target_of p)
+fits s p q same = subst (λ t. IsNarrowTarget s (target_of t)) (sym same)
+
 -- an assignment to a whole name, and one to a part of it
-pub two_assignments : (xs ys zs : List Statement) (n m : Bor (List ℕ)) (x : Select) (d e : Expression) (y z : ℕ)
-    → xs ≡ [] → ys ≡ xs ++ Blocking (Place n Whole) d ∷ [] → zs ≡ ys ++ Blocking (Place m (One x)) e ∷ []
+pub two_assignments : (xs ys zs : List Statement) (n m : Bor (List ℕ)) (x : Select) (d e : Expression) (t u : Box Target Global) (y z : ℕ)
+    → t.value ≡ Place n Whole → u.value ≡ Place m (One x) → xs ≡ [] → ys ≡ xs ++ Blocking t d ∷ [] → zs ≡ ys ++ Blocking u e ∷ []
     → tree_of d ≡ byte y → tree_of e ≡ byte z → y < 256 → z < 256 → IsSmallSelect (select_of x)
     → (s : Scope) → HasNarrowObjects s → AreNarrowStatements s (statement_list zs)
-two_assignments xs ys zs n m x d e y z none first second is_d is_e a b h s o =
-    let before : ys ≡ Blocking (Place n Whole) d ∷ [] = first ∙ ap (λ ws. ws ++ Blocking (Place n Whole) d ∷ []) none in
-    let both : zs ≡ Blocking (Place n Whole) d ∷ Blocking (Place m (One x)) e ∷ [] = second ∙ ap (λ ws. ws ++ Blocking (Place m (One x)) e ∷ []) before in
+two_assignments xs ys zs n m x d e t u y z is_t is_u none first second is_d is_e a b h s o =
+    let before : ys ≡ Blocking t d ∷ [] = first ∙ ap (λ ws. ws ++ Blocking t d ∷ []) none in
+    let both : zs ≡ Blocking t d ∷ Blocking u e ∷ [] = second ∙ ap (λ ws. ws ++ Blocking u e ∷ []) before in
     subst (λ ws. AreNarrowStatements s (statement_list ws)) (sym both)
-    (((tt, (o n.now).0), subst (IsNarrow s) (sym is_d) (byte_fits s y a)), ((select_fits s m.now (select_of x) o h, subst (IsNarrow s) (sym is_e) (byte_fits s z b)), tt))
+    ((fits s t.value (Place n Whole) is_t (tt, (o n.now).0), subst (IsNarrow s) (sym is_d) (byte_fits s y a)), ((fits s u.value (Place m (One x)) is_u (select_fits s m.now (select_of x) o h), subst (IsNarrow s) (sym is_e) (byte_fits s z b)), tt))

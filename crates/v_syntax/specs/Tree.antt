@@ -142,8 +142,8 @@ or_empty (Some x) = x
 abbrev mutual
   pub statement_of : Statement → pure.Statement
   statement_of Empty = empty
-  statement_of (Blocking t e) = blocking (target_of t) (tree_of e)
-  statement_of (Nonblocking t e) = nonblocking (target_of t) (tree_of e)
+  statement_of (Blocking t e) = blocking (target_of t.value) (tree_of e)
+  statement_of (Nonblocking t e) = nonblocking (target_of t.value) (tree_of e)
   statement_of (If' _ arms y) = or_empty (arms_before arms (last_of y))
   statement_of (Case' k e _ items) = case (case_kind_of k) (tree_of e) (items_of items)
   statement_of (Block' n _ xs) = block (name_of_option n) (statements_of xs)

@@ -9,16 +9,16 @@ pub struct Number {
     pub sized: bool,
     /// Whether it is signed: a plain decimal, or one with `s`.
     pub signed: bool,
+    /// Whether some digit is x, of all digits as written.
+    pub has_unknown: bool,
+    /// Whether some digit is z or `?`, of all digits as written.
+    pub has_wild: bool,
     /// Its bits, those of x and z digits as 0.
     pub value: u128,
     /// The bits of x digits.
     pub unknown: u128,
     /// The bits of z and `?` digits.
     pub wild: u128,
-    /// Whether some digit is x, of all digits as written.
-    pub has_unknown: bool,
-    /// Whether some digit is z or `?`, of all digits as written.
-    pub has_wild: bool,
 }
 
 /// The operators before an operand (1364-2005, 5.1.2).
@@ -196,9 +196,9 @@ pub enum Statement<'s> {
     /// `;`
     Empty,
     /// `target = value;`
-    Blocking(Target<'s>, Expression<'s>),
+    Blocking(Box<Target<'s>>, Expression<'s>),
     /// `target <= value;`
-    Nonblocking(Target<'s>, Expression<'s>),
+    Nonblocking(Box<Target<'s>>, Expression<'s>),
     /// `if (a) x else if (b) y else z`: the arms, and what stands behind the last `else`.
     If(Vec<Arm<'s>>, Option<Box<Statement<'s>>>),
     /// `case` or `casez`: the expression and its items.

@@ -1,7 +1,7 @@
 use Rattle.std.proofs.Common.{◌∙◌, ap, arith}
 use Rattle.verilog_renamed.proofs.Paths.{ap2}
 use Rattle.v_renamed.specs.NewNames.{new_name}
-use Rattle.v_syntax.specs.Tree.{statement_of}
+use Rattle.v_syntax.specs.Tree.{statement_of, target_of}
 use Rattle.v_renamed.specs.Copies.{arm_of, item_of, statement_under, arm_under, item_under}
 use Rattle.v_renamed.proofs.Statements as arms
 use Rattle.v_renamed.proofs.Turns.{turn, end}
@@ -13,11 +13,11 @@ copy_statement-returns-in-Empty t c =
 
 pub copy_statement-returns-in_ok-value-in-Blocking : goal.copy_statement-returns-in_ok-value-in-Blocking
 copy_statement-returns-in_ok-value-in-Blocking t c =
-    arms.blocking-copied (new_name c.args.names.now) c.args.tree.now c.in-Blocking.target c.in_ok-target-in-Blocking.target c.in-Blocking.value c.in_ok-value-in-Blocking.value c.in-Blocking.is c.in_ok-target-in-Blocking.ensures c.in_ok-value-in-Blocking.ensures
+    arms.blocking-copied (new_name c.args.names.now) c.args.tree.now c.in-Blocking.target c.in_ok-target-in-Blocking.target c.in-Blocking.value c.in_ok-value-in-Blocking.value c.in-Blocking.is (ap target_of c.in_ok-target-in-Blocking.ensures.ok ∙ c.in_ok-copied-in-Blocking.ensures) c.in_ok-value-in-Blocking.ensures
 
 pub copy_statement-returns-in_ok-value-in-Nonblocking : goal.copy_statement-returns-in_ok-value-in-Nonblocking
 copy_statement-returns-in_ok-value-in-Nonblocking t c =
-    arms.nonblocking-copied (new_name c.args.names.now) c.args.tree.now c.in-Nonblocking.target c.in_ok-target-in-Nonblocking.target c.in-Nonblocking.value c.in_ok-value-in-Nonblocking.value c.in-Nonblocking.is c.in_ok-target-in-Nonblocking.ensures c.in_ok-value-in-Nonblocking.ensures
+    arms.nonblocking-copied (new_name c.args.names.now) c.args.tree.now c.in-Nonblocking.target c.in_ok-target-in-Nonblocking.target c.in-Nonblocking.value c.in_ok-value-in-Nonblocking.value c.in-Nonblocking.is (ap target_of c.in_ok-target-in-Nonblocking.ensures.ok ∙ c.in_ok-copied-in-Nonblocking.ensures) c.in_ok-value-in-Nonblocking.ensures
 
 pub copy_statement-returns-in_ok-arms-in-Some : goal.copy_statement-returns-in_ok-arms-in-Some
 copy_statement-returns-in_ok-arms-in-Some t c =
