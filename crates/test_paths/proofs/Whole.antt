@@ -47,11 +47,11 @@ module _ (s : Scope) (x : Statement) where
   pub whole-Empty : x ≡ Empty → IsNarrowFlow s (statement_of x)
   whole-Empty i = subst (λ z. IsNarrowFlow s (statement_of z)) (sym i) tt
 
-  pub whole-Blocking : (t : Box Target Global) (e : Expression) → x ≡ Blocking t e → HasNarrowParts s (target_of t.value) × IsNarrow s (tree_of e) → IsNarrowFlow s (statement_of x)
-  whole-Blocking t e i h = subst (λ z. IsNarrowFlow s (statement_of z)) (sym i) h
+  pub whole-Blocking : (t : Box Target Global) (e : Expression) → x ≡ Blocking t e → (u : Target) → u ≡ t.value → HasNarrowParts s (target_of u) × IsNarrow s (tree_of e) → IsNarrowFlow s (statement_of x)
+  whole-Blocking t e i u is h = subst (λ z. IsNarrowFlow s (statement_of z)) (sym i) (subst (λ z. HasNarrowParts s (target_of z) × IsNarrow s (tree_of e)) is h)
 
-  pub whole-Nonblocking : (t : Box Target Global) (e : Expression) → x ≡ Nonblocking t e → HasNarrowParts s (target_of t.value) × IsNarrow s (tree_of e) → IsNarrowFlow s (statement_of x)
-  whole-Nonblocking t e i h = subst (λ z. IsNarrowFlow s (statement_of z)) (sym i) h
+  pub whole-Nonblocking : (t : Box Target Global) (e : Expression) → x ≡ Nonblocking t e → (u : Target) → u ≡ t.value → HasNarrowParts s (target_of u) × IsNarrow s (tree_of e) → IsNarrowFlow s (statement_of x)
+  whole-Nonblocking t e i u is h = subst (λ z. IsNarrowFlow s (statement_of z)) (sym i) (subst (λ z. HasNarrowParts s (target_of z) × IsNarrow s (tree_of e)) is h)
 
   whole-If : (v : Vec Arm Global) (l : Option (Box Statement Global)) → x ≡ If v l → (as_ : List Arm) → as_ ≡ v.items → AreNarrowLadder s as_
       → IsNarrowFlow s (or_empty (last_statement l)) → IsNarrowFlow s (statement_of x)

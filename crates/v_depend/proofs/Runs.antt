@@ -146,8 +146,8 @@ module _ (w v : BitSet) (s : Scope) (x : Statement) where
   as-tree : (y : PureStatement) → statement_of x ≡ y → Rests w v s y → Rests w v s (statement_of x)
   as-tree y e h = subst (Rests w v s) (sym e) h
 
-  pub rests-Blocking : (t : Box Target Global) (e : Expression) → x ≡ Blocking t e → Rests w v s (blocking (target_of t.value) (tree_of e)) → Rests w v s (statement_of x)
-  rests-Blocking t e i h = as-tree (blocking (target_of t.value) (tree_of e)) (ap statement_of i) h
+  pub rests-Blocking : (t : Box Target Global) (e : Expression) → x ≡ Blocking t e → (u : Target) → u ≡ t.value → Rests w v s (blocking (target_of u) (tree_of e)) → Rests w v s (statement_of x)
+  rests-Blocking t e i u is h = as-tree (blocking (target_of t.value) (tree_of e)) (ap statement_of i) (subst (λ z. Rests w v s (blocking (target_of z) (tree_of e))) is h)
 
   pub rests-If : (arms : Vec Arm Global) (l : Option (Box Statement Global)) → x ≡ If arms l → Rests w v s (or_empty (arm_list arms.items (last_statement l))) → Rests w v s (statement_of x)
   rests-If arms l i h = as-tree (or_empty (arm_list arms.items (last_statement l))) (ap statement_of i ∙ statement_of-If arms l) h
@@ -179,8 +179,8 @@ module _ (w : BitSet) (s : Scope) (x : Statement) where
   rests-Nonblocking t e i = as-tree w w s x (nonblocking (target_of t.value) (tree_of e)) (ap statement_of i) (λ u t. ((λ h. h), (λ h. h)))
 
 module _ (s : Scope) (x : Statement) (f : IsFit s (statement_of x)) where
-  pub fit-Blocking : (t : Box Target Global) (e : Expression) → x ≡ Blocking t e → IsFit s (blocking (target_of t.value) (tree_of e))
-  fit-Blocking t e i = subst (IsFit s) (ap statement_of i) f
+  pub fit-Blocking : (t : Box Target Global) (e : Expression) → x ≡ Blocking t e → (u : Target) → u ≡ t.value → IsFit s (blocking (target_of u) (tree_of e))
+  fit-Blocking t e i u is = subst (λ z. IsFit s (blocking (target_of z) (tree_of e))) (sym is) (subst (IsFit s) (ap statement_of i) f)
 
   pub fit-If : (arms : Vec Arm Global) (l : Option (Box Statement Global)) → x ≡ If arms l → (as_ : List Arm) → as_ ≡ arms.items → AreFitArms s as_
   fit-If arms l i as_ j = subst (AreFitArms s) (sym j) (fit-ladder s arms.items (last_statement l) (subst (IsFit s) (ap statement_of i ∙ statement_of-If arms l) f)).0

@@ -72,13 +72,13 @@ module _ (s : Scope) (x : Statement) where
   unfolding statement_reads_at
   reads-Empty i = (λ j n k b. false) ∙ sym (ap (λ z. statement_reads s (statement_of z)) i)
 
-  pub reads-Blocking : (t : Box Target Global) (e : Expression) → x ≡ Blocking t e → or_in (reads_at s (tree_of e)) (target_reads_at s (target_of t.value)) ≡ statement_reads_at s (statement_of x)
+  pub reads-Blocking : (t : Box Target Global) (e : Expression) → x ≡ Blocking t e → (u : Target) → u ≡ t.value → or_in (reads_at s (tree_of e)) (target_reads_at s (target_of u)) ≡ statement_reads_at s (statement_of x)
   unfolding reads_at target_reads_at statement_reads_at
-  reads-Blocking t e i = (λ j n k b. reads s (tree_of e) n k b || target_reads s (target_of t.value) n k b) ∙ sym (ap (λ z. statement_reads s (statement_of z)) i)
+  reads-Blocking t e i u is = ap (λ z. or_in (reads_at s (tree_of e)) (target_reads_at s (target_of z))) is ∙ (λ j n k b. reads s (tree_of e) n k b || target_reads s (target_of t.value) n k b) ∙ sym (ap (λ z. statement_reads s (statement_of z)) i)
 
-  pub reads-Nonblocking : (t : Box Target Global) (e : Expression) → x ≡ Nonblocking t e → or_in (reads_at s (tree_of e)) (target_reads_at s (target_of t.value)) ≡ statement_reads_at s (statement_of x)
+  pub reads-Nonblocking : (t : Box Target Global) (e : Expression) → x ≡ Nonblocking t e → (u : Target) → u ≡ t.value → or_in (reads_at s (tree_of e)) (target_reads_at s (target_of u)) ≡ statement_reads_at s (statement_of x)
   unfolding reads_at target_reads_at statement_reads_at
-  reads-Nonblocking t e i = (λ j n k b. reads s (tree_of e) n k b || target_reads s (target_of t.value) n k b) ∙ sym (ap (λ z. statement_reads s (statement_of z)) i)
+  reads-Nonblocking t e i u is = ap (λ z. or_in (reads_at s (tree_of e)) (target_reads_at s (target_of z))) is ∙ (λ j n k b. reads s (tree_of e) n k b || target_reads s (target_of t.value) n k b) ∙ sym (ap (λ z. statement_reads s (statement_of z)) i)
 
   pub reads-else : (v : Vec Arm Global) (l : Option (Box Statement Global)) (b : Box Statement Global) → x ≡ If v l → l ≡ Some b → (as_ : List Arm) → as_ ≡ v.items → (y : Statement) → y ≡ b.value
       → or_in (ladder_reads s as_) (statement_reads_at s (statement_of y)) ≡ statement_reads_at s (statement_of x)
@@ -170,13 +170,13 @@ module _ (s : Scope) (x : Statement) where
   unfolding assigned_at
   assigned-Empty i = sym (assigned-nothing s) ∙ sym (ap (λ z. existing s (may_assign s (statement_of z))) i)
 
-  pub assigned-Blocking : (t : Box Target Global) (e : Expression) → x ≡ Blocking t e → reached s false (target_of t.value) ≡ assigned_at s (statement_of x)
+  pub assigned-Blocking : (t : Box Target Global) (e : Expression) → x ≡ Blocking t e → (u : Target) → u ≡ t.value → reached s false (target_of u) ≡ assigned_at s (statement_of x)
   unfolding assigned_at reached
-  assigned-Blocking t e i = (λ j n k b. is_bit_of (s n) k b && may_reach s (target_of t.value) n k b) ∙ sym (ap (λ z. existing s (may_assign s (statement_of z))) i)
+  assigned-Blocking t e i u is = ap (λ z. reached s false (target_of z)) is ∙ (λ j n k b. is_bit_of (s n) k b && may_reach s (target_of t.value) n k b) ∙ sym (ap (λ z. existing s (may_assign s (statement_of z))) i)
 
-  pub assigned-Nonblocking : (t : Box Target Global) (e : Expression) → x ≡ Nonblocking t e → reached s false (target_of t.value) ≡ assigned_at s (statement_of x)
+  pub assigned-Nonblocking : (t : Box Target Global) (e : Expression) → x ≡ Nonblocking t e → (u : Target) → u ≡ t.value → reached s false (target_of u) ≡ assigned_at s (statement_of x)
   unfolding assigned_at reached
-  assigned-Nonblocking t e i = (λ j n k b. is_bit_of (s n) k b && may_reach s (target_of t.value) n k b) ∙ sym (ap (λ z. existing s (may_assign s (statement_of z))) i)
+  assigned-Nonblocking t e i u is = ap (λ z. reached s false (target_of z)) is ∙ (λ j n k b. is_bit_of (s n) k b && may_reach s (target_of t.value) n k b) ∙ sym (ap (λ z. existing s (may_assign s (statement_of z))) i)
 
   pub assigned-else : (v : Vec Arm Global) (l : Option (Box Statement Global)) (b : Box Statement Global) → x ≡ If v l → l ≡ Some b → (as_ : List Arm) → as_ ≡ v.items → (y : Statement) → y ≡ b.value
       → or_in (ladder_assigned s as_) (assigned_at s (statement_of y)) ≡ assigned_at s (statement_of x)
@@ -233,11 +233,11 @@ narrow-items s (Values es x ∷ items) h = (h.0, h.1, narrow-items s items h.2)
 narrow-items s (Default x ∷ items) h = (tt, h.0, narrow-items s items h.1)
 
 module _ (s : Scope) (x : Statement) (h : IsNarrowFlow s (statement_of x)) where
-  pub narrow-Blocking : (t : Box Target Global) (e : Expression) → x ≡ Blocking t e → HasNarrowParts s (target_of t.value) × IsNarrow s (tree_of e)
-  narrow-Blocking t e i = subst (λ z. IsNarrowFlow s (statement_of z)) i h
+  pub narrow-Blocking : (t : Box Target Global) (e : Expression) → x ≡ Blocking t e → (u : Target) → u ≡ t.value → HasNarrowParts s (target_of u) × IsNarrow s (tree_of e)
+  narrow-Blocking t e i u is = subst (λ z. HasNarrowParts s (target_of z) × IsNarrow s (tree_of e)) (sym is) (subst (λ z. IsNarrowFlow s (statement_of z)) i h)
 
-  pub narrow-Nonblocking : (t : Box Target Global) (e : Expression) → x ≡ Nonblocking t e → HasNarrowParts s (target_of t.value) × IsNarrow s (tree_of e)
-  narrow-Nonblocking t e i = subst (λ z. IsNarrowFlow s (statement_of z)) i h
+  pub narrow-Nonblocking : (t : Box Target Global) (e : Expression) → x ≡ Nonblocking t e → (u : Target) → u ≡ t.value → HasNarrowParts s (target_of u) × IsNarrow s (tree_of e)
+  narrow-Nonblocking t e i u is = subst (λ z. HasNarrowParts s (target_of z) × IsNarrow s (tree_of e)) (sym is) (subst (λ z. IsNarrowFlow s (statement_of z)) i h)
 
   pub narrow-If : (v : Vec Arm Global) (l : Option (Box Statement Global)) → x ≡ If v l → (as_ : List Arm) → as_ ≡ v.items → AreNarrowLadder s as_
   narrow-If v l i as_ g = subst (AreNarrowLadder s) (sym g) (narrow-ladder s v.items (last_statement l) (subst (IsNarrowFlow s) (ap statement_of i ∙ statement_of-If v l) h)).0

@@ -85,13 +85,13 @@ module _ (k : Name → Bool) (x : Statement) (r : Bool) where
   unfolding statement_known
   at-Empty i h = h ∙ sym (ap (λ y. statement_known k (statement_of y)) i)
 
-  pub at-Blocking : (t : Box Target Global) (e : Expression) → x ≡ Blocking t e → r ≡ all_known k (names_in_target (target_of t.value) ++ names_in (tree_of e)) → r ≡ statement_known k (statement_of x)
+  pub at-Blocking : (t : Box Target Global) (e : Expression) → x ≡ Blocking t e → (u : Target) → u ≡ t.value → r ≡ all_known k (names_in_target (target_of u) ++ names_in (tree_of e)) → r ≡ statement_known k (statement_of x)
   unfolding statement_known
-  at-Blocking t e i h = h ∙ sym (ap (λ y. statement_known k (statement_of y)) i)
+  at-Blocking t e i u j h = h ∙ ap (λ z. all_known k (names_in_target (target_of z) ++ names_in (tree_of e))) j ∙ sym (ap (λ y. statement_known k (statement_of y)) i)
 
-  pub at-Nonblocking : (t : Box Target Global) (e : Expression) → x ≡ Nonblocking t e → r ≡ all_known k (names_in_target (target_of t.value) ++ names_in (tree_of e)) → r ≡ statement_known k (statement_of x)
+  pub at-Nonblocking : (t : Box Target Global) (e : Expression) → x ≡ Nonblocking t e → (u : Target) → u ≡ t.value → r ≡ all_known k (names_in_target (target_of u) ++ names_in (tree_of e)) → r ≡ statement_known k (statement_of x)
   unfolding statement_known
-  at-Nonblocking t e i h = h ∙ sym (ap (λ y. statement_known k (statement_of y)) i)
+  at-Nonblocking t e i u j h = h ∙ ap (λ z. all_known k (names_in_target (target_of z) ++ names_in (tree_of e))) j ∙ sym (ap (λ y. statement_known k (statement_of y)) i)
 
   -- with nothing after the last else
   pub at-If-alone : (v : Vec Arm Global) (o : Option (Box Statement Global)) → x ≡ If v o → o ≡ None → (arms : List Arm) → arms ≡ v.items → r ≡ arms_known k arms && true → r ≡ statement_known k (statement_of x)

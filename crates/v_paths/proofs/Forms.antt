@@ -33,21 +33,21 @@ module _ (s : Scope) (x : Statement) where
   unfolding outside_at
   outside-Empty i = (λ j n k b. false) ∙ sym (ap (λ z. reads_outside s (statement_of z)) i)
 
-  pub sure-Blocking : (t : Box Target Global) (e : Expression) → x ≡ Blocking t e → existing s (surely_reaches s (target_of t.value)) ≡ sure_at s (statement_of x)
+  pub sure-Blocking : (t : Box Target Global) (e : Expression) → x ≡ Blocking t e → (u : Target) → u ≡ t.value → existing s (surely_reaches s (target_of u)) ≡ sure_at s (statement_of x)
   unfolding sure_at
-  sure-Blocking t e i = (λ j n k b. is_bit_of (s n) k b && surely_reaches s (target_of t.value) n k b) ∙ sym (ap (λ z. existing s (surely_assigns s (statement_of z))) i)
+  sure-Blocking t e i u is = ap (λ z. existing s (surely_reaches s (target_of z))) is ∙ (λ j n k b. is_bit_of (s n) k b && surely_reaches s (target_of t.value) n k b) ∙ sym (ap (λ z. existing s (surely_assigns s (statement_of z))) i)
 
-  pub outside-Blocking : (t : Box Target Global) (e : Expression) → x ≡ Blocking t e → or_in (reads s (tree_of e)) (target_reads s (target_of t.value)) ≡ outside_at s (statement_of x)
+  pub outside-Blocking : (t : Box Target Global) (e : Expression) → x ≡ Blocking t e → (u : Target) → u ≡ t.value → or_in (reads s (tree_of e)) (target_reads s (target_of u)) ≡ outside_at s (statement_of x)
   unfolding outside_at
-  outside-Blocking t e i = sym (nothing-done (or_in (reads s (tree_of e)) (target_reads s (target_of t.value)))) ∙ sym (ap (λ z. reads_outside s (statement_of z)) i)
+  outside-Blocking t e i u is = ap (λ z. or_in (reads s (tree_of e)) (target_reads s (target_of z))) is ∙ sym (nothing-done (or_in (reads s (tree_of e)) (target_reads s (target_of t.value)))) ∙ sym (ap (λ z. reads_outside s (statement_of z)) i)
 
   pub sure-Nonblocking : (t : Box Target Global) (e : Expression) → x ≡ Nonblocking t e → no_bits ≡ sure_at s (statement_of x)
   unfolding sure_at
   sure-Nonblocking t e i = sym (none-existing s) ∙ sym (ap (λ z. existing s (surely_assigns s (statement_of z))) i)
 
-  pub outside-Nonblocking : (t : Box Target Global) (e : Expression) → x ≡ Nonblocking t e → or_in (reads s (tree_of e)) (target_reads s (target_of t.value)) ≡ outside_at s (statement_of x)
+  pub outside-Nonblocking : (t : Box Target Global) (e : Expression) → x ≡ Nonblocking t e → (u : Target) → u ≡ t.value → or_in (reads s (tree_of e)) (target_reads s (target_of u)) ≡ outside_at s (statement_of x)
   unfolding outside_at
-  outside-Nonblocking t e i = sym (nothing-done (or_in (reads s (tree_of e)) (target_reads s (target_of t.value)))) ∙ sym (ap (λ z. reads_outside s (statement_of z)) i)
+  outside-Nonblocking t e i u is = ap (λ z. or_in (reads s (tree_of e)) (target_reads s (target_of z))) is ∙ sym (nothing-done (or_in (reads s (tree_of e)) (target_reads s (target_of t.value)))) ∙ sym (ap (λ z. reads_outside s (statement_of z)) i)
 
   -- what stands behind the last else is walked first
   pub sure-else : (v : Vec Arm Global) (l : Option (Box Statement Global)) (b : Box Statement Global) → x ≡ If v l → l ≡ Some b → (as_ : List Arm) → as_ ≡ v.items → (y : Statement) → y ≡ b.value

@@ -157,15 +157,15 @@ module _ (f : Name → Name) (x : Statement) where
   pub empty-copied : x ≡ Empty → statement_of Empty ≡ statement_at f (statement_of x)
   empty-copied is = sym (empty-at f) ∙ ap (λ y. statement_at f (statement_of y)) (sym is)
 
-  pub blocking-copied : (t u : Box Target Global) (e d : Expression) → x ≡ Blocking t e → target_of u.value ≡ target_at f (target_of t.value) → tree_of d ≡ renamed_at f (tree_of e)
+  pub blocking-copied : (t u : Box Target Global) (e d : Expression) → x ≡ Blocking t e → (a : Target) → a ≡ t.value → target_of u.value ≡ target_at f (target_of a) → tree_of d ≡ renamed_at f (tree_of e)
       → statement_of (Blocking u d) ≡ statement_at f (statement_of x)
-  blocking-copied t u e d is target value =
-      ap2 pure.blocking target value ∙ sym (blocking-at f (target_of t.value) (tree_of e)) ∙ ap (λ y. statement_at f (statement_of y)) (sym is)
+  blocking-copied t u e d is a same target value =
+      ap2 pure.blocking (target ∙ ap (λ z. target_at f (target_of z)) same) value ∙ sym (blocking-at f (target_of t.value) (tree_of e)) ∙ ap (λ y. statement_at f (statement_of y)) (sym is)
 
-  pub nonblocking-copied : (t u : Box Target Global) (e d : Expression) → x ≡ Nonblocking t e → target_of u.value ≡ target_at f (target_of t.value) → tree_of d ≡ renamed_at f (tree_of e)
+  pub nonblocking-copied : (t u : Box Target Global) (e d : Expression) → x ≡ Nonblocking t e → (a : Target) → a ≡ t.value → target_of u.value ≡ target_at f (target_of a) → tree_of d ≡ renamed_at f (tree_of e)
       → statement_of (Nonblocking u d) ≡ statement_at f (statement_of x)
-  nonblocking-copied t u e d is target value =
-      ap2 pure.nonblocking target value ∙ sym (nonblocking-at f (target_of t.value) (tree_of e)) ∙ ap (λ y. statement_at f (statement_of y)) (sym is)
+  nonblocking-copied t u e d is a same target value =
+      ap2 pure.nonblocking (target ∙ ap (λ z. target_at f (target_of z)) same) value ∙ sym (nonblocking-at f (target_of t.value) (tree_of e)) ∙ ap (λ y. statement_at f (statement_of y)) (sym is)
 
   pub if-copied : (v w : Vec Arm Global) (o : Option (Box Statement Global)) (arms : List Arm) → x ≡ If v o → o ≡ None → arms ≡ v.items
       → map arm_of w.items ≡ map (arm_under f) arms → statement_of (If w None) ≡ statement_at f (statement_of x)

@@ -88,11 +88,11 @@ module _ (s : Scope) (c : Bool) where
     pub at-Empty : x ≡ Empty → r ≡ none → r ≡ statement_at s c (statement_of x)
     at-Empty i h = h ∙ nothing-broken ∙ sym (ap (λ z. statement_at s c (statement_of z)) i)
 
-    pub at-Blocking : (t : Box Target Global) (e : Expression) → x ≡ Blocking t e → r ≡ both (block_target_at s c (target_of t.value)) (broken_at s (tree_of e)) → r ≡ statement_at s c (statement_of x)
-    at-Blocking t e i h = h ∙ assigned (target_of t.value) (tree_of e) ∙ sym (ap (λ z. statement_at s c (statement_of z)) i)
+    pub at-Blocking : (t : Box Target Global) (e : Expression) → x ≡ Blocking t e → (u : Target) → u ≡ t.value → r ≡ both (block_target_at s c (target_of u)) (broken_at s (tree_of e)) → r ≡ statement_at s c (statement_of x)
+    at-Blocking t e i u is h = h ∙ ap (λ z. both (block_target_at s c (target_of z)) (broken_at s (tree_of e))) is ∙ assigned (target_of t.value) (tree_of e) ∙ sym (ap (λ z. statement_at s c (statement_of z)) i)
 
-    pub at-Nonblocking : (t : Box Target Global) (e : Expression) → x ≡ Nonblocking t e → r ≡ both (block_target_at s c (target_of t.value)) (broken_at s (tree_of e)) → r ≡ statement_at s c (statement_of x)
-    at-Nonblocking t e i h = h ∙ assigned-later (target_of t.value) (tree_of e) ∙ sym (ap (λ z. statement_at s c (statement_of z)) i)
+    pub at-Nonblocking : (t : Box Target Global) (e : Expression) → x ≡ Nonblocking t e → (u : Target) → u ≡ t.value → r ≡ both (block_target_at s c (target_of u)) (broken_at s (tree_of e)) → r ≡ statement_at s c (statement_of x)
+    at-Nonblocking t e i u is h = h ∙ ap (λ z. both (block_target_at s c (target_of z)) (broken_at s (tree_of e))) is ∙ assigned-later (target_of t.value) (tree_of e) ∙ sym (ap (λ z. statement_at s c (statement_of z)) i)
 
     -- with nothing after the last else
     pub at-If-alone : (v : Vec Arm Global) (o : Option (Box Statement Global)) → x ≡ If v o → o ≡ None → (arms : List Arm) → arms ≡ v.items

@@ -3,8 +3,9 @@
 
 usage: run.py [PROGRAM] [WORD]      PROGRAM: the built workbench, default crates/wb_main/out/wb_main; WORD: the forms whose name has it alone
 
-Time is processor time, of which a machine full of other work takes some more. A form that passes a bound is marked OVER. A run ends after
-30 seconds of processor time. It gets at most 4 GiB: what asks for more has to answer by itself that it is out of memory (status 7). The status is 1 where a form passes its bound, or ends by a signal of its own.
+Time is processor time, of which a machine full of other work takes some more. Bounds of time are those of a machine on which yosys
+(Debian's) reads the ordinary file of ../texts in 8 s, and longer by as much as yosys takes longer here. A form that passes a bound is
+marked OVER. A run ends after a minute of processor time. It gets at most 4 GiB: what asks for more has to answer by itself that it is out of memory (status 7). The status is 1 where a form passes its bound, or ends by a signal of its own.
 """
 import json
 import os
@@ -15,7 +16,8 @@ import tempfile
 
 HERE = os.path.dirname(os.path.abspath(__file__))
 BUILT = os.path.join(HERE, "../../../crates/wb_main/out/wb_main")
-SECONDS = 30
+MACHINE = os.path.join(HERE, "../machine.py")
+SECONDS = 60
 ROOM = 4 << 30
 # As the launcher ./wb has it.
 os.environ.setdefault("GLIBC_TUNABLES", "glibc.malloc.hugetlb=1")
@@ -63,13 +65,17 @@ def measured(program, place, room):
 def main():
     program = os.path.abspath(sys.argv[1]) if len(sys.argv) > 1 else BUILT
     wanted = sys.argv[2] if len(sys.argv) > 2 else ""
+    told = subprocess.run([sys.executable, MACHINE], capture_output=True, text=True, check=True).stdout.strip()
+    slowness, told = told.split(" ", 1)
+    print(told, flush=True)
     over = count = 0
     with tempfile.TemporaryDirectory() as room:
         for place, (name, seconds, memory) in enumerate(written(room, wanted)):
+            seconds *= float(slowness)
             took, used, status, last = measured(program, place, room)
             is_over = took > seconds or used > memory or status < 0
             ended = f"status {status}, `{last}`" if status >= 0 else f"ended after {SECONDS} s"
-            print(f"{name}: {took:.2f} s, {used} MiB, {ended} (bound {seconds:g} s, {memory} MiB){' OVER' if is_over else ''}", flush=True)
+            print(f"{name}: {took:.2f} s, {used} MiB, {ended} (bound {seconds:.1f} s, {memory} MiB){' OVER' if is_over else ''}", flush=True)
             count, over = count + 1, over + is_over
     print(f"{count} forms, {over} over their bounds")
     return int(over > 0)

@@ -5,8 +5,9 @@ usage: run.py [PROGRAM] [WORD]      PROGRAM: the built workbench, default crates
 
 `check` reads each file as tokens and a tree before it asks whether the design has its top, and none of these has one, so its time is that of
 reading. The counter's model and map stand beside the file. Time is processor time, of which a machine full of other work takes some more.
-The ordinary file is also read by yosys (Debian's), of whose time a tenth is the bound; without yosys that row is left out. A form that
-passes a bound is marked OVER, and then the status is 1.
+The bound of time is 2 s on a machine on which yosys (Debian's) reads the ordinary file in 8 s, and longer by as much as yosys takes longer
+here. For the ordinary file it is a tenth of the time of yosys, if that is less; without yosys that row is left out. A form that passes a
+bound is marked OVER, and then the status is 1.
 """
 import json
 import os
@@ -18,6 +19,7 @@ import tempfile
 
 HERE = os.path.dirname(os.path.abspath(__file__))
 TOP = os.path.join(HERE, "../../..")
+MACHINE = os.path.join(HERE, "../machine.py")
 # As the launcher ./wb has it.
 os.environ.setdefault("GLIBC_TUNABLES", "glibc.malloc.hugetlb=1")
 BUILT = os.path.join(TOP, "crates/wb_main/out/wb_main")
@@ -65,13 +67,16 @@ def measured(words, room):
 def main():
     program = os.path.abspath(sys.argv[1]) if len(sys.argv) > 1 else BUILT
     wanted = sys.argv[2] if len(sys.argv) > 2 else ""
+    told = subprocess.run([sys.executable, MACHINE], capture_output=True, text=True, check=True).stdout.strip()
+    slowness, told = told.split(" ", 1)
+    print(told, flush=True)
     over = count = 0
     with tempfile.TemporaryDirectory() as room:
         for name in ("model.json", "map.json"):
             shutil.copy(os.path.join(COUNTER, name), room)
         for place, title in enumerate(written(room, wanted)):
             text = f"t{place}.v"
-            bound = BOUND_SECONDS
+            bound = BOUND_SECONDS * float(slowness)
             if "ordinary" in title and shutil.which("yosys"):
                 seconds, memory, status, _ = measured(["yosys", "-q", "-p", f"read_verilog {text}"], room)
                 bound = min(bound, seconds / 10)

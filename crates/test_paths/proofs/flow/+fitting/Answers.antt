@@ -12,19 +12,19 @@ statement_fits-returns-in-Empty d c = λ t. whole.whole-Empty (scope_at c.args.n
 
 pub statement_fits-returns-in-Blocking : goal.statement_fits-returns-in-Blocking
 statement_fits-returns-in-Blocking d c = λ t.
-    whole.whole-Blocking (scope_at c.args.names.scope.now) c.args.statement.now c.in-Blocking.target c.in-Blocking.value c.in-Blocking.is (c.assignment_fits.ensures t)
+    whole.whole-Blocking (scope_at c.args.names.scope.now) c.args.statement.now c.in-Blocking.target c.in-Blocking.value c.in-Blocking.is c.deref.result.now c.deref.ensures (c.assignment_fits.ensures t)
 
 pub statement_fits-returns-in-Nonblocking : goal.statement_fits-returns-in-Nonblocking
 statement_fits-returns-in-Nonblocking d c = λ t.
-    whole.whole-Nonblocking (scope_at c.args.names.scope.now) c.args.statement.now c.in-Nonblocking.target c.in-Nonblocking.value c.in-Nonblocking.is (c.assignment_fits-in-Nonblocking.ensures t)
+    whole.whole-Nonblocking (scope_at c.args.names.scope.now) c.args.statement.now c.in-Nonblocking.target c.in-Nonblocking.value c.in-Nonblocking.is c.deref-in-Nonblocking.result.now c.deref-in-Nonblocking.ensures (c.assignment_fits-in-Nonblocking.ensures t)
 
 pub statement_fits-returns-then-not-statement_fits : goal.statement_fits-returns-then-not-statement_fits
 statement_fits-returns-then-not-statement_fits d c = λ t. absurd (false≢true t)
 
 pub statement_fits-returns-else-not-statement_fits : goal.statement_fits-returns-else-not-statement_fits
 statement_fits-returns-else-not-statement_fits d c = λ t.
-    whole.whole-else (scope_at c.args.names.scope.now) c.args.statement.now c.in-If.arms c.in-If.last c.in-Some.other c.in-If.is c.in-Some.is c.deref-in-Some.result.now c.deref-in-Some.ensures.value
-    c.deref.result.now c.deref.ensures (c.statement_fits.ensures c.if-not-statement_fits.false) (c.arms_fit.ensures t)
+    whole.whole-else (scope_at c.args.names.scope.now) c.args.statement.now c.in-If.arms c.in-If.last c.in-Some.other c.in-If.is c.in-Some.is c.deref-in-Some-2.result.now c.deref-in-Some-2.ensures.value
+    c.deref-in-Some.result.now c.deref-in-Some.ensures (c.statement_fits.ensures c.if-not-statement_fits.false) (c.arms_fit.ensures t)
 
 pub statement_fits-returns-in-None : goal.statement_fits-returns-in-None
 statement_fits-returns-in-None d c = λ t.

@@ -2,8 +2,8 @@ use Rattle.std.proofs.Common.{◌∙◌, ◌+◌, true, drop, ap, sym, arith, So
 use Rattle.std.specs.List.{list_any}
 use Rattle.std.proofs.lemmas.List.{at_drop_all}
 use Rattle.std.proofs.lemmas.List.Folds.{list_any-append}
-use Rattle.verilog_designs.specs.Drivers.{assigned_names, assigned_in_all, assigned_in_arms}
-use Rattle.v_syntax.specs.Tree.{statement_of}
+use Rattle.verilog_designs.specs.Drivers.{target_names, assigned_names, assigned_in_all, assigned_in_arms}
+use Rattle.v_syntax.specs.Tree.{target_of, statement_of}
 use Rattle.v_statement.specs.Statements.{statement_list}
 use Rattle.v_statement.specs.Effects.{item_list}
 use Rattle.v_statement.proofs.Runs.{rest_is, statement_of-Case, statement_of-Block}
@@ -16,31 +16,31 @@ use Rattle.v_assigned.proofs.statement.+assigning.Goals as goal
 pub has_wrong-returns-in-Blocking : goal.has_wrong-returns-in-Blocking
 has_wrong-returns-in-Blocking t c =
     let p = is_wrong c.args.names.now (scope_at c.args.scope.now) true in
-    c.assigns_wrong.ensures ∙ sym (ap (λ z. list_any p (assigned_names (statement_of z))) c.in-Blocking.is)
+    c.assigns_wrong.ensures ∙ ap (λ z. list_any p (target_names (target_of z))) c.deref.ensures ∙ sym (ap (λ z. list_any p (assigned_names (statement_of z))) c.in-Blocking.is)
 
 pub has_wrong-returns-in-Nonblocking : goal.has_wrong-returns-in-Nonblocking
 has_wrong-returns-in-Nonblocking t c =
     let p = is_wrong c.args.names.now (scope_at c.args.scope.now) true in
-    c.assigns_wrong-in-Nonblocking.ensures ∙ sym (ap (λ z. list_any p (assigned_names (statement_of z))) c.in-Nonblocking.is)
+    c.assigns_wrong-in-Nonblocking.ensures ∙ ap (λ z. list_any p (target_names (target_of z))) c.deref-in-Nonblocking.ensures ∙ sym (ap (λ z. list_any p (assigned_names (statement_of z))) c.in-Nonblocking.is)
 
 pub has_wrong-returns-then-an_arm_has_wrong : goal.has_wrong-returns-then-an_arm_has_wrong
 has_wrong-returns-then-an_arm_has_wrong t c =
     let p = is_wrong c.args.names.now (scope_at c.args.scope.now) true in
     hit _ _ _ _ (at-if p c.args.statement.now c.in-If.arms c.in-If.last c.in-If.last c.in-If.is (λ i. c.in-If.last))
-    (c.an_arm_has_wrong.ensures ∙ ap (λ ys. list_any p (arms_names ys)) c.deref.ensures.value) c.if-an_arm_has_wrong.true
+    (c.an_arm_has_wrong.ensures ∙ ap (λ ys. list_any p (arms_names ys)) c.deref-in-If.ensures.value) c.if-an_arm_has_wrong.true
 
 pub has_wrong-returns-in-Some : goal.has_wrong-returns-in-Some
 has_wrong-returns-in-Some t c =
     let p = is_wrong c.args.names.now (scope_at c.args.scope.now) true in
     sym (past _ _ _ _ (at-if p c.args.statement.now c.in-If.arms c.in-If.last (Some c.in-Some.other) c.in-If.is c.in-Some.is)
-    (c.an_arm_has_wrong.ensures ∙ ap (λ ys. list_any p (arms_names ys)) c.deref.ensures.value) c.if-an_arm_has_wrong.false
+    (c.an_arm_has_wrong.ensures ∙ ap (λ ys. list_any p (arms_names ys)) c.deref-in-If.ensures.value) c.if-an_arm_has_wrong.false
     ∙ sym (c.has_wrong.ensures ∙ ap (λ x. list_any p (assigned_names (statement_of x))) c.deref-in-Some.ensures))
 
 pub has_wrong-returns-in-None : goal.has_wrong-returns-in-None
 has_wrong-returns-in-None t c =
     let p = is_wrong c.args.names.now (scope_at c.args.scope.now) true in
     sym (past _ _ _ _ (at-if p c.args.statement.now c.in-If.arms c.in-If.last None c.in-If.is c.in-None.is)
-    (c.an_arm_has_wrong.ensures ∙ ap (λ ys. list_any p (arms_names ys)) c.deref.ensures.value) c.if-an_arm_has_wrong.false)
+    (c.an_arm_has_wrong.ensures ∙ ap (λ ys. list_any p (arms_names ys)) c.deref-in-If.ensures.value) c.if-an_arm_has_wrong.false)
 
 pub has_wrong-returns-in-Case : goal.has_wrong-returns-in-Case
 has_wrong-returns-in-Case t c =

@@ -26,41 +26,41 @@ pub run-returns-in-Nonblocking : goal.run-returns-in-Nonblocking
 run-returns-in-Nonblocking t c = runs.rests-Nonblocking (masked c.args.unsettled.now) (scope_at c.args.scope.now) c.args.statement.now c.in-Nonblocking.field-0 c.in-Nonblocking.field-1 c.in-Nonblocking.is
 
 pub run-take-requires-clause-target : goal.run-take-requires-clause-target
-run-take-requires-clause-target t c = (runs.fit-Blocking (scope_at c.args.scope.now) c.args.statement.now c.requires.fit c.in-Blocking.target c.in-Blocking.value c.in-Blocking.is).narrow.0
+run-take-requires-clause-target t c = (runs.fit-Blocking (scope_at c.args.scope.now) c.args.statement.now c.requires.fit c.in-Blocking.target c.in-Blocking.value c.in-Blocking.is c.deref.result.now c.deref.ensures).narrow.0
 
 pub run-take-requires-clause-value : goal.run-take-requires-clause-value
-run-take-requires-clause-value t c = (runs.fit-Blocking (scope_at c.args.scope.now) c.args.statement.now c.requires.fit c.in-Blocking.target c.in-Blocking.value c.in-Blocking.is).narrow.1
+run-take-requires-clause-value t c = (runs.fit-Blocking (scope_at c.args.scope.now) c.args.statement.now c.requires.fit c.in-Blocking.target c.in-Blocking.value c.in-Blocking.is c.deref.result.now c.deref.ensures).narrow.1
 
 pub run-take-requires-clause-at_most_128 : goal.run-take-requires-clause-at_most_128
-run-take-requires-clause-at_most_128 t c = (runs.fit-Blocking (scope_at c.args.scope.now) c.args.statement.now c.requires.fit c.in-Blocking.target c.in-Blocking.value c.in-Blocking.is).targets
+run-take-requires-clause-at_most_128 t c = (runs.fit-Blocking (scope_at c.args.scope.now) c.args.statement.now c.requires.fit c.in-Blocking.target c.in-Blocking.value c.in-Blocking.is c.deref.result.now c.deref.ensures).targets
 
 pub run-take-requires-clause-reached : goal.run-take-requires-clause-reached
-run-take-requires-clause-reached t c = (runs.fit-Blocking (scope_at c.args.scope.now) c.args.statement.now c.requires.fit c.in-Blocking.target c.in-Blocking.value c.in-Blocking.is).plain
+run-take-requires-clause-reached t c = (runs.fit-Blocking (scope_at c.args.scope.now) c.args.statement.now c.requires.fit c.in-Blocking.target c.in-Blocking.value c.in-Blocking.is c.deref.result.now c.deref.ensures).plain
 
 pub run-returns-in_ok-take-in-Blocking : goal.run-returns-in_ok-take-in-Blocking
-run-returns-in_ok-take-in-Blocking t c = runs.rests-Blocking (masked c.args.unsettled.now) (masked c.take.new.unsettled) (scope_at c.args.scope.now) c.args.statement.now c.in-Blocking.target c.in-Blocking.value c.in-Blocking.is c.in_ok-take-in-Blocking.ensures
+run-returns-in_ok-take-in-Blocking t c = runs.rests-Blocking (masked c.args.unsettled.now) (masked c.take.new.unsettled) (scope_at c.args.scope.now) c.args.statement.now c.in-Blocking.target c.in-Blocking.value c.in-Blocking.is c.deref.result.now c.deref.ensures c.in_ok-take-in-Blocking.ensures
 
 pub run-run-requires : goal.run-run-requires
-run-run-requires t c = (search (rules, the_lemmas), (c.requires.objects, (runs.fit-else (scope_at c.args.scope.now) c.args.statement.now c.requires.fit c.in-If.arms c.in-If.last c.in-Some.other c.in-If.is c.in-Some.is c.deref.result.now c.deref.ensures, runs.same-variables (masked c.args.unsettled.now) _ (scope_at c.args.scope.now) c.in_ok-left-in-Some.ensures c.requires.variables)))
+run-run-requires t c = (search (rules, the_lemmas), (c.requires.objects, (runs.fit-else (scope_at c.args.scope.now) c.args.statement.now c.requires.fit c.in-If.arms c.in-If.last c.in-Some.other c.in-If.is c.in-Some.is c.deref-in-Some.result.now c.deref-in-Some.ensures, runs.same-variables (masked c.args.unsettled.now) _ (scope_at c.args.scope.now) c.in_ok-left-in-Some.ensures c.requires.variables)))
 
 pub run-add_assigned_bits-requires-clause-narrow : goal.run-add_assigned_bits-requires-clause-narrow
-run-add_assigned_bits-requires-clause-narrow t c = (runs.fit-else (scope_at c.args.scope.now) c.args.statement.now c.requires.fit c.in-If.arms c.in-If.last c.in-Some.other c.in-If.is c.in-Some.is c.deref-in-Some.result.now c.deref-in-Some.ensures).narrow
+run-add_assigned_bits-requires-clause-narrow t c = (runs.fit-else (scope_at c.args.scope.now) c.args.statement.now c.requires.fit c.in-If.arms c.in-If.last c.in-Some.other c.in-If.is c.in-Some.is c.deref-in-Some-2.result.now c.deref-in-Some-2.ensures).narrow
 
 pub run-ladder-requires : goal.run-ladder-requires
-run-ladder-requires t c = (search (rules, the_lemmas), (c.requires.objects, (runs.fit-If (scope_at c.args.scope.now) c.args.statement.now c.requires.fit c.in-If.arms c.in-If.last c.in-If.is c.deref-in-Some-2.result.now c.deref-in-Some-2.ensures.value, c.requires.variables)))
+run-ladder-requires t c = (search (rules, the_lemmas), (c.requires.objects, (runs.fit-If (scope_at c.args.scope.now) c.args.statement.now c.requires.fit c.in-If.arms c.in-If.last c.in-If.is c.deref-in-Some-3.result.now c.deref-in-Some-3.ensures.value, c.requires.variables)))
 
 pub run-returns-in_ok-ladder-in-Some : goal.run-returns-in_ok-ladder-in-Some
 run-returns-in_ok-ladder-in-Some t c =
     let s = (scope_at c.args.scope.now) in
     let w = (masked c.args.unsettled.now) in
-    let rests = runs.as-copied w (masked c.in_ok-left-in-Some.left) (masked c.run.new.unsettled) s (statement_of c.deref.result.now) c.in_ok-left-in-Some.ensures c.in_ok-run-in-Some.ensures in
-    let last = choice.last-told w s (statement_of c.deref.result.now) (masked c.add_assigned_bits.new.assigned) (masked c.run.new.unsettled) (masked c.new-assigned.result)
-    (runs.fit-else (scope_at c.args.scope.now) c.args.statement.now c.requires.fit c.in-If.arms c.in-If.last c.in-Some.other c.in-If.is c.in-Some.is c.deref.result.now c.deref.ensures) rests (none-masked c.new-assigned.result c.new-assigned.ensures.empty)
-    (subst (λ y. masked c.add_assigned_bits.new.assigned ≡ or_in (masked c.new-assigned.result) (spread (existing s (may_assign s (statement_of y))))) (c.deref-in-Some.ensures ∙ sym c.deref.ensures) c.in_ok-add_assigned_bits-in-Some.ensures) in
-    let told = c.in_ok-ladder-in-Some.ensures (Some (statement_of c.deref.result.now)) last in
+    let rests = runs.as-copied w (masked c.in_ok-left-in-Some.left) (masked c.run.new.unsettled) s (statement_of c.deref-in-Some.result.now) c.in_ok-left-in-Some.ensures c.in_ok-run-in-Some.ensures in
+    let last = choice.last-told w s (statement_of c.deref-in-Some.result.now) (masked c.add_assigned_bits.new.assigned) (masked c.run.new.unsettled) (masked c.new-assigned.result)
+    (runs.fit-else (scope_at c.args.scope.now) c.args.statement.now c.requires.fit c.in-If.arms c.in-If.last c.in-Some.other c.in-If.is c.in-Some.is c.deref-in-Some.result.now c.deref-in-Some.ensures) rests (none-masked c.new-assigned.result c.new-assigned.ensures.empty)
+    (subst (λ y. masked c.add_assigned_bits.new.assigned ≡ or_in (masked c.new-assigned.result) (spread (existing s (may_assign s (statement_of y))))) (c.deref-in-Some-2.ensures ∙ sym c.deref-in-Some.ensures) c.in_ok-add_assigned_bits-in-Some.ensures) in
+    let told = c.in_ok-ladder-in-Some.ensures (Some (statement_of c.deref-in-Some.result.now)) last in
     runs.rests-If w (masked c.ladder.new.left) s c.args.statement.now c.in-If.arms c.in-If.last c.in-If.is
-    (runs.as-last w (masked c.ladder.new.left) s c.in-If.arms c.in-If.last (Some (statement_of c.deref.result.now))
-    (runs.last-some c.in-If.last c.in-Some.other c.in-Some.is c.deref.result.now c.deref.ensures) c.deref-in-Some-2.result.now c.deref-in-Some-2.ensures.value told.left_is)
+    (runs.as-last w (masked c.ladder.new.left) s c.in-If.arms c.in-If.last (Some (statement_of c.deref-in-Some.result.now))
+    (runs.last-some c.in-If.last c.in-Some.other c.in-Some.is c.deref-in-Some.result.now c.deref-in-Some.ensures) c.deref-in-Some-3.result.now c.deref-in-Some-3.ensures.value told.left_is)
 
 pub run-ladder-requires-in-None : goal.run-ladder-requires-in-None
 run-ladder-requires-in-None t c = (search (rules, the_lemmas), (c.requires.objects, (runs.fit-If (scope_at c.args.scope.now) c.args.statement.now c.requires.fit c.in-If.arms c.in-If.last c.in-If.is c.deref-in-None.result.now c.deref-in-None.ensures.value, c.requires.variables)))

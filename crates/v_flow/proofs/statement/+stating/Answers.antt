@@ -13,37 +13,37 @@ use Rattle.v_flow.proofs.Flows as flow
 use Rattle.v_flow.proofs.statement.+stating.Goals as goal
 
 pub add_statement-add_assignment-requires-clause-target : goal.add_statement-add_assignment-requires-clause-target
-add_statement-add_assignment-requires-clause-target t c = (flow.narrow-Blocking (scope_at c.args.scope.now) c.args.statement.now c.requires.narrow c.in-Blocking.target c.in-Blocking.value c.in-Blocking.is).0
+add_statement-add_assignment-requires-clause-target t c = (flow.narrow-Blocking (scope_at c.args.scope.now) c.args.statement.now c.requires.narrow c.in-Blocking.target c.in-Blocking.value c.in-Blocking.is c.deref.result.now c.deref.ensures).0
 
 pub add_statement-add_assignment-requires-clause-value : goal.add_statement-add_assignment-requires-clause-value
-add_statement-add_assignment-requires-clause-value t c = (flow.narrow-Blocking (scope_at c.args.scope.now) c.args.statement.now c.requires.narrow c.in-Blocking.target c.in-Blocking.value c.in-Blocking.is).1
+add_statement-add_assignment-requires-clause-value t c = (flow.narrow-Blocking (scope_at c.args.scope.now) c.args.statement.now c.requires.narrow c.in-Blocking.target c.in-Blocking.value c.in-Blocking.is c.deref.result.now c.deref.ensures).1
 
 pub add_statement-returns-in-Blocking : goal.add_statement-returns-in-Blocking
-add_statement-returns-in-Blocking t c = on_ok_weaker c.add_assignment.result (λ k. k ∙ ap (or_in (bits_in c.args.found.now.items)) (flow.reads-Blocking (scope_at c.args.scope.now) c.args.statement.now c.in-Blocking.target c.in-Blocking.value c.in-Blocking.is)) c.add_assignment.ensures
+add_statement-returns-in-Blocking t c = on_ok_weaker c.add_assignment.result (λ k. k ∙ ap (or_in (bits_in c.args.found.now.items)) (flow.reads-Blocking (scope_at c.args.scope.now) c.args.statement.now c.in-Blocking.target c.in-Blocking.value c.in-Blocking.is c.deref.result.now c.deref.ensures)) c.add_assignment.ensures
 
 pub add_statement-add_assignment-requires-in-Nonblocking-clause-target : goal.add_statement-add_assignment-requires-in-Nonblocking-clause-target
-add_statement-add_assignment-requires-in-Nonblocking-clause-target t c = (flow.narrow-Nonblocking (scope_at c.args.scope.now) c.args.statement.now c.requires.narrow c.in-Nonblocking.target c.in-Nonblocking.value c.in-Nonblocking.is).0
+add_statement-add_assignment-requires-in-Nonblocking-clause-target t c = (flow.narrow-Nonblocking (scope_at c.args.scope.now) c.args.statement.now c.requires.narrow c.in-Nonblocking.target c.in-Nonblocking.value c.in-Nonblocking.is c.deref-in-Nonblocking.result.now c.deref-in-Nonblocking.ensures).0
 
 pub add_statement-add_assignment-requires-in-Nonblocking-clause-value : goal.add_statement-add_assignment-requires-in-Nonblocking-clause-value
-add_statement-add_assignment-requires-in-Nonblocking-clause-value t c = (flow.narrow-Nonblocking (scope_at c.args.scope.now) c.args.statement.now c.requires.narrow c.in-Nonblocking.target c.in-Nonblocking.value c.in-Nonblocking.is).1
+add_statement-add_assignment-requires-in-Nonblocking-clause-value t c = (flow.narrow-Nonblocking (scope_at c.args.scope.now) c.args.statement.now c.requires.narrow c.in-Nonblocking.target c.in-Nonblocking.value c.in-Nonblocking.is c.deref-in-Nonblocking.result.now c.deref-in-Nonblocking.ensures).1
 
 pub add_statement-returns-in-Nonblocking : goal.add_statement-returns-in-Nonblocking
-add_statement-returns-in-Nonblocking t c = on_ok_weaker c.add_assignment-in-Nonblocking.result (λ k. k ∙ ap (or_in (bits_in c.args.found.now.items)) (flow.reads-Nonblocking (scope_at c.args.scope.now) c.args.statement.now c.in-Nonblocking.target c.in-Nonblocking.value c.in-Nonblocking.is)) c.add_assignment-in-Nonblocking.ensures
+add_statement-returns-in-Nonblocking t c = on_ok_weaker c.add_assignment-in-Nonblocking.result (λ k. k ∙ ap (or_in (bits_in c.args.found.now.items)) (flow.reads-Nonblocking (scope_at c.args.scope.now) c.args.statement.now c.in-Nonblocking.target c.in-Nonblocking.value c.in-Nonblocking.is c.deref-in-Nonblocking.result.now c.deref-in-Nonblocking.ensures)) c.add_assignment-in-Nonblocking.ensures
 
 pub add_statement-returns-in-Empty : goal.add_statement-returns-in-Empty
 add_statement-returns-in-Empty t c = nothing _ _ (flow.reads-Empty (scope_at c.args.scope.now) c.args.statement.now c.in-Empty.is)
 
 pub add_statement-add_ladder-requires : goal.add_statement-add_ladder-requires
-add_statement-add_ladder-requires t c = (search (rules, the_lemmas), (c.requires.objects, flow.narrow-If (scope_at c.args.scope.now) c.args.statement.now c.requires.narrow c.in-If.arms c.in-If.last c.in-If.is c.deref.result.now c.deref.ensures.value))
+add_statement-add_ladder-requires t c = (search (rules, the_lemmas), (c.requires.objects, flow.narrow-If (scope_at c.args.scope.now) c.args.statement.now c.requires.narrow c.in-If.arms c.in-If.last c.in-If.is c.deref-in-If.result.now c.deref-in-If.ensures.value))
 
 pub add_statement-add_statement-requires : goal.add_statement-add_statement-requires
 add_statement-add_statement-requires t c = (search (rules, the_lemmas), (c.requires.objects, flow.narrow-else (scope_at c.args.scope.now) c.args.statement.now c.requires.narrow c.in-If.arms c.in-If.last c.in-Some.other c.in-If.is c.in-Some.is c.deref-in-Some.result.now c.deref-in-Some.ensures))
 
 pub add_statement-returns-in-Some : goal.add_statement-returns-in-Some
-add_statement-returns-in-Some t c = on_ok_weaker c.add_statement.result (λ k. joins _ _ _ _ _ _ c.in_ok-add_ladder-in-If.ensures k (flow.reads-else (scope_at c.args.scope.now) c.args.statement.now c.in-If.arms c.in-If.last c.in-Some.other c.in-If.is c.in-Some.is c.deref.result.now c.deref.ensures.value c.deref-in-Some.result.now c.deref-in-Some.ensures)) c.add_statement.ensures
+add_statement-returns-in-Some t c = on_ok_weaker c.add_statement.result (λ k. joins _ _ _ _ _ _ c.in_ok-add_ladder-in-If.ensures k (flow.reads-else (scope_at c.args.scope.now) c.args.statement.now c.in-If.arms c.in-If.last c.in-Some.other c.in-If.is c.in-Some.is c.deref-in-If.result.now c.deref-in-If.ensures.value c.deref-in-Some.result.now c.deref-in-Some.ensures)) c.add_statement.ensures
 
 pub add_statement-returns-in-None : goal.add_statement-returns-in-None
-add_statement-returns-in-None t c = c.in_ok-add_ladder-in-If.ensures ∙ ap (or_in (bits_in c.args.found.now.items)) (flow.reads-no_else (scope_at c.args.scope.now) c.args.statement.now c.in-If.arms c.in-If.last c.in-If.is c.in-None.is c.deref.result.now c.deref.ensures.value)
+add_statement-returns-in-None t c = c.in_ok-add_ladder-in-If.ensures ∙ ap (or_in (bits_in c.args.found.now.items)) (flow.reads-no_else (scope_at c.args.scope.now) c.args.statement.now c.in-If.arms c.in-If.last c.in-If.is c.in-None.is c.deref-in-If.result.now c.deref-in-If.ensures.value)
 
 pub add_statement-add_read-requires-clause-narrow : goal.add_statement-add_read-requires-clause-narrow
 add_statement-add_read-requires-clause-narrow t c = flow.narrow-Case (scope_at c.args.scope.now) c.args.statement.now c.requires.narrow c.in-Case.field-0 c.in-Case.value c.in-Case.items c.in-Case.is

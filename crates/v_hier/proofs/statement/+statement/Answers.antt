@@ -8,16 +8,16 @@ is_statement_known-returns-in-Empty t c = statements.at-Empty (knows c.args.name
 
 pub is_statement_known-returns-in-Blocking : goal.is_statement_known-returns-in-Blocking
 is_statement_known-returns-in-Blocking t c =
-    statements.at-Blocking (knows c.args.names.now) c.args.statement.now c.is_assignment_known.result c.in-Blocking.target c.in-Blocking.value c.in-Blocking.is c.is_assignment_known.ensures
+    statements.at-Blocking (knows c.args.names.now) c.args.statement.now c.is_assignment_known.result c.in-Blocking.target c.in-Blocking.value c.in-Blocking.is c.deref.result.now c.deref.ensures c.is_assignment_known.ensures
 
 pub is_statement_known-returns-in-Nonblocking : goal.is_statement_known-returns-in-Nonblocking
 is_statement_known-returns-in-Nonblocking t c =
-    statements.at-Nonblocking (knows c.args.names.now) c.args.statement.now c.is_assignment_known-in-Nonblocking.result c.in-Nonblocking.target c.in-Nonblocking.value c.in-Nonblocking.is c.is_assignment_known-in-Nonblocking.ensures
+    statements.at-Nonblocking (knows c.args.names.now) c.args.statement.now c.is_assignment_known-in-Nonblocking.result c.in-Nonblocking.target c.in-Nonblocking.value c.in-Nonblocking.is c.deref-in-Nonblocking.result.now c.deref-in-Nonblocking.ensures c.is_assignment_known-in-Nonblocking.ensures
 
 pub is_statement_known-returns-in-Some : goal.is_statement_known-returns-in-Some
 is_statement_known-returns-in-Some t c =
     statements.at-If (knows c.args.names.now) c.args.statement.now c.are_arms_known.result c.in-If.arms c.in-If.last c.in-If.is c.in-Some.other c.in-Some.is
-    c.deref.result.now c.deref.ensures.value c.deref-in-Some.result.now c.deref-in-Some.ensures c.is_statement_known.result c.is_statement_known.ensures c.are_arms_known.ensures
+    c.deref-in-Some.result.now c.deref-in-Some.ensures.value c.deref-in-Some-2.result.now c.deref-in-Some-2.ensures c.is_statement_known.result c.is_statement_known.ensures c.are_arms_known.ensures
 
 pub is_statement_known-returns-in-None : goal.is_statement_known-returns-in-None
 is_statement_known-returns-in-None t c =

@@ -27,31 +27,31 @@ pub walk-returns-in-Empty-clause-outside : goal.walk-returns-in-Empty-clause-out
 walk-returns-in-Empty-clause-outside t c = nothing _ _ (forms.outside-Empty (scope_at c.args.scope.now) c.args.statement.now c.in-Empty.is)
 
 pub walk-add_assignment-requires-clause-target : goal.walk-add_assignment-requires-clause-target
-walk-add_assignment-requires-clause-target t c = (flow.narrow-Blocking (scope_at c.args.scope.now) c.args.statement.now c.requires.narrow c.in-Blocking.target c.in-Blocking.value c.in-Blocking.is).0
+walk-add_assignment-requires-clause-target t c = (flow.narrow-Blocking (scope_at c.args.scope.now) c.args.statement.now c.requires.narrow c.in-Blocking.target c.in-Blocking.value c.in-Blocking.is c.deref.result.now c.deref.ensures).0
 
 pub walk-add_assignment-requires-clause-value : goal.walk-add_assignment-requires-clause-value
-walk-add_assignment-requires-clause-value t c = (flow.narrow-Blocking (scope_at c.args.scope.now) c.args.statement.now c.requires.narrow c.in-Blocking.target c.in-Blocking.value c.in-Blocking.is).1
+walk-add_assignment-requires-clause-value t c = (flow.narrow-Blocking (scope_at c.args.scope.now) c.args.statement.now c.requires.narrow c.in-Blocking.target c.in-Blocking.value c.in-Blocking.is c.deref.result.now c.deref.ensures).1
 
 pub walk-reached-requires-clause-narrow : goal.walk-reached-requires-clause-narrow
-walk-reached-requires-clause-narrow t c = (flow.narrow-Blocking (scope_at c.args.scope.now) c.args.statement.now c.requires.narrow c.in-Blocking.target c.in-Blocking.value c.in-Blocking.is).0
+walk-reached-requires-clause-narrow t c = (flow.narrow-Blocking (scope_at c.args.scope.now) c.args.statement.now c.requires.narrow c.in-Blocking.target c.in-Blocking.value c.in-Blocking.is c.deref-in-Blocking.result.now c.deref-in-Blocking.ensures).0
 
 pub walk-returns-in_ok-sure-in-Blocking-clause-sure : goal.walk-returns-in_ok-sure-in-Blocking-clause-sure
-walk-returns-in_ok-sure-in-Blocking-clause-sure t c = c.in_ok-sure-in-Blocking.ensures ∙ forms.sure-Blocking (scope_at c.args.scope.now) c.args.statement.now c.in-Blocking.target c.in-Blocking.value c.in-Blocking.is
+walk-returns-in_ok-sure-in-Blocking-clause-sure t c = c.in_ok-sure-in-Blocking.ensures ∙ forms.sure-Blocking (scope_at c.args.scope.now) c.args.statement.now c.in-Blocking.target c.in-Blocking.value c.in-Blocking.is c.deref-in-Blocking.result.now c.deref-in-Blocking.ensures
 
 pub walk-returns-in_ok-sure-in-Blocking-clause-outside : goal.walk-returns-in_ok-sure-in-Blocking-clause-outside
-walk-returns-in_ok-sure-in-Blocking-clause-outside t c = c.in_ok-add_assignment-in-Blocking.ensures ∙ ap (or_in (bits_in c.args.outside.now.items)) (forms.outside-Blocking (scope_at c.args.scope.now) c.args.statement.now c.in-Blocking.target c.in-Blocking.value c.in-Blocking.is)
+walk-returns-in_ok-sure-in-Blocking-clause-outside t c = c.in_ok-add_assignment-in-Blocking.ensures ∙ ap (or_in (bits_in c.args.outside.now.items)) (forms.outside-Blocking (scope_at c.args.scope.now) c.args.statement.now c.in-Blocking.target c.in-Blocking.value c.in-Blocking.is c.deref.result.now c.deref.ensures)
 
 pub walk-add_assignment-requires-in-Nonblocking-clause-target : goal.walk-add_assignment-requires-in-Nonblocking-clause-target
-walk-add_assignment-requires-in-Nonblocking-clause-target t c = (flow.narrow-Nonblocking (scope_at c.args.scope.now) c.args.statement.now c.requires.narrow c.in-Nonblocking.target c.in-Nonblocking.value c.in-Nonblocking.is).0
+walk-add_assignment-requires-in-Nonblocking-clause-target t c = (flow.narrow-Nonblocking (scope_at c.args.scope.now) c.args.statement.now c.requires.narrow c.in-Nonblocking.target c.in-Nonblocking.value c.in-Nonblocking.is c.deref-in-Nonblocking.result.now c.deref-in-Nonblocking.ensures).0
 
 pub walk-add_assignment-requires-in-Nonblocking-clause-value : goal.walk-add_assignment-requires-in-Nonblocking-clause-value
-walk-add_assignment-requires-in-Nonblocking-clause-value t c = (flow.narrow-Nonblocking (scope_at c.args.scope.now) c.args.statement.now c.requires.narrow c.in-Nonblocking.target c.in-Nonblocking.value c.in-Nonblocking.is).1
+walk-add_assignment-requires-in-Nonblocking-clause-value t c = (flow.narrow-Nonblocking (scope_at c.args.scope.now) c.args.statement.now c.requires.narrow c.in-Nonblocking.target c.in-Nonblocking.value c.in-Nonblocking.is c.deref-in-Nonblocking.result.now c.deref-in-Nonblocking.ensures).1
 
 pub walk-returns-in_ok-add_assignment-in-Nonblocking-clause-sure : goal.walk-returns-in_ok-add_assignment-in-Nonblocking-clause-sure
 walk-returns-in_ok-add_assignment-in-Nonblocking-clause-sure t c = ap bits_in c.new-in-Nonblocking.ensures.items ∙ forms.sure-Nonblocking (scope_at c.args.scope.now) c.args.statement.now c.in-Nonblocking.target c.in-Nonblocking.value c.in-Nonblocking.is
 
 pub walk-returns-in_ok-add_assignment-in-Nonblocking-clause-outside : goal.walk-returns-in_ok-add_assignment-in-Nonblocking-clause-outside
-walk-returns-in_ok-add_assignment-in-Nonblocking-clause-outside t c = c.in_ok-add_assignment-in-Nonblocking.ensures ∙ ap (or_in (bits_in c.args.outside.now.items)) (forms.outside-Nonblocking (scope_at c.args.scope.now) c.args.statement.now c.in-Nonblocking.target c.in-Nonblocking.value c.in-Nonblocking.is)
+walk-returns-in_ok-add_assignment-in-Nonblocking-clause-outside t c = c.in_ok-add_assignment-in-Nonblocking.ensures ∙ ap (or_in (bits_in c.args.outside.now.items)) (forms.outside-Nonblocking (scope_at c.args.scope.now) c.args.statement.now c.in-Nonblocking.target c.in-Nonblocking.value c.in-Nonblocking.is c.deref-in-Nonblocking.result.now c.deref-in-Nonblocking.ensures)
 
 pub walk-walk-requires : goal.walk-walk-requires
 walk-walk-requires t c = (
@@ -59,8 +59,8 @@ walk-walk-requires t c = (
   (
     c.requires.objects,
     (
-      flow.narrow-else (scope_at c.args.scope.now) c.args.statement.now c.requires.narrow c.in-If.arms c.in-If.last c.in-Some.other c.in-If.is c.in-Some.is c.deref.result.now c.deref.ensures,
-      sets.rest-free (scope_at c.args.scope.now) _ _ _ (sym (flow.assigned-else (scope_at c.args.scope.now) c.args.statement.now c.in-If.arms c.in-If.last c.in-Some.other c.in-If.is c.in-Some.is c.in-If.arms.items (λ i. c.in-If.arms.items) c.deref.result.now c.deref.ensures)) c.requires.plain,
+      flow.narrow-else (scope_at c.args.scope.now) c.args.statement.now c.requires.narrow c.in-If.arms c.in-If.last c.in-Some.other c.in-If.is c.in-Some.is c.deref-in-Some.result.now c.deref-in-Some.ensures,
+      sets.rest-free (scope_at c.args.scope.now) _ _ _ (sym (flow.assigned-else (scope_at c.args.scope.now) c.args.statement.now c.in-If.arms c.in-If.last c.in-Some.other c.in-If.is c.in-Some.is c.in-If.arms.items (λ i. c.in-If.arms.items) c.deref-in-Some.result.now c.deref-in-Some.ensures)) c.requires.plain,
     ),
   ),
 )
@@ -71,21 +71,21 @@ walk-ladder-requires t c = (
   (
     c.requires.objects,
     (
-      flow.narrow-If (scope_at c.args.scope.now) c.args.statement.now c.requires.narrow c.in-If.arms c.in-If.last c.in-If.is c.deref-in-Some.result.now c.deref-in-Some.ensures.value,
-      sets.first-free (scope_at c.args.scope.now) _ _ _ (sym (flow.assigned-else (scope_at c.args.scope.now) c.args.statement.now c.in-If.arms c.in-If.last c.in-Some.other c.in-If.is c.in-Some.is c.deref-in-Some.result.now c.deref-in-Some.ensures.value c.deref.result.now c.deref.ensures)) c.requires.plain,
+      flow.narrow-If (scope_at c.args.scope.now) c.args.statement.now c.requires.narrow c.in-If.arms c.in-If.last c.in-If.is c.deref-in-Some-2.result.now c.deref-in-Some-2.ensures.value,
+      sets.first-free (scope_at c.args.scope.now) _ _ _ (sym (flow.assigned-else (scope_at c.args.scope.now) c.args.statement.now c.in-If.arms c.in-If.last c.in-Some.other c.in-If.is c.in-Some.is c.deref-in-Some-2.result.now c.deref-in-Some-2.ensures.value c.deref-in-Some.result.now c.deref-in-Some.ensures)) c.requires.plain,
     ),
   ),
 )
 
 pub walk-returns-in_ok-sure-in-Some-clause-sure : goal.walk-returns-in_ok-sure-in-Some-clause-sure
 walk-returns-in_ok-sure-in-Some-clause-sure t c =
-    c.in_ok-sure-in-Some.ensures.sure ∙ ap (ladder_sure (scope_at c.args.scope.now) c.deref-in-Some.result.now) c.in_ok-otherwise-in-Some.ensures.sure
-    ∙ forms.sure-else (scope_at c.args.scope.now) c.args.statement.now c.in-If.arms c.in-If.last c.in-Some.other c.in-If.is c.in-Some.is c.deref-in-Some.result.now c.deref-in-Some.ensures.value c.deref.result.now c.deref.ensures
+    c.in_ok-sure-in-Some.ensures.sure ∙ ap (ladder_sure (scope_at c.args.scope.now) c.deref-in-Some-2.result.now) c.in_ok-otherwise-in-Some.ensures.sure
+    ∙ forms.sure-else (scope_at c.args.scope.now) c.args.statement.now c.in-If.arms c.in-If.last c.in-Some.other c.in-If.is c.in-Some.is c.deref-in-Some-2.result.now c.deref-in-Some-2.ensures.value c.deref-in-Some.result.now c.deref-in-Some.ensures
 
 pub walk-returns-in_ok-sure-in-Some-clause-outside : goal.walk-returns-in_ok-sure-in-Some-clause-outside
 walk-returns-in_ok-sure-in-Some-clause-outside t c =
     joins _ _ _ _ _ _ c.in_ok-otherwise-in-Some.ensures.outside c.in_ok-sure-in-Some.ensures.outside
-    (forms.outside-else (scope_at c.args.scope.now) c.args.statement.now c.in-If.arms c.in-If.last c.in-Some.other c.in-If.is c.in-Some.is c.deref-in-Some.result.now c.deref-in-Some.ensures.value c.deref.result.now c.deref.ensures)
+    (forms.outside-else (scope_at c.args.scope.now) c.args.statement.now c.in-If.arms c.in-If.last c.in-Some.other c.in-If.is c.in-Some.is c.deref-in-Some-2.result.now c.deref-in-Some-2.ensures.value c.deref-in-Some.result.now c.deref-in-Some.ensures)
 
 pub walk-ladder-requires-in-None : goal.walk-ladder-requires-in-None
 walk-ladder-requires-in-None t c = (

@@ -10,14 +10,14 @@ pub write_statement-returns-in_ok-mark-in-Empty : goal.write_statement-returns-i
 write_statement-returns-in_ok-mark-in-Empty t c = as_front (empty_arm c.args.colons c.args.statement.now c.in-Empty.is) c.in_ok-mark-in-Empty.ensures
 
 pub write_statement-returns-in_ok-mark-in-Blocking : goal.write_statement-returns-in_ok-mark-in-Blocking
-write_statement-returns-in_ok-mark-in-Blocking t c = as_front (blocking_arm c.args.colons c.args.statement.now c.in-Blocking.target c.in-Blocking.value c.in-Blocking.is) (then c.in_ok-write_assignment-in-Blocking.ensures c.in_ok-mark-in-Blocking.ensures)
+write_statement-returns-in_ok-mark-in-Blocking t c = as_front (blocking_arm c.args.colons c.args.statement.now c.in-Blocking.target c.in-Blocking.value c.in-Blocking.is c.deref.result.now c.deref.ensures) (then c.in_ok-write_assignment-in-Blocking.ensures c.in_ok-mark-in-Blocking.ensures)
 
 pub write_statement-returns-in_ok-mark-in-Nonblocking : goal.write_statement-returns-in_ok-mark-in-Nonblocking
-write_statement-returns-in_ok-mark-in-Nonblocking t c = as_front (nonblocking_arm c.args.colons c.args.statement.now c.in-Nonblocking.target c.in-Nonblocking.value c.in-Nonblocking.is) (then c.in_ok-write_assignment-in-Nonblocking.ensures c.in_ok-mark-in-Nonblocking.ensures)
+write_statement-returns-in_ok-mark-in-Nonblocking t c = as_front (nonblocking_arm c.args.colons c.args.statement.now c.in-Nonblocking.target c.in-Nonblocking.value c.in-Nonblocking.is c.deref-in-Nonblocking.result.now c.deref-in-Nonblocking.ensures) (then c.in_ok-write_assignment-in-Nonblocking.ensures c.in_ok-mark-in-Nonblocking.ensures)
 
 pub write_statement-returns-in_ok-write_statement-in-Some : goal.write_statement-returns-in_ok-write_statement-in-Some
 write_statement-returns-in_ok-write_statement-in-Some t c =
-    as_front (if_arm c.args.colons c.args.statement.now c.in-If.arms c.in-If.last c.in-Some.other c.deref-in-Some-3.result.now c.deref-in-Some.result.now c.deref-in-Some-2.result.now c.in-If.is c.in-Some.is c.deref-in-Some-3.ensures c.deref-in-Some.ensures.value c.deref-in-Some-2.ensures.value)
+    as_front (if_arm c.args.colons c.args.statement.now c.in-If.arms c.in-If.last c.in-Some.other c.deref-in-Some-4.result.now c.deref-in-Some-2.result.now c.deref-in-Some-3.result.now c.in-If.is c.in-Some.is c.deref-in-Some-4.ensures c.deref-in-Some-2.ensures.value c.deref-in-Some-3.ensures.value)
     (then c.in_ok-write_arms-in-Some.ensures (then c.in_ok-write_last_else-in-Some.ensures (then c.in_ok-gap-in-Some.ensures c.in_ok-write_statement-in-Some.ensures)))
 
 pub write_statement-returns-in_ok-write_nothing-in-None : goal.write_statement-returns-in_ok-write_nothing-in-None

@@ -13,16 +13,16 @@ copy_statement-returns-in-Empty t c =
 
 pub copy_statement-returns-in_ok-value-in-Blocking : goal.copy_statement-returns-in_ok-value-in-Blocking
 copy_statement-returns-in_ok-value-in-Blocking t c =
-    arms.blocking-copied (new_name c.args.names.now) c.args.tree.now c.in-Blocking.target c.in_ok-target-in-Blocking.target c.in-Blocking.value c.in_ok-value-in-Blocking.value c.in-Blocking.is (ap target_of c.in_ok-target-in-Blocking.ensures.ok ∙ c.in_ok-copied-in-Blocking.ensures) c.in_ok-value-in-Blocking.ensures
+    arms.blocking-copied (new_name c.args.names.now) c.args.tree.now c.in-Blocking.target c.in_ok-target-in-Blocking.target c.in-Blocking.value c.in_ok-value-in-Blocking.value c.in-Blocking.is c.deref.result.now c.deref.ensures (ap target_of c.in_ok-target-in-Blocking.ensures.ok ∙ c.in_ok-copied-in-Blocking.ensures) c.in_ok-value-in-Blocking.ensures
 
 pub copy_statement-returns-in_ok-value-in-Nonblocking : goal.copy_statement-returns-in_ok-value-in-Nonblocking
 copy_statement-returns-in_ok-value-in-Nonblocking t c =
-    arms.nonblocking-copied (new_name c.args.names.now) c.args.tree.now c.in-Nonblocking.target c.in_ok-target-in-Nonblocking.target c.in-Nonblocking.value c.in_ok-value-in-Nonblocking.value c.in-Nonblocking.is (ap target_of c.in_ok-target-in-Nonblocking.ensures.ok ∙ c.in_ok-copied-in-Nonblocking.ensures) c.in_ok-value-in-Nonblocking.ensures
+    arms.nonblocking-copied (new_name c.args.names.now) c.args.tree.now c.in-Nonblocking.target c.in_ok-target-in-Nonblocking.target c.in-Nonblocking.value c.in_ok-value-in-Nonblocking.value c.in-Nonblocking.is c.deref-in-Nonblocking.result.now c.deref-in-Nonblocking.ensures (ap target_of c.in_ok-target-in-Nonblocking.ensures.ok ∙ c.in_ok-copied-in-Nonblocking.ensures) c.in_ok-value-in-Nonblocking.ensures
 
 pub copy_statement-returns-in_ok-arms-in-Some : goal.copy_statement-returns-in_ok-arms-in-Some
 copy_statement-returns-in_ok-arms-in-Some t c =
-    arms.else-copied (new_name c.args.names.now) c.args.tree.now c.in-If.arms c.in_ok-arms-in-Some.arms c.in-If.last c.in-Some.other c.in_ok-other-in-Some.other c.deref.result.now c.deref-in-Some.result.now
-    c.in-If.is c.in-Some.is c.deref-in-Some.ensures.value c.deref.ensures c.in_ok-arms-in-Some.ensures c.in_ok-other-in-Some.ensures
+    arms.else-copied (new_name c.args.names.now) c.args.tree.now c.in-If.arms c.in_ok-arms-in-Some.arms c.in-If.last c.in-Some.other c.in_ok-other-in-Some.other c.deref-in-Some.result.now c.deref-in-Some-2.result.now
+    c.in-If.is c.in-Some.is c.deref-in-Some-2.ensures.value c.deref-in-Some.ensures c.in_ok-arms-in-Some.ensures c.in_ok-other-in-Some.ensures
 
 pub copy_statement-returns-in_ok-arms-in-None : goal.copy_statement-returns-in_ok-arms-in-None
 copy_statement-returns-in_ok-arms-in-None t c =

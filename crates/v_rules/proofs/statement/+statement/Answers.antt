@@ -8,16 +8,16 @@ broken_statement-returns-in-Empty t c = ladders.at-Empty (scope_at c.args.names.
 
 pub broken_statement-returns-in-Blocking : goal.broken_statement-returns-in-Blocking
 broken_statement-returns-in-Blocking t c =
-    ladders.at-Blocking (scope_at c.args.names.scope.now) c.args.clocked c.args.statement.now c.broken_assignment.result c.in-Blocking.target c.in-Blocking.value c.in-Blocking.is c.broken_assignment.ensures
+    ladders.at-Blocking (scope_at c.args.names.scope.now) c.args.clocked c.args.statement.now c.broken_assignment.result c.in-Blocking.target c.in-Blocking.value c.in-Blocking.is c.deref.result.now c.deref.ensures c.broken_assignment.ensures
 
 pub broken_statement-returns-in-Nonblocking : goal.broken_statement-returns-in-Nonblocking
 broken_statement-returns-in-Nonblocking t c =
-    ladders.at-Nonblocking (scope_at c.args.names.scope.now) c.args.clocked c.args.statement.now c.broken_assignment-in-Nonblocking.result c.in-Nonblocking.target c.in-Nonblocking.value c.in-Nonblocking.is c.broken_assignment-in-Nonblocking.ensures
+    ladders.at-Nonblocking (scope_at c.args.names.scope.now) c.args.clocked c.args.statement.now c.broken_assignment-in-Nonblocking.result c.in-Nonblocking.target c.in-Nonblocking.value c.in-Nonblocking.is c.deref-in-Nonblocking.result.now c.deref-in-Nonblocking.ensures c.broken_assignment-in-Nonblocking.ensures
 
 pub broken_statement-returns-in-Some : goal.broken_statement-returns-in-Some
 broken_statement-returns-in-Some t c =
     ladders.at-If (scope_at c.args.names.scope.now) c.args.clocked c.args.statement.now c.broken_ladder.result c.in-If.arms c.in-If.last c.in-If.is c.in-Some.other c.in-Some.is
-    c.deref.result.now c.deref.ensures.value c.deref-in-Some.result.now c.deref-in-Some.ensures c.broken_statement.result c.broken_statement.ensures c.broken_ladder.ensures
+    c.deref-in-Some.result.now c.deref-in-Some.ensures.value c.deref-in-Some-2.result.now c.deref-in-Some-2.ensures c.broken_statement.result c.broken_statement.ensures c.broken_ladder.ensures
 
 pub broken_statement-returns-in-None : goal.broken_statement-returns-in-None
 broken_statement-returns-in-None t c =

@@ -1,10 +1,10 @@
 use Rattle.std.proofs.Common.{◌+◌, ◌∙◌, Bool, None, Some, refl, ap, sym, subst, cond, rules, drop, arith}
 use Rattle.wb_values.specs.Value.{word, Valuation}
-use Rattle.verilog_trees.specs.Syntax.{case}
+use Rattle.verilog_trees.specs.Syntax.{case, blocking, nonblocking}
 use Rattle.verilog_meaning.specs.Expression.{is_true}
 use Rattle.verilog_meaning.specs.Statement.{Effect, run, run_all, unchanged, followed_by, any_matches}
 use Rattle.v_syntax.specs.declared.tree.Statement.{the_lemmas}
-use Rattle.v_syntax.specs.Tree.{tree_of, expressions_of, statement_of, or_empty, case_kind_of}
+use Rattle.v_syntax.specs.Tree.{tree_of, expressions_of, target_of, statement_of, or_empty, case_kind_of}
 use Rattle.v_value.specs.Scope.{scope_at}
 use Rattle.v_lower.specs.Table.{images_at}
 use Rattle.v_lower.proofs.Lowering.{images_kept}
@@ -29,23 +29,27 @@ run_statement-returns-in-Empty-clause-ran t c =
     runs_as (scope_at c.args.scope.now) (images_at c.args.table.now) (images_at c.args.next.now) (images_at c.args.table.now) (images_at c.args.next.now) c.args.terms.now c.args.terms.now c.args.guard unchanged _ (λ v. ap (λ x. run (scope_at c.args.scope.now) (statement_of x) v) (sym c.in-Empty.is)) (nothing_ran (scope_at c.args.scope.now) (images_at c.args.table.now) (images_at c.args.next.now) c.args.terms.now c.args.guard c.requires.known c.requires.known_next)
 
 pub run_statement-assign-requires-clause-sound : goal.run_statement-assign-requires-clause-sound
-run_statement-assign-requires-clause-sound t c = subst (λ x. IsSoundStatement (scope_at c.args.scope.now) (statement_of x)) c.in-Blocking.is c.requires.sound
+run_statement-assign-requires-clause-sound t c =
+    subst (λ z. IsSoundStatement (scope_at c.args.scope.now) (blocking (target_of z) (tree_of c.in-Blocking.expression))) (sym c.deref.ensures)
+    (subst (λ x. IsSoundStatement (scope_at c.args.scope.now) (statement_of x)) c.in-Blocking.is c.requires.sound)
 
 pub run_statement-returns-in_ok-assign-in-Blocking-clause-ran : goal.run_statement-returns-in_ok-assign-in-Blocking-clause-ran
 run_statement-returns-in_ok-assign-in-Blocking-clause-ran t c =
-    runs_as (scope_at c.args.scope.now) (images_at c.args.table.now) (images_at c.args.next.now) (images_at c.assign.new.table) (images_at c.args.next.now) c.args.terms.now c.assign.new.terms c.args.guard _ _ (λ v. ap (λ x. run (scope_at c.args.scope.now) (statement_of x) v) (sym c.in-Blocking.is)) (c.in_ok-assign-in-Blocking.ensures.ran (images_at c.args.next.now) c.requires.known_next)
+    runs_as (scope_at c.args.scope.now) (images_at c.args.table.now) (images_at c.args.next.now) (images_at c.assign.new.table) (images_at c.args.next.now) c.args.terms.now c.assign.new.terms c.args.guard _ _ (λ v. ap (λ z. run (scope_at c.args.scope.now) (blocking (target_of z) (tree_of c.in-Blocking.expression)) v) c.deref.ensures ∙ ap (λ x. run (scope_at c.args.scope.now) (statement_of x) v) (sym c.in-Blocking.is)) (c.in_ok-assign-in-Blocking.ensures.ran (images_at c.args.next.now) c.requires.known_next)
 
 pub run_statement-defer-requires-clause-sound : goal.run_statement-defer-requires-clause-sound
-run_statement-defer-requires-clause-sound t c = subst (λ x. IsSoundStatement (scope_at c.args.scope.now) (statement_of x)) c.in-Nonblocking.is c.requires.sound
+run_statement-defer-requires-clause-sound t c =
+    subst (λ z. IsSoundStatement (scope_at c.args.scope.now) (nonblocking (target_of z) (tree_of c.in-Nonblocking.expression))) (sym c.deref-in-Nonblocking.ensures)
+    (subst (λ x. IsSoundStatement (scope_at c.args.scope.now) (statement_of x)) c.in-Nonblocking.is c.requires.sound)
 
 pub run_statement-returns-in_ok-defer-in-Nonblocking-clause-ran : goal.run_statement-returns-in_ok-defer-in-Nonblocking-clause-ran
 run_statement-returns-in_ok-defer-in-Nonblocking-clause-ran t c =
-    runs_as (scope_at c.args.scope.now) (images_at c.args.table.now) (images_at c.args.next.now) (images_at c.args.table.now) (images_at c.defer.new.next) c.args.terms.now c.defer.new.terms c.args.guard _ _ (λ v. ap (λ x. run (scope_at c.args.scope.now) (statement_of x) v) (sym c.in-Nonblocking.is)) c.in_ok-defer-in-Nonblocking.ensures.ran
+    runs_as (scope_at c.args.scope.now) (images_at c.args.table.now) (images_at c.args.next.now) (images_at c.args.table.now) (images_at c.defer.new.next) c.args.terms.now c.defer.new.terms c.args.guard _ _ (λ v. ap (λ z. run (scope_at c.args.scope.now) (nonblocking (target_of z) (tree_of c.in-Nonblocking.expression)) v) c.deref-in-Nonblocking.ensures ∙ ap (λ x. run (scope_at c.args.scope.now) (statement_of x) v) (sym c.in-Nonblocking.is)) c.in_ok-defer-in-Nonblocking.ensures.ran
 
 pub run_statement-run_arms-requires : goal.run_statement-run_arms-requires
 run_statement-run_arms-requires t c = (
   search (rules, the_lemmas),
-  (c.requires.objects, (c.requires.known, (c.requires.known_next, (c.requires.guard, subst (AreSoundBranches (scope_at c.args.scope.now)) (sym c.deref.ensures.value) (sound-If (scope_at c.args.scope.now) c.args.statement.now c.in-If.arms c.in-If.last c.in-If.is c.requires.sound).0)))),
+  (c.requires.objects, (c.requires.known, (c.requires.known_next, (c.requires.guard, subst (AreSoundBranches (scope_at c.args.scope.now)) (sym c.deref-in-If.ensures.value) (sound-If (scope_at c.args.scope.now) c.args.statement.now c.in-If.arms c.in-If.last c.in-If.is c.requires.sound).0)))),
 )
 
 pub run_statement-run_statement-requires : goal.run_statement-run_statement-requires
@@ -59,16 +63,16 @@ pub run_statement-returns-in_ok-run_statement-in-Some-clause-ran : goal.run_stat
 run_statement-returns-in_ok-run_statement-in-Some-clause-ran t c =
     let y = last_statement c.in-If.last in
     let same = last_run (scope_at c.args.scope.now) c.in-If.last c.in-Some.other c.in-Some.is c.deref-in-Some.result.now c.deref-in-Some.ensures in
-    ran (scope_at c.args.scope.now) (images_at c.args.table.now) (images_at c.args.next.now) c.args.terms.now c.args.guard (λ v. run (scope_at c.args.scope.now) (or_empty (arm_list c.deref.result.now y)) v) (images_at c.run_arms.new.table) (images_at c.run_arms.new.next) (images_at c.run_statement.new.table) (images_at c.run_statement.new.next) c.run_arms.new.terms c.run_statement.new.terms c.in_ok-rest-in-If.rest
+    ran (scope_at c.args.scope.now) (images_at c.args.table.now) (images_at c.args.next.now) c.args.terms.now c.args.guard (λ v. run (scope_at c.args.scope.now) (or_empty (arm_list c.deref-in-If.result.now y)) v) (images_at c.run_arms.new.table) (images_at c.run_arms.new.next) (images_at c.run_statement.new.table) (images_at c.run_statement.new.next) c.run_arms.new.terms c.run_statement.new.terms c.in_ok-rest-in-If.rest
     (λ v. run (scope_at c.args.scope.now) (or_empty y) v) (λ v. run (scope_at c.args.scope.now) (statement_of c.args.statement.now) v) (c.in_ok-rest-in-If.ensures.going y)
     (runs_as (scope_at c.args.scope.now) (images_at c.run_arms.new.table) (images_at c.run_arms.new.next) (images_at c.run_statement.new.table) (images_at c.run_statement.new.next) c.run_arms.new.terms c.run_statement.new.terms c.in_ok-rest-in-If.rest _ _ same c.in_ok-run_statement-in-Some.ensures.ran)
-    (λ v. run-If (scope_at c.args.scope.now) c.args.statement.now c.in-If.arms c.in-If.last c.in-If.is c.deref.result.now c.deref.ensures.value v)
+    (λ v. run-If (scope_at c.args.scope.now) c.args.statement.now c.in-If.arms c.in-If.last c.in-If.is c.deref-in-If.result.now c.deref-in-If.ensures.value v)
 
 pub run_statement-returns-in-None-clause-ran : goal.run_statement-returns-in-None-clause-ran
 run_statement-returns-in-None-clause-ran t c =
-    let going = subst (λ y. IsGoing (scope_at c.args.scope.now) (images_at c.args.table.now) (images_at c.args.next.now) c.args.terms.now Always c.args.guard (λ v. run (scope_at c.args.scope.now) (or_empty (arm_list c.deref.result.now y)) v) (images_at c.run_arms.new.table) (images_at c.run_arms.new.next) c.run_arms.new.terms c.in_ok-rest-in-If.rest (λ v. run (scope_at c.args.scope.now) (or_empty y) v)) (ap last_statement c.in-None.is) (c.in_ok-rest-in-If.ensures.going (last_statement c.in-If.last)) in
-    ended (scope_at c.args.scope.now) (images_at c.args.table.now) (images_at c.args.next.now) c.args.terms.now c.args.guard (λ v. run (scope_at c.args.scope.now) (or_empty (arm_list c.deref.result.now None)) v) (images_at c.run_arms.new.table) (images_at c.run_arms.new.next) c.run_arms.new.terms c.in_ok-rest-in-If.rest (λ v. run (scope_at c.args.scope.now) (statement_of c.args.statement.now) v) going
-    (λ v. ap (λ y. run (scope_at c.args.scope.now) (or_empty (arm_list c.deref.result.now y)) v) (sym (ap last_statement c.in-None.is)) ∙ run-If (scope_at c.args.scope.now) c.args.statement.now c.in-If.arms c.in-If.last c.in-If.is c.deref.result.now c.deref.ensures.value v)
+    let going = subst (λ y. IsGoing (scope_at c.args.scope.now) (images_at c.args.table.now) (images_at c.args.next.now) c.args.terms.now Always c.args.guard (λ v. run (scope_at c.args.scope.now) (or_empty (arm_list c.deref-in-If.result.now y)) v) (images_at c.run_arms.new.table) (images_at c.run_arms.new.next) c.run_arms.new.terms c.in_ok-rest-in-If.rest (λ v. run (scope_at c.args.scope.now) (or_empty y) v)) (ap last_statement c.in-None.is) (c.in_ok-rest-in-If.ensures.going (last_statement c.in-If.last)) in
+    ended (scope_at c.args.scope.now) (images_at c.args.table.now) (images_at c.args.next.now) c.args.terms.now c.args.guard (λ v. run (scope_at c.args.scope.now) (or_empty (arm_list c.deref-in-If.result.now None)) v) (images_at c.run_arms.new.table) (images_at c.run_arms.new.next) c.run_arms.new.terms c.in_ok-rest-in-If.rest (λ v. run (scope_at c.args.scope.now) (statement_of c.args.statement.now) v) going
+    (λ v. ap (λ y. run (scope_at c.args.scope.now) (or_empty (arm_list c.deref-in-If.result.now y)) v) (sym (ap last_statement c.in-None.is)) ∙ run-If (scope_at c.args.scope.now) c.args.statement.now c.in-If.arms c.in-If.last c.in-If.is c.deref-in-If.result.now c.deref-in-If.ensures.value v)
 
 pub run_statement-run_case-requires : goal.run_statement-run_case-requires
 run_statement-run_case-requires t c =
