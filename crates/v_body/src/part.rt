@@ -60,13 +60,14 @@ pub fn assigning<'s, 't>(
     ensures no_if { IfOk result (λ x. IsNoIf x.0) }
 {
     let (target, rest) = target(alloc, tokens)?;
+    let target = Box::new(alloc, target)?;
     if let Some(rest) = behind_mark(rest, Mark::Equals) {
         let (value, rest) = value(alloc, rest)?;
-        return Ok((Statement::Blocking(Box::new(alloc, target)?, value), rest));
+        return Ok((Statement::Blocking(target, value), rest));
     }
     let rest = mark(rest, Mark::LessEquals)?;
     let (value, rest) = value(alloc, rest)?;
-    Ok((Statement::Nonblocking(Box::new(alloc, target)?, value), rest))
+    Ok((Statement::Nonblocking(target, value), rest))
 }
 
 #[tactic(auto, unfolding(crate::specs::Words::behind_comma))]
