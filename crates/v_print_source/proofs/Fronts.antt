@@ -78,7 +78,7 @@ blocking_arm c s t e is u same r = ap (λ z. printed_assignment equals (target_o
 pub nonblocking_arm : (c : Bool) (s : Statement) (t : Box Target Global) (e : Expression) → s ≡ Nonblocking t e → (u : Target) → u ≡ t.value → (r : List Token)
     → printed_assignment less_equals (target_of u) (tree_of e) (mark semicolon ∷ r) ≡ printed_statement c (statement_of s) r
 unfolding printed_assignment
-nonblocking_arm c s t e is u same r = ap (λ z. printed_assignment equals (target_of z) (tree_of e) (mark semicolon ∷ r)) same ∙ same_statement c s (Nonblocking t e) is r
+nonblocking_arm c s t e is u same r = ap (λ z. printed_assignment less_equals (target_of z) (tree_of e) (mark semicolon ∷ r)) same ∙ same_statement c s (Nonblocking t e) is r
 
 pub if_arm : (c : Bool) (s : Statement) (v : Vec Arm Global) (o : Option (Box Statement Global)) (b : Box Statement Global) (x : Statement) (arms others : List Arm) → s ≡ If v o → o ≡ Some b → x ≡ b.value
     → arms ≡ v.items → others ≡ v.items → (r : List Token)
