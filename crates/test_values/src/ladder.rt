@@ -44,9 +44,10 @@ fn ladder(alloc: Global, before: usize) -> Result<Box<Statement<'static>>, Alloc
             statement: Statement::Empty,
         })?;
     }
+    let last = assignment(alloc, "q")?;
     arms.push(Arm {
         condition: number(1),
-        statement: assignment(alloc, "q")?,
+        statement: last,
     })?;
     let whole = Box::new(alloc, Statement::If(arms, None))?;
     Ok(whole)

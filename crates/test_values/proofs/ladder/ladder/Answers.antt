@@ -14,7 +14,7 @@ loop-preserved c =
 
 pub returns : goal.returns
 returns c = λ s o.
-    let last : Arm = record { condition = c.number-2.result; statement = c.assignment.result } in
-    let arms = subst AreSmallArms (sym c.in_ok-push-2.ensures.items) (one_more_arm c.loop.arms.items last c.loop.invariant c.number-2.ensures c.assignment.ensures) in
+    let last : Arm = record { condition = c.number-2.result; statement = c.in_ok-last.last } in
+    let arms = subst AreSmallArms (sym c.in_ok-push-2.ensures.items) (one_more_arm c.loop.arms.items last c.loop.invariant c.number-2.ensures c.in_ok-last.ensures) in
     let whole = subst (IsNarrowStatement s) (sym (statement_of-If c.push-2.new.self None)) (arms s None o tt) in
     subst (λ x. IsNarrowStatement s (statement_of x)) (sym c.in_ok-whole.ensures.ok) whole
