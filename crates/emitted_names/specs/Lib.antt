@@ -1,0 +1,5 @@
+pub mod Ids
+pub mod Within
+pub mod Parts
+pub mod Named
+pub mod Keeping
