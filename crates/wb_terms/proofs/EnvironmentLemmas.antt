@@ -33,7 +33,7 @@ differs : (t : Bool) (s : Sort) (o : Option Sort) → cond t (Some s) o ≡ None
 differs true s o h = cc
 differs false s o h = (refl, h)
 
-absent_at : (ns : Entries Sort) (c : Name) (k : ℕ) (d : Name × Sort) → entry_of ns c ≡ None → k < length ns → same_name (get_or ns k d).0 c ≡ false
+pub absent_at : (ns : Entries Sort) (c : Name) (k : ℕ) (d : Name × Sort) → entry_of ns c ≡ None → k < length ns → same_name (get_or ns k d).0 c ≡ false
 absent_at [] c k d h b = absurd (omega arith)
 absent_at (n ∷ ns) c zero d h b = (differs (same_name n.0 c) n.1 (entry_of ns c) h).0
 absent_at (n ∷ ns) c (suc k) d h b = absent_at ns c k d (differs (same_name n.0 c) n.1 (entry_of ns c) h).1 (omega arith)

@@ -3,3 +3,4 @@ pub mod InRange
 pub mod EnvironmentLemmas
 pub mod HeldLemmas
 pub mod ValueSorts
+pub mod Renamed

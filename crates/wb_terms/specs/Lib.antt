@@ -4,3 +4,4 @@ pub mod Environment
 pub mod Entries
 pub mod Held
 pub mod Walk
+pub mod Renamed

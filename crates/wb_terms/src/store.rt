@@ -1,10 +1,12 @@
 //! The store of terms: names are declared, terms are put on earlier ones, and each keeps its sort.
 
-ghost use Rattle.std.specs.Prelude.{◌≡◌, ◌<◌, ◌↔◌, [], ◌∷◌, ◌++◌, false, length, take, IfOk, OnOk, OnErr, IsSome, IsTrue, option_map, string_bytes, slice_get, slice_index_or, is_some};
-ghost use Rattle.wb_values.specs.Value.{truth, entry_of};
-ghost use Rattle.model_meaning.specs.Term.{is_sort, sort_of};
+ghost use Rattle.std.specs.Prelude.{◌≡◌, ℕ, ◌<◌, ◌↔◌, List, [], ◌∷◌, ◌++◌, false, map, length, take, IfOk, OnOk, OnErr, IsSome, IsTrue, option_map, string_bytes, slice_get, slice_index_or, is_some};
+ghost use Rattle.wb_values.specs.Value.{Value, truth, entry_of, valuation_of};
+ghost use Rattle.model_meaning.specs.Term.{is_sort, sort_of, val};
 ghost use Rattle.wb_terms.specs.Sort.{as_sort};
 ghost use Rattle.wb_terms.specs.Graph.{IsOver, HasDistinctNames, tree, trees_of, tree_of_node, with_name, with_node};
+ghost use Rattle.wb_terms.specs.Environment.{values_by_name};
+ghost use Rattle.wb_terms.specs.Renamed.{renamed};
 
 use crate::NoMemory;
 use crate::nodes::{NameId, Node, TermId};
@@ -29,6 +31,27 @@ pub enum PutStop {
 pub(crate) struct Declared {
     name: String,
     sort: Sort,
+}
+
+impl Declared {
+    ghost use Rattle.wb_terms.specs.Entries.{name_of};
+
+    /// These names, each with the sort of the declared name at its place.
+    fn renamed(
+        alloc: Global,
+        olds: &[Declared],
+        names: Vec<String>,
+    ) -> Result<Vec<Declared>, NoMemory>
+        requires { length names.items ≡ length olds.now }
+        ensures { IfOk result (λ news. map name_of news.items ≡ renamed (map string_bytes names.items) (map name_of olds.now)) }
+    {
+        let mut news = Vec::with_capacity(alloc, olds.len())?;
+        for name in names {
+            let sort = olds[news.len()].sort;
+            news.push(Declared { name, sort })?;
+        }
+        Ok(news)
+    }
 }
 
 /// A term and its sort.
@@ -227,5 +250,20 @@ impl Terms {
         ensures trees { trees_of self.new ≡ take len (trees_of self.old) }
     {
         self.terms.truncate(len as usize);
+    }
+
+    /// The store with these names in place of its own, in the order of declaration. Each keeps its sort, and each term its number.
+    /// A term is worth what it was where the names at the same places have the same values. The terms are moved, not copied.
+    pub fn with_names(self, alloc: Global, names: Vec<String>) -> Result<Terms, NoMemory>
+        requires count { length names.items ≡ length self.names }
+        requires distinct { HasDistinctNames (renamed (map string_bytes names.items) self.names) }
+        ensures names { IfOk result (λ t. t ≡ record self { names = renamed (map string_bytes names.items) self.names }) }
+        ensures sorts { IfOk result (λ t. (k : ℕ) → k < length t.nodes → sort_of (tree t k) ≡ sort_of (tree self k)) }
+        ensures values { IfOk result (λ t. (vs : List Value) → length vs ≡ length t.names → (k : ℕ) → k < length t.nodes
+            → val (tree t k) (valuation_of (values_by_name t.names vs)) ≡ val (tree self k) (valuation_of (values_by_name self.names vs))) }
+    {
+        let Terms { names: olds, terms } = self;
+        let news = Declared::renamed(alloc, &olds, names)?;
+        Ok(Terms { names: news, terms })
     }
 }
