@@ -32,7 +32,7 @@ use Rattle.v_reach.specs.Coming.{ComesFrom}
 use Rattle.v_flat.specs.Paths.{paths_of}
 use Rattle.v_flat.specs.Entries.{DottedEntry, module_entries, spot_entries, dotted_entries, SpotNames, spot_names, names_of, naming_of}
 use Rattle.v_flat.specs.Items.{naming_at}
-use Rattle.v_flat.specs.Whole.{IsPlacing, AreCalled, IsFlatDesign}
+use Rattle.v_flat.specs.Whole.{IsPlacing, AreCalled, IsPlainOnTop, IsFlatDesign}
 use Rattle.v_flat.proofs.Places.{number_at}
 use Rattle.v_flat.proofs.Named.{keys, declared_entry, constant_entry, renamed_there, naming_found, get_names}
 use Rattle.place_kinds.specs.Known.{HasSoundPlaces, PlacesArePlaced, PlacedAreNumbered}
@@ -190,7 +190,7 @@ module _ (d : Design) (spots : List Spot) (h : StandsAt d spots) where
       let path : one.path ≡ [] = ap (λ (y : Placed). y.path) one.is_placed in
       get_names f (paths_of spots) spots 0 [] top.0 (subst (λ q. slice_get (paths_of spots) 0 ≡ Some q) path one.is_at.is_there) top.1
 
-  module _ (numbered : PlacedAreNumbered) (f : Naming) (made : List SpotNames) (called : AreCalled d f spots made) (inputs : List Name)
+  module _ (numbered : PlacedAreNumbered) (f : Naming) (plain_top : IsPlainOnTop f) (made : List SpotNames) (called : AreCalled d f spots made) (inputs : List Name)
       (are_inputs : (x : Spot) (z : SpotNames) → slice_get spots 0 ≡ Some x → slice_get made 0 ≡ Some z → inputs ≡ inputs_of x.of_module z.entries) where
     are_top_inputs : inputs ≡ inputs_of top.0.of_module (dotted_entries (f [] []) (spot_entries top.0))
     are_top_inputs = are_inputs top.0 (spot_names (f [] []) top.0) top.1 (ap (λ ms. slice_get ms 0) called.names ∙ top_names f)
@@ -204,13 +204,13 @@ module _ (d : Design) (spots : List Spot) (h : StandsAt d spots) where
             port = n;
             is_top = top_there numbered top.0 top.1;
             is_port = input_port top.0.of_module (dotted_entries (f [] []) (spot_entries top.0)) n (among_contains _ n (subst (λ ns. Contains ns n) are_top_inputs c));
-            is_new = called.plain n;
+            is_new = plain_top n;
           }
 
       back : IsInputUnder d f n → Contains inputs n
       back u =
           let same : u.top ≡ placed_by [] top.0 = same_some u.top (placed_by [] top.0) (sym u.is_top ∙ top_there numbered top.0 top.1) in
-          let name : u.port ≡ n = sym (called.plain u.port) ∙ u.is_new in
+          let name : u.port ≡ n = sym (plain_top u.port) ∙ u.is_new in
           let port : HasPort top.0.of_module n input =
           subst (λ m. HasPort top.0.of_module m input) name (subst (λ (y : Placed). HasPort y.of_module u.port input) same u.is_port) in
           let among : IsAmong (keys (spot_entries top.0)) n =

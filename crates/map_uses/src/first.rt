@@ -1,6 +1,6 @@
 //! The first expression of a map that uses an input.
 
-ghost use Rattle.std.specs.Prelude.{◌≡◌, false, [], length, map, IsTrue, IfOk};
+ghost use Rattle.std.specs.Prelude.{◌≡◌, true, false, [], length, map, IsTrue, IfOk};
 ghost use Rattle.verilog_meaning.specs.Settled.{Design};
 ghost use Rattle.v_syntax.specs.Source.{source_of};
 ghost use Rattle.v_instances.specs.Texts.{texts};
@@ -53,7 +53,7 @@ fn first_numbered<'t, 'a, 's: 'a>(
 ) -> Result<Option<usize>, AllocError>
     requires count { length names.now.places.items ≡ length places.now }
     requires called { (d : Design) → IsPlacing d (spots_of places.now)
-        → AreCalled d (numbered (spots_of places.now)) (spots_of places.now) (map names_in names.now.places.items) }
+        → AreCalled d (numbered true (spots_of places.now)) (spots_of places.now) (map names_in names.now.places.items) }
     requires flawless { (d : Design) × AreFlawlessWith d interfaces.now (spots_of places.now) expressions.now known.now }
     ensures { IfOk result (λ o. (d : Design) → AreFlawlessWith d interfaces.now (spots_of places.now) expressions.now known.now
         → IsFirstUser d (asked_list expressions.now) asked.now o) }
@@ -83,7 +83,7 @@ pub fn first_user<'t, 's>(
         return Ok(None);
     }
     let interfaces = interfaces_of(alloc, tree)?;
-    let names = numbered_names(alloc, places)?;
+    let names = numbered_names(alloc, places, true)?;
     let user = first_numbered(
         places,
         &names,

@@ -1,6 +1,6 @@
 //! From the places of a design to the bits that come from inputs of its top.
 
-ghost use Rattle.std.specs.Prelude.{◌≡◌, length, map, IfOk};
+ghost use Rattle.std.specs.Prelude.{◌≡◌, true, length, map, IfOk};
 ghost use Rattle.verilog_meaning.specs.Settled.{Design};
 ghost use Rattle.v_syntax.specs.Source.{item_of};
 ghost use Rattle.v_masks.specs.Masks.{masked};
@@ -39,7 +39,7 @@ pub(crate) fn table_of<'t, 'a, 's: 'a>(
 ) -> Result<InputTable<'a, 's>, AllocError>
     requires count { length names.now.places.items ≡ length places.now }
     requires called { (d : Design) → IsPlacing d (spots_of places.now)
-        → AreCalled d (numbered (spots_of places.now)) (spots_of places.now) (map names_in names.now.places.items) }
+        → AreCalled d (numbered true (spots_of places.now)) (spots_of places.now) (map names_in names.now.places.items) }
     requires stands { (d : Design) × StandsWith interfaces.now (spots_of places.now) d }
     ensures { IfOk result (λ t. (d : Design) → StandsWith interfaces.now (spots_of places.now) d → TellsInputs d (new_name_in t) (masked t.marked)) }
 {

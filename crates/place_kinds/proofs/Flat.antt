@@ -46,7 +46,7 @@ use Rattle.v_loops.specs.OneModule.{DependsIn, DependsFarIn}
 use Rattle.v_places.specs.Below.{Spot}
 use Rattle.v_places.specs.Places.{placed_by}
 use Rattle.v_flat.specs.Paths.{placed_of}
-use Rattle.v_flat.specs.Whole.{IsPlacing, IsFlatDesign}
+use Rattle.v_flat.specs.Whole.{IsPlacing, IsPlainOnTop, IsFlatDesign}
 use Rattle.place_kinds.specs.Known.{HasSoundPlaces, AreNumbered}
 use Rattle.place_kinds.specs.Flat.{FlatDesignsAreReady, UndrivenBitsAreFlat, LoopsAreFlat}
 use Rattle.place_kinds.proofs.Known.{are_numbered, is_placing, top_path}
@@ -283,7 +283,7 @@ some_same e = cc
 -- ---- the design
 
 module _ (d : Design) (called : Naming) (spots : List Spot) (s : Scope) (items : List Item) (names : ModuleScope) (first : Spot) (h : HasSoundPlaces d spots)
-    (flat : IsFlatDesign d called s items) (is_first : slice_get spots 0 ≡ Some first) (known : HasNamesOf names first.of_module) where
+    (plain_top : IsPlainOnTop called) (flat : IsFlatDesign d called s items) (is_first : slice_get spots 0 ≡ Some first) (known : HasNamesOf names first.of_module) where
   at_top : IsPlacedIn d (placed_by [] first)
   at_top =
       let n : AreNumbered d spots = are_numbered d spots h.places h.sound in
@@ -292,7 +292,7 @@ module _ (d : Design) (called : Naming) (spots : List Spot) (s : Scope) (items :
 
   -- the top's names are called what they are
   top_called : (n : Name) → called (placed_by [] first).path n ≡ n
-  top_called n = flat.plain n
+  top_called n = plain_top n
 
   -- a port of the top has its own name in the one scope
   of_top : (p : Placed) (m : Name) (way : Direction) (n : Name) → IsPlacedIn d p → IsNameOf p m → HasPort first.of_module n way → called p.path m ≡ n
@@ -438,7 +438,7 @@ module _ (d : Design) (called : Naming) (spots : List Spot) (s : Scope) (items :
               same = some_same (sym g.is_placed ∙ (ap (at_path d) r.0.at_top ∙ at_top))
 
               plain : called g.place.path g.name ≡ g.name
-              plain = ap (λ q. called q g.name) r.0.at_top ∙ flat.plain g.name
+              plain = ap (λ q. called q g.name) r.0.at_top ∙ plain_top g.name
 
               out : is_output_name names (called g.place.path g.name) ≡ true
               out =
@@ -512,7 +512,7 @@ module _ (d : Design) (called : Naming) (spots : List Spot) (s : Scope) (items :
 
       needs : own.place.path ≡ [] → (own.own ≡ d.clock) ⊎ HasPort own.place.of_module own.own input → ⊥
       needs path e =
-          let plain : own.own ≡ g.name = sym (flat.plain own.own) ∙ ap (λ q. called q own.own) (sym path) ∙ own.is_name in
+          let plain : own.own ≡ g.name = sym (plain_top own.own) ∙ ap (λ q. called q own.own) (sym path) ∙ own.is_name in
           let same : own.place ≡ placed_by [] first = some_same (sym at ∙ (ap (at_path d) path ∙ at_top)) in
           elim e as (λ _. ⊥) [
             | inl i ↦ true≢false (sym (subst (λ k. same_name k g.name ≡ true) (sym plain ∙ i) (is_same g.name)) ∙ not-true (same_name d.clock g.name) others.0)
@@ -523,8 +523,8 @@ module _ (d : Design) (called : Naming) (spots : List Spot) (s : Scope) (items :
           ]
 
 pub undriven_bits_are_flat : UndrivenBitsAreFlat
-undriven_bits_are_flat d called spots s items names top h flat is_first known =
+undriven_bits_are_flat d called spots s items names top h plain_top flat is_first known =
     let law = undriven_bits_are_the_same d called s (assignments items) (combinational_blocks items) (clocked_blocks items) h.sound.names_declared h.sound.names_once h.ports flat.naming flat.flat in (
-      (λ u. there d called spots s items names top h flat is_first known (law.0 u)),
-      (λ u. law.1 (back d called spots s items names top h flat is_first known u)),
+      (λ u. there d called spots s items names top h plain_top flat is_first known (law.0 u)),
+      (λ u. law.1 (back d called spots s items names top h plain_top flat is_first known u)),
     )

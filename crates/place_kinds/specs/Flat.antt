@@ -12,7 +12,7 @@ use Rattle.v_undriven.specs.Undriven.{HasUndrivenBit}
 use Rattle.v_loops.specs.OneModule.{HasLoopIn}
 use Rattle.v_places.specs.Below.{Spot}
 use Rattle.flat_designs.specs.Flat.{Naming}
-use Rattle.v_flat.specs.Whole.{IsFlatDesign}
+use Rattle.v_flat.specs.Whole.{IsPlainOnTop, IsFlatDesign}
 use Rattle.flat_fitting.specs.Fitting.{AreFitForAll}
 use Rattle.place_kinds.specs.Known.{HasSoundPlaces}
 
@@ -25,11 +25,12 @@ abbrev pub FlatDesignsAreReady : Type 0
 FlatDesignsAreReady =
     (d : Design) (called : Naming) (spots : List Spot) (s : Scope) (items : List Item) → HasSoundPlaces d spots → IsFlatDesign d called s items → FlatIsReady s items
 
--- The design leaves a bit without a driver exactly where its items in one scope do, where the table has the names of its top.
+-- The design leaves a bit without a driver exactly where its items in one scope do, where the table has the names of its top, which are called
+-- there what they are.
 abbrev pub UndrivenBitsAreFlat : Type 0
 UndrivenBitsAreFlat =
     (d : Design) (called : Naming) (spots : List Spot) (s : Scope) (items : List Item) (names : ModuleScope) (top : Spot) → HasSoundPlaces d spots
-    → IsFlatDesign d called s items → slice_get spots 0 ≡ Some top → HasNamesOf names top.of_module → HasUndriven d ↔ HasUndrivenBit s names d.clock items
+    → IsPlainOnTop called → IsFlatDesign d called s items → slice_get spots 0 ≡ Some top → HasNamesOf names top.of_module → HasUndriven d ↔ HasUndrivenBit s names d.clock items
 
 -- It has a combinational loop exactly where these have one.
 abbrev pub LoopsAreFlat : Type 0

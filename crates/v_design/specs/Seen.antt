@@ -15,7 +15,7 @@ parts_of d = record {
   register_count = d.register_count;
   next = map (λ id. id.0) d.next.items;
   bits = map counted_bits d.bits.items;
-  settled = terms_at d.settled;
+  settled = terms_at d.settled.items;
   outputs = map string_bytes d.outputs.items;
 }
 

@@ -7,7 +7,8 @@ ghost use Rattle.v_design.specs.Bits.{counted_bits};
 ghost use Rattle.v_design.specs.Parts.{are_bits_for, are_terms_of, are_words, is_within};
 
 use crate::bits::RegisterBits;
-use std::collections::BTreeMap;
+use crate::place::PlaceTerms;
+use crate::table::term_at;
 use wb_terms::{NameId, TermId, Terms};
 
 /// A design as terms. The names of its store are its registers, and then the inputs of its top but for the clock.
@@ -21,15 +22,15 @@ pub struct Design {
     pub next: Vec<TermId>,
     /// How the words of each register are addressed, and which of their bits count, in the order of the registers.
     pub bits: Vec<RegisterBits>,
-    /// The term of what each net and variable settles to, by its dotted name.
-    pub settled: BTreeMap<String, TermId>,
+    /// The terms of what nets and variables settle to, for each place where a module stands. The first place is that of the top.
+    pub settled: Vec<PlaceTerms>,
     /// The outputs of the top, in the order of its ports.
     pub outputs: Vec<String>,
     pub ghost counted: { register_count ≤ length terms.names },
     pub ghost sorted: { IsTrue (are_terms_of terms (take register_count terms.names) (map (λ id. id.0) next.items)) },
     pub ghost counting: { IsTrue (are_bits_for (take register_count terms.names) (map counted_bits bits.items)) },
     pub ghost words: { IsTrue (are_words (drop register_count terms.names)) },
-    pub ghost within: { (n : List ℕ) → IsTrue (is_within terms (terms_at settled n)) },
+    pub ghost within: { (n : List ℕ) → IsTrue (is_within terms (terms_at settled.items n)) },
 }
 
 impl Design {
@@ -62,6 +63,6 @@ impl Design {
         ensures term { option_map (λ id. id.0) result ≡ (parts_of self.now).settled path.now }
         ensures within { IfSome result (λ id. id.0 < length self.now.terms.nodes) }
     {
-        self.settled.get(path).copied()
+        term_at(&self.settled, path)
     }
 }

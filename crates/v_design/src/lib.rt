@@ -3,9 +3,12 @@
 
 mod bits;
 mod design;
+mod place;
+mod table;
 mod values;
 
 pub use bits::RegisterBits;
 pub use design::Design;
+pub use place::PlaceTerms;
 pub use values::{Inputs, Registers};
 pub use wb_terms::NoMemory;

@@ -1,5 +1,5 @@
 -- The parts of a design that a lowered module gives, and what holds of them.
-use Rattle.std.proofs.Common.{◌≡◌, ◌∙◌, ◌+◌, ◌^◌, ◌<◌, ◌≤◌, ◌%◌, ◌/◌, ℕ, suc, refl, ap, sym, subst, Bool, true, false, cond, not, ◌&&◌, nat_lt, nat_le, ◌==◌, min, take, drop, length, slice_index, List, [], ◌∷◌, ◌++◌, map, ◌⊎◌, inl, inr, Option, Some, None, is_some, is_none, unwrap_or, option_map, arith, mod-lt, pow_pos}
+use Rattle.std.proofs.Common.{◌≡◌, ◌∙◌, ◌+◌, ◌^◌, ◌<◌, ◌≤◌, ◌%◌, ◌/◌, ℕ, suc, refl, ap, sym, subst, Bool, true, false, not, ◌&&◌, nat_lt, nat_le, ◌==◌, min, take, drop, length, slice_index, List, [], ◌∷◌, ◌++◌, map, ◌⊎◌, inl, inr, Option, Some, None, is_some, is_none, unwrap_or, option_map, arith, mod-lt, pow_pos}
 use Rattle.std.specs.Int.{bit_at}
 use Rattle.std.proofs.lemmas.Bool.{cases_lt, and_parts, and_from, false≢true, true≢false}
 use Rattle.std.proofs.lemmas.Bool.Decides.{nat_tests}
@@ -10,7 +10,6 @@ use Rattle.model_meaning.specs.Term.{sort_of, same_sort}
 use Rattle.verilog_trees.specs.Syntax.{Statement}
 use Rattle.verilog_meaning.specs.Expression.{Object, Scope, object_width, is_memory}
 use Rattle.verilog_meaning.specs.Register.{word_count, words_between, is_set, is_bit_of, counts, one_may_assign, clocked_blocks}
-use Rattle.verilog_designs.specs.Names.{is_among}
 use Rattle.verilog_unique.proofs.Descent.{IsAmong}
 use Rattle.wb_terms.specs.Graph.{Graph, tree, HasDistinctNames}
 use Rattle.wb_terms.specs.declared.nodes.TermId.{TermId}
@@ -20,7 +19,7 @@ use Rattle.v_design.specs.Registers.{CountedBits}
 use Rattle.v_design.specs.Parts.{Parts, has_sort, is_term_of, are_terms_of, is_within, is_word, are_words, are_bits_of, are_bits_for}
 use Rattle.v_registers.specs.Registers.{IsRegister, AreMasks, Counted}
 use Rattle.v_elab.specs.Names.{AreEntriesOf, AreDistinct, ArePlain, HasSmallAddresses, HaveTerms, chosen}
-use Rattle.v_elab.specs.Elaborated.{Body, IsElaborated, register_names, bits_of, settled_at}
+use Rattle.v_elab.specs.Elaborated.{Body, IsElaborated, register_names, bits_of}
 use Rattle.v_elab.specs.Begun.{IsLowered}
 use Rattle.v_elab.proofs.Entries.{first_entries, last_entries, not_named}
 use Rattle.v_elab.proofs.Once.{test_among, found}
@@ -200,10 +199,6 @@ pub some_of : (ids : List TermId) → map (λ (i : ℕ). Some i) (map (λ (id : 
 some_of [] = refl
 some_of (id ∷ ids) = ap (λ xs. Some id.0 ∷ xs) (some_of ids)
 
-pub settled_same : (b : Body) (ds : List Name) (after : Images) (n : Name) (o : Option ℕ) → ds ≡ b.declared
-    → o ≡ cond (is_among ds n && not (is_memory (b.scope n))) (after n) None → o ≡ settled_at b after n
-settled_same b ds after n o d h = h ∙ ap (λ z. cond (is_among z n && not (is_memory (b.scope n))) (after n) None) d
-
 -- ---- what is lowered
 
 module _ (b : Body) (f : Name → Bool) (cs : List Counted) (g : Graph) (after next : Images) (x : IsLowered b f cs g after next) where
@@ -245,12 +240,8 @@ module _ (b : Body) (f : Name → Bool) (cs : List Counted) (g : Graph) (after n
       ap (λ j. are_terms_of g (take j g.names) ids) e
       ∙ terms_of b.scope g next x.updated.known_next.image (take (length cs) g.names) (register_names cs) ids first_names h
 
-  pub within_so : (o : Option ℕ) (n : Name) → o ≡ settled_at b after n → is_within g o ≡ true
-  within_so o n e = ap (is_within g) e ∙ by (is_among b.declared n && not (is_memory (b.scope n)))
-    where
-      by : (t : Bool) → is_within g (cond t (after n) None) ≡ true
-      by true = inside b.scope g after x.updated.known.image (after n) n refl
-      by false = refl
+  pub within_so : (n : Name) → is_within g (after n) ≡ true
+  within_so n = inside b.scope g after x.updated.known.image (after n) n refl
 
   module _ (apart : (n : Name) → f n ≡ true → ¬ IsRegister b.scope (clocked_blocks b.items) n) where
     known : AreRegistersOf b.scope (clocked_blocks b.items) f cs × AreUncounted b.scope (clocked_blocks b.items) f x.has_begun.others
@@ -269,7 +260,7 @@ module _ (b : Body) (f : Name → Bool) (cs : List Counted) (g : Graph) (after n
         ∙ words_of b.scope (drop (length cs) g.names) (chosen f x.has_begun.others) last_names (chosen_plain b.scope (clocked_blocks b.items) f x.has_begun.others known.1)
 
   pub elaborated : (e : Parts) (outputs : List Name) → AreDistinct b.declared → e.graph ≡ g → e.register_count ≡ length cs → e.bits ≡ map (bits_of b.scope) cs → e.outputs ≡ outputs
-      → ((n : Name) → e.settled n ≡ settled_at b after n) → map (λ id. Some id) e.next ≡ map next (register_names cs) → IsElaborated b f outputs e
+      → ((n : Name) → e.settled n ≡ after n) → map (λ id. Some id) e.next ≡ map next (register_names cs) → IsElaborated b f outputs e
   elaborated e outputs distinct same count bits outputs_are settled terms =
       record {
         distinct = distinct_of b.scope e.graph.names (register_names cs ++ chosen f x.has_begun.others) stored

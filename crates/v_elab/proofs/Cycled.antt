@@ -1,5 +1,5 @@
 -- What a cycle makes of what was elaborated.
-use Rattle.std.proofs.Common.{◌≡◌, ◌∙◌, ℕ, ◌<◌, zero, suc, refl, ap, sym, Bool, true, false, cond, not, ◌&&◌, map, drop, slice_index, List, [], ◌∷◌, ◌⊎◌, inl, inr, Option, Some, None, arith}
+use Rattle.std.proofs.Common.{◌≡◌, ◌∙◌, ℕ, ◌<◌, zero, suc, refl, ap, sym, Bool, true, false, ◌&&◌, map, drop, slice_index, List, [], ◌∷◌, ◌⊎◌, inl, inr, Option, Some, arith}
 use Rattle.std.specs.Prelude.{IsTrue}
 use Rattle.std.proofs.lemmas.Bool.{cases_Bool, cases_lt, false≢true, true≢false}
 use Rattle.std.proofs.lemmas.Bool.Decides.{nat_tests}
@@ -122,7 +122,7 @@ module _ (b : Body) (f : Name → Bool) (os : List Name) (e : Parts) (x : IsElab
   pub settled_term : (n : Name) → IsAmong ds n → is_memory (s n) ≡ false → (id : ℕ) × (e.settled n ≡ Some id) × (x.after n ≡ Some id)
   settled_term n h plain =
       let g = an_image (x.after n) (x.updated.names n ∙ x.evaluated.names n ∙ x.all_given n ∙ test_among ds n h) in
-      (g.0, x.settled n ∙ ap (λ t. cond t (x.after n) None) (ap (λ t. t && not (is_memory (s n))) (test_among ds n h) ∙ ap not plain) ∙ g.1, g.1)
+      (g.0, x.settled n ∙ g.1, g.1)
 
   module _ (no_memory : HasNoConstantMemory b.scope) (registers inputs v : Valuation) (fit : FitRegisters e registers)
       (fit_inputs : (n : Name) → f n ≡ true → IsValueOf (b.scope n) (inputs n)) (settled : HasSettled b f registers inputs v) where

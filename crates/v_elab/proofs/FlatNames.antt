@@ -1,4 +1,5 @@
--- The names in order are those of all nets and variables of a design, each once, and those that are registers stand in their order.
+-- The names in order are those of all nets and variables of a design, each once, and those that are registers stand in their order, whatever
+-- they are called.
 use Rattle.std.proofs.Common.{◌≡◌, ◌∙◌, suc, ◌≤◌, refl, ap, sym, subst, arith, Bool, true, false, cond, List, [], ◌∷◌, ◌++◌, length, ◌⊎◌, inl, inr, Option, Some, None}
 use Rattle.std.specs.Prelude.{is_some, ℤ, ⊤}
 use Rattle.std.proofs.lemmas.Bool.{true≢false}
@@ -6,16 +7,17 @@ use Rattle.std.proofs.lemmas.List.{map-append}
 use Rattle.wb_values.specs.Value.{Name}
 use Rattle.verilog_trees.specs.Syntax.{Statement, Module}
 use Rattle.verilog_meaning.specs.Expression.{Scope}
-use Rattle.verilog_meaning.specs.Hierarchy.{PathStep, instance_step, Placed, Instance, instance_named, instance_reached, dotted}
+use Rattle.verilog_meaning.specs.Hierarchy.{PathStep, instance_step, Placed, Instance, instance_named, instance_reached}
 use Rattle.verilog_meaning.specs.Settled.{Design, at_path, IsPlacedIn, IsDeclared}
 use Rattle.verilog_registers.specs.Registers as design
 use Rattle.verilog_registers.specs.Order.{Member, net, instance, members_in, AreInOrder, end as at_end, register as a_register, other as another, below as goes_below}
 use Rattle.verilog_designs.specs.Names.{is_among}
 use Rattle.verilog_unique.proofs.Descent.{IsAmong, among_left, among_right, among_either}
 use Rattle.verilog_unique.proofs.Paths.{step_of, stands_at, placed_in}
-use Rattle.flat_designs.specs.Flat.{IsNaming}
+use Rattle.flat_designs.specs.Flat.{Naming, IsNaming}
 use Rattle.v_registers.specs.Registers.{IsRegister, Counted, IsCounted, AreSplit}
 use Rattle.v_elab.specs.Names.{AreDistinct}
+use Rattle.v_elab.specs.Told.{AreToldBy}
 use Rattle.v_elab.specs.Elaborated.{register_names}
 use Rattle.v_ordered.specs.Order.{AreNamesInOrder}
 use Rattle.v_elab.proofs.Once.{test_among, among_test}
@@ -63,27 +65,27 @@ goes_further a u (v ∷ path) (inl e) = inr (subst (GoesOn a) (tail_of e) (goes_
     tail_of e = cc
 goes_further a u (v ∷ path) (inr h) = inr (goes_further a u path h)
 
--- a net or variable of a module that stands in the design, under its dotted name
-pub record IsNetOf (d : Design) (name : Name) : Type 0 where
+-- a net or variable of a module that stands in the design, by what it is called
+pub record IsNetOf (d : Design) (called : Naming) (name : Name) : Type 0 where
   pub place : Placed
   pub of_name : Name
   pub is_placed : IsPlacedIn d place
   pub is_declared : IsDeclared place of_name
-  pub same : dotted place.path of_name ≡ name
+  pub same : called place.path of_name ≡ name
 
 -- It is one of these members of module p, or stands below one of them.
 abbrev IsOfMembers : Placed → List Member → Placed → Name → Type 0
 IsOfMembers p xs q n = ((q ≡ p) × IsAmong xs (net n)) ⊎ ((u : Name) × IsAmong xs (instance u) × GoesOn (instance_step u ∷ p.path) q.path)
 
-pub record IsWithin (d : Design) (p : Placed) (xs : List Member) (name : Name) : Type 0 where
-  pub of : IsNetOf d name
+pub record IsWithin (d : Design) (called : Naming) (p : Placed) (xs : List Member) (name : Name) : Type 0 where
+  pub of : IsNetOf d called name
   pub of_members : IsOfMembers p xs of.place of.of_name
 
 more_members : (p : Placed) (x : Member) (xs : List Member) (q : Placed) (n : Name) → IsOfMembers p xs q n → IsOfMembers p (x ∷ xs) q n
 more_members p x xs q n (inl h) = inl (h.0, inr h.1)
 more_members p x xs q n (inr h) = inr (h.0, inr h.1, h.2)
 
-module _ (d : Design) where
+module _ (d : Design) (called : Naming) where
   -- the nets among the members are declared by the module
   abbrev AreMembersOf : Placed → List Member → Type 0
   AreMembersOf p xs = (n : Name) → IsAmong xs (net n) → IsDeclared p n
@@ -101,8 +103,8 @@ module _ (d : Design) where
       goes_further (instance_step u ∷ p.path) (instance_step g.0) z.path
       (subst (λ path. GoesOn (instance_step g.0 ∷ path) z.path) (below_path p q u to) g.2)
 
-  pub each_within : (p : Placed) (xs : List Member) (ns : List Name) → IsPlacedIn d p → AreMembersOf p xs → AreNamesInOrder d p xs ns
-      → (name : Name) → IsAmong ns name → IsWithin d p xs name
+  pub each_within : (p : Placed) (xs : List Member) (ns : List Name) → IsPlacedIn d p → AreMembersOf p xs → AreNamesInOrder d called p xs ns
+      → (name : Name) → IsAmong ns name → IsWithin d called p xs name
   each_within _ _ _ at own (AreNamesInOrder.end p) name h = absurd h
   each_within _ _ _ at own (AreNamesInOrder.net_of p n xs ns rest) name (inl e) =
       record {
@@ -116,8 +118,8 @@ module _ (d : Design) where
       by (each_within q (members_in q.of_module) ms (placed_in d (instance_step u ∷ p.path) q to) (λ n g. net_is_declared q.of_module n g) inner name)
       (each_within p xs ns at (λ n g. own n (inr g)) rest name) (among_either ms ns name h)
     where
-      by : (IsAmong ms name → IsWithin d q (members_in q.of_module) name) → (IsAmong ns name → IsWithin d p xs name) → IsAmong ms name ⊎ IsAmong ns name
-          → IsWithin d p (instance u ∷ xs) name
+      by : (IsAmong ms name → IsWithin d called q (members_in q.of_module) name) → (IsAmong ns name → IsWithin d called p xs name) → IsAmong ms name ⊎ IsAmong ns name
+          → IsWithin d called p (instance u ∷ xs) name
       by f g (inl k) =
           let r = f k in
           record { of = r.of; of_members = inr (u, inl refl, deeper p q u to r.of.place r.of.of_name r.of_members) }
@@ -127,9 +129,9 @@ module _ (d : Design) where
 
   -- ---- all names
 
-  net_named : (p : Placed) (xs : List Member) (ns : List Name) (n : Name) → AreNamesInOrder d p xs ns → IsAmong xs (net n) → IsAmong ns (dotted p.path n)
+  net_named : (p : Placed) (xs : List Member) (ns : List Name) (n : Name) → AreNamesInOrder d called p xs ns → IsAmong xs (net n) → IsAmong ns (called p.path n)
   net_named _ _ _ n (AreNamesInOrder.end p) h = absurd h
-  net_named _ _ _ n (AreNamesInOrder.net_of p m xs ns rest) (inl e) = inl (ap (dotted p.path) (same e))
+  net_named _ _ _ n (AreNamesInOrder.net_of p m xs ns rest) (inl e) = inl (ap (called p.path) (same e))
     where
       same : net m ≡ net n → m ≡ n
       same i = cc
@@ -138,12 +140,12 @@ module _ (d : Design) where
     where
       no : instance u ≡ net n → ⊥
       no i = cc
-  net_named _ _ _ n (AreNamesInOrder.below p q u xs ms ns to inner rest) (inr h) = among_right ms ns (dotted p.path n) (net_named p xs ns n rest h)
+  net_named _ _ _ n (AreNamesInOrder.below p q u xs ms ns to inner rest) (inr h) = among_right ms ns (called p.path n) (net_named p xs ns n rest h)
 
   -- The names of a module, and of what stands below it, are among these.
   record IsPart (p : Placed) (ns : List Name) : Type 0 where
     pub names : List Name
-    pub in_order : AreNamesInOrder d p (members_in p.of_module) names
+    pub in_order : AreNamesInOrder d called p (members_in p.of_module) names
     pub all : (n : Name) → IsAmong names n → IsAmong ns n
 
   record IsPartBelow (p : Placed) (u : Name) (ns : List Name) : Type 0 where
@@ -151,7 +153,7 @@ module _ (d : Design) where
     pub is_below : at_path d (instance_step u ∷ p.path) ≡ Some place
     pub part : IsPart place ns
 
-  instance_part : (p : Placed) (xs : List Member) (ns : List Name) (u : Name) → AreNamesInOrder d p xs ns → IsAmong xs (instance u) → IsPartBelow p u ns
+  instance_part : (p : Placed) (xs : List Member) (ns : List Name) (u : Name) → AreNamesInOrder d called p xs ns → IsAmong xs (instance u) → IsPartBelow p u ns
   instance_part _ _ _ u (AreNamesInOrder.end p) h = absurd h
   instance_part _ _ _ u (AreNamesInOrder.net_of p m xs ns rest) (inl e) = absurd (no e)
     where
@@ -192,7 +194,7 @@ module _ (d : Design) where
           no : None ≡ Some i → ⊥
           no h = cc
 
-  module _ (top : Placed) (ns : List Name) (is_top : at_path d [] ≡ Some top) (all_in_order : AreNamesInOrder d top (members_in top.of_module) ns) where
+  module _ (top : Placed) (ns : List Name) (is_top : at_path d [] ≡ Some top) (all_in_order : AreNamesInOrder d called top (members_in top.of_module) ns) where
     part_of : (path : List PathStep) (p : Placed) → at_path d path ≡ Some p → IsPart p ns
     part_of [] p at =
         subst (λ q. IsPart q ns) (some_same (sym is_top ∙ at)) (record { names = ns; in_order = all_in_order; all = λ n k. k })
@@ -213,19 +215,19 @@ module _ (d : Design) where
         some_same q e = cc
 
     -- each net and variable of the design has its name in the list
-    pub all_named : (p : Placed) (n : Name) → IsPlacedIn d p → IsDeclared p n → IsAmong ns (dotted p.path n)
+    pub all_named : (p : Placed) (n : Name) → IsPlacedIn d p → IsDeclared p n → IsAmong ns (called p.path n)
     all_named p n at h =
         let r = part_of p.path p at in
-        r.all (dotted p.path n) (net_named p (members_in p.of_module) r.names n r.in_order (declared_is_net p.of_module n h))
+        r.all (called p.path n) (net_named p (members_in p.of_module) r.names n r.in_order (declared_is_net p.of_module n h))
 
     -- and each name there is that of one
-    pub each_named : (name : Name) → IsAmong ns name → IsNetOf d name
+    pub each_named : (name : Name) → IsAmong ns name → IsNetOf d called name
     each_named name h =
         (each_within top (members_in top.of_module) ns (placed_in d [] top is_top) (λ n g. net_is_declared top.of_module n g) all_in_order name h).of
 
   -- ---- once each
 
-  module _ (naming : IsNaming d dotted) where
+  module _ (naming : IsNaming d called) where
     not_among : (xs : List Name) (n : Name) → ¬ IsAmong xs n → is_among xs n ≡ false
     not_among xs n h = by (is_among xs n) refl
       where
@@ -234,7 +236,7 @@ module _ (d : Design) where
         by false e = refl
 
     -- two names that are one are those of one net of one module
-    one_net : (name : Name) (x y : IsNetOf d name) → (x.place.path ≡ y.place.path) × (x.of_name ≡ y.of_name)
+    one_net : (name : Name) (x y : IsNetOf d called name) → (x.place.path ≡ y.place.path) × (x.of_name ≡ y.of_name)
     one_net name x y =
         naming.tells x.place y.place x.of_name y.of_name x.is_placed y.is_placed (inl x.is_declared) (inl y.is_declared) (x.same ∙ sym y.same)
 
@@ -244,9 +246,9 @@ module _ (d : Design) where
         let l : length q.path ≡ length p.path = ap (λ (path : List PathStep). length path) e in
         absurd (omega (arith, k, l))
 
-    net_apart : (p : Placed) (n : Name) (xs : List Member) → IsPlacedIn d p → IsDeclared p n → ¬ IsAmong xs (net n) → IsWithin d p xs (dotted p.path n) → ⊥
+    net_apart : (p : Placed) (n : Name) (xs : List Member) → IsPlacedIn d p → IsDeclared p n → ¬ IsAmong xs (net n) → IsWithin d called p xs (called p.path n) → ⊥
     net_apart p n xs at declared free r =
-        let e = one_net (dotted p.path n) r.of (record { place = p; of_name = n; is_placed = at; is_declared = declared; same = refl }) in
+        let e = one_net (called p.path n) r.of (record { place = p; of_name = n; is_placed = at; is_declared = declared; same = refl }) in
         by e.0 e.1 r.of_members
       where
         by : r.of.place.path ≡ p.path → r.of.of_name ≡ n → IsOfMembers p xs r.of.place r.of.of_name → ⊥
@@ -257,8 +259,8 @@ module _ (d : Design) where
     first_name [] = []
     first_name (v ∷ path) = v.of_name
 
-    parts_apart : (p : Placed) (u : Name) (xs : List Member) (name : Name) → ¬ IsAmong xs (instance u) → (x : IsNetOf d name) → GoesOn (instance_step u ∷ p.path) x.place.path
-        → IsWithin d p xs name → ⊥
+    parts_apart : (p : Placed) (u : Name) (xs : List Member) (name : Name) → ¬ IsAmong xs (instance u) → (x : IsNetOf d called name) → GoesOn (instance_step u ∷ p.path) x.place.path
+        → IsWithin d called p xs name → ⊥
     unfolding first_name
     parts_apart p u xs name free x deep r =
         by (one_net name x r.of).0 r.of_members
@@ -279,11 +281,11 @@ module _ (d : Design) where
       both_distinct xs ys h.1 k (λ n i j. f n (inr i) j),
     )
 
-    names_distinct : (p : Placed) (xs : List Member) (ns : List Name) → IsPlacedIn d p → AreMembersOf p xs → StandOnce xs → AreNamesInOrder d p xs ns → AreDistinct ns
+    names_distinct : (p : Placed) (xs : List Member) (ns : List Name) → IsPlacedIn d p → AreMembersOf p xs → StandOnce xs → AreNamesInOrder d called p xs ns → AreDistinct ns
     names_distinct _ _ _ at own once (AreNamesInOrder.end p) = tt
     names_distinct _ _ _ at own once (AreNamesInOrder.net_of p n xs ns rest) = (
-      not_among ns (dotted p.path n)
-          (λ h. net_apart p n xs at (own n (inl refl)) once.0 (each_within p xs ns at (λ k g. own k (inr g)) rest (dotted p.path n) h)),
+      not_among ns (called p.path n)
+          (λ h. net_apart p n xs at (own n (inl refl)) once.0 (each_within p xs ns at (λ k g. own k (inr g)) rest (called p.path n) h)),
       names_distinct p xs ns at (λ k g. own k (inr g)) once.1 rest,
     )
     names_distinct _ _ _ at own once (AreNamesInOrder.below p q u xs ms ns to inner rest) =
@@ -293,19 +295,19 @@ module _ (d : Design) where
         (λ name h k. let x = inside_part name h in
         parts_apart p u xs name once.0 x.of (deeper p q u to x.of.place x.of.of_name x.of_members) (each_within p xs ns at (λ i g. own i (inr g)) rest name k))
       where
-        inside_part : (name : Name) → IsAmong ms name → IsWithin d q (members_in q.of_module) name
+        inside_part : (name : Name) → IsAmong ms name → IsWithin d called q (members_in q.of_module) name
         inside_part name h =
             each_within q (members_in q.of_module) ms (placed_in d (instance_step u ∷ p.path) q to) (λ n g. net_is_declared q.of_module n g) inner name h
 
-    pub are_distinct : (top : Placed) (ns : List Name) → at_path d [] ≡ Some top → AreNamesInOrder d top (members_in top.of_module) ns → AreDistinct ns
+    pub are_distinct : (top : Placed) (ns : List Name) → at_path d [] ≡ Some top → AreNamesInOrder d called top (members_in top.of_module) ns → AreDistinct ns
     are_distinct top ns is_top h =
         names_distinct top (members_in top.of_module) ns (placed_in d [] top is_top) (λ n g. net_is_declared top.of_module n g) (members_once top.of_module) h
 
   -- ---- registers
 
   module _ (s : Scope) (q : List Statement)
-      (to_design : (p : Placed) (n : Name) → IsPlacedIn d p → IsDeclared p n → IsRegister s q (dotted p.path n) → design.IsRegister d p n)
-      (from_design : (p : Placed) (n : Name) → design.IsRegister d p n → IsRegister s q (dotted p.path n)) where
+      (to_design : (p : Placed) (n : Name) → IsPlacedIn d p → IsDeclared p n → IsRegister s q (called p.path n) → design.IsRegister d p n)
+      (from_design : (p : Placed) (n : Name) → design.IsRegister d p n → IsRegister s q (called p.path n)) where
     -- the registers of two lists of names
     record AreParts (ms ns : List Name) (cs : List Counted) : Type 0 where
       pub first : List Counted
@@ -359,25 +361,49 @@ module _ (d : Design) where
     names_joined : (xs ys cs : List Counted) → xs ++ ys ≡ cs → register_names xs ++ register_names ys ≡ register_names cs
     names_joined xs ys cs e = sym (map-append (λ c. c.of_name) xs ys) ∙ ap register_names e
 
-    pub registers_in_order : (p : Placed) (xs : List Member) (ns : List Name) (cs : List Counted) (os : List Name) → IsPlacedIn d p → AreMembersOf p xs
-        → AreNamesInOrder d p xs ns → AreSplit s q ns cs os → AreInOrder d p xs (register_names cs)
-    registers_in_order _ _ _ cs os at own (AreNamesInOrder.end p) h = none cs os h
+    -- told names of two lists
+    record AreToldParts (ms ns rs : List Name) : Type 0 where
+      pub first : List Name
+      pub second : List Name
+      pub joined : first ++ second ≡ rs
+      pub of_first : AreToldBy d called ms first
+      pub of_second : AreToldBy d called ns second
+
+    told_parts : (ms ns rs : List Name) → AreToldBy d called (ms ++ ns) rs → AreToldParts ms ns rs
+    told_parts [] ns rs h = record { first = []; second = rs; joined = refl; of_first = tt; of_second = h }
+    told_parts (m ∷ ms) ns [] h = absurd h
+    told_parts (m ∷ ms) ns (r ∷ rs) h =
+        let t = told_parts ms ns rs h.1 in
+        record { first = r ∷ t.first; second = t.second; joined = ap (λ xs. r ∷ xs) t.joined; of_first = (h.0, t.of_first); of_second = t.of_second }
+
+    -- the dotted names of registers stand in the order of the design's registers
+    pub registers_in_order : (p : Placed) (xs : List Member) (ns : List Name) (cs : List Counted) (os rs : List Name) → IsPlacedIn d p → AreMembersOf p xs
+        → AreNamesInOrder d called p xs ns → AreSplit s q ns cs os → AreToldBy d called (register_names cs) rs → AreInOrder d p xs rs
+    registers_in_order _ _ _ cs os rs at own (AreNamesInOrder.end p) h t = none cs os rs h t
       where
-        none : (ks : List Counted) (os : List Name) → AreSplit s q [] ks os → AreInOrder d p [] (register_names ks)
-        none _ _ AreSplit.end = at_end p
-    registers_in_order _ _ _ cs os at own (AreNamesInOrder.net_of p n xs ns rest) h =
-        by (shape (dotted p.path n ∷ ns) cs os h) (λ ds ps. registers_in_order p xs ns ds ps at (λ k g. own k (inr g)) rest)
+        none : (ks : List Counted) (os rs : List Name) → AreSplit s q [] ks os → AreToldBy d called (register_names ks) rs → AreInOrder d p [] rs
+        none _ _ [] AreSplit.end t = at_end p
+        none _ _ (r ∷ rs) AreSplit.end t = absurd t
+    registers_in_order _ _ _ cs os rs at own (AreNamesInOrder.net_of p n xs ns rest) h t =
+        by (shape (called p.path n ∷ ns) cs os h) (λ ds ps us. registers_in_order p xs ns ds ps us at (λ k g. own k (inr g)) rest)
       where
-        by : Shape (dotted p.path n ∷ ns) cs os → ((ds : List Counted) (ps : List Name) → AreSplit s q ns ds ps → AreInOrder d p xs (register_names ds))
-            → AreInOrder d p (net n ∷ xs) (register_names cs)
-        by (inl (c, ds, is, later, e)) f =
-            subst (λ ks. AreInOrder d p (net n ∷ xs) (register_names ks)) e
-            (subst (λ k. AreInOrder d p (net n ∷ xs) (k ∷ register_names ds)) (sym is.named)
-            (a_register p n xs (register_names ds) (to_design p n at (own n (inl refl)) is.is_register) (f ds os later)))
-        by (inr (ps, free, later)) f = another p n xs (register_names cs) (λ r. free (from_design p n r)) (f cs ps later)
-    registers_in_order _ _ _ cs os at own (AreNamesInOrder.below p z u xs ms ns to inner rest) h =
+        by : Shape (called p.path n ∷ ns) cs os
+            → ((ds : List Counted) (ps us : List Name) → AreSplit s q ns ds ps → AreToldBy d called (register_names ds) us → AreInOrder d p xs us)
+            → AreInOrder d p (net n ∷ xs) rs
+        by (inl (c, ds, is, later, e)) f = first rs (subst (λ ks. AreToldBy d called (register_names ks) rs) (sym e) t)
+          where
+            first : (us : List Name) → AreToldBy d called (c.of_name ∷ register_names ds) us → AreInOrder d p (net n ∷ xs) us
+            first [] g = absurd g
+            first (u ∷ us) g =
+                subst (λ k. AreInOrder d p (net n ∷ xs) (k ∷ us)) (sym (g.0 p n at (own n (inl refl)) (sym is.named)))
+                (a_register p n xs us (to_design p n at (own n (inl refl)) is.is_register) (f ds os us later g.1))
+        by (inr (ps, free, later)) f = another p n xs rs (λ r. free (from_design p n r)) (f cs ps rs later t)
+    registers_in_order _ _ _ cs os rs at own (AreNamesInOrder.below p z u xs ms ns to inner rest) h t =
         let r = parts ms ns cs os h in
-        subst (AreInOrder d p (instance u ∷ xs)) (names_joined r.first r.second cs r.joined)
-        (goes_below p z u xs (register_names r.first) (register_names r.second) to
-        (registers_in_order z (members_in z.of_module) ms r.first r.others (placed_in d (instance_step u ∷ p.path) z to) (λ n g. net_is_declared z.of_module n g) inner r.of_first)
-        (registers_in_order p xs ns r.second r.rest at (λ k g. own k (inr g)) rest r.of_second))
+        let k = told_parts (register_names r.first) (register_names r.second) rs
+        (subst (λ ys. AreToldBy d called ys rs) (sym (names_joined r.first r.second cs r.joined)) t) in
+        subst (AreInOrder d p (instance u ∷ xs)) k.joined
+        (goes_below p z u xs k.first k.second to
+        (registers_in_order z (members_in z.of_module) ms r.first r.others k.first (placed_in d (instance_step u ∷ p.path) z to) (λ n g. net_is_declared z.of_module n g) inner
+        r.of_first k.of_first)
+        (registers_in_order p xs ns r.second r.rest k.second at (λ k g. own k (inr g)) rest r.of_second k.of_second))

@@ -1,15 +1,15 @@
 -- A design in one scope can be elaborated, where it is accepted.
-use Rattle.std.proofs.Common.{◌≡◌, ◌≢◌, ◌∙◌, ◌≤◌, ℕ, refl, ap, sym, subst, arith, Bool, true, false, cond, not, ◌&&◌, ◌||◌, nat_le, List, [], ◌∷◌, ◌⊎◌, inl, inr, Option, Some, None, is_some, Contains}
-use Rattle.std.specs.Prelude.{IsTrue, option_and_then}
+use Rattle.std.proofs.Common.{◌≡◌, ◌≢◌, ◌∙◌, ◌≤◌, ℕ, eq-eqb, refl, ap, sym, subst, arith, Bool, true, false, cond, not, ◌&&◌, ◌||◌, nat_le, List, [], ◌∷◌, ◌++◌, ◌⊎◌, inl, inr, Option, Some, None, is_some, Contains}
+use Rattle.std.specs.Prelude.{IsTrue, option_and_then, ◌==◌}
 use Rattle.std.specs.List.{list_any}
-use Rattle.std.proofs.lemmas.Bool.{false≢true, true≢false, and_parts, and_from, cases_Bool}
+use Rattle.std.proofs.lemmas.Bool.{false≢true, true≢false, and_parts, and_from, cases_Bool, eqb-true}
 use Rattle.std.proofs.lemmas.Bool.Decides.{nat_tests}
 use Rattle.wb_values.specs.Value.{Name, same_name, entry_of}
 use Rattle.wb_values.specs.Choice.{first_of}
 use Rattle.verilog_trees.specs.Syntax.{Expression, Target, Statement, Direction, input, output, Item}
 use Rattle.verilog_meaning.specs.Expression.{Object, Scope, undeclared as no_object, object_or_undeclared, scope_of, is_memory}
 use Rattle.verilog_meaning.specs.Register.{clocked_blocks, combinational_blocks}
-use Rattle.verilog_meaning.specs.Hierarchy.{Declaration, declarations, declaration_of, and_later, Placed, placed_scope, dotted}
+use Rattle.verilog_meaning.specs.Hierarchy.{Declaration, declarations, declaration_of, and_later, Placed, placed_scope}
 use Rattle.verilog_meaning.specs.Settled.{Design, IsPlacedIn, is_declared_among, IsDeclared, HasPort, port_directions, assignments}
 use Rattle.verilog_registers.specs.Registers as design
 use Rattle.verilog_designs.specs.Known.{known_declaration}
@@ -26,16 +26,15 @@ use Rattle.verilog_unique.proofs.Descent.{IsAmong, contains_among, among_contain
 use Rattle.verilog_unique.proofs.Parameters.{parameter_number, no_constant_memory}
 use Rattle.verilog_unique.proofs.Paths.{stands_at, placed_in}
 use Rattle.verilog_unique.proofs.Ports.{port_is_declared}
-use Rattle.verilog_exists.specs.Exists.{NamesHaveNoDots, IsShapely}
+use Rattle.verilog_exists.specs.Exists.{IsShapely}
 use Rattle.verilog_exists.specs.Loops.{IsAcceptedButForLoops}
 use Rattle.verilog_exists.proofs.Givers.{IsSound}
 use Rattle.verilog_exists.proofs.Drivers.{is_sound}
 use Rattle.verilog_exists.proofs.Memories.{no_duplicate}
 use Rattle.verilog_exists.proofs.Valued.{ranges_known}
 use Rattle.verilog_renamed.specs.Renamed.{renamed_statement}
-use Rattle.flat_designs.specs.Flat.{IsNameOf, IsNaming, IsFlatClocked, of_clocked, IsFlat}
+use Rattle.flat_designs.specs.Flat.{IsNameOf, Naming, IsNaming, IsFlatClocked, of_clocked, IsFlat}
 use Rattle.flat_designs.specs.Depending.{DependsFlat, DependsFlatFar}
-use Rattle.flat_designs.proofs.Known.{dotted_names_are_a_naming}
 use Rattle.flat_designs.proofs.Depending.{bits_depend_on_the_same}
 use Rattle.flat_rules.specs.Sound.{HasSoundModules}
 use Rattle.flat_rules.specs.Drivers.{DriversBreakNothing, KnowsNoOtherNames}
@@ -55,7 +54,7 @@ use Rattle.v_settle.specs.Drivers.{AreSoundLinks}
 use Rattle.v_settle.specs.OneModule.{AreSound, IsEvaluable}
 use Rattle.v_edge.specs.Edge as edge
 use Rattle.v_registers.specs.Registers.{IsRegister}
-use Rattle.v_elab.specs.Names.{HasSmallAddresses, is_data_port}
+use Rattle.v_elab.specs.Names.{HasSmallAddresses, is_data_port, after_front, tested_after, is_given_port}
 use Rattle.v_elab.specs.Elaborated.{body_in}
 use Rattle.v_elab.specs.Elaborable.{IsElaborable}
 use Rattle.v_elab.specs.Flat.{IsFlatBody}
@@ -93,6 +92,20 @@ variable_declared (d ∷ ds) n h = by (same_name d.of_name n) h (variable_declar
     by true k g = refl
     by false k g = g k
 
+-- what comes after a front
+front_is : (front n m : Name) → after_front front n ≡ Some m → n ≡ front ++ m
+front_is [] n m e = cc
+front_is (c ∷ cs) [] m e = cc
+front_is (c ∷ cs) (x ∷ xs) m e = by (c == x) refl e (front_is cs xs m)
+  where
+    by : (t : Bool) → (c == x) ≡ t → cond t (after_front cs xs) None ≡ Some m → (after_front cs xs ≡ Some m → xs ≡ cs ++ m) → x ∷ xs ≡ c ∷ cs ++ m
+    by true q g rest = let same = eqb-true c x q in (λ i. sym same i ∷ rest g i)
+    by false q g rest = absurd (false≢true (ap is_some g))
+
+after_itself : (front m : Name) → after_front front (front ++ m) ≡ Some m
+after_itself [] m = refl
+after_itself (c ∷ cs) m = ap (λ t. cond t (after_front cs (cs ++ m)) None) (eq-eqb c c refl) ∙ after_itself cs m
+
 input_is : (o : Option Direction) → is_input o ≡ true → o ≡ Some input
 input_is None h = absurd (false≢true h)
 input_is (Some input) h = refl
@@ -101,8 +114,8 @@ input_is (Some output) h = absurd (false≢true h)
 number_so : (o : Object) → is_some o.constant ≡ true → is_memory o ≡ false → has_number o ≡ true
 number_so o c m = and_from (is_some o.constant) (not (is_memory o)) c (ap not m)
 
-module _ (d : Design) (top : Placed) (s : Scope) (items : List Item) (ns : List Name) (accepts : IsAccepted d) (shapely : IsShapely d)
-    (dotless : NamesHaveNoDots d.source) (flat : IsFlatBody d top s items ns) where
+module _ (d : Design) (called : Naming) (top : Placed) (s : Scope) (items : List Item) (ns : List Name) (accepts : IsAccepted d) (shapely : IsShapely d)
+    (flat : IsFlatBody d called top s items ns) where
   abbrev ck : List Statement
   ck = clocked_blocks items
 
@@ -112,10 +125,10 @@ module _ (d : Design) (top : Placed) (s : Scope) (items : List Item) (ns : List 
   abbrev blocks : List Statement
   blocks = combinational_blocks items
 
-  abbrev drivers : IsFlat d dotted s links blocks ck
+  abbrev drivers : IsFlat d called s links blocks ck
   drivers = flat.flat.flat
 
-  abbrev others : KnowsNoOtherNames d dotted s
+  abbrev others : KnowsNoOtherNames d called s
   others = flat.flat.no_others
 
   but_loops : IsAcceptedButForLoops d
@@ -124,8 +137,8 @@ module _ (d : Design) (top : Placed) (s : Scope) (items : List Item) (ns : List 
   pub good : ¬ HasUndeclared d
   good = accepts accepted.undeclared
 
-  pub naming : IsNaming d dotted
-  naming = (dotted_names_are_a_naming d).naming dotless
+  pub naming : IsNaming d called
+  naming = flat.flat.naming
 
   modules : HasSoundModules d
   modules = sound_modules d accepts shapely
@@ -134,13 +147,13 @@ module _ (d : Design) (top : Placed) (s : Scope) (items : List Item) (ns : List 
   sound = is_sound d but_loops (ranges_known d but_loops shapely)
 
   objects : HasNarrowObjects s
-  objects = flat_scopes_are_narrow d dotted s links blocks ck modules drivers others
+  objects = flat_scopes_are_narrow d called s links blocks ck modules drivers others
 
   fit : AreFitForAll s items
-  fit = flat_items_are_fit d dotted s items modules drivers others
+  fit = flat_items_are_fit d called s items modules drivers others
 
   unbroken : DriversBreakNothing s links blocks ck
-  unbroken = flat_drivers_break_nothing d dotted s links blocks ck modules drivers
+  unbroken = flat_drivers_break_nothing d called s links blocks ck modules drivers
 
   -- what holds of the names of all modules, and of names that are not known, holds of all names
   all_names : (P : Object → Bool) → P no_object ≡ true → ((p : Placed) (m : Name) → IsPlacedIn d p → IsNameOf p m → P (placed_scope p m) ≡ true)
@@ -156,12 +169,12 @@ module _ (d : Design) (top : Placed) (s : Scope) (items : List Item) (ns : List 
   -- ---- names
 
   -- of a net or variable: no number
-  net_there : (p : Placed) (m : Name) → IsPlacedIn d p → IsDeclared p m → is_memory (placed_scope p m) ≡ false → IsNetThere (s (dotted p.path m))
+  net_there : (p : Placed) (m : Name) → IsPlacedIn d p → IsDeclared p m → is_memory (placed_scope p m) ≡ false → IsNetThere (s (called p.path m))
   net_there p m at h plain =
       subst IsNetThere (sym (drivers.says_the_same p m at (inl h)))
       (record { declared = declared_name d modules p at m (inl h); plain = plain; variable = no_number d p m at (no_duplicate d but_loops p at) h })
 
-  variable_there : (p : Placed) (m : Name) → IsPlacedIn d p → IsDeclared p m → (s (dotted p.path m)).constant ≡ None
+  variable_there : (p : Placed) (m : Name) → IsPlacedIn d p → IsDeclared p m → (s (called p.path m)).constant ≡ None
   variable_there p m at h = ap (λ (o : Object). o.constant) (drivers.says_the_same p m at (inl h)) ∙ no_number d p m at (no_duplicate d but_loops p at) h
 
   has_no_memory : Object → Bool
@@ -234,9 +247,9 @@ module _ (d : Design) (top : Placed) (s : Scope) (items : List Item) (ns : List 
   named_test : (n : Name) → IsTrue (has_sort (s n)) → has_number (s n) ≡ false → is_among ns n ≡ true
   named_test n sort number = by (is_among ns n) refl
     where
-      each : is_among ns n ≡ false → (p : Placed) (m : Name) → IsPlacedIn d p → IsNameOf p m → dotted p.path m ≢ n
+      each : is_among ns n ≡ false → (p : Placed) (m : Name) → IsPlacedIn d p → IsNameOf p m → called p.path m ≢ n
       each e p m at (inl h) k =
-          false≢true (sym e ∙ test_among ns n (subst (IsAmong ns) k (all_named d top ns flat.is_top flat.in_order p m at h)))
+          false≢true (sym e ∙ test_among ns n (subst (IsAmong ns) k (all_named d called top ns flat.is_top flat.in_order p m at h)))
       each e p m at (inr h) k =
           let says : s n ≡ placed_scope p m = ap s (sym k) ∙ drivers.says_the_same p m at (inr h) in
           let c : is_some (placed_scope p m).constant ≡ true = parameter_number d p.path p at m h in
@@ -249,11 +262,11 @@ module _ (d : Design) (top : Placed) (s : Scope) (items : List Item) (ns : List 
   -- ---- drivers
 
   link_nets : (a : Target × Expression) → IsAmong links a → (n : Name) → IsAmong (target_names a.0) n → IsNetThere (s n)
-  link_nets a h n k = from (link_there d good a ((drivers.are_links a).0 (contains_among links a h)))
+  link_nets a h n k = from (link_there d called good a ((drivers.are_links a).0 (contains_among links a h)))
     where
-      from : IsLinkThere d a → IsNetThere (s n)
+      from : IsLinkThere d called a → IsNetThere (s n)
       from g =
-          let r = target_named (dotted g.place.path) g.link.target n (subst (λ (y : Target × Expression). IsAmong (target_names y.0) n) (sym g.same) k) in
+          let r = target_named (called g.place.path) g.link.target n (subst (λ (y : Target × Expression). IsAmong (target_names y.0) n) (sym g.same) k) in
           let q = sound.link_name g.place g.link r.0 g.is_placed g.is_link r.1 in
           subst (λ m. IsNetThere (s m)) r.2 (net_there g.place r.0 g.is_placed q.0 q.1)
 
@@ -271,12 +284,12 @@ module _ (d : Design) (top : Placed) (s : Scope) (items : List Item) (ns : List 
         c : Contains blocks x
         c = contains_among blocks x h
 
-        g : IsBlockThere d x
-        g = block_there d good x ((drivers.are_blocks x).0 c)
+        g : IsBlockThere d called x
+        g = block_there d called good x ((drivers.are_blocks x).0 c)
 
         free : (n : Name) → Contains (assigned_names x) n → (s n).constant ≡ None
         free n k =
-            let r = assigned_named (dotted g.place.path) g.statement n (subst (λ y. IsAmong (assigned_names y) n) (sym g.same) (among_contains (assigned_names x) n k)) in
+            let r = assigned_named (called g.place.path) g.statement n (subst (λ y. IsAmong (assigned_names y) n) (sym g.same) (among_contains (assigned_names x) n k)) in
             ap (λ m. (s m).constant) (sym r.2) ∙ variable_there g.place r.0 g.is_placed (sound.block_name g.place g.statement r.0 g.is_placed g.is_block r.1).0
 
     blocks_sound : (xs : List Statement) → ((x : Statement) → IsAmong xs x → IsAmong blocks x) → AreSound s xs
@@ -294,9 +307,9 @@ module _ (d : Design) (top : Placed) (s : Scope) (items : List Item) (ns : List 
     clocked_sound : (x : Statement) → IsAmong ck x → IsSoundStatement s x
     clocked_sound x h = law s true x objects (unbroken.each_clocked x (contains_among ck x h)) (free x ((drivers.are_clocked x).0 (contains_among ck x h)))
       where
-        free : (y : Statement) → IsFlatClocked d dotted y → (n : Name) → Contains (assigned_names y) n → (s n).constant ≡ None
+        free : (y : Statement) → IsFlatClocked d called y → (n : Name) → Contains (assigned_names y) n → (s n).constant ≡ None
         free _ (of_clocked p y at c) n k =
-            let r = assigned_named (dotted p.path) y n (among_contains (assigned_names (renamed_statement (dotted p.path) y)) n k) in
+            let r = assigned_named (called p.path) y n (among_contains (assigned_names (renamed_statement (called p.path) y)) n k) in
             ap (λ m. (s m).constant) (sym r.2) ∙ variable_there p r.0 at (clocked_declared p y r.0 at c (contains_among (assigned_names y) r.0 r.1))
 
     all_clocked_sound : (xs : List Statement) → ((x : Statement) → IsAmong xs x → IsAmong ck x) → edge.AreSound s xs
@@ -309,7 +322,7 @@ module _ (d : Design) (top : Placed) (s : Scope) (items : List Item) (ns : List 
           runnable = fit.for_loops;
           links = links_sound links (λ a h. h) fit.for_loops.constant;
           blocks = blocks_sound blocks (λ x h. h);
-          one_driver = one_driver d good naming sound s items drivers;
+          one_driver = one_driver d called good naming sound s items drivers;
           parameters = parameters;
         }
 
@@ -318,9 +331,9 @@ module _ (d : Design) (top : Placed) (s : Scope) (items : List Item) (ns : List 
     none_waits : list_any has_blocking ck ≡ false
     none_waits = by (list_any has_blocking ck) refl
       where
-        no : (y : Statement) → IsFlatClocked d dotted y → has_blocking y ≡ true → ⊥
+        no : (y : Statement) → IsFlatClocked d called y → has_blocking y ≡ true → ⊥
         no _ (of_clocked p y at c) e =
-            accepts accepted.blocking_in_clocked (record { place = p; statement = y; is_placed = at; stands = c; blocks = sym (same_blocking (dotted p.path) y) ∙ e })
+            accepts accepted.blocking_in_clocked (record { place = p; statement = y; is_placed = at; stands = c; blocks = sym (same_blocking (called p.path) y) ∙ e })
 
         by : (t : Bool) → list_any has_blocking ck ≡ t → t ≡ false
         by true e = let o = one-of has_blocking ck e in absurd (no o.element ((drivers.are_clocked o.element).0 o.stands) o.so)
@@ -339,11 +352,11 @@ module _ (d : Design) (top : Placed) (s : Scope) (items : List Item) (ns : List 
     no_loop : ¬ HasLoopIn s items
     no_loop h =
         accepts accepted.comb_loop
-        ((bits_depend_on_the_same d dotted s links blocks ck good naming drivers).loops.1 (record { bit = h.bit; loops = far h.bit h.bit h.loops }))
+        ((bits_depend_on_the_same d called s links blocks ck good naming drivers).loops.1 (record { bit = h.bit; loops = far h.bit h.bit h.loops }))
 
     -- ---- inputs
 
-    module _ (f : Name → Bool) (ports : AreInputsOfTop d top s items f) where
+    module _ (f : Name → Bool) (ports : AreInputsOfTop d called top s items f) where
       pub can_be_elaborated : IsElaborable (body_in s items ns) f
       can_be_elaborated =
           record {
@@ -354,7 +367,7 @@ module _ (d : Design) (top : Placed) (s : Scope) (items : List Item) (ns : List 
             sound = all_clocked_sound ck (λ x h. h);
             waits = none_waits;
             no_loop = no_loop;
-            distinct = are_distinct d naming top ns flat.is_top flat.in_order;
+            distinct = are_distinct d called naming top ns flat.is_top flat.in_order;
             all_declared = named_test;
             apart = ports.no_register;
           }
@@ -364,31 +377,44 @@ module _ (d : Design) (top : Placed) (s : Scope) (items : List Item) (ns : List 
 
   -- ---- the inputs of the top
 
-  port_of : (n : Name) → is_data_port top.of_module d.clock n ≡ true → HasPort top.of_module n input × (n ≢ d.clock)
-  port_of n h =
-      let p = and_parts (not (same_name d.clock n)) (is_input (entry_of (port_directions top.of_module) n)) h in (
-        input_is (entry_of (port_directions top.of_module) n) p.1,
-        λ e. false≢true (sym (ap not (is_same d.clock)) ∙ ap (λ k. not (same_name d.clock k)) (sym e) ∙ p.0),
-      )
+  abbrev pub given : Name → Bool
+  given = is_given_port top.of_module d.clock (called [] [])
 
-  given_port : (n : Name) → HasPort top.of_module n input → n ≢ d.clock → is_data_port top.of_module d.clock n ≡ true
-  given_port n h other = and_from (not (same_name d.clock n)) (is_input (entry_of (port_directions top.of_module) n)) (by (same_name d.clock n) refl) (ap is_input h)
+  port_of : (n : Name) → given n ≡ true → (m : Name) × (n ≡ called [] m) × HasPort top.of_module m input × (m ≢ d.clock)
+  port_of n h = by (after_front (called [] []) n) refl h
     where
-      by : (t : Bool) → same_name d.clock n ≡ t → not t ≡ true
-      by true e = absurd (other (sym (same_is d.clock n e)))
+      by : (o : Option Name) → after_front (called [] []) n ≡ o → tested_after (is_data_port top.of_module d.clock) o ≡ true
+          → (m : Name) × (n ≡ called [] m) × HasPort top.of_module m input × (m ≢ d.clock)
+      by None e g = absurd (false≢true g)
+      by (Some m) e g =
+          let p = and_parts (not (same_name d.clock m)) (is_input (entry_of (port_directions top.of_module) m)) g in (
+            m,
+            front_is (called [] []) n m e ∙ flat.fronts m,
+            input_is (entry_of (port_directions top.of_module) m) p.1,
+            λ q. false≢true (sym (ap not (is_same d.clock)) ∙ ap (λ k. not (same_name d.clock k)) (sym q) ∙ p.0),
+          )
+
+  given_port : (m : Name) → HasPort top.of_module m input → m ≢ d.clock → given (called [] m) ≡ true
+  given_port m h other =
+      ap (tested_after (is_data_port top.of_module d.clock)) (ap (after_front (called [] [])) (sym (flat.fronts m)) ∙ after_itself (called [] []) m)
+      ∙ and_from (not (same_name d.clock m)) (is_input (entry_of (port_directions top.of_module) m)) (by (same_name d.clock m) refl) (ap is_input h)
+    where
+      by : (t : Bool) → same_name d.clock m ≡ t → not t ≡ true
+      by true e = absurd (other (sym (same_is d.clock m e)))
       by false e = refl
 
-  no_register : (n : Name) → is_data_port top.of_module d.clock n ≡ true → ¬ IsRegister s ck n
+  no_register : (n : Name) → given n ≡ true → ¬ IsRegister s ck n
   no_register n h r =
-      let port = (port_of n h).0 in
-      let own : dotted top.path n ≡ n = ap (λ path. dotted path n) (stands_at d [] top flat.is_top) in
+      let port = port_of n h in
+      let m : Name = port.0 in
+      let own : called top.path m ≡ n = ap (λ path. called path m) (stands_at d [] top flat.is_top) ∙ sym port.1 in
       let at : IsPlacedIn d top = placed_in d [] top flat.is_top in
-      let g = to_design d top s items ns good naming flat top n at (port_is_declared top n input port) (subst (IsRegister s ck) (sym own) r) in
-      by at port g.keeps
+      let g = to_design d called top s items ns good naming flat top m at (port_is_declared top m input port.2) (subst (IsRegister s ck) (sym own) r) in
+      by m at port.2 g.keeps
     where
-      by : IsPlacedIn d top → HasPort top.of_module n input → design.HasCounted top n ⊎ IsTrue (is_memory (placed_scope top n)) → ⊥
-      by at port (inl c) = true≢false (sym c.counts ∙ (sound.input_alone top n c.word c.bit at port).0)
-      by at port (inr e) = true≢false (sym e ∙ (sound.input_alone top n 0 0 at port).1)
+      by : (m : Name) → IsPlacedIn d top → HasPort top.of_module m input → design.HasCounted top m ⊎ IsTrue (is_memory (placed_scope top m)) → ⊥
+      by m at port (inl c) = true≢false (sym c.counts ∙ (sound.input_alone top m c.word c.bit at port).0)
+      by m at port (inr e) = true≢false (sym e ∙ (sound.input_alone top m 0 0 at port).1)
 
-  pub inputs_of_top : AreInputsOfTop d top s items (is_data_port top.of_module d.clock)
+  pub inputs_of_top : AreInputsOfTop d called top s items given
   inputs_of_top = record { is_port = port_of; is_given = given_port; no_register = no_register }

@@ -11,7 +11,7 @@ use Rattle.v_scopes.specs.Rows.{Row, rows, row_named}
 use Rattle.v_scopes.specs.Scopes.{declared_in}
 use Rattle.v_ports.specs.Ports.{direction_in, IsScopeIn}
 use Rattle.v_ports.proofs.Directions.{direction_named}
-use Rattle.v_elab.specs.Names.{is_input_row, is_data_input, is_data_port}
+use Rattle.v_elab.specs.Names.{is_input_row, is_data_input, is_data_port, after_front, tested_after, is_given_input, is_given_port}
 
 input_row : (o : Option Row) → is_input_row o ≡ is_input (direction_in o)
 input_row None = refl
@@ -26,3 +26,7 @@ same_inputs s names m clock e = λ i n. not (same_name clock n) && at n i
         ap (λ rs. is_input_row (row_named rs n)) e
         ∙ input_row (row_named (rows s (declarations m)) n)
         ∙ ap is_input (direction_named s n m)
+
+-- the same of names of the top in the one scope
+pub same_given : (s : Scope) (names : ModuleScope) (m : Module) (clock front : Name) → IsScopeIn s names m → is_given_input names clock front ≡ is_given_port m clock front
+same_given s names m clock front e = λ i n. tested_after (same_inputs s names m clock e i) (after_front front n)

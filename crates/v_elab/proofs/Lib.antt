@@ -12,7 +12,6 @@ pub mod Masked
 pub mod Starting
 pub mod Choosing
 pub mod Small
-pub mod Settling
 pub mod Inputs
 pub mod Outputs
 pub mod Beginning
@@ -28,3 +27,11 @@ pub mod FlatLinks
 pub mod FlatReady
 pub mod FlatDesign
 pub mod FlatPlaces
+pub mod Fronts
+pub mod FlatTold
+pub mod Telling
+pub mod Retold
+pub mod NetTerms
+pub mod PutBelow
+pub mod SettledPlaces
+pub mod Turns

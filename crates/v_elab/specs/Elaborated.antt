@@ -1,9 +1,9 @@
 -- What is elaborated, and to what: registers and inputs as names of a store, tables of terms at the start, when nets have settled and
 -- after the clock's edge, and the parts of a design that are taken from them.
-use Rattle.std.specs.Prelude.{◌≡◌, ℕ, Bool, cond, not, ◌&&◌, ◌++◌, min, List, map, length, Option, Some, None, is_some, option_map}
+use Rattle.std.specs.Prelude.{◌≡◌, Bool, ◌++◌, min, List, map, length, Some, is_some, option_map}
 use Rattle.wb_values.specs.Value.{Name}
 use Rattle.verilog_trees.specs.Syntax.{Item}
-use Rattle.verilog_meaning.specs.Expression.{Scope, is_memory}
+use Rattle.verilog_meaning.specs.Expression.{Scope}
 use Rattle.verilog_meaning.specs.Register.{clocked_blocks}
 use Rattle.verilog_meaning.specs.Hierarchy.{Declaration}
 use Rattle.verilog_designs.specs.Names.{is_among}
@@ -39,10 +39,6 @@ register_names cs = map (λ c. c.of_name) cs
 abbrev pub bits_of : Scope → Counted → CountedBits
 bits_of s c = record { least = option_map (λ a. min a.0 a.1) (s c.of_name).addresses; masks = c.masks }
 
--- the term that a name settles to, if it is one that has any
-abbrev pub settled_at : Body → Images → Name → Option ℕ
-settled_at b images n = cond (is_among b.declared n && not (is_memory (b.scope n))) (images n) None
-
 pub record IsElaborated (b : Body) (is_given : Name → Bool) (outputs : List Name) (e : Parts) : Type 0 where
   pub distinct : HasDistinctNames e.graph.names
   pub registers : List Counted
@@ -69,5 +65,5 @@ pub record IsElaborated (b : Body) (is_given : Name → Bool) (outputs : List Na
   pub after : Images
   pub next : Images
   pub updated : AreUpdated b.scope nets first middle (clocked_blocks b.items) after next e.graph
-  pub settled : (n : Name) → e.settled n ≡ settled_at b after n
+  pub settled : (n : Name) → e.settled n ≡ after n
   pub next_terms : map (λ id. Some id) e.next ≡ map next (register_names registers)

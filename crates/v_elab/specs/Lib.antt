@@ -8,3 +8,7 @@ pub mod Elaborable
 pub mod Begun
 pub mod Answer
 pub mod Flat
+pub mod Told
+pub mod Settled
+pub mod Elements
+pub mod Telling

@@ -1,5 +1,5 @@
 -- The names of a store that are declared for those of a module.
-use Rattle.std.specs.Prelude.{◌≡◌, ◌≤◌, ℕ, Bool, false, cond, not, ◌&&◌, List, [], ◌∷◌, length, ⊤, Option, Some, None, IsSome}
+use Rattle.std.specs.Prelude.{◌≡◌, ◌≤◌, ℕ, Bool, false, cond, not, ◌&&◌, ◌==◌, List, [], ◌∷◌, length, codes, ⊤, Option, Some, None, IsSome}
 use Rattle.wb_values.specs.Value.{Name, same_name, Sort, Entries, entry_of}
 use Rattle.verilog_trees.specs.Syntax.{Module}
 use Rattle.verilog_meaning.specs.Expression.{Scope, is_memory}
@@ -37,6 +37,28 @@ is_data_input names clock n = not (same_name clock n) && is_input_row (declared_
 -- the same by the module itself
 abbrev pub is_data_port : Module → (clock : Name) → Name → Bool
 is_data_port m clock n = not (same_name clock n) && is_input (entry_of (port_directions m) n)
+
+-- what stands before the names of the top in the one scope: its number, and a dot
+abbrev pub top_front : Name
+top_front = codes "0."
+
+-- what comes after a front, if the name begins with it
+abbrev pub after_front : (front n : Name) → Option Name
+after_front [] n = Some n
+after_front (c ∷ cs) [] = None
+after_front (c ∷ cs) (x ∷ xs) = cond (c == x) (after_front cs xs) None
+
+abbrev pub tested_after : (Name → Bool) → Option Name → Bool
+tested_after f None = false
+tested_after f (Some n) = f n
+
+-- the name is one of the top, whose names have this front, and an input port, and not the clock
+abbrev pub is_given_input : ModuleScope → (clock front : Name) → Name → Bool
+is_given_input names clock front n = tested_after (is_data_input names clock) (after_front front n)
+
+-- the same by the module itself
+abbrev pub is_given_port : Module → (clock front : Name) → Name → Bool
+is_given_port m clock front n = tested_after (is_data_port m clock) (after_front front n)
 
 abbrev pub is_output_row : Option Row → Bool
 is_output_row None = false

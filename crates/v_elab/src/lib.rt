@@ -3,15 +3,18 @@
 
 mod declaring;
 mod design;
+mod elements;
 mod flat;
 mod keeping;
 mod memory;
 mod naming;
 mod parts;
 mod ports;
+mod settled;
 mod source;
 mod start;
 mod tables;
+mod told;
 
 pub use source::{Elaborated, elaborate};
 pub use v_design::Design;

@@ -1,8 +1,8 @@
 //! The names of a module by what they are: registers, inputs and others.
 
-ghost use Rattle.std.specs.Prelude.{◌≡◌, ◌++◌, ◌∷◌, [], map, IfOk, OnOk};
+ghost use Rattle.std.specs.Prelude.{◌≡◌, ◌++◌, ◌∷◌, [], map, option_map, IfOk, OnOk};
 ghost use Rattle.v_registers.specs.Registers.{counted_of};
-ghost use Rattle.v_elab.specs.Names.{is_data_input, chosen, left_out};
+ghost use Rattle.v_elab.specs.Names.{top_front, after_front, is_data_input, is_given_input, chosen, left_out};
 ghost use Rattle.v_elab.specs.Elaborated.{register_names};
 
 use crate::NoMemory;
@@ -35,6 +35,26 @@ fn is_data_input(names: &ModuleScope<'_>, clock: &str, name: &str) -> bool
     }
 }
 
+/// The name in its module of a name of the top in the one scope. Names of other modules have none.
+fn top_name<'n>(name: &'n str) -> Option<&'n str>
+    ensures { option_map (λ n. n.now) result ≡ after_front top_front name.now }
+{
+    match name.strip_prefix('0') {
+        Some(rest) => rest.strip_prefix('.'),
+        None => None,
+    }
+}
+
+/// Whether a name in the one scope is one of the top, an input port and not the clock.
+fn is_given_input(names: &ModuleScope<'_>, clock: &str, name: &str) -> bool
+    ensures { result ≡ is_given_input names.now clock.now top_front name.now }
+{
+    match top_name(name) {
+        Some(own) => is_data_input(names, clock, own),
+        None => false,
+    }
+}
+
 /// Adds a name to the inputs, if it is one, and else to the others.
 fn add_name<'s>(
     names: &ModuleScope<'_>,
@@ -42,10 +62,10 @@ fn add_name<'s>(
     name: &'s str,
     found: &mut Inputs<'s>,
 ) -> Result<(), NoMemory>
-    ensures inputs { OnOk result (map (λ n. n.now) found.new.inputs.items ≡ map (λ n. n.now) found.old.inputs.items ++ chosen (is_data_input names.now clock.now) (name.now ∷ [])) }
-    ensures others { OnOk result (map (λ n. n.now) found.new.others.items ≡ map (λ n. n.now) found.old.others.items ++ left_out (is_data_input names.now clock.now) (name.now ∷ [])) }
+    ensures inputs { OnOk result (map (λ n. n.now) found.new.inputs.items ≡ map (λ n. n.now) found.old.inputs.items ++ chosen (is_given_input names.now clock.now top_front) (name.now ∷ [])) }
+    ensures others { OnOk result (map (λ n. n.now) found.new.others.items ≡ map (λ n. n.now) found.old.others.items ++ left_out (is_given_input names.now clock.now top_front) (name.now ∷ [])) }
 {
-    if is_data_input(names, clock, name) {
+    if is_given_input(names, clock, name) {
         found.inputs.push(name)?;
     } else {
         found.others.push(name)?;
@@ -60,8 +80,8 @@ pub(crate) fn inputs_among<'s>(
     clock: &str,
     list: &[&'s str],
 ) -> Result<Inputs<'s>, NoMemory>
-    ensures inputs { IfOk result (λ r. map (λ n. n.now) r.inputs.items ≡ chosen (is_data_input names.now clock.now) (map (λ n. n.now) list.now)) }
-    ensures others { IfOk result (λ r. map (λ n. n.now) r.others.items ≡ left_out (is_data_input names.now clock.now) (map (λ n. n.now) list.now)) }
+    ensures inputs { IfOk result (λ r. map (λ n. n.now) r.inputs.items ≡ chosen (is_given_input names.now clock.now top_front) (map (λ n. n.now) list.now)) }
+    ensures others { IfOk result (λ r. map (λ n. n.now) r.others.items ≡ left_out (is_given_input names.now clock.now top_front) (map (λ n. n.now) list.now)) }
 {
     let mut found = Inputs {
         inputs: Vec::new(alloc),

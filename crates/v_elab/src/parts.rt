@@ -1,14 +1,9 @@
 //! The parts of a design that are taken from tables of terms.
 
-ghost use Rattle.std.specs.Prelude.{◌≡◌, ◌++◌, ◌∷◌, ◌&&◌, [], ℕ, List, Some, None, cond, not, map, option_map, min, IfOk, OnOk};
-ghost use Rattle.wb_values.specs.Value.{same_name};
-ghost use Rattle.wb_values.specs.Choice.{first_of};
-ghost use Rattle.verilog_meaning.specs.Expression.{is_memory};
-ghost use Rattle.verilog_designs.specs.Names.{is_among};
+ghost use Rattle.std.specs.Prelude.{◌≡◌, Some, map, option_map, min, IfOk};
 ghost use Rattle.v_value.specs.Scope.{object_of};
 ghost use Rattle.v_value.specs.Scope.{scope_at};
 ghost use Rattle.v_lower.specs.Table.{images_at};
-ghost use Rattle.v_design.specs.Table.{terms_at};
 ghost use Rattle.v_design.specs.Bits.{counted_bits};
 ghost use Rattle.v_registers.specs.Registers.{counted_of};
 ghost use Rattle.v_elab.specs.Elaborated.{bits_of, register_names};
@@ -16,61 +11,11 @@ ghost use Rattle.v_elab.specs.Names.{HaveTerms};
 
 use crate::NoMemory;
 use std::alloc::Global;
-use std::collections::BTreeMap;
 use v_design::RegisterBits;
 use v_lower::NamedTerms;
 use v_registers::Register;
 use v_value::scope::{Object, Scope};
 use wb_terms::TermId;
-
-/// The term of a net or variable; a memory has none here.
-fn plain_term(scope: &Scope<'_>, table: &NamedTerms<'_>, name: &str) -> Option<TermId>
-    ensures { option_map (λ k. k.0) result ≡ cond (is_memory (scope_at scope.now name.now)) None (images_at table.now name.now) }
-{
-    if scope.object(name).addresses.is_some() {
-        None
-    } else {
-        table.term(name)
-    }
-}
-
-/// Adds the term of a net or variable, if it has one.
-fn add_settled(
-    alloc: Global,
-    scope: &Scope<'_>,
-    table: &NamedTerms<'_>,
-    name: &str,
-    found: &mut BTreeMap<String, TermId>,
-) -> Result<(), NoMemory>
-    ensures { OnOk result ((n : List ℕ) → terms_at found.new n
-        ≡ cond (same_name name.now n) (first_of (cond (is_memory (scope_at scope.now name.now)) None (images_at table.now name.now)) (terms_at found.old n)) (terms_at found.old n)) }
-{
-    match plain_term(scope, table, name) {
-        Some(id) => {
-            let text = String::from_str(alloc, name)?;
-            found.insert(text, id)?;
-        }
-        None => {}
-    }
-    Ok(())
-}
-
-/// The terms of nets and variables by their names.
-pub(crate) fn settled_of(
-    alloc: Global,
-    scope: &Scope<'_>,
-    table: &NamedTerms<'_>,
-    list: &[&str],
-) -> Result<BTreeMap<String, TermId>, NoMemory>
-    ensures { IfOk result (λ t. (n : List ℕ) → terms_at t n
-        ≡ cond (is_among (map (λ k. k.now) list.now) n && not (is_memory (scope_at scope.now n))) (images_at table.now n) None) }
-{
-    let mut found = BTreeMap::new(alloc);
-    for name in list {
-        add_settled(alloc, scope, table, *name, &mut found)?;
-    }
-    Ok(found)
-}
 
 /// The terms of registers, in their order.
 pub(crate) fn next_of(

@@ -4,6 +4,7 @@ pub mod Items
 pub mod Links
 pub mod Named
 pub mod Numbers
+pub mod Seen
 pub mod Instances
 pub mod Whole
 pub mod Loops

@@ -1,16 +1,16 @@
 -- The names of all places as they are made, and the tables and the scope that are made of them.
 use Rattle.std.proofs.Common.{◌≡◌, ◌∙◌, ◌<◌, ◌+◌, ℕ, Bool, true, false, cond, refl, ap, sym, List, [], ◌∷◌, ◌++◌, map, length, drop, get_or, Bor, Option, Some, None, option_map}
-use Rattle.std.specs.Prelude.{slice_get, unwrap_or}
+use Rattle.std.specs.Prelude.{unwrap_or}
 use Rattle.std.specs.String.{string_bytes}
 use Rattle.std.specs.Cmp.Lexicographic.{slice_cmp}
 use Rattle.std.specs.Ordering.{nat_cmp}
 use Rattle.std.specs.BTreeMap as tree
 use Rattle.std.specs.BTreeMap.{BTreeMap}
 use Rattle.std.proofs.lemmas.Map.Text.{btree_map_updates_str}
-use Rattle.std.proofs.lemmas.List.{append_assoc, append-nil, map-append, drop_more}
+use Rattle.std.proofs.lemmas.List.{map-append, drop_more}
 use Rattle.wb_values.specs.Value.{Name, same_name}
 use Rattle.verilog_meaning.specs.Expression.{Object, scope_of}
-use Rattle.verilog_meaning.specs.Hierarchy.{PathStep, instance_step, declarations, dotted}
+use Rattle.verilog_meaning.specs.Hierarchy.{declarations}
 use Rattle.v_value.specs.declared.scope.Declaration.{Declaration}
 use Rattle.v_value.specs.Scope.{object_of, objects_of}
 use Rattle.v_hier.specs.Tables.{under_name}
@@ -18,11 +18,8 @@ use Rattle.v_scopes.specs.Rows.{Row, rows, scope_by, objects_by}
 use Rattle.v_renamed.specs.NewNames.{name_or}
 use Rattle.v_places.specs.Below.{Spot}
 use Rattle.v_flat.specs.declared.names.Dotted.{Dotted}
-use Rattle.v_flat.specs.Paths.{path_below, paths_after, front_of}
-use Rattle.v_flat.specs.Entries.{spot_entries, DottedEntry, dotted_entry, dotted_entries, SpotNames, spot_names, names_at_paths, names_of, named_after, named_in, front_below, names_after}
+use Rattle.v_flat.specs.Entries.{spot_entries, DottedEntry, dotted_entry, dotted_entries, SpotNames, spot_names, named_after, named_in}
 use Rattle.v_flat.specs.Views.{entry_in}
-use Rattle.v_flat.proofs.Named.{front_dotted}
-use Rattle.v_flat.proofs.Connected.{get_map}
 
 -- ---- one module
 
@@ -43,64 +40,6 @@ declared_more s front d ds = refl
 -- its object is said in another way
 pub entry_so : (front n : Name) (o p : Object) (x : DottedEntry) → x ≡ dotted_entry front (n, o) → o ≡ p → x ≡ dotted_entry front (n, p)
 entry_so front n o p x e h = e ∙ ap (λ q. dotted_entry front (n, q)) h
-
--- ---- what stands before names
-
-abbrev front_in : SpotNames → Name
-front_in p = p.front
-
-below_front : (q : List PathStep) (u front : Name) → front ≡ front_of q → front ++ u ++ 46 ∷ [] ≡ front_of (instance_step u ∷ q)
-below_front q u front e =
-    append_assoc front u (46 ∷ []) ∙ ap (λ f. f ++ (u ++ 46 ∷ [])) e ∙ front_dotted q (u ++ 46 ∷ [])
-    ∙ ap (λ v. dotted q (v ++ 46 ∷ [])) (sym (append-nil u))
-
-front_so : (o : Option SpotNames) (r : Option (List PathStep)) (u : Name) → option_map front_in o ≡ option_map front_of r → front_below o u ≡ front_of (path_below r u)
-front_so None None u e = refl
-front_so None (Some q) u e = cc
-front_so (Some p) None u e = cc
-front_so (Some p) (Some q) u e = below_front q u p.front (some_is p.front (front_of q) e)
-  where
-    some_is : (a b : Name) → Some a ≡ Some b → a ≡ b
-    some_is a b h = cc
-
--- the paths of these alone
-new_paths : List (List PathStep) → List Spot → List (List PathStep)
-new_paths before [] = []
-new_paths before (x ∷ xs) = path_below (slice_get before x.parent) x.instance ∷ new_paths (before ++ path_below (slice_get before x.parent) x.instance ∷ []) xs
-
-paths_so : (before : List (List PathStep)) (xs : List Spot) → paths_after before xs ≡ before ++ new_paths before xs
-unfolding new_paths
-paths_so before [] = sym (append-nil before)
-paths_so before (x ∷ xs) =
-    let p : List PathStep = path_below (slice_get before x.parent) x.instance in
-    paths_so (before ++ p ∷ []) xs ∙ append_assoc before (p ∷ []) (new_paths (before ++ p ∷ []) xs)
-
-made_so : (before : List (List PathStep)) (made : List SpotNames) (xs : List Spot) → map front_in made ≡ map front_of before
-    → names_after made xs ≡ made ++ names_at_paths dotted (new_paths before xs) xs
-unfolding new_paths
-made_so before made [] h = sym (append-nil made)
-made_so before made (x ∷ xs) h =
-    let p : List PathStep = path_below (slice_get before x.parent) x.instance in
-    let n : SpotNames = spot_names (front_below (slice_get made x.parent) x.instance) x in
-    let front : front_below (slice_get made x.parent) x.instance ≡ front_of p
-    = front_so (slice_get made x.parent) (slice_get before x.parent) x.instance
-    (sym (get_map front_in made x.parent) ∙ ap (λ fs. slice_get fs x.parent) h ∙ get_map front_of before x.parent) in
-    let more : map front_in (made ++ n ∷ []) ≡ map front_of (before ++ p ∷ [])
-    = map-append front_in made (n ∷ []) ∙ (λ i. h i ++ front i ∷ []) ∙ sym (map-append front_of before (p ∷ [])) in
-    made_so (before ++ p ∷ []) (made ++ n ∷ []) xs more
-    ∙ append_assoc made (n ∷ []) (names_at_paths dotted (new_paths (before ++ p ∷ []) xs) xs)
-    ∙ ap (λ f. made ++ spot_names f x ∷ names_at_paths dotted (new_paths (before ++ p ∷ []) xs) xs) front
-
-pub all_made : (spots : List Spot) → names_after [] spots ≡ names_of dotted spots
-all_made spots = made_so [] [] spots refl ∙ ap (λ qs. names_at_paths dotted qs spots) (sym (paths_so [] spots))
-
--- a turn that makes the names of one more
-pub made_turn : {A : Type 0} (view : A → Spot) (xs : List A) (i : ℕ) (d : A) (now new whole : List SpotNames) (n : SpotNames) → i < length xs
-    → names_after now (map view (drop i xs)) ≡ whole → n ≡ spot_names (front_below (slice_get now (view (get_or xs i d)).parent) (view (get_or xs i d)).instance) (view (get_or xs i d))
-    → new ≡ now ++ n ∷ [] → names_after new (map view (drop (i + 1) xs)) ≡ whole
-made_turn view xs i d now new whole n lt h e p =
-    ap (λ zs. names_after zs (map view (drop (i + 1) xs))) (p ∙ ap (λ m. now ++ m ∷ []) e)
-    ∙ ap (λ ys. names_after now (map view ys)) (sym (drop_more xs i d lt)) ∙ h
 
 -- ---- tables
 

@@ -1,15 +1,14 @@
 -- Names by the numbers of their modules are a naming.
-use Rattle.std.proofs.Common.{◌≡◌, ℕ, zero, suc, ◌+◌, ◌<◌, ◌^◌, Bool, true, false, cond, List, [], ◌∷◌, ◌++◌, map, length, ◌⊎◌, inl, inr, refl, sym, ap, ◌∙◌, subst, Some, arith, eq-eqb}
+use Rattle.std.proofs.Common.{◌≡◌, ℕ, zero, suc, ◌+◌, ◌<◌, ◌^◌, Bool, true, false, ◌&&◌, cond, List, [], ◌∷◌, ◌++◌, length, ◌⊎◌, inl, inr, refl, sym, ap, ◌∙◌, subst, Some, arith}
 use Rattle.std.specs.Prelude.{◌==◌, slice_get, IsTrue}
-use Rattle.std.specs.Fmt.{decimal}
+use Rattle.std.specs.Fmt.{decimal, digits}
 use Rattle.std.specs.Str.Parse.{AllDigits}
-use Rattle.std.proofs.lemmas.Bool.{cases_eq, false≢true, or_cases}
+use Rattle.std.proofs.lemmas.Bool.{cases_Bool, false≢true, or_cases, and_parts, eqb-true}
 use Rattle.std.proofs.lemmas.List.{append_assoc, append-nil}
 use Rattle.std.proofs.lemmas.Str.Parse.{digit_from_value}
 use Rattle.std.proofs.lemmas.Fmt.{decimal_injective, decimal_is_IsNumeral}
-use Rattle.std.proofs.lemmas.Bool.Decides.{nat_tests}
 use Rattle.wb_values.specs.Value.{Name, same_name}
-use Rattle.verilog_meaning.specs.Hierarchy.{all_parameters, declarations, PathStep, Placed, dotted}
+use Rattle.verilog_meaning.specs.Hierarchy.{all_parameters, declarations, PathStep, Placed}
 use Rattle.verilog_meaning.specs.Settled.{Design, IsPlacedIn}
 use Rattle.verilog_designs.specs.Names.{is_among, parameter_names, all_instance_names, names_where, declared_names}
 use Rattle.verilog_unique.proofs.Fitting.{module_name_of}
@@ -28,7 +27,7 @@ use Rattle.v_flat.specs.Numbered.{number_front, number_among, numbered, numbered
 use Rattle.v_flat.specs.Whole.{IsPlacing, AreCalled}
 use Rattle.v_flat.proofs.Places.{at_number, at_path_number, paths_length}
 use Rattle.v_flat.proofs.Named.{front_apart}
-use Rattle.v_flat.proofs.Whole.{Stands, IsFound, listed, found, one_number}
+use Rattle.v_flat.proofs.Whole.{Stands, listed, found, one_number}
 
 -- ---- numbers in text
 
@@ -37,7 +36,7 @@ plain_digits [] d h = absurd h
 plain_digits (c ∷ cs) d (inl e) = let f = digit_from_value c d.0 in absurd (omega (arith, f, e))
 plain_digits (c ∷ cs) d (inr h) = plain_digits cs d.1 h
 
-plain_decimal : (k : ℕ) → k < 2 ^ 64 → Plain (decimal k)
+pub plain_decimal : (k : ℕ) → k < 2 ^ 64 → Plain (decimal k)
 plain_decimal k l = plain_digits (decimal k) (decimal_is_IsNumeral k l).0.1
 
 -- what stands before the first dot
@@ -70,31 +69,35 @@ plain_name d dotless p n at (inr h) k =
 
 -- ---- what stands before names tells the number
 
-top_front : (k : ℕ) → k ≡ 0 → number_front k ≡ []
-top_front k e = ap number_front e
+-- nothing stands before the names of the module with this number
+abbrev is_bare : Bool → ℕ → Bool
+is_bare b k = b && k == 0
 
-other_front : (k : ℕ) → (k ≡ 0 → ⊥) → number_front k ≡ decimal k ++ 46 ∷ []
-other_front k e = ap (λ b. cond b [] (decimal k ++ 46 ∷ [])) (not_zero k e)
+bare_zero : (b : Bool) (k : ℕ) → is_bare b k ≡ true → k ≡ 0
+bare_zero b k e = let z = (and_parts b (k == 0) e).1 in eqb-true k 0 z
+
+bare_front : (b : Bool) (k : ℕ) → is_bare b k ≡ true → number_front b k ≡ []
+bare_front b k e = ap (λ t. cond t [] (decimal k ++ 46 ∷ [])) e
+
+other_front : (b : Bool) (k : ℕ) → is_bare b k ≡ false → number_front b k ≡ decimal k ++ 46 ∷ []
+other_front b k e = ap (λ t. cond t [] (decimal k ++ 46 ∷ [])) e
+
+pub with_dot : (b : Bool) (k : ℕ) (n : Name) → is_bare b k ≡ false → number_front b k ++ n ≡ decimal k ++ 46 ∷ n
+with_dot b k n e = ap (λ f. f ++ n) (other_front b k e) ∙ append_assoc (decimal k) (46 ∷ []) n
+
+has_dot : (b : Bool) (k : ℕ) (n m : Name) → is_bare b k ≡ false → n ≡ number_front b k ++ m → IsAmong n 46
+has_dot b k n m e h = subst (λ z. IsAmong z 46) (sym (h ∙ with_dot b k m e)) (among_right (decimal k) (46 ∷ m) 46 (inl refl))
+
+front_tells : (b : Bool) (i j : ℕ) (n m : Name) → i < 2 ^ 64 → j < 2 ^ 64 → Plain n → Plain m → number_front b i ++ n ≡ number_front b j ++ m → (i ≡ j) × (n ≡ m)
+front_tells b i j n m low_i low_j p q e = by (cases_Bool (is_bare b i)) (cases_Bool (is_bare b j))
   where
-    not_zero : (n : ℕ) → (n ≡ 0 → ⊥) → (n == 0) ≡ false
-    not_zero n h = grind (arith, nat_tests)
-
-with_dot : (k : ℕ) (n : Name) → (k ≡ 0 → ⊥) → number_front k ++ n ≡ decimal k ++ 46 ∷ n
-with_dot k n e = ap (λ f. f ++ n) (other_front k e) ∙ append_assoc (decimal k) (46 ∷ []) n
-
-has_dot : (k : ℕ) (n m : Name) → (k ≡ 0 → ⊥) → n ≡ number_front k ++ m → IsAmong n 46
-has_dot k n m e h = subst (λ z. IsAmong z 46) (sym (h ∙ with_dot k m e)) (among_right (decimal k) (46 ∷ m) 46 (inl refl))
-
-front_tells : (i j : ℕ) (n m : Name) → i < 2 ^ 64 → j < 2 ^ 64 → Plain n → Plain m → number_front i ++ n ≡ number_front j ++ m → (i ≡ j) × (n ≡ m)
-front_tells i j n m a b p q e = by (cases_eq i 0) (cases_eq j 0)
-  where
-    by : (i ≡ 0) ⊎ (i ≡ 0 → ⊥) → (j ≡ 0) ⊎ (j ≡ 0 → ⊥) → (i ≡ j) × (n ≡ m)
-    by (inl g) (inl h) = (g ∙ sym h, ap (λ f. f ++ n) (sym (top_front i g)) ∙ e ∙ ap (λ f. f ++ m) (top_front j h))
-    by (inl g) (inr h) = absurd (p (has_dot j n m h (ap (λ f. f ++ n) (sym (top_front i g)) ∙ e)))
-    by (inr g) (inl h) = absurd (q (has_dot i m n g (ap (λ f. f ++ m) (sym (top_front j h)) ∙ sym e)))
+    by : (is_bare b i ≡ true) ⊎ (is_bare b i ≡ false) → (is_bare b j ≡ true) ⊎ (is_bare b j ≡ false) → (i ≡ j) × (n ≡ m)
+    by (inl g) (inl h) = (bare_zero b i g ∙ sym (bare_zero b j h), ap (λ f. f ++ n) (sym (bare_front b i g)) ∙ e ∙ ap (λ f. f ++ m) (bare_front b j h))
+    by (inl g) (inr h) = absurd (p (has_dot b j n m h (ap (λ f. f ++ n) (sym (bare_front b i g)) ∙ e)))
+    by (inr g) (inl h) = absurd (q (has_dot b i m n g (ap (λ f. f ++ m) (sym (bare_front b j h)) ∙ sym e)))
     by (inr g) (inr h) =
-        let r = at_dot (decimal i) (decimal j) n m (plain_decimal i a) (plain_decimal j b) (sym (with_dot i n g) ∙ e ∙ with_dot j m h) in
-        (decimal_injective i j a b r.0, r.1)
+        let r = at_dot (decimal i) (decimal j) n m (plain_decimal i low_i) (plain_decimal j low_j) (sym (with_dot b i n g) ∙ e ∙ with_dot b j m h) in
+        (decimal_injective i j low_i low_j r.0, r.1)
 
 -- ---- the number of a path
 
@@ -114,21 +117,21 @@ zero_first [] e = refl
 zero_first (p ∷ ps) e = ap (λ (z : List PathStep). cond (same_name (front_of z) []) 0 (suc (number_among ps []))) (same_some p [] e)
 
 -- the names of the modules from a number on are those of a naming that puts their numbers before them
-numbered_turn : (called : Naming) (qs : List (List PathStep)) (xs : List Spot) (k : ℕ) → length qs ≡ length xs
-    → ((j : ℕ) (q : List PathStep) → slice_get qs j ≡ Some q → called q [] ≡ number_front (k + j)) → numbered_from k xs ≡ names_at_paths called qs xs
-numbered_turn called [] [] k l h = refl
-numbered_turn called [] (x ∷ xs) k l h = absurd (omega (arith, l))
-numbered_turn called (q ∷ qs) [] k l h = absurd (omega (arith, l))
-numbered_turn called (q ∷ qs) (x ∷ xs) k l h =
+numbered_turn : (b : Bool) (called : Naming) (qs : List (List PathStep)) (xs : List Spot) (k : ℕ) → length qs ≡ length xs
+    → ((j : ℕ) (q : List PathStep) → slice_get qs j ≡ Some q → called q [] ≡ number_front b (k + j)) → numbered_from b k xs ≡ names_at_paths called qs xs
+numbered_turn b called [] [] k l h = refl
+numbered_turn b called [] (x ∷ xs) k l h = absurd (omega (arith, l))
+numbered_turn b called (q ∷ qs) [] k l h = absurd (omega (arith, l))
+numbered_turn b called (q ∷ qs) (x ∷ xs) k l h =
     let none : k + 0 ≡ k = omega arith in
-    let front : number_front k ≡ called q [] = ap number_front (sym none) ∙ sym (h 0 q refl) in
-    let rest = numbered_turn called qs xs (k + 1) (omega (arith, l))
-    (λ j r e. let one : k + suc j ≡ k + 1 + j = omega arith in h (suc j) r e ∙ ap number_front one) in
+    let front : number_front b k ≡ called q [] = ap (number_front b) (sym none) ∙ sym (h 0 q refl) in
+    let rest = numbered_turn b called qs xs (k + 1) (omega (arith, l))
+    (λ j r e. let one : k + suc j ≡ k + 1 + j = omega arith in h (suc j) r e ∙ ap (number_front b) one) in
     λ i. spot_names (front i) x ∷ rest i
 
-module _ (d : Design) (spots : List Spot) (h : IsPlacing d spots) (few : length spots < 2 ^ 64) where
+module _ (b : Bool) (d : Design) (spots : List Spot) (h : IsPlacing d spots) (few : length spots < 2 ^ 64) where
   -- a path has the number of its place
-  number_is : (k : ℕ) (x : Spot) (q : List PathStep) → Stands d spots k x q → number_among (paths_of spots) q ≡ k
+  pub number_is : (k : ℕ) (x : Spot) (q : List PathStep) → Stands d spots k x q → number_among (paths_of spots) q ≡ k
   number_is k x q s =
       first_at (paths_of spots) k q s.is_at.is_there
       (λ j r e g.
@@ -138,22 +141,22 @@ module _ (d : Design) (spots : List Spot) (h : IsPlacing d spots) (few : length 
       (λ z. absurd z) (λ z. absurd z) g in
       one_number d spots h j k f.0 x r q t s same.0)
 
-  number_of_placed : (p : Placed) (at : IsPlacedIn d p) → number_among (paths_of spots) p.path ≡ (found d spots h p at).number
+  pub number_of_placed : (p : Placed) (at : IsPlacedIn d p) → number_among (paths_of spots) p.path ≡ (found d spots h p at).number
   number_of_placed p at =
       let f = found d spots h p at in
       ap (λ (z : Placed). number_among (paths_of spots) z.path) (sym f.is_placed) ∙ number_is f.number f.spot f.path f.stands
 
-  below_all : (p : Placed) (at : IsPlacedIn d p) → number_among (paths_of spots) p.path < 2 ^ 64
+  pub below_all : (p : Placed) (at : IsPlacedIn d p) → number_among (paths_of spots) p.path < 2 ^ 64
   below_all p at =
       let f = found d spots h p at in
       let l = get_within spots f.number f.spot f.stands.is_at.is_spot in
       let e = number_of_placed p at in
       omega (arith, l, e, few)
 
-  numbers_tell : (p q : Placed) (n m : Name) → IsPlacedIn d p → IsPlacedIn d q → IsNameOf p n → IsNameOf q m → numbered spots p.path n ≡ numbered spots q.path m
+  numbers_tell : (p q : Placed) (n m : Name) → IsPlacedIn d p → IsPlacedIn d q → IsNameOf p n → IsNameOf q m → numbered b spots p.path n ≡ numbered b spots q.path m
       → (p.path ≡ q.path) × (n ≡ m)
   numbers_tell p q n m at_p at_q is_n is_m e =
-      let r = front_tells (number_among (paths_of spots) p.path) (number_among (paths_of spots) q.path) n m (below_all p at_p) (below_all q at_q)
+      let r = front_tells b (number_among (paths_of spots) p.path) (number_among (paths_of spots) q.path) n m (below_all p at_p) (below_all q at_q)
       (plain_name d h.no_dots p n at_p is_n) (plain_name d h.no_dots q m at_q is_m) e in
       let f = found d spots h p at_p in
       let g = found d spots h q at_q in
@@ -163,33 +166,43 @@ module _ (d : Design) (spots : List Spot) (h : IsPlacing d spots) (few : length 
       let same : f.path ≡ g.path = same_some f.path g.path (sym there ∙ g.stands.is_at.is_there) in
       (ap (λ (z : Placed). z.path) (sym f.is_placed) ∙ same ∙ ap (λ (z : Placed). z.path) g.is_placed, r.1)
 
-  numbers_are_naming : IsNaming d (numbered spots)
+  numbers_are_naming : IsNaming d (numbered b spots)
   numbers_are_naming =
-      record { apart = λ p at. front_apart (number_front (number_among (paths_of spots) p.path)); tells = numbers_tell }
+      record { apart = λ p at. front_apart (number_front b (number_among (paths_of spots) p.path)); tells = numbers_tell }
 
-  names_are : numbered_from 0 spots ≡ names_of (numbered spots) spots
+  names_are : numbered_from b 0 spots ≡ names_of (numbered b spots) spots
   names_are =
       let many : length (paths_of spots) ≡ 0 + length spots = paths_length [] spots in
-      numbered_turn (numbered spots) (paths_of spots) spots 0 (omega (arith, many))
+      numbered_turn b (numbered b spots) (paths_of spots) spots 0 (omega (arith, many))
       (λ j q e.
       let f = at_path_number spots j q e in
       let none : 0 + j ≡ j = omega arith in
-      append-nil (number_front (number_among (paths_of spots) q)) ∙ ap number_front (number_is j f.0 q (listed d spots h j f.0 q f.1) ∙ sym none))
+      append-nil (number_front b (number_among (paths_of spots) q)) ∙ ap (number_front b) (number_is j f.0 q (listed d spots h j f.0 q f.1) ∙ sym none))
 
-top_is_plain : (spots : List Spot) (n : Name) → numbered spots [] n ≡ n
+-- the top has the number 0
+top_is_first : (spots : List Spot) (x : Spot) → slice_get spots 0 ≡ Some x → number_among (paths_of spots) [] ≡ 0
+top_is_first [] x e = cc
+top_is_first (y ∷ ys) x e =
+    let f = at_number (y ∷ ys) 0 y refl in
+    let path : f.path ≡ [] = elim f.is_at.is_path as (λ _. f.path ≡ []) [ inl i ↦ (let b : y.parent < 0 = i.before in absurd (omega (arith, b))) | inr i ↦ i.is_path ] in
+    zero_first (paths_of (y ∷ ys)) (subst (λ q. slice_get (paths_of (y ∷ ys)) 0 ≡ Some q) path f.is_at.is_there)
+
+pub top_is_plain : (spots : List Spot) (n : Name) → numbered true spots [] n ≡ n
 top_is_plain [] n = refl
-top_is_plain (x ∷ xs) n =
-    let f = at_number (x ∷ xs) 0 x refl in
-    let path : f.path ≡ [] = elim f.is_at.is_path as (λ _. f.path ≡ []) [ inl i ↦ (let b : x.parent < 0 = i.before in absurd (omega (arith, b))) | inr i ↦ i.is_path ] in
-    let there : slice_get (paths_of (x ∷ xs)) 0 ≡ Some [] = subst (λ q. slice_get (paths_of (x ∷ xs)) 0 ≡ Some q) path f.is_at.is_there in
-    ap (λ k. number_front k ++ n) (zero_first (paths_of (x ∷ xs)) there)
+top_is_plain (x ∷ xs) n = ap (λ k. number_front true k ++ n) (top_is_first (x ∷ xs) x refl)
 
-pub numbered_are_called : (spots : List Spot) (ns : List SpotNames) → length spots < 2 ^ 64 → ns ≡ numbered_from 0 spots → (d : Design) → IsPlacing d spots
-    → AreCalled d (numbered spots) spots ns
-numbered_are_called spots ns few e d h =
+pub top_number : (spots : List Spot) (x : Spot) → slice_get spots 0 ≡ Some x → numbered false spots [] [] ≡ 48 ∷ 46 ∷ []
+unfolding digits
+top_number spots x e = ap (λ k. number_front false k ++ []) (top_is_first spots x e)
+
+pub front_numbered : (b : Bool) (spots : List Spot) (q : List PathStep) (n : Name) → numbered b spots q [] ++ n ≡ numbered b spots q n
+front_numbered b spots q n = ap (λ f. f ++ n) (append-nil (number_front b (number_among (paths_of spots) q)))
+
+pub numbered_are_called : (b : Bool) (spots : List Spot) (ns : List SpotNames) → length spots < 2 ^ 64 → ns ≡ numbered_from b 0 spots → (d : Design)
+    → IsPlacing d spots → AreCalled d (numbered b spots) spots ns
+numbered_are_called b spots ns few e d h =
     record {
-      naming = numbers_are_naming d spots h few;
-      plain = top_is_plain spots;
-      fronts = λ q n. ap (λ f. f ++ n) (append-nil (number_front (number_among (paths_of spots) q)));
-      names = e ∙ names_are d spots h few;
+      naming = numbers_are_naming b d spots h few;
+      fronts = front_numbered b spots;
+      names = e ∙ names_are b d spots h few;
     }

@@ -1,5 +1,5 @@
 -- The rows of a list of places by their numbers, and the new names in each.
-use Rattle.std.proofs.Common.{◌≡◌, ◌<◌, ◌∙◌, ◌+◌, ℕ, zero, suc, List, [], ◌∷◌, map, length, get_or, refl, ap, sym, Some, arith}
+use Rattle.std.proofs.Common.{◌≡◌, ◌<◌, ◌∙◌, ◌+◌, Bool, ℕ, zero, suc, List, [], ◌∷◌, map, length, get_or, refl, ap, sym, Some, arith}
 use Rattle.std.specs.Prelude.{slice_get}
 use Rattle.std.proofs.lemmas.List.{get_or-map, length-map}
 use Rattle.verilog_trees.specs.Syntax.{Source}
@@ -44,9 +44,9 @@ named_all called xs =
     let many : length (paths_of xs) ≡ 0 + length xs = paths_length [] xs in
     names_length called (paths_of xs) xs (omega (arith, many))
 
-pub numbered_length : (k : ℕ) (xs : List Spot) → length (numbered_from k xs) ≡ length xs
-numbered_length k [] = refl
-numbered_length k (x ∷ xs) = let r = numbered_length (k + 1) xs in omega (arith, r)
+pub numbered_length : (b : Bool) (k : ℕ) (xs : List Spot) → length (numbered_from b k xs) ≡ length xs
+numbered_length b k [] = refl
+numbered_length b k (x ∷ xs) = let r = numbered_length b (k + 1) xs in omega (arith, r)
 
 pub as_many : (ts : List Names) (ns : List SpotNames) → namings ts ≡ map naming_of ns → length ts ≡ length ns
 as_many ts ns e = sym (length-map ts new_name) ∙ ap length e ∙ length-map ns naming_of

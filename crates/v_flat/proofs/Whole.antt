@@ -6,7 +6,7 @@ use Rattle.wb_values.specs.Value.{Name, same_name, Entries, entry_of}
 use Rattle.verilog_trees.specs.Syntax.{Expression, Target, Statement, Direction, input, output, by_order, Item, assign, Module, Source}
 use Rattle.verilog_meaning.specs.Expression.{Object, Scope, scope_of, undeclared, object_or_undeclared}
 use Rattle.verilog_meaning.specs.Register.{clocked_blocks, combinational_blocks}
-use Rattle.verilog_meaning.specs.Hierarchy.{PathStep, instance_step, Placed, placed_scope, placed_instance, placed_below, module_named, constants_of, Overrides, overrides_of, no_overrides, all_parameters, instance_reached, instance_named, Instance, declarations, dotted}
+use Rattle.verilog_meaning.specs.Hierarchy.{PathStep, instance_step, Placed, placed_scope, placed_instance, placed_below, module_named, constants_of, Overrides, overrides_of, no_overrides, all_parameters, instance_reached, instance_named, Instance, declarations}
 use Rattle.verilog_meaning.specs.Settled.{Design, at_path, IsPlacedIn, assignments, Connection, instance_connections, port_connections}
 use Rattle.verilog_designs.specs.Names.{is_among, parameter_names, has_duplicate}
 use Rattle.verilog_designs.specs.Known.{known_module_scope}
@@ -24,7 +24,7 @@ use Rattle.verilog_renamed.proofs.EachName.{each_follows, target_follows, statem
 use Rattle.verilog_renamed.proofs.Paths.{ap2}
 use Rattle.flat_designs.specs.Flat.{IsNameOf, Naming, IsLink, to_input, of_output, IsFlatLink, of_module, of_connection, IsFlatBlock, of_block, IsFlatClocked}
 use Rattle.flat_designs.specs.Edge.{clocked_in_turn, AreInTextOrder}
-use Rattle.flat_designs.proofs.Known.{in_assigned, in_right_side, in_block, in_clocked, in_connection, dotted_names_are_a_naming, one_place}
+use Rattle.flat_designs.proofs.Known.{in_assigned, in_right_side, in_block, in_clocked, in_connection, one_place}
 use Rattle.flat_designs.proofs.Edge.{modules_in_turn_are_in_order}
 use Rattle.v_scopes.specs.Rows.{rows}
 use Rattle.v_scopes.proofs.Objects.{whole_so}
@@ -41,7 +41,7 @@ use Rattle.v_flat.proofs.Places.{IsIn, IsAt, at_number, number_at, at_path_numbe
 use Rattle.v_flat.proofs.Items as items
 use Rattle.v_flat.proofs.Links.{links_alike, of_one, one_of, link_found, link_listed}
 use Rattle.v_flat.proofs.Instances.{instance_of, connected_listed, listed_connected}
-use Rattle.v_flat.proofs.Named.{front_dotted, keys, HasEntry, keyed_some, declared_entry, constant_entry, entry_cases, parameters_keyed, renamed_there, naming_found, get_names, names_of_spot, scope_entries, nowhere_found, somewhere_found, own_found, others_found}
+use Rattle.v_flat.proofs.Named.{keys, HasEntry, keyed_some, declared_entry, constant_entry, entry_cases, parameters_keyed, renamed_there, naming_found, get_names, names_of_spot, scope_entries, nowhere_found, somewhere_found, own_found, others_found}
 
 -- ---- lists made of each element of a list
 
@@ -685,7 +685,6 @@ module _ (d : Design) (spots : List Spot) (h : IsPlacing d spots) where
         let turn = modules_in_turn_are_in_order d called (placed_of spots) h.placed in
         record {
           naming = are.naming;
-          plain = are.plain;
           flat = record {
             says_the_same = says_the_same;
             are_links = λ a. ((λ c. link_is_flat a (among_contains links a c)), (λ f. contains_among links a (flat_is_link a f)));
@@ -704,8 +703,3 @@ whole_design d called spots ns gs objects own h are f o i =
     subst (λ (es : Entries Object). IsFlatDesign d called (scope_of es) own) (sym (o ∙ ap flat_entries are.names))
     (subst (IsFlatDesign d called (scope_of (flat_entries (names_of called spots)))) (sym (i ∙ ap (λ fs_. all_items fs_ spots) (f ∙ ap (map naming_of) are.names)))
     (is_flat_design d spots h called ns are))
-
--- dotted names are such a naming
-pub dotted_are_called : (d : Design) (spots : List Spot) (ns : List SpotNames) → IsPlacing d spots → ns ≡ names_of dotted spots → AreCalled d dotted spots ns
-dotted_are_called d spots ns h e =
-    record { naming = (dotted_names_are_a_naming d).naming h.no_dots; plain = λ n. refl; fronts = front_dotted; names = e }

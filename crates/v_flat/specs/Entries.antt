@@ -1,5 +1,5 @@
 -- The names of the modules in a list with what they stand for, and what they are called in one scope: by what stands before them there.
-use Rattle.std.specs.Prelude.{cond, List, [], ◌∷◌, ◌++◌, map, slice_get, Option, Some, None, unwrap_or}
+use Rattle.std.specs.Prelude.{cond, List, [], ◌∷◌, ◌++◌, map, Option, Some, None, unwrap_or}
 use Rattle.wb_values.specs.Value.{Name, same_name, Entries}
 use Rattle.verilog_trees.specs.Syntax.{Module}
 use Rattle.verilog_meaning.specs.Expression.{Object, scope_of}
@@ -49,15 +49,6 @@ names_of called spots = names_at_paths called (paths_of spots) spots
 abbrev pub named_after : Option Name → List DottedEntry → Name → Option Name
 named_after o [] n = o
 named_after o (e ∷ es) n = named_after (cond (same_name e.of_name n) (Some e.text) o) es n
-
--- while dotted names are made: what stands before the names of an instance of this name, in a module with these names
-abbrev pub front_below : Option SpotNames → Name → Name
-front_below None u = []
-front_below (Some around) u = around.front ++ u ++ 46 ∷ []
-
-abbrev pub names_after : List SpotNames → List Spot → List SpotNames
-names_after before [] = before
-names_after before (x ∷ xs) = names_after (before ++ spot_names (front_below (slice_get before x.parent) x.instance) x ∷ []) xs
 
 -- ---- one scope
 

@@ -30,18 +30,20 @@ pub record IsPlacing (d : Design) (spots : List Spot) : Type 0 where
   pub scopes : (p : Placed) (n : Name) → IsPlacedIn d p → known_scope p n ≡ placed_scope p n
 
 -- The names of the modules of the list are those that a naming gives them: in each module what is called so begins with what stands before
--- its names, and in the top with nothing.
+-- its names.
 pub record AreCalled (d : Design) (called : Naming) (spots : List Spot) (made : List SpotNames) : Type 0 where
   pub naming : IsNaming d called
-  pub plain : (n : Name) → called [] n ≡ n
   pub fronts : (path : List PathStep) (n : Name) → called path [] ++ n ≡ called path n
   pub names : made ≡ names_of called spots
 
--- The scope and the items are the design in one scope, under a naming that leaves the names of the top as they are: its drivers, with the
--- clocked blocks of each module in the order of its text; and the scope knows no other names than those of the design.
+-- The naming leaves the names of the top as they are.
+abbrev pub IsPlainOnTop : Naming → Type 0
+IsPlainOnTop called = (n : Name) → called [] n ≡ n
+
+-- The scope and the items are the design in one scope, under a naming: its drivers, with the clocked blocks of each module in the order of
+-- its text; and the scope knows no other names than those of the design.
 pub record IsFlatDesign (d : Design) (called : Naming) (s : Scope) (items : List Item) : Type 0 where
   pub naming : IsNaming d called
-  pub plain : (n : Name) → called [] n ≡ n
   pub flat : IsFlat d called s (assignments items) (combinational_blocks items) (clocked_blocks items)
   pub in_order : AreInTextOrder d called (clocked_blocks items)
   pub no_others : (n : Name) → ((p : Placed) (m : Name) → IsPlacedIn d p → IsNameOf p m → called p.path m ≢ n) → s n ≡ undeclared

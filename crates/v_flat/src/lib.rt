@@ -1,4 +1,4 @@
-//! A design with instances in one scope: its names under dotted names, and its assignments, connections and blocks as one list of items.
+//! A design with instances in one scope: its names under names that tell the module, and its assignments, connections and blocks as one list of items.
 #![tactic(auto)]
 
 mod connection;
@@ -11,6 +11,6 @@ mod own;
 mod tables;
 
 pub use flat::{FlatDesign, flat_design};
-pub use names::{Dotted, DottedNames, PlaceNames, dotted_names, numbered_names};
+pub use names::{Dotted, DottedNames, PlaceNames, numbered_names};
 pub use own::items_with_outputs;
 pub use tables::tables_of;

@@ -1,14 +1,14 @@
-//! What the names of all modules that stand in a design are called in one scope: their dotted names (IEEE 1364-2005, 12.5), or names by
-//! the number of their module.
-ghost use Rattle.std.specs.Prelude.{◌≡◌, ◌++◌, ◌∷◌, [], length, map, option_map, slice_get, IfOk, OnOk};
+//! What the names of all modules that stand in a design are called in one scope: names by the number of their module.
+ghost use Rattle.std.specs.Prelude.{◌≡◌, ◌++◌, ◌∷◌, [], false, length, map, IfOk, OnOk};
 ghost use Rattle.std.specs.String.{string_bytes};
-ghost use Rattle.verilog_meaning.specs.Hierarchy.{dotted};
+ghost use Rattle.wb_values.specs.Value.{Valuation};
 ghost use Rattle.verilog_meaning.specs.Settled.{Design};
+ghost use Rattle.flat_designs.specs.Flat.{IsSeenAs};
 ghost use Rattle.v_value.specs.Scope.{object_of, objects_of};
 ghost use Rattle.v_scopes.specs.Rows.{rows_of, objects_by};
 ghost use Rattle.v_scopes.specs.Scopes.{scope_in};
 ghost use Rattle.v_places.specs.Views.{spot_of, spots_of};
-ghost use Rattle.v_flat.specs.Entries.{dotted_entry, dotted_entries, spot_names, names_of, front_below};
+ghost use Rattle.v_flat.specs.Entries.{dotted_entry, dotted_entries, spot_names};
 ghost use Rattle.v_flat.specs.Numbered.{number_front, numbered, numbered_from};
 ghost use Rattle.v_flat.specs.Whole.{IsPlacing, AreCalled};
 ghost use Rattle.v_flat.specs.Views.{entry_in, names_in};
@@ -105,77 +105,34 @@ fn place_names<'t, 's>(
     Ok(PlaceNames { front, names })
 }
 
-/// The name of a place's instance. That of the top is empty.
-fn instance_name<'t, 's>(place: &'t Place<'t, 's>) -> &'s str
-    ensures { result.now ≡ (spot_of place.now).instance }
+/// What stands before the names of the module with a number: the number and a dot, and before those of the top nothing if they are left
+/// plain.
+fn number_front(number: usize, top_is_plain: bool, alloc: Global) -> Result<String, AllocError>
+    ensures { IfOk result (λ s. string_bytes s ≡ number_front top_is_plain number) }
 {
-    match place.instance {
-        Some(instance) => instance.name,
-        None => "",
-    }
-}
-
-/// What stands before the names of an instance in their dotted names: what stands before those of the module around it, the instance's
-/// name and a dot. Before those of the top, which is in no module, stands nothing.
-fn front_below<'t>(
-    place: &'t Place<'t, '_>,
-    before: &[PlaceNames<'_>],
-    alloc: Global,
-) -> Result<String, AllocError>
-    ensures { IfOk result (λ s. string_bytes s ≡ front_below (slice_get (map names_in before.now) place.now.parent) (spot_of place.now).instance) }
-{
-    match before.get(place.parent) {
-        Some(around) => {
-            let mut front = String::from_str(alloc, &around.front)?;
-            front.push_str(instance_name(place))?;
-            front.push('.')?;
-            Ok(front)
-        }
-        None => Ok(String::new(alloc)),
-    }
-}
-
-/// The names of all modules that stand in a design, each with its dotted name.
-pub fn dotted_names<'t, 's>(
-    alloc: Global,
-    places: &'t [Place<'t, 's>],
-) -> Result<DottedNames<'s>, AllocError>
-    ensures count { IfOk result (λ n. length n.places.items ≡ length places.now) }
-    ensures names { IfOk result (λ n. map names_in n.places.items ≡ names_of dotted (spots_of places.now)) }
-{
-    let mut list = Vec::new(alloc);
-    for place in places {
-        let front = front_below(place, &list, alloc)?;
-        let names = place_names(place, front, alloc)?;
-        list.push(names)?;
-    }
-    Ok(DottedNames { places: list })
-}
-
-/// What stands before the names of the module with a number: the number and a dot, and before those of the top nothing.
-fn number_front(number: usize, alloc: Global) -> Result<String, AllocError>
-    ensures { IfOk result (λ s. string_bytes s ≡ number_front number) }
-{
-    if number == 0 {
+    if top_is_plain && number == 0 {
         return Ok(String::new(alloc));
     }
     let front = format!(in alloc; "{number}.")?;
     Ok(front)
 }
 
-/// The names of all modules that stand in a design, each with the number of its module before it. They are about as long as in the text,
-/// however deep their modules stand.
+/// The names of all modules that stand in a design, each with the number of its module before it; those of the top are left as they are if
+/// they are to be plain. They are about as long as in the text, however deep their modules stand.
 pub fn numbered_names<'t, 's>(
     alloc: Global,
     places: &'t [Place<'t, 's>],
+    top_is_plain: bool,
 ) -> Result<DottedNames<'s>, AllocError>
     ensures count { IfOk result (λ n. length n.places.items ≡ length places.now) }
     ensures called { IfOk result (λ n. (d : Design) → IsPlacing d (spots_of places.now)
-        → AreCalled d (numbered (spots_of places.now)) (spots_of places.now) (map names_in n.places.items)) }
+        → AreCalled d (numbered top_is_plain (spots_of places.now)) (spots_of places.now) (map names_in n.places.items)) }
+    ensures seen { IfOk result (λ _. (d : Design) (v : Valuation) → IsPlacing d (spots_of places.now)
+        → (w : Valuation) × IsSeenAs d (numbered false (spots_of places.now)) v w) }
 {
     let mut list = Vec::new(alloc);
     for (number, place) in places.iter().enumerate() {
-        let front = number_front(number, alloc)?;
+        let front = number_front(number, top_is_plain, alloc)?;
         let names = place_names(place, front, alloc)?;
         list.push(names)?;
     }

@@ -1,5 +1,5 @@
 //! The kinds on bits without drivers and on combinational loops, over the design in one scope.
-ghost use Rattle.std.specs.Prelude.{◌≡◌, ◌↔◌, length, map, slice_get, Some, IfOk};
+ghost use Rattle.std.specs.Prelude.{◌≡◌, ◌↔◌, true, length, map, slice_get, Some, IfOk};
 ghost use Rattle.verilog_meaning.specs.Settled.{Design};
 ghost use Rattle.verilog_designs.specs.Drivers.{HasUndriven};
 ghost use Rattle.verilog_designs.specs.Dependence.{HasLoop};
@@ -54,7 +54,8 @@ fn flat_refusal<'n, 's: 'n>(
     Ok(None)
 }
 
-/// The same of the design that stands at these places, where its names are called by the numbers of their modules.
+/// The same of the design that stands at these places, where its names are called by the numbers of their modules, those of its top as
+/// they are.
 fn numbered_refusal<'t, 's>(
     alloc: Global,
     places: &'t [Place<'t, 's>],
@@ -65,7 +66,7 @@ fn numbered_refusal<'t, 's>(
 ) -> Result<Option<DesignKind>, AllocError>
     requires count { length names.now.places.items ≡ length places.now }
     requires called { (d : Design) → IsPlacing d (spots_of places.now)
-        → AreCalled d (numbered (spots_of places.now)) (spots_of places.now) (map names_in names.now.places.items) }
+        → AreCalled d (numbered true (spots_of places.now)) (spots_of places.now) (map names_in names.now.places.items) }
     requires sound { (d : Design) × IsSoundDesign interfaces.now (spots_of places.now) d }
     ensures { IfOk result (λ k. (d : Design) (x : Spot) → IsSoundDesign interfaces.now (spots_of places.now) d → slice_get (spots_of places.now) 0 ≡ Some x
         → HasNamesOf top.now x.of_module → d.clock ≡ clock.now → IsFirst d flat_kinds k) }
@@ -92,7 +93,7 @@ pub(crate) fn one_scope_refusal<'p, 't, 's>(
     ensures { IfOk result (λ k. (d : Design) → IsSoundDesign interfaces.now (spots_of places.now) d → d.clock ≡ clock.now → IsFirst d flat_kinds k) }
 {
     let top = scope_with(scopes, numbers, 0);
-    let numbered = numbered_names(alloc, places)?;
+    let numbered = numbered_names(alloc, places, true)?;
     let kind = numbered_refusal(alloc, places, &numbered, &top.names, interfaces, clock)?;
     Ok(kind)
 }

@@ -7,7 +7,7 @@ use Rattle.wb_values.specs.Value.{Name, same_name, Entries}
 use Rattle.wb_values.specs.Choice.{first_of}
 use Rattle.verilog_trees.specs.Syntax.{Connections, Item, port, parameter, wires, variables, assign, always, instances, Module, Source}
 use Rattle.verilog_meaning.specs.Expression.{Object}
-use Rattle.verilog_meaning.specs.Hierarchy.{Declaration, item_declarations, port_declarations, header_ports, declarations, PathStep, instance_step, Placed, placed_scope, placed_below, placed_instance, module_named, Instance, instance_among, instance_named, dotted}
+use Rattle.verilog_meaning.specs.Hierarchy.{Declaration, item_declarations, port_declarations, header_ports, declarations, PathStep, instance_step, Placed, placed_scope, placed_below, placed_instance, module_named, Instance, instance_among, instance_named}
 use Rattle.verilog_meaning.specs.Settled.{Design, at_path, IsPlacedIn, is_declared_among}
 use Rattle.verilog_designs.specs.Names.{mentions, uses_unknown, instantiates_unknown, has_undeclared}
 use Rattle.verilog_registers.specs.Order.{Member, net, instance, same_member, nets, instances_in, is_passed_over, placed_among, item_members, others, each_once, members_in}
@@ -18,13 +18,14 @@ use Rattle.verilog_unique.proofs.Standing.{stands_in}
 use Rattle.v_places.specs.Below.{Spot}
 use Rattle.v_places.specs.Places.{placed_by}
 use Rattle.v_places.proofs.Spots.{get_among, among_get, get_within, within_get, same_some}
-use Rattle.v_flat.specs.Paths.{front_of, paths_of, placed_of}
-use Rattle.v_flat.specs.Entries.{spot_entries, dotted_entries, spot_names, names_of, named_after}
+use Rattle.flat_designs.specs.Flat.{Naming}
+use Rattle.v_flat.specs.Paths.{paths_of, placed_of}
+use Rattle.v_flat.specs.Entries.{spot_entries, dotted_entries, SpotNames, spot_names, names_of, named_after}
 use Rattle.v_flat.specs.Whole.{IsPlacing}
 use Rattle.v_flat.proofs.Places.{IsAt, at_number, number_at, at_path_number, apart_numbers}
-use Rattle.v_flat.proofs.Named.{keys, front_dotted, declared_entry, get_names}
+use Rattle.v_flat.proofs.Named.{keys, declared_entry, get_names}
 use Rattle.v_ordered.specs.Order.{AreNamesInOrder, end, net_of, below as below_here}
-use Rattle.v_ordered.specs.Lines.{list_at, one_name, dotted_under, line, AreBelow, AreLines}
+use Rattle.v_ordered.specs.Lines.{list_at, one_name, called_under, line, AreBelow}
 
 -- ---- members of a module
 
@@ -136,7 +137,7 @@ net_is_declared m n h =
       | inr k ↦ declared_right ports (item_declarations m.items) n (item_declared (declarations m) m.items n k)
     ]
 
--- ---- a name that a module has has its dotted name
+-- ---- what a name that a module has is called
 
 module _ (front : Name) (n : Name) where
   named_kept : (es : Entries Object) (o : Option Name) → o ≡ Some (front ++ n) → named_after o (dotted_entries front es) n ≡ Some (front ++ n)
@@ -290,6 +291,12 @@ record Stands (d : Design) (spots : List Spot) (k : ℕ) (x : Spot) (q : List Pa
   is_at : IsAt spots k x q
   in_design : IsPlacedIn d (placed_by q x)
 
+-- Each list has the names of its place's module, those of an instance where it stands.
+abbrev pub HaveNames : List Spot → List SpotNames → (lists : ℕ → List Name) → Type 0
+HaveNames spots names lists =
+    (k : ℕ) (x : Spot) (p : SpotNames) → slice_get spots k ≡ Some x → slice_get names k ≡ Some p
+    → (child : Name → Option ℕ) × AreBelow spots k child × (lists k ≡ line (called_under p) child lists (members_in x.of_module))
+
 record IsFound (d : Design) (spots : List Spot) (p : Placed) : Type 0 where
   number : ℕ
   spot : Spot
@@ -346,11 +353,9 @@ module _ (d : Design) (spots : List Spot) (h : IsPlacing d spots) where
         (not_true (has_undeclared d.source x.of_module)
         (λ t. h.no_undeclared (record { within = x.of_module; stands = stands_in d q (placed_by q x) s.in_design; names_unknown = t })))
 
-    -- a net has its dotted name
-    its_name : (n : Name) → IsAmong (members_in x.of_module) (net n) → dotted_under (spot_names (front_of q) x) n ≡ Some (dotted q n)
-    its_name n g =
-        named_there (front_of q) n (spot_entries x) None (declared_entry x.of_module x.constants n (net_is_declared x.of_module n g))
-        ∙ ap (λ m. Some m) (front_dotted q n)
+    -- what a net is called, where this stands before the names of its module
+    its_name : (front n : Name) → IsAmong (members_in x.of_module) (net n) → called_under (spot_names front x) n ≡ Some (front ++ n)
+    its_name front n g = named_there front n (spot_entries x) None (declared_entry x.of_module x.constants n (net_is_declared x.of_module n g))
 
     -- something stands at an instance
     stands_below : (u : Name) → IsAmong (members_in x.of_module) (instance u) → (p : Placed) × (at_path d (instance_step u ∷ q) ≡ Some p)
@@ -418,44 +423,47 @@ module _ (d : Design) (spots : List Spot) (h : IsPlacing d spots) where
 
   -- ---- lists
 
-  module _ (lists : ℕ → List Name) (lines : AreLines spots (names_of dotted spots) lists) where
+  module _ (called : Naming) (fronts : (path : List PathStep) (n : Name) → called path [] ++ n ≡ called path n) (lists : ℕ → List Name)
+      (lines : HaveNames spots (names_of called spots) lists) where
     -- the members of one place, where the lists of all places behind it have their names in order
     along : (k : ℕ) (x : Spot) (q : List PathStep) (s : Stands d spots k x q) (child : Name → Option ℕ) → AreBelow spots k child
-        → ((c : ℕ) (z : Spot) (r : List PathStep) → k < c → Stands d spots c z r → AreNamesInOrder d (placed_by r z) (members_in z.of_module) (lists c))
+        → ((c : ℕ) (z : Spot) (r : List PathStep) → k < c → Stands d spots c z r → AreNamesInOrder d called (placed_by r z) (members_in z.of_module) (lists c))
         → (xs : List Member) → ((z : Member) → IsAmong xs z → IsAmong (members_in x.of_module) z)
-        → AreNamesInOrder d (placed_by q x) xs (line (dotted_under (spot_names (front_of q) x)) child lists xs)
+        → AreNamesInOrder d called (placed_by q x) xs (line (called_under (spot_names (called q []) x)) child lists xs)
     along k x q s child below deeper [] among = end (placed_by q x)
     along k x q s child below deeper (net n ∷ xs) among =
-        let f : Name → Option Name = dotted_under (spot_names (front_of q) x) in
-        subst (λ o. AreNamesInOrder d (placed_by q x) (net n ∷ xs) (one_name o ++ line f child lists xs)) (sym (its_name k x q s n (among (net n) (inl refl))))
+        let f : Name → Option Name = called_under (spot_names (called q []) x) in
+        subst (λ o. AreNamesInOrder d called (placed_by q x) (net n ∷ xs) (one_name o ++ line f child lists xs))
+        (sym (its_name k x q s (called q []) n (among (net n) (inl refl)) ∙ ap (λ m. Some m) (fronts q n)))
         (net_of (placed_by q x) n xs (line f child lists xs) (along k x q s child below deeper xs (λ z g. among z (inr g))))
     along k x q s child below deeper (instance u ∷ xs) among =
-        let f : Name → Option Name = dotted_under (spot_names (front_of q) x) in
+        let f : Name → Option Name = called_under (spot_names (called q []) x) in
         let b = below_it k x q s child below u (among (instance u) (inl refl)) in
-        subst (λ o. AreNamesInOrder d (placed_by q x) (instance u ∷ xs) (list_at lists o ++ line f child lists xs)) (sym b.is_child)
+        subst (λ o. AreNamesInOrder d called (placed_by q x) (instance u ∷ xs) (list_at lists o ++ line f child lists xs)) (sym b.is_child)
         (below_here (placed_by q x) (placed_by (instance_step u ∷ q) b.spot) u xs (lists b.number) (line f child lists xs) b.stands.in_design
         (deeper b.number b.spot (instance_step u ∷ q) b.after b.stands) (along k x q s child below deeper xs (λ z g. among z (inr g))))
 
     -- from the last place down to the first
     in_order : (n k : ℕ) (x : Spot) (q : List PathStep) → length spots ≤ n + k → Stands d spots k x q
-        → AreNamesInOrder d (placed_by q x) (members_in x.of_module) (lists k)
+        → AreNamesInOrder d called (placed_by q x) (members_in x.of_module) (lists k)
     in_order zero k x q l s = let w = get_within spots k x s.is_at.is_spot in absurd (omega (arith, l, w))
     in_order (suc n) k x q l s =
-        let r = lines k x (spot_names (front_of q) x) s.is_at.is_spot (get_names dotted (paths_of spots) spots k q x s.is_at.is_there s.is_at.is_spot) in
-        subst (AreNamesInOrder d (placed_by q x) (members_in x.of_module)) (sym r.2)
+        let r = lines k x (spot_names (called q []) x) s.is_at.is_spot (get_names called (paths_of spots) spots k q x s.is_at.is_there s.is_at.is_spot) in
+        subst (AreNamesInOrder d called (placed_by q x) (members_in x.of_module)) (sym r.2)
         (along k x q s r.0 r.1 (λ c z w b t. in_order n c z w (omega (arith, l, b)) t) (members_in x.of_module) (λ z g. g))
 
-    pub names_in_order : (top : Placed) → at_path d [] ≡ Some top → AreNamesInOrder d top (members_in top.of_module) (lists 0)
+    pub names_in_order : (top : Placed) → at_path d [] ≡ Some top → AreNamesInOrder d called top (members_in top.of_module) (lists 0)
     names_in_order top e =
         let f = found top (placed_in d [] top e) in
         let at : f.path ≡ [] = ap (λ (y : Placed). y.path) f.is_placed ∙ stands_at d [] top e in
         let first : f.number ≡ 0 = top_is_first f.number f.spot f.path f.stands at in
         let all : length spots ≤ length spots + f.number = omega arith in
-        subst (λ (p : Placed). AreNamesInOrder d p (members_in p.of_module) (lists 0)) f.is_placed
-        (subst (λ c. AreNamesInOrder d (placed_by f.path f.spot) (members_in f.spot.of_module) (lists c)) first
+        subst (λ (p : Placed). AreNamesInOrder d called p (members_in p.of_module) (lists 0)) f.is_placed
+        (subst (λ c. AreNamesInOrder d called (placed_by f.path f.spot) (members_in f.spot.of_module) (lists c)) first
         (in_order (length spots) f.number f.spot f.path all f.stands))
 
 -- The top's list has the names of all nets and variables of the design in their order.
-pub lines_are_in_order : (d : Design) (spots : List Spot) (lists : ℕ → List Name) (top : Placed) → IsPlacing d spots
-    → AreLines spots (names_of dotted spots) lists → at_path d [] ≡ Some top → AreNamesInOrder d top (members_in top.of_module) (lists 0)
-lines_are_in_order d spots lists top placing lines e = names_in_order d spots placing lists lines top e
+pub lines_are_in_order : (d : Design) (called : Naming) (spots : List Spot) (lists : ℕ → List Name) (top : Placed) → IsPlacing d spots
+    → HaveNames spots (names_of called spots) lists → ((path : List PathStep) (n : Name) → called path [] ++ n ≡ called path n) → at_path d [] ≡ Some top
+    → AreNamesInOrder d called top (members_in top.of_module) (lists 0)
+lines_are_in_order d called spots lists top placing lines fronts e = names_in_order d spots placing called fronts lists lines top e

@@ -1,7 +1,7 @@
 -- The names of a design in order as one list for each place: its module's names, those of each instance where it stands.
 use Rattle.std.specs.Prelude.{◌≡◌, ◌<◌, ℕ, true, List, [], ◌∷◌, ◌++◌, slice_get, Option, Some, None, is_some}
 use Rattle.wb_values.specs.Value.{Name}
-use Rattle.verilog_registers.specs.Order.{Member, net, instance, members_in}
+use Rattle.verilog_registers.specs.Order.{Member, net, instance}
 use Rattle.v_places.specs.Below.{Spot}
 use Rattle.v_flat.specs.Entries.{SpotNames, named_after}
 
@@ -15,11 +15,11 @@ abbrev pub one_name : Option Name → List Name
 one_name None = []
 one_name (Some n) = n ∷ []
 
--- the dotted name of a name, if it has one
-abbrev pub dotted_under : SpotNames → Name → Option Name
-dotted_under p = named_after None p.entries
+-- what a name of a place is called, if the place has it
+abbrev pub called_under : SpotNames → Name → Option Name
+called_under p = named_after None p.entries
 
--- The names of a module's members in their order: those of nets under their dotted names, those of an instance from the list of its place.
+-- The names of a module's members in their order: those of nets as they are called, those of an instance from the list of its place.
 abbrev pub line : (f : Name → Option Name) → (child : Name → Option ℕ) → (lists : ℕ → List Name) → List Member → List Name
 line f child lists [] = []
 line f child lists (net n ∷ xs) = one_name (f n) ++ line f child lists xs
@@ -29,9 +29,3 @@ line f child lists (instance u ∷ xs) = list_at lists (child u) ++ line f child
 pub record AreBelow (spots : List Spot) (k : ℕ) (child : Name → Option ℕ) : Type 0 where
   pub each : (u : Name) (c : ℕ) → child u ≡ Some c → (x : Spot) × (slice_get spots c ≡ Some x) × (x.parent ≡ k) × (k < c) × (x.instance ≡ u)
   pub all : (c : ℕ) (x : Spot) → slice_get spots c ≡ Some x → x.parent ≡ k → k < c → is_some (child x.instance) ≡ true
-
--- Each list has the names of its place's module, those of an instance where it stands.
-abbrev pub AreLines : List Spot → List SpotNames → (lists : ℕ → List Name) → Type 0
-AreLines spots names lists =
-    (k : ℕ) (x : Spot) (p : SpotNames) → slice_get spots k ≡ Some x → slice_get names k ≡ Some p
-    → (child : Name → Option ℕ) × AreBelow spots k child × (lists k ≡ line (dotted_under p) child lists (members_in x.of_module))

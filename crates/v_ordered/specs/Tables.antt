@@ -1,18 +1,20 @@
--- The code's tables of places by the names of their instances, and its lists of names.
-use Rattle.std.specs.Prelude.{◌≡◌, ◌≢◌, ◌<◌, ◌-◌, ℕ, suc, cond, List, [], map, get_or, slice_get, Option, Some, None, option_map}
+-- The code's tables of names and of places by the names of their instances, and the lists of names that they give.
+use Rattle.std.specs.Prelude.{◌≡◌, ◌≢◌, ◌<◌, ℕ, cond, List, map, get_or, Option, Some, None, option_map}
 use Rattle.std.specs.Borrow.{Bor}
-use Rattle.std.specs.declared.vec.Vec.{Vec}
-use Rattle.std.specs.declared.alloc.Global.{Global}
 use Rattle.std.specs.BTreeMap.{BTreeMap}
 use Rattle.wb_values.specs.Value.{Name, same_name}
 use Rattle.v_hier.specs.Tables.{under_name}
-use Rattle.verilog_registers.specs.Order.{members_in}
-use Rattle.v_places.specs.Below.{Spot}
-use Rattle.v_ordered.specs.Lines.{line, AreBelow}
+use Rattle.verilog_registers.specs.Order.{Member, members_in}
+use Rattle.v_places.specs.Below.{Spot, spot_in}
+use Rattle.v_ordered.specs.Lines.{line}
 
--- the dotted name that a table has for a name
+-- what a table has for a name
 abbrev pub text_under : BTreeMap (Bor (List ℕ)) (Bor (List ℕ)) → Name → Option Name
 text_under t n = option_map (λ m. m.now) (under_name t n)
+
+-- what the table of a place has for a name
+abbrev pub text_at : List (BTreeMap (Bor (List ℕ)) (Bor (List ℕ))) → ℕ → Name → Option Name
+text_at ts k = get_or (map text_under ts) k (λ n. None)
 
 -- the number that the table of a place has under a name
 abbrev pub number_at : List (BTreeMap (Bor (List ℕ)) ℕ) → ℕ → Name → Option ℕ
@@ -27,12 +29,14 @@ pub record IsEntered (number : ℕ) (x : Spot) (before after : ℕ → Name → 
 abbrev pub seen : List (Bor (List ℕ)) → List Name
 seen ns = map (λ n. n.now) ns
 
--- The list of a place, where the lists of so many places stand from the last place to the first.
-abbrev pub list_from : ℕ → List (Vec (Bor (List ℕ)) Global) → ℕ → List Name
-list_from count lists k = seen (get_or (map (λ v. v.items) lists) (count - suc k) [])
+-- the members of a place's module
+abbrev pub members_at : List Spot → ℕ → List Member
+members_at spots k = members_in (spot_in spots k).of_module
 
--- Each list has the names of its place's module, those of an instance where it stands, where the dotted names in each module are these.
-abbrev pub AreLinesBy : List Spot → List (Name → Option Name) → (lists : ℕ → List Name) → Type 0
-AreLinesBy spots fs lists =
-    (k : ℕ) (x : Spot) (f : Name → Option Name) → slice_get spots k ≡ Some x → slice_get fs k ≡ Some f
-    → (child : Name → Option ℕ) × AreBelow spots k child × (lists k ≡ line f child lists (members_in x.of_module))
+-- the names of a place's module, those of an instance where it stands, by these tables
+abbrev pub line_at : List Spot → List (BTreeMap (Bor (List ℕ)) (Bor (List ℕ))) → List (BTreeMap (Bor (List ℕ)) ℕ) → (lists : ℕ → List Name) → ℕ → List Name
+line_at spots ts bs lists k = line (text_at ts k) (number_at bs k) lists (members_at spots k)
+
+-- The list of each place has them.
+abbrev pub AreLines : List Spot → List (BTreeMap (Bor (List ℕ)) (Bor (List ℕ))) → List (BTreeMap (Bor (List ℕ)) ℕ) → (lists : ℕ → List Name) → Type 0
+AreLines spots ts bs lists = (k : ℕ) → lists k ≡ line_at spots ts bs lists k

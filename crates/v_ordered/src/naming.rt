@@ -1,15 +1,15 @@
-//! The dotted names of each module by the names in its text.
+//! What the names of each module are called, by the names in its text.
 ghost use Rattle.std.specs.Prelude.{◌≡◌, ℕ, List, None, map, IfOk};
 ghost use Rattle.v_flat.specs.Entries.{named_after};
 ghost use Rattle.v_flat.specs.Views.{entry_in, names_in};
-ghost use Rattle.v_ordered.specs.Lines.{dotted_under};
+ghost use Rattle.v_ordered.specs.Lines.{called_under};
 ghost use Rattle.v_ordered.specs.Tables.{text_under};
 
 use std::alloc::{AllocError, Global};
 use std::collections::BTreeMap;
 use v_flat::{Dotted, PlaceNames};
 
-/// The dotted names of one module.
+/// What the names of one module are called.
 fn table_of<'n>(
     alloc: Global,
     names: &'n [Dotted<'n>],
@@ -23,12 +23,12 @@ fn table_of<'n>(
     Ok(table)
 }
 
-/// The dotted names of each module.
+/// What the names of each module are called.
 pub(crate) fn tables_of<'n>(
     alloc: Global,
     places: &'n [PlaceNames<'n>],
 ) -> Result<Vec<BTreeMap<&'n str, &'n str>>, AllocError>
-    ensures { IfOk result (λ v. map text_under v.items ≡ map dotted_under (map names_in places.now)) }
+    ensures { IfOk result (λ v. map text_under v.items ≡ map called_under (map names_in places.now)) }
 {
     let mut tables = Vec::new(alloc);
     for place in places {

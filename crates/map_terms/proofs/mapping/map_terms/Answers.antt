@@ -62,7 +62,7 @@ invariant_of-result-clause-words c =
 pub invariant_of-result-clause-within : goal.invariant_of-result-clause-within
 invariant_of-result-clause-within c = λ n.
     within_stays c.args.design.terms c.terms_of_map.new.terms (Grows-trans c.named_terms.ensures.grows (Grows-trans c.reset_term.ensures.grows c.terms_of_map.ensures.grows))
-    (terms_at c.args.design.settled n) (c.args.design.within n)
+    (terms_at c.args.design.settled.items n) (c.args.design.within n)
 
 pub returns-clause-mapped : goal.returns-clause-mapped
 returns-clause-mapped c = λ source ready.

@@ -1,4 +1,10 @@
 use Rattle.v_elab.proofs.flat.placed_design.Goals as goal
 
-pub dotted_design-requires : goal.dotted_design-requires
-dotted_design-requires c = record { names = c.in_ok-dotted.ensures.names; stands = c.requires }
+pub numbered_design-requires-clause-count : goal.numbered_design-requires-clause-count
+numbered_design-requires-clause-count c = c.in_ok-names.ensures.count
+
+pub numbered_design-requires-clause-called : goal.numbered_design-requires-clause-called
+numbered_design-requires-clause-called c = c.in_ok-names.ensures.called
+
+pub numbered_design-requires-clause-seen : goal.numbered_design-requires-clause-seen
+numbered_design-requires-clause-seen c = c.in_ok-names.ensures.seen

@@ -5,6 +5,8 @@ use Rattle.v_registers.specs.Registers.{counted_of}
 use Rattle.v_elab.specs.Names.{AreEntriesOf, AreDistinct, ArePlain, AreMasksOf}
 use Rattle.v_elab.specs.Tables.{register_rows, input_rows, other_rows}
 use Rattle.v_elab.proofs.Beginning.{drop_mapped, entered_names, same_rows, are_distinct, have_masks, inputs_plain, others_plain, begins}
+use Rattle.verilog_meaning.specs.Settled.{names_of}
+use Rattle.v_elab.proofs.Entries.{names_are}
 use Rattle.v_elab.proofs.start.begin.Goals as goal
 
 pub store_of-requires-clause-distinct : goal.store_of-requires-clause-distinct
@@ -54,3 +56,10 @@ returns-clause-begun c =
     (ap (input_rows c.len-first.result) (drop_mapped (λ n. n.now) c.len-first.result c.deref-3.result.now ∙ ap (λ (xs : List (Bor (List ℕ))). drop c.len-first.result (map (λ n. n.now) xs)) c.deref-3.ensures.value))
     _ _ _ _ _ _ c.in_ok-enter_inputs.ensures)
     (same_rows (scope_at c.args.scope.now) _ _ (ap (λ (xs : List (Bor (List ℕ))). other_rows (map (λ n. n.now) xs)) c.deref-4.ensures.value) _ _ _ _ _ _ c.in_ok-enter_others.ensures)
+
+pub returns-clause-stored : goal.returns-clause-stored
+returns-clause-stored c =
+    ap names_of (entered_names (scope_at c.args.scope.now) _ _ _ _ _ _ _ c.in_ok-enter_others.ensures ∙ entered_names (scope_at c.args.scope.now) _ _ _ _ _ _ _ c.in_ok-enter_inputs.ensures
+    ∙ entered_names (scope_at c.args.scope.now) _ _ _ _ _ _ _ c.in_ok-enter_registers.ensures)
+    ∙ names_are (scope_at c.args.scope.now) (map (λ n. n.now) c.deref.result.now) c.in_ok-terms.terms.names c.in_ok-terms.ensures.names
+    ∙ ap (λ (xs : List (Bor (List ℕ))). map (λ n. n.now) xs) c.deref.ensures.value

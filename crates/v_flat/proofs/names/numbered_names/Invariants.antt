@@ -7,5 +7,5 @@ use Rattle.v_flat.proofs.names.numbered_names.Given as goal
 abbrev pub invariant-loop-number : goal.invariant-loop-number
 invariant-loop-number l = record {
   few : length l.places < 2 ^ 64;
-  made : numbered_from 0 (spots_of l.places) ≡ map names_in l.list.items ++ numbered_from l.number (spots_of (drop l.number l.places));
+  made : numbered_from l.top_is_plain 0 (spots_of l.places) ≡ map names_in l.list.items ++ numbered_from l.top_is_plain l.number (spots_of (drop l.number l.places));
 }
