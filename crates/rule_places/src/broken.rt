@@ -250,7 +250,8 @@ fn first_in_pieces(
     }
 }
 
-/// The first place at which a design that stands at these places breaks the rule of a kind, if it can be told.
+/// The first place at which a design that stands at these places breaks the rule of a kind, if it can be told. There is room for so many
+/// pieces from the beginning.
 fn first_at_places<'t, 's>(
     list: &'t [Place<'t, 's>],
     alloc: Global,
@@ -258,9 +259,11 @@ fn first_at_places<'t, 's>(
     interfaces: &Interfaces<'s>,
     clock: &'s str,
     kind: RuleKind,
+    room: usize,
 ) -> Result<Option<Found>, AllocError> {
     let clocks = clock_nets(alloc, list, interfaces, clock)?;
     let mut out = Layout::new(alloc, BTreeMap::new(alloc), clock, kind);
+    out.pieces = Vec::with_capacity(alloc, room)?;
     let is_whole = lay_out_places(list, alloc, modules, interfaces, &clocks, false, &mut out)?;
     if kind == RuleKind::BadConstant && out.first.is_none() {
         lay_out_places(list, alloc, modules, interfaces, &clocks, true, &mut out)?;
@@ -280,12 +283,21 @@ fn first_below<'t, 's>(
     interfaces: &Interfaces<'s>,
     clock: &'s str,
     kind: RuleKind,
+    room: usize,
 ) -> Result<Option<Found>, AllocError> {
     let found = places(alloc, tree, within)?;
     match found {
         Some(list) => {
             let mut list = list;
-            first_at_places(list.as_mut_slice(), alloc, modules, interfaces, clock, kind)
+            first_at_places(
+                list.as_mut_slice(),
+                alloc,
+                modules,
+                interfaces,
+                clock,
+                kind,
+                room,
+            )
         }
         None => Ok(None),
     }
@@ -316,6 +328,7 @@ fn first_place<'t, 's>(
     interfaces: &Interfaces<'s>,
     clock: &str,
     kind: RuleKind,
+    room: usize,
 ) -> Result<Option<Found>, AllocError> {
     let modules = numbers_of(&tree.modules, alloc)?;
     let own = own_name(within, interfaces, clock);
@@ -325,7 +338,7 @@ fn first_place<'t, 's>(
                 let top = modules.get(within.name).copied().unwrap_or(0);
                 first_by_names(tree, alloc, modules, interfaces, top, own, kind)
             }
-        _ => first_below(tree, alloc, within, &modules, interfaces, own, kind),
+        _ => first_below(tree, alloc, within, &modules, interfaces, own, kind, room),
     }
 }
 
@@ -343,7 +356,9 @@ pub fn broken_at<'s>(
         return Ok(None);
     };
     let interfaces = interfaces_of(alloc, tree)?;
-    let found = first_place(tree, alloc, within, &interfaces, clock, kind)?;
+    // What is laid out has about five pieces for four tokens at most, where each module stands once.
+    let room = tokens.len().saturating_add(tokens.len() / 4);
+    let found = first_place(tree, alloc, within, &interfaces, clock, kind, room)?;
     match found {
         Some(place) => Ok(token_of(tokens, place)),
         None => Ok(None),
