@@ -1,0 +1,10 @@
+mod Typed
+mod Stored
+mod Legal
+mod Pieces
+mod Forms
+mod Printed
+mod Childless
+mod Shallow
+mod Flat
+mod Whole

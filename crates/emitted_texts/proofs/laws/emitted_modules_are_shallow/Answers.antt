@@ -1,0 +1,5 @@
+use Rattle.emitted_texts.proofs.Whole.{modules_are_shallow}
+use Rattle.emitted_texts.proofs.laws.emitted_modules_are_shallow.Goals as goal
+
+pub returns : goal.returns
+returns c = modules_are_shallow
