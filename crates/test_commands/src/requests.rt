@@ -2,7 +2,7 @@
 
 use crate::sheet::Sheet;
 use std::alloc::Global;
-use wb_words::{Replay, Request, SimulateBoth, SimulateRtl, WordsStop, request};
+use wb_words::{Emit, Replay, Request, SimulateBoth, SimulateRtl, WordsStop, request};
 
 /// The words of a line. One for which no memory is left is wanting.
 fn words_of(alloc: Global, line: &str) -> Vec<String> {
@@ -41,6 +41,16 @@ fn add_request(request: &Request<'_>, alloc: Global, out: &mut Sheet) {
         Request::SimulateRtl(design) => add_design(design, out),
         Request::Replay(replay) => add_replay(replay, out),
         Request::SimulateBoth(both) => add_both(both, out),
+        Request::Emit(emit) => add_emission(emit, out),
+    }
+}
+
+/// Adds an emission as a line.
+fn add_emission(emit: &Emit<'_>, out: &mut Sheet) {
+    out.add("emit ");
+    out.add(emit.model);
+    if emit.map_only {
+        out.add(" map-only");
     }
 }
 

@@ -5,3 +5,4 @@ pub mod Lines
 pub mod Told
 pub mod Decides
 pub mod Headline
+pub mod EmittedBy

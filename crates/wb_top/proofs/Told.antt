@@ -8,7 +8,7 @@ use Rattle.wb_values.specs.Value.{Name}
 use Rattle.refinement.specs.Map.{Setting}
 use Rattle.check_limits.specs.Limits as limits
 use Rattle.wb_outside.specs.Outside.{with_appended, GrewByPrefix, AreStartsOf}
-use Rattle.wb_top.specs.Words.{Verb, check, simulate, simulate_rtl, replay, simulate_both, Command, command_of}
+use Rattle.wb_top.specs.Words.{Verb, check, simulate, simulate_rtl, replay, simulate_both, emit, Command, command_of}
 use Rattle.std.proofs.lemmas.Bool.Decides.{nat_tests}
 use Rattle.wb_top.specs.Files.{most_bytes, has_fitting_length, first_long, AreHeld}
 use Rattle.wb_top.specs.Simulated.{Pair, runs, refused, pair_of, IsSimulated, AreSimulated}
@@ -22,6 +22,8 @@ use Rattle.watched_runs.specs.Watched.{Watched, agrees, outside, disagrees}
 use Rattle.watch_report.specs.Ending as watches
 use Rattle.wb_top.specs.SimulatedBoth as both
 use Rattle.wb_top.specs.SimulatedBoth.{files_refused, is_watched, AreSimulatedBoth}
+use Rattle.wb_top.specs.Emitted as emitted
+use Rattle.wb_top.specs.Emitted.{Subject, emits, subject_of, IsEmitted, AreEmitted}
 use Rattle.wb_top.specs.Asked.{wanted_names, AskedAll, AskedSome}
 use Rattle.wb_top.specs.Outcome.{Told, IsCheckedWithin, IsEnd, IsWithin, IsAnswer, IsAnswered, IsCallOutcome}
 use Rattle.wb_top.specs.declared.status.Status.{Status}
@@ -243,6 +245,15 @@ no_files_simulate_as_usage (m ∷ p ∷ []) text h = h
 no_files_simulate_as_usage (m ∷ p ∷ x ∷ ds) text (files_refused kind of is by) = usage_is_no_refusal is
 no_files_simulate_as_usage (m ∷ p ∷ x ∷ ds) text (is_watched s of ended) = no_side_by_side_is_usage ended.0 text ended.2
 
+no_subject_is_usage : (map_only : Bool) (x : Subject) (text : List ℕ) → IsEmitted map_only x Usage text → ⊥
+no_subject_is_usage map_only (emits m) text h = h
+no_subject_is_usage map_only (emitted.refused kind) text h = h
+
+no_emission_is_usage : (map_only : Bool) (contents : List (List ℕ)) (text : List ℕ) → AreEmitted map_only contents Usage text → ⊥
+no_emission_is_usage map_only [] text h = h
+no_emission_is_usage map_only (m ∷ []) text h = no_subject_is_usage map_only (subject_of m) text h
+no_emission_is_usage map_only (m ∷ x ∷ xs) text h = h
+
 no_check_is_usage : (limit : Option limits.Limit) (s : Setting) (budget : ℕ) (text : Told) → IsCheckedWithin limit s budget Usage text → ⊥
 no_check_is_usage None s budget text h = h
 no_check_is_usage (Some limit) s budget text h = usage_is_no_limit h.0
@@ -254,6 +265,7 @@ no_end_is_usage None simulate contents text h = no_simulation_is_usage contents 
 no_end_is_usage None (simulate_rtl top clock) contents text h = no_rtl_is_usage top clock contents text.text h.0
 no_end_is_usage None replay contents text h = no_files_replay_as_usage contents text.text h.0
 no_end_is_usage None simulate_both contents text h = no_files_simulate_as_usage contents text.text h.0
+no_end_is_usage None (emit map_only) contents text h = no_emission_is_usage map_only contents text.text h.0
 
 -- an answer on files is never about the words
 answered_outcome : (held : Option (Name → Option (List ℕ))) (words : List Name) (status : Status) (text : Told)

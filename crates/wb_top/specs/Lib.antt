@@ -8,6 +8,7 @@ pub mod Simulated
 pub mod SimulatedRtl
 pub mod Replayed
 pub mod SimulatedBoth
+pub mod Emitted
 pub mod Cases
 pub mod Outcome
 pub mod Showing

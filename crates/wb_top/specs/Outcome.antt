@@ -9,12 +9,13 @@ use Rattle.refinement.specs.Map.{Setting}
 use Rattle.refinement.specs.Soundness.{EveryRunRefines}
 use Rattle.check_limits.specs.Limits as limits
 use Rattle.wb_outside.specs.Outside.{with_appended, GrewByPrefix}
-use Rattle.wb_top.specs.Words.{Verb, check, simulate, simulate_rtl, replay, simulate_both, Command, command_of}
+use Rattle.wb_top.specs.Words.{Verb, check, simulate, simulate_rtl, replay, simulate_both, emit, Command, command_of}
 use Rattle.wb_top.specs.Files.{first_long, StandFor, AreRefusedBy, AreHeld}
 use Rattle.wb_top.specs.Simulated.{AreSimulated}
 use Rattle.wb_top.specs.SimulatedRtl.{AreRtlSimulated}
 use Rattle.wb_top.specs.Replayed.{AreReplayed}
 use Rattle.wb_top.specs.SimulatedBoth.{AreSimulatedBoth}
+use Rattle.wb_top.specs.Emitted.{AreEmitted}
 use Rattle.wb_top.specs.Limits.{IsLimitOf}
 use Rattle.wb_top.specs.Texts.{usage_text, length_text, limit_text, IsRefusalBy}
 use Rattle.wb_top.specs.declared.status.Status.{Status}
@@ -53,6 +54,7 @@ IsEnd simulate contents status t = AreSimulated contents status t.text × (t.spe
 IsEnd (simulate_rtl top clock) contents status t = AreRtlSimulated top clock contents status t.text × (t.spent ≡ [])
 IsEnd replay contents status t = AreReplayed contents status t.text × (t.spent ≡ [])
 IsEnd simulate_both contents status t = AreSimulatedBoth contents status t.text × (t.spent ≡ [])
+IsEnd (emit map_only) contents status t = AreEmitted map_only contents status t.text × (t.spent ≡ [])
 
 -- A file that is too long is answered before any is read as text: by the number of the first such, from 0.
 abbrev pub IsWithin : Option ℕ → Verb → List (List ℕ) → Status → Told → Type 0

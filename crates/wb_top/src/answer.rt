@@ -14,6 +14,7 @@ ghost use Rattle.wb_top.specs.Outcome.{IsAnswer, IsEnd, IsChecked, IsCheckedSett
 
 use crate::both::simulated_both;
 use crate::cases::{Case, case_of};
+use crate::emission::emitted;
 use crate::length::first_long;
 use crate::replaying::replayed;
 use crate::rtl::simulated_rtl;
@@ -111,6 +112,10 @@ fn ended(
             [model, map, script, designs @ ..] => {
                 simulated_both(alloc, names_after(names, 3), model, map, script, designs)
             }
+            _ => unreachable!(),
+        },
+        Verb::Emit(map_only) => match contents {
+            [model] => emitted(alloc, model, *map_only),
             _ => unreachable!(),
         },
     }

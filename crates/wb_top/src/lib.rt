@@ -4,6 +4,7 @@
 mod answer;
 mod both;
 mod cases;
+mod emission;
 pub mod laws;
 mod length;
 mod outcome;

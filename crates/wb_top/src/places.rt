@@ -36,7 +36,7 @@ fn rule_kind(kind: DesignKind) -> RuleKind {
 
 /// The note that leads to the place at which a design with this top and this clock breaks the rule of a kind first, if it can be told. The
 /// tree and the tokens are those of the files.
-pub(crate) fn note_of_design<'s>(
+fn note_of_design<'s>(
     tree: &Tree<'s>,
     tokens: &[Token<'s>],
     alloc: Global,
@@ -54,6 +54,23 @@ pub(crate) fn note_of_design<'s>(
     }
 }
 
+/// The same of a design of these Verilog files. They are read once more.
+pub(crate) fn note_in_files(
+    alloc: Global,
+    top: &str,
+    clock: &str,
+    designs: &[Vec<u8>],
+    kind: DesignKind,
+) -> Result<Option<Note>, NoMemory> {
+    let Ok(tokens) = tokens(alloc, designs) else {
+        return Ok(None);
+    };
+    let Ok(tree) = parse(alloc, &tokens) else {
+        return Ok(None);
+    };
+    note_of_design(&tree, &tokens, alloc, top, clock, designs, kind)
+}
+
 /// The same of the design that a map file names, in these Verilog files. They are read once more.
 pub(crate) fn note_of_case(
     alloc: Global,
@@ -64,12 +81,6 @@ pub(crate) fn note_of_case(
     let Ok(heads) = map_heads(alloc, map_file) else {
         return Ok(None);
     };
-    let Ok(tokens) = tokens(alloc, designs) else {
-        return Ok(None);
-    };
-    let Ok(tree) = parse(alloc, &tokens) else {
-        return Ok(None);
-    };
     let map = heads.map();
-    note_of_design(&tree, &tokens, alloc, &map.top, &map.clock, designs, kind)
+    note_in_files(alloc, &map.top, &map.clock, designs, kind)
 }

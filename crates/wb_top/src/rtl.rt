@@ -12,7 +12,7 @@ ghost use Rattle.wb_top.specs.Showing.{told_of};
 ghost use Rattle.wb_top.specs.SimulatedRtl.{IsSimulatedDesign, IsRtlSimulated};
 
 use crate::answer::Outcome;
-use crate::places::note_of_design;
+use crate::places::note_in_files;
 use crate::status::Status;
 use crate::stop::NoMemory;
 use crate::texts::{refusal_of_design, refusal_of_script, refusal_of_text, refusal_of_tree};
@@ -38,7 +38,7 @@ pub(crate) fn simulated_rtl(
     ensures nothing { IfOk result (λ o. (told_of o).spent ≡ []) }
 {
     match tokens(alloc, designs) {
-        Ok(tokens) => of_tokens(alloc, names, design, script, designs, &tokens),
+        Ok(tokens) => of_tokens(alloc, names, design, script, designs, tokens),
         Err(LexStop::Refused(broken)) => {
             let text = refusal_of_text(alloc, names, &broken)?;
             Ok(Outcome::plain(Status::Refused, text))
@@ -54,17 +54,21 @@ fn of_tokens(
     design: &Top,
     script: &[u8],
     designs: &[Vec<u8>],
-    tokens: &[Token<'_>],
+    tokens: Vec<Token<'_>>,
 ) -> Result<Outcome, NoMemory>
-    requires { tokens_in (map (λ d. d.items) designs.now) ≡ Ok (tokens_of tokens.now) }
+    requires { tokens_in (map (λ d. d.items) designs.now) ≡ Ok (tokens_of tokens.items) }
     ensures told { IfOk result (λ o. IsRtlSimulated (string_bytes design.now.top) (string_bytes design.now.clock) script.now (map (λ d. d.items) designs.now) o.status o.text.items) }
     ensures nothing { IfOk result (λ o. (told_of o).spent ≡ []) }
 {
-    match parse(alloc, tokens) {
-        Ok(tree) => of_tree(&tree, tokens, alloc, names, design, script, designs),
+    match parse(alloc, &tokens) {
+        Ok(tree) => {
+            // The tree holds slices of the files. A note on a place reads the tokens once more.
+            drop(tokens);
+            of_tree(tree, alloc, names, design, script, designs)
+        }
         Err(ParseStop::Refused(left)) => {
             let count = tokens.len().saturating_sub(left);
-            match note_behind(alloc, designs, tokens, count) {
+            match note_behind(alloc, designs, &tokens, count) {
                 Some(note) => {
                     let text = refusal_of_tree(alloc, names, &note)?;
                     Ok(Outcome::plain(Status::Refused, text))
@@ -76,33 +80,25 @@ fn of_tokens(
     }
 }
 
-/// The answer to a simulation of the design that is a module of the tree of some Verilog files, made of these tokens.
-fn of_tree<'s>(
-    tree: &Tree<'s>,
-    tokens: &[Token<'s>],
+/// The answer to a simulation of the design that is a module of the tree of some Verilog files.
+fn of_tree(
+    tree: Tree<'_>,
     alloc: Global,
     names: &[String],
     design: &Top,
     script: &[u8],
     designs: &[Vec<u8>],
 ) -> Result<Outcome, NoMemory>
-    requires { IsTreeOf (map (λ d. d.items) designs.now) (source_of tree.now) }
-    ensures told { IfOk result (λ o. IsSimulatedDesign (record { source = source_of tree.now; top = string_bytes design.now.top; clock = string_bytes design.now.clock }) script.now o.status o.text.items) }
+    requires { IsTreeOf (map (λ d. d.items) designs.now) (source_of tree) }
+    ensures told { IfOk result (λ o. IsSimulatedDesign (record { source = source_of tree.entry; top = string_bytes design.now.top; clock = string_bytes design.now.clock }) script.now o.status o.text.items) }
     ensures nothing { IfOk result (λ o. (told_of o).spent ≡ []) }
 {
     trees_are_of_texts();
-    match rtl_simulation::simulated_rtl(tree, &design.top, &design.clock, script, alloc)? {
+    match rtl_simulation::simulated_rtl(&tree, &design.top, &design.clock, script, alloc)? {
         RtlSimulation::Text(text) => Ok(Outcome::plain(Status::Done, text)),
         RtlSimulation::Design(kind) => {
-            let note = note_of_design(
-                tree,
-                tokens,
-                alloc,
-                &design.top,
-                &design.clock,
-                designs,
-                kind,
-            )?;
+            drop(tree);
+            let note = note_in_files(alloc, &design.top, &design.clock, designs, kind)?;
             refused_design(alloc, names, kind, &note)
         }
         RtlSimulation::Script(refusal) => {

@@ -6,7 +6,8 @@ use v_design::Design;
 /// How a call ends; its number is the program's exit status.
 #[derive(Clone, Copy, PartialEq, Eq, Debug)]
 pub enum Status {
-    /// A report was written in which all obligations are `proved`, so every run of the design refines the model; or a simulation.
+    /// A report was written in which all obligations are `proved`, so every run of the design refines the model; or a simulation, or what
+    /// is emitted of a model.
     Done,
     /// A report with a `failed` line was written.
     Failed,

@@ -10,6 +10,7 @@ ghost use Rattle.check_cases.specs.Kinds.{text_kind, tree_kind, kind_name};
 ghost use Rattle.check_limits.specs.View.{as_limit};
 ghost use Rattle.trace_reading.specs.Rule as trace_rules;
 ghost use Rattle.wb_top.specs.Texts.{usage_text, length_text, limit_text, fits_note, IsRefusalBy};
+ghost use Rattle.wb_top.specs.Emitted.{not_yet_kind};
 
 use crate::stop::NoMemory;
 use check_limits::Limit;
@@ -50,6 +51,13 @@ pub(crate) fn refusal_of_trace(alloc: Global, broken: &TraceRefusal) -> Result<V
 {
     let rule = broken.rule.name();
     refusal_text_by(alloc, rule.as_bytes(), broken.note.as_bytes())
+}
+
+/// The text for a model that is not emitted yet.
+pub(crate) fn refusal_of_children(alloc: Global) -> Result<Vec<u8>, NoMemory>
+    ensures { IfOk result (λ text. IsRefusalBy not_yet_kind text.items) }
+{
+    refusal_text_by(alloc, b"N1 NotYet", b"child programs are not emitted yet")
 }
 
 /// The text of a refusal by the rule of this name, with this note.

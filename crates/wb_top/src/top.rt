@@ -16,8 +16,9 @@ use wb_outside::{Shelf, Sink};
 /// Does what the words ask for: reads the files that they name from the shelf, and writes the outcome's text by one write.
 ///
 /// The words are `PROGRAM check --model MODEL --map MAP [--budget N] VERILOG..`, `PROGRAM simulate --model MODEL --script SCRIPT`,
-/// `PROGRAM simulate-rtl --top TOP --clock CLOCK --script SCRIPT VERILOG..`, `PROGRAM replay --model MODEL --map MAP --trace TRACE VERILOG..`
-/// or `PROGRAM simulate-both --model MODEL --map MAP --script SCRIPT VERILOG..`; all others end with `Usage`, or out of memory.
+/// `PROGRAM simulate-rtl --top TOP --clock CLOCK --script SCRIPT VERILOG..`, `PROGRAM replay --model MODEL --map MAP --trace TRACE VERILOG..`,
+/// `PROGRAM simulate-both --model MODEL --map MAP --script SCRIPT VERILOG..` or `PROGRAM emit --model MODEL [--map-only]`; all others end
+/// with `Usage`, or out of memory.
 pub fn workbench<S: Shelf, K: Sink>(
     alloc: Global,
     words: &[String],
@@ -29,8 +30,8 @@ pub fn workbench<S: Shelf, K: Sink>(
     ensures headline { AskForCheck (map string_bytes words.now) → result.status ≡ Status.Done → Headline (S.holds shelf.old) (map string_bytes words.now) }
 
     // What was written, and why: a report, each of whose lines is true; what the model, or the design, does under the script, line by
-    // line; what the trace shows of its obligation; what the design's run under the script shows of the model; or the text of a refusal or
-    // of a limit.
+    // line; what the trace shows of its obligation; what the design's run under the script shows of the model; the Verilog of a design of
+    // the model, or its map; or the text of a refusal or of a limit.
     ensures done { result.status ≡ Status.Done → Wrote (S.holds shelf.old) (map string_bytes words.now) Status.Done (shown_by result) (K.written out.old) (K.written out.new) }
     ensures failed { result.status ≡ Status.Failed → Wrote (S.holds shelf.old) (map string_bytes words.now) Status.Failed (shown_by result) (K.written out.old) (K.written out.new) }
     ensures unknown { result.status ≡ Status.Unknown → Wrote (S.holds shelf.old) (map string_bytes words.now) Status.Unknown (shown_by result) (K.written out.old) (K.written out.new) }

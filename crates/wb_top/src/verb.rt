@@ -22,4 +22,6 @@ pub(crate) enum Verb {
     Replay,
     /// Does the design do what the model does under the script, by the map?
     SimulateBoth,
+    /// What does a design of the model look like? Or, where it is true, what is its map?
+    Emit(bool),
 }

@@ -11,7 +11,9 @@ use crate::stop::NoMemory;
 use crate::verb::{Top, Verb};
 use crate::wanted::Wanted;
 use std::alloc::{AllocError, Global};
-use wb_words::{Check, Replay, Request, Simulate, SimulateBoth, SimulateRtl, WordsStop, request};
+use wb_words::{
+    Check, Emit, Replay, Request, Simulate, SimulateBoth, SimulateRtl, WordsStop, request,
+};
 
 /// What the words ask for, if it is a command.
 pub(crate) fn wanted(alloc: Global, words: &[String]) -> Result<Option<Wanted>, NoMemory>
@@ -65,6 +67,13 @@ fn wanted_by(alloc: Global, request: &Request<'_>) -> Result<Wanted, NoMemory>
             let files = files_of_both(alloc, simulate)?;
             Ok(Wanted {
                 verb: Verb::SimulateBoth,
+                files,
+            })
+        }
+        Request::Emit(emit) => {
+            let files = files_of_emission(alloc, emit)?;
+            Ok(Wanted {
+                verb: Verb::Emit(emit.map_only),
                 files,
             })
         }
@@ -131,6 +140,15 @@ fn files_of_both(alloc: Global, simulate: &SimulateBoth<'_>) -> Result<Vec<Strin
     for design in &simulate.designs {
         names.push(String::from_str(alloc, design)?)?;
     }
+    Ok(names)
+}
+
+/// The names of the files that an emission reads: of the model alone.
+fn files_of_emission(alloc: Global, emit: &Emit<'_>) -> Result<Vec<String>, NoMemory>
+    ensures { IfOk result (λ names. map string_bytes names.items ≡ emit.now.model.now ∷ []) }
+{
+    let mut names = Vec::with_capacity(alloc, 1)?;
+    names.push(String::from_str(alloc, emit.model)?)?;
     Ok(names)
 }
 

@@ -20,8 +20,8 @@ use Rattle.clap.specs.declared.parser.matches.ValueSource.{ValueSource}
 use Rattle.clap.specs.declared.parser.matches.ValueSource.TheVariants.{DefaultValue}
 use Rattle.clap.specs.declared.builder.value_parser.Reading.{Reading}
 use Rattle.clap.specs.declared.builder.value_parser.Reading.TheVariants as reading
-use Rattle.wb_words.specs.Application.{check_command, replay_command, simulate_both_command, simulate_command, simulate_rtl_command, workbench_app}
-use Rattle.wb_words.specs.Requests.{budget_in, check_of, designs_in, replay_of, request_in, request_of, simulate_both_of, simulate_of, simulate_rtl_of}
+use Rattle.wb_words.specs.Application.{check_command, emit_command, replay_command, simulate_both_command, simulate_command, simulate_rtl_command, workbench_app}
+use Rattle.wb_words.specs.Requests.{budget_in, check_of, designs_in, emit_of, is_set, replay_of, request_in, request_of, simulate_both_of, simulate_of, simulate_rtl_of}
 use Rattle.wb_words.proofs.Filled.{Every, Holds, Leaves, every_found, first_part, is_count, level_holds, second_part}
 
 -- the values of a row: one or more, and those of a budget numbers in its range, read as they are written
@@ -160,6 +160,15 @@ simulate_both_rows rows good m p t d =
         → is_some (simulate_both_of om op ot od) ≡ true
     asks om op ot od m p t ds e f g h = rw (e, f, g, h) refl
 
+emit_rows : (rows : List Row) → Every (Holds IsGood) rows → is_given (codes "model") rows ≡ true → is_some (request_in (codes "emit") rows) ≡ true
+unfolding request_in
+emit_rows rows good m =
+    let model = all_given rows good (codes "model") m in
+    asks _ _ (is_set (first_of (codes "map-only") rows)) model.3
+  where
+    asks : (om : Option Text) (m : Text) (only : Bool) → om ≡ Some m → is_some (emit_of om only) ≡ true
+    asks om m only e = rw e refl
+
 -- ---- what the arguments leave
 
 some_values : (again : Bool) (a : Rule) (vs : List Text) (rows : List Row) → nat_le 1 (unwrap_or_range a.range).start_inclusive ≡ true → use_passes again a vs rows ≡ true
@@ -189,6 +198,29 @@ plain_leaves again a count least other none = record {
   };
   default = λ v vs is. absurd (no_text v vs (sym is ∙ none));
 }
+
+-- a flag that is no budget, with a value where it is used
+flag_leaves : (again : Bool) (a : Rule) → is_count (action_of a) ≡ false → is_empty a.missing ≡ false → bytes_eq a.id (codes "budget") ≡ false → Leaves IsGood again a
+flag_leaves again a count valued other = record {
+  counts = count;
+  uses = λ vs rows e. good _ (used_with vs);
+  default = λ v vs is. good _ (lt-ltb 0 (suc (length vs)) (omega arith));
+}
+  where
+    good : (vs : List Text) → nat_lt 0 (length vs) ≡ true → IsGood a.id (reading_by a) vs
+    good vs some = record {
+      some = some;
+      numbers = λ is. absurd (true≢false (sym is ∙ other));
+      written = λ is. absurd (true≢false (sym is ∙ other));
+    }
+
+    missing_some : (ms : List Text) → is_empty ms ≡ false → nat_lt 0 (length ms) ≡ true
+    missing_some [] e = absurd (true≢false e)
+    missing_some (v ∷ vs) e = lt-ltb 0 (suc (length vs)) (omega arith)
+
+    used_with : (vs : List Text) → nat_lt 0 (length (values_or_missing a vs)) ≡ true
+    used_with [] = missing_some a.missing valued
+    used_with (v ∷ vs) = lt-ltb 0 (suc (length vs)) (omega arith)
 
 -- an argument that asks for help
 help_leaves : (again : Bool) (a : Rule) → action_of a ≡ action.Help → a.defaults ≡ [] → Leaves IsGood again a
@@ -310,6 +342,9 @@ replay_built = built_leaf (inherited (record (new_shape (codes "wb")) { subcomma
 abbrev simulate_both_built : Shape
 simulate_both_built = built_leaf (inherited (record (new_shape (codes "wb")) { subcommand_required = true; disable_help_subcommand = true; is_leaf = false; is_built = true }) simulate_both_command)
 
+abbrev emit_built : Shape
+emit_built = built_leaf (inherited (record (new_shape (codes "wb")) { subcommand_required = true; disable_help_subcommand = true; is_leaf = false; is_built = true }) emit_command)
+
 check_leaves : Every (Leaves IsGood false) check_built.rules
 check_leaves = (
   plain_leaves false _ refl refl refl refl,
@@ -361,6 +396,9 @@ simulate_both_leaves = (
   ),
 )
 
+emit_leaves : Every (Leaves IsGood false) emit_built.rules
+emit_leaves = (plain_leaves false _ refl refl refl refl, (flag_leaves false _ refl refl refl, (help_leaves false _ refl refl, tt)))
+
 check_asks : Asks check_built
 check_asks words e =
     let rows = rows_after check_built.rules [] words in
@@ -410,6 +448,13 @@ simulate_both_asks words e =
     let last = second_part (is_given (codes "script") rows) _ more in
     simulate_both_rows rows good (first_part _ _ all) (first_part _ _ rest) (first_part _ _ more) (first_part _ _ last)
 
+emit_asks : Asks emit_built
+emit_asks words e =
+    let rows = rows_after emit_built.rules [] words in
+    let good = level_holds IsGood joins emit_built [] words false emit_leaves e in
+    let all = given emit_built words e in
+    emit_rows rows good (first_part (is_given (codes "model") rows) _ all)
+
 app_asks : (a : App) (words : List Text) → Every Asks a.subs → a.top.subcommand_required ≡ true → built_takes a nothing_held words ≡ true
     → is_some (option_and_then (λ p. request_in p.0 p.1) (entered a (stop_after a.top.rules (names_of a) words))) ≡ true
 app_asks a words asks wanted e =
@@ -437,4 +482,4 @@ app_asks a words asks wanted e =
 pub taken_asks : (words : List Text) → takes workbench_app words ≡ true → is_some (request_of words) ≡ true
 unfolding request_of workbench_app
 taken_asks words e =
-    rw e (app_asks (built workbench_app) (argument_words workbench_app words) (check_asks, (simulate_asks, (simulate_rtl_asks, (replay_asks, (simulate_both_asks, tt))))) refl (second_part (is_simple workbench_app) _ e))
+    rw e (app_asks (built workbench_app) (argument_words workbench_app words) (check_asks, (simulate_asks, (simulate_rtl_asks, (replay_asks, (simulate_both_asks, (emit_asks, tt)))))) refl (second_part (is_simple workbench_app) _ e))

@@ -16,7 +16,7 @@ use Rattle.clap.proofs.WalkLemmas.{one_text-rows, raw_values-rows}
 use Rattle.clap.specs.declared.builder.value_parser.ValueParser.TheVariants as vp
 use Rattle.clap.proofs.ValueTestLemmas.{accepts-Accepts}
 use Rattle.std.specs.Str.{bytes_eq}
-use Rattle.wb_words.specs.Requests.{budget_in, check_of, designs_in, replay_of, request_in, simulate_both_of, simulate_of, simulate_rtl_of}
+use Rattle.wb_words.specs.Requests.{budget_in, check_of, designs_in, emit_of, is_set, replay_of, request_in, simulate_both_of, simulate_of, simulate_rtl_of}
 use Rattle.wb_words.specs.View.{IsAnswer, request_view}
 use Rattle.wb_words.specs.declared.requests.Request.{Request}
 use Rattle.wb_words.specs.declared.stop.WordsStop.{WordsStop}
@@ -106,10 +106,19 @@ module _ (name : Text) (rows : List Row) where
   unfolding request_in
   asks_simulate_both r first second third fourth is h = rw (first, second, third, fourth, is) h
 
-  pub asks_nothing : bytes_eq name (codes "check") ≡ false → bytes_eq name (codes "simulate") ≡ false → bytes_eq name (codes "simulate-rtl") ≡ false
-      → bytes_eq name (codes "replay") ≡ false → bytes_eq name (codes "simulate-both") ≡ false → request_in name rows ≡ None
+  pub asks_emit : (r : Result Request WordsStop) → bytes_eq name (codes "check") ≡ false → bytes_eq name (codes "simulate") ≡ false
+      → bytes_eq name (codes "simulate-rtl") ≡ false → bytes_eq name (codes "replay") ≡ false → bytes_eq name (codes "simulate-both") ≡ false
+      → bytes_eq name (codes "emit") ≡ true
+      → IsAnswer request_view r (emit_of (first_of (codes "model") rows) (is_set (first_of (codes "map-only") rows)))
+      → IsAnswer request_view r (request_in name rows)
   unfolding request_in
-  asks_nothing first second third fourth fifth = rw (first, second, third, fourth, fifth) refl
+  asks_emit r first second third fourth fifth is h = rw (first, second, third, fourth, fifth, is) h
+
+  pub asks_nothing : bytes_eq name (codes "check") ≡ false → bytes_eq name (codes "simulate") ≡ false → bytes_eq name (codes "simulate-rtl") ≡ false
+      → bytes_eq name (codes "replay") ≡ false → bytes_eq name (codes "simulate-both") ≡ false → bytes_eq name (codes "emit") ≡ false
+      → request_in name rows ≡ None
+  unfolding request_in
+  asks_nothing first second third fourth fifth sixth = rw (first, second, third, fourth, fifth, sixth) refl
 
 -- the designs that the getter gives
 module _ (f : Found) (id : Text) (o : Option (Bor (List (Bor Text)))) (got : option_map (λ s. map (λ v. v.now) s.now) o ≡ option_map raw_values (matched_of f id)) where

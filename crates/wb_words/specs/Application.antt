@@ -3,11 +3,16 @@ use Rattle.std.specs.Prelude.{true, false, [], ◌∷◌, Some, codes}
 use Rattle.clap.specs.Lexer.{usize_max}
 use Rattle.clap.specs.Walk.{Rule, Text}
 use Rattle.clap.specs.Simple.{App, Shape, new_rule, new_shape}
+use Rattle.clap.specs.declared.builder.action.ArgAction.TheVariants.{SetTrue}
 use Rattle.clap.specs.declared.builder.value_parser.ValueParser.TheVariants.{Unsigned}
 
 -- an option that has to be there, with one value
 abbrev pub required_option : Text → Rule
 required_option name = record (new_rule name) { long = Some name; required = true }
+
+-- an option without a value, which may be there or not
+abbrev pub flag : Text → Rule
+flag name = record (new_rule name) { long = Some name; action = Some SetTrue }
 
 -- `--budget N`: from 1 to 1,000,000,000, and 100,000 where it is not there
 abbrev pub budget_option : Rule
@@ -58,6 +63,12 @@ simulate_both_command = record (new_shape (codes "simulate-both")) {
       ∷ designs_argument ∷ [];
 }
 
+-- `emit --model M [--map-only]`
+abbrev pub emit_command : Shape
+emit_command = record (new_shape (codes "emit")) {
+  rules = required_option (codes "model") ∷ flag (codes "map-only") ∷ [];
+}
+
 -- the program, with one of its commands
 unfoldable pub workbench_app : App
 workbench_app = record {
@@ -66,5 +77,5 @@ workbench_app = record {
     subcommand_required = true;
     disable_help_subcommand = true;
   };
-  subs = check_command ∷ simulate_command ∷ simulate_rtl_command ∷ replay_command ∷ simulate_both_command ∷ [];
+  subs = check_command ∷ simulate_command ∷ simulate_rtl_command ∷ replay_command ∷ simulate_both_command ∷ emit_command ∷ [];
 }

@@ -1,5 +1,5 @@
 -- What the program's words ask for.
-use Rattle.std.specs.Prelude.{ℕ, List, [], ◌∷◌, Option, Some, None, if◌then◌else◌, codes, option_and_then}
+use Rattle.std.specs.Prelude.{ℕ, Bool, false, List, [], ◌∷◌, Option, Some, None, if◌then◌else◌, codes, option_and_then}
 use Rattle.std.specs.Str.{bytes_eq}
 use Rattle.std.specs.Str.Parse.{digits_value, without_leading_plus}
 use Rattle.clap.specs.ValueTests.{is_unsigned_in}
@@ -10,14 +10,16 @@ use Rattle.wb_words.specs.Application.{workbench_app}
 
 -- a command with the names of its files: a check of a model, a map and designs, with its budget; a
 -- simulation of a model and a script; a simulation of a design, its top and its clock by their
--- names, with a script and the design's files; a replay of a trace, with the files of a check; or a
--- simulation of a model and a design side by side, with a script and the files of a check
+-- names, with a script and the design's files; a replay of a trace, with the files of a check; a
+-- simulation of a model and a design side by side, with a script and the files of a check; or the
+-- Verilog of a model, or its map alone
 pub data Request : Type 0 where
   check : Text → Text → ℕ → List Text → Request
   simulate : Text → Text → Request
   simulate_rtl : (top clock script : Text) → List Text → Request
   replay : (model map trace : Text) → List Text → Request
   simulate_both : (model map script : Text) → List Text → Request
+  emit : (model : Text) → (map_only : Bool) → Request
 
 -- the number that a text of decimal digits stands for, from 1 to 1,000,000,000
 abbrev pub budget_in : Text → Option ℕ
@@ -28,6 +30,11 @@ budget_in text = if is_unsigned_in 1 1000000000 text
 abbrev pub designs_in : List Text → Option (List Text)
 designs_in [] = None
 designs_in (design ∷ more) = Some (design ∷ more)
+
+-- A flag is set: clap gives it the value `true` where it is among the words, and `false` where it is not.
+abbrev pub is_set : Option Text → Bool
+is_set None = false
+is_set (Some value) = bytes_eq value (codes "true")
 
 -- a check, where each of its parts is there
 abbrev pub check_of : Option Text → Option Text → Option ℕ → Option (List Text) → Option Request
@@ -58,6 +65,11 @@ simulate_both_of (Some model) (Some map) (Some script) (Some designs) =
     Some (simulate_both model map script designs)
 simulate_both_of _ _ _ _ = None
 
+-- what is emitted of a model, where that is there
+abbrev pub emit_of : Option Text → (map_only : Bool) → Option Request
+emit_of (Some model) map_only = Some (emit model map_only)
+emit_of None map_only = None
+
 -- what a subcommand asks for, by its name and the values of its options
 unfoldable pub request_in : Text → List Row → Option Request
 request_in name rows = if bytes_eq name (codes "check")
@@ -75,7 +87,9 @@ request_in name rows = if bytes_eq name (codes "check")
     else (if bytes_eq name (codes "simulate-both")
     then simulate_both_of (first_of (codes "model") rows) (first_of (codes "map") rows)
     (first_of (codes "script") rows) (option_and_then designs_in (all_of (codes "designs") rows))
-    else None))))
+    else (if bytes_eq name (codes "emit")
+    then emit_of (first_of (codes "model") rows) (is_set (first_of (codes "map-only") rows))
+    else None)))))
 
 -- what the words ask for: where clap takes them, what their subcommand asks for
 unfoldable pub request_of : List Text → Option Request

@@ -19,6 +19,7 @@ request_view (kind.Replay r) =
     pure.replay r.model.now r.map.now r.trace.now (map (λ d. d.now) r.designs.items)
 request_view (kind.SimulateBoth b) =
     pure.simulate_both b.model.now b.map.now b.script.now (map (λ d. d.now) b.designs.items)
+request_view (kind.Emit e) = pure.emit e.model.now e.map_only
 
 -- the result is what is asked for, or refuses where nothing is, unless memory ran out
 abbrev pub IsAnswer : {T A : Type 0} → (T → A) → Result T WordsStop → Option A → Type 0

@@ -3,9 +3,9 @@
 ghost use Rattle.std.specs.Prelude.{◌≡◌, false, IfOk};
 ghost use Rattle.clap.specs.Words.{app_of, rule_of};
 ghost use Rattle.clap.specs.declared.builder.command.Command.TheViews.{out-Command};
-ghost use Rattle.wb_words.specs.Application.{budget_option, check_command, designs_argument, replay_command, simulate_both_command, simulate_command, simulate_rtl_command, required_option, workbench_app};
+ghost use Rattle.wb_words.specs.Application.{budget_option, check_command, designs_argument, emit_command, flag, replay_command, simulate_both_command, simulate_command, simulate_rtl_command, required_option, workbench_app};
 
-use clap::{Arg, Command, value_parser};
+use clap::{Arg, ArgAction, Command, value_parser};
 use std::alloc::{AllocError, Global};
 
 /// The program, with its commands.
@@ -17,6 +17,7 @@ pub(crate) fn workbench<'a>(alloc: Global) -> Result<Command<'a>, AllocError>
     let simulate_rtl = simulate_rtl_command(alloc)?;
     let replay = replay_command(alloc)?;
     let simulate_both = simulate_both_command(alloc)?;
+    let emit = emit_command(alloc)?;
     Command::new(alloc, "wb")
         .subcommand_required(true)
         .disable_help_subcommand(true)
@@ -24,7 +25,8 @@ pub(crate) fn workbench<'a>(alloc: Global) -> Result<Command<'a>, AllocError>
         .subcommand(simulate)?
         .subcommand(simulate_rtl)?
         .subcommand(replay)?
-        .subcommand(simulate_both)
+        .subcommand(simulate_both)?
+        .subcommand(emit)
 }
 
 fn check_command<'a>(alloc: Global) -> Result<Command<'a>, AllocError>
@@ -80,11 +82,27 @@ fn simulate_both_command<'a>(alloc: Global) -> Result<Command<'a>, AllocError>
         .arg(designs_argument(alloc))
 }
 
+fn emit_command<'a>(alloc: Global) -> Result<Command<'a>, AllocError>
+    ensures app { IfOk result (λ c. (app_of c).top ≡ emit_command) }
+    ensures local { IfOk result (λ c. (out-Command c).has_globals ≡ false) }
+{
+    Command::new(alloc, "emit")
+        .arg(required_option(alloc, "model"))?
+        .arg(flag(alloc, "map-only"))
+}
+
 fn required_option<'a>(alloc: Global, name: &'a str) -> Arg<'a>
     ensures rule { rule_of result ≡ required_option name.entry.now }
     ensures local { result.global ≡ false }
 {
     Arg::new(alloc, name).long(name).required(true)
+}
+
+fn flag<'a>(alloc: Global, name: &'a str) -> Arg<'a>
+    ensures rule { rule_of result ≡ flag name.entry.now }
+    ensures local { result.global ≡ false }
+{
+    Arg::new(alloc, name).long(name).action(ArgAction::SetTrue)
 }
 
 fn budget_option<'a>(alloc: Global) -> Arg<'a>

@@ -7,6 +7,6 @@ mod requests;
 mod stop;
 mod words;
 
-pub use requests::{Check, Replay, Request, Simulate, SimulateBoth, SimulateRtl};
+pub use requests::{Check, Emit, Replay, Request, Simulate, SimulateBoth, SimulateRtl};
 pub use stop::WordsStop;
 pub use words::request;

@@ -2,10 +2,10 @@
 
 ghost use Rattle.std.specs.Prelude.{◌≡◌, ◌≤◌, IfOk, IfSome, codes, length, map, option_and_then};
 ghost use Rattle.clap.specs.Words.{all_of, first_of, found_of, one_of, rows_of, subcommand_rows_of};
-ghost use Rattle.wb_words.specs.Requests.{budget_in, check_of, designs_in, replay_of, request_in, simulate_both_of, simulate_of, simulate_rtl_of};
+ghost use Rattle.wb_words.specs.Requests.{budget_in, check_of, designs_in, emit_of, is_set, replay_of, request_in, simulate_both_of, simulate_of, simulate_rtl_of};
 ghost use Rattle.wb_words.specs.View.{IsAnswer, request_view};
 
-use crate::requests::{Check, Replay, Request, Simulate, SimulateBoth, SimulateRtl};
+use crate::requests::{Check, Emit, Replay, Request, Simulate, SimulateBoth, SimulateRtl};
 use crate::stop::WordsStop;
 use clap::ArgMatches;
 use std::alloc::Global;
@@ -37,6 +37,9 @@ fn named<'a>(alloc: Global, name: &str, matches: &ArgMatches<'a>) -> Result<Requ
     }
     if name == "simulate-both" {
         return simulate_both(alloc, matches);
+    }
+    if name == "emit" {
+        return emit(matches);
     }
     Err(WordsStop::Usage)
 }
@@ -132,6 +135,17 @@ fn simulate_both<'a>(alloc: Global, matches: &ArgMatches<'a>) -> Result<Request<
     }))
 }
 
+/// What is to be emitted of the model file that was named.
+fn emit<'a>(matches: &ArgMatches<'a>) -> Result<Request<'a>, WordsStop>
+    ensures { IsAnswer request_view result (emit_of
+        (first_of (codes "model") (rows_of (found_of matches.now)))
+        (is_set (first_of (codes "map-only") (rows_of (found_of matches.now))))) }
+{
+    let model = value(matches, "model")?;
+    let map_only = is_set(matches, "map-only");
+    Ok(Request::Emit(Emit { model, map_only }))
+}
+
 /// The value of an option.
 fn value<'a>(matches: &ArgMatches<'a>, option: &str) -> Result<&'a str, WordsStop>
     ensures { IsAnswer (λ v. v.now) result (first_of option.now (rows_of (found_of matches.now))) }
@@ -139,6 +153,16 @@ fn value<'a>(matches: &ArgMatches<'a>, option: &str) -> Result<&'a str, WordsSto
     match matches.get_str(option) {
         Some(value) => Ok(value),
         None => Err(WordsStop::Usage),
+    }
+}
+
+/// Whether a flag is set.
+fn is_set(matches: &ArgMatches<'_>, flag: &str) -> bool
+    ensures { result ≡ is_set (first_of flag.now (rows_of (found_of matches.now))) }
+{
+    match matches.get_str(flag) {
+        Some(value) => value == "true",
+        None => false,
     }
 }
 

@@ -75,6 +75,15 @@ pub struct SimulateBoth<'a> {
     pub ghost some_design: { 1 ≤ length designs.items },
 }
 
+/// What does a design of the model look like?
+#[derive(Clone, Copy)]
+pub struct Emit<'a> {
+    /// The name of the model file.
+    pub model: &'a str,
+    /// Is its map asked for, in place of its Verilog?
+    pub map_only: bool,
+}
+
 /// A command, with the names of the files that it reads.
 #[derive(Drop)]
 pub enum Request<'a> {
@@ -88,4 +97,6 @@ pub enum Request<'a> {
     Replay(Replay<'a>),
     /// `simulate-both`
     SimulateBoth(SimulateBoth<'a>),
+    /// `emit`
+    Emit(Emit<'a>),
 }

@@ -1,7 +1,7 @@
 use Rattle.std.proofs.Common.{◌≡◌, ◌∙◌, ap, ap₂, codes, true}
 use Rattle.std.proofs.lemmas.Result.{IfOk-weaker}
 use Rattle.clap.specs.Simple.{App, Shape, app_of, app_of_fields, new_app, on_top, with_subcommand}
-use Rattle.wb_words.specs.Application.{check_command, replay_command, simulate_command, simulate_rtl_command, workbench_app}
+use Rattle.wb_words.specs.Application.{check_command, replay_command, simulate_both_command, simulate_command, simulate_rtl_command, workbench_app}
 use Rattle.wb_words.proofs.application.workbench.Goals as goal
 
 abbrev wanting : App → App
@@ -24,4 +24,6 @@ returns c =
     c.in_ok-subcommand-3.ensures.shape c.in_ok-simulate_rtl.ensures.local ∙ ap₂ with_subcommand two c.in_ok-simulate_rtl.ensures.app in
     let four : app_of c.in_ok-subcommand-4.field-0 ≡ with_subcommand (with_subcommand (with_subcommand (with_subcommand (without_help (wanting (new_app (codes "wb")))) check_command) simulate_command) simulate_rtl_command) replay_command =
     c.in_ok-subcommand-4.ensures.shape c.in_ok-replay.ensures.local ∙ ap₂ with_subcommand three c.in_ok-replay.ensures.app in
-    IfOk-weaker c.subcommand-5.result _ _ (λ r h. h.shape c.in_ok-simulate_both.ensures.local ∙ ap₂ with_subcommand four c.in_ok-simulate_both.ensures.app) c.subcommand-5.ensures
+    let five : app_of c.in_ok-subcommand-5.field-0 ≡ with_subcommand (with_subcommand (with_subcommand (with_subcommand (with_subcommand (without_help (wanting (new_app (codes "wb")))) check_command) simulate_command) simulate_rtl_command) replay_command) simulate_both_command =
+    c.in_ok-subcommand-5.ensures.shape c.in_ok-simulate_both.ensures.local ∙ ap₂ with_subcommand four c.in_ok-simulate_both.ensures.app in
+    IfOk-weaker c.subcommand-6.result _ _ (λ r h. h.shape c.in_ok-emit.ensures.local ∙ ap₂ with_subcommand five c.in_ok-emit.ensures.app) c.subcommand-6.ensures
